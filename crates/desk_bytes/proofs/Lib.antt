@@ -1,0 +1,5 @@
+pub mod DigestLemmas
+pub mod GuidLemmas
+pub mod LineLemmas
+pub mod OutputLemmas
+pub mod RefusalLemmas

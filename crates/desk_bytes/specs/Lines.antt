@@ -1,0 +1,35 @@
+-- The lines of a text, as shim's SBAT.md reads them.
+use Rattle.std.specs.Prelude.{ℕ, ◌+◌, ◌==◌, ◌&&◌, Bool, false, if◌then◌else◌, List, [], ◌∷◌}
+use Rattle.std.specs.List.{onto_first}
+use Rattle.desk_bytes.specs.declared.line.Line.{Line}
+
+abbrev pub begins_with : ℕ → List ℕ → Bool
+begins_with b [] = false
+begins_with b (x ∷ xs) = x == b
+
+-- A text is parted at each LF (10). One CR (13) is dropped where an LF follows it.
+abbrev pub lines_of : List ℕ → List (List ℕ)
+lines_of [] = [] ∷ []
+lines_of (b ∷ bs) =
+    if b == 10 then [] ∷ lines_of bs
+    else if b == 13 && begins_with 10 bs then lines_of bs
+    else onto_first b (lines_of bs)
+
+-- a line and its number
+pub record Numbered : Type 0 where
+  pub number : ℕ
+  pub text : List ℕ
+
+-- The lines with their numbers from n on. An empty line is counted and passed over.
+abbrev pub numbered_from : ℕ → List (List ℕ) → List Numbered
+numbered_from n [] = []
+numbered_from n ([] ∷ lines) = numbered_from (n + 1) lines
+numbered_from n ((b ∷ bs) ∷ lines) = record { number = n; text = b ∷ bs } ∷ numbered_from (n + 1) lines
+
+-- the numbered lines of a text
+abbrev pub parted : List ℕ → List Numbered
+parted t = numbered_from 1 (lines_of t)
+
+-- what a borrowed line shows
+abbrev pub line_of : Line → Numbered
+line_of l = record { number = l.number; text = l.text.now }

@@ -1,0 +1,40 @@
+//! Output that may stop.
+ghost use Rattle.std.specs.Prelude.{OnOk, OnErr, ◌≡◌};
+ghost use Rattle.std.specs.Io.KnownBytes.{Appends};
+ghost use Rattle.desk_bytes.specs.Output.{AppendsBeginning};
+
+use crate::Refusal;
+use std::io::Write;
+use thiserror::Error;
+
+/// A writer failed, was interrupted or took nothing.
+#[derive(Clone, Copy, Debug, PartialEq, Eq, Error)]
+#[error("a write failed")]
+pub struct WriteFailed;
+
+impl WriteFailed {
+    /// Its row in the table of refusals.
+    pub fn refusal(self) -> Refusal
+        ensures { result ≡ Refusal.Write }
+    {
+        Refusal::Write
+    }
+}
+
+/// Writes all of the bytes, in as many writes as the writer needs. An interrupted write and one that
+/// takes nothing are faults: none is tried again. Takes no memory.
+pub fn put<W: Write>(bytes: &[u8], writer: &mut W) -> Result<(), WriteFailed>
+    ensures ok { OnOk result (Appends (W.contents writer.old) (W.contents writer.new) bytes.now) }
+    ensures err { OnErr result
+        (AppendsBeginning (W.contents writer.old) (W.contents writer.new) bytes.now) }
+{
+    let mut done = 0;
+    while done < bytes.len() {
+        match writer.write(&bytes[done..]) {
+            Ok(0) => return Err(WriteFailed),
+            Ok(taken) => done += taken,
+            Err(_) => return Err(WriteFailed),
+        }
+    }
+    Ok(())
+}

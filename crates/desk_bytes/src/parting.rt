@@ -1,0 +1,13 @@
+//! Texts as numbered lines.
+ghost use Rattle.std.specs.Prelude.{◌≡◌};
+ghost use Rattle.desk_bytes.specs.Lines as spec;
+
+use crate::line::Parted;
+
+/// The lines of a text with their numbers from 1. Each LF ends a line, and takes one CR before it along.
+/// Empty lines are counted and passed over.
+pub fn parted(text: &[u8]) -> Parted<'_>
+    ensures { result ≡ spec.parted text.now }
+{
+    Parted::of(text)
+}

@@ -1,0 +1,154 @@
+use crate::{Digest, Guid, Refusal, WriteFailed, parted, put};
+use std::io;
+use std::io::Write;
+use std::test::Fail;
+
+#[test]
+fn numbers_the_lines_of_a_text(rt: HostRuntime) {
+    let text = b"one\r\n\ntwo\r\r\nthree\r";
+    let mut lines = parted(text);
+    for (number, want) in [
+        (1, b"one".as_slice()),
+        (3, b"two\r".as_slice()),
+        (4, b"three\r".as_slice()),
+    ] {
+        match lines.next() {
+            Some(line) => {
+                assert_eq!(rt; line.number, number);
+                assert!(rt; line.text == want, "the bytes of line {number}");
+            }
+            None => panic!(rt; "line {number} is missing"),
+        }
+    }
+    assert!(rt; lines.next().is_none(), "no fifth line");
+    for empty in [b"".as_slice(), b"\n\r\n".as_slice()] {
+        assert_eq!(rt; parted(empty).count(), 0, "lines of {empty:?}");
+    }
+}
+
+#[test]
+fn reads_and_writes_a_guid(rt: HostRuntime) -> Result<(), Fail> {
+    let stored = [
+        0x26, 0x16, 0xc4, 0xc1, 0x4c, 0x50, 0x92, 0x40, 0xac, 0xa9, 0x41, 0xf9, 0x36, 0x93, 0x43,
+        0x28,
+    ];
+    for text in [
+        "c1c41626-504c-4092-aca9-41f936934328",
+        "C1C41626-504C-4092-ACA9-41F936934328",
+    ] {
+        let guid = Guid::parse(text)?;
+        assert!(rt; guid.as_bytes() == stored.as_slice(), "the bytes of {text}");
+        let again = guid.text(rt.alloc())?;
+        assert_eq!(rt; again.as_str(), "c1c41626-504c-4092-aca9-41f936934328");
+    }
+    Ok(())
+}
+
+#[test]
+fn refuses_a_text_that_is_no_guid(rt: HostRuntime) {
+    for bad in [
+        "",
+        "c1c41626-504c-4092-aca9-41f93693432",
+        "c1c41626-504c-4092-aca9-41f93693432g",
+        "c1c41626x504c-4092-aca9-41f936934328",
+        "c1c41626-504c-4092-aca9x41f936934328",
+        "+1c41626-504c-4092-aca9-41f936934328",
+        "c1c41626-504c-4092-aca9-41f9369343280",
+        "{c1c41626-504c-4092-aca9-41f93693432}",
+    ] {
+        assert!(rt; Guid::parse(bad).is_err(), "{bad}");
+    }
+}
+
+#[test]
+fn reads_and_writes_a_digest(rt: HostRuntime) -> Result<(), Fail> {
+    let digest = Digest::parse([b'A'; 64].as_slice())?;
+    assert!(rt; digest == Digest::from([0xaa; 32]), "64 digits A");
+    assert!(rt;
+        digest.text().as_slice() == [b'a'; 64].as_slice(),
+        "the text of aa"
+    );
+    for bad in [
+        [b'a'; 63].as_slice(),
+        [b'a'; 65].as_slice(),
+        [b'g'; 64].as_slice(),
+        [0; 64].as_slice(),
+    ] {
+        assert!(rt; Digest::parse(bad).is_err(), "{bad:?}");
+    }
+    Ok(())
+}
+
+#[test]
+fn numbers_and_names_the_refusals(rt: HostRuntime) {
+    for (refusal, number, name) in [
+        (Refusal::Short, 1, "Short"),
+        (Refusal::TooLong, 13, "TooLong"),
+        (Refusal::Line, 18, "Line"),
+        (Refusal::Full, 36, "Full"),
+        (Refusal::NoMemory, 40, "NoMemory"),
+        (Refusal::NotSupported, 57, "NotSupported"),
+    ] {
+        assert_eq!(rt; refusal.number(), number);
+        assert_eq!(rt; refusal.name(), name);
+    }
+}
+
+/// Takes two bytes a call, and fails or takes nothing from the given call on.
+#[derive(Drop)]
+struct Narrow {
+    taken: Vec<u8>,
+    calls: u64,
+    stops: u64,
+    fails: bool,
+}
+
+impl Write for Narrow {
+    fn write(&mut self, buf: &[u8]) -> io::Result<usize> {
+        self.calls = self.calls.saturating_add(1);
+        if self.calls >= self.stops {
+            if self.fails {
+                return Err(io::Error::from(io::ErrorKind::Interrupted));
+            }
+            return Ok(0);
+        }
+        let count = buf.len().min(2);
+        self.taken.extend_from_slice(&buf[..count])?;
+        Ok(count)
+    }
+
+    fn flush(&mut self) -> io::Result<()> {
+        Ok(())
+    }
+}
+
+#[test]
+fn puts_a_beginning_before_a_fault(rt: HostRuntime) {
+    for fails in [true, false] {
+        for (stops, want, answer) in [
+            (1, "", Err(WriteFailed)),
+            (2, "ab", Err(WriteFailed)),
+            (3, "abcd", Err(WriteFailed)),
+            (4, "abcde", Ok(())),
+        ] {
+            let mut writer = Narrow {
+                taken: Vec::new(rt.alloc()),
+                calls: 0,
+                stops,
+                fails,
+            };
+            assert!(rt;
+                put(b"abcde", &mut writer) == answer,
+                "stopped at write {stops}"
+            );
+            assert!(rt;
+                writer.taken.as_slice() == want.as_bytes(),
+                "before write {stops}"
+            );
+        }
+    }
+    assert!(rt;
+        WriteFailed.refusal() == Refusal::Write,
+        "the row of a failed write"
+    );
+}
