@@ -1,0 +1,4 @@
+pub mod OrderLemmas
+pub mod PackingLemmas
+pub mod SpellingLemmas
+pub mod WritingLemmas

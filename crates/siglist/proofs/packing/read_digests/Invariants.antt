@@ -1,0 +1,8 @@
+use Rattle.std.proofs.Common.{◌≡◌}
+use Rattle.desk_bytes.specs.Lines.{parted}
+use Rattle.siglist.specs.Packing.{digests_in}
+use Rattle.siglist.proofs.PackingLemmas.{put_before}
+use Rattle.siglist.proofs.packing.read_digests.Given as goal
+
+abbrev pub invariant-loop-line : goal.invariant-loop-line
+invariant-loop-line l = put_before l.digests.items (digests_in l.line-iterator) ≡ digests_in (parted l.text)

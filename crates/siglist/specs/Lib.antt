@@ -1,0 +1,5 @@
+pub mod Kinds
+pub mod Packing
+pub mod PackFaults
+pub mod SignatureLists
+pub mod Writing

@@ -1,0 +1,20 @@
+-- The rows of the table of refusals that `pack` meets.
+use Rattle.std.specs.Prelude.{ℕ, Option, Some, None}
+use Rattle.desk_bytes.specs.declared.refusal.Refusal.{Refusal}
+use Rattle.desk_bytes.specs.declared.refusal.Refusal.TheVariants as refusal
+use Rattle.siglist.specs.declared.fault.PackFault.{PackFault}
+use Rattle.siglist.specs.declared.fault.PackFault.TheVariants as fault
+
+abbrev pub refusal_of : PackFault → Refusal
+refusal_of fault.TooLong = refusal.TooLong
+refusal_of fault.Read = refusal.Read
+refusal_of fault.Write = refusal.Write
+refusal_of (fault.Line line) = refusal.Line
+refusal_of fault.NoMemory = refusal.NoMemory
+
+abbrev pub place_of : PackFault → Option ℕ
+place_of fault.TooLong = None
+place_of fault.Read = None
+place_of fault.Write = None
+place_of (fault.Line line) = Some line
+place_of fault.NoMemory = None

@@ -1,0 +1,60 @@
+-- Lines of digests packed into one signature list.
+use Rattle.std.specs.Prelude.{◌≡◌, ℕ, ◌<◌, ◌≤◌, List, [], ◌∷◌, length, Option, Some, None, Result, Ok, Err}
+use Rattle.std.specs.Io.KnownBytes.{Appends}
+use Rattle.std.specs.List.{Contains}
+use Rattle.desk_bytes.specs.Digests.{digest_of, IsAscending}
+use Rattle.desk_bytes.specs.Lines.{Numbered, parted}
+use Rattle.desk_bytes.specs.Output.{AppendsBeginning}
+use Rattle.siglist.specs.SignatureLists.{spelling}
+use Rattle.siglist.specs.Writing.{sha256_row}
+use Rattle.siglist.specs.declared.packing.TheConstants.{MOST_BYTES}
+
+abbrev pub put_first : {X : Type 0} → X → Result (List X) ℕ → Result (List X) ℕ
+put_first x (Ok xs) = Ok (x ∷ xs)
+put_first x (Err line) = Err line
+
+abbrev pub digest_at : ℕ → Option (List ℕ) → Result (List (List ℕ)) ℕ → Result (List (List ℕ)) ℕ
+digest_at line None rest = Err line
+digest_at line (Some d) rest = put_first d rest
+
+-- the digests that the lines name, in their order, or the number of the first line that names none
+abbrev pub digests_in : List Numbered → Result (List (List ℕ)) ℕ
+digests_in [] = Ok []
+digests_in (l ∷ ls) = digest_at l.number (digest_of l.text) (digests_in ls)
+
+-- the named digests, ascending, each once
+pub record IsArranged (named ds : List (List ℕ)) : Type 0 where
+  pub ascending : IsAscending ds
+  pub all : (d : List ℕ) → Contains named d → Contains ds d
+  pub no_other : (d : List ℕ) → Contains ds d → Contains named d
+
+-- the text is within the limit, and these are the digests of its lines, arranged
+pub record Packs (text : List ℕ) (ds : List (List ℕ)) : Type 0 where
+  pub fits : length text ≤ MOST_BYTES
+  pub named : List (List ℕ)
+  pub read : digests_in (parted text) ≡ Ok named
+  pub arranged : IsArranged named ds
+
+-- the bytes of one SHA256 list of the digests, or none
+abbrev pub packed : List ℕ → List (List ℕ) → List ℕ
+packed owner ds = spelling (sha256_row owner ds)
+
+-- the text was packed into `count` entries, all of which went out
+pub record IsPacked (owner text : List ℕ) (count : ℕ) (old new : Option (List ℕ)) : Type 0 where
+  pub digests : List (List ℕ)
+  pub packs : Packs text digests
+  pub count_is : count ≡ length digests
+  pub out : Appends old new (packed owner digests)
+
+-- the text was packed, and a beginning of that went out
+pub record IsPartlyPacked (owner text : List ℕ) (old new : Option (List ℕ)) : Type 0 where
+  pub digests : List (List ℕ)
+  pub packs : Packs text digests
+  pub out : AppendsBeginning old new (packed owner digests)
+
+abbrev pub IsTooLong : List ℕ → Type 0
+IsTooLong text = MOST_BYTES < length text
+
+-- the text is within the limit, and this is the first line that names no digest
+abbrev pub HasWrongLine : List ℕ → ℕ → Type 0
+HasWrongLine text line = (length text ≤ MOST_BYTES) × (digests_in (parted text) ≡ Err line)

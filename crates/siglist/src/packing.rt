@@ -1,0 +1,105 @@
+//! Lines of digests packed into one list.
+ghost use Rattle.std.specs.Prelude.{◌≡◌, ◌≤◌, ℕ, length, Ok, Err, IfErr, IfOk, IfSome, IsErrOf, vec_len};
+ghost use Rattle.std.specs.Io.KnownBytes.{Keeps};
+ghost use Rattle.desk_bytes.specs.Lines.{parted};
+ghost use Rattle.siglist.specs.Packing.{HasWrongLine, IsArranged, IsPacked, IsPartlyPacked, IsTooLong, digests_in};
+
+use crate::fault::PackFault;
+use crate::writing::write_sha256;
+use desk_bytes::{Digest, Guid, parted};
+use std::alloc::Global;
+use std::io::{Read, Write};
+
+/// The most bytes of a text.
+pub const MOST_BYTES: usize = 8_388_608;
+
+/// Reads all that there is. An interrupted read is a fault.
+fn read_text<R: Read>(alloc: Global, reader: &mut R) -> Result<Vec<u8>, PackFault>
+    ensures whole { IfOk result (λ text. IfSome (R.remaining reader.old) (λ given. text.items ≡ given)) }
+    ensures bound { IfOk result (λ text. length text.items ≤ MOST_BYTES) }
+    ensures too_long { IsErrOf result PackFault.TooLong → IfSome (R.remaining reader.old) IsTooLong }
+    ensures no_line { (line : ℕ) → IsErrOf result (PackFault.Line line) → ⊥ }
+    ensures no_write { IsErrOf result PackFault.Write → ⊥ }
+{
+    let mut text = Vec::new(alloc);
+    let mut piece = [0; 8192];
+    loop {
+        match reader.read(&mut piece) {
+            Err(_) => return Err(PackFault::Read),
+            Ok(0) => return Ok(text),
+            Ok(count) => {
+                if count > MOST_BYTES - text.len() {
+                    return Err(PackFault::TooLong);
+                }
+                if text.extend_from_slice(&piece[..count]).is_err() {
+                    return Err(PackFault::NoMemory);
+                }
+            }
+        }
+    }
+}
+
+/// The digests of a text's lines, in their order.
+fn read_digests(alloc: Global, text: &[u8]) -> Result<Vec<Digest>, PackFault>
+    ensures ok { IfOk result (λ digests. digests_in (parted text.now) ≡ Ok digests.items) }
+    ensures line { (line : ℕ) → IsErrOf result (PackFault.Line line)
+        → digests_in (parted text.now) ≡ Err line }
+    ensures short { IsErrOf result PackFault.TooLong → ⊥ }
+    ensures no_write { IsErrOf result PackFault.Write → ⊥ }
+{
+    let mut digests = Vec::new(alloc);
+    for line in parted(text) {
+        match Digest::parse(line.text) {
+            Err(_) => return Err(PackFault::Line { line: line.number }),
+            Ok(digest) => {
+                if digests.push(digest).is_err() {
+                    return Err(PackFault::NoMemory);
+                }
+            }
+        }
+    }
+    Ok(digests)
+}
+
+/// Sorts the digests and drops repeats.
+fn arrange(digests: &mut Vec<Digest>)
+    ensures arranged { IsArranged digests.old.items digests.new.items }
+    ensures fewer { vec_len digests.new ≤ vec_len digests.old }
+{
+    digests.sort_unstable();
+    digests.dedup();
+}
+
+/// Reads lines of 64 hexadecimal digits to the end, writes the digests as one SHA256 list, ascending,
+/// each once, and answers how many there are. Nothing is written for no digest, nor before all lines
+/// are read. Takes memory for the text and its digests; the time is that of sorting them.
+///
+/// The text may have 8,388,608 bytes; that is tested before its lines are. An interrupted read or write
+/// is a fault. Of what a reader or a writer doesn't tell of its bytes the clauses say nothing.
+pub fn pack<R: Read, W: Write>(
+    alloc: Global,
+    owner: &Guid,
+    reader: &mut R,
+    writer: &mut W,
+) -> Result<u64, PackFault>
+    ensures ok { IfOk result (λ count. IfSome (R.remaining reader.old) (λ text.
+        IsPacked owner.now text count (W.contents writer.old) (W.contents writer.new))) }
+
+    ensures too_long { IsErrOf result PackFault.TooLong → IfSome (R.remaining reader.old) IsTooLong }
+    ensures line { (line : ℕ) → IsErrOf result (PackFault.Line line)
+        → IfSome (R.remaining reader.old) (λ text. HasWrongLine text line) }
+    ensures write { IsErrOf result PackFault.Write → IfSome (R.remaining reader.old) (λ text.
+        IsPartlyPacked owner.now text (W.contents writer.old) (W.contents writer.new)) }
+
+    // After any fault but Write nothing was written.
+    ensures kept { IfErr result (λ fault. (fault ≡ PackFault.Write → ⊥)
+        → Keeps (W.contents writer.old) (W.contents writer.new)) }
+{
+    let text = read_text(alloc, reader)?;
+    let mut digests = read_digests(alloc, &text)?;
+    arrange(&mut digests);
+    match write_sha256(owner, &digests, writer) {
+        Ok(()) => Ok(digests.len() as u64),
+        Err(_) => Err(PackFault::Write),
+    }
+}
