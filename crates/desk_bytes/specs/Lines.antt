@@ -1,13 +1,14 @@
--- The lines of a text, as shim's SBAT.md reads them.
+-- The lines of a text (shim's SBAT.md), each with its number.
 use Rattle.std.specs.Prelude.{ℕ, ◌+◌, ◌==◌, ◌&&◌, Bool, false, if◌then◌else◌, List, [], ◌∷◌}
 use Rattle.std.specs.List.{onto_first}
 use Rattle.desk_bytes.specs.declared.line.Line.{Line}
 
+-- the list has b in front
 abbrev pub begins_with : ℕ → List ℕ → Bool
 begins_with b [] = false
 begins_with b (x ∷ xs) = x == b
 
--- A text is parted at each LF (10). One CR (13) is dropped where an LF follows it.
+-- own: a text is parted at each LF (10) alone, and one CR (13) is dropped only where an LF follows it
 abbrev pub lines_of : List ℕ → List (List ℕ)
 lines_of [] = [] ∷ []
 lines_of (b ∷ bs) =
@@ -20,7 +21,7 @@ pub record Numbered : Type 0 where
   pub number : ℕ
   pub text : List ℕ
 
--- The lines with their numbers from n on. An empty line is counted and passed over.
+-- the lines with their numbers from n on: an empty line is counted and passed over
 abbrev pub numbered_from : ℕ → List (List ℕ) → List Numbered
 numbered_from n [] = []
 numbered_from n ([] ∷ lines) = numbered_from (n + 1) lines

@@ -57,6 +57,7 @@ number_of refusal.LengthNeeded = 55
 number_of refusal.TooLarge = 56
 number_of refusal.NotSupported = 57
 
+-- own: as `refused NUMBER NAME` shows it
 abbrev pub name_of : Refusal → List ℕ
 name_of refusal.Short = codes "Short"
 name_of refusal.NoMz = codes "NoMz"

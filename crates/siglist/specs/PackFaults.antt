@@ -5,6 +5,7 @@ use Rattle.desk_bytes.specs.declared.refusal.Refusal.TheVariants as refusal
 use Rattle.siglist.specs.declared.fault.PackFault.{PackFault}
 use Rattle.siglist.specs.declared.fault.PackFault.TheVariants as fault
 
+-- its row in the table of refusals
 abbrev pub refusal_of : PackFault → Refusal
 refusal_of fault.TooLong = refusal.TooLong
 refusal_of fault.Read = refusal.Read
@@ -12,6 +13,7 @@ refusal_of fault.Write = refusal.Write
 refusal_of (fault.Line line) = refusal.Line
 refusal_of fault.NoMemory = refusal.NoMemory
 
+-- the number of the line that was refused
 abbrev pub place_of : PackFault → Option ℕ
 place_of fault.TooLong = None
 place_of fault.Read = None

@@ -9,10 +9,12 @@ use Rattle.siglist.specs.SignatureLists.{spelling}
 use Rattle.siglist.specs.Writing.{sha256_row}
 use Rattle.siglist.specs.declared.packing.TheConstants.{MOST_BYTES}
 
+-- one more in front of what was read, where that was no wrong line
 abbrev pub put_first : {X : Type 0} → X → Result (List X) ℕ → Result (List X) ℕ
 put_first x (Ok xs) = Ok (x ∷ xs)
 put_first x (Err line) = Err line
 
+-- what a line names, in front of what the rest names
 abbrev pub digest_at : ℕ → Option (List ℕ) → Result (List (List ℕ)) ℕ → Result (List (List ℕ)) ℕ
 digest_at line None rest = Err line
 digest_at line (Some d) rest = put_first d rest
@@ -52,6 +54,7 @@ pub record IsPartlyPacked (owner text : List ℕ) (old new : Option (List ℕ)) 
   pub packs : Packs text digests
   pub out : AppendsBeginning old new (packed owner digests)
 
+-- own: the text passes the limit
 abbrev pub IsTooLong : List ℕ → Type 0
 IsTooLong text = MOST_BYTES < length text
 

@@ -16,6 +16,7 @@ pub record SignatureList : Type 0 where
   pub entry_size : ℕ
   pub entries : List Entry
 
+-- SignatureOwner, then SignatureData
 abbrev pub entry_bytes : Entry → List ℕ
 entry_bytes e = e.owner ++ e.body
 
@@ -27,6 +28,7 @@ list_size l = 28 + length l.header + l.entry_size * length l.entries
 abbrev pub head_bytes : SignatureList → List ℕ
 head_bytes l = l.kind ++ to_le_bytes w32 (list_size l) ++ to_le_bytes w32 (length l.header) ++ to_le_bytes w32 l.entry_size
 
+-- the head, the header, the entries
 abbrev pub list_bytes : SignatureList → List ℕ
 list_bytes l = head_bytes l ++ l.header ++ flat_map entry_bytes l.entries
 

@@ -3,6 +3,7 @@ use Rattle.std.specs.Prelude.{ℕ, List, [], ◌∷◌, map}
 use Rattle.siglist.specs.Kinds.{sha256_kind}
 use Rattle.siglist.specs.SignatureLists.{Entry, SignatureList}
 
+-- what this owner put there
 abbrev pub entry_of : List ℕ → List ℕ → Entry
 entry_of owner body = record { owner = owner; body = body }
 

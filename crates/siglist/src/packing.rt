@@ -15,9 +15,11 @@ pub const MOST_BYTES: usize = 8_388_608;
 
 /// Reads all that there is. An interrupted read is a fault.
 fn read_text<R: Read>(alloc: Global, reader: &mut R) -> Result<Vec<u8>, PackFault>
-    ensures whole { IfOk result (λ text. IfSome (R.remaining reader.old) (λ given. text.items ≡ given)) }
+    ensures whole { IfOk result (λ text.
+        IfSome (R.remaining reader.old) (λ given. text.items ≡ given)) }
     ensures bound { IfOk result (λ text. length text.items ≤ MOST_BYTES) }
-    ensures too_long { IsErrOf result PackFault.TooLong → IfSome (R.remaining reader.old) IsTooLong }
+    ensures too_long { IsErrOf result PackFault.TooLong
+        → IfSome (R.remaining reader.old) IsTooLong }
     ensures no_line { (line : ℕ) → IsErrOf result (PackFault.Line line) → ⊥ }
     ensures no_write { IsErrOf result PackFault.Write → ⊥ }
 {
@@ -85,7 +87,8 @@ pub fn pack<R: Read, W: Write>(
     ensures ok { IfOk result (λ count. IfSome (R.remaining reader.old) (λ text.
         IsPacked owner.now text count (W.contents writer.old) (W.contents writer.new))) }
 
-    ensures too_long { IsErrOf result PackFault.TooLong → IfSome (R.remaining reader.old) IsTooLong }
+    ensures too_long { IsErrOf result PackFault.TooLong
+        → IfSome (R.remaining reader.old) IsTooLong }
     ensures line { (line : ℕ) → IsErrOf result (PackFault.Line line)
         → IfSome (R.remaining reader.old) (λ text. HasWrongLine text line) }
     ensures write { IsErrOf result PackFault.Write → IfSome (R.remaining reader.old) (λ text.

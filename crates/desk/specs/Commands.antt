@@ -1,0 +1,34 @@
+-- The program's command line, as `clap` sees it.
+use Rattle.std.specs.Prelude.{ℕ, true, codes, List, [], ◌∷◌, map, take}
+use Rattle.std.specs.List.{slice_index_or}
+use Rattle.clap.specs.Words.{App, Rule, Shape, Text, new_app, new_rule, with_subcommand}
+use Rattle.clap.specs.Simple.{new_shape, on_top}
+
+-- the ids of a subcommand's words, by place
+abbrev pub ids : List Text
+ids = codes "first" ∷ codes "second" ∷ codes "third" ∷ codes "fourth" ∷ []
+
+-- the id of the word at a place
+abbrev pub id_of : ℕ → Text
+id_of place = slice_index_or ids place []
+
+-- a word that has to be given, and has a name of its own in help
+abbrev pub word_rule : Text → Rule
+word_rule id = record (new_rule id) { required = true; value_names = 1 }
+
+-- a subcommand of that name and so many words
+abbrev pub subcommand_shape : Text → ℕ → Shape
+subcommand_shape name count = record (new_shape name) { rules = map word_rule (take count ids) }
+
+-- the command without its subcommands
+abbrev pub bare_app : App
+bare_app = on_top (λ s. record s {
+  no_binary_name = true;
+  propagate_version = true;
+  has_version = true;
+  subcommand_required = true;
+}) (new_app (codes "desk"))
+
+-- the program's command
+abbrev pub desk_app : App
+desk_app = with_subcommand bare_app (subcommand_shape (codes "pack") 1)

@@ -1,0 +1,21 @@
+//! What the program's words say.
+use clap::Error;
+
+/// A subcommand with its words.
+#[derive(Clone, Copy, Debug, PartialEq, Eq)]
+pub enum Words<'a> {
+    /// Packs the digests of the standard input under this owner's GUID.
+    Pack { owner: &'a str },
+}
+
+/// Why no subcommand was taken.
+#[derive(Debug, Drop)]
+pub enum WordsFault {
+    /// Memory was refused.
+    NoMemory,
+    /// The answer is a text: a mistake in the words, or the help or the version that they ask for.
+    Refused(Error),
+    /// `clap` found no mistake, and yet no subcommand with its words. No words are known that give
+    /// this, but `clap`'s contract doesn't rule it out.
+    Missing,
+}
