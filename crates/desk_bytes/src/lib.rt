@@ -3,6 +3,7 @@
 
 mod digest;
 mod guid;
+mod input;
 mod laws;
 mod line;
 mod output;
@@ -11,6 +12,7 @@ mod refusal;
 
 pub use digest::{BadDigest, Digest};
 pub use guid::{BadGuid, Guid};
+pub use input::{InputFault, read_up_to};
 pub use laws::{
     digest_text_reads_back, guid_text_is_one, guid_texts_differ, refusal_numbers_differ,
 };

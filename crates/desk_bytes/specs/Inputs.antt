@@ -1,0 +1,10 @@
+-- The rows of the table of refusals that reading meets.
+use Rattle.desk_bytes.specs.declared.input.InputFault.{InputFault}
+use Rattle.desk_bytes.specs.declared.input.InputFault.TheVariants as fault
+use Rattle.desk_bytes.specs.declared.refusal.Refusal.{Refusal}
+use Rattle.desk_bytes.specs.declared.refusal.Refusal.TheVariants as refusal
+
+-- its row in the table of refusals
+abbrev pub refusal_of : InputFault → Refusal
+refusal_of fault.Read = refusal.Read
+refusal_of fault.NoMemory = refusal.NoMemory
