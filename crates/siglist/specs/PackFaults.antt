@@ -1,7 +1,9 @@
--- The rows of the table of refusals that `pack` meets.
+-- What stops a pack, and its rows in the table of refusals.
 use Rattle.std.specs.Prelude.{ℕ, Option, Some, None}
 use Rattle.desk_bytes.specs.declared.refusal.Refusal.{Refusal}
 use Rattle.desk_bytes.specs.declared.refusal.Refusal.TheVariants as refusal
+use Rattle.desk_bytes.specs.declared.input.InputFault.{InputFault}
+use Rattle.desk_bytes.specs.declared.input.InputFault.TheVariants as input
 use Rattle.siglist.specs.declared.fault.PackFault.{PackFault}
 use Rattle.siglist.specs.declared.fault.PackFault.TheVariants as fault
 
@@ -20,3 +22,8 @@ place_of fault.Read = None
 place_of fault.Write = None
 place_of (fault.Line line) = Some line
 place_of fault.NoMemory = None
+
+-- what a fault of the input is to `pack`
+abbrev pub fault_of : InputFault → PackFault
+fault_of input.Read = fault.Read
+fault_of input.NoMemory = fault.NoMemory

@@ -1,8 +1,8 @@
 //! What stops a pack.
 ghost use Rattle.std.specs.Prelude.{◌≡◌};
-ghost use Rattle.siglist.specs.PackFaults.{place_of, refusal_of};
+ghost use Rattle.siglist.specs.PackFaults.{fault_of, place_of, refusal_of};
 
-use desk_bytes::Refusal;
+use desk_bytes::{InputFault, Refusal};
 use thiserror::Error;
 
 /// Why a text was not packed.
@@ -23,6 +23,17 @@ pub enum PackFault {
     /// Memory was refused.
     #[error("no memory")]
     NoMemory,
+}
+
+impl From<InputFault> for PackFault {
+    ghost from_gives = { λ input fault. fault ≡ fault_of input };
+
+    fn from(input: InputFault) -> PackFault {
+        match input {
+            InputFault::Read => PackFault::Read,
+            InputFault::NoMemory => PackFault::NoMemory,
+        }
+    }
 }
 
 impl PackFault {

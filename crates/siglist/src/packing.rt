@@ -6,14 +6,14 @@ ghost use Rattle.siglist.specs.Packing.{HasWrongLine, IsArranged, IsPacked, IsPa
 
 use crate::fault::PackFault;
 use crate::writing::write_sha256;
-use desk_bytes::{Digest, Guid, parted};
+use desk_bytes::{Digest, Guid, parted, read_up_to};
 use std::alloc::Global;
 use std::io::{Read, Write};
 
 /// The most bytes of a text.
 pub const MOST_BYTES: usize = 8_388_608;
 
-/// Reads all that there is. An interrupted read is a fault.
+/// Reads the text to its end, or refuses it as too long.
 fn read_text<R: Read>(alloc: Global, reader: &mut R) -> Result<Vec<u8>, PackFault>
     ensures whole { IfOk result (λ text.
         IfSome (R.remaining reader.old) (λ given. text.items ≡ given)) }
@@ -23,22 +23,11 @@ fn read_text<R: Read>(alloc: Global, reader: &mut R) -> Result<Vec<u8>, PackFaul
     ensures no_line { (line : ℕ) → IsErrOf result (PackFault.Line line) → ⊥ }
     ensures no_write { IsErrOf result PackFault.Write → ⊥ }
 {
-    let mut text = Vec::new(alloc);
-    let mut piece = [0; 8192];
-    loop {
-        match reader.read(&mut piece) {
-            Err(_) => return Err(PackFault::Read),
-            Ok(0) => return Ok(text),
-            Ok(count) => {
-                if count > MOST_BYTES - text.len() {
-                    return Err(PackFault::TooLong);
-                }
-                if text.extend_from_slice(&piece[..count]).is_err() {
-                    return Err(PackFault::NoMemory);
-                }
-            }
-        }
+    let text = read_up_to(alloc, reader, MOST_BYTES + 1)?;
+    if text.len() > MOST_BYTES {
+        return Err(PackFault::TooLong);
     }
+    Ok(text)
 }
 
 /// The digests of a text's lines, in their order.
