@@ -1,0 +1,10 @@
+pub mod CheckLemmas
+pub mod HashedLemmas
+pub mod HeaderLemmas
+pub mod OrderLemmas
+pub mod PlacesLemmas
+pub mod PlacingLemmas
+pub mod RawLemmas
+pub mod RefusalLemmas
+pub mod SpanLemmas
+pub mod WithinLemmas

@@ -1,0 +1,76 @@
+-- What the checks tell of a layout.
+use Rattle.std.proofs.Common.{◌≡◌, ◌+◌, ◌≤◌, ◌++◌, ℕ, true, false, if◌then◌else◌, List, [], ◌∷◌, length, nat_lt, nat_le, refl, sym, subst, ◌∙◌, arith}
+use Rattle.std.specs.List.{list_all}
+use Rattle.std.proofs.lemmas.Bool.{leb-true, and_from}
+use Rattle.std.proofs.lemmas.List.Elements.{All-append, All-filter}
+use Rattle.std.proofs.lemmas.List.Sums.{AllPass-from_list_all}
+use Rattle.pe_image.specs.Checks.{IsLaid}
+use Rattle.pe_image.specs.Image.{checksum, has_entry, entry, size_of_headers, raw, hashed_size, image_end}
+use Rattle.pe_image.specs.Places.{Places, places_of, spans_of, IsLayoutOf}
+use Rattle.pe_image.specs.Spans.{in_order, follows, are_apart, EndWithin, StandBetween}
+use Rattle.pe_image.proofs.CheckLemmas.{IsPlaced, placed-from-laid, fixed-least}
+use Rattle.pe_image.proofs.HashedLemmas.{image-end}
+use Rattle.pe_image.proofs.OrderLemmas.{All-cons}
+use Rattle.pe_image.proofs.PlacesLemmas.{header_spans, spans-of_file}
+use Rattle.pe_image.proofs.RawLemmas.{raw-wide}
+use Rattle.pe_image.proofs.SpanLemmas.{all-in_order, follows-in_order, reach-within}
+
+-- the sections end within the file, and follow one another
+sections-within : (f : List ℕ) → IsPlaced f → EndWithin (length f) (in_order (raw f))
+sections-within f p =
+    let each = AllPass-from_list_all (λ s. nat_le s.1 (length f)) (in_order (raw f)) (all-in_order (λ s. nat_le s.1 (length f)) (raw f) ∙ p.ends) in
+    λ k d within. leb-true _ _ (each k d within)
+
+sections-follow : (f : List ℕ) → IsPlaced f → follows (size_of_headers f) (in_order (raw f)) ≡ true
+sections-follow f p =
+    let z = size_of_headers f in
+    follows-in_order z (raw f) (raw-wide f) ∙ and_from (list_all (λ s. nat_le z s.0) (raw f)) (are_apart (raw f)) p.low p.apart
+
+-- no span passes a place
+none-within : (n : ℕ) → EndWithin n []
+none-within n = λ k d within. absurd (omega arith)
+
+-- what is hashed of the headers lies within the file
+headers-within : (f : List ℕ) → IsPlaced f → EndWithin (length f) (header_spans f)
+headers-within f p =
+    let n = length f in
+    let least = fixed-least f in
+    let header = p.header in
+    let low = p.within in
+    let early : checksum f ≤ n = omega arith in
+    let last = All-cons (λ s. s.1 ≤ n) (checksum f + 4, size_of_headers f) [] low (none-within n) in
+    elim (has_entry f) as (λ b. has_entry f ≡ b → EndWithin n (if b then (0, checksum f) ∷ (checksum f + 4, entry f) ∷ (entry f + 8, size_of_headers f) ∷ [] else (0, checksum f) ∷ (checksum f + 4, size_of_headers f) ∷ [])) [
+      | true ↦ λ is.
+          let room = p.directory is in
+          let rest = All-cons (λ s. s.1 ≤ n) (entry f + 8, size_of_headers f) [] low (none-within n) in
+          let middle = All-cons (λ s. s.1 ≤ n) (checksum f + 4, entry f) ((entry f + 8, size_of_headers f) ∷ []) (omega arith) rest in
+          All-cons (λ s. s.1 ≤ n) (0, checksum f) ((checksum f + 4, entry f) ∷ (entry f + 8, size_of_headers f) ∷ []) early middle
+      | false ↦ λ is. All-cons (λ s. s.1 ≤ n) (0, checksum f) ((checksum f + 4, size_of_headers f) ∷ []) early last
+    ] refl
+
+-- all that is hashed does
+pub spans-within : (f : List ℕ) → IsLaid f → EndWithin (length f) (spans_of (places_of f))
+spans-within f laid =
+    let p = placed-from-laid f laid in
+    let n = length f in
+    let last = image-end f p (reach-within (size_of_headers f) n (raw f) p.within p.ends) in
+    let tail = All-cons (λ s. s.1 ≤ n) (hashed_size f, image_end f) [] last.1 (none-within n) in
+    let front = All-append (λ s. s.1 ≤ n) (header_spans f) (in_order (raw f)) (headers-within f p) (sections-within f p) in
+    let all = All-append (λ s. s.1 ≤ n) (header_spans f ++ in_order (raw f)) ((hashed_size f, image_end f) ∷ []) front tail in
+    subst (EndWithin n) (sym (spans-of_file f)) (All-filter (λ s. nat_lt s.0 s.1) (λ s. s.1 ≤ n) _ all)
+
+-- the sections of a layout stand in order between the headers and the end
+pub sections-between : (f : List ℕ) → IsLaid f → StandBetween (places_of f).headers_end (length f) (places_of f).sections
+unfolding places_of
+sections-between f laid =
+    let p = placed-from-laid f laid in
+    record { follow = sections-follow f p; within = sections-within f p }
+
+-- the places of an image that is accepted are its layout
+pub layout-of : (f : List ℕ) (p : Places) → IsLaid f → p ≡ places_of f → IsLayoutOf f p
+layout-of f p laid is = record {
+  laid = laid;
+  places = is;
+  sections = subst (λ q. StandBetween q.headers_end (length f) q.sections) (sym is) (sections-between f laid);
+  hashed = subst (λ q. EndWithin (length f) (spans_of q)) (sym is) (spans-within f laid);
+}

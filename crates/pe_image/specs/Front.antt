@@ -1,0 +1,43 @@
+-- What is known of an image before its sections are read.
+use Rattle.std.specs.Prelude.{◌≡◌, ◌<◌, ◌≤◌, ◌+◌, ◌*◌, ◌^◌, ℕ, List, length, IfSome}
+use Rattle.pe_image.specs.Checks.{longest_file}
+use Rattle.pe_image.specs.Image.{signature, fixed_size, sections_begin, number_of_sections, size_of_headers}
+use Rattle.pe_image.specs.Places.{entry_of}
+use Rattle.pe_image.specs.declared.front.Front.{Front}
+use Rattle.pe_image.specs.declared.optional.Directories.{Directories}
+use Rattle.pe_image.specs.declared.optional.Extent.{Extent}
+
+-- the signature stands at a place of a file that isn't too long
+pub record IsStart (f : List ℕ) (place : ℕ) : Type 0 where
+  pub exact : place ≡ signature f
+  pub small : place < 2 ^ 32
+  pub within : place + 24 ≤ length f
+  pub short : length f ≤ longest_file
+
+-- the size of the optional header without its data directories
+pub record IsFixedSize (f : List ℕ) (size : ℕ) : Type 0 where
+  pub exact : size ≡ fixed_size f
+  pub least : 96 ≤ size
+  pub most : size ≤ 112
+
+-- the section table's place and the certificate table's entry; the fields up to Subsystem are there
+pub record AreDirectories (f : List ℕ) (directories : Directories) : Type 0 where
+  pub begin : directories.sections_begin ≡ sections_begin f
+  pub low : directories.sections_begin < 2 ^ 40
+  pub entry : directories.entry ≡ entry_of f
+  pub inside : IfSome directories.entry (λ e. e.0 + 8 ≤ length f)
+  pub fields : signature f + 120 ≤ length f
+
+-- how many sections there are, and where the headers end, behind the section table
+pub record IsExtent (f : List ℕ) (extent : Extent) : Type 0 where
+  pub count : extent.count ≡ number_of_sections f
+  pub few : extent.count ≤ 96
+  pub end : extent.headers_end ≡ size_of_headers f
+  pub table : sections_begin f + 40 * extent.count ≤ extent.headers_end
+  pub fits : extent.headers_end ≤ length f
+
+-- all of these
+pub record IsFront (f : List ℕ) (front : Front) : Type 0 where
+  pub start : IsStart f front.place
+  pub directories : AreDirectories f front.directories
+  pub extent : IsExtent f front.extent

@@ -1,0 +1,11 @@
+pub mod Checks
+pub mod Faults
+pub mod Front
+pub mod Hashed
+pub mod Headers
+pub mod Image
+pub mod Numbers
+pub mod Places
+pub mod Sbat
+pub mod Sources
+pub mod Spans

@@ -1,0 +1,33 @@
+-- The section `.sbat` and its text (shim's SBAT.md).
+use Rattle.std.specs.Prelude.{ℕ, ◌+◌, ◌==◌, Bool, nat_lt, if◌then◌else◌, List, [], ◌∷◌, find, count_by, min, Option, Some, None}
+use Rattle.std.specs.Str.{bytes_eq}
+use Rattle.pe_image.specs.declared.header.Header.{Header}
+
+-- whether a section has the name `.sbat`, 0, 0, 0
+abbrev pub is_sbat : Header → Bool
+is_sbat h = bytes_eq h.name (46 ∷ 115 ∷ 98 ∷ 97 ∷ 116 ∷ 0 ∷ 0 ∷ 0 ∷ [])
+
+-- how many bytes of a section are text: VirtualSize of them at most, where it is given
+abbrev pub text_size : Header → ℕ
+text_size h = if h.virtual_size == 0 then h.size_of_raw_data else min h.virtual_size h.size_of_raw_data
+
+-- the same where there may be no section
+abbrev pub size_of_text : Option Header → ℕ
+size_of_text None = 0
+size_of_text (Some h) = text_size h
+
+-- where the text of a section stands, where it has any
+abbrev pub text_at : Option Header → Option (ℕ × ℕ)
+text_at None = None
+text_at (Some h) =
+    if nat_lt 0 (text_size h)
+    then Some (h.pointer_to_raw_data, h.pointer_to_raw_data + text_size h)
+    else None
+
+-- the section `.sbat`
+unfoldable pub sbat_section : List Header → Option Header
+sbat_section hs = find is_sbat hs
+
+-- how many sections have that name
+unfoldable pub sbat_count : List Header → ℕ
+sbat_count hs = count_by is_sbat hs

@@ -1,0 +1,57 @@
+//! Why an image has no layout.
+ghost use Rattle.std.specs.Prelude.{◌≡◌};
+ghost use Rattle.pe_image.specs.Faults.{refusal_of};
+
+use desk_bytes::Refusal;
+use thiserror::Error;
+
+/// The first condition that an image doesn't meet, or a read that failed.
+#[derive(Clone, Copy, Debug, PartialEq, Eq, Error)]
+pub enum LayoutFault {
+    #[error("the file ends before a header that it needs")]
+    Short,
+    #[error("the file doesn't begin with MZ")]
+    NoMz,
+    #[error("no PE signature stands where the file says")]
+    NoPe,
+    #[error("the optional header is neither PE32 nor PE32+")]
+    Magic,
+    #[error("the subsystem is none of EFI's")]
+    NotEfi,
+    #[error("the headers' sizes don't fit one another or the file")]
+    Headers,
+    #[error("there are too many sections, or one passes the file's end")]
+    Sections,
+    #[error("a section shares bytes with the headers or with another section")]
+    Overlap,
+    #[error("the certificate table isn't the end of the file")]
+    Table,
+    #[error("two sections are named .sbat")]
+    TwoSbat,
+    #[error("the file, its certificate table or its .sbat text is too long")]
+    TooLong,
+    #[error("a read failed")]
+    Read,
+}
+
+impl LayoutFault {
+    /// Its place in the table of refusals.
+    pub fn refusal(self) -> Refusal
+        ensures { result ≡ refusal_of self }
+    {
+        match self {
+            LayoutFault::Short => Refusal::Short,
+            LayoutFault::NoMz => Refusal::NoMz,
+            LayoutFault::NoPe => Refusal::NoPe,
+            LayoutFault::Magic => Refusal::Magic,
+            LayoutFault::NotEfi => Refusal::NotEfi,
+            LayoutFault::Headers => Refusal::Headers,
+            LayoutFault::Sections => Refusal::Sections,
+            LayoutFault::Overlap => Refusal::Overlap,
+            LayoutFault::Table => Refusal::Table,
+            LayoutFault::TwoSbat => Refusal::TwoSbat,
+            LayoutFault::TooLong => Refusal::TooLong,
+            LayoutFault::Read => Refusal::Read,
+        }
+    }
+}

@@ -1,0 +1,31 @@
+//! The layout of EFI images, and the ranges of them that Authenticode hashes.
+#![tactic(auto)]
+
+mod certificates;
+mod fault;
+mod field;
+mod front;
+mod header;
+mod laws;
+mod listing;
+mod number;
+mod optional;
+mod places;
+mod reading;
+mod sbat;
+mod sections;
+mod source;
+mod span_list;
+mod spans;
+mod start;
+
+pub use fault::LayoutFault;
+pub use laws::{hashes_all_else, no_slice_fails, none_fails_where_laid, sections_are_in_order};
+pub use listing::ranges;
+pub use places::{Layout, gap, sbat_range, table};
+pub use reading::layout;
+pub use source::{Bytes, ReadFailed, Source};
+pub use span_list::Ranges;
+
+#[cfg(test)]
+mod tests;

@@ -1,0 +1,159 @@
+//! The optional header.
+ghost use Rattle.std.specs.Prelude.{◌≡◌, ◌≤◌, None, OnOk, IfOk, IfErr};
+ghost use Rattle.pe_image.specs.Checks.{first_of, magic_checks, size_checks, header_checks, IsRefused};
+ghost use Rattle.pe_image.specs.Front.{IsStart, IsFixedSize, AreDirectories, IsExtent};
+
+use crate::fault::LayoutFault;
+use crate::field::{
+    CERTIFICATE_ENTRY, CERTIFICATE_INDEX, ENTRY_SIZE, NUMBER_OF_SECTIONS, OPTIONAL_HEADER,
+    PE32_PLUS_SIZE, PE32_SIZE, SECTION_HEADER_SIZE, SIZE_OF_HEADERS, SIZE_OF_OPTIONAL_HEADER,
+    SUBSYSTEM,
+};
+use crate::number::{read_u16, read_u32};
+use crate::source::Source;
+
+/// Magic of PE32.
+const PE32: u16 = 0x10b;
+
+/// Magic of PE32+.
+const PE32_PLUS: u16 = 0x20b;
+
+/// The first of EFI's subsystems.
+const EFI_APPLICATION: u16 = 10;
+
+/// The last of EFI's subsystems.
+const EFI_ROM: u16 = 13;
+
+/// The most sections that an image may have.
+const MOST_SECTIONS: u16 = 96;
+
+/// The size of the optional header without its directories, for the signature's place.
+pub(crate) fn read_fixed_size<S: Source>(source: &mut S, place: u64) -> Result<u64, LayoutFault>
+    requires { IsStart (S.content source.old) place }
+
+    ensures ok { OnOk result (first_of (magic_checks (S.content source.old)) ≡ None) }
+    ensures exact { IfOk result (λ size. IsFixedSize (S.content source.old) size) }
+
+    ensures err { IfErr result (IsRefused (magic_checks (S.content source.old))
+        (S.failures source.old) (S.failures source.new)) }
+
+    ensures kept { S.failures source.old ≤ S.failures source.new }
+    ensures same { S.content source.new ≡ S.content source.old }
+{
+    if source.len() < place + OPTIONAL_HEADER + 2 {
+        return Err(LayoutFault::Magic);
+    }
+    match read_u16(source, place + OPTIONAL_HEADER) {
+        Err(_) => Err(LayoutFault::Read),
+        Ok(PE32) => Ok(PE32_SIZE),
+        Ok(PE32_PLUS) => Ok(PE32_PLUS_SIZE),
+        Ok(_) => Err(LayoutFault::Magic),
+    }
+}
+
+/// Where the section table begins, and the entry of the certificate table.
+#[derive(Clone, Copy, Debug)]
+pub(crate) struct Directories {
+    pub(crate) sections_begin: u64,
+    pub(crate) entry: Option<(u64, u64)>,
+}
+
+/// The directories, for the signature's place and the size that `read_fixed_size` gave.
+pub(crate) fn read_directories<S: Source>(
+    source: &mut S,
+    place: u64,
+    fixed: u64,
+) -> Result<Directories, LayoutFault>
+    requires start { IsStart (S.content source.old) place }
+    requires fixed { IsFixedSize (S.content source.old) fixed }
+
+    ensures ok { OnOk result (first_of (size_checks (S.content source.old)) ≡ None) }
+    ensures exact { IfOk result (λ found. AreDirectories (S.content source.old) found) }
+
+    ensures err { IfErr result (IsRefused (size_checks (S.content source.old))
+        (S.failures source.old) (S.failures source.new)) }
+
+    ensures kept { S.failures source.old ≤ S.failures source.new }
+    ensures same { S.content source.new ≡ S.content source.old }
+{
+    let length = source.len();
+    let Ok(size) = read_u16(source, place + SIZE_OF_OPTIONAL_HEADER) else {
+        return Err(LayoutFault::Read);
+    };
+    let size = u64::from(size);
+    let optional = place + OPTIONAL_HEADER;
+    let sections_begin = optional + size;
+    if size < fixed || length < sections_begin {
+        return Err(LayoutFault::Headers);
+    }
+    // NumberOfRvaAndSizes is the last u32 before the data directories.
+    let Ok(number) = read_u32(source, optional + (fixed - 4)) else {
+        return Err(LayoutFault::Read);
+    };
+    if number <= CERTIFICATE_INDEX {
+        return Ok(Directories {
+            sections_begin,
+            entry: None,
+        });
+    }
+    if size < fixed + CERTIFICATE_ENTRY + ENTRY_SIZE {
+        return Err(LayoutFault::Headers);
+    }
+    let entry = optional + (fixed + CERTIFICATE_ENTRY);
+    Ok(Directories {
+        sections_begin,
+        entry: Some((entry, entry + ENTRY_SIZE)),
+    })
+}
+
+/// How many sections there are, and where the headers end.
+#[derive(Clone, Copy, Debug)]
+pub(crate) struct Extent {
+    pub(crate) count: usize,
+    pub(crate) headers_end: u64,
+}
+
+/// The extent of the headers, for the signature's place and what `read_directories` gave.
+pub(crate) fn read_extent<S: Source>(
+    source: &mut S,
+    place: u64,
+    directories: Directories,
+) -> Result<Extent, LayoutFault>
+    requires start { IsStart (S.content source.old) place }
+    requires directories { AreDirectories (S.content source.old) directories }
+
+    ensures ok { OnOk result (first_of (header_checks (S.content source.old)) ≡ None) }
+    ensures exact { IfOk result (λ extent. IsExtent (S.content source.old) extent) }
+
+    ensures err { IfErr result (IsRefused (header_checks (S.content source.old))
+        (S.failures source.old) (S.failures source.new)) }
+
+    ensures kept { S.failures source.old ≤ S.failures source.new }
+    ensures same { S.content source.new ≡ S.content source.old }
+{
+    let length = source.len();
+    let Ok(subsystem) = read_u16(source, place + SUBSYSTEM) else {
+        return Err(LayoutFault::Read);
+    };
+    if subsystem < EFI_APPLICATION || EFI_ROM < subsystem {
+        return Err(LayoutFault::NotEfi);
+    }
+    let Ok(count) = read_u16(source, place + NUMBER_OF_SECTIONS) else {
+        return Err(LayoutFault::Read);
+    };
+    if MOST_SECTIONS < count {
+        return Err(LayoutFault::Sections);
+    }
+    let Ok(headers_end) = read_u32(source, place + SIZE_OF_HEADERS) else {
+        return Err(LayoutFault::Read);
+    };
+    let headers_end = u64::from(headers_end);
+    let table_end = directories.sections_begin + SECTION_HEADER_SIZE * u64::from(count);
+    if headers_end < table_end || length < headers_end {
+        return Err(LayoutFault::Headers);
+    }
+    Ok(Extent {
+        count: usize::from(count),
+        headers_end,
+    })
+}

@@ -1,0 +1,72 @@
+//! Sources of bytes that are read at places.
+ghost use Rattle.std.specs.Prelude.{◌≡◌, ◌+◌, ◌≤◌, ℕ, List, length, slice_range, OnOk, OnErr};
+ghost use Rattle.pe_image.specs.Sources.{HaveRisen};
+
+use thiserror::Error;
+
+/// A source failed a read, or was interrupted.
+#[derive(Clone, Copy, Debug, PartialEq, Eq, Error)]
+#[error("a read failed")]
+pub struct ReadFailed;
+
+/// Bytes that are read at places, as those of a file. Places are bytes from the beginning. No read
+/// changes the content, and the source counts the reads that fail.
+pub trait Source {
+    /// The bytes of the source.
+    ghost content: { Self → List ℕ };
+
+    /// How many reads failed. At the greatest `u64` the count stays.
+    ghost failures: { Self → ℕ };
+
+    /// How many bytes there are.
+    fn len(&self) -> u64
+        ensures { result ≡ length (content self.now) };
+
+    /// How many reads failed so far.
+    fn failures(&self) -> u64
+        ensures { result ≡ failures self.now };
+
+    /// Fills the slice with the bytes from a place on. The caller stays within the length.
+    fn read_at(&mut self, at: u64, out: &mut [u8]) -> Result<(), ReadFailed>
+        requires { at + length out.old ≤ length (content self.old) }
+        ensures ok { OnOk result (out.new
+            ≡ slice_range (content self.old) at (at + length out.old)) }
+
+        ensures device { OnErr result (HaveRisen (failures self.old) (failures self.new)) }
+
+        ensures kept { failures self.old ≤ failures self.new }
+        ensures same { content self.new ≡ content self.old };
+}
+
+/// A source over a slice, which never fails.
+#[derive(Debug, Drop)]
+pub struct Bytes<'a>(pub &'a [u8]);
+
+impl Source for Bytes<'_> {
+    ghost content = { λ b. b.0.now };
+
+    ghost failures = { λ _. 0 };
+
+    fn len(&self) -> u64 {
+        self.0.len() as u64
+    }
+
+    fn failures(&self) -> u64 {
+        0
+    }
+
+    fn read_at(&mut self, at: u64, out: &mut [u8]) -> Result<(), ReadFailed>
+        requires { at + length out.old ≤ length self.old.0.now }
+        ensures always { result ≡ Ok tt }
+        ensures ok { OnOk result (out.new ≡ slice_range self.old.0.now at (at + length out.old)) }
+
+        ensures device { OnErr result (HaveRisen 0 0) }
+
+        ensures kept { 0 ≤ 0 }
+        ensures same { self.new.0.now ≡ self.old.0.now }
+    {
+        let at = at as usize;
+        out.copy_from_slice(&self.0[at..at + out.len()]);
+        Ok(())
+    }
+}

@@ -1,0 +1,68 @@
+//! The ranges of a file that are hashed.
+ghost use Rattle.std.specs.Prelude.{◌≡◌, ◌+◌, ◌<◌, ◌≤◌, ◌++◌, ◌∷◌, ℕ, List, [], length, take, drop};
+ghost use Rattle.std.specs.Iterator.{YieldsFirst, item_count};
+ghost use Rattle.pe_image.specs.Spans.{nonempty};
+
+use std::marker::Model;
+
+/// Half-open pairs of places in a file, in the order in which they are hashed. A contract sees the list of
+/// those that are left.
+#[derive(Debug, Drop)]
+pub struct Ranges {
+    spans: [(u64, u64); 100],
+    next: usize,
+    end: usize,
+}
+
+impl Model for Ranges {
+    ghost Value = { List (ℕ × ℕ) };
+
+    ghost view = { λ r. drop r.next (take r.end r.spans) };
+
+    ghost invariant = { λ r. (r.next ≤ r.end) × (r.end ≤ 100) × (length r.spans ≡ 100) };
+}
+
+impl Iterator for Ranges {
+    type Item = (u64, u64);
+
+    ghost next_gives = { YieldsFirst (λ spans. spans) };
+
+    ghost remaining = { item_count (λ spans. spans) };
+
+    fn next(&mut self) -> Option<(u64, u64)> {
+        if self.next == self.end {
+            return None;
+        }
+        let span = self.spans[self.next];
+        self.next += 1;
+        Some(span)
+    }
+}
+
+/// Puts a span behind the first `count`, unless it is empty, and says how many there are then.
+pub(crate) fn push(spans: &mut [(u64, u64)], count: usize, span: (u64, u64)) -> usize
+    requires { count < length spans.old }
+    ensures more { result ≤ count + 1 }
+    ensures spans { take result spans.new ≡ take count spans.old ++ nonempty (span ∷ []) }
+{
+    if span.0 < span.1 {
+        spans[count] = span;
+        count + 1
+    } else {
+        count
+    }
+}
+
+impl Ranges {
+    /// The first `end` spans.
+    pub(crate) fn of(spans: [(u64, u64); 100], end: usize) -> Self
+        requires { end ≤ 100 }
+        ensures { result ≡ take end spans }
+    {
+        Ranges {
+            spans,
+            next: 0,
+            end,
+        }
+    }
+}
