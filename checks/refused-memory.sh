@@ -1,18 +1,64 @@
 #!/bin/sh
-# Refuses each allocation of `desk pack OWNER` in turn, on the lines in crates/desk/stdin. Each such run has to end
-# with status 3, the line `device 40 NoMemory` and nothing written; the first run that meets no refusal has to write
-# the list. Not part of the gate: it runs the program as `rt try` builds it, about 10 seconds a run.
+# Refuses each allocation of the proved program in turn, on `desk pack OWNER` with the lines in crates/desk/stdin.
+# Each such run has to end with status 3, the line `device 40 NoMemory` and nothing written; the first run that meets
+# no refusal has to write the list. Not part of the gate: it needs a C compiler, for a malloc that refuses.
 set -eu
 root=$(CDPATH='' cd -- "$(dirname -- "$(readlink -f -- "$0")")/.." && pwd -P)
-cd "$root/crates/desk"
+"$root/desk" --version > /dev/null
+program=$root/crates/desk/out/desk
 room=$(mktemp -d)
 trap 'rm -rf "$room"' EXIT
+
+cat > "$room/refuse.c" << 'C'
+#define _GNU_SOURCE
+#include <dlfcn.h>
+#include <stdlib.h>
+#include <string.h>
+
+/* The allocation of this number, from 1, is refused. */
+static long left = -1;
+
+static int refuses(void) {
+    if (left < 0) {
+        const char *text = getenv("REFUSE");
+        left = text ? atol(text) : 0;
+    }
+    return left > 0 && --left == 0;
+}
+
+void *malloc(size_t size) {
+    static void *(*next)(size_t);
+    if (!next) next = (void *(*)(size_t))dlsym(RTLD_NEXT, "malloc");
+    return refuses() ? NULL : next(size);
+}
+
+void *realloc(void *at, size_t size) {
+    static void *(*next)(void *, size_t);
+    if (!next) next = (void *(*)(void *, size_t))dlsym(RTLD_NEXT, "realloc");
+    return refuses() ? NULL : next(at, size);
+}
+
+void *aligned_alloc(size_t alignment, size_t size) {
+    static void *(*next)(size_t, size_t);
+    if (!next) next = (void *(*)(size_t, size_t))dlsym(RTLD_NEXT, "aligned_alloc");
+    return refuses() ? NULL : next(alignment, size);
+}
+
+int posix_memalign(void **at, size_t alignment, size_t size) {
+    static int (*next)(void **, size_t, size_t);
+    if (!next) next = (int (*)(void **, size_t, size_t))dlsym(RTLD_NEXT, "posix_memalign");
+    return refuses() ? 12 : next(at, alignment, size);
+}
+C
+cc -shared -fPIC -O1 -o "$room/refuse.so" "$room/refuse.c" -ldl
+
 n=1
-while [ "$n" -le 200 ]; do
+while [ "$n" -le 10000 ]; do
     status=0
-    rt try --fail-alloc "$n" -- pack 00112233-4455-6677-8899-aabbccddeeff < stdin > "$room/out" 2> "$room/err" || status=$?
-    if [ "$status" -eq 0 ] && cmp -s "$room/out" stdout; then
-        echo "$((n - 1)) allocations refused in turn, nothing written; with all of them granted the list is written"
+    REFUSE=$n LD_PRELOAD=$room/refuse.so "$program" pack 00112233-4455-6677-8899-aabbccddeeff \
+        < "$root/crates/desk/stdin" > "$room/out" 2> "$room/err" || status=$?
+    if [ "$status" -eq 0 ] && cmp -s "$room/out" "$root/crates/desk/stdout"; then
+        echo "$((n - 1)) allocations refused in turn, nothing written; with none refused the list is written"
         exit 0
     fi
     if [ "$status" -ne 3 ] || [ -s "$room/out" ] || ! grep -qx 'device 40 NoMemory' "$room/err"; then

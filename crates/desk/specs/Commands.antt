@@ -31,4 +31,6 @@ bare_app = on_top (λ s. record s {
 
 -- the program's command
 abbrev pub desk_app : App
-desk_app = with_subcommand bare_app (subcommand_shape (codes "pack") 1)
+desk_app =
+    with_subcommand (with_subcommand bare_app (subcommand_shape (codes "pack") 1))
+    (subcommand_shape (codes "ranges") 1)

@@ -13,18 +13,22 @@ use Rattle.desk.specs.declared.line.WordsFault.TheVariants.{Missing, NoMemory, R
 -- a subcommand with its words, as texts
 pub data Line : Type 0 where
   pack : Text → Line
+  ranges : Text → Line
 
 -- the name of its subcommand
 abbrev pub subcommand_name : Line → Text
 subcommand_name (pack owner) = codes "pack"
+subcommand_name (ranges file) = codes "ranges"
 
 -- the words after it
 abbrev pub words_after : Line → List Text
 words_after (pack owner) = owner ∷ []
+words_after (ranges file) = file ∷ []
 
 -- what the program takes the line for
 abbrev pub line_of : Words → Line
 line_of (said.Pack owner) = pack owner.now
+line_of (said.Ranges file) = ranges file.now
 
 -- what follows from the word at a place, where the rows that `clap` found have it
 abbrev pub with_word : List Row → ℕ → (Text → Option Line) → Option Line
@@ -33,7 +37,9 @@ with_word rows place next = option_and_then next (first_of (id_of place) rows)
 -- what a subcommand of that name says by its rows
 abbrev pub line_in : Text × List Row → Option Line
 line_in (name, rows) =
-    if bytes_eq name (codes "pack") then with_word rows 0 (λ owner. Some (pack owner)) else None
+    if bytes_eq name (codes "pack") then with_word rows 0 (λ owner. Some (pack owner))
+    else if bytes_eq name (codes "ranges") then with_word rows 0 (λ file. Some (ranges file))
+    else None
 
 -- a word that stands for itself: it isn't empty and doesn't begin with a hyphen (45)
 abbrev pub IsPlainWord : Text → Type 0

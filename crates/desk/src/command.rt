@@ -80,6 +80,10 @@ pub fn desk_command<'a>(alloc: Global) -> Result<Command<'a>, AllocError>
         name: "OWNER",
         help: "The owner's GUID, as 8-4-4-4-12 hexadecimal digits",
     };
+    let file = Shown {
+        name: "FILE",
+        help: "The path of the image",
+    };
     let bare = Command::new(alloc, "desk")
         .version("0.1.0")
         .about("The Secure Boot signing and revocation desk")
@@ -87,11 +91,18 @@ pub fn desk_command<'a>(alloc: Global) -> Result<Command<'a>, AllocError>
         .no_binary_name(true)
         .subcommand_required(true)
         .bin_name("desk")?;
-    with_one_more(
+    let command = with_one_more(
         alloc,
         bare,
         "pack",
         "Packs the digests on standard input, one a line in hexadecimal, into a signature list",
         &[owner],
+    )?;
+    with_one_more(
+        alloc,
+        command,
+        "ranges",
+        "Prints the ranges of an EFI image that its Authenticode digest is made of",
+        &[file],
     )
 }

@@ -6,6 +6,8 @@ use clap::Error;
 pub enum Words<'a> {
     /// Packs the digests of the standard input under this owner's GUID.
     Pack { owner: &'a str },
+    /// Prints the ranges of this image's file that Authenticode hashes.
+    Ranges { file: &'a str },
 }
 
 /// Why no subcommand was taken.

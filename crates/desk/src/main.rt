@@ -2,15 +2,19 @@
 #![tactic(auto)]
 
 mod command;
+mod fault;
+mod file;
 mod line;
+mod listing;
 mod printing;
 mod reading;
 mod run;
 
 use desk_bytes::Refusal;
+use fault::{Fault, Stop};
 use line::WordsFault;
 use reading::words;
-use run::{MISUSED, refuse, run};
+use run::{MISUSED, run, stop};
 use std::process::ExitCode;
 use std::rt::Env;
 use std::{env, io};
@@ -27,11 +31,9 @@ fn given_words(rt: &(impl Env + AllocGlobal)) -> io::Result<Vec<String>> {
 fn main(rt: HostRuntime) -> ExitCode {
     let given = match given_words(&rt) {
         Ok(given) => given,
-        Err(error) if error.kind() == io::ErrorKind::OutOfMemory => return refuse(
-            &rt,
-            Refusal::NoMemory,
-            None,
-        ),
+        Err(error) if error.kind() == io::ErrorKind::OutOfMemory => {
+            return stop(&rt, Stop::Fault(Fault::from(Refusal::NoMemory)));
+        }
         Err(_) => {
             let _ = eprintln!(rt; "error: a word is no UTF-8");
             return ExitCode::from(MISUSED);
@@ -39,7 +41,7 @@ fn main(rt: HostRuntime) -> ExitCode {
     };
     match words(rt.alloc(), given.as_slice()) {
         Ok(line) => run(&rt, line),
-        Err(WordsFault::NoMemory) => refuse(&rt, Refusal::NoMemory, None),
+        Err(WordsFault::NoMemory) => stop(&rt, Stop::Fault(Fault::from(Refusal::NoMemory))),
         Err(WordsFault::Refused(error)) => {
             let _ = error.print(&rt);
             if error.use_stderr() {

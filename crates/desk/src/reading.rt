@@ -28,6 +28,10 @@ fn line_at<'a>(name: &'a str, matches: &ArgMatches<'a>) -> Option<Words<'a>>
             let owner = word_at(matches, 0)?;
             Some(Words::Pack { owner })
         }
+        "ranges" => {
+            let file = word_at(matches, 0)?;
+            Some(Words::Ranges { file })
+        }
         _ => None,
     }
 }

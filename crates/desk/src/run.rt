@@ -1,8 +1,12 @@
 //! From what the words say to the work.
+use crate::fault::{Fault, Stop};
+use crate::file::read_image;
 use crate::line::Words;
+use crate::listing::print_ranges;
 use crate::printing::print_fault;
-use desk_bytes::{Guid, Refusal};
-use siglist::{PackFault, pack};
+use desk_bytes::{Guid, Refusal, WriteFailed};
+use pe_image::Bytes;
+use siglist::pack;
 use std::alloc::Global;
 use std::io::{BufWriter, Read, Write};
 use std::process::ExitCode;
@@ -10,43 +14,67 @@ use std::process::ExitCode;
 /// The status of words that aren't understood.
 pub const MISUSED: u8 = 2;
 
-/// Says on standard error which word is out of its form, and gives the status of that.
-fn refuse_word(rt: &impl Eprint, name: &str) -> ExitCode {
-    let _ = eprintln!(rt; "bad {name}");
-    ExitCode::from(MISUSED)
+/// Lends a buffered writer.
+fn buffered<W: Write + Drop>(alloc: Global, writer: W) -> Result<BufWriter<W>, Fault> {
+    BufWriter::new(alloc, writer).map_err(|_| Fault::from(Refusal::NoMemory))
 }
 
-/// Packs all of the reader, and writes out what is buffered.
+/// Writes out what is buffered.
+fn flush<W: Write>(writer: &mut W) -> Result<(), Fault> {
+    writer.flush().map_err(|_| Fault::from(WriteFailed))
+}
+
+/// Packs all of the reader.
 fn pack_through<R: Read, W: Write + Drop>(
     alloc: Global,
     owner: &Guid,
     reader: &mut R,
     writer: W,
-) -> Result<(), PackFault> {
-    let mut buffered = BufWriter::new(alloc, writer).map_err(|_| PackFault::NoMemory)?;
-    pack(alloc, owner, reader, &mut buffered)?;
-    buffered.flush().map_err(|_| PackFault::Write)
+) -> Result<(), Fault> {
+    let mut out = buffered(alloc, writer)?;
+    pack(alloc, owner, reader, &mut out)?;
+    flush(&mut out)
 }
 
 /// Packs the standard input.
-fn run_pack(rt: &HostRuntime, owner: &str) -> ExitCode {
+fn run_pack(rt: &HostRuntime, owner: &str) -> Result<(), Stop> {
     let Ok(owner) = Guid::parse(owner) else {
-        return refuse_word(rt, "OWNER");
+        return Err(Stop::Word("OWNER"));
     };
-    match pack_through(rt.alloc(), &owner, &mut rt.stdin(), rt.stdout()) {
-        Ok(()) => ExitCode::SUCCESS,
-        Err(fault) => refuse(rt, fault.refusal(), fault.place()),
-    }
+    pack_through(rt.alloc(), &owner, &mut rt.stdin(), rt.stdout())?;
+    Ok(())
 }
 
-/// Writes the line of a fault to standard error, and gives its status.
-pub fn refuse(rt: &HostRuntime, refusal: Refusal, place: Option<u64>) -> ExitCode {
-    ExitCode::from(print_fault(refusal, place, &mut rt.stderr()))
+/// Prints the ranges of an image's file.
+fn run_ranges(rt: &HostRuntime, file: &str) -> Result<(), Stop> {
+    let bytes = read_image(rt, file)?;
+    let mut out = buffered(rt.alloc(), rt.stdout())?;
+    print_ranges(&mut Bytes(&bytes), &mut out)?;
+    flush(&mut out)?;
+    Ok(())
+}
+
+/// Says on standard error what stopped the program, and gives the status of that.
+pub fn stop(rt: &HostRuntime, why: Stop) -> ExitCode {
+    match why {
+        Stop::Word(name) => {
+            let _ = eprintln!(rt; "bad {name}");
+            ExitCode::from(MISUSED)
+        }
+        Stop::Fault(fault) => {
+            ExitCode::from(print_fault(fault.refusal, fault.place, &mut rt.stderr()))
+        }
+    }
 }
 
 /// Does what the words say, and gives the status.
 pub fn run(rt: &HostRuntime, line: Words<'_>) -> ExitCode {
-    match line {
+    let done = match line {
         Words::Pack { owner } => run_pack(rt, owner),
+        Words::Ranges { file } => run_ranges(rt, file),
+    };
+    match done {
+        Ok(()) => ExitCode::SUCCESS,
+        Err(why) => stop(rt, why),
     }
 }

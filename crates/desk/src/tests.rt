@@ -1,3 +1,5 @@
+mod images;
+
 use crate::line::{Words, WordsFault};
 use crate::printing::print_fault;
 use crate::reading::words;
@@ -16,13 +18,16 @@ fn given(alloc: Global, line: &str) -> Result<Vec<String>, AllocError> {
 }
 
 #[test]
-fn takes_pack_with_its_owner(rt: HostRuntime) {
-    let owner = "00112233-4455-6677-8899-aabbccddeeff";
-    let line = "pack 00112233-4455-6677-8899-aabbccddeeff";
-    let all = given(rt.alloc(), line).expect(&rt, "memory for the words");
-    match words(rt.alloc(), all.as_slice()) {
-        Ok(said) => assert_eq!(rt; said, Words::Pack { owner }, "{line}"),
-        Err(fault) => assert!(rt; false, "{line} is refused: {fault:?}"),
+fn takes_a_subcommand_with_its_words(rt: HostRuntime) {
+    for (line, want) in [
+        ("pack 0011", Words::Pack { owner: "0011" }),
+        ("ranges a/b.efi", Words::Ranges { file: "a/b.efi" }),
+    ] {
+        let all = given(rt.alloc(), line).expect(&rt, "memory for the words");
+        match words(rt.alloc(), all.as_slice()) {
+            Ok(said) => assert_eq!(rt; said, want, "{line}"),
+            Err(fault) => assert!(rt; false, "{line} is refused: {fault:?}"),
+        }
     }
 }
 
@@ -34,6 +39,7 @@ fn answers_help_and_version_on_standard_output(rt: HostRuntime) {
         ("help", "Usage: desk"),
         ("help pack", "Usage: desk pack <OWNER>"),
         ("pack --help", "Usage: desk pack <OWNER>"),
+        ("help ranges", "Usage: desk ranges <FILE>"),
         ("--version", "desk 0.1.0"),
         ("-V", "desk 0.1.0"),
         ("pack --version", "0.1.0"),
@@ -63,6 +69,8 @@ fn refuses_other_words_on_standard_error(rt: HostRuntime) {
         "pack",
         "pack x y",
         "pack -x",
+        "ranges",
+        "ranges x y",
         "pack --owner=x",
         "help x",
     ] {

@@ -1,0 +1,62 @@
+//! What stops a subcommand.
+
+use desk_bytes::{InputFault, Refusal, WriteFailed};
+use pe_image::LayoutFault;
+use siglist::PackFault;
+
+/// A row of the table of refusals, with its place where it has one.
+#[derive(Clone, Copy, Debug, PartialEq, Eq)]
+pub struct Fault {
+    pub refusal: Refusal,
+    pub place: Option<u64>,
+}
+
+/// What stops a subcommand: a word of the command line that is out of its form, by the name that help gives
+/// it, or a fault.
+#[derive(Clone, Copy, Debug, PartialEq, Eq)]
+pub enum Stop {
+    Word(&'static str),
+    Fault(Fault),
+}
+
+impl From<Refusal> for Fault {
+    fn from(refusal: Refusal) -> Fault {
+        Fault {
+            refusal,
+            place: None,
+        }
+    }
+}
+
+impl From<PackFault> for Fault {
+    fn from(fault: PackFault) -> Fault {
+        Fault {
+            refusal: fault.refusal(),
+            place: fault.place(),
+        }
+    }
+}
+
+impl From<LayoutFault> for Fault {
+    fn from(fault: LayoutFault) -> Fault {
+        Fault::from(fault.refusal())
+    }
+}
+
+impl From<InputFault> for Fault {
+    fn from(fault: InputFault) -> Fault {
+        Fault::from(fault.refusal())
+    }
+}
+
+impl From<WriteFailed> for Fault {
+    fn from(fault: WriteFailed) -> Fault {
+        Fault::from(fault.refusal())
+    }
+}
+
+impl From<Fault> for Stop {
+    fn from(fault: Fault) -> Stop {
+        Stop::Fault(fault)
+    }
+}
