@@ -1,6 +1,6 @@
-use crate::{Digest, Guid, Refusal, WriteFailed, parted, put};
+use crate::{Digest, Guid, InputFault, Refusal, WriteFailed, parted, put, read_up_to};
 use std::io;
-use std::io::Write;
+use std::io::{Read, Write};
 use std::test::Fail;
 
 #[test]
@@ -150,5 +150,58 @@ fn puts_a_beginning_before_a_fault(rt: HostRuntime) {
     assert!(rt;
         WriteFailed.refusal() == Refusal::Write,
         "the row of a failed write"
+    );
+}
+
+/// Gives a byte a call, five in all, and fails at the given call.
+#[derive(Drop)]
+struct Slow {
+    calls: u8,
+    fails_at: u8,
+}
+
+impl Read for Slow {
+    fn read(&mut self, buf: &mut [u8]) -> io::Result<usize> {
+        self.calls = self.calls.saturating_add(1);
+        if self.calls == self.fails_at {
+            return Err(io::Error::from(io::ErrorKind::Interrupted));
+        }
+        if self.calls > 5 || buf.is_empty() {
+            return Ok(0);
+        }
+        buf[0] = self.calls;
+        Ok(1)
+    }
+}
+
+#[test]
+fn reads_an_input_up_to_a_limit(rt: HostRuntime) {
+    let five = [1, 2, 3, 4, 5];
+    for (most, fails_at, want) in [
+        (0, 1, Ok(&five[..0])),
+        (3, 4, Ok(&five[..3])),
+        (5, 6, Ok(five.as_slice())),
+        (9, 7, Ok(five.as_slice())),
+        (3, 3, Err(InputFault::Read)),
+        (5, 1, Err(InputFault::Read)),
+        (9, 6, Err(InputFault::Read)),
+    ] {
+        let answer = read_up_to(rt.alloc(), &mut Slow { calls: 0, fails_at }, most);
+        match (answer, want) {
+            (Ok(bytes), Ok(some)) => assert!(rt; bytes.as_slice() == some, "{most} bytes at most"),
+            (Err(fault), Err(other)) => assert_eq!(rt; fault, other, "read {fails_at} fails"),
+            _ => panic!(rt; "the other answer for {most}, {fails_at}"),
+        }
+    }
+    let long = [7; 70_000];
+    let whole = read_up_to(rt.alloc(), &mut long.as_slice(), 100_000);
+    assert_eq!(rt; whole.map(|bytes| bytes.len()), Ok(70_000));
+    assert!(rt;
+        InputFault::Read.refusal() == Refusal::Read,
+        "the row of a failed read"
+    );
+    assert!(rt;
+        InputFault::NoMemory.refusal() == Refusal::NoMemory,
+        "the row of no memory"
     );
 }
