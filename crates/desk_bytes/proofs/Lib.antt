@@ -1,5 +1,7 @@
 pub mod DigestLemmas
+pub mod ElementLemmas
 pub mod GuidLemmas
 pub mod LineLemmas
+pub mod OrderLemmas
 pub mod OutputLemmas
 pub mod RefusalLemmas

@@ -1,8 +1,10 @@
 //! Laws of the definitions that this crate's contracts cite.
-ghost use Rattle.std.specs.Prelude.{◌≡◌, ℕ, List, Some, length};
+ghost use Rattle.std.specs.Prelude.{◌≡◌, ◌++◌, ℕ, List, Some, length};
 ghost use Rattle.hex.specs.Hex.{IsBytes, encode_lower};
-ghost use Rattle.desk_bytes.specs.Digests.{digest_of};
+ghost use Rattle.desk_bytes.specs.Digests.{digest_of, IsArranged};
+ghost use Rattle.desk_bytes.specs.Elements.{IsCertificate, IsElement};
 ghost use Rattle.desk_bytes.specs.Guids.{IsGuid, IsGuidText, text_of};
+ghost use Rattle.desk_bytes.specs.Parts.{element_of, Part};
 ghost use Rattle.desk_bytes.specs.Refusals.{number_of};
 ghost use Rattle.desk_bytes.specs.declared.refusal.Refusal.{Refusal};
 
@@ -25,4 +27,28 @@ pub fn guid_texts_differ()
 /// A digest's text reads back as that digest.
 pub fn digest_text_reads_back()
     ensures { (d : List ℕ) → length d ≡ 32 → IsBytes d → digest_of (encode_lower d) ≡ Some d }
+{}
+
+/// Digests are arranged in one way alone.
+pub fn arranged_is_one()
+    ensures { (named ds es : List (List ℕ)) → IsArranged named ds → IsArranged named es → ds ≡ es }
+{}
+
+/// What `element_of` reads at the front of bytes is an element, and it reads each that stands there.
+pub fn element_is_read()
+    ensures found { (b : List ℕ) (p : Part) → element_of b ≡ Some p
+        → IsElement p.tag p.content p.whole × (b ≡ p.whole ++ p.rest) }
+    ensures each { (b : List ℕ) (p : Part) → IsElement p.tag p.content p.whole
+        → b ≡ p.whole ++ p.rest → element_of b ≡ Some p }
+{}
+
+/// At most one element begins a list of bytes.
+pub fn element_is_one()
+    ensures { (s t : ℕ) (c d v w x y : List ℕ) → IsElement s c v → IsElement t d w
+        → v ++ x ≡ w ++ y → (s ≡ t) × (c ≡ d) × (v ≡ w) × (x ≡ y) }
+{}
+
+/// A certificate has one TBSCertificate.
+pub fn tbs_is_one()
+    ensures { (whole s t : List ℕ) → IsCertificate whole s → IsCertificate whole t → s ≡ t }
 {}

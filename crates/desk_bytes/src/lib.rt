@@ -1,22 +1,33 @@
-//! What the crates of the desk share: the table of refusals, GUIDs, digests, lines and output.
+//! What the crates of the desk share: the table of refusals, GUIDs, digests, DER elements, lines, input
+//! and output.
 #![tactic(auto)]
 
+mod certificate;
+mod der;
 mod digest;
+mod elements;
 mod guid;
 mod input;
 mod laws;
+mod length_form;
 mod line;
+mod order;
 mod output;
 mod parting;
 mod refusal;
 
+pub use certificate::tbs;
+pub use der::{Element, NotDer};
 pub use digest::{BadDigest, Digest};
+pub use elements::element;
 pub use guid::{BadGuid, Guid};
 pub use input::{InputFault, read_up_to};
 pub use laws::{
-    digest_text_reads_back, guid_text_is_one, guid_texts_differ, refusal_numbers_differ,
+    arranged_is_one, digest_text_reads_back, element_is_one, element_is_read, guid_text_is_one,
+    guid_texts_differ, refusal_numbers_differ, tbs_is_one,
 };
 pub use line::{Line, Parted};
+pub use order::arrange;
 pub use output::{WriteFailed, put};
 pub use parting::parted;
 pub use refusal::Refusal;

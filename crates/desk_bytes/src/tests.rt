@@ -1,4 +1,7 @@
-use crate::{Digest, Guid, InputFault, Refusal, WriteFailed, parted, put, read_up_to};
+use crate::{
+    Digest, Guid, InputFault, NotDer, Refusal, WriteFailed, arrange, element, parted, put,
+    read_up_to, tbs,
+};
 use std::io;
 use std::io::{Read, Write};
 use std::test::Fail;
@@ -204,4 +207,127 @@ fn reads_an_input_up_to_a_limit(rt: HostRuntime) {
         InputFault::NoMemory.refusal() == Refusal::NoMemory,
         "the row of no memory"
     );
+}
+
+/// Bytes in hexadecimal that begin with an element: all of it, its tag, its content, and what follows.
+const ELEMENTS: [(&str, u8, &str, &str); 11] = [
+    ("0500", 0x05, "", ""),
+    ("3003020101", 0x30, "020101", ""),
+    ("0203010203", 0x02, "010203", "ff00"),
+    ("a00130", 0xa0, "30", "30"),
+    ("048105aabbccddee", 0x04, "aabbccddee", ""),
+    ("04820001aa", 0x04, "aa", "00"),
+    ("0483000002aabb", 0x04, "aabb", ""),
+    ("048400000000", 0x04, "", "0400"),
+    ("3084000000053003020101", 0x30, "3003020101", ""),
+    ("1e01ff", 0x1e, "ff", "1f"),
+    ("0000", 0x00, "", ""),
+];
+
+#[test]
+fn reads_the_element_at_the_front(rt: HostRuntime) -> Result<(), Fail> {
+    for (whole, tag, content, rest) in ELEMENTS {
+        let text = format!(in rt.alloc(); "{whole}{rest}")?;
+        let bytes = hex::decode(rt.alloc(), text.as_str())?;
+        let (found, after) = element(&bytes)?;
+        assert_eq!(rt; found.tag, tag, "{text}: the tag");
+        for (part, got, want) in [
+            ("whole", found.whole, whole),
+            ("content", found.content, content),
+            ("what follows", after, rest),
+        ] {
+            let got = hex::encode(rt.alloc(), got)?;
+            assert_eq!(rt; got.as_str(), want, "{text}: {part}");
+        }
+    }
+    Ok(())
+}
+
+#[test]
+fn refuses_bytes_that_no_element_begins(rt: HostRuntime) -> Result<(), Fail> {
+    for text in [
+        "",
+        "30",
+        "1f00",
+        "3f00",
+        "ff00",
+        "3001",
+        "3080",
+        "30800000",
+        "3081",
+        "308101",
+        "308201",
+        "3082000200",
+        "308400000006aabbccddee",
+        "30843fffffff",
+        "3084ffffffff",
+        "30850000000005",
+        "30ff",
+    ] {
+        let bytes = hex::decode(rt.alloc(), text)?;
+        assert!(rt; element(&bytes).is_err(), "{text}");
+    }
+    Ok(())
+}
+
+#[test]
+fn gives_the_tbs_certificate(rt: HostRuntime) -> Result<(), Fail> {
+    for (text, want) in [
+        ("30053003020101", "3003020101"),
+        ("3081053003020101", "3003020101"),
+        ("3084000000053003020101", "3003020101"),
+        ("30023000", "3000"),
+        ("3009308103020101ffffff", "308103020101"),
+    ] {
+        let bytes = hex::decode(rt.alloc(), text)?;
+        let got = hex::encode(rt.alloc(), tbs(&bytes)?)?;
+        assert_eq!(rt; got.as_str(), want, "of {text}");
+    }
+    for text in [
+        "",
+        "1f00",
+        "3080",
+        "3000",
+        "30023080",
+        "30850000000005",
+        "300530030201",
+        "3005300302010100",
+        "31053003020101",
+        "30053103020101",
+    ] {
+        let bytes = hex::decode(rt.alloc(), text)?;
+        assert!(rt; tbs(&bytes) == Err(NotDer), "{text}");
+    }
+    assert!(rt;
+        NotDer.refusal() == Refusal::Der,
+        "the row of what is no element"
+    );
+    Ok(())
+}
+
+#[test]
+fn numbers_and_names_the_refusals(rt: HostRuntime) {
+    for (refusal, number, name) in [
+        (Refusal::Short, 1, "Short"),
+        (Refusal::TooLong, 13, "TooLong"),
+        (Refusal::Line, 18, "Line"),
+        (Refusal::Full, 36, "Full"),
+        (Refusal::NoMemory, 40, "NoMemory"),
+        (Refusal::NotSupported, 57, "NotSupported"),
+    ] {
+        assert_eq!(rt; refusal.number(), number);
+        assert_eq!(rt; refusal.name(), name);
+    }
+}
+
+#[test]
+fn arranges_digests(rt: HostRuntime) -> Result<(), Fail> {
+    let of = |byte: u8| Digest::from([byte; 32]);
+    let mut digests = vec![in rt.alloc(); of(3), of(1), of(3), of(2), of(1)]?;
+    arrange(&mut digests);
+    assert!(rt;
+        digests.as_slice() == [of(1), of(2), of(3)].as_slice(),
+        "ascending, each once"
+    );
+    Ok(())
 }
