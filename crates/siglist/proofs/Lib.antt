@@ -1,4 +1,3 @@
-pub mod OrderLemmas
 pub mod PackingLemmas
 pub mod SpellingLemmas
 pub mod WritingLemmas

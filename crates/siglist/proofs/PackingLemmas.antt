@@ -2,15 +2,13 @@
 use Rattle.std.proofs.Common.{◌≡◌, ℕ, ◌+◌, ◌*◌, ◌≤◌, eqb, cond, true, false, ◌&&◌, List, [], ◌∷◌, ◌++◌, length, Option, Some, None, Result, Ok, Err, IfSome, refl, sym, ap, subst, arith, append_assoc}
 use Rattle.std.specs.List.{onto_first}
 use Rattle.desk_bytes.specs.Lines.{lines_of, numbered_from, begins_with, parted}
-use Rattle.desk_bytes.specs.Digests.{digest_of}
+use Rattle.desk_bytes.specs.Digests.{IsArranged, digest_of}
 use Rattle.desk_bytes.proofs.DigestLemmas.{digest_size}
-use Rattle.std.specs.List.{Contains}
-use Rattle.std.specs.Cmp.Lexicographic.{on_texts}
 use Rattle.std.specs.Io.KnownBytes.{Appends}
 use Rattle.desk_bytes.specs.Output.{AppendsBeginning}
-use Rattle.siglist.specs.Packing.{IsArranged, IsPacked, IsPartlyPacked, Packs, digests_in, digest_at, packed, put_first}
+use Rattle.siglist.specs.Packing.{IsPacked, IsPartlyPacked, Packs, digests_in, digest_at, packed, put_first}
 use Rattle.siglist.specs.declared.packing.TheConstants.{MOST_BYTES}
-use Rattle.siglist.proofs.OrderLemmas.{sorted_same}
+use Rattle.desk_bytes.proofs.OrderLemmas.{IsArranged-one}
 
 -- what was read already, and then the rest
 abbrev pub put_before : {X : Type 0} → List X → Result (List X) ℕ → Result (List X) ℕ
@@ -73,9 +71,7 @@ ok_same x y r h k = cc
 pub Packs-one : (text : List ℕ) (ds es : List (List ℕ)) → Packs text ds → Packs text es → ds ≡ es
 Packs-one text ds es h k =
     let named : h.named ≡ k.named = ok_same h.named k.named _ h.read k.read in
-    sorted_same (on_texts (λ x. x)) ds es h.arranged.ascending k.arranged.ascending
-    (λ d has. k.arranged.all d (subst (λ xs. Contains xs d) named (h.arranged.no_other d has)))
-    (λ d has. h.arranged.all d (subst (λ xs. Contains xs d) (sym named) (k.arranged.no_other d has)))
+    IsArranged-one h.named ds es h.arranged (subst (λ xs. IsArranged xs es) (sym named) k.arranged)
 
 -- what was read to the end, read as digests and arranged
 pub Packs-given : (given : Option (List ℕ)) (text part : List ℕ) (named ds : List (List ℕ)) → IfSome given (λ xs. text ≡ xs)

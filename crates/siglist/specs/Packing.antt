@@ -1,8 +1,7 @@
 -- Lines of digests packed into one signature list.
 use Rattle.std.specs.Prelude.{◌≡◌, ℕ, ◌<◌, ◌≤◌, List, [], ◌∷◌, length, Option, Some, None, Result, Ok, Err}
 use Rattle.std.specs.Io.KnownBytes.{Appends}
-use Rattle.std.specs.List.{Contains}
-use Rattle.desk_bytes.specs.Digests.{digest_of, IsAscending}
+use Rattle.desk_bytes.specs.Digests.{digest_of, IsArranged}
 use Rattle.desk_bytes.specs.Lines.{Numbered, parted}
 use Rattle.desk_bytes.specs.Output.{AppendsBeginning}
 use Rattle.siglist.specs.SignatureLists.{spelling}
@@ -23,12 +22,6 @@ digest_at line (Some d) rest = put_first d rest
 abbrev pub digests_in : List Numbered → Result (List (List ℕ)) ℕ
 digests_in [] = Ok []
 digests_in (l ∷ ls) = digest_at l.number (digest_of l.text) (digests_in ls)
-
--- the named digests, ascending, each once
-pub record IsArranged (named ds : List (List ℕ)) : Type 0 where
-  pub ascending : IsAscending ds
-  pub all : (d : List ℕ) → Contains named d → Contains ds d
-  pub no_other : (d : List ℕ) → Contains ds d → Contains named d
 
 -- the text is within the limit, and these are the digests of its lines, arranged
 pub record Packs (text : List ℕ) (ds : List (List ℕ)) : Type 0 where

@@ -1,12 +1,12 @@
 //! Lines of digests packed into one list.
-ghost use Rattle.std.specs.Prelude.{◌≡◌, ◌≤◌, ℕ, length, Ok, Err, IfErr, IfOk, IfSome, IsErrOf, vec_len};
+ghost use Rattle.std.specs.Prelude.{◌≡◌, ◌≤◌, ℕ, length, Ok, Err, IfErr, IfOk, IfSome, IsErrOf};
 ghost use Rattle.std.specs.Io.KnownBytes.{Keeps};
 ghost use Rattle.desk_bytes.specs.Lines.{parted};
-ghost use Rattle.siglist.specs.Packing.{HasWrongLine, IsArranged, IsPacked, IsPartlyPacked, IsTooLong, digests_in};
+ghost use Rattle.siglist.specs.Packing.{HasWrongLine, IsPacked, IsPartlyPacked, IsTooLong, digests_in};
 
 use crate::fault::PackFault;
 use crate::writing::write_sha256;
-use desk_bytes::{Digest, Guid, parted, read_up_to};
+use desk_bytes::{Digest, Guid, arrange, parted, read_up_to};
 use std::alloc::Global;
 use std::io::{Read, Write};
 
@@ -50,15 +50,6 @@ fn read_digests(alloc: Global, text: &[u8]) -> Result<Vec<Digest>, PackFault>
         }
     }
     Ok(digests)
-}
-
-/// Sorts the digests and drops repeats.
-fn arrange(digests: &mut Vec<Digest>)
-    ensures arranged { IsArranged digests.old.items digests.new.items }
-    ensures fewer { vec_len digests.new ≤ vec_len digests.old }
-{
-    digests.sort_unstable();
-    digests.dedup();
 }
 
 /// Reads lines of 64 hexadecimal digits to the end, writes the digests as one SHA256 list, ascending,
