@@ -306,21 +306,6 @@ fn gives_the_tbs_certificate(rt: HostRuntime) -> Result<(), Fail> {
 }
 
 #[test]
-fn numbers_and_names_the_refusals(rt: HostRuntime) {
-    for (refusal, number, name) in [
-        (Refusal::Short, 1, "Short"),
-        (Refusal::TooLong, 13, "TooLong"),
-        (Refusal::Line, 18, "Line"),
-        (Refusal::Full, 36, "Full"),
-        (Refusal::NoMemory, 40, "NoMemory"),
-        (Refusal::NotSupported, 57, "NotSupported"),
-    ] {
-        assert_eq!(rt; refusal.number(), number);
-        assert_eq!(rt; refusal.name(), name);
-    }
-}
-
-#[test]
 fn arranges_digests(rt: HostRuntime) -> Result<(), Fail> {
     let of = |byte: u8| Digest::from([byte; 32]);
     let mut digests = vec![in rt.alloc(); of(3), of(1), of(3), of(2), of(1)]?;
