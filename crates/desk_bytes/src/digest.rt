@@ -1,13 +1,15 @@
 //! SHA-256 values (FIPS 180-4).
-ghost use Rattle.std.specs.Prelude.{◌≡◌, ℕ, List, length};
+ghost use Rattle.std.specs.Prelude.{◌≡◌, ℕ, List, Some, length};
 ghost use Rattle.std.specs.Result.{result_ok};
 ghost use Rattle.hex.specs.Hex.{encode_lower};
 ghost use Rattle.desk_bytes.specs.Digests.{digest_of};
 
 use std::marker::Model;
+use std::{fmt, str};
 use thiserror::Error;
 
-/// A SHA-256 value, ordered by its bytes. A contract sees the list of them.
+/// A SHA-256 value, ordered by its bytes and shown as 64 hexadecimal digits in lower case. A contract sees
+/// the list of its bytes.
 #[derive(Clone, Copy, Debug, PartialEq, Eq, PartialOrd, Ord)]
 pub struct Digest([u8; 32]);
 
@@ -62,5 +64,17 @@ impl Digest {
         let encoded = hex::encode_to_slice(&self.0, &mut digits);
         prove!(encoded.is_ok());
         digits
+    }
+}
+
+impl fmt::Display for Digest {
+    ghost output = { λ digest. Some (encode_lower digest) };
+
+    fn fmt<W: fmt::Write>(&self, f: &mut fmt::Formatter<W>) -> fmt::Result {
+        let digits = self.text();
+        match str::from_utf8(&digits) {
+            Ok(text) => f.write_str(text),
+            Err(_) => unreachable!(),
+        }
     }
 }

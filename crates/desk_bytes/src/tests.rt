@@ -71,6 +71,11 @@ fn reads_and_writes_a_digest(rt: HostRuntime) -> Result<(), Fail> {
         digest.text().as_slice() == [b'a'; 64].as_slice(),
         "the text of aa"
     );
+    let shown = format!(in rt.alloc(); "{digest}")?;
+    assert!(rt;
+        shown.as_bytes() == digest.text().as_slice(),
+        "what is shown of aa"
+    );
     for bad in [
         [b'a'; 63].as_slice(),
         [b'a'; 65].as_slice(),
