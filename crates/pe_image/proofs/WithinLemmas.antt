@@ -1,13 +1,17 @@
 -- What the checks tell of a layout.
-use Rattle.std.proofs.Common.{◌≡◌, ◌+◌, ◌≤◌, ◌++◌, ℕ, true, false, if◌then◌else◌, List, [], ◌∷◌, length, nat_lt, nat_le, refl, sym, subst, ◌∙◌, arith}
+use Rattle.std.proofs.Common.{◌≡◌, ◌+◌, ◌≤◌, ◌<◌, ◌==◌, ◌++◌, ℕ, true, false, if◌then◌else◌, List, [], ◌∷◌, length, min, map, filter, find, Some, None, IfSome, nat_lt, nat_le, refl, sym, subst, ◌∙◌, inl, inr, arith}
 use Rattle.std.specs.List.{list_all}
-use Rattle.std.proofs.lemmas.Bool.{leb-true, and_from}
+use Rattle.std.proofs.lemmas.Bool.{leb-true, and_from, and_parts, cases_lt}
+use Rattle.std.proofs.lemmas.Bool.Decides.{nat_tests}
 use Rattle.std.proofs.lemmas.List.Elements.{All-append, All-filter}
 use Rattle.std.proofs.lemmas.List.Sums.{AllPass-from_list_all}
 use Rattle.pe_image.specs.Checks.{IsLaid}
-use Rattle.pe_image.specs.Image.{checksum, has_entry, entry, size_of_headers, raw, hashed_size, image_end}
-use Rattle.pe_image.specs.Places.{Places, places_of, spans_of, IsLayoutOf}
-use Rattle.pe_image.specs.Spans.{in_order, follows, are_apart, EndWithin, StandBetween}
+use Rattle.pe_image.specs.Headers.{is_raw, raw_of, span_of}
+use Rattle.pe_image.specs.Image.{checksum, has_entry, has_table, entry, headers, size_of_headers, raw, hashed_size, image_end, table_offset, table_size}
+use Rattle.pe_image.specs.Sbat.{is_sbat, sbat_section, text_at, text_size}
+use Rattle.pe_image.specs.declared.header.Header.{Header}
+use Rattle.pe_image.specs.Places.{Places, places_of, spans_of, table_of, IsLayoutOf}
+use Rattle.pe_image.specs.Spans.{in_order, follows, are_apart, EndWithin, IsWithin, StandBetween}
 use Rattle.pe_image.proofs.CheckLemmas.{IsPlaced, placed-from-laid, fixed-least}
 use Rattle.pe_image.proofs.HashedLemmas.{image-end}
 use Rattle.pe_image.proofs.OrderLemmas.{All-cons}
@@ -66,6 +70,78 @@ sections-between f laid =
     let p = placed-from-laid f laid in
     record { follow = sections-follow f p; within = sections-within f p }
 
+-- the certificate table does
+table-within : (f : List ℕ) → IsPlaced f → IfSome (table_of f) (IsWithin (length f))
+table-within f p = elim (has_table f) as (λ b. has_table f ≡ b → IfSome (if b then Some (table_offset f, table_offset f + table_size f) else None) (IsWithin (length f))) [
+  | true ↦ λ is. let at = p.table is in (omega arith, omega arith)
+  | false ↦ λ is. tt
+] refl
+
+text_size-least : (h : Header) → text_size h ≤ h.size_of_raw_data
+text_size-least h = elim (h.virtual_size == 0) as (λ b. (if b then h.size_of_raw_data else min h.virtual_size h.size_of_raw_data) ≤ h.size_of_raw_data) [
+  | true ↦ omega arith
+  | false ↦ omega arith
+]
+
+-- the text of one section, whose raw data lie within so many bytes
+text-within : (n : ℕ) (h : Header) → (0 < h.size_of_raw_data → h.pointer_to_raw_data + h.size_of_raw_data ≤ n) → IfSome (text_at (Some h)) (IsWithin n)
+text-within n h fits = elim (cases_lt 0 (text_size h)) [
+  | inl some ↦
+      let test : nat_lt 0 (text_size h) ≡ true = grind (arith, nat_tests, some) in
+      let least = text_size-least h in
+      let end = fits (omega arith) in
+      rw test (omega arith, omega arith)
+  | inr none ↦
+      let test : nat_lt 0 (text_size h) ≡ false = grind (arith, nat_tests, none) in
+      rw test tt
+]
+
+-- what all raw data tell of those of the first header, and of the others
+first-within : (n : ℕ) (h : Header) (hs : List Header) → list_all (λ s. nat_le s.1 n) (raw_of (h ∷ hs)) ≡ true → 0 < h.size_of_raw_data
+    → h.pointer_to_raw_data + h.size_of_raw_data ≤ n
+unfolding raw_of
+first-within n h hs ends some =
+    let test : nat_lt 0 h.size_of_raw_data ≡ true = grind (arith, nat_tests, some) in
+    let both = and_parts (nat_le (h.pointer_to_raw_data + h.size_of_raw_data) n) _ (rw test at ends) in
+    leb-true _ _ both.0
+
+others-within : (n : ℕ) (h : Header) (hs : List Header) → list_all (λ s. nat_le s.1 n) (raw_of (h ∷ hs)) ≡ true
+    → list_all (λ s. nat_le s.1 n) (raw_of hs) ≡ true
+unfolding raw_of
+others-within n h hs ends =
+    elim (nat_lt 0 h.size_of_raw_data) as (λ b. list_all (λ s. nat_le s.1 n) (map span_of (if b then h ∷ filter is_raw hs else filter is_raw hs)) ≡ true
+    → list_all (λ s. nat_le s.1 n) (map span_of (filter is_raw hs)) ≡ true) [
+      | true ↦ λ all. (and_parts (nat_le (h.pointer_to_raw_data + h.size_of_raw_data) n) _ all).1
+      | false ↦ λ all. all
+    ] ends
+
+-- the text of `.sbat` does
+sbat-within : (n : ℕ) (hs : List Header) → list_all (λ s. nat_le s.1 n) (raw_of hs) ≡ true → IfSome (text_at (find is_sbat hs)) (IsWithin n)
+unfolding raw_of
+sbat-within n [] ends = tt
+sbat-within n (h ∷ hs) ends =
+    elim (is_sbat h) as (λ b. IfSome (text_at (if b then Some h else find is_sbat hs)) (IsWithin n)) [
+      | true ↦ text-within n h (first-within n h hs ends)
+      | false ↦ sbat-within n hs (others-within n h hs ends)
+    ]
+
+-- what lies within the file besides what is hashed
+record PartsWithin (f : List ℕ) (p : Places) : Type 0 where
+  table : IfSome p.table (IsWithin (length f))
+  sbat : IfSome p.sbat (IsWithin (length f))
+  gap : p.gap ≤ length f
+
+parts-within : (f : List ℕ) → IsLaid f → PartsWithin f (places_of f)
+unfolding places_of sbat_section raw
+parts-within f laid =
+    let p = placed-from-laid f laid in
+    let end = reach-within (size_of_headers f) (length f) (raw f) p.within p.ends in
+    record {
+      table = table-within f p;
+      sbat = sbat-within (length f) (headers f) p.ends;
+      gap = omega (arith, end);
+    }
+
 -- the places of an image that is accepted are its layout
 pub layout-of : (f : List ℕ) (p : Places) → IsLaid f → p ≡ places_of f → IsLayoutOf f p
 layout-of f p laid is = record {
@@ -73,4 +149,7 @@ layout-of f p laid is = record {
   places = is;
   sections = subst (λ q. StandBetween q.headers_end (length f) q.sections) (sym is) (sections-between f laid);
   hashed = subst (λ q. EndWithin (length f) (spans_of q)) (sym is) (spans-within f laid);
+  table = subst (λ q. IfSome q.table (IsWithin (length f))) (sym is) (parts-within f laid).table;
+  sbat = subst (λ q. IfSome q.sbat (IsWithin (length f))) (sym is) (parts-within f laid).sbat;
+  gap = subst (λ q. q.gap ≤ length f) (sym is) (parts-within f laid).gap;
 }

@@ -1,6 +1,6 @@
 -- What a layout tells of a file, and which places of it are hashed.
-use Rattle.std.specs.Prelude.{◌≡◌, ℕ, ◌+◌, if◌then◌else◌, List, [], ◌∷◌, ◌++◌, length, Option, Some, None}
-use Rattle.pe_image.specs.Spans.{nonempty, in_order, EndWithin, StandBetween}
+use Rattle.std.specs.Prelude.{◌≡◌, ℕ, ◌+◌, ◌≤◌, if◌then◌else◌, List, [], ◌∷◌, ◌++◌, length, Option, Some, None, IfSome}
+use Rattle.pe_image.specs.Spans.{nonempty, in_order, EndWithin, IsWithin, StandBetween}
 use Rattle.pe_image.specs.Checks.{IsLaid}
 use Rattle.pe_image.specs.Sbat.{text_at, sbat_section}
 use Rattle.pe_image.specs.Image as image
@@ -58,9 +58,12 @@ end_by None n = n
 end_by (Some t) n = t.0
 
 -- p is the layout of f: f is accepted, its sections stand in ascending order behind the headers, no two
--- share a byte, and all that is hashed lies within the file
+-- share a byte, and all that is hashed, the table, the text of `.sbat` and the gap lie within the file
 pub record IsLayoutOf (f : List ℕ) (p : Places) : Type 0 where
   pub laid : IsLaid f
   pub places : p ≡ places_of f
   pub sections : StandBetween p.headers_end (length f) p.sections
   pub hashed : EndWithin (length f) (spans_of p)
+  pub table : IfSome p.table (IsWithin (length f))
+  pub sbat : IfSome p.sbat (IsWithin (length f))
+  pub gap : p.gap ≤ length f
