@@ -1,0 +1,4 @@
+pub mod CarriedLemmas
+pub mod HashingLemmas
+pub mod OutcomeLemmas
+pub mod StepLemmas

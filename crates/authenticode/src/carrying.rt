@@ -1,0 +1,33 @@
+//! The certificates that an image carries.
+ghost use Rattle.std.specs.Prelude.{IfErr, IfOk};
+ghost use Rattle.authenticode.specs.Carried.{IsCarried, IsFirstFault};
+
+use crate::fault::CarriedFault;
+use crate::walk::push_table;
+use desk_bytes::{Digest, arrange};
+use std::alloc::Global;
+
+/// The most different certificates of an image.
+pub const MOST_CERTIFICATES: usize = 64;
+
+/// The SHA-256 of each TBSCertificate that the bytes of a certificate table hold, ascending, each once.
+/// Takes memory for 32 bytes a certificate, repeats included; the time is that of sorting them.
+///
+/// Of several faults the one that the walk over the table meets first is answered, TooLong where there
+/// is no other.
+pub fn carried(alloc: Global, table: &[u8]) -> Result<Vec<Digest>, CarriedFault>
+    ensures exact { IfOk result (λ digests. IsCarried table.now digests.items) }
+
+    ensures first { IfErr result (IsFirstFault table.now) }
+{
+    let mut digests = Vec::new(alloc);
+    match push_table(&mut digests, table) {
+        Ok(()) => {}
+        Err(fault) => return Err(fault),
+    }
+    arrange(&mut digests);
+    if digests.len() > MOST_CERTIFICATES {
+        return Err(CarriedFault::TooLong);
+    }
+    Ok(digests)
+}

@@ -1,0 +1,37 @@
+//! Why a table has no carried certificates.
+ghost use Rattle.std.specs.Prelude.{◌≡◌};
+ghost use Rattle.authenticode.specs.Faults.{refusal_of};
+
+use desk_bytes::Refusal;
+use thiserror::Error;
+
+/// What a certificate table was refused for.
+#[derive(Clone, Copy, Debug, PartialEq, Eq, Error)]
+pub enum CarriedFault {
+    /// No entry stands where one is needed.
+    #[error("an entry of the certificate table isn't whole")]
+    Table,
+    /// An entry of type 2 has no SignedData, or a certificate of it has no TBSCertificate.
+    #[error("an entry of the certificate table has no readable certificates")]
+    Der,
+    /// There are more than 64 different certificates.
+    #[error("the image carries more than 64 certificates")]
+    TooLong,
+    /// Memory was refused.
+    #[error("no memory")]
+    NoMemory,
+}
+
+impl CarriedFault {
+    /// Its row in the table of refusals.
+    pub fn refusal(self) -> Refusal
+        ensures { result ≡ refusal_of self }
+    {
+        match self {
+            CarriedFault::Table => Refusal::Table,
+            CarriedFault::Der => Refusal::Der,
+            CarriedFault::TooLong => Refusal::TooLong,
+            CarriedFault::NoMemory => Refusal::NoMemory,
+        }
+    }
+}

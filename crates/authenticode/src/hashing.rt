@@ -1,0 +1,170 @@
+//! The digests of an image.
+ghost use Rattle.std.specs.Prelude.{◌≡◌, ◌+◌, ◌<◌, ◌≤◌, ◌++◌, ℕ, List, length, slice_range, IfOk, OnErr, OnOk};
+ghost use Rattle.sha2.specs.Hashers.{Holds256};
+ghost use Rattle.sha2.specs.Sha256.{sha256};
+ghost use Rattle.pe_image.specs.Hashed.{hashed};
+ghost use Rattle.pe_image.specs.Places.{IsLayoutOf, places_of};
+ghost use Rattle.pe_image.specs.Sources.{HaveRisen};
+ghost use Rattle.authenticode.specs.Hashing.{image_digest, padding_of, signed_bytes, signed_digest};
+
+use desk_bytes::Digest;
+use pe_image::{Layout, ReadFailed, Source, ranges, table};
+use sha2::{Digest as Hasher, Sha256};
+
+/// How many bytes are read at once.
+const BLOCK: usize = 64;
+
+/// Adds the bytes from `from` up to `to` to the message of a hasher, a block at a time.
+fn feed<S: Source>(
+    source: &mut S,
+    from: u64,
+    to: u64,
+    hasher: &mut Sha256,
+) -> Result<(), ReadFailed>
+    requires order { from ≤ to }
+    requires within { to ≤ length (S.content source.old) }
+    ensures ok { OnOk result ((m : List ℕ) → Holds256 hasher.old m
+        → Holds256 hasher.new (m ++ slice_range (S.content source.old) from to)) }
+
+    ensures device { OnErr result (HaveRisen (S.failures source.old) (S.failures source.new)) }
+
+    ensures kept { S.failures source.old ≤ S.failures source.new }
+    ensures same { S.content source.new ≡ S.content source.old }
+{
+    let mut block = [0; BLOCK];
+    let mut at = from;
+    while at < to {
+        let size = (to - at).min(BLOCK as u64) as usize;
+        let Ok(()) = source.read_at(at, &mut block[..size]) else {
+            return Err(ReadFailed);
+        };
+        hasher.update(&block[..size]);
+        at += size as u64;
+    }
+    Ok(())
+}
+
+/// A hasher of the bytes that are hashed.
+fn hash_ranges<S: Source>(source: &mut S, layout: &Layout) -> Result<Sha256, ReadFailed>
+    requires { IsLayoutOf (S.content source.old) layout.now }
+    ensures ok { IfOk result (λ hasher. Holds256 hasher (hashed (S.content source.old))) }
+
+    ensures device { OnErr result (HaveRisen (S.failures source.old) (S.failures source.new)) }
+
+    ensures kept { S.failures source.old ≤ S.failures source.new }
+    ensures same { S.content source.new ≡ S.content source.old }
+{
+    let mut hasher = Sha256::new();
+    for (from, to) in ranges(layout) {
+        let Ok(()) = feed(source, from, to, &mut hasher) else {
+            return Err(ReadFailed);
+        };
+    }
+    Ok(hasher)
+}
+
+/// How many bytes are missing to a multiple of 8.
+fn missing(length: u64) -> usize
+    ensures value { result ≡ padding_of length }
+    ensures few { result < 8 }
+{
+    ((8 - length % 8) % 8) as usize
+}
+
+/// Adds the zero bytes that a signature of the image covers, where it has no certificate table.
+fn pad(hasher: &mut Sha256, layout: &Layout, size: u64)
+    ensures { (f : List ℕ) → layout.now ≡ places_of f → size ≡ length f
+        → Holds256 hasher.old (hashed f) → Holds256 hasher.new (signed_bytes f) }
+{
+    if table(layout).is_none() {
+        hasher.update(&[0; 8][..missing(size)]);
+    }
+}
+
+/// The SHA-256 of all that a source holds. It reads the source once, in blocks, and takes no memory.
+pub fn file_digest<S: Source>(source: &mut S) -> Result<Digest, ReadFailed>
+    ensures exact { IfOk result (λ digest. digest ≡ sha256 (S.content source.old)) }
+
+    // A fault comes only where the source's count of failures rose or stood at its greatest.
+    ensures device { OnErr result (HaveRisen (S.failures source.old) (S.failures source.new)) }
+
+    ensures kept { S.failures source.old ≤ S.failures source.new }
+    ensures same { S.content source.new ≡ S.content source.old }
+{
+    let mut hasher = Sha256::new();
+    let length = source.len();
+    let Ok(()) = feed(source, 0, length, &mut hasher) else {
+        return Err(ReadFailed);
+    };
+    Ok(Digest::from(hasher.finalize()))
+}
+
+/// The digest of an image, and the one that a signature of it holds.
+#[derive(Clone, Copy, Debug, PartialEq, Eq)]
+pub struct ImageDigests {
+    pub digest: Digest,
+    pub signing: Digest,
+}
+
+/// Both digests of an image, by reading each range once. The layout is that of the source. It takes no
+/// memory.
+pub fn digests<S: Source>(source: &mut S, layout: &Layout) -> Result<ImageDigests, ReadFailed>
+    requires { IsLayoutOf (S.content source.old) layout.now }
+    ensures digest { IfOk result (λ both. both.digest ≡ image_digest (S.content source.old)) }
+    ensures signing { IfOk result (λ both. both.signing ≡ signed_digest (S.content source.old)) }
+
+    // A fault comes only where the source's count of failures rose or stood at its greatest.
+    ensures device { OnErr result (HaveRisen (S.failures source.old) (S.failures source.new)) }
+
+    ensures kept { S.failures source.old ≤ S.failures source.new }
+    ensures same { S.content source.new ≡ S.content source.old }
+{
+    let Ok(plain) = hash_ranges(source, layout) else {
+        return Err(ReadFailed);
+    };
+    let Ok(mut padded) = plain.clone() else {
+        unreachable!()
+    };
+    pad(&mut padded, layout, source.len());
+    Ok(ImageDigests {
+        digest: Digest::from(plain.finalize()),
+        signing: Digest::from(padded.finalize()),
+    })
+}
+
+/// The Authenticode SHA-256 digest of an image. The layout is that of the source. It reads each range
+/// once, in blocks, and takes no memory.
+pub fn digest<S: Source>(source: &mut S, layout: &Layout) -> Result<Digest, ReadFailed>
+    requires { IsLayoutOf (S.content source.old) layout.now }
+    ensures exact { IfOk result (λ digest. digest ≡ image_digest (S.content source.old)) }
+
+    // A fault comes only where the source's count of failures rose or stood at its greatest.
+    ensures device { OnErr result (HaveRisen (S.failures source.old) (S.failures source.new)) }
+
+    ensures kept { S.failures source.old ≤ S.failures source.new }
+    ensures same { S.content source.new ≡ S.content source.old }
+{
+    let Ok(hasher) = hash_ranges(source, layout) else {
+        return Err(ReadFailed);
+    };
+    Ok(Digest::from(hasher.finalize()))
+}
+
+/// The digest that a signature of an image holds: where the image has a certificate table, its digest;
+/// where it has none, that of the image with the zero bytes that a table appended to it has before it.
+/// The layout is that of the source. It reads as `digest` does, and takes no memory.
+pub fn signing_digest<S: Source>(source: &mut S, layout: &Layout) -> Result<Digest, ReadFailed>
+    requires { IsLayoutOf (S.content source.old) layout.now }
+    ensures exact { IfOk result (λ digest. digest ≡ signed_digest (S.content source.old)) }
+
+    // A fault comes only where the source's count of failures rose or stood at its greatest.
+    ensures device { OnErr result (HaveRisen (S.failures source.old) (S.failures source.new)) }
+
+    ensures kept { S.failures source.old ≤ S.failures source.new }
+    ensures same { S.content source.new ≡ S.content source.old }
+{
+    match digests(source, layout) {
+        Ok(both) => Ok(both.signing),
+        Err(ReadFailed) => Err(ReadFailed),
+    }
+}

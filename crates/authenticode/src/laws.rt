@@ -1,0 +1,29 @@
+//! Laws of the definitions that this crate's contracts cite.
+ghost use Rattle.std.specs.Prelude.{◌≡◌, ◌≢◌, ◌+◌, ◌%◌, ◌≤◌, ℕ, List};
+ghost use Rattle.authenticode.specs.Carried.{IsCarried, IsFirstFault};
+ghost use Rattle.authenticode.specs.Hashing.{padding_of};
+ghost use Rattle.authenticode.specs.declared.fault.CarriedFault.{CarriedFault};
+
+/// A table carries one list of digests at most.
+pub fn carried_is_one()
+    ensures { (table : List ℕ) (ds es : List (List ℕ))
+        → IsCarried table ds → IsCarried table es → ds ≡ es }
+{}
+
+/// A table is refused for one fault at most, besides a want of memory.
+pub fn fault_is_one()
+    ensures { (table : List ℕ) (f g : CarriedFault) → f ≢ CarriedFault.NoMemory
+        → g ≢ CarriedFault.NoMemory → IsFirstFault table f → IsFirstFault table g → f ≡ g }
+{}
+
+/// A table that carries a list of digests is refused for want of memory alone.
+pub fn carried_is_not_refused()
+    ensures { (table : List ℕ) (ds : List (List ℕ)) (fault : CarriedFault)
+        → IsCarried table ds → IsFirstFault table fault → fault ≡ CarriedFault.NoMemory }
+{}
+
+/// The padding of a length brings it to a multiple of 8, and no less does.
+pub fn padding_is_fewest()
+    ensures enough { (n : ℕ) → (n + padding_of n) % 8 ≡ 0 }
+    ensures fewest { (n more : ℕ) → (n + more) % 8 ≡ 0 → padding_of n ≤ more }
+{}

@@ -1,0 +1,19 @@
+//! What an EFI image is signed by: its Authenticode digest, and the certificates that it carries.
+#![tactic(auto)]
+
+mod carrying;
+mod entry;
+mod fault;
+mod hashing;
+mod laws;
+mod row;
+mod signed_data;
+mod walk;
+
+pub use carrying::carried;
+pub use fault::CarriedFault;
+pub use hashing::{ImageDigests, digest, digests, file_digest, signing_digest};
+pub use laws::{carried_is_not_refused, carried_is_one, fault_is_one, padding_is_fewest};
+
+#[cfg(test)]
+mod tests;

@@ -1,0 +1,71 @@
+//! The certificates of one body.
+ghost use Rattle.std.specs.Prelude.{◌≡◌, ◌<◌, ℕ, List, length, IfErr, IfOk, OnOk};
+ghost use Rattle.sha2.specs.Sha256.{sha256};
+ghost use Rattle.authenticode.specs.Faults.{IsDerOnlyWhere};
+ghost use Rattle.authenticode.specs.Certificates.{GivesCertificate, IsBodyOf, IsRowOf};
+ghost use Rattle.authenticode.specs.Steps.{AddsStep, AddsAll};
+
+use crate::fault::CarriedFault;
+use crate::signed_data::{SEQUENCE, certificates};
+use desk_bytes::{Digest, element, tbs};
+use sha2::{Digest as _, Sha256};
+
+/// The SHA-256 of some bytes.
+fn hash_of(bytes: &[u8]) -> Digest
+    ensures { result ≡ sha256 bytes.now }
+{
+    Digest::from(Sha256::digest(bytes))
+}
+
+/// Adds the SHA-256 of the TBSCertificate of the element at the front, where that has the tag of a
+/// certificate, and gives the bytes after it.
+fn push_first<'a>(digests: &mut Vec<Digest>, row: &'a [u8]) -> Result<&'a [u8], CarriedFault>
+    ensures ok { IfOk result (λ rest.
+        AddsStep GivesCertificate row.now rest.now digests.old.items digests.new.items) }
+    ensures shorter { IfOk result (λ rest. length rest.now < length row.now) }
+
+    ensures err { IfErr result (IsDerOnlyWhere ((own : List (List ℕ)) (rest : List ℕ)
+        → GivesCertificate row.now own rest → ⊥)) }
+{
+    let Ok((found, rest)) = element(row) else {
+        return Err(CarriedFault::Der);
+    };
+    if found.tag == SEQUENCE {
+        let Ok(tbs) = tbs(found.whole) else {
+            return Err(CarriedFault::Der);
+        };
+        if digests.push(hash_of(tbs)).is_err() {
+            return Err(CarriedFault::NoMemory);
+        }
+    }
+    Ok(rest)
+}
+
+/// Adds the SHA-256 of each TBSCertificate in a row of elements.
+fn push_row(digests: &mut Vec<Digest>, row: &[u8]) -> Result<(), CarriedFault>
+    ensures ok { OnOk result (AddsAll (IsRowOf row.now) digests.old.items digests.new.items) }
+
+    ensures err { IfErr result (IsDerOnlyWhere ((tbs : List (List ℕ)) → IsRowOf row.now tbs → ⊥)) }
+{
+    let mut left = row;
+    while !left.is_empty() {
+        left = match push_first(digests, left) {
+            Ok(rest) => rest,
+            Err(fault) => return Err(fault),
+        };
+    }
+    Ok(())
+}
+
+/// Adds the SHA-256 of each TBSCertificate in the body of an entry.
+pub(crate) fn push_body(digests: &mut Vec<Digest>, body: &[u8]) -> Result<(), CarriedFault>
+    ensures ok { OnOk result (AddsAll (IsBodyOf body.now) digests.old.items digests.new.items) }
+
+    ensures err { IfErr result
+        (IsDerOnlyWhere ((tbs : List (List ℕ)) → IsBodyOf body.now tbs → ⊥)) }
+{
+    match certificates(body) {
+        None => Err(CarriedFault::Der),
+        Some(row) => push_row(digests, row),
+    }
+}
