@@ -31,6 +31,14 @@ impl Model for Guid {
 #[error("not a GUID")]
 pub struct BadGuid;
 
+impl From<[u8; 16]> for Guid {
+    ghost from_gives = { λ bytes guid. guid ≡ bytes };
+
+    fn from(bytes: [u8; 16]) -> Guid {
+        Guid(bytes)
+    }
+}
+
 /// The bytes in the order of the text, from those in the order of storage, or the other way round.
 fn swapped(bytes: &[u8; 16]) -> [u8; 16]
     ensures { result ≡ spec.swapped bytes.now }

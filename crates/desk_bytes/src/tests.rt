@@ -41,6 +41,10 @@ fn reads_and_writes_a_guid(rt: HostRuntime) -> Result<(), Fail> {
     ] {
         let guid = Guid::parse(text)?;
         assert!(rt; guid.as_bytes() == stored.as_slice(), "the bytes of {text}");
+        assert!(rt;
+            guid == Guid::from(stored),
+            "the GUID of the bytes of {text}"
+        );
         let again = guid.text(rt.alloc())?;
         assert_eq!(rt; again.as_str(), "c1c41626-504c-4092-aca9-41f936934328");
     }
