@@ -1,3 +1,7 @@
+pub mod ChainLemmas
+pub mod EntryLemmas
+pub mod HeadLemmas
 pub mod PackingLemmas
-pub mod SpellingLemmas
+pub mod RowLemmas
+pub mod SpeltLemmas
 pub mod WritingLemmas

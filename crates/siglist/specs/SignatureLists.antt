@@ -60,3 +60,24 @@ Spells (l ∷ ls) bytes = (rest : List ℕ) × IsList l × (bytes ≡ list_bytes
 -- the one spelling of a row
 abbrev pub spelling : List SignatureList → List ℕ
 spelling ls = flat_map list_bytes ls
+
+-- the bytes are some row
+pub record IsRow (bytes : List ℕ) : Type 0 where
+  pub row : List SignatureList
+  pub spelt : Spells row bytes
+
+-- a list, and where it begins, in bytes from the input's start
+pub record Placed : Type 0 where
+  pub offset : ℕ
+  pub list : SignatureList
+
+-- lists that stand one after another, the first of them at this offset
+abbrev pub placed_from : ℕ → List SignatureList → List Placed
+placed_from at [] = []
+placed_from at (l ∷ ls) = record { offset = at; list = l } ∷ placed_from (at + list_size l) ls
+
+-- the bytes spell these lists, each of which stands at its offset
+pub record SpellsPlaced (placed : List Placed) (bytes : List ℕ) : Type 0 where
+  pub row : List SignatureList
+  pub spelt : Spells row bytes
+  pub places : placed ≡ placed_from 0 row

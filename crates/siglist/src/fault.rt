@@ -1,5 +1,6 @@
-//! What stops a pack.
+//! What stops a pack, and what bytes are refused for that are no lists.
 ghost use Rattle.std.specs.Prelude.{◌≡◌};
+ghost use Rattle.siglist.specs.ListsFaults as lists;
 ghost use Rattle.siglist.specs.PackFaults.{fault_of, place_of, refusal_of};
 
 use desk_bytes::{InputFault, Refusal};
@@ -57,6 +58,57 @@ impl PackFault {
         match self {
             PackFault::Line { line } => Some(line),
             PackFault::TooLong | PackFault::Read | PackFault::Write | PackFault::NoMemory => None,
+        }
+    }
+}
+
+/// Where bytes are no row of signature lists, and why. Offsets count bytes from the input's start.
+#[derive(Clone, Copy, Debug, PartialEq, Eq, Error)]
+pub enum ListsFault {
+    /// No whole list stands there, or one of a kind without a header has one.
+    #[error("no signature list stands at {offset}")]
+    List { offset: u64 },
+    /// The list's entries can't have the size that it gives.
+    #[error("the entries of the signature list at {offset} can't have its SignatureSize")]
+    EntrySize { offset: u64 },
+}
+
+impl ListsFault {
+    /// Its row in the table of refusals.
+    pub fn refusal(self) -> Refusal
+        ensures { result ≡ lists.refusal_of self }
+    {
+        match self {
+            ListsFault::List { .. } => Refusal::List,
+            ListsFault::EntrySize { .. } => Refusal::EntrySize,
+        }
+    }
+
+    /// The offset of the list that was refused.
+    pub fn place(self) -> u64
+        ensures { result ≡ lists.place_of self }
+    {
+        match self {
+            ListsFault::List { offset } | ListsFault::EntrySize { offset } => offset,
+        }
+    }
+}
+
+/// What is wrong with the bytes at a place.
+#[derive(Clone, Copy, Debug, PartialEq, Eq)]
+pub(crate) enum Lack {
+    List,
+    EntrySize,
+}
+
+impl Lack {
+    /// The same with its place.
+    pub(crate) fn at(self, offset: u64) -> ListsFault
+        ensures { result ≡ lists.fault_of self offset }
+    {
+        match self {
+            Lack::List => ListsFault::List { offset },
+            Lack::EntrySize => ListsFault::EntrySize { offset },
         }
     }
 }

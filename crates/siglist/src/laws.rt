@@ -1,9 +1,11 @@
 //! Laws of the definitions that this crate's contracts cite.
-ghost use Rattle.std.specs.Prelude.{◌≡◌, ◌≤◌, ℕ, List, length};
+ghost use Rattle.std.specs.Prelude.{◌≡◌, ◌+◌, ◌≤◌, ℕ, List, length};
 ghost use Rattle.std.specs.List.{AllByRecursion};
+ghost use Rattle.siglist.specs.ListsFaults.{IsRefused};
 ghost use Rattle.siglist.specs.Packing.{Packs};
 ghost use Rattle.siglist.specs.SignatureLists.{SignatureList, Spells, spelling};
-ghost use Rattle.siglist.specs.Writing.{sha256_row};
+ghost use Rattle.siglist.specs.Writing.{sha256_row, x509_row, x509_sha256_row};
+ghost use Rattle.siglist.specs.declared.fault.ListsFault.{ListsFault};
 
 /// No bytes spell two rows of lists.
 pub fn row_is_one()
@@ -11,11 +13,29 @@ pub fn row_is_one()
         → Spells ls bytes → Spells ms bytes → ls ≡ ms }
 {}
 
-/// A SHA256 list of up to a million digests has a spelling, and it is what is written.
+/// Bytes that spell a row of lists are refused for nothing.
+pub fn row_is_not_refused()
+    ensures { (bytes : List ℕ) (ls : List SignatureList) (fault : ListsFault)
+        → Spells ls bytes → IsRefused bytes fault → ⊥ }
+{}
+
+/// Bytes are refused at one place at most, and for one reason.
+pub fn fault_is_one()
+    ensures { (bytes : List ℕ) (f g : ListsFault) → IsRefused bytes f → IsRefused bytes g → f ≡ g }
+{}
+
+/// A list of up to a million digests, and one of a certificate of up to 65,536 bytes, has a spelling, and
+/// it is what is written.
 pub fn row_is_spelt()
-    ensures { (owner : List ℕ) (ds : List (List ℕ)) → length owner ≡ 16
+    ensures sha256 { (owner : List ℕ) (ds : List (List ℕ)) → length owner ≡ 16
         → AllByRecursion (λ d. length d ≡ 32) ds → length ds ≤ 1000000
         → Spells (sha256_row owner ds) (spelling (sha256_row owner ds)) }
+    ensures x509_sha256 { (owner : List ℕ) (ds : List (List ℕ)) → length owner ≡ 16
+        → AllByRecursion (λ d. length d ≡ 32) ds → length ds ≤ 1000000
+        → Spells (x509_sha256_row owner ds) (spelling (x509_sha256_row owner ds)) }
+    ensures x509 { (owner certificate : List ℕ) → length owner ≡ 16
+        → 1 ≤ length certificate → length certificate ≤ 65536
+        → Spells (x509_row owner certificate) (spelling (x509_row owner certificate)) }
 {}
 
 /// A text packs into one list alone.

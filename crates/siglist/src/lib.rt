@@ -1,15 +1,26 @@
-//! Signature lists (UEFI 2.10, section 32.4.1), as the desk writes them.
+//! Signature lists (UEFI 2.10, section 32.4.1), read and written.
 #![tactic(auto)]
 
+mod entry;
 mod fault;
+mod head;
+mod kind;
 mod laws;
+mod list;
 mod packing;
+mod reading;
+mod row;
 mod writing;
 
-pub use fault::PackFault;
-pub use laws::{packed_list_is_one, row_is_one, row_is_spelt};
+pub use entry::{Entries, Entry};
+pub use fault::{ListsFault, PackFault};
+pub use kind::Kind;
+pub use laws::{fault_is_one, packed_list_is_one, row_is_not_refused, row_is_one, row_is_spelt};
+pub use list::SignatureList;
 pub use packing::pack;
-pub use writing::write_sha256;
+pub use reading::lists;
+pub use row::Lists;
+pub use writing::{write_sha256, write_x509, write_x509_sha256};
 
 #[cfg(test)]
 mod tests;

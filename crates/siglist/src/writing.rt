@@ -4,15 +4,11 @@ ghost use Rattle.std.specs.Int.{w32, to_le_bytes};
 ghost use Rattle.std.specs.Io.KnownBytes.{Appends};
 ghost use Rattle.desk_bytes.specs.Output.{AppendsBeginning};
 ghost use Rattle.siglist.specs.SignatureLists.{entry_bytes, spelling};
-ghost use Rattle.siglist.specs.Writing.{entry_of, sha256_row};
+ghost use Rattle.siglist.specs.Writing.{digest_row, entry_of, one_row, sha256_row, x509_row, x509_sha256_row};
 
+use crate::kind::{SHA256, X509, X509_SHA256};
 use desk_bytes::{Digest, Guid, WriteFailed, put};
 use std::io::Write;
-
-/// EFI_CERT_SHA256_GUID, c1c41626-504c-4092-aca9-41f936934328, as it is stored.
-const SHA256: [u8; 16] = [
-    0x26, 0x16, 0xc4, 0xc1, 0x4c, 0x50, 0x92, 0x40, 0xac, 0xa9, 0x41, 0xf9, 0x36, 0x93, 0x43, 0x28,
-];
 
 /// Writes a number, its low byte first.
 fn put_u32<W: Write>(number: u32, writer: &mut W) -> Result<(), WriteFailed>
@@ -56,20 +52,46 @@ fn put_entry<W: Write>(owner: &[u8], body: &[u8], writer: &mut W) -> Result<(), 
     put(body, writer)
 }
 
-/// Writes one SHA256 list of some digests.
-fn put_sha256<W: Write>(owner: &[u8], digests: &[Digest], writer: &mut W) -> Result<(), WriteFailed>
+/// Writes one list of some digests, each with the same bytes behind it.
+fn put_digests<W: Write>(
+    kind: &[u8; 16],
+    owner: &[u8],
+    digests: &[Digest],
+    after: &[u8],
+    writer: &mut W,
+) -> Result<(), WriteFailed>
     requires some { 0 < length digests.now }
     requires few { length digests.now ≤ 1000000 }
+    requires short { length after.now ≤ 16 }
     ensures ok { OnOk result (Appends (W.contents writer.old) (W.contents writer.new)
-        (spelling (sha256_row owner.now digests.now))) }
+        (spelling (digest_row kind.now owner.now digests.now after.now))) }
     ensures err { OnErr result (AppendsBeginning (W.contents writer.old) (W.contents writer.new)
-        (spelling (sha256_row owner.now digests.now))) }
+        (spelling (digest_row kind.now owner.now digests.now after.now))) }
 {
-    put_head(&SHA256, 48, digests.len() as u32, writer)?;
+    let entry_size = 48 + after.len() as u32;
+    put_head(kind, entry_size, digests.len() as u32, writer)?;
     for digest in digests {
         put_entry(owner, digest.as_bytes(), writer)?;
+        put(after, writer)?;
     }
     Ok(())
+}
+
+/// Writes one list of one entry.
+fn put_one<W: Write>(
+    kind: &[u8; 16],
+    owner: &[u8],
+    body: &[u8],
+    writer: &mut W,
+) -> Result<(), WriteFailed>
+    requires short { length body.now ≤ 65536 }
+    ensures ok { OnOk result (Appends (W.contents writer.old) (W.contents writer.new)
+        (spelling (one_row kind.now owner.now body.now))) }
+    ensures err { OnErr result (AppendsBeginning (W.contents writer.old) (W.contents writer.new)
+        (spelling (one_row kind.now owner.now body.now))) }
+{
+    put_head(kind, 16 + body.len() as u32, 1, writer)?;
+    put_entry(owner, body, writer)
 }
 
 /// Writes one SHA256 list of the digests, in the order handed in, or nothing where there is none.
@@ -88,6 +110,43 @@ pub fn write_sha256<W: Write>(
     if digests.is_empty() {
         Ok(())
     } else {
-        put_sha256(owner.as_bytes(), digests, writer)
+        put_digests(&SHA256, owner.as_bytes(), digests, &[], writer)
     }
+}
+
+/// Writes one X509_SHA256 list, in the order handed in, or nothing where there is none. Each digest is the
+/// SHA-256 of a TBSCertificate; its TimeOfRevocation, an EFI_TIME, is 16 zero bytes, which revoke the
+/// certificate whenever it signed. Takes no memory.
+pub fn write_x509_sha256<W: Write>(
+    owner: &Guid,
+    digests: &[Digest],
+    writer: &mut W,
+) -> Result<(), WriteFailed>
+    requires few { length digests.now ≤ 1000000 }
+    ensures ok { OnOk result (Appends (W.contents writer.old) (W.contents writer.new)
+        (spelling (x509_sha256_row owner.now digests.now))) }
+    ensures err { OnErr result (AppendsBeginning (W.contents writer.old) (W.contents writer.new)
+        (spelling (x509_sha256_row owner.now digests.now))) }
+{
+    if digests.is_empty() {
+        Ok(())
+    } else {
+        put_digests(&X509_SHA256, owner.as_bytes(), digests, &[0; 16], writer)
+    }
+}
+
+/// Writes one X509 list of one entry, whose body is the certificate in DER. Takes no memory.
+pub fn write_x509<W: Write>(
+    owner: &Guid,
+    certificate: &[u8],
+    writer: &mut W,
+) -> Result<(), WriteFailed>
+    requires some { 1 ≤ length certificate.now }
+    requires short { length certificate.now ≤ 65536 }
+    ensures ok { OnOk result (Appends (W.contents writer.old) (W.contents writer.new)
+        (spelling (x509_row owner.now certificate.now))) }
+    ensures err { OnErr result (AppendsBeginning (W.contents writer.old) (W.contents writer.new)
+        (spelling (x509_row owner.now certificate.now))) }
+{
+    put_one(&X509, owner.as_bytes(), certificate, writer)
 }
