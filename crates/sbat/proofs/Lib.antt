@@ -1,0 +1,9 @@
+pub mod FieldLemmas
+pub mod RowLemmas
+pub mod GenerationLemmas
+pub mod ViewLemmas
+pub mod LevelLemmas
+pub mod WritingLemmas
+pub mod DigitLemmas
+pub mod TextLemmas
+pub mod ReadBackLemmas

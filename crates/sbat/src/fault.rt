@@ -1,0 +1,43 @@
+//! Why SBAT text was refused.
+ghost use Rattle.std.specs.Prelude.{◌≡◌};
+ghost use Rattle.sbat.specs.Refusals.{place_of, refusal_of};
+
+use desk_bytes::Refusal;
+use thiserror::Error;
+
+/// What SBAT text was refused for.
+#[derive(Clone, Copy, Debug, PartialEq, Eq, Error)]
+pub enum SbatFault {
+    /// The number of the first wrong line, from 1; of a level without a line, 1.
+    #[error("line {0} of the SBAT text is wrong")]
+    Row(u64),
+    /// There are more than 256 components in an image, or more than 10,000 names in a level.
+    #[error("the SBAT text names too many components")]
+    TooLong,
+    /// Memory was refused.
+    #[error("no memory")]
+    NoMemory,
+}
+
+impl SbatFault {
+    /// Its row in the table of refusals.
+    pub fn refusal(self) -> Refusal
+        ensures { result ≡ refusal_of self }
+    {
+        match self {
+            SbatFault::Row(_) => Refusal::SbatRow,
+            SbatFault::TooLong => Refusal::TooLong,
+            SbatFault::NoMemory => Refusal::NoMemory,
+        }
+    }
+
+    /// The number of the line that was refused.
+    pub fn place(self) -> Option<u64>
+        ensures { result ≡ place_of self }
+    {
+        match self {
+            SbatFault::Row(line) => Some(line),
+            SbatFault::TooLong | SbatFault::NoMemory => None,
+        }
+    }
+}

@@ -1,0 +1,53 @@
+//! The components of an image.
+ghost use Rattle.std.specs.Prelude.{◌≡◌, ◌∷◌, ◌++◌, [], IfErr, IfOk, OnOk, if◌then◌else◌, length, nat_le};
+ghost use Rattle.sbat.specs.Refusals.{IsComponents, RefusesComponents};
+
+use crate::component::Component;
+use crate::fault::SbatFault;
+use crate::name::NameFault;
+use crate::row::read_image_row;
+use crate::text::rows;
+use std::alloc::{AllocError, Global};
+
+/// The most components of an image.
+pub const MOST_COMPONENTS: usize = 256;
+
+/// Adds a component where there are no more than the limit.
+fn keep(found: &mut Vec<Component>, component: Component) -> Result<(), AllocError>
+    ensures ok { OnOk result (found.new.items ≡ (if nat_le (length found.old.items) MOST_COMPONENTS
+        then found.old.items ++ component ∷ [] else found.old.items)) }
+{
+    if found.len() <= MOST_COMPONENTS {
+        found.push(component)?;
+    }
+    Ok(())
+}
+
+/// The components that the text of an image's section `.sbat` names, in their order; a name may come twice.
+/// An image without that section has the text of no bytes, and no component. Takes memory for 257 components
+/// at most.
+///
+/// The first wrong line is answered as Row with its number. TooLong, for more than 256 components, comes only
+/// where no line is wrong.
+pub fn components(alloc: Global, text: &[u8]) -> Result<Vec<Component>, SbatFault>
+    ensures exact { IfOk result (λ found. IsComponents text.now found.items) }
+
+    ensures first { IfErr result (RefusesComponents text.now) }
+{
+    let mut found = Vec::new(alloc);
+    for line in rows(text) {
+        match read_image_row(alloc, line.text) {
+            Ok(component) => {
+                if keep(&mut found, component).is_err() {
+                    return Err(SbatFault::NoMemory);
+                }
+            }
+            Err(NameFault::Form) => return Err(SbatFault::Row(line.number)),
+            Err(NameFault::NoMemory) => return Err(SbatFault::NoMemory),
+        }
+    }
+    if found.len() > MOST_COMPONENTS {
+        return Err(SbatFault::TooLong);
+    }
+    Ok(found)
+}

@@ -1,0 +1,148 @@
+//! The level that an image is held against.
+ghost use Rattle.std.specs.Prelude.{◌≡◌, ℕ, List, OnErr, OnOk, false, string_bytes, true};
+ghost use Rattle.std.specs.BTreeMap.{IsUnchanged};
+ghost use Rattle.std.specs.FinMap.{empty, entries, get, len};
+ghost use Rattle.std.specs.Iterator.{YieldsFirstBy, item_count};
+ghost use Rattle.std.specs.Str.{bytes_eq};
+ghost use Rattle.sbat.specs.Fields.{is_generation, sbat};
+ghost use Rattle.sbat.specs.Levels.{IsLevel, Stamped, byte_entries, entry_of, generations_of, raised, stamped_code};
+ghost use Rattle.sbat.specs.Rows.{Row};
+
+use crate::component::Component;
+use crate::generation::Generation;
+use crate::stamp::Stamp;
+use std::alloc::{AllocError, Global};
+use std::collections::{BTreeMap, btree_map};
+use std::marker::Model;
+use std::str;
+
+/// A stamp, and the least generation that an image may have of each name, of which none is `sbat`. A contract
+/// sees the stamp, and the map from names to generations.
+#[derive(Debug, Drop)]
+pub struct Level {
+    stamp: Stamp,
+    names: BTreeMap<String, Generation>,
+}
+
+impl Model for Level {
+    ghost Value = { Stamped };
+
+    ghost coded = { stamped_code };
+
+    ghost view = { λ l. record { stamp = l.stamp; generations = generations_of l.names.entries } };
+
+    ghost invariant = { λ l. IsLevel (record {
+      stamp = l.stamp;
+      generations = generations_of l.names.entries;
+    }) };
+}
+
+/// Gives a name the greater of the generation that it has and this one.
+fn raise_name(
+    names: &mut BTreeMap<String, Generation>,
+    name: String,
+    generation: Generation,
+) -> Result<(), AllocError>
+    ensures ok { OnOk result (generations_of names.new.entries
+        ≡ raised (generations_of names.old.entries)
+        (record { name = string_bytes name; generation = generation })) }
+    ensures err { OnErr result (IsUnchanged names.old names.new) }
+    ensures range { is_generation generation ≡ true }
+{
+    let number = generation.value();
+    if let Some(present) = names.get(name.as_str()) {
+        if number <= present.value() {
+            return Ok(());
+        }
+    }
+    names.insert(name, generation)?;
+    Ok(())
+}
+
+impl Level {
+    /// The level of that stamp without a name. Takes no memory.
+    pub fn new(alloc: Global, stamp: Stamp) -> Level
+        ensures { result ≡ record { stamp = stamp; generations = empty } }
+    {
+        let number = stamp.value();
+        prove!(number >= 1_000_000_000);
+        Level {
+            stamp,
+            names: BTreeMap::new(alloc),
+        }
+    }
+
+    /// The stamp.
+    pub fn stamp(&self) -> Stamp
+        ensures { result ≡ self.now.stamp }
+    {
+        self.stamp
+    }
+
+    /// Gives a name other than `sbat` the greater of the generation that it has and the component's. Takes
+    /// memory for the name.
+    pub fn raise(&mut self, component: &Component) -> Result<(), AllocError>
+        requires other { bytes_eq component.now.name sbat ≡ false }
+        ensures ok { OnOk result
+            (self.new ≡ record self.old { generations = raised self.old.generations component.now }) }
+        ensures err { OnErr result (self.new ≡ self.old) }
+    {
+        let name = component.name.clone()?.into_string();
+        raise_name(&mut self.names, name, component.generation)
+    }
+
+    /// The generation of the name that the bytes are, where the level has one.
+    pub fn generation_of(&self, name: &[u8]) -> Option<Generation>
+        ensures { result ≡ get self.now.generations name.now }
+    {
+        match str::from_utf8(name) {
+            Ok(text) => self.names.get(text).copied(),
+            Err(_) => None,
+        }
+    }
+
+    /// How many names there are.
+    pub fn len(&self) -> usize
+        ensures exact { result ≡ len self.now.generations }
+        ensures form { IsLevel self.now }
+    {
+        self.names.len()
+    }
+
+    /// The names with their generations, ascending by the names' bytes.
+    pub fn iter(&self) -> LevelIter<'_>
+        ensures exact { result ≡ entries self.now.generations }
+        ensures form { IsLevel self.now }
+    {
+        LevelIter {
+            rest: self.names.iter(),
+        }
+    }
+}
+
+/// The names of a level with their generations, borrowed.
+#[derive(Drop)]
+pub struct LevelIter<'a> {
+    rest: btree_map::Iter<'a, String, Generation>,
+}
+
+impl<'a> Model for LevelIter<'a> {
+    ghost Value = { List (List ℕ × ℕ) };
+
+    ghost view = { λ i. byte_entries i.rest };
+}
+
+impl<'a> Iterator for LevelIter<'a> {
+    type Item = (&'a str, Generation);
+
+    ghost next_gives = { YieldsFirstBy entry_of (λ entries. entries) };
+
+    ghost remaining = { item_count (λ entries. entries) };
+
+    fn next(&mut self) -> Option<(&'a str, Generation)> {
+        match self.rest.next() {
+            Some((name, generation)) => Some((name.as_str(), *generation)),
+            None => None,
+        }
+    }
+}

@@ -1,0 +1,63 @@
+//! Levels written.
+ghost use Rattle.std.specs.Prelude.{OnErr, OnOk, decimal};
+ghost use Rattle.std.specs.Io.KnownBytes.{Appends};
+ghost use Rattle.desk_bytes.specs.Output.{AppendsBeginning};
+ghost use Rattle.sbat.specs.Writing.{head_text, level_text, row_text};
+
+use crate::generation::Generation;
+use crate::level::Level;
+use crate::stamp::Stamp;
+use desk_bytes::{WriteFailed, put};
+use itoa::Buffer;
+use std::io::Write;
+
+/// Writes a number in decimal digits.
+fn put_number<W: Write>(number: u64, writer: &mut W) -> Result<(), WriteFailed>
+    ensures ok { OnOk result (Appends (W.contents writer.old) (W.contents writer.new)
+        (decimal number)) }
+    ensures err { OnErr result (AppendsBeginning (W.contents writer.old) (W.contents writer.new)
+        (decimal number)) }
+{
+    let mut digits = Buffer::new();
+    put(digits.format(number).as_bytes(), writer)
+}
+
+/// Writes the first line of a level.
+fn put_head<W: Write>(stamp: Stamp, writer: &mut W) -> Result<(), WriteFailed>
+    ensures ok { OnOk result (Appends (W.contents writer.old) (W.contents writer.new)
+        (head_text stamp)) }
+    ensures err { OnErr result (AppendsBeginning (W.contents writer.old) (W.contents writer.new)
+        (head_text stamp)) }
+{
+    put(b"sbat,1,", writer)?;
+    put_number(stamp.value(), writer)?;
+    put(b"\n", writer)
+}
+
+/// Writes the line of one name.
+fn put_row<W: Write>(name: &str, generation: Generation, writer: &mut W) -> Result<(), WriteFailed>
+    ensures ok { OnOk result (Appends (W.contents writer.old) (W.contents writer.new)
+        (row_text name.now generation)) }
+    ensures err { OnErr result (AppendsBeginning (W.contents writer.old) (W.contents writer.new)
+        (row_text name.now generation)) }
+{
+    put(name.as_bytes(), writer)?;
+    put(b",", writer)?;
+    put_number(u64::from(generation.value()), writer)?;
+    put(b"\n", writer)
+}
+
+/// Writes the text of a level: `sbat,1,` and the stamp, then each name, a comma and its generation without
+/// leading zeros, ascending by the names' bytes. LF ends each line. Takes no memory.
+pub fn write_level<W: Write>(level: &Level, writer: &mut W) -> Result<(), WriteFailed>
+    ensures ok { OnOk result (Appends (W.contents writer.old) (W.contents writer.new)
+        (level_text level.now)) }
+    ensures err { OnErr result (AppendsBeginning (W.contents writer.old) (W.contents writer.new)
+        (level_text level.now)) }
+{
+    put_head(level.stamp(), writer)?;
+    for (name, generation) in level.iter() {
+        put_row(name, generation, writer)?;
+    }
+    Ok(())
+}
