@@ -1,0 +1,7 @@
+-- How long an image's file is.
+use Rattle.std.specs.Prelude.{ℕ}
+
+-- how many bytes a file has, and how many of them stand before the sections' end in no header and no section
+pub record Lengths : Type 0 where
+  pub length : ℕ
+  pub gap : ℕ

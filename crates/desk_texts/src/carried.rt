@@ -1,0 +1,59 @@
+//! The certificates that an image carries.
+ghost use Rattle.std.specs.Prelude.{◌≡◌, ◌<◌, ◌≤◌, ℕ, List, length, MatchOption};
+ghost use Rattle.desk_bytes.specs.Digests.{IsArranged, IsAscending};
+ghost use Rattle.desk_texts.specs.Carrying.{HasMore};
+ghost use Rattle.desk_texts.specs.declared.carried.TheConstants.{MOST_CARRIED};
+
+use desk_bytes::{Digest, arrange};
+use std::marker::Model;
+
+/// The most certificates that an image carries.
+pub const MOST_CARRIED: usize = 64;
+
+/// The SHA-256 of each TBSCertificate that an image carries: ascending, each once, at most `MOST_CARRIED`. A
+/// contract sees the list of them.
+#[derive(Debug, Drop)]
+pub struct Carried {
+    digests: Vec<Digest>,
+}
+
+impl Model for Carried {
+    ghost Value = { List (List ℕ) };
+
+    ghost view = { λ c. c.digests.items };
+
+    ghost invariant = { λ c.
+        IsAscending c.digests.items × (length c.digests.items ≤ MOST_CARRIED) };
+}
+
+impl Carried {
+    /// Digests that ascend already, each once, within the limit.
+    pub fn of(digests: Vec<Digest>) -> Carried
+        requires ascending { IsAscending digests.items }
+        requires few { length digests.items ≤ MOST_CARRIED }
+        ensures { result ≡ digests.items }
+    {
+        Carried { digests }
+    }
+
+    /// The digests, ascending, each once, or `None` where more than `MOST_CARRIED` are different. The time is
+    /// that of sorting.
+    pub fn new(digests: Vec<Digest>) -> Option<Carried>
+        ensures { MatchOption result (HasMore digests.items)
+            (λ carried. IsArranged digests.items carried) }
+    {
+        let mut digests = digests;
+        arrange(&mut digests);
+        if MOST_CARRIED < digests.len() {
+            return None;
+        }
+        Some(Carried::of(digests))
+    }
+
+    /// The digests.
+    pub fn as_slice(&self) -> &[Digest]
+        ensures { result.now ≡ self.now }
+    {
+        &self.digests
+    }
+}
