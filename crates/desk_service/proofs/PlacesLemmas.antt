@@ -1,0 +1,12 @@
+-- What the places of a file's parts tell.
+use Rattle.std.proofs.Common.{◌≡◌, ◌∙◌, ℕ, List, ap, refl}
+use Rattle.pe_image.specs.Image as image
+use Rattle.pe_image.specs.Places.{Places, places_of}
+
+gap_is : (f : List ℕ) → (places_of f).gap ≡ image.gap f
+unfolding places_of
+gap_is f = refl
+
+-- the gap of a file's places is the file's
+pub gap_placed : (f : List ℕ) (p : Places) → p ≡ places_of f → p.gap ≡ image.gap f
+gap_placed f p is = ap (λ (places : Places). places.gap) is ∙ gap_is f

@@ -1,0 +1,18 @@
+use Rattle.std.proofs.Common.{rules}
+use Rattle.desk_service.proofs.PlacesLemmas.{gap_placed}
+use Rattle.desk_service.proofs.collecting.facts.Goals as goal
+
+-- nothing that is read changes the content, so each part speaks of the same file
+pub returns-clause-exact : goal.returns-clause-exact
+returns-clause-exact g c =
+    let gap = gap_placed _ _ c.in-Ok.ensures.exact.places in
+    record {
+      laid = search rules;
+      length = search rules;
+      gap = search rules;
+      file = search rules;
+      digest = search rules;
+      signing = search rules;
+      carried = search rules;
+      components = search rules;
+    }

@@ -1,0 +1,22 @@
+-- Faults of an image as rows of the table of refusals.
+use Rattle.std.specs.Prelude.{ℕ, Option, None}
+use Rattle.desk_bytes.specs.declared.refusal.Refusal.{Refusal}
+use Rattle.desk_bytes.specs.declared.refusal.Refusal.TheVariants as refusal
+use Rattle.pe_image.specs.Faults as layout
+use Rattle.authenticode.specs.Faults as carried
+use Rattle.sbat.specs.Refusals as sbat
+use Rattle.desk_service.specs.declared.fault.FactsFault.{FactsFault}
+use Rattle.desk_service.specs.declared.fault.FactsFault.TheVariants.{Carried, Components, Layout, NoMemory, Read}
+
+-- own: the row of each fault
+abbrev pub refusal_of : FactsFault → Refusal
+refusal_of (Layout fault) = layout.refusal_of fault
+refusal_of Read = refusal.Read
+refusal_of (Carried fault) = carried.refusal_of fault
+refusal_of (Components fault) = sbat.refusal_of fault
+refusal_of NoMemory = refusal.NoMemory
+
+-- own: the line of SBAT text
+abbrev pub place_of : FactsFault → Option ℕ
+place_of (Components fault) = sbat.place_of fault
+place_of _ = None

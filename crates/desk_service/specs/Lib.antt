@@ -1,0 +1,3 @@
+pub mod Faults
+pub mod ImageFacts
+pub mod Parts

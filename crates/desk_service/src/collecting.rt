@@ -1,0 +1,118 @@
+//! The facts of an image.
+ghost use Rattle.std.specs.Prelude.{◌≡◌, ◌≤◌, List, length, IfOk, IfErr};
+ghost use Rattle.pe_image.specs.Places.{IsLayoutOf};
+ghost use Rattle.authenticode.specs.Carried.{IsCarried};
+ghost use Rattle.sbat.specs.Refusals.{IsComponents};
+ghost use Rattle.desk_service.specs.ImageFacts.{HasCarried, IsFactsOf, IsFirstFault};
+ghost use Rattle.desk_service.specs.ImageFacts.{sbat_bytes, table_bytes};
+
+use crate::fault::FactsFault;
+use crate::part::{PartFault, read_part};
+use authenticode::{carried, digests, file_digest};
+use desk_texts::{Carried, Components, Extent, Facts};
+use pe_image::{Layout, Source, gap, layout, sbat_range, table};
+use sbat::components;
+use std::alloc::Global;
+
+/// The certificates that an image with this layout carries.
+fn read_carried<S: Source>(
+    alloc: Global,
+    source: &mut S,
+    layout: &Layout,
+) -> Result<Carried, FactsFault>
+    requires { IsLayoutOf (S.content source.old) layout.now }
+    ensures exact { IfOk result (IsCarried (table_bytes (S.content source.old))) }
+
+    ensures first { IfErr result (IsFirstFault (S.content source.old)
+        (S.failures source.old) (S.failures source.new)) }
+
+    ensures kept { S.failures source.old ≤ S.failures source.new }
+    ensures same { S.content source.new ≡ S.content source.old }
+{
+    let bytes = match read_part(alloc, source, table(layout)) {
+        Ok(bytes) => bytes,
+        Err(PartFault::Read) => return Err(FactsFault::Read),
+        Err(PartFault::NoMemory) => return Err(FactsFault::NoMemory),
+    };
+    match carried(alloc, &bytes) {
+        Ok(digests) => Ok(Carried::of(digests)),
+        Err(fault) => Err(FactsFault::Carried(fault)),
+    }
+}
+
+/// The components of an image with this layout, whose certificates are right.
+fn read_components<S: Source>(
+    alloc: Global,
+    source: &mut S,
+    layout: &Layout,
+) -> Result<Components, FactsFault>
+    requires laid { IsLayoutOf (S.content source.old) layout.now }
+    requires carries { HasCarried (S.content source.old) }
+    ensures exact { IfOk result (IsComponents (sbat_bytes (S.content source.old))) }
+
+    ensures first { IfErr result (IsFirstFault (S.content source.old)
+        (S.failures source.old) (S.failures source.new)) }
+
+    ensures kept { S.failures source.old ≤ S.failures source.new }
+    ensures same { S.content source.new ≡ S.content source.old }
+{
+    let text = match read_part(alloc, source, sbat_range(layout)) {
+        Ok(text) => text,
+        Err(PartFault::Read) => return Err(FactsFault::Read),
+        Err(PartFault::NoMemory) => return Err(FactsFault::NoMemory),
+    };
+    let found = match components(alloc, &text) {
+        Ok(found) => found,
+        Err(fault) => return Err(FactsFault::Components(fault)),
+    };
+    let Some(components) = Components::new(found) else {
+        unreachable!()
+    };
+    Ok(components)
+}
+
+/// What the desk keeps of an image. It reads all of the source twice and the certificate table and the text
+/// of `.sbat` once more; it takes memory for these two and for what they hold.
+///
+/// Of several faults the layout's is answered first, then that of the certificates, then that of the
+/// components; Read, and Layout with Read, only where the source's count of failures rose or stood at its
+/// greatest.
+pub fn facts<S: Source>(alloc: Global, source: &mut S) -> Result<Facts, FactsFault>
+    ensures exact { IfOk result (IsFactsOf (S.content source.old)) }
+
+    ensures first { IfErr result (IsFirstFault (S.content source.old)
+        (S.failures source.old) (S.failures source.new)) }
+
+    ensures kept { S.failures source.old ≤ S.failures source.new }
+    ensures same { S.content source.new ≡ S.content source.old }
+{
+    let layout = match layout(source) {
+        Ok(layout) => layout,
+        Err(fault) => return Err(FactsFault::Layout(fault)),
+    };
+    let Some(extent) = Extent::new(source.len(), gap(&layout)) else {
+        unreachable!()
+    };
+    let Ok(file) = file_digest(source) else {
+        return Err(FactsFault::Read);
+    };
+    let Ok(both) = digests(source, &layout) else {
+        return Err(FactsFault::Read);
+    };
+    let carried = match read_carried(alloc, source, &layout) {
+        Ok(carried) => carried,
+        Err(fault) => return Err(fault),
+    };
+    let components = match read_components(alloc, source, &layout) {
+        Ok(components) => components,
+        Err(fault) => return Err(fault),
+    };
+    Ok(Facts {
+        extent,
+        file,
+        digest: both.digest,
+        signing: both.signing,
+        carried,
+        components,
+    })
+}

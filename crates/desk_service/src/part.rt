@@ -1,0 +1,42 @@
+//! A part of a source, in memory.
+ghost use Rattle.std.specs.Prelude.{◌≡◌, ◌≤◌, ℕ, List, length, IfOk, IfErr, IfSome};
+ghost use Rattle.pe_image.specs.Sources.{HaveRisen};
+ghost use Rattle.pe_image.specs.Spans.{IsWithin};
+ghost use Rattle.desk_service.specs.Parts.{IsPartFault, part_of};
+
+use pe_image::Source;
+use std::alloc::Global;
+
+/// Why a part isn't in memory.
+#[derive(Clone, Copy, Debug, PartialEq, Eq)]
+pub enum PartFault {
+    Read,
+    NoMemory,
+}
+
+/// The bytes at a half-open pair of places, none where there is no pair.
+pub fn read_part<S: Source>(
+    alloc: Global,
+    source: &mut S,
+    places: Option<(u64, u64)>,
+) -> Result<Vec<u8>, PartFault>
+    requires { IfSome places (IsWithin (length (S.content source.old))) }
+    ensures exact { IfOk result (λ bytes. bytes.items ≡ part_of (S.content source.old) places) }
+
+    ensures first { IfErr result (IsPartFault (S.failures source.old) (S.failures source.new)) }
+
+    ensures kept { S.failures source.old ≤ S.failures source.new }
+    ensures same { S.content source.new ≡ S.content source.old }
+{
+    let Some((from, to)) = places else {
+        return Ok(Vec::new(alloc));
+    };
+    let size = (to - from) as usize;
+    let Ok(mut bytes) = vec![in alloc; 0u8; size] else {
+        return Err(PartFault::NoMemory);
+    };
+    let Ok(()) = source.read_at(from, &mut bytes) else {
+        return Err(PartFault::Read);
+    };
+    Ok(bytes)
+}
