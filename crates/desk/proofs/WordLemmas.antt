@@ -15,7 +15,7 @@ use Rattle.clap.specs.declared.parser.matches.ArgMatches.{ArgMatches}
 use Rattle.clap.proofs.OnLiterals.{clap_on_literals}
 use Rattle.clap.proofs.WalkLemmas.{walk_stopped}
 use Rattle.desk.specs.Commands.{desk_app, id_of, subcommand_shape, word_rule}
-use Rattle.desk.specs.Lines.{Answers, IsPlainWord, Line, Spells, Takes, line_found, line_in, line_of, pack, ranges, subcommand_name, words_after}
+use Rattle.desk.specs.Lines.{Answers, IsPlainWord, Line, Spells, Takes, facts, line_found, line_in, line_of, list, pack, ranges, subcommand_name, words_after}
 use Rattle.desk.specs.declared.line.Words.{Words}
 use Rattle.desk.specs.declared.line.WordsFault.{WordsFault}
 use Rattle.desk.specs.declared.line.WordsFault.TheVariants.{Missing}
@@ -160,14 +160,20 @@ begins : (line : Line) → Begins (subcommand_name line) (leaf (subcommand_name 
 unfolding clap_on_literals
 begins (pack owner) = record { walks = refl; passes = refl; found = refl }
 begins (ranges file) = record { walks = refl; passes = refl; found = refl }
+begins (facts file) = record { walks = refl; passes = refl; found = refl }
+begins (list file) = record { walks = refl; passes = refl; found = refl }
 
 takes_words : (line : Line) → All IsPlainWord (words_after line) → TakesWords (subcommand_name line) (words_after line)
 takes_words (pack owner) plain = takes_one (codes "pack") owner plain
 takes_words (ranges file) plain = takes_one (codes "ranges") file plain
+takes_words (facts file) plain = takes_one (codes "facts") file plain
+takes_words (list file) plain = takes_one (codes "list") file plain
 
 reads_back : (line : Line) → line_in (subcommand_name line, rows_from 0 (words_after line)) ≡ Some line
 reads_back (pack owner) = refl
 reads_back (ranges file) = refl
+reads_back (facts file) = refl
+reads_back (list file) = refl
 
 -- ---- what `words` cites
 

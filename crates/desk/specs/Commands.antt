@@ -29,8 +29,14 @@ bare_app = on_top (λ s. record s {
   subcommand_required = true;
 }) (new_app (codes "desk"))
 
+-- with the subcommands that read one file
+abbrev pub with_readers : App → App
+with_readers app =
+    with_subcommand (with_subcommand (with_subcommand app
+    (subcommand_shape (codes "ranges") 1))
+    (subcommand_shape (codes "facts") 1))
+    (subcommand_shape (codes "list") 1)
+
 -- the program's command
 abbrev pub desk_app : App
-desk_app =
-    with_subcommand (with_subcommand bare_app (subcommand_shape (codes "pack") 1))
-    (subcommand_shape (codes "ranges") 1)
+desk_app = with_readers (with_subcommand bare_app (subcommand_shape (codes "pack") 1))

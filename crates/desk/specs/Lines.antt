@@ -14,21 +14,29 @@ use Rattle.desk.specs.declared.line.WordsFault.TheVariants.{Missing, NoMemory, R
 pub data Line : Type 0 where
   pack : Text → Line
   ranges : Text → Line
+  facts : Text → Line
+  list : Text → Line
 
 -- the name of its subcommand
 abbrev pub subcommand_name : Line → Text
 subcommand_name (pack owner) = codes "pack"
 subcommand_name (ranges file) = codes "ranges"
+subcommand_name (facts file) = codes "facts"
+subcommand_name (list file) = codes "list"
 
 -- the words after it
 abbrev pub words_after : Line → List Text
 words_after (pack owner) = owner ∷ []
 words_after (ranges file) = file ∷ []
+words_after (facts file) = file ∷ []
+words_after (list file) = file ∷ []
 
 -- what the program takes the line for
 abbrev pub line_of : Words → Line
 line_of (said.Pack owner) = pack owner.now
 line_of (said.Ranges file) = ranges file.now
+line_of (said.Facts file) = facts file.now
+line_of (said.List file) = list file.now
 
 -- what follows from the word at a place, where the rows that `clap` found have it
 abbrev pub with_word : List Row → ℕ → (Text → Option Line) → Option Line
@@ -39,6 +47,8 @@ abbrev pub line_in : Text × List Row → Option Line
 line_in (name, rows) =
     if bytes_eq name (codes "pack") then with_word rows 0 (λ owner. Some (pack owner))
     else if bytes_eq name (codes "ranges") then with_word rows 0 (λ file. Some (ranges file))
+    else if bytes_eq name (codes "facts") then with_word rows 0 (λ file. Some (facts file))
+    else if bytes_eq name (codes "list") then with_word rows 0 (λ file. Some (list file))
     else None
 
 -- a word that stands for itself: it isn't empty and doesn't begin with a hyphen (45)

@@ -2,7 +2,8 @@
 ghost use Rattle.std.specs.Prelude.{◌≡◌, ◌<◌, ◌≤◌, IfOk, false, length};
 ghost use Rattle.clap.specs.Words.{app_of, rule_of, shape_of, with_subcommand};
 ghost use Rattle.clap.specs.declared.builder.command.Command.TheViews.{out-Command};
-ghost use Rattle.desk.specs.Commands.{desk_app, id_of, ids, subcommand_shape, word_rule};
+ghost use Rattle.desk.specs.Commands.{desk_app, id_of, ids, subcommand_shape, with_readers as readers};
+ghost use Rattle.desk.specs.Commands.{word_rule};
 
 use clap::{Arg, Command};
 use std::alloc::{AllocError, Global};
@@ -72,6 +73,41 @@ fn with_one_more<'a>(
     command.subcommand(added)
 }
 
+/// The command with the subcommands that read one file.
+fn with_readers<'a>(alloc: Global, command: Command<'a>) -> Result<Command<'a>, AllocError>
+    ensures { IfOk result (λ c. app_of c ≡ readers (app_of command.entry)) }
+{
+    let image = Shown {
+        name: "FILE",
+        help: "The path of the image",
+    };
+    let lists = Shown {
+        name: "FILE",
+        help: "The path of the signature lists",
+    };
+    let command = with_one_more(
+        alloc,
+        command,
+        "ranges",
+        "Prints the ranges of an EFI image that its Authenticode digest is made of",
+        &[image],
+    )?;
+    let command = with_one_more(
+        alloc,
+        command,
+        "facts",
+        "Prints the digests, certificates and SBAT components of an EFI image",
+        &[image],
+    )?;
+    with_one_more(
+        alloc,
+        command,
+        "list",
+        "Prints the place, kind and count of each signature list in a file",
+        &[lists],
+    )
+}
+
 /// The program's command.
 pub fn desk_command<'a>(alloc: Global) -> Result<Command<'a>, AllocError>
     ensures { IfOk result (λ c. app_of c ≡ desk_app) }
@@ -79,10 +115,6 @@ pub fn desk_command<'a>(alloc: Global) -> Result<Command<'a>, AllocError>
     let owner = Shown {
         name: "OWNER",
         help: "The owner's GUID, as 8-4-4-4-12 hexadecimal digits",
-    };
-    let file = Shown {
-        name: "FILE",
-        help: "The path of the image",
     };
     let bare = Command::new(alloc, "desk")
         .version("0.1.0")
@@ -98,11 +130,5 @@ pub fn desk_command<'a>(alloc: Global) -> Result<Command<'a>, AllocError>
         "Packs the digests on standard input, one a line in hexadecimal, into a signature list",
         &[owner],
     )?;
-    with_one_more(
-        alloc,
-        command,
-        "ranges",
-        "Prints the ranges of an EFI image that its Authenticode digest is made of",
-        &[file],
-    )
+    with_readers(alloc, command)
 }

@@ -1,8 +1,9 @@
 //! What stops a subcommand.
 
 use desk_bytes::{InputFault, Refusal, WriteFailed};
+use desk_service::FactsFault;
 use pe_image::LayoutFault;
-use siglist::PackFault;
+use siglist::{ListsFault, PackFault};
 
 /// A row of the table of refusals, with its place where it has one.
 #[derive(Clone, Copy, Debug, PartialEq, Eq)]
@@ -40,6 +41,24 @@ impl From<PackFault> for Fault {
 impl From<LayoutFault> for Fault {
     fn from(fault: LayoutFault) -> Fault {
         Fault::from(fault.refusal())
+    }
+}
+
+impl From<FactsFault> for Fault {
+    fn from(fault: FactsFault) -> Fault {
+        Fault {
+            refusal: fault.refusal(),
+            place: fault.place(),
+        }
+    }
+}
+
+impl From<ListsFault> for Fault {
+    fn from(fault: ListsFault) -> Fault {
+        Fault {
+            refusal: fault.refusal(),
+            place: Some(fault.place()),
+        }
     }
 }
 

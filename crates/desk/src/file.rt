@@ -4,11 +4,11 @@ use desk_bytes::{Refusal, read_up_to};
 use std::rt::Files;
 use std::{fs, io};
 
-/// The most bytes of an image.
-const MOST_BYTES: usize = 134_217_728;
+/// The most bytes of an image, and of signature lists.
+pub const MOST_BYTES: usize = 134_217_728;
 
-/// The bytes of a file: all of them, or one more than an image may have.
-pub fn read_image<R: Files + AllocGlobal>(rt: &R, path: &str) -> Result<Vec<u8>, Fault> {
+/// The bytes of a file: all of them, or one more than it may have.
+pub fn read_file<R: Files + AllocGlobal>(rt: &R, path: &str) -> Result<Vec<u8>, Fault> {
     match fs::open(rt, path) {
         Ok(mut file) => Ok(read_up_to(rt.alloc(), &mut file, MOST_BYTES + 1)?),
         Err(error) if error.kind() == io::ErrorKind::OutOfMemory => {

@@ -8,6 +8,10 @@ pub enum Words<'a> {
     Pack { owner: &'a str },
     /// Prints the ranges of this image's file that Authenticode hashes.
     Ranges { file: &'a str },
+    /// Prints what the desk keeps of this image's file.
+    Facts { file: &'a str },
+    /// Prints the signature lists in this file.
+    List { file: &'a str },
 }
 
 /// Why no subcommand was taken.

@@ -32,6 +32,14 @@ fn line_at<'a>(name: &'a str, matches: &ArgMatches<'a>) -> Option<Words<'a>>
             let file = word_at(matches, 0)?;
             Some(Words::Ranges { file })
         }
+        "facts" => {
+            let file = word_at(matches, 0)?;
+            Some(Words::Facts { file })
+        }
+        "list" => {
+            let file = word_at(matches, 0)?;
+            Some(Words::List { file })
+        }
         _ => None,
     }
 }

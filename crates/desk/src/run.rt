@@ -1,10 +1,12 @@
 //! From what the words say to the work.
 use crate::fault::{Fault, Stop};
-use crate::file::read_image;
+use crate::file::read_file;
 use crate::line::Words;
-use crate::listing::print_ranges;
+use crate::listing::{print_facts, print_list, print_ranges};
 use crate::printing::print_fault;
 use desk_bytes::{Guid, Refusal, WriteFailed};
+use desk_service::facts;
+use desk_texts::Facts;
 use pe_image::Bytes;
 use siglist::pack;
 use std::alloc::Global;
@@ -45,11 +47,35 @@ fn run_pack(rt: &HostRuntime, owner: &str) -> Result<(), Stop> {
     Ok(())
 }
 
+/// What the desk keeps of an image.
+pub fn facts_of(alloc: Global, bytes: &[u8]) -> Result<Facts, Fault> {
+    Ok(facts(alloc, &mut Bytes(bytes))?)
+}
+
 /// Prints the ranges of an image's file.
 fn run_ranges(rt: &HostRuntime, file: &str) -> Result<(), Stop> {
-    let bytes = read_image(rt, file)?;
+    let bytes = read_file(rt, file)?;
     let mut out = buffered(rt.alloc(), rt.stdout())?;
     print_ranges(&mut Bytes(&bytes), &mut out)?;
+    flush(&mut out)?;
+    Ok(())
+}
+
+/// Prints what the desk keeps of an image's file.
+fn run_facts(rt: &HostRuntime, file: &str) -> Result<(), Stop> {
+    let bytes = read_file(rt, file)?;
+    let found = facts_of(rt.alloc(), &bytes)?;
+    let mut out = buffered(rt.alloc(), rt.stdout())?;
+    print_facts(&found, &mut out).map_err(Fault::from)?;
+    flush(&mut out)?;
+    Ok(())
+}
+
+/// Prints the signature lists in a file.
+fn run_list(rt: &HostRuntime, file: &str) -> Result<(), Stop> {
+    let bytes = read_file(rt, file)?;
+    let mut out = buffered(rt.alloc(), rt.stdout())?;
+    print_list(rt.alloc(), &bytes, &mut out)?;
     flush(&mut out)?;
     Ok(())
 }
@@ -72,6 +98,8 @@ pub fn run(rt: &HostRuntime, line: Words<'_>) -> ExitCode {
     let done = match line {
         Words::Pack { owner } => run_pack(rt, owner),
         Words::Ranges { file } => run_ranges(rt, file),
+        Words::Facts { file } => run_facts(rt, file),
+        Words::List { file } => run_list(rt, file),
     };
     match done {
         Ok(()) => ExitCode::SUCCESS,

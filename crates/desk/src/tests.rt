@@ -1,4 +1,6 @@
+mod facts;
 mod images;
+mod lists;
 
 use crate::line::{Words, WordsFault};
 use crate::printing::print_fault;
@@ -22,6 +24,8 @@ fn takes_a_subcommand_with_its_words(rt: HostRuntime) {
     for (line, want) in [
         ("pack 0011", Words::Pack { owner: "0011" }),
         ("ranges a/b.efi", Words::Ranges { file: "a/b.efi" }),
+        ("facts a/b.efi", Words::Facts { file: "a/b.efi" }),
+        ("list a/b.esl", Words::List { file: "a/b.esl" }),
     ] {
         let all = given(rt.alloc(), line).expect(&rt, "memory for the words");
         match words(rt.alloc(), all.as_slice()) {
@@ -40,6 +44,8 @@ fn answers_help_and_version_on_standard_output(rt: HostRuntime) {
         ("help pack", "Usage: desk pack <OWNER>"),
         ("pack --help", "Usage: desk pack <OWNER>"),
         ("help ranges", "Usage: desk ranges <FILE>"),
+        ("help facts", "Usage: desk facts <FILE>"),
+        ("help list", "Usage: desk list <FILE>"),
         ("--version", "desk 0.1.0"),
         ("-V", "desk 0.1.0"),
         ("pack --version", "0.1.0"),
@@ -71,6 +77,10 @@ fn refuses_other_words_on_standard_error(rt: HostRuntime) {
         "pack -x",
         "ranges",
         "ranges x y",
+        "facts",
+        "facts x y",
+        "list",
+        "list x y",
         "pack --owner=x",
         "help x",
     ] {

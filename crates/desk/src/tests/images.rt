@@ -12,10 +12,10 @@ use std::io::Write;
 use std::test::Fail;
 
 /// Bytes that stand at a place.
-type Patch<'a> = (usize, &'a [u8]);
+pub type Patch<'a> = (usize, &'a [u8]);
 
 /// The headers of an EFI application with its optional header at 88 and SizeOfHeaders 512.
-const HEADERS: [Patch<'static>; 7] = [
+pub const HEADERS: [Patch<'static>; 7] = [
     (0, b"MZ"),
     (60, b"\x40\0\0\0"),
     (64, b"PE\0\0"),
@@ -26,7 +26,7 @@ const HEADERS: [Patch<'static>; 7] = [
 ];
 
 /// A PE32+ optional header with 16 directories, and one section of 512 bytes at 512.
-const PE32_PLUS: [Patch<'static>; 6] = [
+pub const PE32_PLUS: [Patch<'static>; 6] = [
     (84, b"\xf0\0"),
     (88, b"\x0b\x02"),
     (196, b"\x10\0\0\0"),
@@ -36,7 +36,7 @@ const PE32_PLUS: [Patch<'static>; 6] = [
 ];
 
 /// The same as PE32.
-const PE32: [Patch<'static>; 6] = [
+pub const PE32: [Patch<'static>; 6] = [
     (84, b"\xe0\0"),
     (88, b"\x0b\x01"),
     (180, b"\x10\0\0\0"),
@@ -46,7 +46,7 @@ const PE32: [Patch<'static>; 6] = [
 ];
 
 /// So many zero bytes with these in their places.
-fn image(alloc: Global, len: usize, patches: &[&[Patch]]) -> Result<Vec<u8>, AllocError> {
+pub fn image(alloc: Global, len: usize, patches: &[&[Patch]]) -> Result<Vec<u8>, AllocError> {
     let mut bytes = vec![in alloc; 0; len]?;
     for some in patches {
         for (place, patch) in some.iter() {
@@ -211,9 +211,9 @@ fn tells_that_an_image_could_not_be_read(rt: HostRuntime) {
 
 /// Takes one write after another, and fails at the given one.
 #[derive(Drop)]
-struct Stopping {
-    taken: Vec<u8>,
-    left: u64,
+pub struct Stopping {
+    pub taken: Vec<u8>,
+    pub left: u64,
 }
 
 impl Write for Stopping {
