@@ -1,7 +1,8 @@
 #!/bin/sh
-# Refuses each allocation of the proved program in turn, on `desk pack OWNER` with the lines in crates/desk/stdin.
-# Each such run has to end with status 3, the line `device 40 NoMemory` and nothing written; the first run that meets
-# no refusal has to write the list. Not part of the gate: it needs a C compiler, for a malloc that refuses.
+# Refuses each allocation of the proved program in turn: on `desk pack OWNER` with the lines in crates/desk/stdin, and
+# on `desk facts` with examples/signed.efi, an image with a certificate and two SBAT components. Each such run has to
+# end with status 3, the line `device 40 NoMemory` and nothing written; the first run that meets no refusal has to
+# write what it writes with ample memory. Not part of the gate: it needs a C compiler, for a malloc that refuses.
 set -eu
 root=$(CDPATH='' cd -- "$(dirname -- "$(readlink -f -- "$0")")/.." && pwd -P)
 "$root/desk" --version > /dev/null
@@ -52,21 +53,30 @@ int posix_memalign(void **at, size_t alignment, size_t size) {
 C
 cc -shared -fPIC -O1 -o "$room/refuse.so" "$room/refuse.c" -ldl
 
-n=1
-while [ "$n" -le 10000 ]; do
-    status=0
-    REFUSE=$n LD_PRELOAD=$room/refuse.so "$program" pack 00112233-4455-6677-8899-aabbccddeeff \
-        < "$root/crates/desk/stdin" > "$room/out" 2> "$room/err" || status=$?
-    if [ "$status" -eq 0 ] && cmp -s "$room/out" "$root/crates/desk/stdout"; then
-        echo "$((n - 1)) allocations refused in turn, nothing written; with none refused the list is written"
-        exit 0
-    fi
-    if [ "$status" -ne 3 ] || [ -s "$room/out" ] || ! grep -qx 'device 40 NoMemory' "$room/err"; then
-        echo "allocation $n refused: status $status, $(wc -c < "$room/out") bytes written; standard error:" >&2
-        cat "$room/err" >&2
-        exit 1
-    fi
-    n=$((n + 1))
-done
-echo "no run was free of refusals" >&2
-exit 1
+# refuse NAME WANTED INPUT WORD..: runs the program on the words with each allocation refused in turn.
+refuse() {
+    name=$1 wanted=$2 input=$3
+    shift 3
+    n=1
+    while [ "$n" -le 10000 ]; do
+        status=0
+        REFUSE=$n LD_PRELOAD=$room/refuse.so "$program" "$@" \
+            < "$input" > "$room/out" 2> "$room/err" || status=$?
+        if [ "$status" -eq 0 ] && cmp -s "$room/out" "$wanted"; then
+            echo "$name: $((n - 1)) allocations refused in turn, nothing written; with none refused all is"
+            return 0
+        fi
+        if [ "$status" -ne 3 ] || [ -s "$room/out" ] || ! grep -qx 'device 40 NoMemory' "$room/err"; then
+            echo "$name: allocation $n refused: status $status, $(wc -c < "$room/out") bytes written; standard error:" >&2
+            cat "$room/err" >&2
+            return 1
+        fi
+        n=$((n + 1))
+    done
+    echo "$name: no run was free of refusals" >&2
+    return 1
+}
+
+refuse pack "$root/crates/desk/stdout" "$root/crates/desk/stdin" pack 00112233-4455-6677-8899-aabbccddeeff
+"$program" facts "$root/examples/signed.efi" > "$room/facts"
+refuse facts "$room/facts" /dev/null facts "$root/examples/signed.efi"
