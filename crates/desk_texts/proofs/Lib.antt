@@ -1,0 +1,9 @@
+pub mod FieldLemmas
+pub mod FormLemmas
+pub mod ItemLemmas
+pub mod NumberLemmas
+pub mod PartLemmas
+pub mod ReadingLemmas
+pub mod ReplyLemmas
+pub mod ValueLemmas
+pub mod WordLemmas

@@ -5,6 +5,7 @@ ghost use Rattle.desk_texts.specs.Carrying.{HasMore};
 ghost use Rattle.desk_texts.specs.declared.carried.TheConstants.{MOST_CARRIED};
 
 use desk_bytes::{Digest, arrange};
+use std::alloc::AllocError;
 use std::marker::Model;
 
 /// The most certificates that an image carries.
@@ -55,5 +56,15 @@ impl Carried {
         ensures { result.now ≡ self.now }
     {
         &self.digests
+    }
+}
+
+impl Clone for Carried {
+    ghost is_clone = { λ carried copy. copy ≡ carried };
+
+    /// A copy. Takes memory for its digests.
+    fn clone(&self) -> Result<Carried, AllocError> {
+        let digests = self.digests.clone()?;
+        Ok(Carried { digests })
     }
 }

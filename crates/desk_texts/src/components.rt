@@ -2,7 +2,9 @@
 ghost use Rattle.std.specs.Prelude.{◌≡◌, ◌<◌, ◌≤◌, List, length, MatchOption};
 ghost use Rattle.desk_texts.specs.declared.components.TheConstants.{MOST_COMPONENTS};
 
+use crate::copying::copies;
 use sbat::Component;
+use std::alloc::AllocError;
 use std::marker::Model;
 
 /// The most components of an image.
@@ -17,8 +19,8 @@ pub struct Components {
 
 impl Model for Components {
     ghost use Rattle.std.specs.Prelude.{◌≤◌, List, length};
-    ghost use Rattle.sbat.specs.declared.component.Component.{Component};
     ghost use Rattle.desk_texts.specs.declared.components.TheConstants.{MOST_COMPONENTS};
+    ghost use Rattle.sbat.specs.declared.component.Component.{Component};
 
     ghost Value = { List Component };
 
@@ -44,5 +46,15 @@ impl Components {
         ensures { result.now ≡ self.now }
     {
         &self.items
+    }
+}
+
+impl Clone for Components {
+    ghost is_clone = { λ components copy. copy ≡ components };
+
+    /// A copy. Takes memory for its components.
+    fn clone(&self) -> Result<Components, AllocError> {
+        let items = copies(*self.items.allocator(), &self.items)?;
+        Ok(Components { items })
     }
 }

@@ -1,8 +1,11 @@
 //! What the desk keeps of an image.
+ghost use Rattle.std.specs.Prelude.{◌≡◌};
+
 use crate::carried::Carried;
 use crate::components::Components;
 use crate::extent::Extent;
 use desk_bytes::Digest;
+use std::alloc::AllocError;
 
 /// What the desk keeps of an image: how long its file is, the SHA-256 of the file, its Authenticode digest
 /// and the digest that a signature of it holds, the certificates that it carries and its SBAT components.
@@ -14,4 +17,22 @@ pub struct Facts {
     pub signing: Digest,
     pub carried: Carried,
     pub components: Components,
+}
+
+impl Clone for Facts {
+    ghost is_clone = { λ facts copy. copy ≡ facts };
+
+    /// A copy. Takes memory for its certificates and components.
+    fn clone(&self) -> Result<Facts, AllocError> {
+        let carried = self.carried.clone()?;
+        let components = self.components.clone()?;
+        Ok(Facts {
+            extent: self.extent,
+            file: self.file,
+            digest: self.digest,
+            signing: self.signing,
+            carried,
+            components,
+        })
+    }
 }

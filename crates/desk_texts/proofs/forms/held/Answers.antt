@@ -1,0 +1,6 @@
+use Rattle.std.proofs.lemmas.Str.{IsUtf8-from_ascii}
+use Rattle.desk_texts.proofs.FormLemmas.{printable-ascii}
+use Rattle.desk_texts.proofs.forms.held.Goals as goal
+
+pub unreachable-requires : goal.unreachable-requires
+unreachable-requires c = c.in-Err.ensures.cases.0 (IsUtf8-from_ascii c.args.text.now (printable-ascii c.args.text.now c.requires))

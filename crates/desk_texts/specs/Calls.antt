@@ -1,0 +1,39 @@
+-- Calls, and lists of what they name.
+use Rattle.std.specs.Prelude.{◌≡◌, ℕ, Bool, true, false, not, ◌&&◌, if◌then◌else◌, List, [], ◌∷◌, ◌++◌, bytes_eq}
+use Rattle.std.specs.List.{list_any}
+use Rattle.desk_texts.specs.Callers.{caller_name}
+use Rattle.desk_texts.specs.declared.command.Call.{Call}
+use Rattle.desk_texts.specs.declared.kind.ListedKind.{ListedKind}
+use Rattle.desk_texts.specs.declared.kind.ListedKind.TheVariants as kinds
+
+-- The calls that were accepted, the newest first.
+abbrev pub History : Type 0
+History = List Call
+
+-- the later history goes on from the earlier, which is its beginning
+abbrev pub GoesOnFrom : History → History → Type 0
+GoesOnFrom earlier later = (new : List Call) × (later ≡ new ++ earlier)
+
+-- own: keys are each caller's own, so calls repeat one another only where both the caller and the key are the same
+abbrev pub has_same_key : Call → Call → Bool
+has_same_key a b = bytes_eq (caller_name a.caller) (caller_name b.caller) && bytes_eq a.key b.key
+
+-- digests of images and digests of certificates are apart
+abbrev pub is_same_kind : ListedKind → ListedKind → Bool
+is_same_kind kinds.Digest kinds.Digest = true
+is_same_kind kinds.Certificate kinds.Certificate = true
+is_same_kind _ _ = false
+
+-- the text is one of these
+abbrev pub is_among : List (List ℕ) → List ℕ → Bool
+is_among texts text = list_any (bytes_eq text) texts
+
+-- each text once
+abbrev pub once : List (List ℕ) → List (List ℕ)
+once [] = []
+once (t ∷ ts) = if is_among ts t then once ts else t ∷ once ts
+
+-- no two items are the same by the test
+abbrev pub are_apart : {X : Type 0} → (X → X → Bool) → List X → Bool
+are_apart same [] = true
+are_apart same (x ∷ xs) = not (list_any (same x) xs) && are_apart same xs

@@ -1,0 +1,74 @@
+-- What the canonical texts need of the values of commands and replies; their constructors test it, and more.
+use Rattle.std.specs.Prelude.{◌≡◌, ℕ, ◌<◌, ◌^◌, List, Option, Some, None, All, true, length}
+use Rattle.hex.specs.Hex.{IsBytes}
+use Rattle.sbat.specs.declared.component.Component.{Component}
+use Rattle.sbat.specs.Fields.{is_generation, is_name, is_stamp}
+use Rattle.desk_texts.specs.Forms.{is_note, is_person_name, is_request_number, is_title}
+use Rattle.desk_texts.specs.Imports.{Imported}
+use Rattle.desk_texts.specs.declared.facts.Facts.{Facts}
+use Rattle.desk_texts.specs.declared.command.Command.{Command}
+use Rattle.desk_texts.specs.declared.command.Command.TheVariants.{AddPerson, Submit, Review, Withdraw, Return, ListCertificate, ListDigest, Unlist, RevokeDigest, RevokeCertificate, RaiseLevel, ImportRevocations}
+use Rattle.desk_texts.specs.declared.reply.Reply.{Reply}
+use Rattle.desk_texts.specs.declared.reply.Reply.TheVariants.{Added, Submitted, Reviewed, Withdrawn, Returned, Listed, Unlisted, Revoked, Raised, Imported as Counted}
+
+-- 32 bytes
+pub record IsDigest (digest : List ℕ) : Type 0 where
+  pub size : length digest ≡ 32
+  pub bytes : IsBytes digest
+
+-- a component with a name and a generation
+pub record IsComponent (component : Component) : Type 0 where
+  pub name : is_name component.name ≡ true
+  pub generation : is_generation component.generation ≡ true
+
+-- the numbers of a program, below 2^64
+abbrev pub IsCount : ℕ → Type 0
+IsCount number = number < 2 ^ 64
+
+-- numbers of a program, three digests, and lists of digests and components
+pub record IsFacts (facts : Facts) : Type 0 where
+  pub length : IsCount facts.extent.length
+  pub gap : IsCount facts.extent.gap
+  pub file : IsDigest facts.file
+  pub digest : IsDigest facts.digest
+  pub signing : IsDigest facts.signing
+  pub carried : All IsDigest facts.carried
+  pub components : All IsComponent facts.components
+
+-- a stamp, or none
+abbrev pub IsStamp : Option ℕ → Type 0
+IsStamp None = Unit {0}
+IsStamp (Some stamp) = is_stamp stamp ≡ true
+
+-- a stamp or none, a number, and lists of digests and components
+pub record IsImport (named : Imported) : Type 0 where
+  pub stamp : IsStamp named.stamp
+  pub passed : IsCount named.passed
+  pub digests : All IsDigest named.digests
+  pub certificates : All IsDigest named.certificates
+  pub components : All IsComponent named.components
+
+-- the values of the command are in the forms that their texts need
+abbrev pub IsCommand : Command → Type 0
+IsCommand (AddPerson p) = (is_person_name p.name ≡ true) × IsDigest p.token
+IsCommand (Submit s) = (is_title s.title ≡ true) × IsFacts s.facts
+IsCommand (Review b) = (is_request_number b.request ≡ true) × (is_note b.note ≡ true)
+IsCommand (Withdraw request) = is_request_number request ≡ true
+IsCommand (Return h) = (is_request_number h.request ≡ true) × IsFacts h.facts
+IsCommand (ListCertificate c) = IsDigest c.tbs × IsBytes c.body
+IsCommand (ListDigest digest) = IsDigest digest
+IsCommand (Unlist l) = IsDigest l.digest
+IsCommand (RevokeDigest digest) = IsDigest digest
+IsCommand (RevokeCertificate digest) = IsDigest digest
+IsCommand (RaiseLevel r) = IsComponent r.component × (is_stamp r.stamp ≡ true)
+IsCommand (ImportRevocations i) = IsImport i
+
+-- the values of the reply are in the forms that their texts need
+abbrev pub IsReply : Reply → Type 0
+IsReply (Added name) = is_person_name name ≡ true
+IsReply (Submitted request) = is_request_number request ≡ true
+IsReply (Reviewed o) = is_request_number o.request ≡ true
+IsReply (Withdrawn request) = is_request_number request ≡ true
+IsReply (Returned request) = is_request_number request ≡ true
+IsReply (Counted c) = IsCount c.digests × IsCount c.certificates × IsCount c.components × IsCount c.passed
+IsReply _ = Unit {0}

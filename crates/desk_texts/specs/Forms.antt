@@ -1,0 +1,42 @@
+-- The forms of the desk's texts: own: names, keys, titles and notes; and of request numbers.
+use Rattle.std.specs.Prelude.{ℕ, Bool, ◌&&◌, ◌||◌, ◌==◌, nat_lt, nat_le, length, slice_index, not, List}
+use Rattle.std.specs.Char.{is_ascii_digit, is_ascii_lowercase}
+use Rattle.std.specs.List.{list_all}
+
+-- whether the byte stands from low to high, both included
+abbrev pub is_between : ℕ → ℕ → ℕ → Bool
+is_between low high byte = nat_le low byte && nat_le byte high
+
+-- a to z, 0 to 9 or a hyphen
+abbrev pub is_name_byte : ℕ → Bool
+is_name_byte byte = is_ascii_lowercase byte || is_ascii_digit byte || (byte == 45)
+
+-- own: a person's name is 1 to 32 letters in lower case, digits and hyphens, the first a letter
+abbrev pub is_person_name : List ℕ → Bool
+is_person_name text =
+    nat_le 1 (length text) && nat_le (length text) 32 && is_ascii_lowercase (slice_index text 0) && list_all is_name_byte text
+
+-- own: a key is 1 to 64 visible characters of ASCII
+abbrev pub is_key : List ℕ → Bool
+is_key text = nat_le 1 (length text) && nat_le (length text) 64 && list_all (is_between 33 126) text
+
+-- own: a title is 1 to 120 characters of ASCII, visible or spaces
+abbrev pub is_title : List ℕ → Bool
+is_title text = nat_le 1 (length text) && nat_le (length text) 120 && list_all (is_between 32 126) text
+
+-- own: a note is at most 200 characters of ASCII, visible or spaces
+abbrev pub is_note : List ℕ → Bool
+is_note text = nat_le (length text) 200 && list_all (is_between 32 126) text
+
+-- own: request numbers are 1 to 999,999
+abbrev pub is_request_number : ℕ → Bool
+is_request_number number = is_between 1 999999 number
+
+-- the decimal text of a number of 1 to 6 digits, without leading zeros
+abbrev pub is_decimal : List ℕ → Bool
+is_decimal text =
+    nat_le 1 (length text) && nat_le (length text) 6 && not (slice_index text 0 == 48) && list_all is_ascii_digit text
+
+-- own: one import has at most 10,000 entries
+abbrev pub most_imported : ℕ
+most_imported = 10000

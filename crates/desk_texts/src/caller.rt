@@ -1,0 +1,37 @@
+//! Who calls.
+ghost use Rattle.std.specs.Prelude.{◌≡◌};
+ghost use Rattle.desk_texts.specs.Callers.{caller_name};
+
+use crate::PersonName;
+use std::alloc::AllocError;
+
+/// Who calls: the command line of the desk's own machine, or a person.
+#[derive(Debug, Drop)]
+pub enum Caller {
+    Console,
+    Person(PersonName),
+}
+
+impl Caller {
+    /// The name under which the minutes hold it: `console`, or the person's name.
+    pub fn name(&self) -> &str
+        ensures { result.now ≡ caller_name self.now }
+    {
+        match self {
+            Caller::Console => "console",
+            Caller::Person(name) => name.as_str(),
+        }
+    }
+}
+
+impl Clone for Caller {
+    ghost is_clone = { λ caller copy. copy ≡ caller };
+
+    /// A copy. Takes memory for the name.
+    fn clone(&self) -> Result<Caller, AllocError> {
+        match self {
+            Caller::Console => Ok(Caller::Console),
+            Caller::Person(name) => Ok(Caller::Person(name.clone()?)),
+        }
+    }
+}

@@ -1,0 +1,79 @@
+//! Calls of the desk and their commands.
+ghost use Rattle.std.specs.Prelude.{◌≡◌};
+
+use crate::{
+    Caller, Certificate, Facts, Import, Key, ListedKind, Note, PersonName, RequestNumber, Role,
+    Title, Vote,
+};
+use desk_bytes::Digest;
+use sbat::{Component, Stamp};
+use std::alloc::AllocError;
+
+/// A person, with the SHA-256 of the bytes of the person's token.
+#[derive(Debug, Drop)]
+pub struct Person {
+    pub name: PersonName,
+    pub role: Role,
+    pub token: Digest,
+}
+
+/// A request to sign the image of these facts.
+#[derive(Debug, Drop)]
+pub struct Submission {
+    pub title: Title,
+    pub facts: Facts,
+}
+
+/// A reviewer's vote on a request.
+#[derive(Debug, Drop)]
+pub struct Ballot {
+    pub request: RequestNumber,
+    pub vote: Vote,
+    pub note: Note,
+}
+
+/// The signed file of a request, by its facts.
+#[derive(Debug, Drop)]
+pub struct Handback {
+    pub request: RequestNumber,
+    pub facts: Facts,
+}
+
+/// An entry of the list of allowed images: an image's digest, or the SHA-256 of a certificate's TBSCertificate.
+#[derive(Clone, Copy, Debug, PartialEq, Eq)]
+pub struct Listing {
+    pub kind: ListedKind,
+    pub digest: Digest,
+}
+
+/// A generation that a component has to have, and the stamp of the level that asks for it.
+#[derive(Debug, Drop)]
+pub struct Raise {
+    pub component: Component,
+    pub stamp: Stamp,
+}
+
+/// What a caller asks the desk for.
+#[derive(Debug, Drop)]
+pub enum Command {
+    AddPerson(Person),
+    Submit(Submission),
+    Review(Ballot),
+    Withdraw(RequestNumber),
+    Return(Handback),
+    ListCertificate(Certificate),
+    ListDigest(Digest),
+    Unlist(Listing),
+    RevokeDigest(Digest),
+    RevokeCertificate(Digest),
+    RaiseLevel(Raise),
+    ImportRevocations(Import),
+}
+
+/// A command, who gives it, and the key under which the caller gives it.
+#[derive(Debug, Drop)]
+pub struct Call {
+    pub caller: Caller,
+    pub key: Key,
+    pub command: Command,
+}

@@ -1,0 +1,134 @@
+//! Copies of commands and of what they are made of.
+ghost use Rattle.std.specs.Prelude.{◌≡◌, IfOk};
+
+use crate::{Ballot, Call, Command, Handback, Person, Raise, Reply, Submission};
+use sbat::Component;
+use std::alloc::{AllocError, Global};
+
+/// Copies of components. Takes memory for them.
+pub(crate) fn copies(alloc: Global, components: &[Component]) -> Result<Vec<Component>, AllocError>
+    ensures { IfOk result (λ copied. copied.items ≡ components.now) }
+{
+    let mut copied = Vec::with_capacity(alloc, components.len())?;
+    for component in components {
+        copied.push(component.clone()?)?;
+    }
+    Ok(copied)
+}
+
+impl Clone for Person {
+    ghost is_clone = { λ person copy. copy ≡ person };
+
+    fn clone(&self) -> Result<Person, AllocError> {
+        let name = self.name.clone()?;
+        Ok(Person {
+            name,
+            role: self.role,
+            token: self.token,
+        })
+    }
+}
+
+impl Clone for Submission {
+    ghost is_clone = { λ submission copy. copy ≡ submission };
+
+    fn clone(&self) -> Result<Submission, AllocError> {
+        let title = self.title.clone()?;
+        let facts = self.facts.clone()?;
+        Ok(Submission { title, facts })
+    }
+}
+
+impl Clone for Ballot {
+    ghost is_clone = { λ ballot copy. copy ≡ ballot };
+
+    fn clone(&self) -> Result<Ballot, AllocError> {
+        let note = self.note.clone()?;
+        Ok(Ballot {
+            request: self.request,
+            vote: self.vote,
+            note,
+        })
+    }
+}
+
+impl Clone for Handback {
+    ghost is_clone = { λ handback copy. copy ≡ handback };
+
+    fn clone(&self) -> Result<Handback, AllocError> {
+        let facts = self.facts.clone()?;
+        Ok(Handback {
+            request: self.request,
+            facts,
+        })
+    }
+}
+
+impl Clone for Raise {
+    ghost is_clone = { λ raise copy. copy ≡ raise };
+
+    fn clone(&self) -> Result<Raise, AllocError> {
+        let component = self.component.clone()?;
+        Ok(Raise {
+            component,
+            stamp: self.stamp,
+        })
+    }
+}
+
+impl Clone for Command {
+    ghost is_clone = { λ command copy. copy ≡ command };
+
+    fn clone(&self) -> Result<Command, AllocError> {
+        match self {
+            Command::AddPerson(person) => Ok(Command::AddPerson(person.clone()?)),
+            Command::Submit(submission) => Ok(Command::Submit(submission.clone()?)),
+            Command::Review(ballot) => Ok(Command::Review(ballot.clone()?)),
+            Command::Withdraw(request) => Ok(Command::Withdraw(*request)),
+            Command::Return(handback) => Ok(Command::Return(handback.clone()?)),
+            Command::ListCertificate(certificate) => {
+                Ok(Command::ListCertificate(certificate.clone()?))
+            }
+            Command::ListDigest(digest) => Ok(Command::ListDigest(*digest)),
+            Command::Unlist(listing) => Ok(Command::Unlist(*listing)),
+            Command::RevokeDigest(digest) => Ok(Command::RevokeDigest(*digest)),
+            Command::RevokeCertificate(digest) => Ok(Command::RevokeCertificate(*digest)),
+            Command::RaiseLevel(raise) => Ok(Command::RaiseLevel(raise.clone()?)),
+            Command::ImportRevocations(import) => Ok(Command::ImportRevocations(import.clone()?)),
+        }
+    }
+}
+
+impl Clone for Call {
+    ghost is_clone = { λ call copy. copy ≡ call };
+
+    fn clone(&self) -> Result<Call, AllocError> {
+        let caller = self.caller.clone()?;
+        let key = self.key.clone()?;
+        let command = self.command.clone()?;
+        Ok(Call {
+            caller,
+            key,
+            command,
+        })
+    }
+}
+
+impl Clone for Reply {
+    ghost is_clone = { λ reply copy. copy ≡ reply };
+
+    fn clone(&self) -> Result<Reply, AllocError> {
+        match self {
+            Reply::Added(name) => Ok(Reply::Added(name.clone()?)),
+            Reply::Submitted(request) => Ok(Reply::Submitted(*request)),
+            Reply::Reviewed(outcome) => Ok(Reply::Reviewed(*outcome)),
+            Reply::Withdrawn(request) => Ok(Reply::Withdrawn(*request)),
+            Reply::Returned(request) => Ok(Reply::Returned(*request)),
+            Reply::Listed => Ok(Reply::Listed),
+            Reply::Unlisted => Ok(Reply::Unlisted),
+            Reply::Revoked => Ok(Reply::Revoked),
+            Reply::Raised => Ok(Reply::Raised),
+            Reply::Imported(counts) => Ok(Reply::Imported(*counts)),
+        }
+    }
+}

@@ -1,0 +1,136 @@
+//! That what a program holds is in its form.
+ghost use Rattle.std.specs.Prelude.{All};
+ghost use Rattle.hex.specs.Hex.{IsBytes};
+ghost use Rattle.desk_texts.specs.Commands.{IsCommand, IsComponent, IsCount, IsDigest, IsFacts, IsImport, IsReply};
+
+use crate::{Command, Facts, Import, Reply};
+use desk_bytes::Digest;
+use sbat::Component;
+
+fn show_count(number: u64)
+    ensures { IsCount number }
+{}
+
+fn show_bytes(bytes: &[u8])
+    ensures { IsBytes bytes.now }
+{}
+
+fn show_digest(digest: &Digest)
+    ensures { IsDigest digest.now }
+{
+    show_bytes(digest.as_bytes());
+}
+
+fn show_digests(digests: &[Digest])
+    ensures { All IsDigest digests.now }
+{
+    for digest in digests {
+        show_digest(digest);
+    }
+}
+
+fn show_component(component: &Component)
+    ensures { IsComponent component.now }
+{
+    let _name = component.name.as_str();
+    let _generation = component.generation.value();
+}
+
+fn show_components(components: &[Component])
+    ensures { All IsComponent components.now }
+{
+    for component in components {
+        show_component(component);
+    }
+}
+
+fn show_facts(facts: &Facts)
+    ensures { IsFacts facts.now }
+{
+    let _length = facts.extent.length();
+    let _gap = facts.extent.gap();
+    show_digest(&facts.file);
+    show_digest(&facts.digest);
+    show_digest(&facts.signing);
+    show_digests(facts.carried.as_slice());
+    show_components(facts.components.as_slice());
+}
+
+fn show_import(import: &Import)
+    ensures { IsImport import.now }
+{
+    let _passed = import.passed();
+    if let Some(stamp) = import.stamp() {
+        let _stamp = stamp.value();
+    }
+    show_digests(import.digests().as_slice());
+    show_digests(import.certificates().as_slice());
+    show_components(import.components().as_slice());
+}
+
+/// Changes nothing, and tells that each command that a program holds is in its form: the premise of
+/// `command_texts_differ`.
+pub fn commands_are_formed(command: &Command)
+    ensures { IsCommand command.now }
+{
+    match command {
+        Command::AddPerson(person) => {
+            let _name = person.name.as_str();
+            show_digest(&person.token);
+        }
+        Command::Submit(submission) => {
+            let _title = submission.title.as_str();
+            show_facts(&submission.facts);
+        }
+        Command::Review(ballot) => {
+            let _request = ballot.request.value();
+            let _note = ballot.note.as_str();
+        }
+        Command::Withdraw(request) => {
+            let _request = request.value();
+        }
+        Command::Return(handback) => {
+            let _request = handback.request.value();
+            show_facts(&handback.facts);
+        }
+        Command::ListCertificate(certificate) => {
+            let tbs = certificate.tbs();
+            show_digest(&tbs);
+            show_bytes(certificate.body());
+        }
+        Command::ListDigest(digest) => show_digest(digest),
+        Command::Unlist(listing) => show_digest(&listing.digest),
+        Command::RevokeDigest(digest) => show_digest(digest),
+        Command::RevokeCertificate(digest) => show_digest(digest),
+        Command::RaiseLevel(raise) => {
+            show_component(&raise.component);
+            let _stamp = raise.stamp.value();
+        }
+        Command::ImportRevocations(import) => show_import(import),
+    }
+}
+
+/// Changes nothing, and tells that each reply that a program holds is in its form: the premise of
+/// `reply_texts_differ`.
+pub fn replies_are_formed(reply: &Reply)
+    ensures { IsReply reply.now }
+{
+    match reply {
+        Reply::Added(name) => {
+            let _name = name.as_str();
+        }
+        Reply::Submitted(request) | Reply::Withdrawn(request) | Reply::Returned(request) => {
+            let _request = request.value();
+        }
+        Reply::Reviewed(outcome) => {
+            let _request = outcome.request.value();
+        }
+        Reply::Listed | Reply::Unlisted | Reply::Revoked | Reply::Raised => {}
+        Reply::Imported(counts) => {
+            show_count(counts.digests);
+            show_count(counts.certificates);
+            show_count(counts.components);
+            show_count(counts.passed);
+        }
+    }
+}

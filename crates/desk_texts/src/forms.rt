@@ -1,0 +1,99 @@
+//! The forms of the desk's texts.
+ghost use Rattle.std.specs.Prelude.{◌≡◌, ◌≤◌, MatchResult, length, string_bytes, true};
+ghost use Rattle.std.specs.Char.{is_ascii_digit};
+ghost use Rattle.std.specs.List.{list_all};
+ghost use Rattle.desk_texts.specs.Forms as spec;
+
+use crate::TextFault;
+use std::alloc::Global;
+use std::str;
+
+/// Whether each byte stands from `low` to `high`, both included.
+fn are_between(text: &[u8], low: u8, high: u8) -> bool
+    ensures { result ≡ list_all (spec.is_between low high) text.now }
+{
+    text.iter().all(|byte| low <= *byte && *byte <= high)
+}
+
+/// Whether the byte may stand in a person's name.
+fn is_name_byte(byte: u8) -> bool
+    ensures { result ≡ spec.is_name_byte byte }
+{
+    byte.is_ascii_lowercase() || byte.is_ascii_digit() || byte == b'-'
+}
+
+/// Whether each byte may stand in a person's name.
+fn are_name_bytes(text: &[u8]) -> bool
+    ensures { result ≡ list_all spec.is_name_byte text.now }
+{
+    text.iter().all(|byte| is_name_byte(*byte))
+}
+
+/// Whether each byte is a decimal digit.
+fn are_digits(text: &[u8]) -> bool
+    ensures { result ≡ list_all is_ascii_digit text.now }
+{
+    text.iter().all(|byte| byte.is_ascii_digit())
+}
+
+/// Whether the text is a person's name.
+pub(crate) fn is_person_name(text: &[u8]) -> bool
+    ensures { result ≡ spec.is_person_name text.now }
+{
+    if text.is_empty() || 32 < text.len() || !text[0].is_ascii_lowercase() {
+        return false;
+    }
+    are_name_bytes(text)
+}
+
+/// Whether the text is a key.
+pub(crate) fn is_key(text: &[u8]) -> bool
+    ensures { result ≡ spec.is_key text.now }
+{
+    if text.is_empty() || 64 < text.len() {
+        return false;
+    }
+    are_between(text, 0x21, 0x7E)
+}
+
+/// Whether the text is a title.
+pub(crate) fn is_title(text: &[u8]) -> bool
+    ensures { result ≡ spec.is_title text.now }
+{
+    if text.is_empty() || 120 < text.len() {
+        return false;
+    }
+    are_between(text, 0x20, 0x7E)
+}
+
+/// Whether the text is a note.
+pub(crate) fn is_note(text: &[u8]) -> bool
+    ensures { result ≡ spec.is_note text.now }
+{
+    if 200 < text.len() {
+        return false;
+    }
+    are_between(text, 0x20, 0x7E)
+}
+
+/// Whether the text is the decimal text of a number of 1 to 6 digits.
+pub(crate) fn is_decimal(text: &[u8]) -> bool
+    ensures { result ≡ spec.is_decimal text.now }
+{
+    if text.is_empty() || 6 < text.len() || text[0] == b'0' {
+        return false;
+    }
+    are_digits(text)
+}
+
+/// The text, held. Takes memory for it.
+pub(crate) fn held(alloc: Global, text: &[u8]) -> Result<String, TextFault>
+    requires { list_all (spec.is_between 32 126) text.now ≡ true }
+    ensures { MatchResult result (λ held. string_bytes held ≡ text.now)
+        (λ fault. fault ≡ TextFault.NoMemory) }
+{
+    match str::from_utf8(text) {
+        Ok(text) => String::from_str(alloc, text).map_err(|_| TextFault::NoMemory),
+        Err(_) => unreachable!(),
+    }
+}

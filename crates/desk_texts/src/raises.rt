@@ -1,0 +1,84 @@
+//! The components that an import names.
+ghost use Rattle.std.specs.Prelude.{◌≡◌, ◌<◌, ◌≤◌, ◌⊎◌, ℕ, List, MatchOption, false, length, true};
+ghost use Rattle.desk_texts.specs.Forms.{most_imported};
+ghost use Rattle.desk_texts.specs.Raising.{names_no_sbat};
+
+use crate::copying::copies;
+use crate::import::MOST_IMPORTED;
+use sbat::Component;
+use std::alloc::AllocError;
+use std::marker::Model;
+
+/// Components in the order of an import, repeats kept, at most `MOST_IMPORTED`, none of them named `sbat`. A
+/// contract sees the list of them.
+#[derive(Debug, Drop)]
+pub struct Raises {
+    components: Vec<Component>,
+}
+
+impl Model for Raises {
+    ghost use Rattle.std.specs.Prelude.{◌≡◌, ◌≤◌, List, length, true};
+    ghost use Rattle.sbat.specs.declared.component.Component.{Component};
+    ghost use Rattle.desk_texts.specs.Forms.{most_imported};
+    ghost use Rattle.desk_texts.specs.Raising.{names_no_sbat};
+
+    ghost Value = { List Component };
+
+    ghost view = { λ r. r.components.items };
+
+    ghost invariant = { λ r. (length r.components.items ≤ most_imported)
+        × (names_no_sbat r.components.items ≡ true) };
+}
+
+/// Whether no component is named `sbat`.
+fn is_without_sbat(components: &[Component]) -> bool
+    ensures { result ≡ names_no_sbat components.now }
+{
+    components
+        .iter()
+        .all(|component| component.name.as_str() != "sbat")
+}
+
+impl Raises {
+    /// The components, or `None` where there are more than `MOST_IMPORTED` or one is named `sbat`. Takes no memory.
+    pub fn new(components: Vec<Component>) -> Option<Raises>
+        ensures { MatchOption result
+            ((most_imported < length components.items) ⊎ (names_no_sbat components.items ≡ false))
+            (λ named. named ≡ components.items) }
+    {
+        if MOST_IMPORTED < components.len() {
+            return None;
+        }
+        if !is_without_sbat(&components) {
+            return None;
+        }
+        Some(Raises { components })
+    }
+
+    /// The components.
+    pub fn as_slice(&self) -> &[Component]
+        ensures value { result.now ≡ self.now }
+        ensures few { length self.now ≤ most_imported }
+        ensures form { names_no_sbat self.now ≡ true }
+    {
+        &self.components
+    }
+
+    /// Gives the components back. Takes no memory.
+    pub fn into_vec(self) -> Vec<Component>
+        ensures { result.items ≡ self }
+    {
+        let Raises { components } = self;
+        components
+    }
+}
+
+impl Clone for Raises {
+    ghost is_clone = { λ raises copy. copy ≡ raises };
+
+    /// A copy. Takes memory for its components.
+    fn clone(&self) -> Result<Raises, AllocError> {
+        let components = copies(*self.components.allocator(), &self.components)?;
+        Ok(Raises { components })
+    }
+}

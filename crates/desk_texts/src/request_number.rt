@@ -1,0 +1,68 @@
+//! Numbers of requests.
+ghost use Rattle.std.specs.Prelude.{◌≡◌, ◌≤◌, ℕ, List, IfSome, IfNone, MatchOption, false, decimal, length, true};
+ghost use Rattle.sbat.specs.Fields.{decimal_of};
+ghost use Rattle.desk_texts.specs.Forms.{is_decimal, is_request_number};
+
+use crate::forms;
+use std::marker::Model;
+
+/// A request's number: 1 to 999,999. A contract sees the number.
+#[derive(Clone, Copy, Debug, PartialEq, Eq, PartialOrd, Ord)]
+pub struct RequestNumber {
+    number: u64,
+}
+
+impl Model for RequestNumber {
+    ghost Value = { ℕ };
+
+    ghost view = { λ n. n.number };
+
+    ghost invariant = { λ n. is_request_number n.number ≡ true };
+
+    ghost inverse = { λ number. record { number = number } };
+}
+
+/// The number that at most six decimal digits spell.
+fn number_of(text: &[u8]) -> u64
+    requires { is_decimal text.now ≡ true }
+    ensures { result ≡ decimal_of text.now }
+{
+    let mut number = 0;
+    for digit in text {
+        number = 10 * number + u64::from(*digit - b'0');
+    }
+    number
+}
+
+impl RequestNumber {
+    /// The number, or `None` where it is 0 or above 999,999. Takes no memory.
+    pub fn new(number: u64) -> Option<RequestNumber>
+        ensures { MatchOption result (is_request_number number ≡ false)
+            (λ request. (request ≡ number) × (is_request_number number ≡ true)) }
+    {
+        if number < 1 || 999_999 < number {
+            return None;
+        }
+        Some(RequestNumber { number })
+    }
+
+    /// The number.
+    pub fn value(self) -> u64
+        ensures value { result ≡ self }
+        ensures form { is_request_number self ≡ true }
+    {
+        self.number
+    }
+
+    /// The number whose decimal text this is, without a leading zero. Takes no memory.
+    pub fn parse(text: &[u8]) -> Option<RequestNumber>
+        ensures found { IfSome result (λ number. text.now ≡ decimal number) }
+        ensures only { IfNone result ((number : ℕ) → is_request_number number ≡ true
+            → text.now ≡ decimal number → ⊥) }
+    {
+        if !forms::is_decimal(text) {
+            return None;
+        }
+        RequestNumber::new(number_of(text))
+    }
+}

@@ -1,0 +1,115 @@
+//! The words that stand for roles, votes, states and kinds.
+ghost use Rattle.std.specs.Prelude.{◌≡◌, ◌≢◌, IfSome, IfNone};
+ghost use Rattle.desk_texts.specs.Words as spec;
+ghost use Rattle.desk_texts.specs.declared.role.Role.{Role};
+ghost use Rattle.desk_texts.specs.declared.vote.Vote.{Vote};
+ghost use Rattle.desk_texts.specs.declared.state.State.{State};
+ghost use Rattle.desk_texts.specs.declared.kind.ListedKind.{ListedKind};
+
+use crate::{ListedKind, Role, State, Vote};
+
+impl Role {
+    /// Its word: `submitter`, `reviewer`, `officer` or `signer`.
+    pub fn text(self) -> &'static str
+        ensures { result.now ≡ spec.role_text self }
+    {
+        match self {
+            Role::Submitter => "submitter",
+            Role::Reviewer => "reviewer",
+            Role::Officer => "officer",
+            Role::Signer => "signer",
+        }
+    }
+
+    /// The role whose word this is. Takes no memory.
+    pub fn parse(text: &[u8]) -> Option<Role>
+        ensures found { IfSome result (λ role. text.now ≡ spec.role_text role) }
+        ensures only { IfNone result ((role : Role) → text.now ≢ spec.role_text role) }
+    {
+        match text {
+            b"submitter" => Some(Role::Submitter),
+            b"reviewer" => Some(Role::Reviewer),
+            b"officer" => Some(Role::Officer),
+            b"signer" => Some(Role::Signer),
+            _ => None,
+        }
+    }
+}
+
+impl Vote {
+    /// Its word: `yes` or `no`.
+    pub fn text(self) -> &'static str
+        ensures { result.now ≡ spec.vote_text self }
+    {
+        match self {
+            Vote::Yes => "yes",
+            Vote::No => "no",
+        }
+    }
+
+    /// The vote whose word this is. Takes no memory.
+    pub fn parse(text: &[u8]) -> Option<Vote>
+        ensures found { IfSome result (λ vote. text.now ≡ spec.vote_text vote) }
+        ensures only { IfNone result ((vote : Vote) → text.now ≢ spec.vote_text vote) }
+    {
+        match text {
+            b"yes" => Some(Vote::Yes),
+            b"no" => Some(Vote::No),
+            _ => None,
+        }
+    }
+}
+
+impl State {
+    /// Its word: `open`, `approved`, `rejected`, `withdrawn` or `signed`.
+    pub fn text(self) -> &'static str
+        ensures { result.now ≡ spec.state_text self }
+    {
+        match self {
+            State::Open => "open",
+            State::Approved => "approved",
+            State::Rejected => "rejected",
+            State::Withdrawn => "withdrawn",
+            State::Signed => "signed",
+        }
+    }
+
+    /// The state whose word this is. Takes no memory.
+    pub fn parse(text: &[u8]) -> Option<State>
+        ensures found { IfSome result (λ state. text.now ≡ spec.state_text state) }
+        ensures only { IfNone result ((state : State) → text.now ≢ spec.state_text state) }
+    {
+        match text {
+            b"open" => Some(State::Open),
+            b"approved" => Some(State::Approved),
+            b"rejected" => Some(State::Rejected),
+            b"withdrawn" => Some(State::Withdrawn),
+            b"signed" => Some(State::Signed),
+            _ => None,
+        }
+    }
+}
+
+impl ListedKind {
+    /// Its word: `digest` or `certificate`.
+    pub fn text(self) -> &'static str
+        ensures { result.now ≡ spec.kind_text self }
+    {
+        match self {
+            ListedKind::Digest => "digest",
+            ListedKind::Certificate => "certificate",
+        }
+    }
+
+    /// The kind whose word this is. Takes no memory.
+    pub fn parse(text: &[u8]) -> Option<ListedKind>
+        ensures found { IfSome result (λ kind. text.now ≡ spec.kind_text kind) }
+        ensures only { IfNone result ((kind : ListedKind) → text.now ≢ spec.kind_text kind) }
+    {
+        match text {
+            b"digest" => Some(ListedKind::Digest),
+            b"certificate" => Some(ListedKind::Certificate),
+            _ => None,
+        }
+    }
+}
