@@ -1,0 +1,11 @@
+pub mod CountLemmas
+pub mod KeyLemmas
+pub mod LevelLemmas
+pub mod LifeLemmas
+pub mod ListLemmas
+pub mod ListedCounts
+pub mod ListingLemmas
+pub mod RequestLemmas
+pub mod RowLemmas
+pub mod RunLemmas
+pub mod VerdictLemmas

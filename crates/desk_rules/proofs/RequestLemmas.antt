@@ -1,0 +1,43 @@
+-- Requests and votes, one call more.
+use Rattle.std.proofs.Common.{◌≡◌, ℕ, ◌+◌, ◌<◌, Bool, true, false, ◌&&◌, cond, List, [], ◌∷◌, length, drop, get_or, refl, sym, ◌∙◌, ap, arith, add-one, drop-cons, suc, filter}
+use Rattle.std.specs.Prelude.{◌==◌, count_by}
+use Rattle.std.proofs.lemmas.List.Sums.{length-filter}
+use Rattle.desk_texts.specs.declared.command.Call.{Call}
+use Rattle.desk_texts.specs.declared.command.Command.{Command}
+use Rattle.desk_texts.specs.declared.command.Command.TheVariants as command
+use Rattle.desk_texts.specs.Callers.{caller_name}
+use Rattle.desk_texts.specs.Calls.{History}
+use Rattle.desk_texts.specs.Requests.{Submitted, Voted, numbered, is_yes, votes, votes_on}
+use Rattle.desk_rules.specs.Steps.{is_yes_on_request, votes_yes}
+use Rattle.desk_rules.proofs.CountLemmas.{one_if}
+
+pub length_numbered : (ss : List Submitted) → length (numbered ss) ≡ length ss
+length_numbered [] = refl
+length_numbered (s ∷ ss) = ap suc (length_numbered ss)
+
+count_one : (k : ℕ) (v : Voted) (vs : List Voted) → count_by is_yes (votes_on (v ∷ vs) k) ≡ one_if ((k == v.request) && is_yes v) + count_by is_yes (votes_on vs k)
+count_one k v vs =
+    elim (k == v.request) as (λ b. count_by is_yes (cond b (v ∷ votes_on vs k) (votes_on vs k)) ≡ one_if (b && is_yes v) + count_by is_yes (votes_on vs k)) [
+      | true ↦ counted v (votes_on vs k)
+      | false ↦ omega arith
+    ]
+  where
+    counted : (v : Voted) (vs : List Voted) → count_by is_yes (v ∷ vs) ≡ one_if (is_yes v) + count_by is_yes vs
+    counted v vs =
+        sym (length-filter is_yes (v ∷ vs))
+        ∙ (elim (is_yes v) as (λ b. length (cond b (v ∷ filter is_yes vs) (filter is_yes vs)) ≡ one_if b + length (filter is_yes vs)) [ true ↦ omega arith | false ↦ omega arith ]
+        ∙ ap (λ n. one_if (is_yes v) + n) (length-filter is_yes vs))
+
+one_yes : (k : ℕ) (cs : History) (old : Call) (given : Command) → count_by is_yes (votes_on (votes (record old { command = given } ∷ cs)) k) ≡ one_if (votes_yes k given) + count_by is_yes (votes_on (votes cs) k)
+one_yes k cs old (command.Review b) = count_one k (record { request = b.request; reviewer = caller_name old.caller; vote = b.vote; note = b.note }) (votes cs)
+one_yes k cs old _ = omega arith
+
+-- from the newest call on
+pub yes_more : (k : ℕ) (calls : History) (i : ℕ) (c : Call) (is_one : Bool) → i < length calls → c ≡ get_or calls i c → is_one ≡ is_yes_on_request k c →
+    count_by is_yes (votes_on (votes (drop i calls)) k) ≡ one_if is_one + count_by is_yes (votes_on (votes (drop (i + 1) calls)) k)
+yes_more k calls i c is_one h is e =
+    ap (λ cs. count_by is_yes (votes_on (votes cs) k)) (split_at calls i c h is)
+    ∙ (one_yes k (drop (i + 1) calls) c c.command ∙ ap (λ b. one_if b + count_by is_yes (votes_on (votes (drop (i + 1) calls)) k)) (sym e))
+  where
+    split_at : (calls : History) (i : ℕ) (c : Call) → i < length calls → c ≡ get_or calls i c → drop i calls ≡ c ∷ drop (i + 1) calls
+    split_at calls i c h is = rw (add-one, drop-cons calls i c) (ap (λ d. d ∷ drop (suc i) calls) (sym is))

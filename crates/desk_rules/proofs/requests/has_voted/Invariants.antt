@@ -1,0 +1,10 @@
+use Rattle.std.proofs.Common.{◌≡◌, drop}
+use Rattle.std.specs.List.{list_any}
+use Rattle.desk_texts.specs.Callers.{caller_name}
+use Rattle.desk_texts.specs.Requests as spec
+use Rattle.desk_rules.proofs.requests.has_voted.Given as goal
+
+abbrev pub invariant-loop-call : goal.invariant-loop-call
+invariant-loop-call l =
+    list_any (spec.is_vote_of (caller_name l.caller)) (spec.votes_on (spec.votes (drop l.call-index l.calls)) l.number)
+    ≡ list_any (spec.is_vote_of (caller_name l.caller)) (spec.votes_on (spec.votes l.calls) l.number)

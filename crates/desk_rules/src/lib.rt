@@ -1,0 +1,34 @@
+//! The desk's rules: what each call is answered after the calls that were accepted before it, and what the desk
+//! says of an image.
+#![tactic(auto)]
+
+mod answer;
+mod answers;
+mod finding;
+mod laws;
+mod level;
+mod limits;
+mod listed;
+mod people;
+mod plain;
+mod refusals;
+mod replies;
+mod requests;
+mod revoked;
+mod verdicts;
+
+pub use answer::Answer;
+pub use finding::{Below, Verdict};
+pub use laws::{
+    allows_exactly, answers_are_kept, answers_have_histories, keys_stand_once,
+    legal_histories_are_runs, listed_rows_are_listed, rows_stand_once, runs_go_on,
+    series_are_legal, what_is_barred_stays_barred,
+};
+pub use limits::{
+    MOST_CALLS, MOST_LEVEL_COMPONENTS, MOST_LISTED, MOST_PEOPLE, MOST_REQUESTS,
+    MOST_REVOKED_CERTIFICATES, MOST_REVOKED_DIGESTS,
+};
+pub use plain::PlainDesk;
+
+#[cfg(test)]
+mod tests;

@@ -1,0 +1,203 @@
+//! Why a call is refused.
+ghost use Rattle.std.specs.Prelude.{◌≡◌, ◌∷◌, ℕ, List};
+ghost use Rattle.desk_texts.specs.Callers.{caller_name};
+ghost use Rattle.desk_texts.specs.Level.{generations, greatest as greatest_in, stamp as stamp_in};
+ghost use Rattle.desk_texts.specs.People.{people as people_in};
+ghost use Rattle.desk_texts.specs.Requests as requests;
+ghost use Rattle.desk_rules.specs.Refusals as spec;
+ghost use Rattle.desk_rules.specs.Steps.{image_refusal as image_refused};
+ghost use Rattle.desk_rules.specs.Verdicts.{is_barred as barred_in, stands_in_db as stands_in};
+
+use crate::level::{greatest, is_above, is_sbat, raises_some, stamp};
+use crate::limits::is_within;
+use crate::listed::is_listed;
+use crate::people::{has_name, has_token, may_give};
+use crate::requests::{has_voted, request, state};
+use crate::revoked::is_revoked;
+use crate::verdicts::{is_barred, stands_in_db};
+use desk_bytes::Refusal;
+use desk_texts::{
+    Ballot, Call, Caller, Command, Facts, Handback, ListedKind, Person, Raise, RequestNumber, State,
+};
+use sbat::Stamp;
+
+/// The refusal where the condition holds.
+fn refuse_if(condition: bool, refusal: Refusal) -> Option<Refusal>
+    ensures { result ≡ spec.refuse_if condition refusal }
+{
+    if condition { Some(refusal) } else { None }
+}
+
+/// Why the person isn't added.
+fn add_refusal(calls: &[Call], person: &Person) -> Option<Refusal>
+    ensures { result ≡ spec.add_refusal (people_in calls.now) person.now }
+{
+    let is_taken = person.name.as_str() == "console"
+        || has_name(calls, &person.name)
+        || has_token(calls, person.token);
+    refuse_if(is_taken, Refusal::NameTaken)
+}
+
+/// Why the caller's vote isn't taken.
+fn review_refusal(calls: &[Call], ballot: &Ballot, caller: &Caller) -> Option<Refusal>
+    ensures { result ≡ spec.review_refusal (requests.request calls.now ballot.now.request)
+        (requests.state calls.now ballot.now.request)
+        (requests.votes_on (requests.votes calls.now) ballot.now.request) (caller_name caller.now) }
+{
+    let Some(asked) = request(calls, ballot.request) else {
+        return Some(Refusal::NoSuchRequest);
+    };
+    match state(calls, ballot.request) {
+        State::Open => {
+            if asked.caller.name() == caller.name() {
+                Some(Refusal::OwnRequest)
+            } else {
+                refuse_if(
+                    has_voted(calls, ballot.request, caller),
+                    Refusal::AlreadyReviewed,
+                )
+            }
+        }
+        State::Approved | State::Rejected | State::Withdrawn | State::Signed => Some(
+            Refusal::WrongState,
+        ),
+    }
+}
+
+/// Why the caller's request isn't withdrawn.
+fn withdraw_refusal(calls: &[Call], number: RequestNumber, caller: &Caller) -> Option<Refusal>
+    ensures { result ≡ spec.withdraw_refusal (requests.request calls.now number)
+        (requests.state calls.now number) (caller_name caller.now) }
+{
+    let Some(asked) = request(calls, number) else {
+        return Some(Refusal::NoSuchRequest);
+    };
+    if asked.caller.name() != caller.name() {
+        return Some(Refusal::NoSuchRequest);
+    }
+    match state(calls, number) {
+        State::Open | State::Approved => None,
+        State::Rejected | State::Withdrawn | State::Signed => Some(Refusal::WrongState),
+    }
+}
+
+/// Why the image isn't taken as the signed one of the image that was asked for.
+fn image_refusal(calls: &[Call], asked: &Facts, facts: &Facts) -> Option<Refusal>
+    ensures { result
+        ≡ image_refused asked.now facts.now (barred_in calls.now facts.now) (stands_in calls.now facts.now) }
+{
+    if facts.digest != asked.signing && facts.digest != asked.digest {
+        return Some(Refusal::DigestDiffers);
+    }
+    if is_barred(calls, facts) {
+        return Some(Refusal::Revoked);
+    }
+    refuse_if(!stands_in_db(calls, facts), Refusal::NotListed)
+}
+
+/// Why the returned file isn't taken.
+fn return_refusal(calls: &[Call], handback: &Handback) -> Option<Refusal>
+    ensures { result ≡ spec.return_refusal (requests.request calls.now handback.now.request)
+        (requests.state calls.now handback.now.request) handback.now.facts
+        (barred_in calls.now handback.now.facts) (stands_in calls.now handback.now.facts) }
+{
+    let Some(asked) = request(calls, handback.request) else {
+        return Some(Refusal::NoSuchRequest);
+    };
+    match state(calls, handback.request) {
+        State::Approved => image_refusal(calls, &asked.submission.facts, &handback.facts),
+        State::Open | State::Rejected | State::Withdrawn | State::Signed => Some(
+            Refusal::WrongState,
+        ),
+    }
+}
+
+/// Why the generation isn't raised.
+fn raise_refusal(calls: &[Call], raise: &Raise) -> Option<Refusal>
+    ensures { result ≡ spec.raise_refusal
+        (greatest_in (generations calls.now) raise.now.component.name) (stamp_in calls.now) raise.now }
+{
+    let component = &raise.component;
+    if is_sbat(&component.name) {
+        return Some(Refusal::NotHigher);
+    }
+    if !is_above(component.generation, greatest(calls, &component.name)) {
+        return Some(Refusal::NotHigher);
+    }
+    refuse_if(
+        raise.stamp.value() <= stamp(calls).value(),
+        Refusal::StampNotLater,
+    )
+}
+
+/// Whether a stamp is there, and above the present one.
+fn is_later(now: Stamp, stamp: Option<Stamp>) -> bool
+    ensures { result ≡ spec.is_later now stamp }
+{
+    match stamp {
+        None => false,
+        Some(stamp) => now.value() < stamp.value(),
+    }
+}
+
+/// Why the command isn't taken in, by its own conditions.
+fn own_refusal(calls: &[Call], caller: &Caller, command: &Command) -> Option<Refusal>
+    ensures { result ≡ spec.own_refusal calls.now (caller_name caller.now) command.now }
+{
+    match command {
+        Command::AddPerson(person) => add_refusal(calls, person),
+        Command::Submit(submission) => {
+            refuse_if(is_barred(calls, &submission.facts), Refusal::Revoked)
+        }
+        Command::Review(ballot) => review_refusal(calls, ballot, caller),
+        Command::Withdraw(number) => withdraw_refusal(calls, *number, caller),
+        Command::Return(handback) => return_refusal(calls, handback),
+        Command::ListCertificate(certificate) => refuse_if(
+            is_listed(calls, ListedKind::Certificate, certificate.tbs()),
+            Refusal::AlreadyListed,
+        ),
+        Command::ListDigest(digest) => {
+            refuse_if(
+                is_listed(calls, ListedKind::Digest, *digest),
+                Refusal::AlreadyListed,
+            )
+        }
+        Command::Unlist(listing) => {
+            refuse_if(
+                !is_listed(calls, listing.kind, listing.digest),
+                Refusal::NotThere,
+            )
+        }
+        Command::RevokeDigest(digest) => {
+            refuse_if(
+                is_revoked(calls, ListedKind::Digest, *digest),
+                Refusal::AlreadyRevoked,
+            )
+        }
+        Command::RevokeCertificate(digest) => {
+            refuse_if(
+                is_revoked(calls, ListedKind::Certificate, *digest),
+                Refusal::AlreadyRevoked,
+            )
+        }
+        Command::RaiseLevel(raise) => raise_refusal(calls, raise),
+        Command::ImportRevocations(import) => refuse_if(
+            raises_some(calls, command) && !is_later(stamp(calls), import.stamp()),
+            Refusal::StampNotLater,
+        ),
+    }
+}
+
+/// Why the call with a new key is refused. `calls` has the call and then those before it.
+pub(crate) fn refusal(call: &Call, before: &[Call], calls: &[Call]) -> Option<Refusal>
+    requires { calls.now ≡ call.now ∷ before.now }
+    ensures { result ≡ spec.refusal before.now call.now }
+{
+    if !may_give(before, &call.caller, &call.command) {
+        return Some(Refusal::NotYourRole);
+    }
+    match own_refusal(before, &call.caller, &call.command) {
+        Some(refusal) => Some(refusal),
+        None => refuse_if(!is_within(calls), Refusal::Full),
+    }
+}
