@@ -8,16 +8,11 @@ root=$(CDPATH='' cd -- "$(dirname -- "$(readlink -f -- "$0")")/.." && pwd -P)
 program=$root/crates/desk/out/desk
 room=$(mktemp -d)
 trap 'rm -rf "$room"' EXIT
-python3 - "$program" "$room/image.efi" << 'PYTHON'
-import os
+python3 - "$room/image.efi" << 'PYTHON'
 import random
-import shutil
 import struct
-import subprocess
 import sys
-import time
 
-program, path = sys.argv[1:]
 MIB = 1 << 20
 
 # The image: headers of 512 bytes, and three sections of 40 MiB less what the headers take.
@@ -39,9 +34,18 @@ for number, size in enumerate(sizes):
     struct.pack_into("<8sIIII", image, 328 + 40 * number, name, size, address, size, begin)
     begin += size
     address += 64 * MIB
-with open(path, "wb") as file:
+with open(sys.argv[1], "wb") as file:
     file.write(image)
+PYTHON
+# A process of its own: the memory that is told of a child holds that of the process that began it.
+python3 - "$program" "$room/image.efi" << 'PYTHON'
+import os
+import shutil
+import subprocess
+import sys
+import time
 
+program, path = sys.argv[1:]
 rivals = [
     ("desk facts", [program, "facts", path]),
     ("openssl dgst -sha256", ["openssl", "dgst", "-sha256", path]),
