@@ -1,5 +1,6 @@
 //! Names, keys, titles, notes, numbers and words.
 use super::*;
+use std::process::Abort;
 
 #[test]
 fn takes_names_of_people(rt: HostRuntime) -> Result<(), Fail> {
@@ -131,112 +132,115 @@ fn refuses_other_notes(rt: HostRuntime) {
     }
 }
 
+/// Checks that a request has this number, and that the text is its number's.
+fn is_number(rt: &impl Abort, number: u64, text: &[u8]) {
+    let Some(read) = RequestNumber::parse(text) else {
+        panic!(rt; "the number {number} isn't read");
+    };
+    assert_eq!(rt; read.value(), number, "the number that is read");
+    let Some(made) = RequestNumber::new(number) else {
+        panic!(rt; "the number {number} is refused");
+    };
+    assert_eq!(rt; made.value(), number, "the number that is made");
+}
+
 #[test]
 fn reads_numbers_of_requests(rt: HostRuntime) {
-    for (text, found) in [
-        (b"1".as_slice(), Some(1)),
-        (b"10".as_slice(), Some(10)),
-        (b"100000".as_slice(), Some(100_000)),
-        (b"999999".as_slice(), Some(999_999)),
-        (b"1000000".as_slice(), None),
-        (b"".as_slice(), None),
-        (b"0".as_slice(), None),
-        (b"01".as_slice(), None),
-        (b"+1".as_slice(), None),
-        (b"1 ".as_slice(), None),
-        (b"1a".as_slice(), None),
-        (b"\xb2".as_slice(), None),
-    ] {
-        let read = RequestNumber::parse(text).map(|number| number.value());
-        assert_eq!(rt; read, found, "the number of {text:?}");
-    }
-    for (number, taken) in [
-        (0, false),
-        (1, true),
-        (999_999, true),
-        (1_000_000, false),
-        (u64::MAX, false),
-    ] {
-        let made = RequestNumber::new(number).map(|request| request.value());
-        assert_eq!(rt; made, taken.then_some(number), "the number {number}");
+    is_number(&rt, 1, b"1");
+    is_number(&rt, 10, b"10");
+    is_number(&rt, 100_000, b"100000");
+    is_number(&rt, 999_999, b"999999");
+}
+
+#[test]
+fn refuses_other_texts_of_numbers(rt: HostRuntime) {
+    let cases = [
+        b"1000000".as_slice(),
+        b"".as_slice(),
+        b"0".as_slice(),
+        b"01".as_slice(),
+        b"+1".as_slice(),
+        b"1 ".as_slice(),
+        b"1a".as_slice(),
+        b"\xb2".as_slice(),
+    ];
+    for text in cases {
+        let read = RequestNumber::parse(text);
+        assert!(rt; read.is_none(), "{text:?}");
     }
 }
 
 #[test]
-fn reads_words_of_roles(rt: HostRuntime) {
-    for (text, role) in [
-        ("submitter", Role::Submitter),
-        ("reviewer", Role::Reviewer),
-        ("officer", Role::Officer),
-        ("signer", Role::Signer),
-    ] {
-        assert_eq!(rt; role.text(), text, "the word");
-        assert_eq!(rt;
-            Role::parse(text.as_bytes()),
-            Some(role),
-            "the role of {text}"
-        );
+fn refuses_other_numbers_of_requests(rt: HostRuntime) {
+    for number in [0, 1_000_000, u64::MAX] {
+        let made = RequestNumber::new(number);
+        assert!(rt; made.is_none(), "the number {number}");
     }
+}
+
+/// Checks the word of a role.
+fn is_role(rt: &impl Abort, role: Role, text: &str) {
+    assert_eq!(rt; role.text(), text, "the word");
+    assert_eq!(rt; Role::parse(text.as_bytes()), Some(role), "{text}");
+}
+
+#[test]
+fn reads_words_of_roles(rt: HostRuntime) {
+    is_role(&rt, Role::Submitter, "submitter");
+    is_role(&rt, Role::Reviewer, "reviewer");
+    is_role(&rt, Role::Officer, "officer");
+    is_role(&rt, Role::Signer, "signer");
     for text in ["", "Signer", "signer ", "console", "submitte"] {
         assert_eq!(rt; Role::parse(text.as_bytes()), None, "{text} is no role");
     }
 }
 
+/// Checks the word of a vote.
+fn is_vote(rt: &impl Abort, vote: Vote, text: &str) {
+    assert_eq!(rt; vote.text(), text, "the word");
+    assert_eq!(rt; Vote::parse(text.as_bytes()), Some(vote), "{text}");
+}
+
 #[test]
 fn reads_words_of_votes(rt: HostRuntime) {
-    for (text, vote) in [("yes", Vote::Yes), ("no", Vote::No)] {
-        assert_eq!(rt; vote.text(), text, "the word");
-        assert_eq!(rt;
-            Vote::parse(text.as_bytes()),
-            Some(vote),
-            "the vote of {text}"
-        );
-    }
+    is_vote(&rt, Vote::Yes, "yes");
+    is_vote(&rt, Vote::No, "no");
     for text in ["", "Yes", "noo", "true"] {
         assert_eq!(rt; Vote::parse(text.as_bytes()), None, "{text} is no vote");
     }
 }
 
+/// Checks the word of a state.
+fn is_state(rt: &impl Abort, state: State, text: &str) {
+    assert_eq!(rt; state.text(), text, "the word");
+    assert_eq!(rt; State::parse(text.as_bytes()), Some(state), "{text}");
+}
+
 #[test]
 fn reads_words_of_states(rt: HostRuntime) {
-    for (text, state) in [
-        ("open", State::Open),
-        ("approved", State::Approved),
-        ("rejected", State::Rejected),
-        ("withdrawn", State::Withdrawn),
-        ("signed", State::Signed),
-    ] {
-        assert_eq!(rt; state.text(), text, "the word");
-        assert_eq!(rt;
-            State::parse(text.as_bytes()),
-            Some(state),
-            "the state of {text}"
-        );
-    }
+    is_state(&rt, State::Open, "open");
+    is_state(&rt, State::Approved, "approved");
+    is_state(&rt, State::Rejected, "rejected");
+    is_state(&rt, State::Withdrawn, "withdrawn");
+    is_state(&rt, State::Signed, "signed");
     for text in ["", "OPEN", "closed", "signed\n"] {
         assert_eq!(rt; State::parse(text.as_bytes()), None, "{text} is no state");
     }
 }
 
+/// Checks the word of a kind.
+fn is_kind(rt: &impl Abort, kind: ListedKind, text: &str) {
+    assert_eq!(rt; kind.text(), text, "the word");
+    assert_eq!(rt; ListedKind::parse(text.as_bytes()), Some(kind), "{text}");
+}
+
 #[test]
 fn reads_words_of_kinds(rt: HostRuntime) {
-    for (text, kind) in [
-        ("digest", ListedKind::Digest),
-        ("certificate", ListedKind::Certificate),
-    ] {
-        assert_eq!(rt; kind.text(), text, "the word");
-        assert_eq!(rt;
-            ListedKind::parse(text.as_bytes()),
-            Some(kind),
-            "the kind of {text}"
-        );
-    }
+    is_kind(&rt, ListedKind::Digest, "digest");
+    is_kind(&rt, ListedKind::Certificate, "certificate");
     for text in ["", "digests", "Certificate"] {
-        assert_eq!(rt;
-            ListedKind::parse(text.as_bytes()),
-            None,
-            "{text} is no kind"
-        );
+        let read = ListedKind::parse(text.as_bytes());
+        assert_eq!(rt; read, None, "{text} is no kind");
     }
 }
 
@@ -250,15 +254,21 @@ fn names_callers(rt: HostRuntime) -> Result<(), Fail> {
 }
 
 #[test]
-fn tells_names_and_keys_apart(rt: HostRuntime) -> Result<(), Fail> {
+fn tells_names_apart(rt: HostRuntime) -> Result<(), Fail> {
     let ann = PersonName::parse(rt.alloc(), b"ann")?;
-    assert!(rt; ann == ann.clone()?, "a copy is the same name");
-    assert!(rt;
-        ann != PersonName::parse(rt.alloc(), b"amy")?,
-        "another name"
-    );
+    let copy = ann.clone()?;
+    assert!(rt; ann == copy, "a copy is the same name");
+    let amy = PersonName::parse(rt.alloc(), b"amy")?;
+    assert!(rt; ann != amy, "another name");
+    Ok(())
+}
+
+#[test]
+fn tells_keys_apart(rt: HostRuntime) -> Result<(), Fail> {
     let key = Key::parse(rt.alloc(), b"k1")?;
-    assert!(rt; key == key.clone()?, "a copy is the same key");
-    assert!(rt; key != Key::parse(rt.alloc(), b"K1")?, "another key");
+    let copy = key.clone()?;
+    assert!(rt; key == copy, "a copy is the same key");
+    let other = Key::parse(rt.alloc(), b"K1")?;
+    assert!(rt; key != other, "another key");
     Ok(())
 }

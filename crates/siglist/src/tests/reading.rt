@@ -1,7 +1,9 @@
 //! Lists read.
 use super::OWNER;
-use crate::{Kind, ListsFault, lists, write_x509};
+use crate::{Kind, ListsFault, SignatureList, lists, write_x509};
 use desk_bytes::{Digest, Guid, Refusal};
+use std::alloc::Global;
+use std::process::Abort;
 use std::test::Fail;
 
 /// A SHA256 list of aa*32, an X509_SHA256 list of bb*32 with a time, and a list of another kind: 216 bytes.
@@ -33,62 +35,71 @@ fn outcome_of(bytes: &[u8]) -> Result<usize, ListsFault> {
     Ok(count)
 }
 
+/// Checks a list of one entry.
+fn is_list(rt: &impl Abort, list: Option<SignatureList<'_>>, offset: u64, kind: Kind, size: usize) {
+    let Some(list) = list else {
+        panic!(rt; "the list at {offset} is missing");
+    };
+    assert_eq!(rt; list.offset(), offset);
+    assert!(rt; list.kind() == kind, "the kind of the list at {offset}");
+    assert!(rt;
+        list.header().is_empty(),
+        "the header of the list at {offset}"
+    );
+    assert_eq!(rt; list.count(), 1, "entries of the list at {offset}");
+    for entry in list.entries() {
+        assert_eq!(rt; entry.body.len(), size, "the body in the list at {offset}");
+    }
+}
+
 #[test]
 fn reads_lists_in_their_order(rt: HostRuntime) -> Result<(), Fail> {
     let bytes = hex::decode(rt.alloc(), THREE)?;
     let owner = Guid::parse(OWNER)?;
     let mut row = lists(&bytes)?;
-    for (offset, kind, size) in [
-        (0, Kind::Sha256, 32),
-        (76, Kind::X509Sha256, 48),
-        (168, Kind::Other(owner), 4),
-    ] {
-        let Some(list) = row.next() else {
-            panic!(rt; "the list at {offset} is missing");
-        };
-        assert_eq!(rt; list.offset(), offset);
-        assert!(rt; list.kind() == kind, "the kind of the list at {offset}");
-        assert!(rt;
-            list.header().is_empty(),
-            "the header of the list at {offset}"
-        );
-        assert_eq!(rt; list.count(), 1, "entries of the list at {offset}");
-        for entry in list.entries() {
-            assert_eq!(rt; entry.body.len(), size, "the body in the list at {offset}");
-        }
-    }
+    is_list(&rt, row.next(), 0, Kind::Sha256, 32);
+    is_list(&rt, row.next(), 76, Kind::X509Sha256, 48);
+    is_list(&rt, row.next(), 168, Kind::Other(owner), 4);
     assert!(rt; row.next().is_none(), "no fourth list");
     Ok(())
+}
+
+/// Checks that a list has one entry of this owner and body.
+fn is_entry(
+    rt: &impl Abort,
+    list: Option<SignatureList<'_>>,
+    owner: Option<&[u8]>,
+    body: Option<&[u8]>,
+) {
+    let Some(list) = list else {
+        panic!(rt; "a list is missing");
+    };
+    let offset = list.offset();
+    let mut entries = list.entries();
+    let Some(entry) = entries.next() else {
+        panic!(rt; "the entry of the list at {offset} is missing");
+    };
+    assert!(rt;
+        owner == Some(entry.owner.as_bytes()),
+        "the owner in the list at {offset}"
+    );
+    assert!(rt;
+        body == Some(entry.body),
+        "the body in the list at {offset}"
+    );
+    assert!(rt;
+        entries.next().is_none(),
+        "one entry in the list at {offset}"
+    );
 }
 
 #[test]
 fn gives_owners_and_bodies_of_the_input(rt: HostRuntime) -> Result<(), Fail> {
     let bytes = hex::decode(rt.alloc(), THREE)?;
-    for (list, (owner, body)) in lists(&bytes)?.zip([
-        (28..44, 44..76),
-        (104..120, 120..168),
-        (196..212, 212..216),
-    ]) {
-        let mut entries = list.entries();
-        let Some(entry) = entries.next() else {
-            panic!(rt; "the entry of the list at {} is missing", list.offset());
-        };
-        assert!(rt;
-            bytes.get(owner) == Some(entry.owner.as_bytes()),
-            "the owner in the list at {}",
-            list.offset()
-        );
-        assert!(rt;
-            bytes.get(body) == Some(entry.body),
-            "the body in the list at {}",
-            list.offset()
-        );
-        assert!(rt;
-            entries.next().is_none(),
-            "one entry in the list at {}",
-            list.offset()
-        );
-    }
+    let mut row = lists(&bytes)?;
+    is_entry(&rt, row.next(), bytes.get(28..44), bytes.get(44..76));
+    is_entry(&rt, row.next(), bytes.get(104..120), bytes.get(120..168));
+    is_entry(&rt, row.next(), bytes.get(196..212), bytes.get(212..216));
     Ok(())
 }
 
@@ -162,27 +173,28 @@ fn outcome_at(size: usize, starts: &[usize]) -> Result<usize, ListsFault> {
     })
 }
 
+/// Checks what each beginning of lists is that begin at these offsets.
+fn refuses_truncations(
+    rt: &impl Abort,
+    alloc: Global,
+    text: &str,
+    starts: &[usize],
+) -> Result<(), Fail> {
+    let bytes = hex::decode(alloc, text)?;
+    for size in 0..bytes.len() {
+        let part = bytes.get(..size).unwrap_or(&[]);
+        let is_right = outcome_of(part) == outcome_at(size, starts);
+        assert!(rt; is_right, "the first {size} bytes");
+    }
+    let is_right = outcome_of(&bytes) == Ok(starts.len());
+    assert!(rt; is_right, "all of {text}");
+    Ok(())
+}
+
 #[test]
 fn refuses_each_truncation_at_its_list(rt: HostRuntime) -> Result<(), Fail> {
-    for (text, starts, count) in [
-        (THREE, [0, 76, 168].as_slice(), 3),
-        (TWO_DIGESTS, [0].as_slice(), 1),
-    ] {
-        let bytes = hex::decode(rt.alloc(), text)?;
-        for size in 0..bytes.len() {
-            let part = bytes.get(..size).unwrap_or(&[]);
-            assert!(rt;
-                outcome_of(part) == outcome_at(size, starts),
-                "the first {size} bytes"
-            );
-        }
-        assert!(rt;
-            outcome_of(&bytes) == Ok(count),
-            "all {} bytes",
-            bytes.len()
-        );
-    }
-    Ok(())
+    refuses_truncations(&rt, rt.alloc(), THREE, &[0, 76, 168])?;
+    refuses_truncations(&rt, rt.alloc(), TWO_DIGESTS, &[0])
 }
 
 const SHA256: &str = "2616c4c14c509240aca941f936934328";
@@ -193,65 +205,105 @@ const X509_SHA256: &str = "92a4d23bc0967940b420fcf98ef103ed";
 
 const OTHER: &str = "33221100554477668899aabbccddeeff";
 
-const LIST: ListsFault = ListsFault::List { offset: 0 };
-
-const ENTRY_SIZE: ListsFault = ListsFault::EntrySize { offset: 0 };
-
-/// A type, the three sizes behind it, how many zero bytes follow, and what that is.
-const HEADS: [(&str, &str, u8, Result<usize, ListsFault>); 28] = [
-    (OTHER, "ffffffff0000000010000000", 0, Err(LIST)),
-    (OTHER, "1c000000e4ffffff10000000", 0, Err(LIST)),
-    (SHA256, "1c000000e4ffffff30000000", 0, Err(LIST)),
-    (OTHER, "1b0000000000000010000000", 0, Err(LIST)),
-    (OTHER, "1b0000000000000000000000", 0, Err(LIST)),
-    (OTHER, "1c0000000100000010000000", 1, Err(LIST)),
-    (OTHER, "1d0000000000000000000000", 0, Err(LIST)),
-    (SHA256, "1d0000000100000030000000", 1, Err(LIST)),
-    (X509, "1d0000000100000011000000", 1, Err(LIST)),
-    (X509_SHA256, "1d0000000100000040000000", 1, Err(LIST)),
-    (SHA256, "1d0000000100000000000000", 1, Err(LIST)),
-    (OTHER, "1c0000000000000000000000", 0, Err(ENTRY_SIZE)),
-    (OTHER, "1c000000000000000f000000", 0, Err(ENTRY_SIZE)),
-    (SHA256, "1c0000000000000010000000", 0, Err(ENTRY_SIZE)),
-    (SHA256, "1c0000000000000031000000", 0, Err(ENTRY_SIZE)),
-    (X509, "1c0000000000000010000000", 0, Err(ENTRY_SIZE)),
-    (X509_SHA256, "1c0000000000000030000000", 0, Err(ENTRY_SIZE)),
-    (X509_SHA256, "1c0000000000000041000000", 0, Err(ENTRY_SIZE)),
-    (OTHER, "2d0000000000000010000000", 17, Err(ENTRY_SIZE)),
-    (OTHER, "1d0000000000000010000000", 1, Err(ENTRY_SIZE)),
-    (OTHER, "1c0000000000000010000000", 0, Ok(1)),
-    (OTHER, "1c00000000000000ffffffff", 0, Ok(1)),
-    (OTHER, "1d0000000100000010000000", 1, Ok(1)),
-    (OTHER, "2d0000000100000010000000", 17, Ok(1)),
-    (OTHER, "2c0000000000000010000000", 16, Ok(1)),
-    (X509, "1c0000000000000011000000", 0, Ok(1)),
-    (X509_SHA256, "1c0000000000000040000000", 0, Ok(1)),
-    (SHA256, "1c0000000000000030000000", 0, Ok(1)),
-];
-
-#[test]
-fn tests_sizes_of_lists_before_those_of_entries(rt: HostRuntime) -> Result<(), Fail> {
-    for (kind, sizes, rest, want) in HEADS {
-        let head = format!(in rt.alloc(); "{kind}{sizes}")?;
-        let mut bytes = hex::decode(rt.alloc(), head.as_str())?;
-        for _ in 0..rest {
-            bytes.push(0)?;
-        }
-        assert!(rt;
-            outcome_of(&bytes) == want,
-            "{kind} {sizes} and {rest} bytes"
-        );
+/// What a list of this type is, with the three sizes behind it, and so many zero bytes.
+fn outcome_of_head(
+    alloc: Global,
+    kind: &str,
+    sizes: &str,
+    rest: u8,
+) -> Result<Result<usize, ListsFault>, Fail> {
+    let head = format!(in alloc; "{kind}{sizes}")?;
+    let mut bytes = hex::decode(alloc, head.as_str())?;
+    for _ in 0..rest {
+        bytes.push(0)?;
     }
+    Ok(outcome_of(&bytes))
+}
+
+/// Checks that such a list is refused by its own size.
+fn has_no_list(
+    rt: &impl Abort,
+    alloc: Global,
+    kind: &str,
+    sizes: &str,
+    rest: u8,
+) -> Result<(), Fail> {
+    let outcome = outcome_of_head(alloc, kind, sizes, rest)?;
+    let want = Err(ListsFault::List { offset: 0 });
+    assert!(rt; outcome == want, "{kind} {sizes} and {rest} bytes");
     Ok(())
 }
 
 #[test]
+fn tests_sizes_of_lists_before_those_of_entries(rt: HostRuntime) -> Result<(), Fail> {
+    has_no_list(&rt, rt.alloc(), OTHER, "ffffffff0000000010000000", 0)?;
+    has_no_list(&rt, rt.alloc(), OTHER, "1c000000e4ffffff10000000", 0)?;
+    has_no_list(&rt, rt.alloc(), SHA256, "1c000000e4ffffff30000000", 0)?;
+    has_no_list(&rt, rt.alloc(), OTHER, "1b0000000000000010000000", 0)?;
+    has_no_list(&rt, rt.alloc(), OTHER, "1b0000000000000000000000", 0)?;
+    has_no_list(&rt, rt.alloc(), OTHER, "1c0000000100000010000000", 1)?;
+    has_no_list(&rt, rt.alloc(), OTHER, "1d0000000000000000000000", 0)?;
+    has_no_list(&rt, rt.alloc(), SHA256, "1d0000000100000030000000", 1)?;
+    has_no_list(&rt, rt.alloc(), X509, "1d0000000100000011000000", 1)?;
+    has_no_list(&rt, rt.alloc(), X509_SHA256, "1d0000000100000040000000", 1)?;
+    has_no_list(&rt, rt.alloc(), SHA256, "1d0000000100000000000000", 1)
+}
+
+/// Checks that such a list is refused by the size of its entries.
+fn has_no_entries(
+    rt: &impl Abort,
+    alloc: Global,
+    kind: &str,
+    sizes: &str,
+    rest: u8,
+) -> Result<(), Fail> {
+    let outcome = outcome_of_head(alloc, kind, sizes, rest)?;
+    let want = Err(ListsFault::EntrySize { offset: 0 });
+    assert!(rt; outcome == want, "{kind} {sizes} and {rest} bytes");
+    Ok(())
+}
+
+#[test]
+fn tests_sizes_of_entries(rt: HostRuntime) -> Result<(), Fail> {
+    has_no_entries(&rt, rt.alloc(), OTHER, "1c0000000000000000000000", 0)?;
+    has_no_entries(&rt, rt.alloc(), OTHER, "1c000000000000000f000000", 0)?;
+    has_no_entries(&rt, rt.alloc(), SHA256, "1c0000000000000010000000", 0)?;
+    has_no_entries(&rt, rt.alloc(), SHA256, "1c0000000000000031000000", 0)?;
+    has_no_entries(&rt, rt.alloc(), X509, "1c0000000000000010000000", 0)?;
+    has_no_entries(&rt, rt.alloc(), X509_SHA256, "1c0000000000000030000000", 0)?;
+    has_no_entries(&rt, rt.alloc(), X509_SHA256, "1c0000000000000041000000", 0)?;
+    has_no_entries(&rt, rt.alloc(), OTHER, "2d0000000000000010000000", 17)?;
+    has_no_entries(&rt, rt.alloc(), OTHER, "1d0000000000000010000000", 1)
+}
+
+/// Checks that such a list is taken.
+fn has_list(rt: &impl Abort, alloc: Global, kind: &str, sizes: &str, rest: u8) -> Result<(), Fail> {
+    let outcome = outcome_of_head(alloc, kind, sizes, rest)?;
+    assert!(rt; outcome == Ok(1), "{kind} {sizes} and {rest} bytes");
+    Ok(())
+}
+
+#[test]
+fn takes_lists_of_the_least_sizes(rt: HostRuntime) -> Result<(), Fail> {
+    has_list(&rt, rt.alloc(), OTHER, "1c0000000000000010000000", 0)?;
+    has_list(&rt, rt.alloc(), OTHER, "1c00000000000000ffffffff", 0)?;
+    has_list(&rt, rt.alloc(), OTHER, "1d0000000100000010000000", 1)?;
+    has_list(&rt, rt.alloc(), OTHER, "2d0000000100000010000000", 17)?;
+    has_list(&rt, rt.alloc(), OTHER, "2c0000000000000010000000", 16)?;
+    has_list(&rt, rt.alloc(), X509, "1c0000000000000011000000", 0)?;
+    has_list(&rt, rt.alloc(), X509_SHA256, "1c0000000000000040000000", 0)?;
+    has_list(&rt, rt.alloc(), SHA256, "1c0000000000000030000000", 0)
+}
+
+/// Checks the refusal of a fault at 168.
+fn has_row(rt: &impl Abort, fault: ListsFault, refusal: Refusal) {
+    assert!(rt; fault.refusal() == refusal, "the refusal of {fault}");
+    assert_eq!(rt; fault.place(), 168, "the place of {fault}");
+}
+
+#[test]
 fn names_the_rows_of_lists_that_are_refused(rt: HostRuntime) {
-    for (fault, refusal) in [
-        (ListsFault::List { offset: 168 }, Refusal::List),
-        (ListsFault::EntrySize { offset: 168 }, Refusal::EntrySize),
-    ] {
-        assert!(rt; fault.refusal() == refusal, "the refusal of {fault}");
-        assert_eq!(rt; fault.place(), 168, "the place of {fault}");
-    }
+    let offset = 168;
+    has_row(&rt, ListsFault::List { offset }, Refusal::List);
+    has_row(&rt, ListsFault::EntrySize { offset }, Refusal::EntrySize);
 }

@@ -2,6 +2,7 @@
 use super::{Narrow, OWNER};
 use crate::{Kind, write_sha256, write_x509, write_x509_sha256};
 use desk_bytes::{Digest, Guid, WriteFailed};
+use std::process::Abort;
 use std::test::Fail;
 
 /// DER of a certificate's shape.
@@ -68,7 +69,7 @@ fn writes_a_certificate_alone(rt: HostRuntime) -> Result<(), Fail> {
 }
 
 /// What the writer of a kind makes of two digests, or of a certificate.
-fn written_by(kind: Kind, writer: &mut Narrow) -> Result<Result<(), WriteFailed>, Fail> {
+fn written_by(kind: &Kind, writer: &mut Narrow) -> Result<Result<(), WriteFailed>, Fail> {
     let owner = Guid::parse(OWNER)?;
     let digests = [Digest::from([0xaa; 32]), Digest::from([0xbb; 32])];
     Ok(match kind {
@@ -78,34 +79,46 @@ fn written_by(kind: Kind, writer: &mut Narrow) -> Result<Result<(), WriteFailed>
     })
 }
 
-#[test]
-fn leaves_a_beginning_where_a_write_fails(rt: HostRuntime) -> Result<(), Fail> {
-    for (kind, size) in [
-        (Kind::Sha256, 124),
-        (Kind::X509Sha256, 156),
-        (Kind::X509, 51),
-    ] {
-        let mut whole = Narrow::new(u64::MAX);
-        assert!(rt; written_by(kind, &mut whole)? == Ok(()), "all of {kind:?}");
-        assert_eq!(rt; whole.len, size, "the bytes of {kind:?}");
-        for fails_at in 1..u64::MAX {
-            if fails_at > whole.calls {
-                break;
-            }
-            let mut writer = Narrow::new(fails_at);
-            assert!(rt;
-                written_by(kind, &mut writer)? == Err(WriteFailed),
-                "the answer of {kind:?} where write {fails_at} fails"
-            );
-            assert!(rt;
-                writer.len < size,
-                "not all of {kind:?} where write {fails_at} fails"
-            );
-            assert!(rt;
-                whole.taken().starts_with(writer.taken()),
-                "what {kind:?} wrote before write {fails_at}"
-            );
+/// Checks that a beginning of the whole is left where this write of the kind fails.
+fn leaves_a_beginning(
+    rt: &impl Abort,
+    kind: &Kind,
+    whole: &Narrow,
+    fails_at: u64,
+) -> Result<(), Fail> {
+    let mut writer = Narrow::new(fails_at);
+    let answer = written_by(kind, &mut writer)?;
+    assert!(rt;
+        answer == Err(WriteFailed),
+        "the answer where write {fails_at} fails"
+    );
+    assert!(rt;
+        writer.len < whole.len,
+        "not all where write {fails_at} fails"
+    );
+    let is_beginning = whole.taken().starts_with(writer.taken());
+    assert!(rt; is_beginning, "what was written before write {fails_at}");
+    Ok(())
+}
+
+/// Checks that the writer of the kind leaves a beginning of so many bytes wherever a write fails.
+fn leaves_beginnings(rt: &impl Abort, kind: &Kind, size: usize) -> Result<(), Fail> {
+    let mut whole = Narrow::new(u64::MAX);
+    let answer = written_by(kind, &mut whole)?;
+    assert!(rt; answer == Ok(()), "all of it");
+    assert_eq!(rt; whole.len, size, "the bytes");
+    for fails_at in 1..u64::MAX {
+        if fails_at > whole.calls {
+            break;
         }
+        leaves_a_beginning(rt, kind, &whole, fails_at)?;
     }
     Ok(())
+}
+
+#[test]
+fn leaves_a_beginning_where_a_write_fails(rt: HostRuntime) -> Result<(), Fail> {
+    leaves_beginnings(&rt, &Kind::Sha256, 124)?;
+    leaves_beginnings(&rt, &Kind::X509Sha256, 156)?;
+    leaves_beginnings(&rt, &Kind::X509, 51)
 }
