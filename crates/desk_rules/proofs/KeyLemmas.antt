@@ -5,8 +5,8 @@ use Rattle.std.specs.List.{list_any}
 use Rattle.std.proofs.lemmas.Bool.{and_parts}
 use Rattle.desk_texts.specs.declared.command.Call.{Call}
 use Rattle.desk_texts.specs.Calls.{History, are_apart, has_same_key}
-use Rattle.desk_texts.specs.Replies.{Minute, minute, minutes}
-use Rattle.desk_texts.specs.Tables.{call_row}
+use Rattle.desk_texts.specs.declared.rows.Minute.{Minute}
+use Rattle.desk_texts.specs.Replies.{minute, minutes}
 use Rattle.desk_rules.specs.Laws.{KeysStandOnce, is_call_key}
 use Rattle.desk_rules.specs.Runs.{answer, earlier, is_accepted, is_legal}
 use Rattle.desk_rules.proofs.ListLemmas.{apart-more}
@@ -33,11 +33,11 @@ keys_stand_once (c ∷ cs) h =
 
 -- the rows of the minutes have the keys of the calls
 
-any_key : (cs old : History) (c : Call) → list_any (is_call_key (call_row (minute old c))) (map call_row (minutes cs)) ≡ list_any (has_same_key c) cs
+any_key : (cs old : History) (c : Call) → list_any (is_call_key (minute old c)) (minutes cs) ≡ list_any (has_same_key c) cs
 any_key [] old c = refl
 any_key (a ∷ cs) old c = ap (λ b. has_same_key c a || b) (any_key cs old c)
 
-pub key_rows : (cs : History) → are_apart has_same_key cs ≡ true → are_apart is_call_key (map call_row (minutes cs)) ≡ true
+pub key_rows : (cs : History) → are_apart has_same_key cs ≡ true → are_apart is_call_key (minutes cs) ≡ true
 key_rows [] h = refl
 key_rows (c ∷ cs) h =
     let both : (not (list_any (has_same_key c) cs) ≡ true) × (are_apart has_same_key cs ≡ true) = and_parts (not (list_any (has_same_key c) cs)) (are_apart has_same_key cs) h in

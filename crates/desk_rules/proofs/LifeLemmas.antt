@@ -9,7 +9,8 @@ use Rattle.desk_texts.specs.declared.reply.Reply.{Reply}
 use Rattle.desk_texts.specs.Callers.{caller_name}
 use Rattle.desk_texts.specs.Calls.{GoesOnFrom, History}
 use Rattle.desk_texts.specs.CommandTexts.{text_of}
-use Rattle.desk_texts.specs.Replies.{Minute, minute, minutes, reply}
+use Rattle.desk_texts.specs.declared.rows.Minute.{Minute}
+use Rattle.desk_texts.specs.Replies.{minute, minutes, reply}
 use Rattle.desk_rules.specs.declared.answer.Answer.TheVariants.{Refused as IsRefused, Repeated}
 use Rattle.desk_rules.specs.Laws.{AnswersAreKept, AnswersHaveHistories, EndsAreLegal}
 use Rattle.desk_rules.specs.Lives.{Answered, Event, Fate, Holds, MayLeave, MayTurn, Refused, Stopped, events_of}

@@ -4,7 +4,8 @@ use Rattle.std.specs.Prelude.{bytes_eq}
 use Rattle.std.proofs.lemmas.Bool.{and_parts}
 use Rattle.desk_texts.specs.declared.kind.ListedKind.{ListedKind}
 use Rattle.desk_texts.specs.Calls.{History, is_same_kind}
-use Rattle.desk_texts.specs.Listing.{Entry, has_entry, is_entry, is_listed, listed, without}
+use Rattle.desk_texts.specs.declared.rows.Entry.{Entry}
+use Rattle.desk_texts.specs.Listing.{has_entry, is_entry, is_listed, listed, without}
 use Rattle.desk_rules.proofs.CountLemmas.{one_if}
 use Rattle.desk_rules.proofs.ListLemmas.{same_text}
 use Rattle.desk_rules.proofs.ListingLemmas.{apart, listed_apart, listed_rows_are_listed, same_kind}

@@ -9,7 +9,8 @@ use Rattle.desk_texts.specs.declared.command.Command.TheVariants as command
 use Rattle.desk_texts.specs.declared.kind.ListedKind.{ListedKind}
 use Rattle.desk_texts.specs.declared.kind.ListedKind.TheVariants as kinds
 use Rattle.desk_texts.specs.Calls.{History, are_apart, is_same_kind}
-use Rattle.desk_texts.specs.Listing.{Entry, has_entry, is_about, is_entry, is_listed, listed, lists, relisted, without}
+use Rattle.desk_texts.specs.declared.rows.Entry.{Entry}
+use Rattle.desk_texts.specs.Listing.{has_entry, is_about, is_entry, is_listed, listed, lists, relisted, without}
 use Rattle.desk_rules.specs.Laws.{ListsListed}
 use Rattle.desk_rules.proofs.ListLemmas.{apart-more, bytes_eq-refl, same_text}
 

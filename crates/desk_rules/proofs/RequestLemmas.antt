@@ -7,7 +7,8 @@ use Rattle.desk_texts.specs.declared.command.Command.{Command}
 use Rattle.desk_texts.specs.declared.command.Command.TheVariants as command
 use Rattle.desk_texts.specs.Callers.{caller_name}
 use Rattle.desk_texts.specs.Calls.{History}
-use Rattle.desk_texts.specs.Requests.{Submitted, Voted, numbered, is_yes, votes, votes_on}
+use Rattle.desk_texts.specs.declared.rows.Voted.{Voted}
+use Rattle.desk_texts.specs.Requests.{Submitted, numbered, is_yes, votes, votes_on}
 use Rattle.desk_rules.specs.Steps.{is_yes_on_request, votes_yes}
 use Rattle.desk_rules.proofs.CountLemmas.{one_if}
 
@@ -15,18 +16,19 @@ pub length_numbered : (ss : List Submitted) → length (numbered ss) ≡ length 
 length_numbered [] = refl
 length_numbered (s ∷ ss) = ap suc (length_numbered ss)
 
+-- one vote more
+pub count_more : (v : Voted) (vs : List Voted) → count_by is_yes (v ∷ vs) ≡ one_if (is_yes v) + count_by is_yes vs
+count_more v vs =
+    sym (length-filter is_yes (v ∷ vs))
+    ∙ (elim (is_yes v) as (λ b. length (cond b (v ∷ filter is_yes vs) (filter is_yes vs)) ≡ one_if b + length (filter is_yes vs)) [ true ↦ omega arith | false ↦ omega arith ]
+    ∙ ap (λ n. one_if (is_yes v) + n) (length-filter is_yes vs))
+
 count_one : (k : ℕ) (v : Voted) (vs : List Voted) → count_by is_yes (votes_on (v ∷ vs) k) ≡ one_if ((k == v.request) && is_yes v) + count_by is_yes (votes_on vs k)
 count_one k v vs =
     elim (k == v.request) as (λ b. count_by is_yes (cond b (v ∷ votes_on vs k) (votes_on vs k)) ≡ one_if (b && is_yes v) + count_by is_yes (votes_on vs k)) [
-      | true ↦ counted v (votes_on vs k)
+      | true ↦ count_more v (votes_on vs k)
       | false ↦ omega arith
     ]
-  where
-    counted : (v : Voted) (vs : List Voted) → count_by is_yes (v ∷ vs) ≡ one_if (is_yes v) + count_by is_yes vs
-    counted v vs =
-        sym (length-filter is_yes (v ∷ vs))
-        ∙ (elim (is_yes v) as (λ b. length (cond b (v ∷ filter is_yes vs) (filter is_yes vs)) ≡ one_if b + length (filter is_yes vs)) [ true ↦ omega arith | false ↦ omega arith ]
-        ∙ ap (λ n. one_if (is_yes v) + n) (length-filter is_yes vs))
 
 one_yes : (k : ℕ) (cs : History) (old : Call) (given : Command) → count_by is_yes (votes_on (votes (record old { command = given } ∷ cs)) k) ≡ one_if (votes_yes k given) + count_by is_yes (votes_on (votes cs) k)
 one_yes k cs old (command.Review b) = count_one k (record { request = b.request; reviewer = caller_name old.caller; vote = b.vote; note = b.note }) (votes cs)

@@ -20,9 +20,13 @@ use Rattle.desk_texts.specs.Calls.{History, are_apart}
 use Rattle.desk_texts.specs.Level.{generations, names}
 use Rattle.desk_texts.specs.People.{has_name, has_token, people}
 use Rattle.desk_texts.specs.Replies.{minute, minutes}
-use Rattle.desk_texts.specs.Requests.{Request, Returned, Submitted, Voted, is_returned, is_vote_of, is_withdrawn, numbered, request, returns, state, state_by, submitted, votes, votes_on}
+use Rattle.desk_texts.specs.declared.rows.Voted.{Voted}
+use Rattle.desk_texts.specs.Requests.{Request, Returned, Submitted, is_returned, is_vote_of, is_withdrawn, numbered, request, returns, state, state_by, submitted, votes, votes_on}
 use Rattle.desk_texts.specs.Revocations.{revocations}
-use Rattle.desk_texts.specs.Tables.{CallRow, RequestRow, ReturnRow, call_row, level_row, request_row, return_row}
+use Rattle.desk_texts.specs.declared.rows.Minute.{Minute}
+use Rattle.desk_texts.specs.declared.rows.RequestRow.{RequestRow}
+use Rattle.desk_texts.specs.declared.rows.ReturnRow.{ReturnRow}
+use Rattle.desk_texts.specs.Tables.{level_row, request_row, return_row}
 use Rattle.desk_rules.specs.Laws.{RowsStandOnce, is_vote_key}
 use Rattle.desk_rules.specs.Refusals.{own_refusal, refuse_if, return_refusal, review_refusal}
 use Rattle.desk_rules.specs.Runs.{answer, is_accepted, is_legal}
@@ -37,15 +41,15 @@ unlike n m h = grind (arith, nat_tests)
 
 -- numbers of calls: those of the calls before are lower
 
-any_number : (n : ℕ) (cs : History) → length cs < n → list_any (λ (b : CallRow). n == b.number) (map call_row (minutes cs)) ≡ false
+any_number : (n : ℕ) (cs : History) → length cs < n → list_any (λ (b : Minute). n == b.number) (minutes cs) ≡ false
 any_number n [] h = refl
 any_number n (c ∷ cs) h =
-    or_none (n == length cs + 1) (list_any (λ (b : CallRow). n == b.number) (map call_row (minutes cs))) (unlike n (length cs + 1) (omega arith)) (any_number n cs (omega arith))
+    or_none (n == length cs + 1) (list_any (λ (b : Minute). n == b.number) (minutes cs)) (unlike n (length cs + 1) (omega arith)) (any_number n cs (omega arith))
 
-numbers_apart : (cs : History) → are_apart (λ (a b : CallRow). a.number == b.number) (map call_row (minutes cs)) ≡ true
+numbers_apart : (cs : History) → are_apart (λ (a b : Minute). a.number == b.number) (minutes cs) ≡ true
 numbers_apart [] = refl
 numbers_apart (c ∷ cs) =
-    apart-more (λ (a b : CallRow). a.number == b.number) (call_row (minute cs c)) (map call_row (minutes cs)) (any_number (length cs + 1) cs (omega arith)) (numbers_apart cs)
+    apart-more (λ (a b : Minute). a.number == b.number) (minute cs c) (minutes cs) (any_number (length cs + 1) cs (omega arith)) (numbers_apart cs)
 
 -- numbers of requests, as those of calls
 

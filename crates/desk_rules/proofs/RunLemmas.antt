@@ -11,7 +11,8 @@ use Rattle.desk_texts.specs.declared.reply.Reply.{Reply}
 use Rattle.desk_texts.specs.Callers.{caller_name}
 use Rattle.desk_texts.specs.Calls.{GoesOnFrom, History, once}
 use Rattle.desk_texts.specs.CommandTexts.{text_of}
-use Rattle.desk_texts.specs.Replies.{Minute, reply}
+use Rattle.desk_texts.specs.declared.rows.Minute.{Minute}
+use Rattle.desk_texts.specs.Replies.{reply}
 use Rattle.desk_texts.specs.Level.{generations, names}
 use Rattle.desk_texts.specs.Listing.{listed}
 use Rattle.desk_texts.specs.People.{people}

@@ -15,7 +15,7 @@ use Rattle.desk_texts.specs.Revocations.{is_revoked, revocations, revoked_by}
 use Rattle.desk_rules.specs.declared.finding.Below.{Below}
 use Rattle.desk_rules.specs.declared.finding.Verdict.TheVariants.{Allowed, Sbat}
 use Rattle.desk_rules.specs.Laws.{AllowsExactly, StaysBarred}
-use Rattle.desk_rules.specs.Verdicts.{first_below, has_revoked_certificate, has_revoked_digest, is_barred, is_below, is_less, lack_at, stands_in_db, verdict_by}
+use Rattle.desk_rules.specs.Verdicts.{first_below, Standing, has_revoked_certificate, has_revoked_digest, is_barred, is_below, is_less, lack_at, standing, stands_in_db, verdict_by}
 use Rattle.desk_rules.proofs.ListLemmas.{any_after, any_of, flat_map-append, or_mono}
 
 -- no component is below the level exactly where the first such is none
@@ -30,10 +30,10 @@ one_component place generation (Some needed) rest any h =
       | false ↦ h
     ]
 
-components_allow : (cs : History) (place : ℕ) (xs : List Component) → AllowsBy (first_below cs place xs) (list_any (is_below cs) xs)
-components_allow cs place [] = (λ e. refl, λ e. refl)
-components_allow cs place (x ∷ xs) =
-    one_component place x.generation (level cs x.name) (first_below cs (place + 1) xs) (list_any (is_below cs) xs) (components_allow cs (place + 1) xs)
+components_allow : (s : Standing) (place : ℕ) (xs : List Component) → AllowsBy (first_below s place xs) (list_any (is_below s) xs)
+components_allow s place [] = (λ e. refl, λ e. refl)
+components_allow s place (x ∷ xs) =
+    one_component place x.generation (s.asked x.name) (first_below s (place + 1) xs) (list_any (is_below s) xs) (components_allow s (place + 1) xs)
 
 by_parts : (d c l : Bool) (below : Option Below) (any : Bool) → AllowsBy below any → (verdict_by d c l below ≡ Allowed) ↔ (((d || c || any) ≡ false) × (l ≡ true))
 by_parts true c l below any h = (λ e. cc, λ e. cc)
@@ -43,7 +43,7 @@ by_parts false false true below any h = (λ e. (h.0 e, refl), λ e. h.1 e.0)
 
 pub allows_exactly : AllowsExactly
 allows_exactly cs x =
-    by_parts (has_revoked_digest cs x) (has_revoked_certificate cs x) (stands_in_db cs x) (first_below cs 0 x.components) (list_any (is_below cs) x.components) (components_allow cs 0 x.components)
+    by_parts (has_revoked_digest (standing cs) x) (has_revoked_certificate (standing cs) x) (stands_in_db cs x) (first_below (standing cs) 0 x.components) (list_any (is_below (standing cs)) x.components) (components_allow (standing cs) 0 x.components)
 
 -- what more calls add
 
@@ -65,7 +65,7 @@ greatest_after n name (x ∷ xs) ys h =
       | false ↦ later
     ]
 
-below_after : (cs new : History) (x : Component) → is_below cs x ≡ true → is_below (new ++ cs) x ≡ true
+below_after : (cs new : History) (x : Component) → is_below (standing cs) x ≡ true → is_below (standing (new ++ cs)) x ≡ true
 below_after cs new x h =
     elim (is_sbat x.name) as (λ b. is_less x.generation (if b then Some 1 else greatest (generations cs) x.name) ≡ true → is_less x.generation (if b then Some 1 else greatest (generations (new ++ cs)) x.name) ≡ true) [
       | true ↦ λ k. k
@@ -78,11 +78,11 @@ barred_after : (cs new : History) (x : Facts) → is_barred cs x ≡ true → is
 barred_after cs new x =
     let digest : is_revoked kinds.Digest cs x.digest ≡ true → is_revoked kinds.Digest (new ++ cs) x.digest ≡ true = revoked_after kinds.Digest cs new x.digest in
     let signing : is_revoked kinds.Digest cs x.signing ≡ true → is_revoked kinds.Digest (new ++ cs) x.signing ≡ true = revoked_after kinds.Digest cs new x.signing in
-    or_mono (has_revoked_digest cs x || has_revoked_certificate cs x) (list_any (is_below cs) x.components) (has_revoked_digest (new ++ cs) x || has_revoked_certificate (new ++ cs) x) (list_any (is_below (new ++ cs)) x.components)
-    (or_mono (has_revoked_digest cs x) (has_revoked_certificate cs x) (has_revoked_digest (new ++ cs) x) (has_revoked_certificate (new ++ cs) x)
+    or_mono (has_revoked_digest (standing cs) x || has_revoked_certificate (standing cs) x) (list_any (is_below (standing cs)) x.components) (has_revoked_digest (standing (new ++ cs)) x || has_revoked_certificate (standing (new ++ cs)) x) (list_any (is_below (standing (new ++ cs))) x.components)
+    (or_mono (has_revoked_digest (standing cs) x) (has_revoked_certificate (standing cs) x) (has_revoked_digest (standing (new ++ cs)) x) (has_revoked_certificate (standing (new ++ cs)) x)
     (or_mono (is_revoked kinds.Digest cs x.digest) (is_revoked kinds.Digest cs x.signing) (is_revoked kinds.Digest (new ++ cs) x.digest) (is_revoked kinds.Digest (new ++ cs) x.signing) digest signing)
     (any_of (is_revoked kinds.Certificate cs) (is_revoked kinds.Certificate (new ++ cs)) (revoked_after kinds.Certificate cs new) x.carried))
-    (any_of (is_below cs) (is_below (new ++ cs)) (below_after cs new) x.components)
+    (any_of (is_below (standing cs)) (is_below (standing (new ++ cs))) (below_after cs new) x.components)
 
 pub what_is_barred_stays_barred : StaysBarred
 what_is_barred_stays_barred earlier later x more h = subst (λ cs. IsTrue (is_barred cs x)) (sym more.1) (barred_after earlier more.0 x h)

@@ -7,9 +7,14 @@ use Rattle.desk_texts.specs.declared.kind.ListedKind.{ListedKind}
 use Rattle.desk_texts.specs.declared.command.Person.{Person}
 use Rattle.desk_texts.specs.declared.reply.Reply.{Reply}
 use Rattle.desk_texts.specs.Calls.{GoesOnFrom, History, are_apart, has_same_key}
-use Rattle.desk_texts.specs.Listing.{Entry, has_entry, is_entry, is_listed, listed}
-use Rattle.desk_texts.specs.Requests.{Voted}
-use Rattle.desk_texts.specs.Tables.{CallRow, RequestRow, ReturnRow, Tables, tables}
+use Rattle.desk_texts.specs.declared.rows.Entry.{Entry}
+use Rattle.desk_texts.specs.Listing.{has_entry, is_entry, is_listed, listed}
+use Rattle.desk_texts.specs.declared.rows.Voted.{Voted}
+use Rattle.desk_texts.specs.declared.rows.Minute.{Minute}
+use Rattle.desk_texts.specs.declared.rows.RequestRow.{RequestRow}
+use Rattle.desk_texts.specs.declared.rows.ReturnRow.{ReturnRow}
+use Rattle.desk_texts.specs.Tables.{Tables, tables}
+use Rattle.desk_texts.specs.Callers.{caller_name}
 use Rattle.desk_rules.specs.declared.finding.Verdict.TheVariants.{Allowed}
 use Rattle.desk_rules.specs.Lives.{Answered, Ends, Event, Holds, WasAnswered, events_of}
 use Rattle.desk_rules.specs.Runs.{is_legal, run}
@@ -39,8 +44,8 @@ abbrev pub ListsListed : Type 0
 ListsListed = (cs : History) (kind : ListedKind) (digest : List ℕ) → has_entry kind digest (listed cs) ≡ is_listed kind cs digest
 
 -- two rows have the same caller and key
-abbrev pub is_call_key : CallRow → CallRow → Bool
-is_call_key a b = bytes_eq a.caller b.caller && bytes_eq a.key b.key
+abbrev pub is_call_key : Minute → Minute → Bool
+is_call_key a b = bytes_eq (caller_name a.caller) (caller_name b.caller) && bytes_eq a.key b.key
 
 -- two votes of one reviewer on one request
 abbrev pub is_vote_key : Voted → Voted → Bool
@@ -48,7 +53,7 @@ is_vote_key a b = (a.request == b.request) && bytes_eq a.reviewer b.reviewer
 
 -- No two rows of a table have the same key.
 pub record StandOnce (t : Tables) : Type 0 where
-  pub numbers : IsTrue (are_apart (λ (a b : CallRow). a.number == b.number) t.calls)
+  pub numbers : IsTrue (are_apart (λ (a b : Minute). a.number == b.number) t.calls)
   pub keys : IsTrue (are_apart is_call_key t.calls)
   pub names : IsTrue (are_apart (λ (a b : Person). bytes_eq a.name b.name) t.people)
   pub tokens : IsTrue (are_apart (λ (a b : Person). bytes_eq a.token b.token) t.people)

@@ -1,3 +1,5 @@
+pub mod Decisions
+pub mod ImportSteps
 pub mod Laws
 pub mod Limits
 pub mod Lives
@@ -6,3 +8,4 @@ pub mod Repeats
 pub mod Runs
 pub mod Steps
 pub mod Verdicts
+pub mod Views

@@ -4,7 +4,7 @@ use Rattle.std.specs.List.{list_all}
 use Rattle.desk_texts.specs.declared.command.Call.{Call}
 use Rattle.desk_texts.specs.declared.reply.Reply.{Reply}
 use Rattle.desk_texts.specs.Calls.{History}
-use Rattle.desk_texts.specs.Replies.{Minute}
+use Rattle.desk_texts.specs.declared.rows.Minute.{Minute}
 use Rattle.desk_texts.specs.CommandTexts.{text_of}
 use Rattle.desk_rules.specs.Runs.{answer, earlier, next, reply_in}
 

@@ -1,5 +1,5 @@
 -- Why a call is refused: the first condition that holds.
-use Rattle.std.specs.Prelude.{ℕ, Bool, true, false, not, ◌&&◌, ◌||◌, nat_lt, if◌then◌else◌, List, ◌∷◌, Option, Some, None, is_some, bytes_eq, codes}
+use Rattle.std.specs.Prelude.{ℕ, Bool, true, false, not, ◌&&◌, ◌||◌, nat_lt, if◌then◌else◌, List, ◌∷◌, find, Option, Some, None, is_some, bytes_eq, codes}
 use Rattle.std.specs.List.{list_any}
 use Rattle.std.specs.Option.{option_map_or, option_or}
 use Rattle.desk_bytes.specs.declared.refusal.Refusal.{Refusal}
@@ -21,8 +21,9 @@ use Rattle.desk_texts.specs.Callers.{caller_name}
 use Rattle.desk_texts.specs.Calls.{History}
 use Rattle.desk_texts.specs.Level.{generations, greatest, is_above, is_sbat, raises_some, stamp}
 use Rattle.desk_texts.specs.Listing.{is_listed}
-use Rattle.desk_texts.specs.People.{has_name, has_token, people, person}
-use Rattle.desk_texts.specs.Requests.{Request, Voted, is_vote_of, request, state, votes, votes_on}
+use Rattle.desk_texts.specs.People.{has_name, has_token, people}
+use Rattle.desk_texts.specs.declared.rows.Voted.{Voted}
+use Rattle.desk_texts.specs.Requests.{Request, is_vote_of, request, state, votes, votes_on}
 use Rattle.desk_texts.specs.Revocations.{is_revoked}
 use Rattle.desk_rules.specs.Limits.{is_within}
 use Rattle.desk_rules.specs.Verdicts.{is_barred, stands_in_db}
@@ -53,15 +54,23 @@ abbrev pub is_for_console : Command → Bool
 is_for_console (command.AddPerson _) = true
 is_for_console _ = false
 
+-- the caller is the console, or one of these people
+abbrev pub is_one_of : List Person → Caller → Bool
+is_one_of ps caller.Console = true
+is_one_of ps (caller.Person name) = is_some (find (has_name name) ps)
+
 -- the caller is the console, or a person who was added
 abbrev pub is_known : History → Caller → Bool
-is_known cs caller.Console = true
-is_known cs (caller.Person name) = is_some (person cs name)
+is_known cs c = is_one_of (people cs) c
+
+-- the caller gives such commands, where these are the people
+abbrev pub is_theirs : List Person → Caller → Command → Bool
+is_theirs ps caller.Console command = is_for_console command
+is_theirs ps (caller.Person name) command = option_map_or (λ p. is_for p.role command) (find (has_name name) ps) false
 
 -- the caller gives such commands
 abbrev pub may_give : History → Caller → Command → Bool
-may_give cs caller.Console command = is_for_console command
-may_give cs (caller.Person name) command = option_map_or (λ p. is_for p.role command) (person cs name) false
+may_give cs c command = is_theirs (people cs) c command
 
 -- AddPerson. own: a name and a token are one person's, and `console` is nobody's name
 abbrev pub add_refusal : List Person → Person → Option Refusal
@@ -69,32 +78,46 @@ add_refusal ps p =
     refuse_if (bytes_eq p.name (codes "console") || list_any (has_name p.name) ps || list_any (has_token p.token) ps)
     refusals.NameTaken
 
--- Review, of the request with its state and the votes on it. own: nobody votes twice or on an own request
+-- Review, of a request in this state, the reviewer's own or not, on which the reviewer voted or not. own: nobody votes
+-- twice or on an own request
+abbrev pub review_by : State → Bool → Bool → Option Refusal
+review_by state own voted =
+    if not (elim state [ states.Open ↦ true | _ ↦ false ]) then Some refusals.WrongState
+    else (if own then Some refusals.OwnRequest else refuse_if voted refusals.AlreadyReviewed)
+
+-- Review, of the request with its state and the votes on it
 abbrev pub review_refusal : Option Request → State → List Voted → List ℕ → Option Refusal
 review_refusal None state vs reviewer = Some refusals.NoSuchRequest
 review_refusal (Some r) state vs reviewer =
-    if not (elim state [ states.Open ↦ true | _ ↦ false ]) then Some refusals.WrongState
-    else (if bytes_eq r.submitter reviewer then Some refusals.OwnRequest
-    else refuse_if (list_any (is_vote_of reviewer) vs) refusals.AlreadyReviewed)
+    review_by state (bytes_eq r.submitter reviewer) (list_any (is_vote_of reviewer) vs)
 
--- Withdraw, of the request with its state. own: another's request is none to the caller
-abbrev pub withdraw_refusal : Option Request → State → List ℕ → Option Refusal
-withdraw_refusal None state caller = Some refusals.NoSuchRequest
-withdraw_refusal (Some r) state caller =
-    if not (bytes_eq r.submitter caller) then Some refusals.NoSuchRequest
+-- Withdraw, of a request in this state, the caller's own or not. own: another's request is none to the caller
+abbrev pub withdraw_by : State → Bool → Option Refusal
+withdraw_by state own =
+    if not own then Some refusals.NoSuchRequest
     else refuse_if (elim state [ states.Open ↦ false | states.Approved ↦ false | _ ↦ true ]) refusals.WrongState
 
--- the image's digest is one of the two that a signature of the request's image may hold
-abbrev pub is_image_of : Request → Facts → Bool
-is_image_of r x = bytes_eq x.digest r.facts.signing || bytes_eq x.digest r.facts.digest
+-- Withdraw, of the request with its state
+abbrev pub withdraw_refusal : Option Request → State → List ℕ → Option Refusal
+withdraw_refusal None state caller = Some refusals.NoSuchRequest
+withdraw_refusal (Some r) state caller = withdraw_by state (bytes_eq r.submitter caller)
+
+-- an image as the signed one of the image that has this digest and this digest to be signed; it is barred or not, and
+-- stands in db or not
+abbrev pub image_refusal : List ℕ → List ℕ → Facts → Bool → Bool → Option Refusal
+image_refusal digest signing x barred listed =
+    if not (bytes_eq x.digest signing || bytes_eq x.digest digest) then Some refusals.DigestDiffers
+    else (if barred then Some refusals.Revoked else refuse_if (not listed) refusals.NotListed)
+
+-- Return for a request in this state, of which the image is refused or not
+abbrev pub return_by : State → Option Refusal → Option Refusal
+return_by state image = if not (elim state [ states.Approved ↦ true | _ ↦ false ]) then Some refusals.WrongState else image
 
 -- Return of an image for the request with its state; the image is barred or not, and stands in db or not
 abbrev pub return_refusal : Option Request → State → Facts → Bool → Bool → Option Refusal
 return_refusal None state x barred listed = Some refusals.NoSuchRequest
 return_refusal (Some r) state x barred listed =
-    if not (elim state [ states.Approved ↦ true | _ ↦ false ]) then Some refusals.WrongState
-    else (if not (is_image_of r x) then Some refusals.DigestDiffers
-    else (if barred then Some refusals.Revoked else refuse_if (not listed) refusals.NotListed))
+    return_by state (image_refusal r.facts.digest r.facts.signing x barred listed)
 
 -- RaiseLevel, over the present generation of the component and the present stamp
 abbrev pub raise_refusal : Option ℕ → ℕ → Raise → Option Refusal

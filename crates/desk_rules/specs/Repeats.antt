@@ -4,7 +4,8 @@ use Rattle.desk_texts.specs.declared.command.Call.{Call}
 use Rattle.desk_texts.specs.declared.command.Command.{Command}
 use Rattle.desk_texts.specs.Calls.{History}
 use Rattle.desk_texts.specs.CommandTexts.{text_of}
-use Rattle.desk_texts.specs.Replies.{Minute, minute}
+use Rattle.desk_texts.specs.declared.rows.Minute.{Minute}
+use Rattle.desk_texts.specs.Replies.{minute}
 use Rattle.desk_rules.specs.Runs.{earlier, is_legal}
 
 -- the minute of the newest of these calls

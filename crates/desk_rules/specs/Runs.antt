@@ -6,7 +6,8 @@ use Rattle.desk_texts.specs.declared.command.Call.{Call}
 use Rattle.desk_texts.specs.declared.reply.Reply.{Reply}
 use Rattle.desk_texts.specs.Callers.{caller_name}
 use Rattle.desk_texts.specs.Calls.{History}
-use Rattle.desk_texts.specs.Replies.{Minute, minutes, reply}
+use Rattle.desk_texts.specs.declared.rows.Minute.{Minute}
+use Rattle.desk_texts.specs.Replies.{minutes, reply}
 use Rattle.desk_texts.specs.CommandTexts.{text_of}
 use Rattle.desk_rules.specs.declared.answer.Answer.{Answer}
 use Rattle.desk_rules.specs.declared.answer.Answer.TheVariants.{Accepted, Refused, Repeated}
@@ -14,7 +15,7 @@ use Rattle.desk_rules.specs.Refusals.{is_known, refusal}
 
 -- the minute is of a call with this caller and key
 abbrev pub has_key : List ℕ → List ℕ → Minute → Bool
-has_key caller key m = bytes_eq caller m.caller && bytes_eq key m.key
+has_key caller key m = bytes_eq caller (caller_name m.caller) && bytes_eq key m.key
 
 -- the minute of the caller's earlier call with the same key
 abbrev pub earlier : History → Call → Option Minute

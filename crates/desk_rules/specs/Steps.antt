@@ -41,9 +41,3 @@ votes_yes number _ = false
 -- the call is a vote of yes on the request
 abbrev pub is_yes_on_request : ℕ → Call → Bool
 is_yes_on_request number c = votes_yes number c.command
-
--- an image returned for another, barred or not, standing in db or not
-abbrev pub image_refusal : Facts → Facts → Bool → Bool → Option Refusal
-image_refusal asked x barred listed =
-    if not (bytes_eq x.digest asked.signing || bytes_eq x.digest asked.digest) then Some refusals.DigestDiffers
-    else (if barred then Some refusals.Revoked else refuse_if (not listed) refusals.NotListed)

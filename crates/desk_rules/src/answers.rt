@@ -2,7 +2,7 @@
 ghost use Rattle.std.specs.Prelude.{◌≡◌, ◌∷◌, IfOk, IsTrue, MatchOption, None, Some};
 ghost use Rattle.desk_texts.specs.Calls.{has_same_key as same_key};
 ghost use Rattle.desk_texts.specs.CommandTexts.{text_of};
-ghost use Rattle.desk_texts.specs.Replies.{Minute};
+ghost use Rattle.desk_texts.specs.declared.rows.Minute.{Minute};
 ghost use Rattle.desk_rules.specs.Runs as spec;
 ghost use Rattle.desk_rules.specs.Repeats.{IsEarlier, have_same_text, newest_minute};
 

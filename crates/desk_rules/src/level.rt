@@ -10,7 +10,7 @@ use sbat::{Component, ComponentName, Generation, Stamp};
 use std::slice;
 
 /// The components whose generation the command names, in its order.
-fn components_of(command: &Command) -> &[Component]
+pub(crate) fn components_of(command: &Command) -> &[Component]
     ensures order { reverse result.now ≡ spec.components_of command.now }
     ensures few { length result.now ≤ MOST_IMPORTED }
 {
@@ -33,7 +33,7 @@ fn greater(a: Option<Generation>, b: Option<Generation>) -> Option<Generation>
 }
 
 /// The greatest generation that the components have under the name.
-fn greatest_of(components: &[Component], name: &ComponentName) -> Option<Generation>
+pub(crate) fn greatest_of(components: &[Component], name: &ComponentName) -> Option<Generation>
     ensures { result ≡ spec.greatest components.now name.now }
 {
     let mut found = None;
@@ -156,7 +156,7 @@ pub(crate) fn count_raised(calls: &[Call], command: &Command) -> usize
 }
 
 /// Whether one of the components has the name.
-fn is_named(components: &[Component], name: &ComponentName) -> bool
+pub(crate) fn is_named(components: &[Component], name: &ComponentName) -> bool
     ensures { result ≡ list_any (has_name name.now) components.now }
 {
     for component in components {

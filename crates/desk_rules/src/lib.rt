@@ -4,10 +4,12 @@
 
 mod answer;
 mod answers;
+mod decisions;
 mod finding;
 mod laws;
 mod level;
 mod limits;
+mod list_view;
 mod listed;
 mod people;
 mod plain;
@@ -15,7 +17,11 @@ mod refusals;
 mod replies;
 mod requests;
 mod revoked;
+mod standing;
+mod tables;
+mod tabling;
 mod verdicts;
+mod view;
 
 pub use answer::Answer;
 pub use finding::{Below, Verdict};
@@ -28,7 +34,10 @@ pub use limits::{
     MOST_CALLS, MOST_LEVEL_COMPONENTS, MOST_LISTED, MOST_PEOPLE, MOST_REQUESTS,
     MOST_REVOKED_CERTIFICATES, MOST_REVOKED_DIGESTS,
 };
+pub use list_view::verdict;
 pub use plain::PlainDesk;
+pub use tables::Tables;
+pub use view::ListView;
 
 #[cfg(test)]
 mod tests;

@@ -7,7 +7,7 @@ use desk_bytes::Digest;
 use desk_texts::{Call, Command, ListedKind};
 
 /// Whether both are of one kind.
-fn is_same(a: ListedKind, b: ListedKind) -> bool
+pub(crate) fn is_same(a: ListedKind, b: ListedKind) -> bool
     ensures { result ≡ is_same_kind a b }
 {
     match (a, b) {

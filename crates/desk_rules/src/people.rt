@@ -72,7 +72,7 @@ pub(crate) fn is_known(calls: &[Call], caller: &Caller) -> bool
 }
 
 /// Whether people of the role give the command.
-fn is_for(role: Role, command: &Command) -> bool
+pub(crate) fn is_for(role: Role, command: &Command) -> bool
     ensures { result ≡ rule.is_for role command.now }
 {
     match command {

@@ -7,14 +7,18 @@ ghost use Rattle.desk_texts.specs.Listing.{is_listed as listed_in};
 ghost use Rattle.desk_texts.specs.People.{person as person_in};
 ghost use Rattle.desk_texts.specs.Requests.{state as state_in};
 ghost use Rattle.desk_texts.specs.Revocations.{is_revoked as revoked_in};
+ghost use Rattle.desk_texts.specs.Tables.{tables as tables_of};
 ghost use Rattle.desk_rules.specs.Runs as spec;
 ghost use Rattle.desk_rules.specs.Verdicts.{verdict as verdict_in};
 
 use crate::answer::Answer;
 use crate::answers::answer;
 use crate::finding::Verdict;
+use crate::standing::Calls;
+use crate::tables::Tables;
+use crate::tabling::tables;
 use crate::{level, listed, people, requests, revoked, verdicts};
-use desk_bytes::Digest;
+use desk_bytes::{Digest, Guid};
 use desk_texts::{Call, Facts, ListedKind, Person, PersonName, RequestNumber, State};
 use sbat::{ComponentName, Generation, Stamp};
 use std::alloc::{AllocError, Global};
@@ -136,7 +140,7 @@ impl PlainDesk {
     pub fn verdict(&self, facts: &Facts) -> Verdict
         ensures { result ≡ verdict_in self.now facts.now }
     {
-        verdicts::verdict_of(&self.calls, facts)
+        verdicts::verdict_of(&Calls(&self.calls), facts)
     }
 
     /// The person of this name.
@@ -180,5 +184,13 @@ impl PlainDesk {
         ensures { result ≡ listed_in kind self.now digest }
     {
         listed::is_listed(&self.calls, kind, digest)
+    }
+
+    /// The tables that the calls stand for, where the entries that the desk exports have this owner. Takes memory for
+    /// every row; the time grows with the square of the calls.
+    pub fn tables(&self, owner: Guid) -> Result<Tables, AllocError>
+        ensures { IfOk result (λ tables. tables ≡ tables_of owner self.now) }
+    {
+        tables(*self.calls.allocator(), &self.calls, owner)
     }
 }

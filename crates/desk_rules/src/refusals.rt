@@ -1,12 +1,10 @@
 //! Why a call is refused.
 ghost use Rattle.std.specs.Prelude.{◌≡◌, ◌∷◌, ℕ, List};
 ghost use Rattle.desk_texts.specs.Callers.{caller_name};
-ghost use Rattle.desk_texts.specs.Level.{generations, greatest as greatest_in, stamp as stamp_in};
 ghost use Rattle.desk_texts.specs.People.{people as people_in};
 ghost use Rattle.desk_texts.specs.Requests as requests;
 ghost use Rattle.desk_rules.specs.Refusals as spec;
-ghost use Rattle.desk_rules.specs.Steps.{image_refusal as image_refused};
-ghost use Rattle.desk_rules.specs.Verdicts.{is_barred as barred_in, stands_in_db as stands_in};
+ghost use Rattle.desk_rules.specs.Verdicts.{bars as bars_on, is_barred as barred_in, lists_image as lists_on, stands_in_db as stands_in};
 
 use crate::level::{greatest, is_above, is_sbat, raises_some, stamp};
 use crate::limits::is_within;
@@ -14,15 +12,16 @@ use crate::listed::is_listed;
 use crate::people::{has_name, has_token, may_give};
 use crate::requests::{has_voted, request, state};
 use crate::revoked::is_revoked;
-use crate::verdicts::{is_barred, stands_in_db};
-use desk_bytes::Refusal;
+use crate::standing::{Calls, Standing};
+use crate::verdicts::{bars, lists_image};
+use desk_bytes::{Digest, Refusal};
 use desk_texts::{
     Ballot, Call, Caller, Command, Facts, Handback, ListedKind, Person, Raise, RequestNumber, State,
 };
-use sbat::Stamp;
+use sbat::{Generation, Stamp};
 
 /// The refusal where the condition holds.
-fn refuse_if(condition: bool, refusal: Refusal) -> Option<Refusal>
+pub(crate) fn refuse_if(condition: bool, refusal: Refusal) -> Option<Refusal>
     ensures { result ≡ spec.refuse_if condition refusal }
 {
     if condition { Some(refusal) } else { None }
@@ -38,6 +37,24 @@ fn add_refusal(calls: &[Call], person: &Person) -> Option<Refusal>
     refuse_if(is_taken, Refusal::NameTaken)
 }
 
+/// Why a vote isn't taken, on a request in this state, the reviewer's own or not, on which the reviewer voted or not.
+pub(crate) fn review_by(state: State, is_own: bool, has_voted: bool) -> Option<Refusal>
+    ensures { result ≡ spec.review_by state is_own has_voted }
+{
+    match state {
+        State::Open => {
+            if is_own {
+                Some(Refusal::OwnRequest)
+            } else {
+                refuse_if(has_voted, Refusal::AlreadyReviewed)
+            }
+        }
+        State::Approved | State::Rejected | State::Withdrawn | State::Signed => Some(
+            Refusal::WrongState,
+        ),
+    }
+}
+
 /// Why the caller's vote isn't taken.
 fn review_refusal(calls: &[Call], ballot: &Ballot, caller: &Caller) -> Option<Refusal>
     ensures { result ≡ spec.review_refusal (requests.request calls.now ballot.now.request)
@@ -47,20 +64,23 @@ fn review_refusal(calls: &[Call], ballot: &Ballot, caller: &Caller) -> Option<Re
     let Some(asked) = request(calls, ballot.request) else {
         return Some(Refusal::NoSuchRequest);
     };
-    match state(calls, ballot.request) {
-        State::Open => {
-            if asked.caller.name() == caller.name() {
-                Some(Refusal::OwnRequest)
-            } else {
-                refuse_if(
-                    has_voted(calls, ballot.request, caller),
-                    Refusal::AlreadyReviewed,
-                )
-            }
-        }
-        State::Approved | State::Rejected | State::Withdrawn | State::Signed => Some(
-            Refusal::WrongState,
-        ),
+    review_by(
+        state(calls, ballot.request),
+        asked.caller.name() == caller.name(),
+        has_voted(calls, ballot.request, caller),
+    )
+}
+
+/// Why a request in this state isn't withdrawn, the caller's own or not.
+pub(crate) fn withdraw_by(state: State, is_own: bool) -> Option<Refusal>
+    ensures { result ≡ spec.withdraw_by state is_own }
+{
+    if !is_own {
+        return Some(Refusal::NoSuchRequest);
+    }
+    match state {
+        State::Open | State::Approved => None,
+        State::Rejected | State::Withdrawn | State::Signed => Some(Refusal::WrongState),
     }
 }
 
@@ -72,27 +92,38 @@ fn withdraw_refusal(calls: &[Call], number: RequestNumber, caller: &Caller) -> O
     let Some(asked) = request(calls, number) else {
         return Some(Refusal::NoSuchRequest);
     };
-    if asked.caller.name() != caller.name() {
-        return Some(Refusal::NoSuchRequest);
-    }
-    match state(calls, number) {
-        State::Open | State::Approved => None,
-        State::Rejected | State::Withdrawn | State::Signed => Some(Refusal::WrongState),
-    }
+    withdraw_by(state(calls, number), asked.caller.name() == caller.name())
 }
 
-/// Why the image isn't taken as the signed one of the image that was asked for.
-fn image_refusal(calls: &[Call], asked: &Facts, facts: &Facts) -> Option<Refusal>
-    ensures { result
-        ≡ image_refused asked.now facts.now (barred_in calls.now facts.now) (stands_in calls.now facts.now) }
+/// Why the image isn't taken as the signed one of the image that has this digest and this digest to be signed.
+pub(crate) fn image_refusal<S: Standing>(
+    lists: &S,
+    digest: Digest,
+    signing: Digest,
+    facts: &Facts,
+) -> Option<Refusal>
+    ensures { result ≡ spec.image_refusal digest signing facts.now
+        (bars_on (S.standing lists.now) facts.now) (lists_on (S.standing lists.now) facts.now) }
 {
-    if facts.digest != asked.signing && facts.digest != asked.digest {
+    if facts.digest != signing && facts.digest != digest {
         return Some(Refusal::DigestDiffers);
     }
-    if is_barred(calls, facts) {
+    if bars(lists, facts) {
         return Some(Refusal::Revoked);
     }
-    refuse_if(!stands_in_db(calls, facts), Refusal::NotListed)
+    refuse_if(!lists_image(lists, facts), Refusal::NotListed)
+}
+
+/// Why a file isn't taken for a request in this state, of which the image is refused or not.
+pub(crate) fn return_by(state: State, image: Option<Refusal>) -> Option<Refusal>
+    ensures { result ≡ spec.return_by state image }
+{
+    match state {
+        State::Approved => image,
+        State::Open | State::Rejected | State::Withdrawn | State::Signed => Some(
+            Refusal::WrongState,
+        ),
+    }
 }
 
 /// Why the returned file isn't taken.
@@ -104,34 +135,31 @@ fn return_refusal(calls: &[Call], handback: &Handback) -> Option<Refusal>
     let Some(asked) = request(calls, handback.request) else {
         return Some(Refusal::NoSuchRequest);
     };
-    match state(calls, handback.request) {
-        State::Approved => image_refusal(calls, &asked.submission.facts, &handback.facts),
-        State::Open | State::Rejected | State::Withdrawn | State::Signed => Some(
-            Refusal::WrongState,
-        ),
-    }
+    let facts = &asked.submission.facts;
+    let image = image_refusal(&Calls(calls), facts.digest, facts.signing, &handback.facts);
+    return_by(state(calls, handback.request), image)
 }
 
-/// Why the generation isn't raised.
-fn raise_refusal(calls: &[Call], raise: &Raise) -> Option<Refusal>
-    ensures { result ≡ spec.raise_refusal
-        (greatest_in (generations calls.now) raise.now.component.name) (stamp_in calls.now) raise.now }
+/// Why the generation isn't raised from the present one, where the level's stamp is this.
+pub(crate) fn raise_refusal(
+    present: Option<Generation>,
+    now: Stamp,
+    raise: &Raise,
+) -> Option<Refusal>
+    ensures { result ≡ spec.raise_refusal present now raise.now }
 {
     let component = &raise.component;
     if is_sbat(&component.name) {
         return Some(Refusal::NotHigher);
     }
-    if !is_above(component.generation, greatest(calls, &component.name)) {
+    if !is_above(component.generation, present) {
         return Some(Refusal::NotHigher);
     }
-    refuse_if(
-        raise.stamp.value() <= stamp(calls).value(),
-        Refusal::StampNotLater,
-    )
+    refuse_if(raise.stamp.value() <= now.value(), Refusal::StampNotLater)
 }
 
 /// Whether a stamp is there, and above the present one.
-fn is_later(now: Stamp, stamp: Option<Stamp>) -> bool
+pub(crate) fn is_later(now: Stamp, stamp: Option<Stamp>) -> bool
     ensures { result ≡ spec.is_later now stamp }
 {
     match stamp {
@@ -147,7 +175,7 @@ fn own_refusal(calls: &[Call], caller: &Caller, command: &Command) -> Option<Ref
     match command {
         Command::AddPerson(person) => add_refusal(calls, person),
         Command::Submit(submission) => {
-            refuse_if(is_barred(calls, &submission.facts), Refusal::Revoked)
+            refuse_if(bars(&Calls(calls), &submission.facts), Refusal::Revoked)
         }
         Command::Review(ballot) => review_refusal(calls, ballot, caller),
         Command::Withdraw(number) => withdraw_refusal(calls, *number, caller),
@@ -180,7 +208,10 @@ fn own_refusal(calls: &[Call], caller: &Caller, command: &Command) -> Option<Ref
                 Refusal::AlreadyRevoked,
             )
         }
-        Command::RaiseLevel(raise) => raise_refusal(calls, raise),
+        Command::RaiseLevel(raise) => {
+            let present = greatest(calls, &raise.component.name);
+            raise_refusal(present, stamp(calls), raise)
+        }
         Command::ImportRevocations(import) => refuse_if(
             raises_some(calls, command) && !is_later(stamp(calls), import.stamp()),
             Refusal::StampNotLater,

@@ -11,7 +11,7 @@ use desk_texts::{Call, Command, Counts, Import, ListedKind, Outcome, Reply, Requ
 use std::alloc::AllocError;
 
 /// The number of the next request.
-fn next_number(before: &[Call]) -> RequestNumber
+pub(crate) fn next_number(before: &[Call]) -> RequestNumber
     requires { IsTrue (is_legal before.now) }
     ensures { result ≡ length (requests_in before.now) + 1 }
 {

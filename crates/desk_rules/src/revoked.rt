@@ -8,7 +8,7 @@ use desk_texts::{Call, Command, ListedKind, MOST_IMPORTED};
 use std::slice;
 
 /// Whether the digest is one of these.
-fn is_one_of(digests: &[Digest], digest: Digest) -> bool
+pub(crate) fn is_one_of(digests: &[Digest], digest: Digest) -> bool
     ensures { result ≡ is_among digests.now digest }
 {
     for other in digests {
@@ -20,7 +20,7 @@ fn is_one_of(digests: &[Digest], digest: Digest) -> bool
 }
 
 /// The digests of this kind that the command revokes, in its order.
-fn revoked_by(command: &Command, kind: ListedKind) -> &[Digest]
+pub(crate) fn revoked_by(command: &Command, kind: ListedKind) -> &[Digest]
     ensures order { reverse result.now ≡ spec.revoked_by kind command.now }
     ensures few { length result.now ≤ MOST_IMPORTED }
 {

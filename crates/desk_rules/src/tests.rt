@@ -1,6 +1,6 @@
 //! Tests.
 use super::*;
-use desk_bytes::Digest;
+use desk_bytes::{Digest, Guid};
 use desk_texts::{
     Ballot, Call, Caller, Carried, Certificate, Command, Components, Digests, Extent, Facts,
     Handback, Import, Key, ListedKind, Listing, Note, Person, PersonName, Raise, Raises,
@@ -14,6 +14,8 @@ use std::test::Fail;
 mod histories;
 mod limits;
 mod refused;
+mod tables;
+mod views;
 
 /// A digest of this byte alone.
 fn digest_of(byte: u8) -> Digest {
@@ -42,62 +44,88 @@ fn name(alloc: Global, name: &str) -> Result<PersonName, Fail> {
 /// The certificate that images carry here.
 const CERTIFICATE: u8 = 0xcc;
 
-/// Facts of an image of this digest and signing digest, which carries `CERTIFICATE` or nothing, and has this
-/// generation of grub or no component.
-fn facts_of(
-    alloc: Global,
+/// An image of this digest and signing digest, which carries `CERTIFICATE` or nothing, and has this generation of
+/// grub or no component.
+#[derive(Clone, Copy)]
+struct Image {
     digest: u8,
     signing: u8,
     carries: bool,
     grub: u32,
-) -> Result<Facts, Fail> {
-    let mut carried = Vec::new(alloc);
-    if carries {
-        carried.push(digest_of(CERTIFICATE))?;
-    }
-    let mut components = Vec::new(alloc);
-    if 0 < grub {
-        components.push(component(alloc, "grub", grub)?)?;
-    }
-    Ok(Facts {
-        extent: Extent::new(1_024, 0).ok_or("an extent")?,
-        file: digest_of(0xf0),
-        digest: digest_of(digest),
-        signing: digest_of(signing),
-        carried: Carried::new(carried).ok_or("digests")?,
-        components: Components::new(components).ok_or("components")?,
-    })
 }
 
 /// An unsigned image whose length needs no padding.
-fn image(alloc: Global) -> Result<Facts, Fail> {
-    facts_of(alloc, 0xa0, 0xa0, false, 0)
-}
+const IMAGE: Image = Image {
+    digest: 0xa0,
+    signing: 0xa0,
+    carries: false,
+    grub: 0,
+};
 
 /// The same image with a signature by `CERTIFICATE`.
-fn signed_image(alloc: Global) -> Result<Facts, Fail> {
-    facts_of(alloc, 0xa0, 0xa0, true, 0)
+const SIGNED_IMAGE: Image = Image {
+    digest: 0xa0,
+    signing: 0xa0,
+    carries: true,
+    grub: 0,
+};
+
+/// The digests that the image carries.
+fn carried(alloc: Global, carries: bool) -> Result<Carried, Fail> {
+    let mut digests = Vec::new(alloc);
+    if carries {
+        digests.push(digest_of(CERTIFICATE))?;
+    }
+    Ok(Carried::new(digests).ok_or("digests")?)
 }
 
-fn submit(alloc: Global, title: &str, facts: Facts) -> Result<Command, Fail> {
+/// The components of an image with this generation of grub, none for 0.
+fn components(alloc: Global, grub: u32) -> Result<Components, Fail> {
+    let mut items = Vec::new(alloc);
+    if 0 < grub {
+        items.push(component(alloc, "grub", grub)?)?;
+    }
+    Ok(Components::new(items).ok_or("components")?)
+}
+
+fn facts_of(alloc: Global, image: Image) -> Result<Facts, Fail> {
+    let extent = Extent::new(1_024, 0).ok_or("an extent")?;
+    let carried = carried(alloc, image.carries)?;
+    let components = components(alloc, image.grub)?;
+    Ok(Facts {
+        extent,
+        file: digest_of(0xf0),
+        digest: digest_of(image.digest),
+        signing: digest_of(image.signing),
+        carried,
+        components,
+    })
+}
+
+fn submit(alloc: Global, title: &str, image: Image) -> Result<Command, Fail> {
     let title = Title::parse(alloc, title.as_bytes())?;
+    let facts = facts_of(alloc, image)?;
     Ok(Command::Submit(Submission { title, facts }))
 }
 
 fn review(alloc: Global, request: u64, vote: Vote) -> Result<Command, Fail> {
+    let request = number(request)?;
     let note = Note::parse(alloc, b"")?;
     Ok(Command::Review(Ballot {
-        request: number(request)?,
+        request,
         vote,
         note,
     }))
 }
 
-fn hand_back(request: u64, facts: Facts) -> Result<Command, Fail> {
-    Ok(Command::Return(Handback {
-        request: number(request)?,
-        facts,
-    }))
+fn withdraw(request: u64) -> Result<Command, Fail> {
+    Ok(Command::Withdraw(number(request)?))
+}
+
+fn hand_back(alloc: Global, request: u64, image: Image) -> Result<Command, Fail> {
+    let request = number(request)?;
+    let facts = facts_of(alloc, image)?;
+    Ok(Command::Return(Handback { request, facts }))
 }
 
 fn certificate(alloc: Global) -> Result<Command, Fail> {
@@ -106,59 +134,80 @@ fn certificate(alloc: Global) -> Result<Command, Fail> {
     Ok(Command::ListCertificate(certificate))
 }
 
-fn unlist(kind: ListedKind, digest: u8) -> Command {
-    Command::Unlist(Listing {
-        kind,
-        digest: digest_of(digest),
+fn list(digest: u8) -> Result<Command, Fail> {
+    Ok(Command::ListDigest(digest_of(digest)))
+}
+
+fn unlist(kind: ListedKind, digest: u8) -> Result<Command, Fail> {
+    let digest = digest_of(digest);
+    Ok(Command::Unlist(Listing { kind, digest }))
+}
+
+fn revoke(kind: ListedKind, digest: u8) -> Result<Command, Fail> {
+    Ok(match kind {
+        ListedKind::Digest => Command::RevokeDigest(digest_of(digest)),
+        ListedKind::Certificate => Command::RevokeCertificate(digest_of(digest)),
     })
 }
 
 fn raise(alloc: Global, name: &str, generation: u32, at: u64) -> Result<Command, Fail> {
     let component = component(alloc, name, generation)?;
-    Ok(Command::RaiseLevel(Raise {
-        component,
-        stamp: stamp(at)?,
-    }))
+    let stamp = stamp(at)?;
+    Ok(Command::RaiseLevel(Raise { component, stamp }))
 }
 
-/// An import of these digests and generations of grub.
-fn import(alloc: Global, at: Option<u64>, digests: &[u8], grubs: &[u32]) -> Result<Command, Fail> {
+/// The digests of these bytes.
+fn digests(alloc: Global, bytes: &[u8]) -> Result<Digests, Fail> {
     let mut named = Vec::new(alloc);
-    for digest in digests {
-        named.push(digest_of(*digest))?;
+    for byte in bytes {
+        named.push(digest_of(*byte))?;
     }
+    Ok(Digests::new(named).ok_or("digests")?)
+}
+
+/// The component `grub` of these generations.
+fn grubs(alloc: Global, generations: &[u32]) -> Result<Raises, Fail> {
     let mut raised = Vec::new(alloc);
-    for grub in grubs {
-        raised.push(component(alloc, "grub", *grub)?)?;
+    for generation in generations {
+        raised.push(component(alloc, "grub", *generation)?)?;
     }
-    let at = match at {
-        None => None,
-        Some(at) => Some(stamp(at)?),
-    };
-    let digests = Digests::new(named).ok_or("digests")?;
-    let certificates = Digests::new(Vec::new(alloc)).ok_or("certificates")?;
-    let components = Raises::new(raised).ok_or("components")?;
-    let import = Import::new(at, 0, digests, certificates, components).ok_or("an import")?;
+    Ok(Raises::new(raised).ok_or("components")?)
+}
+
+/// An import of these digests of images, of these digests of certificates, and of these generations of grub.
+fn import(
+    alloc: Global,
+    at: Option<Stamp>,
+    images: &[u8],
+    certificates: &[u8],
+    generations: &[u32],
+) -> Result<Command, Fail> {
+    let images = digests(alloc, images)?;
+    let certificates = digests(alloc, certificates)?;
+    let raised = grubs(alloc, generations)?;
+    let import = Import::new(at, 0, images, certificates, raised).ok_or("an import")?;
     Ok(Command::ImportRevocations(import))
 }
 
 fn person(alloc: Global, person: &str, role: Role, token: u8) -> Result<Command, Fail> {
     let name = name(alloc, person)?;
-    Ok(Command::AddPerson(Person {
-        name,
-        role,
-        token: digest_of(token),
-    }))
+    let token = digest_of(token);
+    Ok(Command::AddPerson(Person { name, role, token }))
 }
 
-/// A call of the caller of this name, `console` being the console's.
-fn call(alloc: Global, caller: &str, key: &str, command: Command) -> Result<Call, Fail> {
-    let caller = if caller == "console" {
-        Caller::Console
+/// The caller of this name, `console` being the console.
+fn caller(alloc: Global, text: &str) -> Result<Caller, Fail> {
+    if text == "console" {
+        Ok(Caller::Console)
     } else {
-        Caller::Person(name(alloc, caller)?)
-    };
+        Ok(Caller::Person(name(alloc, text)?))
+    }
+}
+
+/// A call of the caller of this name.
+fn call(alloc: Global, by: &str, key: &str, command: Command) -> Result<Call, Fail> {
     let key = Key::parse(alloc, key.as_bytes())?;
+    let caller = caller(alloc, by)?;
     Ok(Call {
         caller,
         key,
@@ -194,61 +243,115 @@ impl Hall {
             alloc,
             next: 1,
         };
-        let people = [
-            ("ann", Role::Submitter),
-            ("rita", Role::Reviewer),
-            ("raul", Role::Reviewer),
-            ("rosa", Role::Reviewer),
-            ("sid", Role::Signer),
-            ("olga", Role::Officer),
-        ];
-        let mut token = 1;
-        for (added, role) in people {
-            let wanted = format!(in alloc; "added {added}")?;
-            hall.ask(
-                rt,
-                "console",
-                person(alloc, added, role, token)?,
-                wanted.as_str(),
-            )?;
-            token = token.wrapping_add(1);
-        }
+        hall.add(rt, "ann", Role::Submitter, 1, "added ann")?;
+        hall.add(rt, "rita", Role::Reviewer, 2, "added rita")?;
+        hall.add(rt, "raul", Role::Reviewer, 3, "added raul")?;
+        hall.add(rt, "rosa", Role::Reviewer, 4, "added rosa")?;
+        hall.add(rt, "sid", Role::Signer, 5, "added sid")?;
+        hall.add(rt, "olga", Role::Officer, 6, "added olga")?;
         Ok(hall)
     }
 
-    /// Gives the command under a new key, and checks the answer.
-    fn ask(
+    /// Has the console add a person.
+    fn add(
         &mut self,
         rt: &impl Abort,
-        caller: &str,
-        command: Command,
+        added: &str,
+        role: Role,
+        token: u8,
         wanted: &str,
     ) -> Result<(), Fail> {
-        let number = self.next;
-        let key = format!(in self.alloc; "key-{number}")?;
-        self.next = number.saturating_add(1);
-        self.ask_with(rt, caller, key.as_str(), command, wanted)
+        let command = person(self.alloc, added, role, token);
+        self.ask(rt, "console", command, wanted)
+    }
+
+    /// Gives the command under the key, and tells the answer in words, and whether the call was accepted.
+    fn told(&mut self, by: &str, key: &str, command: Command) -> Result<(String, bool), Fail> {
+        let given = call(self.alloc, by, key, command)?;
+        let answer = self.desk.apply(given)?;
+        let told = words(self.alloc, &answer)?;
+        Ok((told, matches!(answer, Answer::Accepted(_))))
     }
 
     /// Gives the command under the key, and checks the answer, and that a refused or repeated call isn't kept.
     fn ask_with(
         &mut self,
         rt: &impl Abort,
-        caller: &str,
+        by: &str,
         key: &str,
-        command: Command,
+        command: Result<Command, Fail>,
         wanted: &str,
     ) -> Result<(), Fail> {
         let before = self.desk.calls().len();
-        let answer = self.desk.apply(call(self.alloc, caller, key, command)?)?;
-        let told = words(self.alloc, &answer)?;
-        assert_eq!(rt; told.as_str(), wanted, "what {caller} was answered");
-        let kept = matches!(answer, Answer::Accepted(_));
-        assert_eq!(rt;
-            self.desk.calls().len(),
-            before.saturating_add(usize::from(kept)),
-            "calls kept"
-        );
+        let (told, is_kept) = self.told(by, key, command?)?;
+        assert_eq!(rt; told.as_str(), wanted, "what {by} was answered");
+        let kept = before.saturating_add(usize::from(is_kept));
+        assert_eq!(rt; self.desk.calls().len(), kept, "calls kept");
+        Ok(())
+    }
+
+    /// A key that no call had.
+    fn new_key(&mut self) -> Result<String, Fail> {
+        let number = self.next;
+        self.next = number.saturating_add(1);
+        Ok(format!(in self.alloc; "key-{number}")?)
+    }
+
+    /// Gives the command under a new key, and checks the answer.
+    fn ask(
+        &mut self,
+        rt: &impl Abort,
+        by: &str,
+        command: Result<Command, Fail>,
+        wanted: &str,
+    ) -> Result<(), Fail> {
+        let command = command?;
+        let key = self.new_key()?;
+        self.ask_with(rt, by, key.as_str(), Ok(command), wanted)
+    }
+
+    /// Gives the officer's command under a new key, and checks the answer.
+    fn rule(
+        &mut self,
+        rt: &impl Abort,
+        command: Result<Command, Fail>,
+        wanted: &str,
+    ) -> Result<(), Fail> {
+        self.ask(rt, "olga", command, wanted)
+    }
+
+    /// Checks the state of a request.
+    fn has_state(&self, rt: &impl Abort, request: u64, wanted: State) -> Result<(), Fail> {
+        let state = self.desk.state(number(request)?);
+        assert_eq!(rt; state, wanted, "request {request}");
+        Ok(())
+    }
+
+    /// What is said of the image over a view of the desk's whole tables.
+    fn seen(&self, facts: &Facts) -> Result<Verdict, Fail> {
+        let tables = self.desk.tables(Guid::from([1; 16]))?;
+        let view = views::lists_of(self.alloc, &tables)?;
+        Ok(verdict(&view, facts))
+    }
+
+    /// Checks the verdict of an image, by the calls and over a view.
+    fn gives(&self, rt: &impl Abort, image: Image, wanted: Verdict) -> Result<(), Fail> {
+        let facts = facts_of(self.alloc, image)?;
+        assert_eq!(rt; self.desk.verdict(&facts), wanted, "the verdict");
+        assert_eq!(rt; self.seen(&facts)?, wanted, "the verdict over a view");
+        Ok(())
+    }
+
+    /// Checks the generation that the level asks of grub, and the level's stamp.
+    fn has_level(
+        &self,
+        rt: &impl Abort,
+        generation: Option<Generation>,
+        at: u64,
+    ) -> Result<(), Fail> {
+        let grub = ComponentName::parse(self.alloc, b"grub")?;
+        assert_eq!(rt; self.desk.level(&grub), generation, "grub");
+        assert_eq!(rt; self.desk.stamp().value(), at, "the stamp");
         Ok(())
     }
 }

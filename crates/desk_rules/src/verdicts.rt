@@ -1,32 +1,28 @@
-//! What the calls say of an image.
+//! What is said of an image.
 ghost use Rattle.std.specs.Prelude.{◌≡◌};
 ghost use Rattle.std.specs.List.{list_any};
-ghost use Rattle.desk_texts.specs.Listing.{is_listed as listed_in};
-ghost use Rattle.desk_texts.specs.Revocations.{is_revoked as revoked_in};
 ghost use Rattle.desk_rules.specs.Verdicts as spec;
 
 use crate::finding::{Below, Verdict};
-use crate::level::level;
-use crate::listed::is_listed;
-use crate::revoked::is_revoked;
+use crate::standing::Standing;
 use desk_bytes::Digest;
-use desk_texts::{Call, Facts, ListedKind};
+use desk_texts::{Facts, ListedKind};
 use sbat::{Component, Generation};
 
 /// Whether the image's digest, or the one that a signature of it would hold, is revoked.
-fn has_revoked_digest(calls: &[Call], facts: &Facts) -> bool
-    ensures { result ≡ spec.has_revoked_digest calls.now facts.now }
+fn has_revoked_digest<S: Standing>(lists: &S, facts: &Facts) -> bool
+    ensures { result ≡ spec.has_revoked_digest (S.standing lists.now) facts.now }
 {
-    is_revoked(calls, ListedKind::Digest, facts.digest)
-        || is_revoked(calls, ListedKind::Digest, facts.signing)
+    lists.is_revoked(ListedKind::Digest, facts.digest)
+        || lists.is_revoked(ListedKind::Digest, facts.signing)
 }
 
 /// Whether one of the certificates is revoked.
-fn has_revoked(calls: &[Call], certificates: &[Digest]) -> bool
-    ensures { result ≡ list_any (revoked_in ListedKind.Certificate calls.now) certificates.now }
+fn has_revoked<S: Standing>(lists: &S, certificates: &[Digest]) -> bool
+    ensures { result ≡ list_any ((S.standing lists.now).revoked ListedKind.Certificate) certificates.now }
 {
     for certificate in certificates {
-        if is_revoked(calls, ListedKind::Certificate, *certificate) {
+        if lists.is_revoked(ListedKind::Certificate, *certificate) {
             return true;
         }
     }
@@ -34,11 +30,11 @@ fn has_revoked(calls: &[Call], certificates: &[Digest]) -> bool
 }
 
 /// Whether one of the certificates is listed.
-fn has_listed(calls: &[Call], certificates: &[Digest]) -> bool
-    ensures { result ≡ list_any (listed_in ListedKind.Certificate calls.now) certificates.now }
+fn has_listed<S: Standing>(lists: &S, certificates: &[Digest]) -> bool
+    ensures { result ≡ list_any ((S.standing lists.now).listed ListedKind.Certificate) certificates.now }
 {
     for certificate in certificates {
-        if is_listed(calls, ListedKind::Certificate, *certificate) {
+        if lists.is_listed(ListedKind::Certificate, *certificate) {
             return true;
         }
     }
@@ -46,11 +42,10 @@ fn has_listed(calls: &[Call], certificates: &[Digest]) -> bool
 }
 
 /// Whether the image's digest or a certificate that it carries is listed.
-pub(crate) fn stands_in_db(calls: &[Call], facts: &Facts) -> bool
-    ensures { result ≡ spec.stands_in_db calls.now facts.now }
+pub(crate) fn lists_image<S: Standing>(lists: &S, facts: &Facts) -> bool
+    ensures { result ≡ spec.lists_image (S.standing lists.now) facts.now }
 {
-    is_listed(calls, ListedKind::Digest, facts.digest)
-        || has_listed(calls, facts.carried.as_slice())
+    lists.is_listed(ListedKind::Digest, facts.digest) || has_listed(lists, facts.carried.as_slice())
 }
 
 /// What the component at this place lacks to the generation that is asked.
@@ -70,12 +65,12 @@ fn lack_at(place: usize, generation: Generation, asked: Option<Generation>) -> O
 }
 
 /// The first component below the level.
-fn first_below(calls: &[Call], components: &[Component]) -> Option<Below>
-    ensures { result ≡ spec.first_below calls.now 0 components.now }
+fn first_below<S: Standing>(lists: &S, components: &[Component]) -> Option<Below>
+    ensures { result ≡ spec.first_below (S.standing lists.now) 0 components.now }
 {
     for place in 0..components.len() {
         let component = &components[place];
-        if let Some(below) = lack_at(place, component.generation, level(calls, &component.name)) {
+        if let Some(below) = lack_at(place, component.generation, lists.asked(&component.name)) {
             return Some(below);
         }
     }
@@ -83,12 +78,12 @@ fn first_below(calls: &[Call], components: &[Component]) -> Option<Below>
 }
 
 /// Whether the image is barred.
-pub(crate) fn is_barred(calls: &[Call], facts: &Facts) -> bool
-    ensures { result ≡ spec.is_barred calls.now facts.now }
+pub(crate) fn bars<S: Standing>(lists: &S, facts: &Facts) -> bool
+    ensures { result ≡ spec.bars (S.standing lists.now) facts.now }
 {
-    has_revoked_digest(calls, facts)
-        || has_revoked(calls, facts.carried.as_slice())
-        || has_below(calls, facts.components.as_slice())
+    has_revoked_digest(lists, facts)
+        || has_revoked(lists, facts.carried.as_slice())
+        || has_below(lists, facts.components.as_slice())
 }
 
 /// Whether the generation is below the one that is asked, if one is.
@@ -102,31 +97,31 @@ fn is_less(generation: Generation, asked: Option<Generation>) -> bool
 }
 
 /// Whether a component is below the level.
-fn has_below(calls: &[Call], components: &[Component]) -> bool
-    ensures { result ≡ list_any (spec.is_below calls.now) components.now }
+fn has_below<S: Standing>(lists: &S, components: &[Component]) -> bool
+    ensures { result ≡ list_any (spec.is_below (S.standing lists.now)) components.now }
 {
     for component in components {
-        if is_less(component.generation, level(calls, &component.name)) {
+        if is_less(component.generation, lists.asked(&component.name)) {
             return true;
         }
     }
     false
 }
 
-/// What the calls say of the image.
-pub(crate) fn verdict_of(calls: &[Call], facts: &Facts) -> Verdict
-    ensures { result ≡ spec.verdict calls.now facts.now }
+/// What is said of the image.
+pub(crate) fn verdict_of<S: Standing>(lists: &S, facts: &Facts) -> Verdict
+    ensures { result ≡ spec.verdict_on (S.standing lists.now) facts.now }
 {
-    if has_revoked_digest(calls, facts) {
+    if has_revoked_digest(lists, facts) {
         return Verdict::DbxDigest;
     }
-    if has_revoked(calls, facts.carried.as_slice()) {
+    if has_revoked(lists, facts.carried.as_slice()) {
         return Verdict::DbxCertificate;
     }
-    if !stands_in_db(calls, facts) {
+    if !lists_image(lists, facts) {
         return Verdict::NotListed;
     }
-    match first_below(calls, facts.components.as_slice()) {
+    match first_below(lists, facts.components.as_slice()) {
         Some(below) => Verdict::Sbat(below),
         None => Verdict::Allowed,
     }

@@ -18,3 +18,4 @@ pub mod Requests
 pub mod Revocations
 pub mod Tables
 pub mod Words
+pub mod Writes

@@ -7,13 +7,8 @@ use Rattle.desk_texts.specs.declared.command.Command.{Command}
 use Rattle.desk_texts.specs.declared.command.Command.TheVariants as command
 use Rattle.desk_texts.specs.declared.kind.ListedKind.{ListedKind}
 use Rattle.desk_texts.specs.declared.kind.ListedKind.TheVariants as kinds
+use Rattle.desk_texts.specs.declared.rows.Entry.{Entry}
 use Rattle.desk_texts.specs.Calls.{History, is_same_kind}
-
--- a listed entry: a certificate by its TBS digest and with its body, an image digest with an empty body
-pub record Entry : Type 0 where
-  pub kind : ListedKind
-  pub digest : List ℕ
-  pub body : List ℕ
 
 -- the entry is that of this kind and digest
 abbrev pub is_entry : ListedKind → List ℕ → Entry → Bool

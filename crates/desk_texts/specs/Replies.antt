@@ -7,7 +7,7 @@ use Rattle.desk_texts.specs.declared.kind.ListedKind.{ListedKind}
 use Rattle.desk_texts.specs.declared.kind.ListedKind.TheVariants as kinds
 use Rattle.desk_texts.specs.declared.reply.Reply.{Reply}
 use Rattle.desk_texts.specs.declared.reply.Reply.TheVariants as replies
-use Rattle.desk_texts.specs.Callers.{caller_name}
+use Rattle.desk_texts.specs.declared.rows.Minute.{Minute}
 use Rattle.desk_texts.specs.Calls.{History, once}
 use Rattle.desk_texts.specs.Level.{components_of, names, raises}
 use Rattle.desk_texts.specs.Requests.{requests, state}
@@ -46,19 +46,11 @@ reply_to cs c (command.ImportRevocations i) = replies.Imported (record {
 abbrev pub reply : History → Call → Reply
 reply cs c = reply_to cs c c.command
 
--- what the minutes hold of an accepted call: its number from 1, its caller, key and text, and the reply
-pub record Minute : Type 0 where
-  pub number : ℕ
-  pub caller : List ℕ
-  pub key : List ℕ
-  pub text : List ℕ
-  pub reply : Reply
-
 -- the minute of a call that is accepted after these
 abbrev pub minute : History → Call → Minute
 minute cs c = record {
   number = length cs + 1;
-  caller = caller_name c.caller;
+  caller = c.caller;
   key = c.key;
   text = text_of c.command;
   reply = reply cs c;

@@ -5,10 +5,10 @@ use Rattle.desk_texts.specs.declared.command.Call.{Call}
 use Rattle.desk_texts.specs.declared.command.Command.{Command}
 use Rattle.desk_texts.specs.declared.command.Command.TheVariants as command
 use Rattle.desk_texts.specs.declared.facts.Facts.{Facts}
+use Rattle.desk_texts.specs.declared.rows.Voted.{Voted}
 use Rattle.desk_texts.specs.declared.state.State.{State}
 use Rattle.desk_texts.specs.declared.state.State.TheVariants as states
 use Rattle.desk_texts.specs.declared.command.Submission.{Submission}
-use Rattle.desk_texts.specs.declared.vote.Vote.{Vote}
 use Rattle.desk_texts.specs.declared.vote.Vote.TheVariants as vote
 use Rattle.desk_texts.specs.Callers.{caller_name}
 use Rattle.desk_texts.specs.Calls.{History}
@@ -52,13 +52,6 @@ has_number k r = k == r.number
 -- the request of this number
 abbrev pub request : History → ℕ → Option Request
 request cs k = find (has_number k) (requests cs)
-
--- a vote on a request, and who gave it
-pub record Voted : Type 0 where
-  pub request : ℕ
-  pub reviewer : List ℕ
-  pub vote : Vote
-  pub note : List ℕ
 
 -- a reviewer's vote in a command
 abbrev pub vote_of : List ℕ → Command → Option Voted

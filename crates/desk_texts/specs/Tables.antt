@@ -3,15 +3,21 @@ use Rattle.std.specs.Prelude.{ℕ, ◌+◌, List, [], ◌∷◌, map, flat_map, 
 use Rattle.sbat.specs.declared.component.Component.{Component}
 use Rattle.desk_texts.specs.declared.kind.ListedKind.TheVariants as kinds
 use Rattle.desk_texts.specs.declared.command.Person.{Person}
+use Rattle.desk_texts.specs.declared.rows.Entry.{Entry}
+use Rattle.desk_texts.specs.declared.rows.Minute.{Minute}
+use Rattle.desk_texts.specs.declared.rows.RequestCertificateRow.{RequestCertificateRow}
+use Rattle.desk_texts.specs.declared.rows.RequestComponentRow.{RequestComponentRow}
+use Rattle.desk_texts.specs.declared.rows.RequestRow.{RequestRow}
+use Rattle.desk_texts.specs.declared.rows.ReturnRow.{ReturnRow}
+use Rattle.desk_texts.specs.declared.rows.Voted.{Voted}
 use Rattle.desk_texts.specs.declared.state.State.{State}
 use Rattle.desk_texts.specs.Calls.{History, once}
 use Rattle.desk_texts.specs.Level.{generations, greatest, names, stamp}
-use Rattle.desk_texts.specs.Listing.{Entry, listed}
+use Rattle.desk_texts.specs.Listing.{listed}
 use Rattle.desk_texts.specs.People.{people}
-use Rattle.desk_texts.specs.Replies.{Minute, minutes}
-use Rattle.desk_texts.specs.Requests.{Request, Returned, Voted, requests, returns, state, votes}
+use Rattle.desk_texts.specs.Replies.{minutes}
+use Rattle.desk_texts.specs.Requests.{Request, Returned, requests, returns, state, votes}
 use Rattle.desk_texts.specs.Revocations.{revocations}
-use Rattle.desk_texts.specs.ReplyTexts.{reply_text_of}
 
 -- own: the one row of a desk: its mark, the version of its tables, the owner of every entry that it exports, as stored
 pub record DeskRow : Type 0 where
@@ -20,50 +26,6 @@ pub record DeskRow : Type 0 where
   pub version : ℕ
   pub owner : List ℕ
   pub stamp : ℕ
-
--- an accepted call, with the texts of its command and of its reply
-pub record CallRow : Type 0 where
-  pub number : ℕ
-  pub caller : List ℕ
-  pub key : List ℕ
-  pub text : List ℕ
-  pub reply : List ℕ
-
--- a request, with its state
-pub record RequestRow : Type 0 where
-  pub number : ℕ
-  pub submitter : List ℕ
-  pub title : List ℕ
-  pub length : ℕ
-  pub gap : ℕ
-  pub file : List ℕ
-  pub digest : List ℕ
-  pub signing : List ℕ
-  pub state : State
-
--- own: the columns of `request_certificates`
-pub record RequestCertificateRow : Type 0 where
-  pub request : ℕ
-  pub digest : List ℕ
-
--- own: the columns of `request_components`
-pub record RequestComponentRow : Type 0 where
-  pub request : ℕ
-  pub place : ℕ
-  pub name : List ℕ
-  pub generation : ℕ
-
--- own: the columns of `returns`
-pub record ReturnRow : Type 0 where
-  pub request : ℕ
-  pub signer : List ℕ
-  pub length : ℕ
-  pub file : List ℕ
-  pub digest : List ℕ
-
--- a minute as a row, with the text of its reply
-abbrev pub call_row : Minute → CallRow
-call_row m = record { number = m.number; caller = m.caller; key = m.key; text = m.text; reply = reply_text_of m.reply }
 
 -- a request as a row, with its state
 abbrev pub request_row : State → Request → RequestRow
@@ -110,7 +72,7 @@ level_rows named = map (level_row named) (names named)
 pub record Tables : Type 0 where
   pub desk : DeskRow
   pub people : List Person
-  pub calls : List CallRow
+  pub calls : List Minute
   pub requests : List RequestRow
   pub request_certificates : List RequestCertificateRow
   pub request_components : List RequestComponentRow
@@ -126,7 +88,7 @@ abbrev pub tables : List ℕ → History → Tables
 tables owner cs = record {
   desk = record { id = 1; mark = codes "boot-desk"; version = 1; owner = owner; stamp = stamp cs };
   people = people cs;
-  calls = map call_row (minutes cs);
+  calls = minutes cs;
   requests = map (λ r. request_row (state cs r.number) r) (requests cs);
   request_certificates = flat_map certificate_rows (requests cs);
   request_components = flat_map component_rows (requests cs);

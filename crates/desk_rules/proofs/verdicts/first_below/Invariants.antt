@@ -3,4 +3,6 @@ use Rattle.desk_rules.specs.Verdicts.{first_below}
 use Rattle.desk_rules.proofs.verdicts.first_below.Given as goal
 
 abbrev pub invariant-loop-place : goal.invariant-loop-place
-invariant-loop-place l = first_below l.calls l.place (drop l.place l.components) ≡ first_below l.calls 0 l.components
+invariant-loop-place g l =
+    first_below (g.S.Standing.standing l.lists) l.place (drop l.place l.components)
+    ≡ first_below (g.S.Standing.standing l.lists) 0 l.components

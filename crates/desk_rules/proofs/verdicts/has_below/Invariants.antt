@@ -4,4 +4,6 @@ use Rattle.desk_rules.specs.Verdicts.{is_below}
 use Rattle.desk_rules.proofs.verdicts.has_below.Given as goal
 
 abbrev pub invariant-loop-component : goal.invariant-loop-component
-invariant-loop-component l = list_any (is_below l.calls) (drop l.component-index l.components) ≡ list_any (is_below l.calls) l.components
+invariant-loop-component g l =
+    list_any (is_below (g.S.Standing.standing l.lists)) (drop l.component-index l.components)
+    ≡ list_any (is_below (g.S.Standing.standing l.lists)) l.components

@@ -1,0 +1,326 @@
+-- What an import's digests and components make.
+use Rattle.std.proofs.Common.{◌≡◌, ℕ, ◌<◌, ◌≤◌, ◌+◌, Bool, true, false, not, ◌&&◌, ◌||◌, cond, max, List, [], ◌∷◌, ◌++◌, map, filter, length, Option, Some, None, refl, sym, ◌∙◌, ap, subst, arith, append_assoc, take, drop, get_or, suc, add-one, drop-cons}
+use Rattle.std.specs.Prelude.{if◌then◌else◌, find, reverse, bytes_eq, nat_lt, option_map, unwrap_or, is_some, IsTrue}
+use Rattle.std.specs.List.{list_any}
+use Rattle.std.specs.BTreeSet.{insert_key}
+use Rattle.std.specs.Cmp.Lexicographic.{slice_cmp}
+use Rattle.std.specs.declared.cmp.Ordering.{Ordering}
+use Rattle.std.specs.declared.cmp.Ordering.TheVariants.{Less, Equal, Greater}
+use Rattle.std.specs.FinMap.{get}
+use Rattle.std.specs.Ordering.{eq_by_cmp, is_eq, match_ordering, nat_cmp}
+use Rattle.std.proofs.lemmas.Bool.{and_parts, or_parts, ltb-true, ltb-false, both_ways, or_left, or_right}
+use Rattle.std.proofs.lemmas.Bool.Decides.{nat_tests}
+use Rattle.std.proofs.lemmas.List.{reverse-append, take_more}
+use Rattle.std.proofs.lemmas.List.Folds.{list_any-append, list_any_at}
+use Rattle.std.proofs.lemmas.Map.Text.{is_eq-slice_cmp}
+use Rattle.sbat.specs.declared.component.Component.{Component}
+use Rattle.sbat.specs.Levels.{Generations, greater, raised}
+use Rattle.sbat.proofs.GenerationLemmas.{get-raised, ties}
+use Rattle.desk_texts.specs.declared.write.Write.{Write}
+use Rattle.desk_texts.specs.declared.write.Write.TheVariants as writes
+use Rattle.desk_texts.specs.Calls.{is_among, once}
+use Rattle.desk_texts.specs.Level.{greatest, greater_of, is_above, is_sbat, names}
+use Rattle.desk_texts.specs.Raising.{names_no_sbat}
+use Rattle.desk_texts.specs.Tables.{Tables, level_row, level_rows}
+use Rattle.desk_texts.specs.Writes.{all_written, is_named, written}
+use Rattle.desk_rules.specs.declared.decisions.imports.SoFar.{SoFar}
+use Rattle.desk_rules.specs.Decisions.{put_of}
+use Rattle.desk_rules.specs.ImportSteps.{AreNew, HasRows, IsSoFar, is_raise, or_else, put_new, raised_names, rose}
+use Rattle.desk_rules.specs.Views.{generation_in}
+use Rattle.desk_rules.proofs.LevelDecisions.{bytes_eq-comm, row_other, rows_put}
+use Rattle.desk_rules.proofs.CountLemmas.{any_two, one_if}
+use Rattle.desk_rules.proofs.ListLemmas.{any_once, bytes_eq-refl, same_text}
+use Rattle.desk_rules.proofs.StandingLemmas.{named_some}
+use Rattle.desk_rules.proofs.SubmissionLemmas.{turned, written-append}
+
+-- sets of digests
+
+-- what is found by the order is found by being the same
+pub found_same : (q : List ℕ) (keys : List (List ℕ)) → list_any (λ x. is_eq (slice_cmp nat_cmp q x)) keys ≡ is_among keys q
+found_same q [] = refl
+found_same q (x ∷ keys) = ap (λ b. b || list_any (λ x. is_eq (slice_cmp nat_cmp q x)) keys) (is_eq-slice_cmp q x) ∙ ap (λ b. bytes_eq q x || b) (found_same q keys)
+
+swapped : (a b c : Bool) → (a || (b || c)) ≡ (b || (a || c))
+swapped true true c = refl
+swapped true false c = refl
+swapped false b c = refl
+
+-- a set has the digest that is put into it, and what it had
+pub inserted : (digest : List ℕ) (keys : List (List ℕ)) (q : List ℕ) → is_among (insert_key (slice_cmp nat_cmp) keys digest) q ≡ (bytes_eq q digest || is_among keys q)
+inserted digest [] q = refl
+inserted digest (x ∷ keys) q =
+    elim (slice_cmp nat_cmp digest x) as (λ o. slice_cmp nat_cmp digest x ≡ o → is_among (match_ordering o (digest ∷ x ∷ keys) (x ∷ keys) (x ∷ insert_key (slice_cmp nat_cmp) keys digest)) q ≡ (bytes_eq q digest || (bytes_eq q x || is_among keys q))) [
+      | Less ↦ λ e. refl
+      | Equal ↦ λ e.
+          let same : digest ≡ x = same_text digest x (sym (is_eq-slice_cmp digest x) ∙ ap is_eq e) in
+          sym (ap (λ d. bytes_eq q d || (bytes_eq q x || is_among keys q)) same ∙ twice (bytes_eq q x) (is_among keys q))
+      | Greater ↦ λ e. ap (λ b. bytes_eq q x || b) (inserted digest keys q) ∙ swapped (bytes_eq q x) (bytes_eq q digest) (is_among keys q)
+    ] refl
+  where
+    twice : (a b : Bool) → (a || (a || b)) ≡ (a || b)
+    twice true b = refl
+    twice false b = refl
+
+-- new digests
+
+-- new rows are those that stand once
+pub put_new-once : (ds rest : List (List ℕ)) → put_new ds (once rest) ≡ once (reverse ds ++ rest)
+put_new-once [] rest = refl
+put_new-once (d ∷ ds) rest =
+    ap (λ b. put_new ds (if b then once rest else d ∷ once rest)) (any_once d rest)
+    ∙ (put_new-once ds (d ∷ rest) ∙ ap once (turned d ds rest))
+
+-- one step of an import's digests
+pub new_step : (rows named table new later : List (List ℕ)) (i : ℕ) (d : List ℕ) (is_new : Bool) → ((q : List ℕ) → IsTrue (is_among named q) → is_among rows q ≡ is_among table q) → i < length named → d ≡ get_or named i d →
+    is_new ≡ not (is_among new d || is_among rows d) → later ≡ (if is_new then new ++ d ∷ [] else new) →
+    put_new (drop i named) (reverse new ++ table) ≡ put_new named table → put_new (drop (i + 1) named) (reverse later ++ table) ≡ put_new named table
+new_step rows named table new later i d is_new knows lt is fresh kept before =
+    let known : is_among (reverse new ++ table) d ≡ (is_among new d || is_among rows d) =
+    any_two (bytes_eq d) new table ∙ ap (λ b. is_among new d || b) (sym (knows d (among_at named i d lt is))) in
+    ap (λ ls. put_new (drop (i + 1) named) (reverse ls ++ table)) kept
+    ∙ (ap (λ b. put_new (drop (i + 1) named) (reverse (if b then new ++ d ∷ [] else new) ++ table)) fresh
+    ∙ ((elim (is_among new d || is_among rows d) as (λ b. put_new (drop (i + 1) named) (reverse (if not b then new ++ d ∷ [] else new) ++ table) ≡ put_new (drop (i + 1) named) (if b then reverse new ++ table else d ∷ (reverse new ++ table))) [
+      | true ↦ refl
+      | false ↦ ap (λ r. put_new (drop (i + 1) named) (r ++ table)) (reverse-append new (d ∷ []))
+    ])
+    ∙ (ap (λ b. put_new (drop (i + 1) named) (if b then reverse new ++ table else d ∷ (reverse new ++ table))) (sym known)
+    ∙ (ap (λ ls. put_new ls (reverse new ++ table)) (sym (drop_at named i d lt is))
+    ∙ before))))
+  where
+    drop_at : (xs : List (List ℕ)) (i : ℕ) (x : List ℕ) → i < length xs → x ≡ get_or xs i x → drop i xs ≡ x ∷ drop (i + 1) xs
+    drop_at xs i x lt is = rw (add-one, drop-cons xs i x) (ap (λ y. y ∷ drop (suc i) xs) (sym is))
+
+    among_at : (xs : List (List ℕ)) (i : ℕ) (x : List ℕ) → i < length xs → x ≡ get_or xs i x → is_among xs x ≡ true
+    among_at xs i x lt is = list_any_at (bytes_eq x) xs i x lt (ap (bytes_eq x) (sym is) ∙ bytes_eq-refl x)
+
+-- components
+
+greater_above : (g : ℕ) (o : Option ℕ) → is_above g o ≡ true → greater_of g o ≡ g
+greater_above g None h = refl
+greater_above g (Some m) h = let lt : m < g = ltb-true m g h in omega arith
+
+greater_below : (g : ℕ) (o : Option ℕ) → is_above g o ≡ false → Some (greater_of g o) ≡ o
+greater_below g None h = cc
+greater_below g (Some m) h = let le : g ≤ m = ltb-false m g h in ap (λ n. Some n) (omega arith)
+
+-- what is above the greatest of more is above that of fewer
+above_fewer : (g : ℕ) (n : List ℕ) (seen old : List Component) → is_above g (greatest (seen ++ old) n) ≡ true → is_above g (greatest old n) ≡ true
+above_fewer g n [] old h = h
+above_fewer g n (x ∷ seen) old h =
+    elim (bytes_eq n x.name) as (λ b. is_above g (if b then Some (greater_of x.generation (greatest (seen ++ old) n)) else greatest (seen ++ old) n) ≡ true → is_above g (greatest old n) ≡ true) [
+      | true ↦ λ k. above_fewer g n seen old (above_greater (greatest (seen ++ old) n) k)
+      | false ↦ λ k. above_fewer g n seen old k
+    ] h
+  where
+    above_greater : (o : Option ℕ) → is_above g (Some (greater_of x.generation o)) ≡ true → is_above g o ≡ true
+    above_greater None k = refl
+    above_greater (Some m) k = grind (arith, ltb-true (max x.generation m) g k, nat_tests)
+
+-- a component that isn't above changes no row
+row_below : (x : Component) (named : List Component) → is_above x.generation (greatest named x.name) ≡ false → (n : List ℕ) → level_row (x ∷ named) n ≡ level_row named n
+row_below x named below n =
+    elim (bytes_eq n x.name) as (λ b. bytes_eq n x.name ≡ b → level_row (x ∷ named) n ≡ level_row named n) [
+      | true ↦ λ e.
+          ap (λ b. record { name = n; generation = unwrap_or (if b then Some (greater_of x.generation (greatest named n)) else greatest named n) 0 }) e
+          ∙ ap (λ o. record { name = n; generation = unwrap_or o 0 }) (greater_below x.generation (greatest named n) (ap (λ k. is_above x.generation (greatest named k)) (same_text n x.name e) ∙ below))
+      | false ↦ λ e. row_other x named n e
+    ] refl
+
+map_same : {A B : Type 0} (f g : A → B) → ((a : A) → f a ≡ g a) → (xs : List A) → map f xs ≡ map g xs
+map_same f g each [] = refl
+map_same f g each (x ∷ xs) = ap (λ y. y ∷ map f xs) (each x) ∙ ap (λ ys. g x ∷ ys) (map_same f g each xs)
+
+there_below : (g : ℕ) (o : Option ℕ) → is_above g o ≡ false → is_some o ≡ true
+there_below g None h = sym h
+there_below g (Some m) h = refl
+
+rows_below : (x : Component) (named : List Component) → is_above x.generation (greatest named x.name) ≡ false → level_rows (x ∷ named) ≡ level_rows named
+rows_below x named below =
+    ap (λ b. map (level_row (x ∷ named)) (if b then names named else x.name ∷ names named)) (named_some named x.name ∙ there_below x.generation (greatest named x.name) below)
+    ∙ map_same (level_row (x ∷ named)) (level_row named) (row_below x named below) (names named)
+
+rose_self : (o : Option ℕ) → rose o o ≡ false
+rose_self None = refl
+rose_self (Some n) = grind (arith, nat_tests)
+
+rose_more : (g : ℕ) (now before : Option ℕ) → rose (Some (greater_of g now)) before ≡ (is_above g before || rose now before)
+rose_more g None before = or_no (is_above g before)
+  where
+    or_no : (b : Bool) → b ≡ (b || false)
+    or_no true = refl
+    or_no false = refl
+rose_more g (Some n) None = refl
+rose_more g (Some n) (Some m) = grind (arith, nat_tests)
+
+rose_between : (g : ℕ) (now before : Option ℕ) → is_above g now ≡ false → is_above g before ≡ true → rose now before ≡ true
+rose_between g None before below above = cc
+rose_between g (Some n) None below above = refl
+rose_between g (Some n) (Some m) below above = grind (arith, nat_tests, below, above)
+
+-- a name is raised so far exactly where its generation rose
+pub names_rose : (old seen : List Component) (q : List ℕ) → is_among (raised_names old seen) q ≡ rose (greatest (seen ++ old) q) (greatest old q)
+names_rose old [] q = sym (rose_self (greatest old q))
+names_rose old (x ∷ seen) q =
+    elim (bytes_eq q x.name) as (λ b. bytes_eq q x.name ≡ b → is_among (raised_names old (x ∷ seen)) q ≡ rose (if b then Some (greater_of x.generation (greatest (seen ++ old) q)) else greatest (seen ++ old) q) (greatest old q)) [
+      | true ↦ λ e.
+          front (is_raise old x)
+          ∙ (ap (λ b. (is_raise old x && b) || is_among (raised_names old seen) q) e
+          ∙ (ap (λ b. b || is_among (raised_names old seen) q) (and_true (is_raise old x))
+          ∙ (ap (λ n. is_above x.generation (greatest old n) || is_among (raised_names old seen) q) (sym (same_text q x.name e))
+          ∙ (ap (λ b. is_above x.generation (greatest old q) || b) (names_rose old seen q)
+          ∙ sym (rose_more x.generation (greatest (seen ++ old) q) (greatest old q))))))
+      | false ↦ λ e.
+          front (is_raise old x)
+          ∙ (ap (λ b. (is_raise old x && b) || is_among (raised_names old seen) q) e
+          ∙ (ap (λ b. b || is_among (raised_names old seen) q) (and_false (is_raise old x))
+          ∙ names_rose old seen q))
+    ] refl
+  where
+    front : (b : Bool) → is_among (map (λ (y : Component). y.name) (cond b (x ∷ filter (is_raise old) seen) (filter (is_raise old) seen))) q ≡ ((b && bytes_eq q x.name) || is_among (raised_names old seen) q)
+    front true = refl
+    front false = refl
+
+    and_true : (b : Bool) → (b && true) ≡ b
+    and_true true = refl
+    and_true false = refl
+
+    and_false : (b : Bool) → (b && false) ≡ false
+    and_false true = refl
+    and_false false = refl
+
+-- a set that has new digests and rows, one digest more
+pub sees_more : (new later rows keys more : List (List ℕ)) (d : List ℕ) → ((q : List ℕ) → is_among keys q ≡ (is_among new q || is_among rows q)) → later ≡ (if not (is_among keys d) then new ++ d ∷ [] else new) →
+    ((q : List ℕ) → is_among more q ≡ (bytes_eq q d || is_among keys q)) → (q : List ℕ) → is_among more q ≡ (is_among later q || is_among rows q)
+sees_more new later rows keys more d sees kept after q =
+    after q
+    ∙ ((elim (is_among keys d) as (λ b. is_among keys d ≡ b → (bytes_eq q d || is_among keys q) ≡ (is_among (if not b then new ++ d ∷ [] else new) q || is_among rows q)) [
+      | true ↦ λ e. there e ∙ sees q
+      | false ↦ λ e. ap (λ b. bytes_eq q d || b) (sees q) ∙ (moved (bytes_eq q d) (is_among new q) (is_among rows q) ∙ sym (ap (λ b. b || is_among rows q) (list_any-append (bytes_eq q) new (d ∷ []))))
+    ] refl)
+    ∙ sym (ap (λ ls. is_among ls q || is_among rows q) kept))
+  where
+    there : is_among keys d ≡ true → (bytes_eq q d || is_among keys q) ≡ is_among keys q
+    there e = elim (bytes_eq q d) as (λ b. bytes_eq q d ≡ b → (b || is_among keys q) ≡ is_among keys q) [
+      | true ↦ λ s. sym (ap (λ t. is_among keys t) (same_text q d s) ∙ e)
+      | false ↦ λ s. refl
+    ] refl
+
+    moved : (a b c : Bool) → (a || (b || c)) ≡ ((b || (a || false)) || c)
+    moved true true c = refl
+    moved true false c = refl
+    moved false true c = refl
+    moved false false c = refl
+
+-- levels of rows
+
+or_else_none : (o : Option ℕ) → o ≡ or_else o None
+or_else_none None = refl
+or_else_none (Some n) = refl
+
+ties_same : (q x : List ℕ) → ties q x ≡ bytes_eq q x
+ties_same q x = is_eq-slice_cmp q x
+
+-- a new name has its row's generation
+pub row_taken : (m : Generations) (row : Component) → get m row.name ≡ None → (q : List ℕ) → get (raised m row) q ≡ or_else (get m q) (generation_in (row ∷ []) q)
+row_taken m row none q =
+    get-raised m row q
+    ∙ (ap (λ b. cond b (Some (greater (get m q) row.generation)) (get m q)) (ties_same q row.name)
+    ∙ elim (bytes_eq q row.name) as (λ b. bytes_eq q row.name ≡ b → cond b (Some (greater (get m q) row.generation)) (get m q) ≡ or_else (get m q) (option_map (λ (r : Component). r.generation) (if b then Some row else None))) [
+      | true ↦ λ e. (let missing : get m q ≡ None = ap (λ n. get m n) (same_text q row.name e) ∙ none in
+          ap (λ o. Some (greater o row.generation)) missing ∙ sym (ap (λ o. or_else o (Some row.generation)) missing))
+      | false ↦ λ e. or_else_none (get m q)
+    ] refl)
+
+generation_append : (xs : List Component) (x : Component) (q : List ℕ) → generation_in (xs ++ x ∷ []) q ≡ or_else (generation_in xs q) (generation_in (x ∷ []) q)
+generation_append [] x q = refl
+generation_append (y ∷ xs) x q =
+    elim (bytes_eq q y.name) as (λ b. option_map (λ (r : Component). r.generation) (if b then Some y else find (is_named q) (xs ++ x ∷ [])) ≡ or_else (option_map (λ (r : Component). r.generation) (if b then Some y else find (is_named q) xs)) (generation_in (x ∷ []) q)) [
+      | true ↦ refl
+      | false ↦ generation_append xs x q
+    ]
+
+pub rows_more : (rows : List Component) (i : ℕ) (row : Component) (old new : Option ℕ) (q : List ℕ) → i < length rows → row ≡ get_or rows i row → old ≡ generation_in (take i rows) q → new ≡ or_else old (generation_in (row ∷ []) q) →
+    new ≡ generation_in (take (i + 1) rows) q
+rows_more rows i row old new q lt is before after =
+    after ∙ (ap (λ o. or_else o (generation_in (row ∷ []) q)) before ∙ (sym (generation_append (take i rows) row q)
+    ∙ ap (λ ls. generation_in ls q) (sym (take_more rows i row lt ∙ ap (λ y. take i rows ++ y ∷ []) (sym is)))))
+
+-- one component of an import more
+
+module _ (asked old seen : List Component) (x : Component) (s : SoFar) (is_asked : IsTrue (is_among (map (λ y. y.name) asked) x.name)) (before : IsSoFar asked old seen s) where
+  current : get s.level.generations x.name ≡ greatest (seen ++ old) x.name
+  current = before.level x.name is_asked
+
+  pub takes_below : is_above x.generation (get s.level.generations x.name) ≡ false → IsSoFar asked old (x ∷ seen) s
+  takes_below below =
+      let under : is_above x.generation (greatest (seen ++ old) x.name) ≡ false = ap (λ o. is_above x.generation o) (sym current) ∙ below in
+      record {
+        level = λ q h. before.level q h ∙ sym (elim (bytes_eq q x.name) as (λ b. bytes_eq q x.name ≡ b → (if b then Some (greater_of x.generation (greatest (seen ++ old) q)) else greatest (seen ++ old) q) ≡ greatest (seen ++ old) q) [
+          | true ↦ λ e. greater_below x.generation (greatest (seen ++ old) q) (ap (λ k. is_above x.generation (greatest (seen ++ old) k)) (same_text q x.name e) ∙ under)
+          | false ↦ λ e. refl
+        ] refl);
+        count = elim (is_raise old x) as (λ b. is_raise old x ≡ b → length (once (map (λ (y : Component). y.name) (cond b (x ∷ filter (is_raise old) seen) (filter (is_raise old) seen)))) ≡ s.names) [
+          | true ↦ λ e. ap (λ b. length (if b then once (raised_names old seen) else x.name ∷ once (raised_names old seen))) (names_rose old seen x.name ∙ rose_between x.generation (greatest (seen ++ old) x.name) (greatest old x.name) under e) ∙ before.count
+          | false ↦ λ e. before.count
+        ] refl;
+        written = λ t rows. before.written t rows ∙ ap (λ rs. record t { components = rs }) (sym (rows_below x (seen ++ old) under));
+      }
+
+  greater_turned : (o : Option ℕ) (g : ℕ) → greater o g ≡ greater_of g o
+  greater_turned None g = refl
+  greater_turned (Some m) g = omega arith
+
+  pub takes_above : (prev : Generations) → get prev x.name ≡ greatest old x.name → is_above x.generation (get s.level.generations x.name) ≡ true → (after : SoFar) →
+      after.level.generations ≡ raised s.level.generations x → after.writes.items ≡ s.writes.items ++ put_of (get s.level.generations x.name) x ∷ [] →
+      after.names ≡ s.names + one_if (not (rose (get s.level.generations x.name) (get prev x.name))) → IsSoFar asked old (x ∷ seen) after
+  takes_above prev was above after leveled wrote counted =
+      let over : is_above x.generation (greatest (seen ++ old) x.name) ≡ true = ap (λ o. is_above x.generation o) (sym current) ∙ above in
+      let raises : is_raise old x ≡ true = above_fewer x.generation x.name seen old over in
+      let risen : is_among (raised_names old seen) x.name ≡ rose (get s.level.generations x.name) (get prev x.name) =
+      names_rose old seen x.name ∙ (ap (λ o. rose o (greatest old x.name)) (sym current) ∙ ap (λ o. rose (get s.level.generations x.name) o) (sym was)) in
+      record {
+        level = λ q h.
+            ap (λ m. get m q) leveled ∙ (get-raised s.level.generations x q
+            ∙ (ap (λ b. cond b (Some (greater (get s.level.generations q) x.generation)) (get s.level.generations q)) (ties_same q x.name)
+            ∙ (ap (λ o. cond (bytes_eq q x.name) (Some (greater o x.generation)) o) (before.level q h)
+            ∙ ap (λ n. cond (bytes_eq q x.name) (Some n) (greatest (seen ++ old) q)) (greater_turned (greatest (seen ++ old) q) x.generation))));
+        count =
+            ap (λ b. length (once (map (λ (y : Component). y.name) (cond b (x ∷ filter (is_raise old) seen) (filter (is_raise old) seen))))) raises
+            ∙ (ap (λ b. length (if b then once (raised_names old seen) else x.name ∷ once (raised_names old seen))) risen
+            ∙ (one_more (rose (get s.level.generations x.name) (get prev x.name)) ∙ sym counted));
+        written = λ t rows.
+            ap (λ ws. all_written ws t) wrote
+            ∙ (written-append s.writes.items (put_of (get s.level.generations x.name) x ∷ []) t
+            ∙ (ap (λ u. written (put_of (get s.level.generations x.name) x) u) (before.written t rows)
+            ∙ rows_put x (seen ++ old) (get s.level.generations x.name) (sym current) above (record t { components = level_rows (seen ++ old) }) refl));
+      }
+    where
+      one_more : (b : Bool) → length (if b then once (raised_names old seen) else x.name ∷ once (raised_names old seen)) ≡ s.names + one_if (not b)
+      one_more true = (let h : length (once (raised_names old seen)) ≡ s.names = before.count in omega arith)
+      one_more false = (let h : length (once (raised_names old seen)) ≡ s.names = before.count in omega arith)
+
+-- over all components of an import
+
+pub reverse_take : (xs : List Component) (i : ℕ) (x : Component) → i < length xs → x ≡ get_or xs i x → reverse (take (i + 1) xs) ≡ x ∷ reverse (take i xs)
+reverse_take xs i x lt is = ap reverse (take_more xs i x lt ∙ ap (λ y. take i xs ++ y ∷ []) (sym is)) ∙ reverse-append (take i xs) (x ∷ [])
+
+pub name_among : (xs : List Component) (i : ℕ) (x : Component) → i < length xs → x ≡ get_or xs i x → is_among (map (λ y. y.name) xs) x.name ≡ true
+name_among xs i x lt is = among_any x.name xs ∙ list_any_at (λ (y : Component). bytes_eq x.name y.name) xs i x lt (ap (λ (y : Component). bytes_eq x.name y.name) (sym is) ∙ bytes_eq-refl x.name)
+  where
+    among_any : (n : List ℕ) (ys : List Component) → is_among (map (λ y. y.name) ys) n ≡ list_any (λ (y : Component). bytes_eq n y.name) ys
+    among_any n [] = refl
+    among_any n (y ∷ ys) = ap (λ b. bytes_eq n y.name || b) (among_any n ys)
+
+-- a name of an import isn't `sbat`
+pub no_sbat : (xs : List Component) → names_no_sbat xs ≡ true → (q : List ℕ) → is_among (map (λ y. y.name) xs) q ≡ true → is_sbat q ≡ false
+no_sbat [] h q asked = cc
+no_sbat (x ∷ xs) h q asked =
+    let both : (not (is_sbat x.name) ≡ true) × (names_no_sbat xs ≡ true) = and_parts (not (is_sbat x.name)) (names_no_sbat xs) h in
+    elim (bytes_eq q x.name) as (λ b. bytes_eq q x.name ≡ b → (b || is_among (map (λ y. y.name) xs) q) ≡ true → is_sbat q ≡ false) [
+      | true ↦ λ e k. ap is_sbat (same_text q x.name e) ∙ denied (is_sbat x.name) both.0
+      | false ↦ λ e k. no_sbat xs both.1 q k
+    ] refl asked
+  where
+    denied : (b : Bool) → not b ≡ true → b ≡ false
+    denied false k = refl
+    denied true k = cc

@@ -1,0 +1,58 @@
+-- Words of an import's steps.
+use Rattle.std.specs.Prelude.{◌≡◌, ℕ, Bool, true, false, if◌then◌else◌, IsTrue, List, [], ◌∷◌, ◌++◌, Option, Some, None, filter, length, map, nat_lt, reverse}
+use Rattle.std.specs.FinMap.{get}
+use Rattle.sbat.specs.declared.component.Component.{Component}
+use Rattle.sbat.specs.Levels.{Generations}
+use Rattle.desk_texts.specs.declared.write.Write.{Write}
+use Rattle.desk_texts.specs.declared.write.Write.TheVariants as writes
+use Rattle.desk_texts.specs.Calls.{is_among, once}
+use Rattle.desk_texts.specs.Level.{greatest, is_above, is_sbat}
+use Rattle.desk_texts.specs.Tables.{Tables, level_rows}
+use Rattle.desk_texts.specs.Writes.{all_written}
+use Rattle.desk_rules.specs.declared.decisions.imports.SoFar.{SoFar}
+use Rattle.desk_rules.specs.Views.{generation_in}
+
+-- the rows, and those of the named that aren't there, the last first
+abbrev pub put_new : List (List ℕ) → List (List ℕ) → List (List ℕ)
+put_new [] rows = rows
+put_new (d ∷ ds) rows = put_new ds (if is_among rows d then rows else d ∷ rows)
+
+-- these are the named digests that the table lacks, each once and in their order, where the rows show the table for them
+abbrev pub AreNew : List (List ℕ) → List (List ℕ) → List (List ℕ) → Type 0
+AreNew rows named new =
+    (table : List (List ℕ)) → ((d : List ℕ) → IsTrue (is_among named d) → is_among rows d ≡ is_among table d)
+    → put_new named table ≡ reverse new ++ table
+
+-- the first of two that is there
+abbrev pub or_else : Option ℕ → Option ℕ → Option ℕ
+or_else None o = o
+or_else (Some n) o = Some n
+
+-- the generation rose from this one, if there was one
+abbrev pub rose : Option ℕ → Option ℕ → Bool
+rose None before = false
+rose (Some now) before = is_above now before
+
+-- a component's generation is above the one before
+abbrev pub is_raise : List Component → Component → Bool
+is_raise old x = is_above x.generation (greatest old x.name)
+
+-- the names of those that are above the one before
+abbrev pub raised_names : List Component → List Component → List (List ℕ)
+raised_names old seen = map (λ x. x.name) (filter (is_raise old) seen)
+
+-- the generations that the rows give
+abbrev pub HasRows : Generations → List Component → Type 0
+HasRows generations rows = (q : List ℕ) → is_sbat q ≡ false → get generations q ≡ generation_in rows q
+
+-- What the components seen so far, the last first, make of a level that names these: the generations of the names
+-- that are asked, how many names were raised, and what is written.
+pub record IsSoFar (asked old seen : List Component) (s : SoFar) : Type 0 where
+  pub level : (q : List ℕ) → IsTrue (is_among (map (λ x. x.name) asked) q) → get s.level.generations q ≡ greatest (seen ++ old) q
+  pub count : length (once (raised_names old seen)) ≡ s.names
+  pub written : (t : Tables) → t.components ≡ level_rows old → all_written s.writes.items t ≡ record t { components = level_rows (seen ++ old) }
+
+-- the write of the stamp, where names were raised
+abbrev pub stamp_writes : ℕ → Option ℕ → List Write
+stamp_writes names None = []
+stamp_writes names (Some s) = if nat_lt 0 names then writes.Stamp s ∷ [] else []

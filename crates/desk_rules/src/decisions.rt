@@ -1,0 +1,112 @@
+//! Decisions over a view: what each command's own conditions say, and what it writes.
+mod imports;
+mod lists;
+mod people;
+mod requests;
+mod submissions;
+
+ghost use Rattle.std.specs.Prelude.{◌≡◌, ◌≤◌, ◌+◌, [], ◌∷◌, ◌++◌, IfErr, MatchOption, MatchResult, OnOk};
+ghost use Rattle.desk_texts.specs.Callers.{caller_name};
+ghost use Rattle.desk_rules.specs.Decisions.{DecidesOwn, Gives};
+ghost use Rattle.desk_texts.specs.declared.command.Command.TheVariants.{Submit};
+
+use crate::tabling;
+use crate::view::{Changes, View};
+use desk_bytes::Refusal;
+use desk_texts::{Caller, Command, PersonName, Reply, RequestNumber, Submission, Write};
+use imports::import;
+use lists::{
+    list_certificate, list_digest, raise_level, revoke_certificate, revoke_digest, unlist,
+};
+use people::add_person;
+use requests::{hand_back, review, withdraw};
+use std::alloc::Global;
+use submissions::submit;
+
+/// The name under which the minutes hold the caller. Takes memory for it.
+pub(crate) fn name_of(alloc: Global, caller: &Caller) -> Result<PersonName, Refusal>
+    ensures { MatchResult result (λ name. name ≡ caller_name caller.now)
+        (λ refusal. refusal ≡ Refusal.NoMemory) }
+{
+    tabling::name_of(alloc, caller).map_err(|_| Refusal::NoMemory)
+}
+
+/// Puts the write after the others.
+pub(crate) fn push(writes: &mut Vec<Write>, write: Write) -> Result<(), Refusal>
+    ensures ok { OnOk result (writes.new.items ≡ writes.old.items ++ write ∷ []) }
+    ensures err { IfErr result (λ refusal. refusal ≡ Refusal.NoMemory) }
+{
+    match writes.push(write) {
+        Ok(()) => Ok(()),
+        Err(_) => Err(Refusal::NoMemory),
+    }
+}
+
+/// The changes of one write.
+fn one(alloc: Global, reply: Reply, write: Write) -> Result<Changes, Refusal>
+    ensures { Gives result reply (write ∷ []) }
+{
+    let mut writes = Vec::new(alloc);
+    push(&mut writes, write)?;
+    Ok(Changes { reply, writes })
+}
+
+/// The changes of two writes.
+fn two(alloc: Global, reply: Reply, first: Write, second: Write) -> Result<Changes, Refusal>
+    ensures { Gives result reply (first ∷ second ∷ []) }
+{
+    let mut writes = Vec::new(alloc);
+    push(&mut writes, first)?;
+    push(&mut writes, second)?;
+    Ok(Changes { reply, writes })
+}
+
+/// The number after so many requests, if there is one.
+fn next_number(requests: u64) -> Option<RequestNumber>
+    ensures { MatchOption result (999999 ≤ requests) (λ number. number ≡ requests + 1) }
+{
+    if 999_999 <= requests {
+        return None;
+    }
+    RequestNumber::new(requests + 1)
+}
+
+/// Takes the submission as the next request.
+fn submit_next(
+    alloc: Global,
+    view: &View,
+    caller: &Caller,
+    submission: &Submission,
+) -> Result<Changes, Refusal>
+    ensures { DecidesOwn view.now caller.now (Submit submission.now) result }
+{
+    match next_number(view.sizes.requests) {
+        None => Err(Refusal::Full),
+        Some(number) => submit(alloc, view, number, caller, submission),
+    }
+}
+
+/// What the command's own conditions say, and what it writes but for the call's own row.
+pub(crate) fn decide_own(
+    alloc: Global,
+    view: &View,
+    caller: &Caller,
+    command: &Command,
+) -> Result<Changes, Refusal>
+    ensures { DecidesOwn view.now caller.now command.now result }
+{
+    match command {
+        Command::AddPerson(person) => add_person(alloc, view, person),
+        Command::Submit(submission) => submit_next(alloc, view, caller, submission),
+        Command::Review(ballot) => review(alloc, view, caller, ballot),
+        Command::Withdraw(number) => withdraw(alloc, view, caller, *number),
+        Command::Return(handback) => hand_back(alloc, view, caller, handback),
+        Command::ListCertificate(certificate) => list_certificate(alloc, view, certificate),
+        Command::ListDigest(digest) => list_digest(alloc, view, *digest),
+        Command::Unlist(listing) => unlist(alloc, view, *listing),
+        Command::RevokeDigest(digest) => revoke_digest(alloc, view, *digest),
+        Command::RevokeCertificate(digest) => revoke_certificate(alloc, view, *digest),
+        Command::RaiseLevel(raise) => raise_level(alloc, view, raise),
+        Command::ImportRevocations(named) => import(alloc, view, named),
+    }
+}

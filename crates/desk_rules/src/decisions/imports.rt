@@ -1,0 +1,281 @@
+//! Imports of revocations.
+ghost use Rattle.std.specs.Prelude.{◌≡◌, ◌+◌, ◌<◌, ◌≤◌, ◌^◌, ◌&&◌, ◌||◌, ◌++◌, ◌∷◌, [], ℕ, List, IfErr, IfOk, IsTrue, OnOk, bytes_eq, false, if◌then◌else◌, map, nat_lt, not, reverse, true};
+ghost use Rattle.std.specs.FinMap.{get};
+ghost use Rattle.sbat.specs.declared.component.Component.{Component as ComponentValue};
+ghost use Rattle.desk_texts.specs.Calls.{is_among};
+ghost use Rattle.desk_texts.specs.Level.{greatest, is_sbat as sbat_name};
+ghost use Rattle.desk_texts.specs.Raising.{names_no_sbat};
+ghost use Rattle.desk_texts.specs.declared.caller.Caller.{Caller as CallerValue};
+ghost use Rattle.desk_texts.specs.declared.command.Command.TheVariants as Command;
+ghost use Rattle.desk_texts.specs.declared.write.Write.TheVariants as puts;
+ghost use Rattle.desk_rules.specs.Decisions.{DecidesOwn};
+ghost use Rattle.desk_rules.specs.ImportSteps as spec;
+ghost use Rattle.desk_rules.specs.Refusals.{is_later};
+ghost use Rattle.desk_rules.specs.Views.{generation_in};
+
+use super::lists::put;
+use super::push;
+use crate::level::{is_above, is_sbat};
+use crate::refusals::is_later;
+use crate::view::{Changes, View};
+use desk_bytes::{Digest, Refusal};
+use desk_texts::{Counts, Import, Reply, Write};
+use sbat::{Component, ComponentName, Generation, Level, Stamp};
+use std::alloc::Global;
+use std::collections::BTreeSet;
+
+/// Puts the digest to the known ones, and says whether it is new.
+fn note(known: &mut BTreeSet<Digest>, digest: Digest) -> Result<bool, Refusal>
+    ensures ok { IfOk result (λ is_new. is_new ≡ not (is_among known.old.keys digest)) }
+    ensures known { OnOk result ((q : List ℕ) → is_among known.new.keys q
+        ≡ (bytes_eq q digest || is_among known.old.keys q)) }
+    ensures err { IfErr result (λ refusal. refusal ≡ Refusal.NoMemory) }
+{
+    match known.insert(digest) {
+        Ok(is_new) => Ok(is_new),
+        Err(_) => Err(Refusal::NoMemory),
+    }
+}
+
+/// The set of the digests.
+fn set_of(alloc: Global, digests: &[Digest]) -> Result<BTreeSet<Digest>, Refusal>
+    ensures ok { IfOk result (λ known. (q : List ℕ) → is_among known.keys q ≡ is_among digests.now q) }
+    ensures err { IfErr result (λ refusal. refusal ≡ Refusal.NoMemory) }
+{
+    let mut known = BTreeSet::new(alloc);
+    for digest in digests {
+        note(&mut known, *digest)?;
+    }
+    Ok(known)
+}
+
+/// Puts the digest to the new ones, where it isn't known.
+fn take_digest(
+    known: &mut BTreeSet<Digest>,
+    new: &mut Vec<Digest>,
+    digest: Digest,
+) -> Result<(), Refusal>
+    ensures ok { OnOk result (new.new.items
+        ≡ (if not (is_among known.old.keys digest) then new.old.items ++ digest ∷ [] else new.old.items)) }
+    ensures known { OnOk result ((q : List ℕ) → is_among known.new.keys q
+        ≡ (bytes_eq q digest || is_among known.old.keys q)) }
+    ensures err { IfErr result (λ refusal. refusal ≡ Refusal.NoMemory) }
+{
+    if !note(known, digest)? {
+        return Ok(());
+    }
+    match new.push(digest) {
+        Ok(()) => Ok(()),
+        Err(_) => Err(Refusal::NoMemory),
+    }
+}
+
+/// The named digests that have no row yet, each once, in their order. Costs the time of sorting both.
+fn new_digests(alloc: Global, rows: &[Digest], named: &[Digest]) -> Result<Vec<Digest>, Refusal>
+    ensures ok { IfOk result (λ new. spec.AreNew rows.now named.now new.items) }
+    ensures err { IfErr result (λ refusal. refusal ≡ Refusal.NoMemory) }
+{
+    let mut known = set_of(alloc, rows)?;
+    let mut new = Vec::new(alloc);
+    for digest in named {
+        take_digest(&mut known, &mut new, *digest)?;
+    }
+    Ok(new)
+}
+
+/// Gives the row's name its generation in the level, where it has none.
+fn take_row(level: &mut Level, row: &Component) -> Result<(), Refusal>
+    ensures ok { OnOk result ((q : List ℕ) → sbat_name q ≡ false → get level.new.generations q
+        ≡ spec.or_else (get level.old.generations q) (generation_in (row.now ∷ []) q)) }
+    ensures err { IfErr result (λ refusal. refusal ≡ Refusal.NoMemory) }
+{
+    if is_sbat(&row.name) {
+        return Ok(());
+    }
+    if level.generation_of(row.name.as_str().as_bytes()).is_some() {
+        return Ok(());
+    }
+    match level.raise(row) {
+        Ok(()) => Ok(()),
+        Err(_) => Err(Refusal::NoMemory),
+    }
+}
+
+/// The level that the rows give, with any stamp.
+fn level_of(alloc: Global, stamp: Stamp, rows: &[Component]) -> Result<Level, Refusal>
+    ensures ok { IfOk result (λ level. spec.HasRows level.generations rows.now) }
+    ensures err { IfErr result (λ refusal. refusal ≡ Refusal.NoMemory) }
+{
+    let mut level = Level::new(alloc, stamp);
+    for row in rows {
+        take_row(&mut level, row)?;
+    }
+    Ok(level)
+}
+
+/// What an import's components make so far.
+#[derive(Drop)]
+pub(crate) struct SoFar {
+    /// What is written.
+    pub(crate) writes: Vec<Write>,
+    /// The level as it stands.
+    pub(crate) level: Level,
+    /// How many names were raised.
+    pub(crate) names: u64,
+}
+
+impl SoFar {
+    /// The generation of the name as it stands.
+    fn present(&self, name: &ComponentName) -> Option<Generation>
+        ensures { result ≡ get self.now.level.generations name.now }
+    {
+        self.level.generation_of(name.as_str().as_bytes())
+    }
+}
+
+/// Whether the generation rose from the one before.
+fn rose(now: Option<Generation>, before: Option<Generation>) -> bool
+    ensures { result ≡ spec.rose now before }
+{
+    match now {
+        None => false,
+        Some(now) => is_above(now, before),
+    }
+}
+
+/// Whether the name's generation rose so far.
+fn has_risen(before: &Level, so_far: &SoFar, name: &ComponentName) -> bool
+    ensures { result ≡ spec.rose (get so_far.now.level.generations name.now)
+        (get before.now.generations name.now) }
+{
+    rose(
+        so_far.present(name),
+        before.generation_of(name.as_str().as_bytes()),
+    )
+}
+
+/// Takes one component in.
+fn take_in(before: &Level, component: &Component, so_far: &mut SoFar) -> Result<(), Refusal>
+    requires other { sbat_name component.now.name ≡ false }
+    requires room { so_far.old.names + 1 < 2 ^ 64 }
+    ensures ok { OnOk result ((asked old seen : List ComponentValue)
+        → IsTrue (is_among (map (λ x. x.name) asked) component.now.name)
+        → get before.now.generations component.now.name ≡ greatest old component.now.name
+        → spec.IsSoFar asked old seen so_far.old
+        → spec.IsSoFar asked old (component.now ∷ seen) so_far.new) }
+    ensures count { OnOk result (so_far.new.names ≤ so_far.old.names + 1) }
+    ensures err { IfErr result (λ refusal. refusal ≡ Refusal.NoMemory) }
+{
+    if !is_above(component.generation, so_far.present(&component.name)) {
+        return Ok(());
+    }
+    so_far.names += u64::from(!has_risen(before, so_far, &component.name));
+    let row = component.clone().map_err(|_| Refusal::NoMemory)?;
+    let write = put(so_far.present(&component.name), row);
+    push(&mut so_far.writes, write)?;
+    match so_far.level.raise(component) {
+        Ok(()) => Ok(()),
+        Err(_) => Err(Refusal::NoMemory),
+    }
+}
+
+/// What the components make of a level that has these rows, one after another. Costs the time of sorting both.
+fn take_all(
+    alloc: Global,
+    stamp: Stamp,
+    rows: &[Component],
+    components: &[Component],
+) -> Result<SoFar, Refusal>
+    requires other { names_no_sbat components.now ≡ true }
+    ensures ok { IfOk result (λ so_far. (old : List ComponentValue)
+        → ((q : List ℕ) → IsTrue (is_among (map (λ x. x.name) components.now) q)
+        → generation_in rows.now q ≡ greatest old q)
+        → spec.IsSoFar components.now old (reverse components.now) so_far) }
+    ensures err { IfErr result (λ refusal. refusal ≡ Refusal.NoMemory) }
+{
+    let before = level_of(alloc, stamp, rows)?;
+    let mut so_far = SoFar {
+        writes: Vec::new(alloc),
+        level: level_of(alloc, stamp, rows)?,
+        names: 0,
+    };
+    for component in components {
+        take_in(&before, component, &mut so_far)?;
+    }
+    Ok(so_far)
+}
+
+/// Writes the digests of images, after others.
+fn put_digests(writes: &mut Vec<Write>, digests: &[Digest]) -> Result<(), Refusal>
+    ensures ok { OnOk result (writes.new.items
+        ≡ writes.old.items ++ map (λ d. puts.RevokeDigest d) digests.now) }
+    ensures err { IfErr result (λ refusal. refusal ≡ Refusal.NoMemory) }
+{
+    for digest in digests {
+        push(writes, Write::RevokeDigest(*digest))?;
+    }
+    Ok(())
+}
+
+/// Writes the digests of certificates, after others.
+fn put_certificates(writes: &mut Vec<Write>, digests: &[Digest]) -> Result<(), Refusal>
+    ensures ok { OnOk result (writes.new.items
+        ≡ writes.old.items ++ map (λ d. puts.RevokeCertificate d) digests.now) }
+    ensures err { IfErr result (λ refusal. refusal ≡ Refusal.NoMemory) }
+{
+    for digest in digests {
+        push(writes, Write::RevokeCertificate(*digest))?;
+    }
+    Ok(())
+}
+
+/// Writes the stamp, where names were raised, after others.
+fn put_stamp(writes: &mut Vec<Write>, names: u64, stamp: Option<Stamp>) -> Result<(), Refusal>
+    ensures ok { OnOk result (writes.new.items ≡ writes.old.items ++ spec.stamp_writes names stamp) }
+    ensures err { IfErr result (λ refusal. refusal ≡ Refusal.NoMemory) }
+{
+    if 0 < names {
+        if let Some(stamp) = stamp {
+            push(writes, Write::Stamp(stamp))?;
+            return Ok(());
+        }
+    }
+    Ok(())
+}
+
+/// Whether names were raised without a later stamp.
+fn is_early(names: u64, now: Stamp, stamp: Option<Stamp>) -> bool
+    ensures { result ≡ (nat_lt 0 names && not (is_later now stamp)) }
+{
+    0 < names && !is_later(now, stamp)
+}
+
+/// Takes the import in.
+pub(crate) fn import(alloc: Global, view: &View, import: &Import) -> Result<Changes, Refusal>
+    ensures { (caller : CallerValue)
+        → DecidesOwn view.now caller (Command.ImportRevocations import.now) result }
+{
+    let lists = &view.lists;
+    let components = import.components().as_slice();
+    let so_far = take_all(alloc, view.stamp, &lists.components, components)?;
+    let names = so_far.names;
+    if is_early(names, view.stamp, import.stamp()) {
+        return Err(Refusal::StampNotLater);
+    }
+    let digests = import.digests().as_slice();
+    let digests = new_digests(alloc, &lists.revoked_digests, digests)?;
+    let certificates = import.certificates().as_slice();
+    let certificates = new_digests(alloc, &lists.revoked_certificates, certificates)?;
+    let mut writes = so_far.writes;
+    put_digests(&mut writes, &digests)?;
+    put_certificates(&mut writes, &certificates)?;
+    put_stamp(&mut writes, names, import.stamp())?;
+    let counts = Counts {
+        digests: digests.len() as u64,
+        certificates: certificates.len() as u64,
+        components: names,
+        passed: import.passed(),
+    };
+    let reply = Reply::Imported(counts);
+    Ok(Changes { reply, writes })
+}

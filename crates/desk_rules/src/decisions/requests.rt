@@ -1,0 +1,226 @@
+//! Votes on requests, withdrawals and returned files.
+ghost use Rattle.std.specs.Prelude.{◌≡◌, [], ◌∷◌, IfErr, IfOk, count_by, find, not, option_copied};
+ghost use Rattle.std.specs.List.{list_any};
+ghost use Rattle.desk_texts.specs.Callers.{caller_name};
+ghost use Rattle.desk_texts.specs.Requests.{is_vote_of, is_yes, votes_on};
+ghost use Rattle.desk_rules.specs.Decisions as spec;
+ghost use Rattle.desk_texts.specs.declared.reply.Reply.TheVariants as replies;
+ghost use Rattle.desk_texts.specs.declared.write.Write.TheVariants as puts;
+
+use super::{name_of, one, two};
+use crate::refusals::{image_refusal, return_by, review_by, withdraw_by};
+use crate::view::{Changes, View};
+use desk_bytes::Refusal;
+use desk_texts::{
+    Ballot, Caller, Handback, Outcome, Reply, RequestNumber, RequestRow, ReturnRow, State, Vote,
+    Voted, Write,
+};
+use std::alloc::Global;
+
+/// Whether the vote is a yes.
+fn is_yes(vote: &Voted) -> bool
+    ensures { result ≡ is_yes vote.now }
+{
+    matches!(vote.vote, Vote::Yes)
+}
+
+/// The state of an open request after the vote, where some vote before it was a no or none, and so many were yes.
+fn state_with(vote: Vote, has_no: bool, yes: usize) -> State
+    ensures { result ≡ spec.state_with vote has_no yes }
+{
+    match vote {
+        Vote::No => State::Rejected,
+        Vote::Yes => {
+            if has_no {
+                State::Rejected
+            } else if 1 <= yes {
+                State::Approved
+            } else {
+                State::Open
+            }
+        }
+    }
+}
+
+impl View {
+    /// The row of the request of this number.
+    fn request(&self, number: RequestNumber) -> Option<&RequestRow>
+        ensures { option_copied result ≡ find (spec.is_request_row number) self.now.requests.items }
+    {
+        self.requests
+            .iter()
+            .find(|row| number.value() == row.number.value())
+    }
+
+    /// Whether the caller voted on the request.
+    fn has_voted(&self, number: RequestNumber, caller: &Caller) -> bool
+        ensures { result
+            ≡ list_any (is_vote_of (caller_name caller.now)) (votes_on self.now.votes.items number) }
+    {
+        self.votes
+            .iter()
+            .filter(|row| number.value() == row.request.value())
+            .any(|row| caller.name() == row.reviewer.as_str())
+    }
+
+    /// Whether some vote on the request is a no.
+    fn has_no(&self, number: RequestNumber) -> bool
+        ensures { result ≡ list_any (λ v. not (is_yes v)) (votes_on self.now.votes.items number) }
+    {
+        self.votes
+            .iter()
+            .filter(|row| number.value() == row.request.value())
+            .any(|row| !is_yes(row))
+    }
+
+    /// How many votes on the request are yes.
+    fn count_yes(&self, number: RequestNumber) -> usize
+        ensures { result ≡ count_by is_yes (votes_on self.now.votes.items number) }
+    {
+        self.votes
+            .iter()
+            .filter(|row| number.value() == row.request.value())
+            .filter(|row| is_yes(row))
+            .count()
+    }
+
+    /// Why the caller's vote on the request isn't taken.
+    fn review_refusal(&self, number: RequestNumber, caller: &Caller) -> Option<Refusal>
+        ensures { result ≡ spec.seen_review self.now number (caller_name caller.now) }
+    {
+        match self.request(number) {
+            None => Some(Refusal::NoSuchRequest),
+            Some(row) => review_by(
+                row.state,
+                row.submitter.as_str() == caller.name(),
+                self.has_voted(number, caller),
+            ),
+        }
+    }
+
+    /// The state of the open request after the ballot.
+    fn state_after(&self, ballot: &Ballot) -> State
+        ensures { result ≡ spec.state_after self.now ballot.now }
+    {
+        let has_no = self.has_no(ballot.request);
+        state_with(ballot.vote, has_no, self.count_yes(ballot.request))
+    }
+
+    /// Why the caller's request isn't withdrawn.
+    fn withdraw_refusal(&self, number: RequestNumber, caller: &Caller) -> Option<Refusal>
+        ensures { result ≡ spec.seen_withdraw self.now number (caller_name caller.now) }
+    {
+        match self.request(number) {
+            None => Some(Refusal::NoSuchRequest),
+            Some(row) => withdraw_by(row.state, row.submitter.as_str() == caller.name()),
+        }
+    }
+
+    /// Why the returned file isn't taken.
+    fn return_refusal(&self, handback: &Handback) -> Option<Refusal>
+        ensures { result ≡ spec.seen_return self.now handback.now }
+    {
+        match self.request(handback.request) {
+            None => Some(Refusal::NoSuchRequest),
+            Some(row) => {
+                let image = image_refusal(&self.lists, row.digest, row.signing, &handback.facts);
+                return_by(row.state, image)
+            }
+        }
+    }
+}
+
+/// The row of the caller's vote.
+fn vote_row(alloc: Global, caller: &Caller, ballot: &Ballot) -> Result<Voted, Refusal>
+    ensures ok { IfOk result (λ row. row ≡ spec.vote_row (caller_name caller.now) ballot.now) }
+    ensures err { IfErr result (λ refusal. refusal ≡ Refusal.NoMemory) }
+{
+    let note = ballot.note.clone().map_err(|_| Refusal::NoMemory)?;
+    Ok(Voted {
+        request: ballot.request,
+        reviewer: name_of(alloc, caller)?,
+        vote: ballot.vote,
+        note,
+    })
+}
+
+/// Takes the caller's vote on a request.
+pub(crate) fn review(
+    alloc: Global,
+    view: &View,
+    caller: &Caller,
+    ballot: &Ballot,
+) -> Result<Changes, Refusal>
+    ensures { spec.Decided result
+        (spec.seen_review view.now ballot.now.request (caller_name caller.now))
+        (replies.Reviewed (spec.outcome_after view.now ballot.now))
+        (puts.Vote (spec.vote_row (caller_name caller.now) ballot.now)
+        ∷ puts.State (spec.outcome_after view.now ballot.now) ∷ []) }
+{
+    if let Some(refusal) = view.review_refusal(ballot.request, caller) {
+        return Err(refusal);
+    }
+    let request = ballot.request;
+    let state = view.state_after(ballot);
+    let row = vote_row(alloc, caller, ballot)?;
+    two(
+        alloc,
+        Reply::Reviewed(Outcome { request, state }),
+        Write::Vote(row),
+        Write::State(Outcome { request, state }),
+    )
+}
+
+/// Withdraws the caller's request.
+pub(crate) fn withdraw(
+    alloc: Global,
+    view: &View,
+    caller: &Caller,
+    request: RequestNumber,
+) -> Result<Changes, Refusal>
+    ensures { spec.Decided result (spec.seen_withdraw view.now request (caller_name caller.now))
+        (replies.Withdrawn request)
+        (puts.State (record { request = request; state = State.Withdrawn }) ∷ []) }
+{
+    if let Some(refusal) = view.withdraw_refusal(request, caller) {
+        return Err(refusal);
+    }
+    let state = State::Withdrawn;
+    one(
+        alloc,
+        Reply::Withdrawn(request),
+        Write::State(Outcome { request, state }),
+    )
+}
+
+/// Takes the signed file of a request.
+pub(crate) fn hand_back(
+    alloc: Global,
+    view: &View,
+    caller: &Caller,
+    handback: &Handback,
+) -> Result<Changes, Refusal>
+    ensures { spec.Decided result (spec.seen_return view.now handback.now)
+        (replies.Returned handback.now.request)
+        (puts.Return (spec.handback_row (caller_name caller.now) handback.now)
+        ∷ puts.State (record { request = handback.now.request; state = State.Signed }) ∷ []) }
+{
+    if let Some(refusal) = view.return_refusal(handback) {
+        return Err(refusal);
+    }
+    let request = handback.request;
+    let row = ReturnRow {
+        request,
+        signer: name_of(alloc, caller)?,
+        length: handback.facts.extent.length(),
+        file: handback.facts.file,
+        digest: handback.facts.digest,
+    };
+    let state = State::Signed;
+    two(
+        alloc,
+        Reply::Returned(request),
+        Write::Return(row),
+        Write::State(Outcome { request, state }),
+    )
+}
