@@ -1,22 +1,17 @@
 -- The parts of commands read back from their texts.
-use Rattle.std.proofs.Common.{◌≡◌, ℕ, zero, suc, ◌<◌, ◌≤◌, leb, eqb, cond, Bool, true, false, ◌&&◌, List, [], ◌∷◌, ◌++◌, length, get_or, Option, decimal, refl, sym, ap, ap₂, subst, ◌∙◌, append_assoc, arith}
-use Rattle.std.specs.Prelude.{codes}
+use Rattle.std.proofs.Common.{◌≡◌, ℕ, suc, true, List, [], ◌∷◌, ◌++◌, length, Option, decimal, refl, ap, ap₂, ◌∙◌, append_assoc, arith}
 use Rattle.std.specs.List.{list_all}
-use Rattle.std.specs.Str.{bytes_eq}
 use Rattle.hex.specs.Hex.{IsBytes, encode_lower}
 use Rattle.sbat.specs.declared.component.Component.{Component}
 use Rattle.sbat.specs.Fields.{decimal_of}
 use Rattle.desk_texts.specs.Certificates.{WholeCertificate}
 use Rattle.desk_texts.specs.Commands.{IsCommand, IsCount, IsDigest, IsFacts, IsImport}
-use Rattle.desk_texts.specs.CommandTexts.{text_of}
-use Rattle.desk_texts.specs.Extents.{Lengths}
 use Rattle.desk_texts.specs.Forms.{is_name_byte, is_person_name, is_request_number}
 use Rattle.desk_texts.specs.Imports.{Imported}
 use Rattle.desk_texts.specs.Items.{components_text, digests_text, facts_text, spaced, stamp_text}
 use Rattle.desk_texts.specs.Words.{kind_text, role_text, vote_text}
 use Rattle.desk_texts.specs.declared.command.Ballot.{Ballot}
-use Rattle.desk_texts.specs.declared.command.Command.{Command}
-use Rattle.desk_texts.specs.declared.command.Command.TheVariants.{AddPerson, Submit, Review, Withdraw, Return, ListCertificate, ListDigest, Unlist, RevokeDigest, RevokeCertificate, RaiseLevel, ImportRevocations}
+use Rattle.desk_texts.specs.declared.command.Command.TheVariants.{RaiseLevel}
 use Rattle.desk_texts.specs.declared.command.Handback.{Handback}
 use Rattle.desk_texts.specs.declared.command.Listing.{Listing}
 use Rattle.desk_texts.specs.declared.command.Person.{Person}
@@ -26,7 +21,7 @@ use Rattle.desk_texts.specs.declared.facts.Facts.{Facts}
 use Rattle.desk_texts.specs.declared.kind.ListedKind.{ListedKind}
 use Rattle.desk_texts.specs.declared.role.Role.{Role}
 use Rattle.desk_texts.specs.declared.vote.Vote.{Vote}
-use Rattle.desk_texts.proofs.FieldLemmas.{after, before, field, fields, fields-more, free-by, is_free}
+use Rattle.desk_texts.proofs.FieldLemmas.{field, fields, fields-more, free-by, is_free}
 use Rattle.desk_texts.proofs.FormLemmas.{both}
 use Rattle.desk_texts.proofs.NumberLemmas.{number_size}
 use Rattle.desk_texts.proofs.WordLemmas.{kind_free, kind_in, kind_read, role_free, role_in, role_read, vote_free, vote_in, vote_read}

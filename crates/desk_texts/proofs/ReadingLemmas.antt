@@ -1,34 +1,12 @@
 -- Commands read back from their texts.
-use Rattle.std.proofs.Common.{◌≡◌, ℕ, zero, suc, ◌<◌, ◌≤◌, leb, eqb, cond, Bool, true, false, ◌&&◌, List, [], ◌∷◌, ◌++◌, length, get_or, Option, decimal, refl, sym, ap, ap₂, subst, ◌∙◌, append_assoc, arith}
+use Rattle.std.proofs.Common.{◌≡◌, ℕ, cond, List, sym, ap, ◌∙◌}
 use Rattle.std.specs.Prelude.{codes}
-use Rattle.std.specs.List.{list_all}
 use Rattle.std.specs.Str.{bytes_eq}
-use Rattle.hex.specs.Hex.{IsBytes, encode_lower}
-use Rattle.sbat.specs.declared.component.Component.{Component}
 use Rattle.sbat.specs.Fields.{decimal_of}
-use Rattle.desk_texts.specs.Certificates.{WholeCertificate}
-use Rattle.desk_texts.specs.Commands.{IsCommand, IsCount, IsDigest, IsFacts, IsImport}
+use Rattle.desk_texts.specs.Commands.{IsCommand}
 use Rattle.desk_texts.specs.CommandTexts.{text_of}
-use Rattle.desk_texts.specs.Extents.{Lengths}
-use Rattle.desk_texts.specs.Forms.{is_name_byte, is_person_name, is_request_number}
-use Rattle.desk_texts.specs.Imports.{Imported}
-use Rattle.desk_texts.specs.Items.{components_text, digests_text, facts_text, spaced, stamp_text}
-use Rattle.desk_texts.specs.Words.{kind_text, role_text, vote_text}
-use Rattle.desk_texts.specs.declared.command.Ballot.{Ballot}
 use Rattle.desk_texts.specs.declared.command.Command.{Command}
 use Rattle.desk_texts.specs.declared.command.Command.TheVariants.{AddPerson, Submit, Review, Withdraw, Return, ListCertificate, ListDigest, Unlist, RevokeDigest, RevokeCertificate, RaiseLevel, ImportRevocations}
-use Rattle.desk_texts.specs.declared.command.Handback.{Handback}
-use Rattle.desk_texts.specs.declared.command.Listing.{Listing}
-use Rattle.desk_texts.specs.declared.command.Person.{Person}
-use Rattle.desk_texts.specs.declared.command.Raise.{Raise}
-use Rattle.desk_texts.specs.declared.command.Submission.{Submission}
-use Rattle.desk_texts.specs.declared.facts.Facts.{Facts}
-use Rattle.desk_texts.specs.declared.kind.ListedKind.{ListedKind}
-use Rattle.desk_texts.specs.declared.kind.ListedKind.TheVariants.{Digest, Certificate}
-use Rattle.desk_texts.specs.declared.role.Role.{Role}
-use Rattle.desk_texts.specs.declared.role.Role.TheVariants.{Submitter, Reviewer, Officer, Signer}
-use Rattle.desk_texts.specs.declared.vote.Vote.{Vote}
-use Rattle.desk_texts.specs.declared.vote.Vote.TheVariants.{Yes, No}
 use Rattle.desk_texts.proofs.FieldLemmas.{after, before, fields}
 use Rattle.desk_texts.proofs.PartLemmas.{ballot_of, ballot_read, certificate_of, certificate_read, handback_of, handback_read, import_of, import_read, listing_of, listing_read, person_of, person_read, raise_of, raise_read, request_small, submission_of, submission_read}
 use Rattle.desk_texts.proofs.ValueLemmas.{decimal_read, hex_in, hex_read}

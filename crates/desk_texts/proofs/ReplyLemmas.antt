@@ -1,5 +1,5 @@
 -- Replies read back from their texts.
-use Rattle.std.proofs.Common.{◌≡◌, ℕ, ◌<◌, cond, true, List, [], ◌∷◌, decimal, refl, sym, ap, ap₂, ◌∙◌, arith}
+use Rattle.std.proofs.Common.{◌≡◌, ℕ, cond, List, [], ◌∷◌, decimal, refl, sym, ap, ap₂, ◌∙◌}
 use Rattle.std.specs.Prelude.{codes}
 use Rattle.std.specs.Str.{bytes_eq}
 use Rattle.sbat.specs.Fields.{decimal_of}

@@ -1,5 +1,5 @@
 -- Values of commands read back from their texts.
-use Rattle.std.proofs.Common.{◌≡◌, ℕ, zero, suc, ◌<◌, ◌≤◌, ◌^◌, ◌/◌, ◌%◌, ◌*◌, leb, eqb, cond, Bool, true, false, not, ◌&&◌, ◌||◌, List, [], ◌∷◌, ◌++◌, length, get_or, map, All, Option, Some, None, Result, Ok, Err, decimal, refl, sym, ap, ap₂, subst, ◌∙◌, arith}
+use Rattle.std.proofs.Common.{◌≡◌, ℕ, suc, ◌<◌, ◌≤◌, ◌/◌, ◌%◌, leb, eqb, cond, Bool, true, false, ◌&&◌, ◌||◌, List, [], ◌∷◌, length, get_or, map, All, Option, Some, None, Result, Ok, Err, decimal, refl, ap, ap₂, ◌∙◌, arith}
 use Rattle.std.specs.Char.{is_ascii_digit}
 use Rattle.std.specs.List.{list_all}
 use Rattle.std.proofs.lemmas.Bool.Decides.{nat_tests}
@@ -13,7 +13,7 @@ use Rattle.sbat.specs.declared.component.Component.{Component}
 use Rattle.sbat.specs.Fields.{decimal_of, is_generation, is_name, is_name_byte, is_stamp}
 use Rattle.desk_texts.specs.Commands.{IsComponent, IsCount, IsDigest, IsStamp}
 use Rattle.desk_texts.specs.Forms.{is_between}
-use Rattle.desk_texts.specs.Items.{component_text, components_text, digests_text, list_text, stamp_text}
+use Rattle.desk_texts.specs.Items.{component_text, components_text, digests_text, stamp_text}
 use Rattle.desk_texts.proofs.FieldLemmas.{IsItem, after, after-is, before, before-is, first-append, first-by, free-append, free-by, free_list, is_free, items_in, items_in-list_text}
 use Rattle.desk_texts.proofs.FormLemmas.{both, joined}
 use Rattle.desk_texts.proofs.NumberLemmas.{own}

@@ -1,7 +1,6 @@
 -- The SBAT level (shim's SBAT.md, "Generation-Based Revocation Overview"): the least generation asked of each component.
-use Rattle.std.specs.Prelude.{ℕ, Bool, true, false, nat_lt, if◌then◌else◌, max, List, [], ◌∷◌, map, reverse, flat_map, Option, Some, None, unwrap_or, bytes_eq, codes}
+use Rattle.std.specs.Prelude.{ℕ, Bool, true, nat_lt, if◌then◌else◌, max, List, [], ◌∷◌, map, reverse, flat_map, Option, Some, None, unwrap_or, bytes_eq, codes}
 use Rattle.std.specs.List.{list_any}
-use Rattle.desk_texts.specs.declared.command.Call.{Call}
 use Rattle.desk_texts.specs.declared.command.Command.{Command}
 use Rattle.desk_texts.specs.declared.command.Command.TheVariants as command
 use Rattle.sbat.specs.declared.component.Component.{Component}

@@ -1,6 +1,5 @@
 -- The people of a desk: those whom the console added.
 use Rattle.std.specs.Prelude.{ℕ, Bool, List, Option, Some, None, filter_map, find, bytes_eq}
-use Rattle.desk_texts.specs.declared.command.Call.{Call}
 use Rattle.desk_texts.specs.declared.command.Command.{Command}
 use Rattle.desk_texts.specs.declared.command.Command.TheVariants as command
 use Rattle.desk_texts.specs.declared.command.Person.{Person}

@@ -1,5 +1,5 @@
 -- The components that an import names.
-use Rattle.std.specs.Prelude.{ℕ, Bool, not, List, bytes_eq, codes}
+use Rattle.std.specs.Prelude.{Bool, not, List, bytes_eq, codes}
 use Rattle.std.specs.List.{list_all}
 use Rattle.sbat.specs.declared.component.Component.{Component}
 

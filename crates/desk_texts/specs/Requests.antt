@@ -1,7 +1,6 @@
 -- Requests to sign an image, their votes, what becomes of them, and the files that are returned.
-use Rattle.std.specs.Prelude.{ℕ, ◌+◌, ◌==◌, Bool, true, false, not, nat_le, if◌then◌else◌, List, [], ◌∷◌, length, filter, filter_map, find, count_by, Option, Some, None, is_some, option_map, bytes_eq}
+use Rattle.std.specs.Prelude.{ℕ, ◌+◌, ◌==◌, Bool, true, false, not, nat_le, if◌then◌else◌, List, [], ◌∷◌, length, filter, filter_map, find, count_by, Option, Some, None, option_map, bytes_eq}
 use Rattle.std.specs.List.{list_any}
-use Rattle.desk_texts.specs.declared.command.Call.{Call}
 use Rattle.desk_texts.specs.declared.command.Command.{Command}
 use Rattle.desk_texts.specs.declared.command.Command.TheVariants as command
 use Rattle.desk_texts.specs.declared.facts.Facts.{Facts}

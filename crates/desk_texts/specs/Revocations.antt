@@ -1,6 +1,5 @@
 -- What is revoked: the entries of dbx (UEFI 2.10, 32.4.1), image digests and certificates by their TBS digests.
 use Rattle.std.specs.Prelude.{ℕ, Bool, List, [], ◌∷◌, reverse, flat_map}
-use Rattle.desk_texts.specs.declared.command.Call.{Call}
 use Rattle.desk_texts.specs.declared.command.Command.{Command}
 use Rattle.desk_texts.specs.declared.command.Command.TheVariants as command
 use Rattle.desk_texts.specs.declared.kind.ListedKind.{ListedKind}

@@ -1,4 +1,4 @@
-use Rattle.std.proofs.Common.{◌≡◌, decimal, string_bytes, ap, ◌∙◌, rules}
+use Rattle.std.proofs.Common.{◌≡◌, decimal, string_bytes, ap, rules}
 use Rattle.hex.specs.Hex.{encode_lower}
 use Rattle.desk_texts.specs.Items.{digests_text, components_text}
 use Rattle.desk_texts.proofs.ItemLemmas.{seven}

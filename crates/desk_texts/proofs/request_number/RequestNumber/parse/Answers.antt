@@ -1,4 +1,4 @@
-use Rattle.std.proofs.Common.{◌≡◌, false, true, sym, ap, ◌∙◌}
+use Rattle.std.proofs.Common.{sym, ap, ◌∙◌}
 use Rattle.sbat.specs.Fields.{decimal_of}
 use Rattle.desk_texts.specs.Forms.{is_decimal}
 use Rattle.desk_texts.proofs.NumberLemmas.{some_false, is_decimal-decimal, decimal_of-read, read_found, read_only}
