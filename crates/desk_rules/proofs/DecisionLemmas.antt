@@ -1,5 +1,5 @@
 -- What the writes of each command make: people, what is listed, what is revoked.
-use Rattle.std.proofs.Common.{◌≡◌, ℕ, Bool, true, false, not, ◌||◌, cond, List, [], ◌∷◌, Option, Some, None, Ok, Err, Result, refl, sym, ◌∙◌, ap, inl, inr}
+use Rattle.std.proofs.Common.{◌≡◌, ℕ, ◌≤◌, Bool, true, false, not, ◌||◌, cond, List, [], ◌∷◌, length, Option, Some, None, Ok, Err, Result, refl, sym, ◌∙◌, ap, subst, inl, inr, arith}
 use Rattle.std.specs.Prelude.{if◌then◌else◌, MatchResult, IsTrue, bytes_eq, codes, find, is_some}
 use Rattle.std.specs.List.{list_any}
 use Rattle.std.proofs.lemmas.Bool.{or_left}
@@ -8,7 +8,6 @@ use Rattle.desk_bytes.specs.declared.refusal.Refusal.TheVariants as refusals
 use Rattle.desk_texts.specs.Certificates.{WholeCertificate}
 use Rattle.desk_texts.specs.declared.caller.Caller.{Caller}
 use Rattle.desk_texts.specs.declared.command.Call.{Call}
-use Rattle.desk_texts.specs.declared.command.Command.{Command}
 use Rattle.desk_texts.specs.declared.command.Command.TheVariants as command
 use Rattle.desk_texts.specs.declared.command.Listing.{Listing}
 use Rattle.desk_texts.specs.declared.command.Person.{Person}
@@ -25,34 +24,33 @@ use Rattle.desk_texts.specs.Listing.{has_entry, is_entry, is_listed, listed, wit
 use Rattle.desk_texts.specs.People.{has_name, has_token, people}
 use Rattle.desk_texts.specs.Replies.{minutes, reply}
 use Rattle.desk_texts.specs.Revocations.{is_revoked, revocations}
-use Rattle.desk_texts.specs.Tables.{Tables, tables}
+use Rattle.desk_texts.specs.Tables.{tables}
 use Rattle.desk_texts.specs.Writes.{all_written}
 use Rattle.desk_rules.specs.declared.view.Changes.{Changes}
 use Rattle.desk_rules.specs.declared.view.View.{View}
-use Rattle.desk_rules.specs.Decisions.{Decided, DecidesOwn, MakesNext, RefusesOwn, Shows, called, keys_named}
+use Rattle.desk_rules.specs.Decisions.{Decided, DecidesOwn, MakesNext, RefusesOwn, called}
+use Rattle.desk_rules.specs.Shown.{Shows, keys_named}
+use Rattle.desk_rules.specs.Room.{IsRoomed}
 use Rattle.desk_rules.specs.Refusals.{add_refusal, own_refusal, refuse_if}
 use Rattle.desk_rules.specs.Views.{keys_for, seen_standing}
 use Rattle.desk_rules.proofs.ListLemmas.{bytes_eq-refl}
 use Rattle.desk_rules.proofs.ListingLemmas.{listed_rows_are_listed}
+use Rattle.desk_rules.proofs.RefusalLemmas.{unrefused}
 use Rattle.desk_rules.proofs.StandingLemmas.{agrees}
-
--- a condition that doesn't refuse doesn't hold
-pub unrefused : (b : Bool) (r : Refusal) → refuse_if b r ≡ None → b ≡ false
-unrefused false r h = refl
-unrefused true r h = cc
 
 -- a decision by a refusal, a reply and writes
 pub decided : (owner : List ℕ) (cs : History) (c : Call) (result : Result Changes Refusal) (refusal : Option Refusal) (given : Reply) (ws : List Write) → Decided result refusal given ws →
     refusal ≡ own_refusal cs (caller_name c.caller) c.command → (refusal ≡ None → given ≡ reply cs c) →
-    (refusal ≡ None → all_written ws (tables owner cs) ≡ record (tables owner (c ∷ cs)) { calls = minutes cs }) →
+    (refusal ≡ None → all_written ws (tables owner cs) ≡ record (tables owner (c ∷ cs)) { calls = minutes cs }) → IsRoomed ws cs c →
     MatchResult result (λ changes. MakesNext changes owner cs c) (λ r. RefusesOwn r cs c)
-decided owner cs c (Ok changes) refusal given ws told own replied made = record {
+decided owner cs c (Ok changes) refusal given ws told own replied made roomed = record {
   accepted = sym own ∙ told.0;
   replied = told.1 ∙ replied told.0;
   made = ap (λ l. all_written l (tables owner cs)) told.2 ∙ made told.0;
+  listed = subst (λ l. IsRoomed l cs c) (sym told.2) roomed;
 }
-decided owner cs c (Err r) refusal given ws (inl is) own replied made = inl (sym own ∙ is)
-decided owner cs c (Err r) refusal given ws (inr e) own replied made = inr e
+decided owner cs c (Err r) refusal given ws (inl is) own replied made roomed = inl (sym own ∙ is)
+decided owner cs c (Err r) refusal given ws (inr e) own replied made roomed = inr e
 
 -- a test is passed by some item exactly where one is found
 pub any_found : {X : Type 0} (p : X → Bool) (xs : List X) → list_any p xs ≡ is_some (find p xs)
@@ -70,7 +68,7 @@ adds v caller p result told owner cs key legal shown =
     decided owner cs (called caller key (command.AddPerson p)) result (add_refusal v.people.items p) (replies.Added p.name) (writes.Person p ∷ []) told
     (ap (λ b. refuse_if (bytes_eq p.name (codes "console") || b || list_any (has_token p.token) v.people.items) refusals.NameTaken) name
     ∙ ap (λ b. refuse_if (bytes_eq p.name (codes "console") || list_any (has_name p.name) (people cs) || b) refusals.NameTaken) token)
-    (λ none. refl) (λ none. refl)
+    (λ none. refl) (λ none. refl) (inl refl)
   where
     name : list_any (has_name p.name) v.people.items ≡ list_any (has_name p.name) (people cs)
     name = any_found (has_name p.name) v.people.items ∙ (ap is_some (shown.names p.name (among_one p.name)) ∙ sym (any_found (has_name p.name) (people cs)))
@@ -108,7 +106,7 @@ lists_digest v caller d result told owner cs key legal shown =
     (ap (λ b. refuse_if b refusals.AlreadyListed) (listed_seen v owner cs (called caller key (command.ListDigest d)) shown kinds.Digest d (among_one d)))
     (λ none. refl)
     (λ none. ap (λ rows. record (tables owner cs) { listed = e ∷ rows })
-    (sym (unlisted_same v owner cs (called caller key (command.ListDigest d)) shown kinds.Digest d (among_one d) (unrefused ((seen_standing v.lists).listed kinds.Digest d) refusals.AlreadyListed none))))
+    (sym (unlisted_same v owner cs (called caller key (command.ListDigest d)) shown kinds.Digest d (among_one d) (unrefused ((seen_standing v.lists).listed kinds.Digest d) refusals.AlreadyListed none)))) (inl refl)
 
 pub lists_certificate : (v : View) (caller : Caller) (x : WholeCertificate) (result : Result Changes Refusal) →
     Decided result (refuse_if ((seen_standing v.lists).listed kinds.Certificate x.tbs) refusals.AlreadyListed) replies.Listed (writes.List (record { kind = kinds.Certificate; digest = x.tbs; body = x.body }) ∷ []) →
@@ -119,7 +117,14 @@ lists_certificate v caller x result told owner cs key legal shown =
     (ap (λ b. refuse_if b refusals.AlreadyListed) (listed_seen v owner cs (called caller key (command.ListCertificate x)) shown kinds.Certificate x.tbs (among_one x.tbs)))
     (λ none. refl)
     (λ none. ap (λ rows. record (tables owner cs) { listed = e ∷ rows })
-    (sym (unlisted_same v owner cs (called caller key (command.ListCertificate x)) shown kinds.Certificate x.tbs (among_one x.tbs) (unrefused ((seen_standing v.lists).listed kinds.Certificate x.tbs) refusals.AlreadyListed none))))
+    (sym (unlisted_same v owner cs (called caller key (command.ListCertificate x)) shown kinds.Certificate x.tbs (among_one x.tbs) (unrefused ((seen_standing v.lists).listed kinds.Certificate x.tbs) refusals.AlreadyListed none)))) (inl refl)
+
+-- leaving out entries makes no more of them
+without_fewer : (kind : ListedKind) (digest : List ℕ) (rows : List Entry) → length (without kind digest rows) ≤ length rows
+without_fewer kind digest [] = omega arith
+without_fewer kind digest (x ∷ rows) =
+    let rest : length (without kind digest rows) ≤ length rows = without_fewer kind digest rows in
+    elim (is_entry kind digest x) as (λ b. length (cond (not b) (x ∷ without kind digest rows) (without kind digest rows)) ≤ length (x ∷ rows)) [ true ↦ omega arith | false ↦ omega arith ]
 
 one_key_asked : (l : Listing) → is_among (keys_for (keys_named (command.Unlist l)) l.kind) l.digest ≡ true
 one_key_asked l = asked l.kind
@@ -133,7 +138,7 @@ pub unlists : (v : View) (caller : Caller) (l : Listing) (result : Result Change
 unlists v caller l result told owner cs key legal shown =
     decided owner cs (called caller key (command.Unlist l)) result (refuse_if (not ((seen_standing v.lists).listed l.kind l.digest)) refusals.NotThere) replies.Unlisted (writes.Unlist l ∷ []) told
     (ap (λ b. refuse_if (not b) refusals.NotThere) (listed_seen v owner cs (called caller key (command.Unlist l)) shown l.kind l.digest (one_key_asked l)))
-    (λ none. refl) (λ none. refl)
+    (λ none. refl) (λ none. refl) (inr (refl, without_fewer l.kind l.digest (listed cs)))
 
 -- what is revoked
 
@@ -145,7 +150,7 @@ revokes_digest v caller d result told owner cs key legal shown =
     (ap (λ b. refuse_if b refusals.AlreadyRevoked) seen)
     (λ none. refl)
     (λ none. ap (λ b. record (tables owner cs) { revoked_digests = if b then once (revocations kinds.Digest cs) else d ∷ once (revocations kinds.Digest cs) })
-    (sym (sym seen ∙ unrefused ((seen_standing v.lists).revoked kinds.Digest d) refusals.AlreadyRevoked none)))
+    (sym (sym seen ∙ unrefused ((seen_standing v.lists).revoked kinds.Digest d) refusals.AlreadyRevoked none))) (inl refl)
 
 pub revokes_certificate : (v : View) (caller : Caller) (d : List ℕ) (result : Result Changes Refusal) →
     Decided result (refuse_if ((seen_standing v.lists).revoked kinds.Certificate d) refusals.AlreadyRevoked) replies.Revoked (writes.RevokeCertificate d ∷ []) → DecidesOwn v caller (command.RevokeCertificate d) result
@@ -155,4 +160,4 @@ revokes_certificate v caller d result told owner cs key legal shown =
     (ap (λ b. refuse_if b refusals.AlreadyRevoked) seen)
     (λ none. refl)
     (λ none. ap (λ b. record (tables owner cs) { revoked_certificates = if b then once (revocations kinds.Certificate cs) else d ∷ once (revocations kinds.Certificate cs) })
-    (sym (sym seen ∙ unrefused ((seen_standing v.lists).revoked kinds.Certificate d) refusals.AlreadyRevoked none)))
+    (sym (sym seen ∙ unrefused ((seen_standing v.lists).revoked kinds.Certificate d) refusals.AlreadyRevoked none))) (inl refl)

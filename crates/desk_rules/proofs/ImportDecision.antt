@@ -1,8 +1,9 @@
 -- What an import makes.
-use Rattle.std.proofs.Common.{◌≡◌, ℕ, ◌+◌, ◌-◌, Bool, true, false, not, ◌&&◌, ◌||◌, cond, List, [], ◌∷◌, ◌++◌, map, filter, length, Option, Some, None, refl, sym, ◌∙◌, ap, inl, arith}
+use Rattle.std.proofs.Common.{◌≡◌, ℕ, ◌-◌, Bool, true, false, not, ◌&&◌, ◌||◌, cond, List, [], ◌∷◌, ◌++◌, map, filter, length, Option, Some, None, refl, sym, ◌∙◌, ap, inl, arith}
 use Rattle.std.specs.Prelude.{if◌then◌else◌, IsTrue, nat_lt, reverse, unwrap_or}
 use Rattle.std.specs.List.{list_any}
 use Rattle.std.proofs.lemmas.Bool.Decides.{nat_tests}
+use Rattle.std.proofs.lemmas.List.Folds.{list_any-append}
 use Rattle.std.proofs.lemmas.List.{length-append, length-reverse}
 use Rattle.sbat.specs.declared.component.Component.{Component}
 use Rattle.desk_bytes.specs.declared.refusal.Refusal.TheVariants as refusals
@@ -10,27 +11,27 @@ use Rattle.desk_texts.specs.Imports.{Imported}
 use Rattle.desk_texts.specs.declared.caller.Caller.{Caller}
 use Rattle.desk_texts.specs.declared.command.Command.TheVariants as command
 use Rattle.desk_texts.specs.declared.kind.ListedKind.TheVariants as kinds
-use Rattle.desk_texts.specs.declared.reply.Counts.{Counts}
 use Rattle.desk_texts.specs.declared.reply.Reply.TheVariants as replies
 use Rattle.desk_texts.specs.declared.write.Write.{Write}
 use Rattle.desk_texts.specs.declared.write.Write.TheVariants as writes
 use Rattle.desk_texts.specs.Callers.{caller_name}
 use Rattle.desk_texts.specs.Calls.{History, is_among, once}
 use Rattle.desk_texts.specs.Level.{generations, greatest, raises, raises_some, stamp}
-use Rattle.desk_texts.specs.Replies.{minutes}
 use Rattle.desk_texts.specs.Revocations.{revocations}
 use Rattle.desk_texts.specs.Tables.{Tables, level_rows, tables}
 use Rattle.desk_texts.specs.Writes.{all_written}
 use Rattle.desk_rules.specs.declared.decisions.imports.SoFar.{SoFar}
 use Rattle.desk_rules.specs.declared.view.Changes.{Changes}
 use Rattle.desk_rules.specs.declared.view.View.{View}
-use Rattle.desk_rules.specs.Decisions.{MakesNext, RefusesOwn, Shows, called, keys_named}
-use Rattle.desk_rules.specs.ImportSteps.{AreNew, IsSoFar, put_new, raised_names, stamp_writes}
+use Rattle.desk_rules.specs.Decisions.{MakesNext, RefusesOwn, called}
+use Rattle.desk_rules.specs.Shown.{Shows, keys_named}
+use Rattle.desk_rules.specs.ImportSteps.{AreNew, IsSoFar, stamp_writes}
+use Rattle.desk_rules.specs.Room.{takes_off}
 use Rattle.desk_rules.specs.Refusals.{is_later, own_refusal, refuse_if}
 use Rattle.desk_rules.specs.Views.{generation_in}
-use Rattle.desk_rules.proofs.ImportLemmas.{put_new-once}
+use Rattle.desk_rules.proofs.ImportDigests.{put_new-once}
 use Rattle.desk_rules.proofs.StandingLemmas.{shown_generation}
-use Rattle.desk_rules.proofs.SubmissionLemmas.{turned, written-append}
+use Rattle.desk_rules.proofs.SubmissionLemmas.{none_taken, turned, written-append}
 
 -- a name is raised exactly where some component raises
 some_once : (t : List ℕ) (ts : List (List ℕ)) → nat_lt 0 (length (once (t ∷ ts))) ≡ true
@@ -54,6 +55,14 @@ digests_put (d ∷ ds) t = digests_put ds (record t { revoked_digests = d ∷ t.
 certificates_put : (ds : List (List ℕ)) (t : Tables) → all_written (map (λ d. writes.RevokeCertificate d) ds) t ≡ record t { revoked_certificates = reverse ds ++ t.revoked_certificates }
 certificates_put [] t = refl
 certificates_put (d ∷ ds) t = certificates_put ds (record t { revoked_certificates = d ∷ t.revoked_certificates }) ∙ ap (λ rows. record t { revoked_certificates = rows }) (turned d ds t.revoked_certificates)
+
+-- writes one after the other take nothing off
+none_of_two : (ws vs : List Write) → list_any takes_off ws ≡ false → list_any takes_off vs ≡ false → list_any takes_off (ws ++ vs) ≡ false
+none_of_two ws vs h k = list_any-append takes_off ws vs ∙ (ap (λ b. b || list_any takes_off vs) h ∙ k)
+
+stamp_kept : (n : ℕ) (o : Option ℕ) → list_any takes_off (stamp_writes n o) ≡ false
+stamp_kept n None = refl
+stamp_kept n (Some s) = elim (nat_lt 0 n) as (λ b. list_any takes_off (if b then writes.Stamp s ∷ [] else []) ≡ false) [ true ↦ refl | false ↦ refl ]
 
 counted : (new rows : List (List ℕ)) → length new ≡ length (reverse new ++ rows) - length rows
 counted new rows = omega (arith, length-append (reverse new) rows, length-reverse new)
@@ -117,4 +126,11 @@ module _ (v : View) (i : Imported) (owner : List ℕ) (cs : History) (caller : C
             ∙ (certificates_put certificates u ∙ ap (λ rows. record u { revoked_certificates = rows }) (sym second))))
             ∙ (stamped i.stamp w refl
             ∙ ap (λ b. record w { desk = record (tables owner cs).desk { stamp = (if b then unwrap_or i.stamp (stamp cs) else stamp cs) } }) names_some)));
+        listed = inl
+            (ap (λ ws. list_any takes_off ws) wrote
+            ∙ none_of_two ((s.writes.items ++ map (λ d. writes.RevokeDigest d) digests) ++ map (λ d. writes.RevokeCertificate d) certificates) (stamp_writes s.names i.stamp)
+            (none_of_two (s.writes.items ++ map (λ d. writes.RevokeDigest d) digests) (map (λ d. writes.RevokeCertificate d) certificates)
+            (none_of_two s.writes.items (map (λ d. writes.RevokeDigest d) digests) so_far.kept (none_taken (λ d. writes.RevokeDigest d) (λ d. refl) digests))
+            (none_taken (λ d. writes.RevokeCertificate d) (λ d. refl) certificates))
+            (stamp_kept s.names i.stamp));
       }

@@ -1,14 +1,9 @@
--- What an import's digests and components make.
-use Rattle.std.proofs.Common.{◌≡◌, ℕ, ◌<◌, ◌≤◌, ◌+◌, Bool, true, false, not, ◌&&◌, ◌||◌, cond, max, List, [], ◌∷◌, ◌++◌, map, filter, length, Option, Some, None, refl, sym, ◌∙◌, ap, subst, arith, append_assoc, take, drop, get_or, suc, add-one, drop-cons}
-use Rattle.std.specs.Prelude.{if◌then◌else◌, find, reverse, bytes_eq, nat_lt, option_map, unwrap_or, is_some, IsTrue}
+-- What an import's components make.
+use Rattle.std.proofs.Common.{◌≡◌, ℕ, ◌<◌, ◌≤◌, ◌+◌, Bool, true, false, not, ◌&&◌, ◌||◌, cond, max, List, [], ◌∷◌, ◌++◌, map, filter, length, Option, Some, None, refl, sym, ◌∙◌, ap, arith, take, get_or}
+use Rattle.std.specs.Prelude.{if◌then◌else◌, find, reverse, bytes_eq, option_map, unwrap_or, is_some, IsTrue}
 use Rattle.std.specs.List.{list_any}
-use Rattle.std.specs.BTreeSet.{insert_key}
-use Rattle.std.specs.Cmp.Lexicographic.{slice_cmp}
-use Rattle.std.specs.declared.cmp.Ordering.{Ordering}
-use Rattle.std.specs.declared.cmp.Ordering.TheVariants.{Less, Equal, Greater}
 use Rattle.std.specs.FinMap.{get}
-use Rattle.std.specs.Ordering.{eq_by_cmp, is_eq, match_ordering, nat_cmp}
-use Rattle.std.proofs.lemmas.Bool.{and_parts, or_parts, ltb-true, ltb-false, both_ways, or_left, or_right}
+use Rattle.std.proofs.lemmas.Bool.{and_parts, ltb-true, ltb-false}
 use Rattle.std.proofs.lemmas.Bool.Decides.{nat_tests}
 use Rattle.std.proofs.lemmas.List.{reverse-append, take_more}
 use Rattle.std.proofs.lemmas.List.Folds.{list_any-append, list_any_at}
@@ -16,84 +11,21 @@ use Rattle.std.proofs.lemmas.Map.Text.{is_eq-slice_cmp}
 use Rattle.sbat.specs.declared.component.Component.{Component}
 use Rattle.sbat.specs.Levels.{Generations, greater, raised}
 use Rattle.sbat.proofs.GenerationLemmas.{get-raised, ties}
-use Rattle.desk_texts.specs.declared.write.Write.{Write}
-use Rattle.desk_texts.specs.declared.write.Write.TheVariants as writes
 use Rattle.desk_texts.specs.Calls.{is_among, once}
 use Rattle.desk_texts.specs.Level.{greatest, greater_of, is_above, is_sbat, names}
 use Rattle.desk_texts.specs.Raising.{names_no_sbat}
-use Rattle.desk_texts.specs.Tables.{Tables, level_row, level_rows}
+use Rattle.desk_texts.specs.Tables.{level_row, level_rows}
 use Rattle.desk_texts.specs.Writes.{all_written, is_named, written}
 use Rattle.desk_rules.specs.declared.decisions.imports.SoFar.{SoFar}
 use Rattle.desk_rules.specs.Decisions.{put_of}
-use Rattle.desk_rules.specs.ImportSteps.{AreNew, HasRows, IsSoFar, is_raise, or_else, put_new, raised_names, rose}
+use Rattle.desk_rules.specs.ImportSteps.{IsSoFar, is_raise, or_else, raised_names, rose}
+use Rattle.desk_rules.specs.Room.{takes_off}
 use Rattle.desk_rules.specs.Views.{generation_in}
-use Rattle.desk_rules.proofs.LevelDecisions.{bytes_eq-comm, row_other, rows_put}
-use Rattle.desk_rules.proofs.CountLemmas.{any_two, one_if}
-use Rattle.desk_rules.proofs.ListLemmas.{any_once, bytes_eq-refl, same_text}
+use Rattle.desk_rules.proofs.LevelDecisions.{puts_none, row_other, rows_put}
+use Rattle.desk_rules.proofs.CountLemmas.{one_if}
+use Rattle.desk_rules.proofs.ListLemmas.{bytes_eq-refl, same_text}
 use Rattle.desk_rules.proofs.StandingLemmas.{named_some}
-use Rattle.desk_rules.proofs.SubmissionLemmas.{turned, written-append}
-
--- sets of digests
-
--- what is found by the order is found by being the same
-pub found_same : (q : List ℕ) (keys : List (List ℕ)) → list_any (λ x. is_eq (slice_cmp nat_cmp q x)) keys ≡ is_among keys q
-found_same q [] = refl
-found_same q (x ∷ keys) = ap (λ b. b || list_any (λ x. is_eq (slice_cmp nat_cmp q x)) keys) (is_eq-slice_cmp q x) ∙ ap (λ b. bytes_eq q x || b) (found_same q keys)
-
-swapped : (a b c : Bool) → (a || (b || c)) ≡ (b || (a || c))
-swapped true true c = refl
-swapped true false c = refl
-swapped false b c = refl
-
--- a set has the digest that is put into it, and what it had
-pub inserted : (digest : List ℕ) (keys : List (List ℕ)) (q : List ℕ) → is_among (insert_key (slice_cmp nat_cmp) keys digest) q ≡ (bytes_eq q digest || is_among keys q)
-inserted digest [] q = refl
-inserted digest (x ∷ keys) q =
-    elim (slice_cmp nat_cmp digest x) as (λ o. slice_cmp nat_cmp digest x ≡ o → is_among (match_ordering o (digest ∷ x ∷ keys) (x ∷ keys) (x ∷ insert_key (slice_cmp nat_cmp) keys digest)) q ≡ (bytes_eq q digest || (bytes_eq q x || is_among keys q))) [
-      | Less ↦ λ e. refl
-      | Equal ↦ λ e.
-          let same : digest ≡ x = same_text digest x (sym (is_eq-slice_cmp digest x) ∙ ap is_eq e) in
-          sym (ap (λ d. bytes_eq q d || (bytes_eq q x || is_among keys q)) same ∙ twice (bytes_eq q x) (is_among keys q))
-      | Greater ↦ λ e. ap (λ b. bytes_eq q x || b) (inserted digest keys q) ∙ swapped (bytes_eq q x) (bytes_eq q digest) (is_among keys q)
-    ] refl
-  where
-    twice : (a b : Bool) → (a || (a || b)) ≡ (a || b)
-    twice true b = refl
-    twice false b = refl
-
--- new digests
-
--- new rows are those that stand once
-pub put_new-once : (ds rest : List (List ℕ)) → put_new ds (once rest) ≡ once (reverse ds ++ rest)
-put_new-once [] rest = refl
-put_new-once (d ∷ ds) rest =
-    ap (λ b. put_new ds (if b then once rest else d ∷ once rest)) (any_once d rest)
-    ∙ (put_new-once ds (d ∷ rest) ∙ ap once (turned d ds rest))
-
--- one step of an import's digests
-pub new_step : (rows named table new later : List (List ℕ)) (i : ℕ) (d : List ℕ) (is_new : Bool) → ((q : List ℕ) → IsTrue (is_among named q) → is_among rows q ≡ is_among table q) → i < length named → d ≡ get_or named i d →
-    is_new ≡ not (is_among new d || is_among rows d) → later ≡ (if is_new then new ++ d ∷ [] else new) →
-    put_new (drop i named) (reverse new ++ table) ≡ put_new named table → put_new (drop (i + 1) named) (reverse later ++ table) ≡ put_new named table
-new_step rows named table new later i d is_new knows lt is fresh kept before =
-    let known : is_among (reverse new ++ table) d ≡ (is_among new d || is_among rows d) =
-    any_two (bytes_eq d) new table ∙ ap (λ b. is_among new d || b) (sym (knows d (among_at named i d lt is))) in
-    ap (λ ls. put_new (drop (i + 1) named) (reverse ls ++ table)) kept
-    ∙ (ap (λ b. put_new (drop (i + 1) named) (reverse (if b then new ++ d ∷ [] else new) ++ table)) fresh
-    ∙ ((elim (is_among new d || is_among rows d) as (λ b. put_new (drop (i + 1) named) (reverse (if not b then new ++ d ∷ [] else new) ++ table) ≡ put_new (drop (i + 1) named) (if b then reverse new ++ table else d ∷ (reverse new ++ table))) [
-      | true ↦ refl
-      | false ↦ ap (λ r. put_new (drop (i + 1) named) (r ++ table)) (reverse-append new (d ∷ []))
-    ])
-    ∙ (ap (λ b. put_new (drop (i + 1) named) (if b then reverse new ++ table else d ∷ (reverse new ++ table))) (sym known)
-    ∙ (ap (λ ls. put_new ls (reverse new ++ table)) (sym (drop_at named i d lt is))
-    ∙ before))))
-  where
-    drop_at : (xs : List (List ℕ)) (i : ℕ) (x : List ℕ) → i < length xs → x ≡ get_or xs i x → drop i xs ≡ x ∷ drop (i + 1) xs
-    drop_at xs i x lt is = rw (add-one, drop-cons xs i x) (ap (λ y. y ∷ drop (suc i) xs) (sym is))
-
-    among_at : (xs : List (List ℕ)) (i : ℕ) (x : List ℕ) → i < length xs → x ≡ get_or xs i x → is_among xs x ≡ true
-    among_at xs i x lt is = list_any_at (bytes_eq x) xs i x lt (ap (bytes_eq x) (sym is) ∙ bytes_eq-refl x)
-
--- components
+use Rattle.desk_rules.proofs.SubmissionLemmas.{written-append}
 
 greater_above : (g : ℕ) (o : Option ℕ) → is_above g o ≡ true → greater_of g o ≡ g
 greater_above g None h = refl
@@ -188,29 +120,6 @@ names_rose old (x ∷ seen) q =
     and_false true = refl
     and_false false = refl
 
--- a set that has new digests and rows, one digest more
-pub sees_more : (new later rows keys more : List (List ℕ)) (d : List ℕ) → ((q : List ℕ) → is_among keys q ≡ (is_among new q || is_among rows q)) → later ≡ (if not (is_among keys d) then new ++ d ∷ [] else new) →
-    ((q : List ℕ) → is_among more q ≡ (bytes_eq q d || is_among keys q)) → (q : List ℕ) → is_among more q ≡ (is_among later q || is_among rows q)
-sees_more new later rows keys more d sees kept after q =
-    after q
-    ∙ ((elim (is_among keys d) as (λ b. is_among keys d ≡ b → (bytes_eq q d || is_among keys q) ≡ (is_among (if not b then new ++ d ∷ [] else new) q || is_among rows q)) [
-      | true ↦ λ e. there e ∙ sees q
-      | false ↦ λ e. ap (λ b. bytes_eq q d || b) (sees q) ∙ (moved (bytes_eq q d) (is_among new q) (is_among rows q) ∙ sym (ap (λ b. b || is_among rows q) (list_any-append (bytes_eq q) new (d ∷ []))))
-    ] refl)
-    ∙ sym (ap (λ ls. is_among ls q || is_among rows q) kept))
-  where
-    there : is_among keys d ≡ true → (bytes_eq q d || is_among keys q) ≡ is_among keys q
-    there e = elim (bytes_eq q d) as (λ b. bytes_eq q d ≡ b → (b || is_among keys q) ≡ is_among keys q) [
-      | true ↦ λ s. sym (ap (λ t. is_among keys t) (same_text q d s) ∙ e)
-      | false ↦ λ s. refl
-    ] refl
-
-    moved : (a b c : Bool) → (a || (b || c)) ≡ ((b || (a || false)) || c)
-    moved true true c = refl
-    moved true false c = refl
-    moved false true c = refl
-    moved false false c = refl
-
 -- levels of rows
 
 or_else_none : (o : Option ℕ) → o ≡ or_else o None
@@ -264,6 +173,7 @@ module _ (asked old seen : List Component) (x : Component) (s : SoFar) (is_asked
           | false ↦ λ e. before.count
         ] refl;
         written = λ t rows. before.written t rows ∙ ap (λ rs. record t { components = rs }) (sym (rows_below x (seen ++ old) under));
+        kept = before.kept;
       }
 
   greater_turned : (o : Option ℕ) (g : ℕ) → greater o g ≡ greater_of g o
@@ -293,6 +203,11 @@ module _ (asked old seen : List Component) (x : Component) (s : SoFar) (is_asked
             ∙ (written-append s.writes.items (put_of (get s.level.generations x.name) x ∷ []) t
             ∙ (ap (λ u. written (put_of (get s.level.generations x.name) x) u) (before.written t rows)
             ∙ rows_put x (seen ++ old) (get s.level.generations x.name) (sym current) above (record t { components = level_rows (seen ++ old) }) refl));
+        kept =
+            ap (λ ws. list_any takes_off ws) wrote
+            ∙ (list_any-append takes_off s.writes.items (put_of (get s.level.generations x.name) x ∷ [])
+            ∙ (ap (λ b. b || list_any takes_off (put_of (get s.level.generations x.name) x ∷ [])) before.kept
+            ∙ ap (λ b. b || false) (puts_none (get s.level.generations x.name) x)));
       }
     where
       one_more : (b : Bool) → length (if b then once (raised_names old seen) else x.name ∷ once (raised_names old seen)) ≡ s.names + one_if (not b)

@@ -1,7 +1,6 @@
 -- What the writes of a raise make.
-use Rattle.std.proofs.Common.{◌≡◌, ℕ, ◌<◌, Bool, true, false, not, ◌||◌, max, List, [], ◌∷◌, map, Option, Some, None, Result, refl, sym, ◌∙◌, ap, arith}
+use Rattle.std.proofs.Common.{◌≡◌, ℕ, ◌<◌, true, false, not, ◌||◌, max, List, [], ◌∷◌, map, Option, Some, None, Result, refl, sym, ◌∙◌, ap, inl, arith}
 use Rattle.std.specs.Prelude.{if◌then◌else◌, bytes_eq, is_some, nat_lt, unwrap_or}
-use Rattle.std.specs.List.{list_any}
 use Rattle.std.proofs.lemmas.Bool.{ltb-true, or_parts}
 use Rattle.sbat.specs.declared.component.Component.{Component}
 use Rattle.desk_bytes.specs.declared.refusal.Refusal.{Refusal}
@@ -10,7 +9,6 @@ use Rattle.desk_texts.specs.declared.caller.Caller.{Caller}
 use Rattle.desk_texts.specs.declared.command.Command.TheVariants as command
 use Rattle.desk_texts.specs.declared.command.Raise.{Raise}
 use Rattle.desk_texts.specs.declared.reply.Reply.TheVariants as replies
-use Rattle.desk_texts.specs.declared.write.Write.{Write}
 use Rattle.desk_texts.specs.declared.write.Write.TheVariants as writes
 use Rattle.desk_texts.specs.Calls.{is_among}
 use Rattle.desk_texts.specs.Level.{generations, greater_of, greatest, is_above, is_sbat, names, stamp}
@@ -18,7 +16,9 @@ use Rattle.desk_texts.specs.Tables.{Tables, level_row, level_rows, tables}
 use Rattle.desk_texts.specs.Writes.{set_generation, written}
 use Rattle.desk_rules.specs.declared.view.Changes.{Changes}
 use Rattle.desk_rules.specs.declared.view.View.{View}
-use Rattle.desk_rules.specs.Decisions.{Decided, DecidesOwn, called, keys_named, put_of}
+use Rattle.desk_rules.specs.Decisions.{Decided, DecidesOwn, called, put_of}
+use Rattle.desk_rules.specs.Shown.{keys_named}
+use Rattle.desk_rules.specs.Room.{takes_off}
 use Rattle.desk_rules.specs.Refusals.{raise_refusal, refuse_if}
 use Rattle.desk_rules.specs.Views.{generation_in}
 use Rattle.desk_rules.proofs.DecisionLemmas.{among_one, decided}
@@ -97,6 +97,11 @@ accepted_raise present now r none =
       ]
     ] none
 
+-- the write of a component takes nothing off
+pub puts_none : (present : Option ℕ) (x : Component) → takes_off (put_of present x) ≡ false
+puts_none None x = refl
+puts_none (Some g) x = refl
+
 pub raises_level : (v : View) (caller : Caller) (r : Raise) (result : Result Changes Refusal) →
     Decided result (raise_refusal (generation_in v.lists.components.items r.component.name) v.stamp r) replies.Raised (put_of (generation_in v.lists.components.items r.component.name) r.component ∷ writes.Stamp r.stamp ∷ []) →
     DecidesOwn v caller (command.RaiseLevel r) result
@@ -111,3 +116,4 @@ raises_level v caller r result told owner cs key legal shown =
     let raises : is_above r.component.generation (greatest (generations cs) r.component.name) ≡ true = ap (λ o. is_above r.component.generation o) (sym seen) ∙ above in
     ap (λ t. written (writes.Stamp r.stamp) t) (rows_put r.component (generations cs) present (sym seen) above (tables owner cs) refl)
     ∙ ap (λ b. record (tables owner cs) { components = level_rows (r.component ∷ generations cs); desk = record (tables owner cs).desk { stamp = (if b || false then r.stamp else stamp cs) } }) (sym raises))
+    (inl (ap (λ b. b || false) (puts_none (generation_in v.lists.components.items r.component.name) r.component)))

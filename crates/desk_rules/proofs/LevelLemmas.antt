@@ -1,5 +1,5 @@
 -- The greatest of generations, and the names that have one.
-use Rattle.std.proofs.Common.{◌≡◌, ℕ, ◌+◌, ◌<◌, Bool, true, false, not, ◌&&◌, ◌||◌, cond, drop, take, get_or, add-one, zero-add, suc, drop-cons, List, [], ◌∷◌, ◌++◌, length, map, filter, Option, Some, None, refl, sym, ◌∙◌, ap, arith}
+use Rattle.std.proofs.Common.{◌≡◌, ℕ, ◌+◌, ◌<◌, Bool, true, false, not, ◌&&◌, ◌||◌, cond, drop, take, get_or, zero-add, List, [], ◌∷◌, ◌++◌, length, map, filter, Option, Some, None, refl, sym, ◌∙◌, ap, arith}
 use Rattle.std.specs.Prelude.{if◌then◌else◌, bytes_eq, reverse}
 use Rattle.std.specs.List.{list_any}
 use Rattle.std.proofs.lemmas.Bool.Decides.{nat_tests}
@@ -10,6 +10,7 @@ use Rattle.desk_texts.specs.Calls.{History, is_among}
 use Rattle.desk_texts.specs.Level.{components_of, generations, greater_of, greatest, names}
 use Rattle.desk_rules.specs.Steps.{greater_option, has_name}
 use Rattle.desk_rules.proofs.CountLemmas.{any_reverse, once_more, one_if, reverse_more}
+use Rattle.desk_rules.proofs.ListLemmas.{split_at}
 
 pub greater-assoc : (a b c : Option ℕ) → greater_option (greater_option a b) c ≡ greater_option a (greater_option b c)
 greater-assoc None b c = refl
@@ -75,9 +76,6 @@ greatest_more calls i c found before new name h is e n =
     ap (λ o. greater_option o rest) n ∙ (greater-assoc found before rest ∙ ap (greater_option found)
     (ap (λ o. greater_option o rest) e ∙ (sym (greatest-append (components_of c.command) (generations (drop (i + 1) calls)) name)
     ∙ sym (ap (λ cs. greatest (generations cs) name) split))))
-  where
-    split_at : (calls : History) (i : ℕ) (c : Call) → i < length calls → c ≡ get_or calls i c → drop i calls ≡ c ∷ drop (i + 1) calls
-    split_at calls i c h is = rw (add-one, drop-cons calls i c) (ap (λ d. d ∷ drop (suc i) calls) (sym is))
 
 -- one component more, reversed
 

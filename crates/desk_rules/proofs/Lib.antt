@@ -1,6 +1,8 @@
+pub mod CallLemmas
 pub mod CountLemmas
 pub mod DecisionLemmas
 pub mod ImportDecision
+pub mod ImportDigests
 pub mod ImportLemmas
 pub mod KeyLemmas
 pub mod LevelDecisions
@@ -9,10 +11,13 @@ pub mod LifeLemmas
 pub mod ListLemmas
 pub mod ListedCounts
 pub mod ListingLemmas
+pub mod RefusalLemmas
 pub mod RequestDecisions
 pub mod RequestLemmas
+pub mod RoomLemmas
 pub mod RowLemmas
 pub mod RunLemmas
+pub mod ShownLemmas
 pub mod StandingLemmas
 pub mod SubmissionLemmas
 pub mod TableLemmas

@@ -1,8 +1,9 @@
 -- Tests on lists.
-use Rattle.std.proofs.Common.{◌≡◌, ℕ, Bool, true, false, ◌||◌, List, [], ◌∷◌, ◌++◌, refl, sym, ◌∙◌, ap, append_assoc, inl, inr}
-use Rattle.std.specs.Prelude.{if◌then◌else◌, bytes_eq, flat_map}
+use Rattle.std.proofs.Common.{◌≡◌, ℕ, ◌+◌, ◌<◌, Bool, true, false, ◌||◌, List, [], ◌∷◌, ◌++◌, length, drop, get_or, refl, sym, ◌∙◌, ap, append_assoc, inl, inr, arith, add-one, drop-cons, suc}
+use Rattle.std.specs.Prelude.{◌==◌, if◌then◌else◌, bytes_eq, flat_map}
 use Rattle.std.specs.List.{list_any}
 use Rattle.std.proofs.lemmas.Bool.{or_cases, or_left, or_right}
+use Rattle.std.proofs.lemmas.Bool.Decides.{nat_tests}
 use Rattle.std.proofs.lemmas.List.Folds.{list_any-append}
 use Rattle.std.proofs.lemmas.Slice.Eq.{bytes_eq-Decides}
 use Rattle.desk_texts.specs.Calls.{are_apart, is_among, once}
@@ -74,3 +75,14 @@ once_apart (t ∷ ts) =
       | true ↦ λ e. once_apart ts
       | false ↦ λ e. apart-more bytes_eq t (once ts) (any_once t ts ∙ e) (once_apart ts)
     ] refl
+
+-- what is left from a place on begins with the item there
+pub split_at : {X : Type 0} (xs : List X) (i : ℕ) (x : X) → i < length xs → x ≡ get_or xs i x → drop i xs ≡ x ∷ drop (i + 1) xs
+split_at xs i x h is = rw (add-one, drop-cons xs i x) (ap (λ d. d ∷ drop (suc i) xs) (sym is))
+
+pub number_is : (k n : ℕ) → (k == n) ≡ true → k ≡ n
+number_is k n h = grind (arith, nat_tests)
+
+-- a number isn't a smaller one
+pub number_above : (n m : ℕ) → m < n → (n == m) ≡ false
+number_above n m h = grind (arith, nat_tests)

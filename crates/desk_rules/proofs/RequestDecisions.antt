@@ -1,6 +1,6 @@
 -- What the writes of votes, withdrawals and returns make.
-use Rattle.std.proofs.Common.{◌≡◌, ℕ, ◌+◌, Bool, true, false, not, ◌||◌, cond, List, [], ◌∷◌, map, Option, Some, None, Result, refl, sym, ◌∙◌, ap, arith}
-use Rattle.std.specs.Prelude.{◌==◌, if◌then◌else◌, IsPermutation, bytes_eq, count_by, find, nat_le, option_map}
+use Rattle.std.proofs.Common.{◌≡◌, ℕ, ◌+◌, Bool, true, false, not, ◌||◌, cond, List, [], ◌∷◌, map, Option, Some, None, Result, refl, sym, ◌∙◌, ap, inl, arith}
+use Rattle.std.specs.Prelude.{◌==◌, if◌then◌else◌, bytes_eq, count_by, find, nat_le, option_map}
 use Rattle.std.specs.List.{list_any}
 use Rattle.std.specs.Option.{option_map_or}
 use Rattle.std.proofs.lemmas.Bool.Decides.{nat_tests}
@@ -13,7 +13,6 @@ use Rattle.desk_texts.specs.declared.command.Call.{Call}
 use Rattle.desk_texts.specs.declared.command.Command.TheVariants as command
 use Rattle.desk_texts.specs.declared.command.Handback.{Handback}
 use Rattle.desk_texts.specs.declared.facts.Facts.{Facts}
-use Rattle.desk_texts.specs.declared.reply.Outcome.{Outcome}
 use Rattle.desk_texts.specs.declared.reply.Reply.TheVariants as replies
 use Rattle.desk_texts.specs.declared.rows.RequestRow.{RequestRow}
 use Rattle.desk_texts.specs.declared.rows.Voted.{Voted}
@@ -29,17 +28,17 @@ use Rattle.desk_texts.specs.Tables.{request_row, return_row, tables}
 use Rattle.desk_texts.specs.Writes.{set_state}
 use Rattle.desk_rules.specs.declared.view.Changes.{Changes}
 use Rattle.desk_rules.specs.declared.view.View.{View}
-use Rattle.desk_rules.specs.Decisions.{Decided, MatchesOwn, Shows, called, handback_row, is_request_row, keys_named, outcome_after, seen_return, seen_review, seen_withdraw, state_after, state_with, vote_row}
-use Rattle.desk_rules.specs.Refusals.{image_refusal, own_refusal, refuse_if, return_by, return_refusal, review_by, review_refusal, withdraw_by, withdraw_refusal}
+use Rattle.desk_rules.specs.Decisions.{Decided, MatchesOwn, called, handback_row, outcome_after, seen_return, seen_review, seen_withdraw, state_after, state_with, vote_row}
+use Rattle.desk_rules.specs.Shown.{Shows, is_request_row}
+use Rattle.desk_rules.specs.Refusals.{image_refusal, return_by, return_refusal, review_by, review_refusal, withdraw_by, withdraw_refusal}
 use Rattle.desk_rules.specs.Verdicts.{bars, is_barred, lists_image, standing, stands_in_db}
 use Rattle.desk_rules.specs.Views.{keys_of, seen_standing}
 use Rattle.desk_rules.proofs.CountLemmas.{one_if}
 use Rattle.desk_rules.proofs.DecisionLemmas.{decided}
+use Rattle.desk_rules.proofs.ListLemmas.{number_is}
+use Rattle.desk_rules.proofs.RefusalLemmas.{no_refusal}
 use Rattle.desk_rules.proofs.RequestLemmas.{count_more}
 use Rattle.desk_rules.proofs.StandingLemmas.{agrees, bars_alike, lists_alike}
-
-number_is : (k n : ℕ) → (k == n) ≡ true → k ≡ n
-number_is k n h = grind (arith, nat_tests)
 
 other_number : (k n : ℕ) → (k == n) ≡ false → (n == k) ≡ false
 other_number k n h = grind (arith, nat_tests)
@@ -73,18 +72,15 @@ set_states k s f g same other (r ∷ rs) =
 
 -- states
 
-no_state : {r : Refusal} {A : Type 0} → Some r ≡ None → A
-no_state h = cc
-
 open_by : (s : State) (own voted : Bool) → review_by s own voted ≡ None → s ≡ states.Open
 open_by states.Open own voted h = refl
-open_by states.Approved own voted h = no_state h
-open_by states.Rejected own voted h = no_state h
-open_by states.Withdrawn own voted h = no_state h
-open_by states.Signed own voted h = no_state h
+open_by states.Approved own voted h = no_refusal h
+open_by states.Rejected own voted h = no_refusal h
+open_by states.Withdrawn own voted h = no_refusal h
+open_by states.Signed own voted h = no_refusal h
 
 open_review : (o : Option Request) (s : State) (vs : List Voted) (name : List ℕ) → review_refusal o s vs name ≡ None → s ≡ states.Open
-open_review None s vs name h = no_state h
+open_review None s vs name h = no_refusal h
 open_review (Some r) s vs name h = open_by s (bytes_eq r.submitter name) (list_any (is_vote_of name) vs) h
 
 no_open : {A : Type 0} → states.Signed ≡ states.Open → A
@@ -101,11 +97,11 @@ open_parts false false vs h = (refl, refl)
 
 unsigned_by : (b own : Bool) (vs : List Voted) (a : Bool) → withdraw_by (state_by a b vs) own ≡ None → a ≡ false
 unsigned_by b own vs false h = refl
-unsigned_by b false vs true h = no_state h
-unsigned_by b true vs true h = no_state h
+unsigned_by b false vs true h = no_refusal h
+unsigned_by b true vs true h = no_refusal h
 
 unsigned : (o : Option Request) (a b : Bool) (vs : List Voted) (name : List ℕ) → withdraw_refusal o (state_by a b vs) name ≡ None → a ≡ false
-unsigned None a b vs name h = no_state h
+unsigned None a b vs name h = no_refusal h
 unsigned (Some r) a b vs name h = unsigned_by b (bytes_eq r.submitter name) vs a h
 
 voted_state : (t : Vote) (some : Bool) (n total : ℕ) → total ≡ one_if (elim t [ vote.Yes ↦ true | vote.No ↦ false ]) + n →
@@ -119,7 +115,7 @@ voted_state vote.Yes false n total h = ap (λ b. if b then states.Approved else 
 
 -- the state that one more vote gives
 state_more : (w : Voted) (vs : List Voted) → state_by_votes (w ∷ vs) ≡ state_with w.vote (list_any (λ v. not (is_yes v)) vs) (count_by is_yes vs)
-state_more w vs = voted_state w.vote (list_any (λ v. not (is_yes v)) vs) (count_by is_yes vs) (count_by is_yes (w ∷ vs)) (count_more w vs)
+state_more w vs = voted_state w.vote (list_any (λ v. not (is_yes v)) vs) (count_by is_yes vs) (count_by is_yes (w ∷ vs)) (count_more is_yes w vs)
 
 module _ (v : View) (owner : List ℕ) (cs : History) (c : Call) (shown : Shows v (tables owner cs) c) (k : ℕ) where
   -- the row that the view has is that of the request
@@ -183,6 +179,7 @@ module _ (v : View) (caller : Caller) (b : Ballot) (owner : List ℕ) (cs : Hist
       (set_states b.request (state_after v b) (state cs) (state (c ∷ cs)) (state_new none)
       (λ n e. ap (λ t. state_by (is_returned cs n) (is_withdrawn cs n) (cond t (w ∷ votes_on (votes cs) n) (votes_on (votes cs) n))) (other_number b.request n e))
       (requests cs)))
+      (inl refl)
 
 -- Withdraw
 
@@ -211,6 +208,7 @@ module _ (v : View) (caller : Caller) (k : ℕ) (owner : List ℕ) (cs : History
       (set_states k states.Withdrawn (state cs) (state (c ∷ cs)) (withdrawn_new none)
       (λ n e. ap (λ t. state_by (is_returned cs n) (t || is_withdrawn cs n) (votes_on (votes cs) n)) (other_number k n e))
       (requests cs)))
+      (inl refl)
 
 -- Return
 
@@ -238,3 +236,4 @@ module _ (v : View) (caller : Caller) (h : Handback) (owner : List ℕ) (cs : Hi
       (ap (λ t. state_by (t || is_returned cs h.request) (is_withdrawn cs h.request) (votes_on (votes cs) h.request)) (own_number h.request))
       (λ n e. ap (λ t. state_by (t || is_returned cs n) (is_withdrawn cs n) (votes_on (votes cs) n)) (other_number h.request n e))
       (requests cs)))
+      (inl refl)

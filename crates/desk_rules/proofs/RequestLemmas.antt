@@ -1,5 +1,5 @@
 -- Requests and votes, one call more.
-use Rattle.std.proofs.Common.{◌≡◌, ℕ, ◌+◌, ◌<◌, Bool, true, false, ◌&&◌, cond, List, [], ◌∷◌, length, drop, get_or, refl, sym, ◌∙◌, ap, arith, add-one, drop-cons, suc, filter}
+use Rattle.std.proofs.Common.{◌≡◌, ℕ, ◌+◌, ◌<◌, Bool, true, false, ◌&&◌, cond, List, [], ◌∷◌, length, drop, get_or, refl, sym, ◌∙◌, ap, arith, suc, filter}
 use Rattle.std.specs.Prelude.{◌==◌, count_by}
 use Rattle.std.proofs.lemmas.List.Sums.{length-filter}
 use Rattle.desk_texts.specs.declared.command.Call.{Call}
@@ -11,22 +11,23 @@ use Rattle.desk_texts.specs.declared.rows.Voted.{Voted}
 use Rattle.desk_texts.specs.Requests.{Submitted, numbered, is_yes, votes, votes_on}
 use Rattle.desk_rules.specs.Steps.{is_yes_on_request, votes_yes}
 use Rattle.desk_rules.proofs.CountLemmas.{one_if}
+use Rattle.desk_rules.proofs.ListLemmas.{split_at}
 
 pub length_numbered : (ss : List Submitted) → length (numbered ss) ≡ length ss
 length_numbered [] = refl
 length_numbered (s ∷ ss) = ap suc (length_numbered ss)
 
--- one vote more
-pub count_more : (v : Voted) (vs : List Voted) → count_by is_yes (v ∷ vs) ≡ one_if (is_yes v) + count_by is_yes vs
-count_more v vs =
-    sym (length-filter is_yes (v ∷ vs))
-    ∙ (elim (is_yes v) as (λ b. length (cond b (v ∷ filter is_yes vs) (filter is_yes vs)) ≡ one_if b + length (filter is_yes vs)) [ true ↦ omega arith | false ↦ omega arith ]
-    ∙ ap (λ n. one_if (is_yes v) + n) (length-filter is_yes vs))
+-- one item more
+pub count_more : {X : Type 0} (p : X → Bool) (x : X) (xs : List X) → count_by p (x ∷ xs) ≡ one_if (p x) + count_by p xs
+count_more p x xs =
+    sym (length-filter p (x ∷ xs))
+    ∙ (elim (p x) as (λ b. length (cond b (x ∷ filter p xs) (filter p xs)) ≡ one_if b + length (filter p xs)) [ true ↦ omega arith | false ↦ omega arith ]
+    ∙ ap (λ n. one_if (p x) + n) (length-filter p xs))
 
 count_one : (k : ℕ) (v : Voted) (vs : List Voted) → count_by is_yes (votes_on (v ∷ vs) k) ≡ one_if ((k == v.request) && is_yes v) + count_by is_yes (votes_on vs k)
 count_one k v vs =
     elim (k == v.request) as (λ b. count_by is_yes (cond b (v ∷ votes_on vs k) (votes_on vs k)) ≡ one_if (b && is_yes v) + count_by is_yes (votes_on vs k)) [
-      | true ↦ count_more v (votes_on vs k)
+      | true ↦ count_more is_yes v (votes_on vs k)
       | false ↦ omega arith
     ]
 
@@ -40,6 +41,3 @@ pub yes_more : (k : ℕ) (calls : History) (i : ℕ) (c : Call) (is_one : Bool) 
 yes_more k calls i c is_one h is e =
     ap (λ cs. count_by is_yes (votes_on (votes cs) k)) (split_at calls i c h is)
     ∙ (one_yes k (drop (i + 1) calls) c c.command ∙ ap (λ b. one_if b + count_by is_yes (votes_on (votes (drop (i + 1) calls)) k)) (sym e))
-  where
-    split_at : (calls : History) (i : ℕ) (c : Call) → i < length calls → c ≡ get_or calls i c → drop i calls ≡ c ∷ drop (i + 1) calls
-    split_at calls i c h is = rw (add-one, drop-cons calls i c) (ap (λ d. d ∷ drop (suc i) calls) (sym is))

@@ -3,9 +3,7 @@ use Rattle.std.proofs.Common.{◌≡◌, ℕ, ◌+◌, ◌<◌, Bool, true, fals
 use Rattle.std.specs.Prelude.{◌==◌, if◌then◌else◌, bytes_eq, codes}
 use Rattle.std.specs.List.{list_any}
 use Rattle.std.proofs.lemmas.Bool.{and_parts}
-use Rattle.std.proofs.lemmas.Bool.Decides.{nat_tests}
 use Rattle.sbat.specs.declared.component.Component.{Component}
-use Rattle.desk_bytes.specs.declared.refusal.Refusal.{Refusal}
 use Rattle.desk_bytes.specs.declared.refusal.Refusal.TheVariants as refusals
 use Rattle.desk_texts.specs.declared.command.Call.{Call}
 use Rattle.desk_texts.specs.declared.command.Command.{Command}
@@ -32,19 +30,17 @@ use Rattle.desk_rules.specs.Refusals.{own_refusal, refuse_if, return_refusal, re
 use Rattle.desk_rules.specs.Runs.{answer, is_accepted, is_legal}
 use Rattle.desk_rules.specs.Verdicts.{is_barred, stands_in_db}
 use Rattle.desk_rules.proofs.KeyLemmas.{key_rows, keys_stand_once}
-use Rattle.desk_rules.proofs.ListLemmas.{apart-more, none_left, none_right, once_apart, or_none}
+use Rattle.desk_rules.proofs.ListLemmas.{apart-more, none_left, none_right, number_above, once_apart, or_none}
 use Rattle.desk_rules.proofs.ListingLemmas.{listed_apart}
+use Rattle.desk_rules.proofs.RefusalLemmas.{no_refusal, unrefused}
 use Rattle.desk_rules.proofs.RunLemmas.{IsNew, accepted_parts}
-
-unlike : (n m : ℕ) → m < n → (n == m) ≡ false
-unlike n m h = grind (arith, nat_tests)
 
 -- numbers of calls: those of the calls before are lower
 
 any_number : (n : ℕ) (cs : History) → length cs < n → list_any (λ (b : Minute). n == b.number) (minutes cs) ≡ false
 any_number n [] h = refl
 any_number n (c ∷ cs) h =
-    or_none (n == length cs + 1) (list_any (λ (b : Minute). n == b.number) (minutes cs)) (unlike n (length cs + 1) (omega arith)) (any_number n cs (omega arith))
+    or_none (n == length cs + 1) (list_any (λ (b : Minute). n == b.number) (minutes cs)) (number_above n (length cs + 1) (omega arith)) (any_number n cs (omega arith))
 
 numbers_apart : (cs : History) → are_apart (λ (a b : Minute). a.number == b.number) (minutes cs) ≡ true
 numbers_apart [] = refl
@@ -56,7 +52,7 @@ numbers_apart (c ∷ cs) =
 any_request : (n : ℕ) (at : Request → State) (ss : List Submitted) → length ss < n → list_any (λ (b : RequestRow). n == b.number) (map (λ r. request_row (at r) r) (numbered ss)) ≡ false
 any_request n at [] h = refl
 any_request n at (s ∷ ss) h =
-    or_none (n == length ss + 1) (list_any (λ (b : RequestRow). n == b.number) (map (λ r. request_row (at r) r) (numbered ss))) (unlike n (length ss + 1) (omega arith)) (any_request n at ss (omega arith))
+    or_none (n == length ss + 1) (list_any (λ (b : RequestRow). n == b.number) (map (λ r. request_row (at r) r) (numbered ss))) (number_above n (length ss + 1) (omega arith)) (any_request n at ss (omega arith))
 
 requests_apart : (at : Request → State) (ss : List Submitted) → are_apart (λ (a b : RequestRow). a.number == b.number) (map (λ r. request_row (at r) r) (numbered ss)) ≡ true
 requests_apart at [] = refl
@@ -65,13 +61,6 @@ requests_apart at (s ∷ ss) =
     apart-more (λ (a b : RequestRow). a.number == b.number) (request_row (at r) r) (map (λ r. request_row (at r) r) (numbered ss)) (any_request (length ss + 1) at ss (omega arith)) (requests_apart at ss)
 
 -- what a call must be to be accepted, command by command
-
-unrefused : (b : Bool) (r : Refusal) → refuse_if b r ≡ None → b ≡ false
-unrefused false r h = refl
-unrefused true r h = cc
-
-no_refusal : {r : Refusal} {A : Type 0} → Some r ≡ None → A
-no_refusal h = cc
 
 -- people
 

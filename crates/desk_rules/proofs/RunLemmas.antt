@@ -95,21 +95,34 @@ legal_run (c ∷ cs) h =
 pub legal_histories_are_runs : LegalIsRun
 legal_histories_are_runs cs = (legal_run cs, λ r. subst (λ h. is_legal h ≡ true) (sym r.1) (run_legal [] r.0 refl))
 
+-- a legal history keeps within what a desk may hold
+legal_within : (cs : History) → is_legal cs ≡ true → is_within cs ≡ true
+legal_within [] h = refl
+legal_within (c ∷ cs) h = (accepted_parts cs c (and_parts (is_accepted (answer cs c)) (is_legal cs) h).0).within
+
+record Few (a b d : Bool) : Type 0 where
+  second : b ≡ true
+  third : d ≡ true
+
+few : (a b d e f g h : Bool) → (a && b && d && e && f && g && h) ≡ true → Few a b d
+few true true true e f g h k = record { second = refl; third = refl }
+few true true false e f g h k = no_parts k
+few true false d e f g h k = no_parts k
+few false b d e f g h k = no_parts k
+
+legal_few : (cs : History) → is_legal cs ≡ true → Few (nat_le (length (people cs)) 1000) (nat_le (length (requests cs)) 100000) (nat_le (length (listed cs)) 10000)
+legal_few cs h =
+    few (nat_le (length (people cs)) 1000) (nat_le (length (requests cs)) 100000) (nat_le (length (listed cs)) 10000)
+    (nat_le (length (once (revocations kinds.Digest cs))) 100000) (nat_le (length (once (revocations kinds.Certificate cs))) 10000)
+    (nat_le (length (names (generations cs))) 10000) (nat_le (length cs) 1000000) (legal_within cs h)
+
 -- a legal history has room for a request's number
 pub legal_room : (cs : History) → is_legal cs ≡ true → length (requests cs) ≤ 100000
-legal_room [] h = omega arith
-legal_room (c ∷ cs) h =
-    let within : is_within (c ∷ cs) ≡ true = (accepted_parts cs c (and_parts (is_accepted (answer cs c)) (is_legal cs) h).0).within in
-    let few : nat_le (length (requests (c ∷ cs))) 100000 ≡ true =
-    second (nat_le (length (people (c ∷ cs))) 1000) (nat_le (length (requests (c ∷ cs))) 100000) (nat_le (length (listed (c ∷ cs))) 10000)
-    (nat_le (length (once (revocations kinds.Digest (c ∷ cs)))) 100000) (nat_le (length (once (revocations kinds.Certificate (c ∷ cs)))) 10000)
-    (nat_le (length (names (generations (c ∷ cs)))) 10000) (nat_le (length (c ∷ cs)) 1000000) within in
-    grind (arith, nat_tests, few)
-  where
-    second : (a b d e f g h : Bool) → (a && b && d && e && f && g && h) ≡ true → b ≡ true
-    second true true d e f g h k = refl
-    second true false d e f g h k = k
-    second false b d e f g h k = no_parts k
+legal_room cs h = let within : nat_le (length (requests cs)) 100000 ≡ true = (legal_few cs h).second in grind (arith, nat_tests, within)
+
+-- and lists no more than a desk may
+pub legal_listed : (cs : History) → is_legal cs ≡ true → length (listed cs) ≤ 10000
+legal_listed cs h = let within : nat_le (length (listed cs)) 10000 ≡ true = (legal_few cs h).third in grind (arith, nat_tests, within)
 
 -- those before the newest of a legal history are legal
 pub legal_rest : (cs : History) (c : Call) (rest : History) → cs ≡ c ∷ rest → is_legal cs ≡ true → is_legal rest ≡ true

@@ -2,7 +2,7 @@
 use Rattle.std.proofs.Common.{◌≡◌, ℕ, ◌+◌, Bool, true, false, ◌||◌, cond, List, [], ◌∷◌, map, Option, Some, None, refl, sym, ◌∙◌, ap}
 use Rattle.std.specs.Prelude.{if◌then◌else◌, IsTrue, bytes_eq, find, is_some, option_map, unwrap_or}
 use Rattle.std.specs.List.{list_any}
-use Rattle.std.specs.Option.{option_map_or, option_or}
+use Rattle.std.specs.Option.{option_or}
 use Rattle.std.proofs.lemmas.Bool.{or_left, or_right}
 use Rattle.sbat.specs.declared.component.Component.{Component}
 use Rattle.desk_texts.specs.declared.facts.Facts.{Facts}
@@ -13,11 +13,10 @@ use Rattle.desk_texts.specs.Level.{generations, greater_of, greatest, is_sbat, n
 use Rattle.desk_texts.specs.Revocations.{revocations}
 use Rattle.desk_texts.specs.Tables.{level_row, level_rows, tables}
 use Rattle.desk_texts.specs.Writes.{is_named}
-use Rattle.desk_rules.specs.declared.finding.Below.{Below}
 use Rattle.desk_rules.specs.declared.finding.Verdict.{Verdict}
 use Rattle.desk_rules.specs.declared.view.ListView.{ListView}
 use Rattle.desk_rules.specs.Verdicts.{Standing, bars, first_below, has_revoked_certificate, has_revoked_digest, is_below, is_less, lack_at, lists_image, standing, verdict, verdict_by, verdict_on}
-use Rattle.desk_rules.specs.Views.{Keys, ShowsLists, generation_in, keys_for, keys_of, revoked_rows, seen_standing}
+use Rattle.desk_rules.specs.Views.{Keys, ShowsLists, generation_in, keys_for, keys_of, seen_standing}
 use Rattle.desk_rules.proofs.ListLemmas.{any_once, bytes_eq-refl, same_text}
 use Rattle.desk_rules.proofs.ListingLemmas.{listed_rows_are_listed}
 

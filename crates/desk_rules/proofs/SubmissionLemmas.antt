@@ -1,9 +1,9 @@
 -- What the writes of a submission make.
-use Rattle.std.proofs.Common.{◌≡◌, ℕ, ◌+◌, ◌<◌, ◌≤◌, Bool, true, false, not, ◌||◌, cond, List, [], ◌∷◌, ◌++◌, length, map, Option, Some, None, Result, refl, sym, ◌∙◌, ap, subst, arith, append_assoc}
-use Rattle.std.specs.Prelude.{◌==◌, if◌then◌else◌, IsTrue, bytes_eq, find, flat_map, reverse}
+use Rattle.std.proofs.Common.{◌≡◌, ℕ, ◌+◌, ◌<◌, ◌≤◌, Bool, true, false, ◌||◌, cond, List, [], ◌∷◌, ◌++◌, length, map, Option, Some, None, Result, refl, sym, ◌∙◌, ap, inl, arith, append_assoc}
+use Rattle.std.specs.Prelude.{◌==◌, if◌then◌else◌, find, reverse}
 use Rattle.std.specs.List.{list_any}
 use Rattle.std.proofs.lemmas.Bool.{and_parts}
-use Rattle.std.proofs.lemmas.Bool.Decides.{nat_tests}
+use Rattle.std.proofs.lemmas.List.Folds.{list_any-append}
 use Rattle.std.proofs.lemmas.List.{length-map, reverse-append, reverse-reverse}
 use Rattle.desk_bytes.specs.declared.refusal.Refusal.{Refusal}
 use Rattle.desk_bytes.specs.declared.refusal.Refusal.TheVariants as refusals
@@ -23,18 +23,22 @@ use Rattle.desk_texts.specs.declared.write.Write.{Write}
 use Rattle.desk_texts.specs.declared.write.Write.TheVariants as writes
 use Rattle.desk_texts.specs.Callers.{caller_name}
 use Rattle.desk_texts.specs.Calls.{History}
-use Rattle.desk_texts.specs.Requests.{Request, Submitted, has_number, is_returned, is_withdrawn, numbered, request, requests, returns, state, state_by, submitted, votes, votes_on}
+use Rattle.desk_texts.specs.Requests.{Request, Submitted, has_number, is_returned, is_withdrawn, numbered, request, requests, state, state_by, submitted, votes, votes_on}
 use Rattle.desk_texts.specs.Tables.{Tables, certificate_rows, component_rows, request_row, tables}
 use Rattle.desk_texts.specs.Writes.{all_written, written}
 use Rattle.desk_rules.specs.declared.view.Changes.{Changes}
 use Rattle.desk_rules.specs.declared.view.View.{View}
-use Rattle.desk_rules.specs.Decisions.{Decided, MatchesOwn, Shows, called, submission_writes}
+use Rattle.desk_rules.specs.Decisions.{Decided, MatchesOwn, called, submission_writes}
+use Rattle.desk_rules.specs.Shown.{Shows}
+use Rattle.desk_rules.specs.Room.{takes_off}
 use Rattle.desk_rules.specs.Refusals.{own_refusal, refuse_if, return_refusal, review_refusal, withdraw_refusal}
 use Rattle.desk_rules.specs.Runs.{answer, is_accepted, is_legal}
 use Rattle.desk_rules.specs.Steps.{request_of}
 use Rattle.desk_rules.specs.Verdicts.{bars, lists_image, standing}
 use Rattle.desk_rules.specs.Views.{keys_of, seen_standing}
 use Rattle.desk_rules.proofs.DecisionLemmas.{decided}
+use Rattle.desk_rules.proofs.ListLemmas.{number_above, number_is}
+use Rattle.desk_rules.proofs.RefusalLemmas.{no_refusal}
 use Rattle.desk_rules.proofs.RequestLemmas.{length_numbered}
 use Rattle.desk_rules.proofs.RunLemmas.{IsNew, accepted_parts, legal_room}
 use Rattle.desk_rules.proofs.StandingLemmas.{agrees, bars_alike}
@@ -47,6 +51,11 @@ written-append (w ∷ ws) vs t = written-append ws vs (written w t)
 -- one row more in front of others turned round
 pub turned : {X : Type 0} (x : X) (xs rest : List X) → reverse xs ++ x ∷ rest ≡ reverse (x ∷ xs) ++ rest
 turned x xs rest = sym (append_assoc (reverse xs) (x ∷ []) rest) ∙ ap (λ r. r ++ rest) (sym (reverse-append (x ∷ []) xs))
+
+-- writes of one shape take no entry off
+pub none_taken : {X : Type 0} (put : X → Write) → ((x : X) → takes_off (put x) ≡ false) → (xs : List X) → list_any takes_off (map put xs) ≡ false
+none_taken put each [] = refl
+none_taken put each (x ∷ xs) = ap (λ b. b || list_any takes_off (map put xs)) (each x) ∙ none_taken put each xs
 
 certificates_put : (rows : List RequestCertificateRow) (t : Tables) → all_written (map (λ row. writes.RequestCertificate row) rows) t ≡ record t { request_certificates = reverse rows ++ t.request_certificates }
 certificates_put [] t = refl
@@ -64,18 +73,9 @@ components_put (x ∷ rows) t =
 none_above : (k : ℕ) (ss : List Submitted) → length ss < k → find (has_number k) (numbered ss) ≡ None
 none_above k [] h = refl
 none_above k (s ∷ ss) h =
-    let other : (k == length ss + 1) ≡ false = unlike k (length ss + 1) (omega arith) in
+    let other : (k == length ss + 1) ≡ false = number_above k (length ss + 1) (omega arith) in
     ap (λ b. if b then Some (record { number = length ss + 1; submitter = s.submitter; title = s.submission.title; facts = s.submission.facts }) else find (has_number k) (numbered ss)) other
     ∙ none_above k ss (omega arith)
-  where
-    unlike : (n m : ℕ) → m < n → (n == m) ≡ false
-    unlike n m h = grind (arith, nat_tests)
-
-no_refusal : {r : Refusal} {A : Type 0} → Some r ≡ None → A
-no_refusal h = cc
-
-number_is : (k n : ℕ) → (k == n) ≡ true → k ≡ n
-number_is k n h = grind (arith, nat_tests)
 
 -- nothing became of a request that isn't there
 record Untouched (cs : History) (k : ℕ) : Type 0 where
@@ -166,11 +166,17 @@ module _ (v : View) (caller : Caller) (s : Submission) (owner : List ℕ) (cs : 
       Decided result (refuse_if (bars (seen_standing v.lists) s.facts) refusals.Revoked) (replies.Submitted k) (submission_writes k caller s) →
       MatchesOwn owner cs (called caller key (command.Submit s)) result
   submits k is result told =
+      let r : Request = request_of k caller s in
+      let certificates : List Write = map (λ row. writes.RequestCertificate row) (reverse (certificate_rows r)) in
+      let components : List Write = map (λ row. writes.RequestComponent row) (reverse (component_rows r)) in
       let at : k ≡ length (submitted cs) + 1 = is ∙ ap (λ n. n + 1) (length_numbered (submitted cs)) in
       decided owner cs (called caller key (command.Submit s)) result (refuse_if (bars (seen_standing v.lists) s.facts) refusals.Revoked) (replies.Submitted k) (submission_writes k caller s) told
       (ap (λ b. refuse_if b refusals.Revoked) (bars_alike (seen_standing v.lists) (standing cs) s.facts (agrees v.lists owner cs (keys_of s.facts) shown.lists)))
       (λ none. ap (λ n. replies.Submitted n) is)
       (λ none. ap (λ n. all_written (submission_writes n caller s) (tables owner cs)) at ∙ made_at)
+      (inl (list_any-append takes_off certificates components
+      ∙ (ap (λ b. b || list_any takes_off components) (none_taken (λ row. writes.RequestCertificate row) (λ row. refl) (reverse (certificate_rows r)))
+      ∙ none_taken (λ row. writes.RequestComponent row) (λ row. refl) (reverse (component_rows r)))))
 
 -- a desk that a legal history stands for has numbers left
 pub has_numbers : (v : View) (caller : Caller) (s : Submission) (owner : List ℕ) (cs : History) (key : List ℕ) → is_legal cs ≡ true → Shows v (tables owner cs) (called caller key (command.Submit s)) → (999999 ≤ v.sizes.requests) → {A : Type 0} → A

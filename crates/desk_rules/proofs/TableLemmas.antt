@@ -1,5 +1,5 @@
 -- The rows of the tables, one call or one component more.
-use Rattle.std.proofs.Common.{◌≡◌, ℕ, ◌+◌, ◌-◌, ◌<◌, Bool, true, false, List, [], ◌∷◌, ◌++◌, length, map, take, drop, get_or, Option, Some, None, refl, sym, ◌∙◌, ap, subst, append_assoc, add-one, suc, drop-cons}
+use Rattle.std.proofs.Common.{◌≡◌, ℕ, ◌+◌, ◌-◌, ◌<◌, Bool, true, false, List, [], ◌∷◌, ◌++◌, length, map, take, drop, get_or, Option, Some, None, refl, sym, ◌∙◌, ap, subst, append_assoc}
 use Rattle.std.specs.List.{list_any}
 use Rattle.std.proofs.lemmas.List.{take-append-drop, take_rest}
 use Rattle.sbat.specs.declared.component.Component.{Component}
@@ -14,7 +14,7 @@ use Rattle.desk_texts.specs.Requests.{Request, requests, submitted}
 use Rattle.desk_texts.specs.Tables.{level_row}
 use Rattle.desk_rules.specs.Steps.{greater_option, has_name, request_of}
 use Rattle.desk_rules.proofs.LevelLemmas.{among_names, greatest-append}
-use Rattle.desk_rules.proofs.ListLemmas.{bytes_eq-refl}
+use Rattle.desk_rules.proofs.ListLemmas.{bytes_eq-refl, split_at}
 use Rattle.desk_rules.proofs.RequestLemmas.{length_numbered}
 
 -- rows and those that are still to come are the whole table; some of these join the rows
@@ -53,9 +53,6 @@ abbrev pub carried_rows : ℕ → List (List ℕ) → List RequestCertificateRow
 carried_rows number digests = map (λ d. record { request = number; digest = d }) digests
 
 -- components
-
-split_at : (xs : List Component) (i : ℕ) (x : Component) → i < length xs → x ≡ get_or xs i x → drop i xs ≡ x ∷ drop (i + 1) xs
-split_at xs i x h is = rw (add-one, drop-cons xs i x) (ap (λ d. d ∷ drop (suc i) xs) (sym is))
 
 some_right : (a : Option ℕ) (n : ℕ) → greater_option a (Some n) ≡ None → ⊥
 some_right None n e = cc

@@ -10,7 +10,7 @@ use Rattle.desk_texts.specs.declared.facts.Facts.{Facts}
 use Rattle.desk_texts.specs.declared.kind.ListedKind.{ListedKind}
 use Rattle.desk_texts.specs.declared.kind.ListedKind.TheVariants as kinds
 use Rattle.desk_texts.specs.Calls.{History, is_among}
-use Rattle.desk_texts.specs.Level.{components_of, generations, greater_of, greatest, is_sbat, level}
+use Rattle.desk_texts.specs.Level.{components_of, generations, greater_of, greatest, is_sbat}
 use Rattle.desk_texts.specs.Revocations.{is_revoked, revocations, revoked_by}
 use Rattle.desk_rules.specs.declared.finding.Below.{Below}
 use Rattle.desk_rules.specs.declared.finding.Verdict.TheVariants.{Allowed, Sbat}

@@ -1,6 +1,7 @@
 -- Words of an import's steps.
-use Rattle.std.specs.Prelude.{◌≡◌, ℕ, Bool, true, false, if◌then◌else◌, IsTrue, List, [], ◌∷◌, ◌++◌, Option, Some, None, filter, length, map, nat_lt, reverse}
+use Rattle.std.specs.Prelude.{◌≡◌, ℕ, Bool, false, if◌then◌else◌, IsTrue, List, [], ◌∷◌, ◌++◌, Option, Some, None, filter, length, map, nat_lt, reverse}
 use Rattle.std.specs.FinMap.{get}
+use Rattle.std.specs.List.{list_any}
 use Rattle.sbat.specs.declared.component.Component.{Component}
 use Rattle.sbat.specs.Levels.{Generations}
 use Rattle.desk_texts.specs.declared.write.Write.{Write}
@@ -10,6 +11,7 @@ use Rattle.desk_texts.specs.Level.{greatest, is_above, is_sbat}
 use Rattle.desk_texts.specs.Tables.{Tables, level_rows}
 use Rattle.desk_texts.specs.Writes.{all_written}
 use Rattle.desk_rules.specs.declared.decisions.imports.SoFar.{SoFar}
+use Rattle.desk_rules.specs.Room.{takes_off}
 use Rattle.desk_rules.specs.Views.{generation_in}
 
 -- the rows, and those of the named that aren't there, the last first
@@ -46,11 +48,12 @@ abbrev pub HasRows : Generations → List Component → Type 0
 HasRows generations rows = (q : List ℕ) → is_sbat q ≡ false → get generations q ≡ generation_in rows q
 
 -- What the components seen so far, the last first, make of a level that names these: the generations of the names
--- that are asked, how many names were raised, and what is written.
+-- that are asked, how many names were raised, and what is written, which takes no entry off.
 pub record IsSoFar (asked old seen : List Component) (s : SoFar) : Type 0 where
   pub level : (q : List ℕ) → IsTrue (is_among (map (λ x. x.name) asked) q) → get s.level.generations q ≡ greatest (seen ++ old) q
   pub count : length (once (raised_names old seen)) ≡ s.names
   pub written : (t : Tables) → t.components ≡ level_rows old → all_written s.writes.items t ≡ record t { components = level_rows (seen ++ old) }
+  pub kept : list_any takes_off s.writes.items ≡ false
 
 -- the write of the stamp, where names were raised
 abbrev pub stamp_writes : ℕ → Option ℕ → List Write

@@ -16,6 +16,8 @@ use Rattle.desk_texts.specs.declared.rows.ReturnRow.{ReturnRow}
 use Rattle.desk_texts.specs.Tables.{Tables, tables}
 use Rattle.desk_texts.specs.Callers.{caller_name}
 use Rattle.desk_rules.specs.declared.finding.Verdict.TheVariants.{Allowed}
+use Rattle.desk_rules.specs.declared.view.View.{View}
+use Rattle.desk_rules.specs.Shown.{HoldsWhole, Shows}
 use Rattle.desk_rules.specs.Lives.{Answered, Ends, Event, Holds, WasAnswered, events_of}
 use Rattle.desk_rules.specs.Runs.{is_legal, run}
 use Rattle.desk_rules.specs.Verdicts.{is_barred, stands_in_db, verdict}
@@ -89,3 +91,7 @@ abbrev pub AnswersAreKept : Type 0
 AnswersAreKept =
     (lives : List (List Event)) (cs : History) → Ends lives cs → (c : Call) (reply : Reply) (at : History)
     → WasAnswered (events_of lives) cs c reply at → Holds cs c reply × GoesOnFrom at cs
+
+-- a view of whole tables shows them for every call
+abbrev pub WholeTablesShow : Type 0
+WholeTablesShow = (v : View) (t : Tables) (c : Call) → HoldsWhole v t → Shows v t c

@@ -5,7 +5,9 @@ pub mod Limits
 pub mod Lives
 pub mod Refusals
 pub mod Repeats
+pub mod Room
 pub mod Runs
+pub mod Shown
 pub mod Steps
 pub mod Verdicts
 pub mod Views

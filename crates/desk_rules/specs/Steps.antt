@@ -1,18 +1,14 @@
 -- Words of the plain program's steps.
-use Rattle.std.specs.Prelude.{ℕ, ◌==◌, Bool, true, false, not, ◌&&◌, ◌||◌, if◌then◌else◌, List, Option, Some, None, bytes_eq, max}
+use Rattle.std.specs.Prelude.{ℕ, ◌==◌, Bool, true, false, ◌&&◌, List, Option, Some, None, bytes_eq, max}
 use Rattle.sbat.specs.declared.component.Component.{Component}
 use Rattle.desk_texts.specs.declared.caller.Caller.{Caller}
 use Rattle.desk_texts.specs.declared.command.Call.{Call}
 use Rattle.desk_texts.specs.declared.command.Command.{Command}
 use Rattle.desk_texts.specs.declared.command.Command.TheVariants as command
 use Rattle.desk_texts.specs.declared.command.Submission.{Submission}
-use Rattle.desk_texts.specs.declared.facts.Facts.{Facts}
 use Rattle.desk_texts.specs.declared.vote.Vote.TheVariants as vote
 use Rattle.desk_texts.specs.Callers.{caller_name}
 use Rattle.desk_texts.specs.Requests.{Request}
-use Rattle.desk_bytes.specs.declared.refusal.Refusal.{Refusal}
-use Rattle.desk_bytes.specs.declared.refusal.Refusal.TheVariants as refusals
-use Rattle.desk_rules.specs.Refusals.{refuse_if}
 
 -- the greater of two numbers that may be missing
 abbrev pub greater_option : Option ℕ → Option ℕ → Option ℕ

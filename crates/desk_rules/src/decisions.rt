@@ -62,7 +62,7 @@ fn two(alloc: Global, reply: Reply, first: Write, second: Write) -> Result<Chang
 }
 
 /// The number after so many requests, if there is one.
-fn next_number(requests: u64) -> Option<RequestNumber>
+fn number_after(requests: u64) -> Option<RequestNumber>
     ensures { MatchOption result (999999 ≤ requests) (λ number. number ≡ requests + 1) }
 {
     if 999_999 <= requests {
@@ -80,7 +80,7 @@ fn submit_next(
 ) -> Result<Changes, Refusal>
     ensures { DecidesOwn view.now caller.now (Submit submission.now) result }
 {
-    match next_number(view.sizes.requests) {
+    match number_after(view.sizes.requests) {
         None => Err(Refusal::Full),
         Some(number) => submit(alloc, view, number, caller, submission),
     }

@@ -51,3 +51,8 @@ pub fn answers_have_histories()
 pub fn answers_are_kept()
     ensures { law.AnswersAreKept }
 {}
+
+/// A view that has all rows of the tables shows them for every call.
+pub fn whole_tables_show()
+    ensures { law.WholeTablesShow }
+{}

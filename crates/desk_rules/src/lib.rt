@@ -4,6 +4,7 @@
 
 mod answer;
 mod answers;
+mod deciding;
 mod decisions;
 mod finding;
 mod laws;
@@ -24,11 +25,12 @@ mod verdicts;
 mod view;
 
 pub use answer::Answer;
+pub use deciding::decide;
 pub use finding::{Below, Verdict};
 pub use laws::{
     allows_exactly, answers_are_kept, answers_have_histories, keys_stand_once,
     legal_histories_are_runs, listed_rows_are_listed, rows_stand_once, runs_go_on,
-    series_are_legal, what_is_barred_stays_barred,
+    series_are_legal, what_is_barred_stays_barred, whole_tables_show,
 };
 pub use limits::{
     MOST_CALLS, MOST_LEVEL_COMPONENTS, MOST_LISTED, MOST_PEOPLE, MOST_REQUESTS,
@@ -37,7 +39,7 @@ pub use limits::{
 pub use list_view::verdict;
 pub use plain::PlainDesk;
 pub use tables::Tables;
-pub use view::ListView;
+pub use view::{Changes, ListView, Sizes, View};
 
 #[cfg(test)]
 mod tests;

@@ -1,8 +1,10 @@
 //! Why a call is refused.
 ghost use Rattle.std.specs.Prelude.{◌≡◌, ◌∷◌, ℕ, List};
 ghost use Rattle.desk_texts.specs.Callers.{caller_name};
+ghost use Rattle.desk_texts.specs.Listing as listing;
 ghost use Rattle.desk_texts.specs.People.{people as people_in};
 ghost use Rattle.desk_texts.specs.Requests as requests;
+ghost use Rattle.desk_texts.specs.Revocations as revocations;
 ghost use Rattle.desk_rules.specs.Refusals as spec;
 ghost use Rattle.desk_rules.specs.Verdicts.{bars as bars_on, is_barred as barred_in, lists_image as lists_on, stands_in_db as stands_in};
 
@@ -168,6 +170,22 @@ pub(crate) fn is_later(now: Stamp, stamp: Option<Stamp>) -> bool
     }
 }
 
+/// Why the entry isn't listed.
+fn listed_refusal(calls: &[Call], kind: ListedKind, digest: Digest) -> Option<Refusal>
+    ensures { result ≡ spec.refuse_if (listing.is_listed kind calls.now digest)
+        Refusal.AlreadyListed }
+{
+    refuse_if(is_listed(calls, kind, digest), Refusal::AlreadyListed)
+}
+
+/// Why the entry isn't revoked.
+fn revoked_refusal(calls: &[Call], kind: ListedKind, digest: Digest) -> Option<Refusal>
+    ensures { result
+        ≡ spec.refuse_if (revocations.is_revoked kind calls.now digest) Refusal.AlreadyRevoked }
+{
+    refuse_if(is_revoked(calls, kind, digest), Refusal::AlreadyRevoked)
+}
+
 /// Why the command isn't taken in, by its own conditions.
 fn own_refusal(calls: &[Call], caller: &Caller, command: &Command) -> Option<Refusal>
     ensures { result ≡ spec.own_refusal calls.now (caller_name caller.now) command.now }
@@ -180,33 +198,19 @@ fn own_refusal(calls: &[Call], caller: &Caller, command: &Command) -> Option<Ref
         Command::Review(ballot) => review_refusal(calls, ballot, caller),
         Command::Withdraw(number) => withdraw_refusal(calls, *number, caller),
         Command::Return(handback) => return_refusal(calls, handback),
-        Command::ListCertificate(certificate) => refuse_if(
-            is_listed(calls, ListedKind::Certificate, certificate.tbs()),
-            Refusal::AlreadyListed,
-        ),
-        Command::ListDigest(digest) => {
-            refuse_if(
-                is_listed(calls, ListedKind::Digest, *digest),
-                Refusal::AlreadyListed,
-            )
+        Command::ListCertificate(certificate) => {
+            listed_refusal(calls, ListedKind::Certificate, certificate.tbs())
         }
+        Command::ListDigest(digest) => listed_refusal(calls, ListedKind::Digest, *digest),
         Command::Unlist(listing) => {
             refuse_if(
                 !is_listed(calls, listing.kind, listing.digest),
                 Refusal::NotThere,
             )
         }
-        Command::RevokeDigest(digest) => {
-            refuse_if(
-                is_revoked(calls, ListedKind::Digest, *digest),
-                Refusal::AlreadyRevoked,
-            )
-        }
+        Command::RevokeDigest(digest) => revoked_refusal(calls, ListedKind::Digest, *digest),
         Command::RevokeCertificate(digest) => {
-            refuse_if(
-                is_revoked(calls, ListedKind::Certificate, *digest),
-                Refusal::AlreadyRevoked,
-            )
+            revoked_refusal(calls, ListedKind::Certificate, *digest)
         }
         Command::RaiseLevel(raise) => {
             let present = greatest(calls, &raise.component.name);

@@ -1,6 +1,6 @@
 //! Tests.
 use super::*;
-use desk_bytes::{Digest, Guid};
+use desk_bytes::{Digest, Guid, Refusal};
 use desk_texts::{
     Ballot, Call, Caller, Carried, Certificate, Command, Components, Digests, Extent, Facts,
     Handback, Import, Key, ListedKind, Listing, Note, Person, PersonName, Raise, Raises,
@@ -14,6 +14,7 @@ use std::test::Fail;
 mod histories;
 mod limits;
 mod refused;
+mod script;
 mod tables;
 mod views;
 
@@ -227,6 +228,21 @@ fn words(alloc: Global, answer: &Answer) -> Result<String, Fail> {
     }
 }
 
+/// The decision in words: a reply's text, with `again` before one that writes nothing, or a refusal's name.
+fn decided_words(alloc: Global, decision: &Result<Changes, Refusal>) -> Result<String, Fail> {
+    match decision {
+        Ok(changes) => {
+            let text = reply_text(alloc, &changes.reply)?;
+            if changes.writes.is_empty() {
+                Ok(format!(in alloc; "again {text}")?)
+            } else {
+                Ok(text)
+            }
+        }
+        Err(refusal) => Ok(String::from_str(alloc, refusal.name())?),
+    }
+}
+
 /// A desk, and the next key for its callers.
 #[derive(Drop)]
 struct Hall {
@@ -265,6 +281,12 @@ impl Hall {
         self.ask(rt, "console", command, wanted)
     }
 
+    /// What is decided on the command under the key, in words, over a view of the desk's whole tables.
+    fn decided(&self, by: &str, key: &str, command: &Command) -> Result<String, Fail> {
+        let view = views::of_desk(self.alloc, &self.desk)?;
+        views::decided(self.alloc, &view, by, key, command)
+    }
+
     /// Gives the command under the key, and tells the answer in words, and whether the call was accepted.
     fn told(&mut self, by: &str, key: &str, command: Command) -> Result<(String, bool), Fail> {
         let given = call(self.alloc, by, key, command)?;
@@ -273,7 +295,8 @@ impl Hall {
         Ok((told, matches!(answer, Answer::Accepted(_))))
     }
 
-    /// Gives the command under the key, and checks the answer, and that a refused or repeated call isn't kept.
+    /// Gives the command under the key, and checks the answer, that a decision over a view is the same, and that a
+    /// refused or repeated call isn't kept.
     fn ask_with(
         &mut self,
         rt: &impl Abort,
@@ -282,8 +305,11 @@ impl Hall {
         command: Result<Command, Fail>,
         wanted: &str,
     ) -> Result<(), Fail> {
+        let command = command?;
         let before = self.desk.calls().len();
-        let (told, is_kept) = self.told(by, key, command?)?;
+        let decided = self.decided(by, key, &command)?;
+        assert_eq!(rt; decided.as_str(), wanted, "what is decided for {by}");
+        let (told, is_kept) = self.told(by, key, command)?;
         assert_eq!(rt; told.as_str(), wanted, "what {by} was answered");
         let kept = before.saturating_add(usize::from(is_kept));
         assert_eq!(rt; self.desk.calls().len(), kept, "calls kept");
@@ -329,9 +355,8 @@ impl Hall {
 
     /// What is said of the image over a view of the desk's whole tables.
     fn seen(&self, facts: &Facts) -> Result<Verdict, Fail> {
-        let tables = self.desk.tables(Guid::from([1; 16]))?;
-        let view = views::lists_of(self.alloc, &tables)?;
-        Ok(verdict(&view, facts))
+        let view = views::of_desk(self.alloc, &self.desk)?;
+        Ok(verdict(&view.lists, facts))
     }
 
     /// Checks the verdict of an image, by the calls and over a view.

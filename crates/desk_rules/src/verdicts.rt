@@ -19,7 +19,8 @@ fn has_revoked_digest<S: Standing>(lists: &S, facts: &Facts) -> bool
 
 /// Whether one of the certificates is revoked.
 fn has_revoked<S: Standing>(lists: &S, certificates: &[Digest]) -> bool
-    ensures { result ≡ list_any ((S.standing lists.now).revoked ListedKind.Certificate) certificates.now }
+    ensures { result
+        ≡ list_any ((S.standing lists.now).revoked ListedKind.Certificate) certificates.now }
 {
     for certificate in certificates {
         if lists.is_revoked(ListedKind::Certificate, *certificate) {
@@ -31,7 +32,8 @@ fn has_revoked<S: Standing>(lists: &S, certificates: &[Digest]) -> bool
 
 /// Whether one of the certificates is listed.
 fn has_listed<S: Standing>(lists: &S, certificates: &[Digest]) -> bool
-    ensures { result ≡ list_any ((S.standing lists.now).listed ListedKind.Certificate) certificates.now }
+    ensures { result
+        ≡ list_any ((S.standing lists.now).listed ListedKind.Certificate) certificates.now }
 {
     for certificate in certificates {
         if lists.is_listed(ListedKind::Certificate, *certificate) {

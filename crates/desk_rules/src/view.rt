@@ -17,6 +17,17 @@ pub struct ListView {
     pub components: Vec<Component>,
 }
 
+/// A table whose rows a limit of the desk counts, but for that of calls.
+#[derive(Clone, Copy, Debug, PartialEq, Eq)]
+pub(crate) enum Counted {
+    People,
+    Requests,
+    Listed,
+    RevokedDigests,
+    RevokedCertificates,
+    Components,
+}
+
 /// How many rows there are in each of the tables that a desk's limits count.
 #[derive(Clone, Copy, Debug, PartialEq, Eq)]
 pub struct Sizes {

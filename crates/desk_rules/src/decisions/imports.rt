@@ -39,7 +39,8 @@ fn note(known: &mut BTreeSet<Digest>, digest: Digest) -> Result<bool, Refusal>
 
 /// The set of the digests.
 fn set_of(alloc: Global, digests: &[Digest]) -> Result<BTreeSet<Digest>, Refusal>
-    ensures ok { IfOk result (λ known. (q : List ℕ) → is_among known.keys q ≡ is_among digests.now q) }
+    ensures ok { IfOk result (λ known. (q : List ℕ)
+        → is_among known.keys q ≡ is_among digests.now q) }
     ensures err { IfErr result (λ refusal. refusal ≡ Refusal.NoMemory) }
 {
     let mut known = BTreeSet::new(alloc);
@@ -231,7 +232,8 @@ fn put_certificates(writes: &mut Vec<Write>, digests: &[Digest]) -> Result<(), R
 
 /// Writes the stamp, where names were raised, after others.
 fn put_stamp(writes: &mut Vec<Write>, names: u64, stamp: Option<Stamp>) -> Result<(), Refusal>
-    ensures ok { OnOk result (writes.new.items ≡ writes.old.items ++ spec.stamp_writes names stamp) }
+    ensures ok { OnOk result (writes.new.items
+        ≡ writes.old.items ++ spec.stamp_writes names stamp) }
     ensures err { IfErr result (λ refusal. refusal ≡ Refusal.NoMemory) }
 {
     if 0 < names {

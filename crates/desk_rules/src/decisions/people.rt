@@ -15,58 +15,64 @@ use desk_bytes::{Digest, Refusal};
 use desk_texts::{Caller, Command, Person, PersonName, Reply, Write};
 use std::alloc::Global;
 
-/// The person of this name.
-fn person<'a>(people: &'a [Person], name: &PersonName) -> Option<&'a Person>
-    ensures { option_copied result ≡ find (spec.has_name name.now) people.now }
-{
-    people.iter().find(|row| name.as_str() == row.name.as_str())
-}
-
-/// Whether the caller is the console or one of the people.
-pub(crate) fn is_known(people: &[Person], caller: &Caller) -> bool
-    ensures { result ≡ is_one_of people.now caller.now }
-{
-    match caller {
-        Caller::Console => true,
-        Caller::Person(name) => person(people, name).is_some(),
+impl View {
+    /// The person of this name.
+    fn person(&self, name: &PersonName) -> Option<&Person>
+        ensures { option_copied result ≡ find (spec.has_name name.now) self.now.people.items }
+    {
+        self.people
+            .iter()
+            .find(|row| name.as_str() == row.name.as_str())
     }
-}
 
-/// Whether the caller gives such commands.
-pub(crate) fn may_give(people: &[Person], caller: &Caller, command: &Command) -> bool
-    ensures { result ≡ is_theirs people.now caller.now command.now }
-{
-    match caller {
-        Caller::Console => matches!(command, Command::AddPerson(_)),
-        Caller::Person(name) => match person(people, name) {
-            None => false,
-            Some(person) => is_for(person.role, command),
-        },
+    /// Whether the caller is the console or one of the people.
+    pub(crate) fn is_known(&self, caller: &Caller) -> bool
+        ensures { result ≡ is_one_of self.now.people.items caller.now }
+    {
+        match caller {
+            Caller::Console => true,
+            Caller::Person(name) => self.person(name).is_some(),
+        }
     }
-}
 
-/// Whether one of the people has the name.
-fn has_name(people: &[Person], name: &PersonName) -> bool
-    ensures { result ≡ list_any (spec.has_name name.now) people.now }
-{
-    people.iter().any(|row| name.as_str() == row.name.as_str())
-}
+    /// Whether the caller gives such commands.
+    pub(crate) fn may_give(&self, caller: &Caller, command: &Command) -> bool
+        ensures { result ≡ is_theirs self.now.people.items caller.now command.now }
+    {
+        match caller {
+            Caller::Console => matches!(command, Command::AddPerson(_)),
+            Caller::Person(name) => match self.person(name) {
+                None => false,
+                Some(person) => is_for(person.role, command),
+            },
+        }
+    }
 
-/// Whether one of the people has the token of this SHA-256.
-fn has_token(people: &[Person], token: Digest) -> bool
-    ensures { result ≡ list_any (spec.has_token token) people.now }
-{
-    people.iter().any(|row| token == row.token)
-}
+    /// Whether one of the people has the token of this SHA-256.
+    fn has_token(&self, token: Digest) -> bool
+        ensures { result ≡ list_any (spec.has_token token) self.now.people.items }
+    {
+        self.people.iter().any(|row| token == row.token)
+    }
 
-/// Why the person isn't added.
-fn add_refusal(people: &[Person], person: &Person) -> Option<Refusal>
-    ensures { result ≡ refusal_of people.now person.now }
-{
-    let is_taken = person.name.as_str() == "console"
-        || has_name(people, &person.name)
-        || has_token(people, person.token);
-    refuse_if(is_taken, Refusal::NameTaken)
+    /// Whether one of the people has the name.
+    fn has_name(&self, name: &PersonName) -> bool
+        ensures { result ≡ list_any (spec.has_name name.now) self.now.people.items }
+    {
+        self.people
+            .iter()
+            .any(|row| name.as_str() == row.name.as_str())
+    }
+
+    /// Why the person isn't added.
+    fn add_refusal(&self, person: &Person) -> Option<Refusal>
+        ensures { result ≡ refusal_of self.now.people.items person.now }
+    {
+        let is_taken = person.name.as_str() == "console"
+            || self.has_name(&person.name)
+            || self.has_token(person.token);
+        refuse_if(is_taken, Refusal::NameTaken)
+    }
 }
 
 /// Adds the person.
@@ -74,7 +80,7 @@ pub(crate) fn add_person(alloc: Global, view: &View, person: &Person) -> Result<
     ensures { Decided result (refusal_of view.now.people.items person.now) (Added person.now.name)
         (PutPerson person.now ∷ []) }
 {
-    if let Some(refusal) = add_refusal(&view.people, person) {
+    if let Some(refusal) = view.add_refusal(person) {
         return Err(refusal);
     }
     let name = person.name.clone().map_err(|_| Refusal::NoMemory)?;

@@ -4,6 +4,7 @@ ghost use Rattle.std.specs.List.{list_any};
 ghost use Rattle.desk_texts.specs.Callers.{caller_name};
 ghost use Rattle.desk_texts.specs.Requests.{is_vote_of, is_yes, votes_on};
 ghost use Rattle.desk_rules.specs.Decisions as spec;
+ghost use Rattle.desk_rules.specs.Shown.{is_request_row};
 ghost use Rattle.desk_texts.specs.declared.reply.Reply.TheVariants as replies;
 ghost use Rattle.desk_texts.specs.declared.write.Write.TheVariants as puts;
 
@@ -45,7 +46,7 @@ fn state_with(vote: Vote, has_no: bool, yes: usize) -> State
 impl View {
     /// The row of the request of this number.
     fn request(&self, number: RequestNumber) -> Option<&RequestRow>
-        ensures { option_copied result ≡ find (spec.is_request_row number) self.now.requests.items }
+        ensures { option_copied result ≡ find (is_request_row number) self.now.requests.items }
     {
         self.requests
             .iter()

@@ -386,19 +386,9 @@ fn tables_hold_what_is_listed_revoked_and_raised(rt: HostRuntime) -> Result<(), 
 }
 
 #[test]
-fn tables_hold_people_and_minutes(rt: HostRuntime) -> Result<(), Fail> {
+fn tables_hold_people(rt: HostRuntime) -> Result<(), Fail> {
     let alloc = rt.alloc();
-    let mut hall = Hall::new(&rt, alloc)?;
-    hall.ask(&rt, "ann", submit(alloc, "shim", IMAGE), "submitted 1")?;
-    hall.ask(&rt, "rita", agree(alloc, 1, "seen"), "reviewed 1 open")?;
-    hall.ask(&rt, "ann", withdraw(2), "NoSuchRequest")?;
-    hall.ask(&rt, "ann", withdraw(1), "withdrawn 1")?;
-    hall.ask(
-        &rt,
-        "olga",
-        raise(alloc, "grub", 4, 2_024_010_100),
-        "raised",
-    )?;
+    let hall = Hall::new(&rt, alloc)?;
     let tables = tables_of(&hall)?;
     let mut page = Page::new(alloc);
     page.people(&tables)?;
@@ -413,6 +403,20 @@ fn tables_hold_people_and_minutes(rt: HostRuntime) -> Result<(), Fail> {
             rita reviewer 2\n\
             ann submitter 1\n",
     );
+    Ok(())
+}
+
+#[test]
+fn tables_hold_minutes(rt: HostRuntime) -> Result<(), Fail> {
+    let alloc = rt.alloc();
+    let mut hall = Hall::new(&rt, alloc)?;
+    hall.ask(&rt, "ann", submit(alloc, "shim", IMAGE), "submitted 1")?;
+    hall.ask(&rt, "rita", agree(alloc, 1, "seen"), "reviewed 1 open")?;
+    hall.ask(&rt, "ann", withdraw(2), "NoSuchRequest")?;
+    hall.ask(&rt, "ann", withdraw(1), "withdrawn 1")?;
+    hall.rule(&rt, raise(alloc, "grub", 4, 2_024_010_100), "raised")?;
+    let tables = tables_of(&hall)?;
+    let mut page = Page::new(alloc);
     page.calls(&tables)?;
     page.shows(
         &rt,

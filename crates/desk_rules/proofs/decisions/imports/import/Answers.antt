@@ -1,4 +1,4 @@
-use Rattle.std.proofs.Common.{rules, sym, ◌∙◌}
+use Rattle.std.proofs.Common.{rules}
 use Rattle.desk_rules.proofs.ImportDecision.{imports, refuses_import}
 use Rattle.desk_rules.proofs.decisions.imports.import.Goals as goal
 

@@ -1,7 +1,7 @@
-use Rattle.std.proofs.Common.{sym, ◌∙◌, ap}
+use Rattle.std.proofs.Common.{◌∙◌, ap}
 use Rattle.std.specs.Prelude.{not}
 use Rattle.desk_texts.specs.Calls.{is_among}
-use Rattle.desk_rules.proofs.ImportLemmas.{found_same, inserted}
+use Rattle.desk_rules.proofs.ImportDigests.{found_same, inserted}
 use Rattle.desk_rules.proofs.decisions.imports.note.Goals as goal
 
 pub returns-in-Ok-clause-ok : goal.returns-in-Ok-clause-ok

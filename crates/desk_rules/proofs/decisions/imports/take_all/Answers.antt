@@ -1,9 +1,11 @@
-use Rattle.std.proofs.Common.{rules, arith, refl, ◌≡◌, ◌≤◌, ◌∙◌, sym, ap, subst, List, take}
+use Rattle.std.proofs.Common.{arith, refl, ◌≡◌, ◌∙◌, sym, ap, subst, List, take}
 use Rattle.std.specs.Prelude.{reverse}
+use Rattle.std.specs.List.{list_any}
 use Rattle.std.proofs.lemmas.List.{take_all}
 use Rattle.sbat.specs.declared.component.Component.{Component}
 use Rattle.desk_texts.specs.Writes.{all_written}
 use Rattle.desk_rules.specs.ImportSteps.{IsSoFar}
+use Rattle.desk_rules.specs.Room.{takes_off}
 use Rattle.desk_rules.proofs.ImportLemmas.{name_among, no_sbat, reverse_take}
 use Rattle.desk_rules.proofs.decisions.imports.take_all.Goals as goal
 
@@ -14,6 +16,7 @@ loop-component-init c = record {
     level = λ q asked. c.in_ok-level_of.ensures.ok q (no_sbat c.args.components.now c.requires.other q asked) ∙ knows q asked;
     count = refl;
     written = λ t rows. ap (λ ws. all_written ws t) c.new.ensures.items ∙ ap (λ rs. record t { components = rs }) rows;
+    kept = ap (λ ws. list_any takes_off ws) c.new.ensures.items;
   };
 }
 
