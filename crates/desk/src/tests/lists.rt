@@ -1,6 +1,7 @@
 //! What is printed of signature lists.
 use crate::listing::print_list;
 use crate::printing::print_fault;
+use crate::tests::images::Stopping;
 use std::test::Fail;
 
 /// A SHA256 list of one digest, an X509_SHA256 list of one certificate, and a list of another type: 216 bytes.
@@ -44,6 +45,27 @@ fn prints_the_lists_of_a_file(rt: HostRuntime) -> Result<(), Fail> {
         out.as_slice() == b"refused 15 List at 168\n".as_slice(),
         "a cut list"
     );
+    Ok(())
+}
+
+/// An X509 list of one entry, whose body has five bytes: 49 bytes.
+const X509: &str = "a159c0a5e494a74a87b5ab155c2bf072310000000000000015000000\
+     33221100554477668899aabbccddeeff0102030405";
+
+#[test]
+fn prints_a_beginning_of_its_lists_before_a_failed_write(rt: HostRuntime) -> Result<(), Fail> {
+    let bytes = hex::decode(rt.alloc(), X509)?;
+    let want = b"0 x509 1\n".as_slice();
+    for left in 0..20 {
+        let mut out = Stopping {
+            taken: Vec::new(rt.alloc()),
+            left,
+        };
+        let answer = print_list(rt.alloc(), &bytes, &mut out);
+        assert!(rt; want.starts_with(&out.taken), "a beginning of the line");
+        let is_whole = out.taken.len() == want.len();
+        assert_eq!(rt; answer.is_ok(), is_whole, "the answer");
+    }
     Ok(())
 }
 
