@@ -1,7 +1,9 @@
 //! The one table of refusals.
 ghost use Rattle.std.specs.Prelude.{◌≡◌, Some};
 ghost use Rattle.desk_bytes.specs.Refusals.{name_of, number_of};
+ghost use Rattle.desk_bytes.specs.declared.refusal.Refusal.TheVariants.{NoMemory};
 
+use std::alloc::AllocError;
 use std::fmt;
 
 /// Why a call was refused, or which device failed it.
@@ -113,6 +115,14 @@ pub enum Refusal {
     TooLarge,
     /// The HTTP request has a Transfer-Encoding.
     NotSupported,
+}
+
+impl From<AllocError> for Refusal {
+    ghost from_gives = { λ error refusal. refusal ≡ NoMemory };
+
+    fn from(_error: AllocError) -> Refusal {
+        Refusal::NoMemory
+    }
 }
 
 impl Refusal {
