@@ -8,27 +8,27 @@ use Rattle.desk_texts.specs.declared.caller.Caller.{Caller}
 use Rattle.desk_texts.specs.declared.caller.Caller.TheVariants as callers
 use Rattle.desk_texts.specs.declared.command.Command.{Command}
 use Rattle.desk_texts.specs.declared.command.Person.{Person}
-use Rattle.desk_texts.specs.declared.rows.Minute.{Minute}
-use Rattle.desk_texts.specs.declared.write.Write.TheVariants as writes
+use Rattle.desk_history.specs.declared.rows.Minute.{Minute}
+use Rattle.desk_history.specs.declared.write.Write.TheVariants as writes
 use Rattle.desk_texts.specs.Callers.{caller_name}
-use Rattle.desk_texts.specs.Calls.{History}
+use Rattle.desk_history.specs.Calls.{History}
 use Rattle.desk_texts.specs.CommandTexts.{text_of}
-use Rattle.desk_texts.specs.People.{has_name, people}
-use Rattle.desk_texts.specs.Replies.{minute, minutes, reply}
-use Rattle.desk_texts.specs.Tables.{tables}
-use Rattle.desk_texts.specs.Writes.{all_written, written}
-use Rattle.desk_rules.specs.declared.answer.Answer.{Answer}
-use Rattle.desk_rules.specs.declared.answer.Answer.TheVariants.{Accepted, Refused, Repeated}
+use Rattle.desk_history.specs.People.{has_name, people}
+use Rattle.desk_history.specs.Replies.{minute, minutes, reply}
+use Rattle.desk_history.specs.Tables.{tables}
+use Rattle.desk_history.specs.Writes.{all_written, written}
+use Rattle.desk_history.specs.declared.answer.Answer.{Answer}
+use Rattle.desk_history.specs.declared.answer.Answer.TheVariants.{Accepted, Refused, Repeated}
 use Rattle.desk_rules.specs.declared.view.Changes.{Changes}
 use Rattle.desk_rules.specs.declared.view.View.{View}
 use Rattle.desk_rules.specs.Decisions.{Answers, Joins, MakesNext, RefusesCall, RefusesOwn, Repeats, called}
 use Rattle.desk_rules.specs.Shown.{Shows}
-use Rattle.desk_rules.specs.Limits.{is_within}
-use Rattle.desk_rules.specs.Refusals.{is_for, is_known, is_one_of, is_theirs, may_give, own_refusal, refusal, refuse_if}
+use Rattle.desk_history.specs.Limits.{is_within}
+use Rattle.desk_history.specs.Refusals.{is_for, is_known, is_one_of, is_theirs, may_give, own_refusal, refusal, refuse_if}
 use Rattle.desk_rules.specs.Room.{has_room}
-use Rattle.desk_rules.specs.Runs.{anew, answer, answer_known, earlier, has_key, is_accepted, is_legal, next}
+use Rattle.desk_history.specs.Runs.{anew, answer, answer_known, earlier, has_key, is_accepted, is_legal, next}
 use Rattle.desk_rules.proofs.RoomLemmas.{minutes_length, room_is}
-use Rattle.desk_rules.proofs.SubmissionLemmas.{written-append}
+use Rattle.desk_history.proofs.WriteLemmas.{written-append}
 
 -- the row of the caller says whether the caller is known
 known_by : (who : Caller) (a b : List Person) → find (has_name (caller_name who)) a ≡ find (has_name (caller_name who)) b → is_one_of a who ≡ is_one_of b who

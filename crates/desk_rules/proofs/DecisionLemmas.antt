@@ -15,27 +15,27 @@ use Rattle.desk_texts.specs.declared.kind.ListedKind.{ListedKind}
 use Rattle.desk_texts.specs.declared.kind.ListedKind.TheVariants as kinds
 use Rattle.desk_texts.specs.declared.reply.Reply.{Reply}
 use Rattle.desk_texts.specs.declared.reply.Reply.TheVariants as replies
-use Rattle.desk_texts.specs.declared.rows.Entry.{Entry}
-use Rattle.desk_texts.specs.declared.write.Write.{Write}
-use Rattle.desk_texts.specs.declared.write.Write.TheVariants as writes
+use Rattle.desk_history.specs.declared.rows.Entry.{Entry}
+use Rattle.desk_history.specs.declared.write.Write.{Write}
+use Rattle.desk_history.specs.declared.write.Write.TheVariants as writes
 use Rattle.desk_texts.specs.Callers.{caller_name}
-use Rattle.desk_texts.specs.Calls.{History, is_among, once}
-use Rattle.desk_texts.specs.Listing.{has_entry, is_entry, is_listed, listed, without}
-use Rattle.desk_texts.specs.People.{has_name, has_token, people}
-use Rattle.desk_texts.specs.Replies.{minutes, reply}
-use Rattle.desk_texts.specs.Revocations.{is_revoked, revocations}
-use Rattle.desk_texts.specs.Tables.{tables}
-use Rattle.desk_texts.specs.Writes.{all_written}
+use Rattle.desk_history.specs.Calls.{History, is_among, once}
+use Rattle.desk_history.specs.Listing.{has_entry, is_entry, is_listed, listed, without}
+use Rattle.desk_history.specs.People.{has_name, has_token, people}
+use Rattle.desk_history.specs.Replies.{minutes, reply}
+use Rattle.desk_history.specs.Revocations.{is_revoked, revocations}
+use Rattle.desk_history.specs.Tables.{tables}
+use Rattle.desk_history.specs.Writes.{all_written}
 use Rattle.desk_rules.specs.declared.view.Changes.{Changes}
 use Rattle.desk_rules.specs.declared.view.View.{View}
 use Rattle.desk_rules.specs.Decisions.{Decided, DecidesOwn, MakesNext, RefusesOwn, called}
 use Rattle.desk_rules.specs.Shown.{Shows, keys_named}
 use Rattle.desk_rules.specs.Room.{IsRoomed}
-use Rattle.desk_rules.specs.Refusals.{add_refusal, own_refusal, refuse_if}
+use Rattle.desk_history.specs.Refusals.{add_refusal, own_refusal, refuse_if}
 use Rattle.desk_rules.specs.Views.{keys_for, seen_standing}
-use Rattle.desk_rules.proofs.ListLemmas.{bytes_eq-refl}
-use Rattle.desk_rules.proofs.ListingLemmas.{listed_rows_are_listed}
-use Rattle.desk_rules.proofs.RefusalLemmas.{unrefused}
+use Rattle.desk_history.proofs.ListLemmas.{bytes_eq-refl}
+use Rattle.desk_history.proofs.ListingLemmas.{listed_rows_are_listed}
+use Rattle.desk_history.proofs.RefusalLemmas.{unrefused}
 use Rattle.desk_rules.proofs.StandingLemmas.{agrees}
 
 -- a decision by a refusal, a reply and writes

@@ -12,14 +12,14 @@ use Rattle.desk_texts.specs.declared.caller.Caller.{Caller}
 use Rattle.desk_texts.specs.declared.command.Command.TheVariants as command
 use Rattle.desk_texts.specs.declared.kind.ListedKind.TheVariants as kinds
 use Rattle.desk_texts.specs.declared.reply.Reply.TheVariants as replies
-use Rattle.desk_texts.specs.declared.write.Write.{Write}
-use Rattle.desk_texts.specs.declared.write.Write.TheVariants as writes
+use Rattle.desk_history.specs.declared.write.Write.{Write}
+use Rattle.desk_history.specs.declared.write.Write.TheVariants as writes
 use Rattle.desk_texts.specs.Callers.{caller_name}
-use Rattle.desk_texts.specs.Calls.{History, is_among, once}
-use Rattle.desk_texts.specs.Level.{generations, greatest, raises, raises_some, stamp}
-use Rattle.desk_texts.specs.Revocations.{revocations}
-use Rattle.desk_texts.specs.Tables.{Tables, level_rows, tables}
-use Rattle.desk_texts.specs.Writes.{all_written}
+use Rattle.desk_history.specs.Calls.{History, is_among, once}
+use Rattle.desk_history.specs.Level.{generations, greatest, raises, raises_some, stamp}
+use Rattle.desk_history.specs.Revocations.{revocations}
+use Rattle.desk_history.specs.Tables.{Tables, level_rows, tables}
+use Rattle.desk_history.specs.Writes.{all_written}
 use Rattle.desk_rules.specs.declared.decisions.imports.SoFar.{SoFar}
 use Rattle.desk_rules.specs.declared.view.Changes.{Changes}
 use Rattle.desk_rules.specs.declared.view.View.{View}
@@ -27,11 +27,12 @@ use Rattle.desk_rules.specs.Decisions.{MakesNext, RefusesOwn, called}
 use Rattle.desk_rules.specs.Shown.{Shows, keys_named}
 use Rattle.desk_rules.specs.ImportSteps.{AreNew, IsSoFar, stamp_writes}
 use Rattle.desk_rules.specs.Room.{takes_off}
-use Rattle.desk_rules.specs.Refusals.{is_later, own_refusal, refuse_if}
+use Rattle.desk_history.specs.Refusals.{is_later, own_refusal, refuse_if}
 use Rattle.desk_rules.specs.Views.{generation_in}
 use Rattle.desk_rules.proofs.ImportDigests.{put_new-once}
 use Rattle.desk_rules.proofs.StandingLemmas.{shown_generation}
-use Rattle.desk_rules.proofs.SubmissionLemmas.{none_taken, turned, written-append}
+use Rattle.desk_history.proofs.WriteLemmas.{written-append}
+use Rattle.desk_rules.proofs.SubmissionLemmas.{none_taken, turned}
 
 -- a name is raised exactly where some component raises
 some_once : (t : List ℕ) (ts : List (List ℕ)) → nat_lt 0 (length (once (t ∷ ts))) ≡ true

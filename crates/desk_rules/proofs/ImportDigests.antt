@@ -9,10 +9,10 @@ use Rattle.std.specs.Ordering.{is_eq, match_ordering, nat_cmp}
 use Rattle.std.proofs.lemmas.List.{reverse-append}
 use Rattle.std.proofs.lemmas.List.Folds.{list_any-append, list_any_at}
 use Rattle.std.proofs.lemmas.Map.Text.{is_eq-slice_cmp}
-use Rattle.desk_texts.specs.Calls.{is_among, once}
+use Rattle.desk_history.specs.Calls.{is_among, once}
 use Rattle.desk_rules.specs.ImportSteps.{put_new}
-use Rattle.desk_rules.proofs.CountLemmas.{any_two}
-use Rattle.desk_rules.proofs.ListLemmas.{any_once, bytes_eq-refl, same_text}
+use Rattle.desk_history.proofs.CountLemmas.{any_two}
+use Rattle.desk_history.proofs.ListLemmas.{any_once, bytes_eq-refl, same_text}
 use Rattle.desk_rules.proofs.SubmissionLemmas.{turned}
 
 -- sets of digests

@@ -11,21 +11,21 @@ use Rattle.std.proofs.lemmas.Map.Text.{is_eq-slice_cmp}
 use Rattle.sbat.specs.declared.component.Component.{Component}
 use Rattle.sbat.specs.Levels.{Generations, greater, raised}
 use Rattle.sbat.proofs.GenerationLemmas.{get-raised, ties}
-use Rattle.desk_texts.specs.Calls.{is_among, once}
-use Rattle.desk_texts.specs.Level.{greatest, greater_of, is_above, is_sbat, names}
+use Rattle.desk_history.specs.Calls.{is_among, once}
+use Rattle.desk_history.specs.Level.{greatest, greater_of, is_above, is_sbat, names}
 use Rattle.desk_texts.specs.Raising.{names_no_sbat}
-use Rattle.desk_texts.specs.Tables.{level_row, level_rows}
-use Rattle.desk_texts.specs.Writes.{all_written, is_named, written}
+use Rattle.desk_history.specs.Tables.{level_row, level_rows}
+use Rattle.desk_history.specs.Writes.{all_written, is_named, written}
 use Rattle.desk_rules.specs.declared.decisions.imports.SoFar.{SoFar}
 use Rattle.desk_rules.specs.Decisions.{put_of}
 use Rattle.desk_rules.specs.ImportSteps.{IsSoFar, is_raise, or_else, raised_names, rose}
 use Rattle.desk_rules.specs.Room.{takes_off}
 use Rattle.desk_rules.specs.Views.{generation_in}
 use Rattle.desk_rules.proofs.LevelDecisions.{puts_none, row_other, rows_put}
-use Rattle.desk_rules.proofs.CountLemmas.{one_if}
-use Rattle.desk_rules.proofs.ListLemmas.{bytes_eq-refl, same_text}
+use Rattle.desk_history.proofs.CountLemmas.{one_if}
+use Rattle.desk_history.proofs.ListLemmas.{bytes_eq-refl, same_text}
 use Rattle.desk_rules.proofs.StandingLemmas.{named_some}
-use Rattle.desk_rules.proofs.SubmissionLemmas.{written-append}
+use Rattle.desk_history.proofs.WriteLemmas.{written-append}
 
 greater_above : (g : ℕ) (o : Option ℕ) → is_above g o ≡ true → greater_of g o ≡ g
 greater_above g None h = refl

@@ -9,20 +9,20 @@ use Rattle.desk_texts.specs.declared.caller.Caller.{Caller}
 use Rattle.desk_texts.specs.declared.command.Command.TheVariants as command
 use Rattle.desk_texts.specs.declared.command.Raise.{Raise}
 use Rattle.desk_texts.specs.declared.reply.Reply.TheVariants as replies
-use Rattle.desk_texts.specs.declared.write.Write.TheVariants as writes
-use Rattle.desk_texts.specs.Calls.{is_among}
-use Rattle.desk_texts.specs.Level.{generations, greater_of, greatest, is_above, is_sbat, names, stamp}
-use Rattle.desk_texts.specs.Tables.{Tables, level_row, level_rows, tables}
-use Rattle.desk_texts.specs.Writes.{set_generation, written}
+use Rattle.desk_history.specs.declared.write.Write.TheVariants as writes
+use Rattle.desk_history.specs.Calls.{is_among}
+use Rattle.desk_history.specs.Level.{generations, greater_of, greatest, is_above, is_sbat, names, stamp}
+use Rattle.desk_history.specs.Tables.{Tables, level_row, level_rows, tables}
+use Rattle.desk_history.specs.Writes.{set_generation, written}
 use Rattle.desk_rules.specs.declared.view.Changes.{Changes}
 use Rattle.desk_rules.specs.declared.view.View.{View}
 use Rattle.desk_rules.specs.Decisions.{Decided, DecidesOwn, called, put_of}
 use Rattle.desk_rules.specs.Shown.{keys_named}
 use Rattle.desk_rules.specs.Room.{takes_off}
-use Rattle.desk_rules.specs.Refusals.{raise_refusal, refuse_if}
+use Rattle.desk_history.specs.Refusals.{raise_refusal, refuse_if}
 use Rattle.desk_rules.specs.Views.{generation_in}
 use Rattle.desk_rules.proofs.DecisionLemmas.{among_one, decided}
-use Rattle.desk_rules.proofs.ListLemmas.{any_once, bytes_eq-refl, same_text}
+use Rattle.desk_history.proofs.ListLemmas.{any_once, bytes_eq-refl, same_text}
 use Rattle.desk_rules.proofs.StandingLemmas.{named_some, shown_generation}
 
 pub bytes_eq-comm : (a b : List ℕ) → bytes_eq a b ≡ bytes_eq b a

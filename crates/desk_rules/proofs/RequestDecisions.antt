@@ -14,30 +14,30 @@ use Rattle.desk_texts.specs.declared.command.Command.TheVariants as command
 use Rattle.desk_texts.specs.declared.command.Handback.{Handback}
 use Rattle.desk_texts.specs.declared.facts.Facts.{Facts}
 use Rattle.desk_texts.specs.declared.reply.Reply.TheVariants as replies
-use Rattle.desk_texts.specs.declared.rows.RequestRow.{RequestRow}
-use Rattle.desk_texts.specs.declared.rows.Voted.{Voted}
+use Rattle.desk_history.specs.declared.rows.RequestRow.{RequestRow}
+use Rattle.desk_history.specs.declared.rows.Voted.{Voted}
 use Rattle.desk_texts.specs.declared.state.State.{State}
 use Rattle.desk_texts.specs.declared.state.State.TheVariants as states
 use Rattle.desk_texts.specs.declared.vote.Vote.{Vote}
 use Rattle.desk_texts.specs.declared.vote.Vote.TheVariants as vote
-use Rattle.desk_texts.specs.declared.write.Write.TheVariants as writes
+use Rattle.desk_history.specs.declared.write.Write.TheVariants as writes
 use Rattle.desk_texts.specs.Callers.{caller_name}
-use Rattle.desk_texts.specs.Calls.{History}
-use Rattle.desk_texts.specs.Requests.{Request, has_number, is_returned, is_vote_of, is_withdrawn, is_yes, request, requests, returns, state, state_by, state_by_votes, votes, votes_on}
-use Rattle.desk_texts.specs.Tables.{request_row, return_row, tables}
-use Rattle.desk_texts.specs.Writes.{set_state}
+use Rattle.desk_history.specs.Calls.{History}
+use Rattle.desk_history.specs.Requests.{Request, has_number, is_returned, is_vote_of, is_withdrawn, is_yes, request, requests, returns, state, state_by, state_by_votes, votes, votes_on}
+use Rattle.desk_history.specs.Tables.{request_row, return_row, tables}
+use Rattle.desk_history.specs.Writes.{set_state}
 use Rattle.desk_rules.specs.declared.view.Changes.{Changes}
 use Rattle.desk_rules.specs.declared.view.View.{View}
 use Rattle.desk_rules.specs.Decisions.{Decided, MatchesOwn, called, handback_row, outcome_after, seen_return, seen_review, seen_withdraw, state_after, state_with, vote_row}
 use Rattle.desk_rules.specs.Shown.{Shows, is_request_row}
-use Rattle.desk_rules.specs.Refusals.{image_refusal, return_by, return_refusal, review_by, review_refusal, withdraw_by, withdraw_refusal}
-use Rattle.desk_rules.specs.Verdicts.{bars, is_barred, lists_image, standing, stands_in_db}
+use Rattle.desk_history.specs.Refusals.{image_refusal, return_by, return_refusal, review_by, review_refusal, withdraw_by, withdraw_refusal}
+use Rattle.desk_history.specs.Verdicts.{bars, is_barred, lists_image, standing, stands_in_db}
 use Rattle.desk_rules.specs.Views.{keys_of, seen_standing}
-use Rattle.desk_rules.proofs.CountLemmas.{one_if}
+use Rattle.desk_history.proofs.CountLemmas.{one_if}
 use Rattle.desk_rules.proofs.DecisionLemmas.{decided}
-use Rattle.desk_rules.proofs.ListLemmas.{number_is}
-use Rattle.desk_rules.proofs.RefusalLemmas.{no_refusal}
-use Rattle.desk_rules.proofs.RequestLemmas.{count_more}
+use Rattle.desk_history.proofs.ListLemmas.{number_is}
+use Rattle.desk_history.proofs.RefusalLemmas.{no_refusal}
+use Rattle.desk_history.proofs.RequestLemmas.{count_more}
 use Rattle.desk_rules.proofs.StandingLemmas.{agrees, bars_alike, lists_alike}
 
 other_number : (k n : ℕ) → (k == n) ≡ false → (n == k) ≡ false

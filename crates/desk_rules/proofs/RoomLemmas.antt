@@ -7,27 +7,27 @@ use Rattle.std.proofs.lemmas.Bool.Decides.{nat_tests}
 use Rattle.std.proofs.lemmas.List.{length-map}
 use Rattle.desk_texts.specs.declared.command.Call.{Call}
 use Rattle.desk_texts.specs.declared.kind.ListedKind.TheVariants as kinds
-use Rattle.desk_texts.specs.declared.write.Write.{Write}
-use Rattle.desk_texts.specs.declared.write.Write.TheVariants as writes
-use Rattle.desk_texts.specs.Calls.{History, once}
-use Rattle.desk_texts.specs.Level.{generations, names}
-use Rattle.desk_texts.specs.Listing.{listed}
-use Rattle.desk_texts.specs.People.{people}
-use Rattle.desk_texts.specs.Replies.{minutes}
-use Rattle.desk_texts.specs.Requests.{requests, state}
-use Rattle.desk_texts.specs.Revocations.{revocations}
-use Rattle.desk_texts.specs.Tables.{Tables, level_row, request_row, tables}
-use Rattle.desk_texts.specs.Writes.{all_written, set_generation, set_state, written}
-use Rattle.desk_rules.specs.declared.limits.TheConstants.{MOST_CALLS, MOST_LEVEL_COMPONENTS, MOST_LISTED, MOST_PEOPLE, MOST_REQUESTS, MOST_REVOKED_CERTIFICATES, MOST_REVOKED_DIGESTS}
+use Rattle.desk_history.specs.declared.write.Write.{Write}
+use Rattle.desk_history.specs.declared.write.Write.TheVariants as writes
+use Rattle.desk_history.specs.Calls.{History, once}
+use Rattle.desk_history.specs.Level.{generations, names}
+use Rattle.desk_history.specs.Listing.{listed}
+use Rattle.desk_history.specs.People.{people}
+use Rattle.desk_history.specs.Replies.{minutes}
+use Rattle.desk_history.specs.Requests.{requests, state}
+use Rattle.desk_history.specs.Revocations.{revocations}
+use Rattle.desk_history.specs.Tables.{Tables, level_row, request_row, tables}
+use Rattle.desk_history.specs.Writes.{all_written, set_generation, set_state, written}
+use Rattle.desk_history.specs.declared.limits.TheConstants.{MOST_CALLS, MOST_LEVEL_COMPONENTS, MOST_LISTED, MOST_PEOPLE, MOST_REQUESTS, MOST_REVOKED_CERTIFICATES, MOST_REVOKED_DIGESTS}
 use Rattle.desk_rules.specs.declared.view.Counted.TheVariants as kept
 use Rattle.desk_rules.specs.declared.view.Sizes.{Sizes}
 use Rattle.desk_rules.specs.Shown.{sizes_of}
-use Rattle.desk_rules.specs.Limits.{is_within}
+use Rattle.desk_history.specs.Limits.{is_within}
 use Rattle.desk_rules.specs.Room.{IsRoomed, has_room, puts, takes_off}
-use Rattle.desk_rules.specs.Runs.{is_legal}
-use Rattle.desk_rules.proofs.CountLemmas.{one_if}
-use Rattle.desk_rules.proofs.RequestLemmas.{count_more}
-use Rattle.desk_rules.proofs.RunLemmas.{legal_listed}
+use Rattle.desk_history.specs.Runs.{is_legal}
+use Rattle.desk_history.proofs.CountLemmas.{one_if}
+use Rattle.desk_history.proofs.RequestLemmas.{count_more}
+use Rattle.desk_history.proofs.RunLemmas.{legal_listed}
 
 -- a measure of the tables that each write of a kind makes one more
 grows : (f : Tables → ℕ) (p : Write → Bool) → ((w : Write) (t : Tables) → f (written w t) ≡ one_if (p w) + f t) → (ws : List Write) (t : Tables) → f (all_written ws t) ≡ count_by p ws + f t

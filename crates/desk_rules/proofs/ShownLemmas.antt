@@ -6,19 +6,18 @@ use Rattle.std.proofs.lemmas.List.Sorted.{IsPermutation-refl}
 use Rattle.desk_texts.specs.declared.command.Call.{Call}
 use Rattle.desk_texts.specs.declared.kind.ListedKind.{ListedKind}
 use Rattle.desk_texts.specs.declared.kind.ListedKind.TheVariants as kinds
-use Rattle.desk_texts.specs.declared.rows.Entry.{Entry}
-use Rattle.desk_texts.specs.declared.rows.Voted.{Voted}
+use Rattle.desk_history.specs.declared.rows.Entry.{Entry}
+use Rattle.desk_history.specs.declared.rows.Voted.{Voted}
 use Rattle.desk_texts.specs.Callers.{caller_name}
-use Rattle.desk_texts.specs.Calls.{is_among}
-use Rattle.desk_texts.specs.Listing.{has_entry, is_entry}
-use Rattle.desk_texts.specs.People.{has_name, has_token}
-use Rattle.desk_texts.specs.Requests.{votes_on}
-use Rattle.desk_texts.specs.Tables.{Tables}
-use Rattle.desk_texts.specs.Writes.{is_named}
+use Rattle.desk_history.specs.Calls.{is_among}
+use Rattle.desk_history.specs.Listing.{has_entry, is_entry}
+use Rattle.desk_history.specs.People.{has_name, has_token}
+use Rattle.desk_history.specs.Requests.{votes_on}
+use Rattle.desk_history.specs.Tables.{Tables}
+use Rattle.desk_history.specs.Writes.{is_named}
 use Rattle.desk_rules.specs.declared.view.View.{View}
-use Rattle.desk_rules.specs.Shown.{HoldsWhole, is_request_row, key_of, keys_named}
-use Rattle.desk_rules.specs.Laws.{WholeTablesShow}
-use Rattle.desk_rules.specs.Runs.{has_key}
+use Rattle.desk_rules.specs.Shown.{HoldsWhole, WholeTablesShow, is_request_row, key_of, keys_named}
+use Rattle.desk_history.specs.Runs.{has_key}
 use Rattle.desk_rules.specs.Views.{ShowsLists, is_listing, revoked_rows, seen_revoked}
 
 -- the keys of rows have a listing exactly where the rows have the entry

@@ -8,17 +8,17 @@ use Rattle.sbat.specs.declared.component.Component.{Component}
 use Rattle.desk_texts.specs.declared.facts.Facts.{Facts}
 use Rattle.desk_texts.specs.declared.kind.ListedKind.{ListedKind}
 use Rattle.desk_texts.specs.declared.kind.ListedKind.TheVariants as kinds
-use Rattle.desk_texts.specs.Calls.{History, is_among}
-use Rattle.desk_texts.specs.Level.{generations, greater_of, greatest, is_sbat, names}
-use Rattle.desk_texts.specs.Revocations.{revocations}
-use Rattle.desk_texts.specs.Tables.{level_row, level_rows, tables}
-use Rattle.desk_texts.specs.Writes.{is_named}
-use Rattle.desk_rules.specs.declared.finding.Verdict.{Verdict}
-use Rattle.desk_rules.specs.declared.view.ListView.{ListView}
-use Rattle.desk_rules.specs.Verdicts.{Standing, bars, first_below, has_revoked_certificate, has_revoked_digest, is_below, is_less, lack_at, lists_image, standing, verdict, verdict_by, verdict_on}
+use Rattle.desk_history.specs.Calls.{History, is_among}
+use Rattle.desk_history.specs.Level.{generations, greater_of, greatest, is_sbat, names}
+use Rattle.desk_history.specs.Revocations.{revocations}
+use Rattle.desk_history.specs.Tables.{level_row, level_rows, tables}
+use Rattle.desk_history.specs.Writes.{is_named}
+use Rattle.desk_history.specs.declared.finding.Verdict.{Verdict}
+use Rattle.desk_rules.specs.declared.list_view.ListView.{ListView}
+use Rattle.desk_history.specs.Verdicts.{Standing, bars, first_below, has_revoked_certificate, has_revoked_digest, is_below, is_less, lack_at, lists_image, standing, verdict, verdict_by, verdict_on}
 use Rattle.desk_rules.specs.Views.{Keys, ShowsLists, generation_in, keys_for, keys_of, seen_standing}
-use Rattle.desk_rules.proofs.ListLemmas.{any_once, bytes_eq-refl, same_text}
-use Rattle.desk_rules.proofs.ListingLemmas.{listed_rows_are_listed}
+use Rattle.desk_history.proofs.ListLemmas.{any_once, bytes_eq-refl, same_text}
+use Rattle.desk_history.proofs.ListingLemmas.{listed_rows_are_listed}
 
 -- both say the same of these keys
 pub record Agree (s u : Standing) (k : Keys) : Type 0 where

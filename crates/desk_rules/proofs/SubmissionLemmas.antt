@@ -14,39 +14,35 @@ use Rattle.desk_texts.specs.declared.command.Command.TheVariants as command
 use Rattle.desk_texts.specs.declared.command.Submission.{Submission}
 use Rattle.desk_texts.specs.declared.facts.Facts.{Facts}
 use Rattle.desk_texts.specs.declared.reply.Reply.TheVariants as replies
-use Rattle.desk_texts.specs.declared.rows.RequestCertificateRow.{RequestCertificateRow}
-use Rattle.desk_texts.specs.declared.rows.RequestComponentRow.{RequestComponentRow}
-use Rattle.desk_texts.specs.declared.rows.Voted.{Voted}
+use Rattle.desk_history.specs.declared.rows.RequestCertificateRow.{RequestCertificateRow}
+use Rattle.desk_history.specs.declared.rows.RequestComponentRow.{RequestComponentRow}
+use Rattle.desk_history.specs.declared.rows.Voted.{Voted}
 use Rattle.desk_texts.specs.declared.state.State.{State}
 use Rattle.desk_texts.specs.declared.state.State.TheVariants as states
-use Rattle.desk_texts.specs.declared.write.Write.{Write}
-use Rattle.desk_texts.specs.declared.write.Write.TheVariants as writes
+use Rattle.desk_history.specs.declared.write.Write.{Write}
+use Rattle.desk_history.specs.declared.write.Write.TheVariants as writes
 use Rattle.desk_texts.specs.Callers.{caller_name}
-use Rattle.desk_texts.specs.Calls.{History}
-use Rattle.desk_texts.specs.Requests.{Request, Submitted, has_number, is_returned, is_withdrawn, numbered, request, requests, state, state_by, submitted, votes, votes_on}
-use Rattle.desk_texts.specs.Tables.{Tables, certificate_rows, component_rows, request_row, tables}
-use Rattle.desk_texts.specs.Writes.{all_written, written}
+use Rattle.desk_history.specs.Calls.{History}
+use Rattle.desk_history.specs.Requests.{Request, Submitted, has_number, is_returned, is_withdrawn, numbered, request, requests, state, state_by, submitted, votes, votes_on}
+use Rattle.desk_history.specs.Tables.{Tables, certificate_rows, component_rows, request_row, tables}
+use Rattle.desk_history.specs.Writes.{all_written, written}
 use Rattle.desk_rules.specs.declared.view.Changes.{Changes}
 use Rattle.desk_rules.specs.declared.view.View.{View}
 use Rattle.desk_rules.specs.Decisions.{Decided, MatchesOwn, called, submission_writes}
 use Rattle.desk_rules.specs.Shown.{Shows}
 use Rattle.desk_rules.specs.Room.{takes_off}
-use Rattle.desk_rules.specs.Refusals.{own_refusal, refuse_if, return_refusal, review_refusal, withdraw_refusal}
-use Rattle.desk_rules.specs.Runs.{answer, is_accepted, is_legal}
-use Rattle.desk_rules.specs.Steps.{request_of}
-use Rattle.desk_rules.specs.Verdicts.{bars, lists_image, standing}
+use Rattle.desk_history.specs.Refusals.{own_refusal, refuse_if, return_refusal, review_refusal, withdraw_refusal}
+use Rattle.desk_history.specs.Runs.{answer, is_accepted, is_legal}
+use Rattle.desk_history.specs.Requests.{request_of}
+use Rattle.desk_history.specs.Verdicts.{bars, lists_image, standing}
 use Rattle.desk_rules.specs.Views.{keys_of, seen_standing}
 use Rattle.desk_rules.proofs.DecisionLemmas.{decided}
-use Rattle.desk_rules.proofs.ListLemmas.{number_above, number_is}
-use Rattle.desk_rules.proofs.RefusalLemmas.{no_refusal}
-use Rattle.desk_rules.proofs.RequestLemmas.{length_numbered}
-use Rattle.desk_rules.proofs.RunLemmas.{IsNew, accepted_parts, legal_room}
+use Rattle.desk_history.proofs.ListLemmas.{number_above, number_is}
+use Rattle.desk_history.proofs.RefusalLemmas.{no_refusal}
+use Rattle.desk_history.proofs.WriteLemmas.{written-append}
+use Rattle.desk_history.proofs.RequestLemmas.{length_numbered}
+use Rattle.desk_history.proofs.RunLemmas.{IsNew, accepted_parts, legal_room}
 use Rattle.desk_rules.proofs.StandingLemmas.{agrees, bars_alike}
-
--- the writes of two lists are made one after the other
-pub written-append : (ws vs : List Write) (t : Tables) → all_written (ws ++ vs) t ≡ all_written vs (all_written ws t)
-written-append [] vs t = refl
-written-append (w ∷ ws) vs t = written-append ws vs (written w t)
 
 -- one row more in front of others turned round
 pub turned : {X : Type 0} (x : X) (xs rest : List X) → reverse xs ++ x ∷ rest ≡ reverse (x ∷ xs) ++ rest

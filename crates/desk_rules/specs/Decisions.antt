@@ -13,31 +13,31 @@ use Rattle.desk_texts.specs.declared.command.Handback.{Handback}
 use Rattle.desk_texts.specs.declared.command.Submission.{Submission}
 use Rattle.desk_texts.specs.declared.reply.Outcome.{Outcome}
 use Rattle.desk_texts.specs.declared.reply.Reply.{Reply}
-use Rattle.desk_texts.specs.declared.rows.Minute.{Minute}
-use Rattle.desk_texts.specs.declared.rows.RequestCertificateRow.{RequestCertificateRow}
-use Rattle.desk_texts.specs.declared.rows.ReturnRow.{ReturnRow}
-use Rattle.desk_texts.specs.declared.rows.Voted.{Voted}
+use Rattle.desk_history.specs.declared.rows.Minute.{Minute}
+use Rattle.desk_history.specs.declared.rows.RequestCertificateRow.{RequestCertificateRow}
+use Rattle.desk_history.specs.declared.rows.ReturnRow.{ReturnRow}
+use Rattle.desk_history.specs.declared.rows.Voted.{Voted}
 use Rattle.desk_texts.specs.declared.state.State.{State}
 use Rattle.desk_texts.specs.declared.state.State.TheVariants as states
 use Rattle.desk_texts.specs.declared.vote.Vote.{Vote}
 use Rattle.desk_texts.specs.declared.vote.Vote.TheVariants as votes
-use Rattle.desk_texts.specs.declared.write.Write.{Write}
-use Rattle.desk_texts.specs.declared.write.Write.TheVariants as writes
+use Rattle.desk_history.specs.declared.write.Write.{Write}
+use Rattle.desk_history.specs.declared.write.Write.TheVariants as writes
 use Rattle.desk_texts.specs.Callers.{caller_name}
-use Rattle.desk_texts.specs.Calls.{History}
-use Rattle.desk_texts.specs.Replies.{minutes, reply}
-use Rattle.desk_texts.specs.Requests.{is_vote_of, is_yes, votes_on}
-use Rattle.desk_texts.specs.Tables.{certificate_rows, component_rows, request_row, return_row, tables}
-use Rattle.desk_texts.specs.Writes.{all_written}
-use Rattle.desk_rules.specs.declared.answer.Answer.TheVariants.{Accepted, Refused, Repeated}
+use Rattle.desk_history.specs.Calls.{History}
+use Rattle.desk_history.specs.Replies.{minutes, reply}
+use Rattle.desk_history.specs.Requests.{is_vote_of, is_yes, votes_on}
+use Rattle.desk_history.specs.Tables.{certificate_rows, component_rows, request_row, return_row, tables}
+use Rattle.desk_history.specs.Writes.{all_written}
+use Rattle.desk_history.specs.declared.answer.Answer.TheVariants.{Accepted, Refused, Repeated}
 use Rattle.desk_rules.specs.declared.view.Changes.{Changes}
 use Rattle.desk_rules.specs.declared.view.View.{View}
 use Rattle.desk_rules.specs.Room.{IsRoomed, has_room}
-use Rattle.desk_rules.specs.Refusals.{image_refusal, own_refusal, return_by, review_by, withdraw_by}
-use Rattle.desk_rules.specs.Runs.{answer, is_legal, next, repeated}
+use Rattle.desk_history.specs.Refusals.{image_refusal, own_refusal, return_by, review_by, withdraw_by}
+use Rattle.desk_history.specs.Runs.{answer, is_legal, next, repeated}
 use Rattle.desk_rules.specs.Shown.{Shows, is_request_row}
-use Rattle.desk_rules.specs.Steps.{request_of}
-use Rattle.desk_rules.specs.Verdicts.{bars, lists_image}
+use Rattle.desk_history.specs.Requests.{request_of}
+use Rattle.desk_history.specs.Verdicts.{bars, lists_image}
 use Rattle.desk_rules.specs.Views.{seen_standing}
 
 -- what the call is answered after this history, and the tables of the history that it leaves

@@ -4,12 +4,12 @@ use Rattle.std.specs.FinMap.{get}
 use Rattle.std.specs.List.{list_any}
 use Rattle.sbat.specs.declared.component.Component.{Component}
 use Rattle.sbat.specs.Levels.{Generations}
-use Rattle.desk_texts.specs.declared.write.Write.{Write}
-use Rattle.desk_texts.specs.declared.write.Write.TheVariants as writes
-use Rattle.desk_texts.specs.Calls.{is_among, once}
-use Rattle.desk_texts.specs.Level.{greatest, is_above, is_sbat}
-use Rattle.desk_texts.specs.Tables.{Tables, level_rows}
-use Rattle.desk_texts.specs.Writes.{all_written}
+use Rattle.desk_history.specs.declared.write.Write.{Write}
+use Rattle.desk_history.specs.declared.write.Write.TheVariants as writes
+use Rattle.desk_history.specs.Calls.{is_among, once}
+use Rattle.desk_history.specs.Level.{greatest, is_above, is_sbat}
+use Rattle.desk_history.specs.Tables.{Tables, level_rows}
+use Rattle.desk_history.specs.Writes.{all_written}
 use Rattle.desk_rules.specs.declared.decisions.imports.SoFar.{SoFar}
 use Rattle.desk_rules.specs.Room.{takes_off}
 use Rattle.desk_rules.specs.Views.{generation_in}

@@ -1,13 +1,5 @@
 pub mod Decisions
 pub mod ImportSteps
-pub mod Laws
-pub mod Limits
-pub mod Lives
-pub mod Refusals
-pub mod Repeats
 pub mod Room
-pub mod Runs
 pub mod Shown
-pub mod Steps
-pub mod Verdicts
 pub mod Views

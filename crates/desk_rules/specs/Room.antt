@@ -2,11 +2,11 @@
 use Rattle.std.specs.Prelude.{◌≡◌, ◌≤◌, ◌⊎◌, ◌+◌, Bool, true, false, ◌&&◌, nat_le, List, ◌∷◌, length, count_by}
 use Rattle.std.specs.List.{list_any}
 use Rattle.desk_texts.specs.declared.command.Call.{Call}
-use Rattle.desk_texts.specs.declared.write.Write.{Write}
-use Rattle.desk_texts.specs.declared.write.Write.TheVariants as writes
-use Rattle.desk_texts.specs.Calls.{History}
-use Rattle.desk_texts.specs.Listing.{listed}
-use Rattle.desk_rules.specs.declared.limits.TheConstants.{MOST_CALLS, MOST_LEVEL_COMPONENTS, MOST_LISTED, MOST_PEOPLE, MOST_REQUESTS, MOST_REVOKED_CERTIFICATES, MOST_REVOKED_DIGESTS}
+use Rattle.desk_history.specs.declared.write.Write.{Write}
+use Rattle.desk_history.specs.declared.write.Write.TheVariants as writes
+use Rattle.desk_history.specs.Calls.{History}
+use Rattle.desk_history.specs.Listing.{listed}
+use Rattle.desk_history.specs.declared.limits.TheConstants.{MOST_CALLS, MOST_LEVEL_COMPONENTS, MOST_LISTED, MOST_PEOPLE, MOST_REQUESTS, MOST_REVOKED_CERTIFICATES, MOST_REVOKED_DIGESTS}
 use Rattle.desk_rules.specs.declared.view.Counted.{Counted}
 use Rattle.desk_rules.specs.declared.view.Counted.TheVariants as counted
 use Rattle.desk_rules.specs.declared.view.Sizes.{Sizes}

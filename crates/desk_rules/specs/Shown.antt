@@ -7,15 +7,15 @@ use Rattle.desk_texts.specs.declared.command.Command.TheVariants as command
 use Rattle.desk_texts.specs.declared.command.Listing.{Listing}
 use Rattle.desk_texts.specs.declared.kind.ListedKind.{ListedKind}
 use Rattle.desk_texts.specs.declared.kind.ListedKind.TheVariants as kinds
-use Rattle.desk_texts.specs.declared.rows.Entry.{Entry}
-use Rattle.desk_texts.specs.declared.rows.RequestRow.{RequestRow}
+use Rattle.desk_history.specs.declared.rows.Entry.{Entry}
+use Rattle.desk_history.specs.declared.rows.RequestRow.{RequestRow}
 use Rattle.desk_texts.specs.Callers.{caller_name}
-use Rattle.desk_texts.specs.People.{has_name, has_token}
-use Rattle.desk_texts.specs.Requests.{votes_on}
-use Rattle.desk_texts.specs.Tables.{Tables}
+use Rattle.desk_history.specs.People.{has_name, has_token}
+use Rattle.desk_history.specs.Requests.{votes_on}
+use Rattle.desk_history.specs.Tables.{Tables}
 use Rattle.desk_rules.specs.declared.view.Sizes.{Sizes}
 use Rattle.desk_rules.specs.declared.view.View.{View}
-use Rattle.desk_rules.specs.Runs.{has_key}
+use Rattle.desk_history.specs.Runs.{has_key}
 use Rattle.desk_rules.specs.Views.{Keys, ShowsLists, keys_of}
 
 -- the names of people that a command has
@@ -102,3 +102,7 @@ pub record HoldsWhole (v : View) (t : Tables) : Type 0 where
   pub revoked_digests : v.lists.revoked_digests.items ≡ t.revoked_digests
   pub revoked_certificates : v.lists.revoked_certificates.items ≡ t.revoked_certificates
   pub components : v.lists.components.items ≡ t.components
+
+-- a view of whole tables shows them for every call
+abbrev pub WholeTablesShow : Type 0
+WholeTablesShow = (v : View) (t : Tables) (c : Call) → HoldsWhole v t → Shows v t c

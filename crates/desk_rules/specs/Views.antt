@@ -6,14 +6,14 @@ use Rattle.desk_texts.specs.declared.command.Listing.{Listing}
 use Rattle.desk_texts.specs.declared.facts.Facts.{Facts}
 use Rattle.desk_texts.specs.declared.kind.ListedKind.{ListedKind}
 use Rattle.desk_texts.specs.declared.kind.ListedKind.TheVariants as kinds
-use Rattle.desk_texts.specs.Calls.{History, is_among, is_same_kind}
-use Rattle.desk_texts.specs.Level.{is_sbat}
-use Rattle.desk_texts.specs.Listing.{has_entry}
-use Rattle.desk_texts.specs.Tables.{Tables, tables}
-use Rattle.desk_texts.specs.Writes.{is_named}
-use Rattle.desk_rules.specs.declared.finding.Verdict.{Verdict}
-use Rattle.desk_rules.specs.declared.view.ListView.{ListView}
-use Rattle.desk_rules.specs.Verdicts.{Standing, verdict}
+use Rattle.desk_history.specs.Calls.{History, is_among, is_same_kind}
+use Rattle.desk_history.specs.Level.{is_sbat}
+use Rattle.desk_history.specs.Listing.{has_entry}
+use Rattle.desk_history.specs.Tables.{Tables, tables}
+use Rattle.desk_history.specs.Writes.{is_named}
+use Rattle.desk_history.specs.declared.finding.Verdict.{Verdict}
+use Rattle.desk_rules.specs.declared.list_view.ListView.{ListView}
+use Rattle.desk_history.specs.Verdicts.{Standing, verdict}
 
 -- the listing has this kind and digest
 abbrev pub is_listing : ListedKind → List ℕ → Listing → Bool

@@ -1,45 +1,33 @@
 //! Decisions over a view: what each command's own conditions say, and what it writes.
 mod imports;
+mod level;
 mod lists;
 mod people;
 mod requests;
 mod submissions;
 
-ghost use Rattle.std.specs.Prelude.{◌≡◌, ◌≤◌, ◌+◌, [], ◌∷◌, ◌++◌, IfErr, MatchOption, MatchResult, OnOk};
-ghost use Rattle.desk_texts.specs.Callers.{caller_name};
+ghost use Rattle.std.specs.Prelude.{◌≡◌, ◌≤◌, ◌+◌, [], ◌∷◌, ◌++◌, MatchOption, OnOk};
 ghost use Rattle.desk_rules.specs.Decisions.{DecidesOwn, Gives};
 ghost use Rattle.desk_texts.specs.declared.command.Command.TheVariants.{Submit};
 
-use crate::tabling;
 use crate::view::{Changes, View};
 use desk_bytes::Refusal;
-use desk_texts::{Caller, Command, PersonName, Reply, RequestNumber, Submission, Write};
+use desk_history::Write;
+use desk_texts::{Caller, Command, Reply, RequestNumber, Submission};
 use imports::import;
-use lists::{
-    list_certificate, list_digest, raise_level, revoke_certificate, revoke_digest, unlist,
-};
+use level::raise_level;
+use lists::{list_certificate, list_digest, revoke_certificate, revoke_digest, unlist};
 use people::add_person;
 use requests::{hand_back, review, withdraw};
-use std::alloc::Global;
+use std::alloc::{AllocError, Global};
 use submissions::submit;
 
-/// The name under which the minutes hold the caller. Takes memory for it.
-pub(crate) fn name_of(alloc: Global, caller: &Caller) -> Result<PersonName, Refusal>
-    ensures { MatchResult result (λ name. name ≡ caller_name caller.now)
-        (λ refusal. refusal ≡ Refusal.NoMemory) }
+/// Puts the item after the others. Takes memory for it.
+pub(crate) fn push<T: Drop>(items: &mut Vec<T>, item: T) -> Result<(), AllocError>
+    ensures { OnOk result (items.new.items ≡ items.old.items ++ item ∷ []) }
 {
-    tabling::name_of(alloc, caller).map_err(|_| Refusal::NoMemory)
-}
-
-/// Puts the write after the others.
-pub(crate) fn push(writes: &mut Vec<Write>, write: Write) -> Result<(), Refusal>
-    ensures ok { OnOk result (writes.new.items ≡ writes.old.items ++ write ∷ []) }
-    ensures err { IfErr result (λ refusal. refusal ≡ Refusal.NoMemory) }
-{
-    match writes.push(write) {
-        Ok(()) => Ok(()),
-        Err(_) => Err(Refusal::NoMemory),
-    }
+    items.push(item)?;
+    Ok(())
 }
 
 /// The changes of one write.

@@ -1,21 +1,26 @@
-//! Verdicts over a view.
+//! Rows of the tables that a verdict is given from, and the verdict.
 ghost use Rattle.std.specs.Prelude.{◌≡◌, find, option_copied};
-ghost use Rattle.std.specs.List.{list_any};
-ghost use Rattle.desk_texts.specs.Calls.{is_among};
-ghost use Rattle.desk_texts.specs.Writes.{is_named};
-ghost use Rattle.desk_rules.specs.Verdicts.{verdict_on};
+ghost use Rattle.desk_history.specs.Writes.{is_named};
 ghost use Rattle.desk_rules.specs.Views as spec;
 
-use crate::finding::Verdict;
-use crate::level::is_sbat;
-use crate::listed::is_same;
-use crate::revoked::is_one_of;
-use crate::standing::Standing;
-use crate::verdicts::verdict_of;
-use crate::view::ListView;
 use desk_bytes::Digest;
-use desk_texts::{Facts, ListedKind};
+use desk_history::{Standing, Verdict, is_same, verdict_of};
+use desk_texts::{Facts, ListedKind, Listing};
 use sbat::{Component, ComponentName, Generation};
+
+/// The rows that a verdict on an image is given from: of what is listed, what is revoked and the SBAT level, those whose
+/// keys the image's facts have. It may have others.
+#[derive(Drop)]
+pub struct ListView {
+    /// The keys of the listed entries.
+    pub listed: Vec<Listing>,
+    /// The revoked digests of images.
+    pub revoked_digests: Vec<Digest>,
+    /// The revoked digests of certificates.
+    pub revoked_certificates: Vec<Digest>,
+    /// The level's components.
+    pub components: Vec<Component>,
+}
 
 /// The row of this name.
 pub(crate) fn row_of<'a>(rows: &'a [Component], name: &ComponentName) -> Option<&'a Component>
@@ -47,7 +52,7 @@ impl Standing for ListView {
     ghost standing = { spec.seen_standing };
 
     fn is_revoked(&self, kind: ListedKind, digest: Digest) -> bool {
-        is_one_of(self.revoked(kind), digest)
+        self.revoked(kind).iter().any(|row| digest == *row)
     }
 
     fn is_listed(&self, kind: ListedKind, digest: Digest) -> bool {
@@ -57,7 +62,7 @@ impl Standing for ListView {
     }
 
     fn asked(&self, name: &ComponentName) -> Option<Generation> {
-        if is_sbat(name) {
+        if name.is_sbat() {
             Generation::new(1)
         } else {
             self.generation(name)

@@ -1,21 +1,8 @@
-//! Rows of the tables that a verdict or a decision is made from, and what a decision changes.
-use desk_bytes::Digest;
-use desk_texts::{Listing, Minute, Person, Reply, RequestRow, Voted, Write};
-use sbat::{Component, Stamp};
-
-/// The rows that a verdict on an image is given from: of what is listed, what is revoked and the SBAT level, those whose
-/// keys the image's facts have. It may have others.
-#[derive(Drop)]
-pub struct ListView {
-    /// The keys of the listed entries.
-    pub listed: Vec<Listing>,
-    /// The revoked digests of images.
-    pub revoked_digests: Vec<Digest>,
-    /// The revoked digests of certificates.
-    pub revoked_certificates: Vec<Digest>,
-    /// The level's components.
-    pub components: Vec<Component>,
-}
+//! Rows of the tables that a decision is made from, and what it changes.
+use crate::list_view::ListView;
+use desk_history::{Minute, RequestRow, Voted, Write};
+use desk_texts::{Person, Reply};
+use sbat::Stamp;
 
 /// A table whose rows a limit of the desk counts, but for that of calls.
 #[derive(Clone, Copy, Debug, PartialEq, Eq)]

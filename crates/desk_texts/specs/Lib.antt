@@ -1,5 +1,4 @@
 pub mod Callers
-pub mod Calls
 pub mod Carrying
 pub mod Certificates
 pub mod CommandTexts
@@ -8,14 +7,6 @@ pub mod Extents
 pub mod Forms
 pub mod Imports
 pub mod Items
-pub mod Level
-pub mod Listing
-pub mod People
 pub mod Raising
-pub mod Replies
 pub mod ReplyTexts
-pub mod Requests
-pub mod Revocations
-pub mod Tables
 pub mod Words
-pub mod Writes

@@ -1,9 +1,9 @@
 //! Who calls.
-ghost use Rattle.std.specs.Prelude.{◌≡◌};
+ghost use Rattle.std.specs.Prelude.{◌≡◌, IfOk};
 ghost use Rattle.desk_texts.specs.Callers.{caller_name};
 
 use crate::PersonName;
-use std::alloc::AllocError;
+use std::alloc::{AllocError, Global};
 
 /// Who calls: the command line of the desk's own machine, or a person.
 #[derive(Debug, Drop)]
@@ -20,6 +20,19 @@ impl Caller {
         match self {
             Caller::Console => "console",
             Caller::Person(name) => name.as_str(),
+        }
+    }
+
+    /// The same name in the type of people's names. Takes memory for it.
+    pub fn to_person_name(&self, alloc: Global) -> Result<PersonName, AllocError>
+        ensures { IfOk result (λ name. name ≡ caller_name self.now) }
+    {
+        match self {
+            Caller::Console => match PersonName::parse(alloc, b"console") {
+                Ok(name) => Ok(name),
+                Err(_) => Err(AllocError),
+            },
+            Caller::Person(name) => name.clone(),
         }
     }
 }

@@ -26,12 +26,10 @@ mod reply;
 mod reply_texts;
 mod request_number;
 mod role;
-mod rows;
 mod state;
 mod title;
 mod vote;
 mod words;
-mod write;
 
 pub use caller::Caller;
 pub use carried::{Carried, MOST_CARRIED};
@@ -55,14 +53,9 @@ pub use reply::{Counts, Outcome, Reply};
 pub use reply_texts::reply_text;
 pub use request_number::RequestNumber;
 pub use role::Role;
-pub use rows::{
-    CommandText, Entry, EntryBody, Minute, RequestCertificateRow, RequestComponentRow, RequestRow,
-    ReturnRow, Voted,
-};
 pub use state::State;
 pub use title::Title;
 pub use vote::Vote;
-pub use write::Write;
 
 #[cfg(test)]
 mod tests;

@@ -2,26 +2,25 @@
 ghost use Rattle.std.specs.Prelude.{◌≡◌, ◌+◌, ◌<◌, ◌≤◌, ◌^◌, ◌&&◌, ◌||◌, ◌++◌, ◌∷◌, [], ℕ, List, IfErr, IfOk, IsTrue, OnOk, bytes_eq, false, if◌then◌else◌, map, nat_lt, not, reverse, true};
 ghost use Rattle.std.specs.FinMap.{get};
 ghost use Rattle.sbat.specs.declared.component.Component.{Component as ComponentValue};
-ghost use Rattle.desk_texts.specs.Calls.{is_among};
-ghost use Rattle.desk_texts.specs.Level.{greatest, is_sbat as sbat_name};
+ghost use Rattle.desk_history.specs.Calls.{is_among};
+ghost use Rattle.desk_history.specs.Level.{greatest, is_sbat as sbat_name};
 ghost use Rattle.desk_texts.specs.Raising.{names_no_sbat};
 ghost use Rattle.desk_texts.specs.declared.caller.Caller.{Caller as CallerValue};
 ghost use Rattle.desk_texts.specs.declared.command.Command.TheVariants as Command;
-ghost use Rattle.desk_texts.specs.declared.write.Write.TheVariants as puts;
+ghost use Rattle.desk_history.specs.declared.write.Write.TheVariants as puts;
 ghost use Rattle.desk_rules.specs.Decisions.{DecidesOwn};
 ghost use Rattle.desk_rules.specs.ImportSteps as spec;
-ghost use Rattle.desk_rules.specs.Refusals.{is_later};
+ghost use Rattle.desk_history.specs.Refusals.{is_later};
 ghost use Rattle.desk_rules.specs.Views.{generation_in};
 
-use super::lists::put;
+use super::level::put;
 use super::push;
-use crate::level::{is_above, is_sbat};
-use crate::refusals::is_later;
 use crate::view::{Changes, View};
 use desk_bytes::{Digest, Refusal};
-use desk_texts::{Counts, Import, Reply, Write};
+use desk_history::{Write, is_above, is_later};
+use desk_texts::{Counts, Import, Reply};
 use sbat::{Component, ComponentName, Generation, Level, Stamp};
-use std::alloc::Global;
+use std::alloc::{AllocError, Global};
 use std::collections::BTreeSet;
 
 /// Puts the digest to the known ones, and says whether it is new.
@@ -33,7 +32,7 @@ fn note(known: &mut BTreeSet<Digest>, digest: Digest) -> Result<bool, Refusal>
 {
     match known.insert(digest) {
         Ok(is_new) => Ok(is_new),
-        Err(_) => Err(Refusal::NoMemory),
+        Err(failed) => Err(AllocError::from(failed).into()),
     }
 }
 
@@ -65,10 +64,8 @@ fn take_digest(
     if !note(known, digest)? {
         return Ok(());
     }
-    match new.push(digest) {
-        Ok(()) => Ok(()),
-        Err(_) => Err(Refusal::NoMemory),
-    }
+    push(new, digest)?;
+    Ok(())
 }
 
 /// The named digests that have no row yet, each once, in their order. Costs the time of sorting both.
@@ -90,16 +87,14 @@ fn take_row(level: &mut Level, row: &Component) -> Result<(), Refusal>
         ≡ spec.or_else (get level.old.generations q) (generation_in (row.now ∷ []) q)) }
     ensures err { IfErr result (λ refusal. refusal ≡ Refusal.NoMemory) }
 {
-    if is_sbat(&row.name) {
+    if row.name.is_sbat() {
         return Ok(());
     }
     if level.generation_of(row.name.as_str().as_bytes()).is_some() {
         return Ok(());
     }
-    match level.raise(row) {
-        Ok(()) => Ok(()),
-        Err(_) => Err(Refusal::NoMemory),
-    }
+    level.raise(row)?;
+    Ok(())
 }
 
 /// The level that the rows give, with any stamp.
@@ -171,13 +166,11 @@ fn take_in(before: &Level, component: &Component, so_far: &mut SoFar) -> Result<
         return Ok(());
     }
     so_far.names += u64::from(!has_risen(before, so_far, &component.name));
-    let row = component.clone().map_err(|_| Refusal::NoMemory)?;
+    let row = component.clone()?;
     let write = put(so_far.present(&component.name), row);
     push(&mut so_far.writes, write)?;
-    match so_far.level.raise(component) {
-        Ok(()) => Ok(()),
-        Err(_) => Err(Refusal::NoMemory),
-    }
+    so_far.level.raise(component)?;
+    Ok(())
 }
 
 /// What the components make of a level that has these rows, one after another. Costs the time of sorting both.

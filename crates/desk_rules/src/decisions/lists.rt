@@ -1,17 +1,16 @@
-//! What is listed and revoked, and the level.
+//! What is listed and revoked.
 ghost use Rattle.std.specs.Prelude.{◌≡◌, [], ◌∷◌, not};
-ghost use Rattle.desk_rules.specs.Decisions.{Decided, put_of};
-ghost use Rattle.desk_rules.specs.Refusals.{raise_refusal as raise_refused, refuse_if};
-ghost use Rattle.desk_rules.specs.Views.{generation_in, seen_standing};
-ghost use Rattle.desk_texts.specs.declared.write.Write.TheVariants as puts;
+ghost use Rattle.desk_history.specs.Refusals.{refuse_if};
+ghost use Rattle.desk_history.specs.declared.write.Write.TheVariants as puts;
+ghost use Rattle.desk_rules.specs.Decisions.{Decided};
+ghost use Rattle.desk_rules.specs.Views.{seen_standing};
 
-use super::{one, two};
-use crate::refusals::raise_refusal;
-use crate::standing::Standing;
+use super::one;
+use crate::rows::{certificate_entry, digest_entry};
 use crate::view::{Changes, View};
 use desk_bytes::{Digest, Refusal};
-use desk_texts::{Certificate, Entry, EntryBody, ListedKind, Listing, Raise, Reply, Write};
-use sbat::{Component, Generation};
+use desk_history::{Standing, Write};
+use desk_texts::{Certificate, ListedKind, Listing, Reply};
 use std::alloc::Global;
 
 /// Lists the image of this digest.
@@ -21,16 +20,11 @@ pub(crate) fn list_digest(alloc: Global, view: &View, digest: Digest) -> Result<
         Reply.Listed
         (puts.List (record { kind = ListedKind.Digest; digest = digest; body = [] }) ∷ []) }
 {
-    let kind = ListedKind::Digest;
-    if view.lists.is_listed(kind, digest) {
+    if view.lists.is_listed(ListedKind::Digest, digest) {
         return Err(Refusal::AlreadyListed);
     }
-    let body = EntryBody::new(Vec::new(alloc));
-    one(
-        alloc,
-        Reply::Listed,
-        Write::List(Entry { kind, digest, body }),
-    )
+    let entry = digest_entry(alloc, digest);
+    one(alloc, Reply::Listed, Write::List(entry))
 }
 
 /// Lists the certificate.
@@ -48,18 +42,14 @@ pub(crate) fn list_certificate(
           body = certificate.now.body;
         }) ∷ []) }
 {
-    let kind = ListedKind::Certificate;
-    let digest = certificate.tbs();
-    if view.lists.is_listed(kind, digest) {
+    if view
+        .lists
+        .is_listed(ListedKind::Certificate, certificate.tbs())
+    {
         return Err(Refusal::AlreadyListed);
     }
-    let bytes = Vec::from_slice(alloc, certificate.body()).map_err(|_| Refusal::NoMemory)?;
-    let body = EntryBody::new(bytes);
-    one(
-        alloc,
-        Reply::Listed,
-        Write::List(Entry { kind, digest, body }),
-    )
+    let entry = certificate_entry(alloc, certificate)?;
+    one(alloc, Reply::Listed, Write::List(entry))
 }
 
 /// Takes the entry off.
@@ -100,39 +90,4 @@ pub(crate) fn revoke_certificate(
         return Err(Refusal::AlreadyRevoked);
     }
     one(alloc, Reply::Revoked, Write::RevokeCertificate(digest))
-}
-
-/// The write of the component, whose present generation is this.
-pub(crate) fn put(present: Option<Generation>, component: Component) -> Write
-    ensures { result ≡ put_of present component }
-{
-    match present {
-        None => Write::Component(component),
-        Some(_) => Write::Generation(component),
-    }
-}
-
-/// Why the generation isn't raised.
-fn seen_refusal(view: &View, raise: &Raise) -> Option<Refusal>
-    ensures { result ≡ raise_refused
-        (generation_in view.now.lists.components.items raise.now.component.name) view.now.stamp raise.now }
-{
-    let present = view.lists.generation(&raise.component.name);
-    raise_refusal(present, view.stamp, raise)
-}
-
-/// Raises the generation that is asked of a component.
-pub(crate) fn raise_level(alloc: Global, view: &View, raise: &Raise) -> Result<Changes, Refusal>
-    ensures { Decided result
-        (raise_refused (generation_in view.now.lists.components.items raise.now.component.name) view.now.stamp raise.now)
-        Reply.Raised
-        (put_of (generation_in view.now.lists.components.items raise.now.component.name) raise.now.component
-        ∷ puts.Stamp raise.now.stamp ∷ []) }
-{
-    if let Some(refusal) = seen_refusal(view, raise) {
-        return Err(refusal);
-    }
-    let component = raise.component.clone().map_err(|_| Refusal::NoMemory)?;
-    let row = put(view.lists.generation(&raise.component.name), component);
-    two(alloc, Reply::Raised, row, Write::Stamp(raise.stamp))
 }

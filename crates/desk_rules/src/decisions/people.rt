@@ -1,18 +1,17 @@
 //! People, and what they may do.
 ghost use Rattle.std.specs.Prelude.{◌≡◌, [], ◌∷◌, find, option_copied};
 ghost use Rattle.std.specs.List.{list_any};
-ghost use Rattle.desk_texts.specs.People as spec;
+ghost use Rattle.desk_history.specs.People as spec;
 ghost use Rattle.desk_rules.specs.Decisions.{Decided};
-ghost use Rattle.desk_rules.specs.Refusals.{add_refusal as refusal_of, is_one_of, is_theirs};
-ghost use Rattle.desk_texts.specs.declared.write.Write.TheVariants.{Person as PutPerson};
+ghost use Rattle.desk_history.specs.Refusals.{add_refusal as refusal_of, is_one_of, is_theirs};
+ghost use Rattle.desk_history.specs.declared.write.Write.TheVariants.{Person as PutPerson};
 ghost use Rattle.desk_texts.specs.declared.reply.Reply.TheVariants.{Added};
 
 use super::one;
-use crate::people::is_for;
-use crate::refusals::refuse_if;
 use crate::view::{Changes, View};
 use desk_bytes::{Digest, Refusal};
-use desk_texts::{Caller, Command, Person, PersonName, Reply, Write};
+use desk_history::{Write, is_for, refuse_if};
+use desk_texts::{Caller, Command, Person, PersonName, Reply};
 use std::alloc::Global;
 
 impl View {
@@ -83,7 +82,7 @@ pub(crate) fn add_person(alloc: Global, view: &View, person: &Person) -> Result<
     if let Some(refusal) = view.add_refusal(person) {
         return Err(refusal);
     }
-    let name = person.name.clone().map_err(|_| Refusal::NoMemory)?;
-    let row = person.clone().map_err(|_| Refusal::NoMemory)?;
+    let name = person.name.clone()?;
+    let row = person.clone()?;
     one(alloc, Reply::Added(name), Write::Person(row))
 }

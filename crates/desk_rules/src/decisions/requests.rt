@@ -1,21 +1,19 @@
 //! Votes on requests, withdrawals and returned files.
-ghost use Rattle.std.specs.Prelude.{◌≡◌, [], ◌∷◌, IfErr, IfOk, count_by, find, not, option_copied};
+ghost use Rattle.std.specs.Prelude.{◌≡◌, [], ◌∷◌, count_by, find, not, option_copied};
 ghost use Rattle.std.specs.List.{list_any};
 ghost use Rattle.desk_texts.specs.Callers.{caller_name};
-ghost use Rattle.desk_texts.specs.Requests.{is_vote_of, is_yes, votes_on};
+ghost use Rattle.desk_history.specs.Requests.{is_vote_of, is_yes, votes_on};
 ghost use Rattle.desk_rules.specs.Decisions as spec;
 ghost use Rattle.desk_rules.specs.Shown.{is_request_row};
 ghost use Rattle.desk_texts.specs.declared.reply.Reply.TheVariants as replies;
-ghost use Rattle.desk_texts.specs.declared.write.Write.TheVariants as puts;
+ghost use Rattle.desk_history.specs.declared.write.Write.TheVariants as puts;
 
-use super::{name_of, one, two};
-use crate::refusals::{image_refusal, return_by, review_by, withdraw_by};
+use super::{one, two};
+use crate::rows::{return_row, vote_row};
 use crate::view::{Changes, View};
 use desk_bytes::Refusal;
-use desk_texts::{
-    Ballot, Caller, Handback, Outcome, Reply, RequestNumber, RequestRow, ReturnRow, State, Vote,
-    Voted, Write,
-};
+use desk_history::{RequestRow, Voted, Write, image_refusal, return_by, review_by, withdraw_by};
+use desk_texts::{Ballot, Caller, Handback, Outcome, Reply, RequestNumber, State, Vote};
 use std::alloc::Global;
 
 /// Whether the vote is a yes.
@@ -131,20 +129,6 @@ impl View {
     }
 }
 
-/// The row of the caller's vote.
-fn vote_row(alloc: Global, caller: &Caller, ballot: &Ballot) -> Result<Voted, Refusal>
-    ensures ok { IfOk result (λ row. row ≡ spec.vote_row (caller_name caller.now) ballot.now) }
-    ensures err { IfErr result (λ refusal. refusal ≡ Refusal.NoMemory) }
-{
-    let note = ballot.note.clone().map_err(|_| Refusal::NoMemory)?;
-    Ok(Voted {
-        request: ballot.request,
-        reviewer: name_of(alloc, caller)?,
-        vote: ballot.vote,
-        note,
-    })
-}
-
 /// Takes the caller's vote on a request.
 pub(crate) fn review(
     alloc: Global,
@@ -210,13 +194,7 @@ pub(crate) fn hand_back(
         return Err(refusal);
     }
     let request = handback.request;
-    let row = ReturnRow {
-        request,
-        signer: name_of(alloc, caller)?,
-        length: handback.facts.extent.length(),
-        file: handback.facts.file,
-        digest: handback.facts.digest,
-    };
+    let row = return_row(alloc, caller, handback)?;
     let state = State::Signed;
     two(
         alloc,

@@ -1,22 +1,19 @@
 //! Submissions.
-ghost use Rattle.std.specs.Prelude.{◌≡◌, ◌++◌, IfErr, IfOk, OnOk, map, reverse};
-ghost use Rattle.desk_texts.specs.declared.write.Write.TheVariants as puts;
+ghost use Rattle.std.specs.Prelude.{◌≡◌, ◌++◌, IfErr, OnOk, map, reverse};
+ghost use Rattle.desk_history.specs.declared.write.Write.TheVariants as puts;
 ghost use Rattle.desk_texts.specs.declared.reply.Reply.TheVariants as replies;
-ghost use Rattle.desk_texts.specs.Tables.{placed_from, request_row};
+ghost use Rattle.desk_history.specs.Tables.{placed_from};
 ghost use Rattle.desk_rules.specs.Decisions.{Decided, carried_rows, submission_writes};
-ghost use Rattle.desk_rules.specs.Refusals.{refuse_if};
-ghost use Rattle.desk_rules.specs.Steps.{request_of};
-ghost use Rattle.desk_rules.specs.Verdicts.{bars as bars_on};
+ghost use Rattle.desk_history.specs.Refusals.{refuse_if};
+ghost use Rattle.desk_history.specs.Verdicts.{bars as bars_on};
 ghost use Rattle.desk_rules.specs.Views.{seen_standing};
 
-use super::{name_of, push};
-use crate::verdicts::bars;
+use super::push;
+use crate::rows::{open_request, request_component};
 use crate::view::{Changes, View};
 use desk_bytes::{Digest, Refusal};
-use desk_texts::{
-    Caller, Reply, RequestCertificateRow, RequestComponentRow, RequestNumber, RequestRow, State,
-    Submission, Write,
-};
+use desk_history::{RequestCertificateRow, Write, bars};
+use desk_texts::{Caller, Reply, RequestNumber, Submission};
 use sbat::Component;
 use std::alloc::Global;
 
@@ -34,10 +31,8 @@ fn put_certificates(
     while 0 < place {
         place -= 1;
         let digest = carried[place];
-        push(
-            writes,
-            Write::RequestCertificate(RequestCertificateRow { request, digest }),
-        )?;
+        let row = RequestCertificateRow { request, digest };
+        push(writes, Write::RequestCertificate(row))?;
     }
     Ok(())
 }
@@ -55,45 +50,10 @@ fn put_components(
     let mut place = components.len();
     while 0 < place {
         place -= 1;
-        let component = &components[place];
-        let name = component.name.clone().map_err(|_| Refusal::NoMemory)?;
-        push(
-            writes,
-            Write::RequestComponent(RequestComponentRow {
-                request,
-                place: place as u64,
-                name,
-                generation: component.generation,
-            }),
-        )?;
+        let row = request_component(request, place as u64, &components[place])?;
+        push(writes, Write::RequestComponent(row))?;
     }
     Ok(())
-}
-
-/// The row of the request of this number, that is open.
-fn open_row(
-    alloc: Global,
-    number: RequestNumber,
-    caller: &Caller,
-    submission: &Submission,
-) -> Result<RequestRow, Refusal>
-    ensures ok { IfOk result (λ row. row
-        ≡ request_row State.Open (request_of number caller.now submission.now)) }
-    ensures err { IfErr result (λ refusal. refusal ≡ Refusal.NoMemory) }
-{
-    let facts = &submission.facts;
-    let title = submission.title.clone().map_err(|_| Refusal::NoMemory)?;
-    Ok(RequestRow {
-        number,
-        submitter: name_of(alloc, caller)?,
-        title,
-        length: facts.extent.length(),
-        gap: facts.extent.gap(),
-        file: facts.file,
-        digest: facts.digest,
-        signing: facts.signing,
-        state: State::Open,
-    })
 }
 
 /// Takes the submission as the request of this number.
@@ -113,10 +73,8 @@ pub(crate) fn submit(
         return Err(Refusal::Revoked);
     }
     let mut writes = Vec::new(alloc);
-    push(
-        &mut writes,
-        Write::Request(open_row(alloc, number, caller, submission)?),
-    )?;
+    let row = open_request(alloc, number, caller, submission)?;
+    push(&mut writes, Write::Request(row))?;
     put_certificates(&mut writes, number, facts.carried.as_slice())?;
     put_components(&mut writes, number, facts.components.as_slice())?;
     Ok(Changes {

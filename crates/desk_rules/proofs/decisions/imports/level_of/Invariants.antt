@@ -1,6 +1,6 @@
 use Rattle.std.proofs.Common.{◌≡◌, ℕ, List, false, take}
 use Rattle.std.specs.FinMap.{get}
-use Rattle.desk_texts.specs.Level.{is_sbat}
+use Rattle.desk_history.specs.Level.{is_sbat}
 use Rattle.desk_rules.specs.Views.{generation_in}
 use Rattle.desk_rules.proofs.decisions.imports.level_of.Given as goal
 

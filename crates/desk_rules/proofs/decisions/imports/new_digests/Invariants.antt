@@ -1,6 +1,6 @@
 use Rattle.std.proofs.Common.{◌≡◌, ◌||◌, ◌++◌, ℕ, List, drop}
 use Rattle.std.specs.Prelude.{IsTrue, reverse}
-use Rattle.desk_texts.specs.Calls.{is_among}
+use Rattle.desk_history.specs.Calls.{is_among}
 use Rattle.desk_rules.specs.ImportSteps.{put_new}
 use Rattle.desk_rules.proofs.decisions.imports.new_digests.Given as goal
 

@@ -1,6 +1,6 @@
 use Rattle.std.proofs.Common.{◌∙◌, ap}
 use Rattle.std.specs.Prelude.{not}
-use Rattle.desk_texts.specs.Calls.{is_among}
+use Rattle.desk_history.specs.Calls.{is_among}
 use Rattle.desk_rules.proofs.ImportDigests.{found_same, inserted}
 use Rattle.desk_rules.proofs.decisions.imports.note.Goals as goal
 

@@ -1,5 +1,5 @@
 use Rattle.std.proofs.Common.{◌≡◌, ◌++◌, map, take}
-use Rattle.desk_texts.specs.declared.write.Write.TheVariants as puts
+use Rattle.desk_history.specs.declared.write.Write.TheVariants as puts
 use Rattle.desk_rules.proofs.decisions.imports.put_digests.Given as goal
 
 abbrev pub invariant-loop-digest : goal.invariant-loop-digest

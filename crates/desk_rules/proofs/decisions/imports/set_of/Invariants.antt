@@ -1,5 +1,5 @@
 use Rattle.std.proofs.Common.{◌≡◌, ℕ, List, take}
-use Rattle.desk_texts.specs.Calls.{is_among}
+use Rattle.desk_history.specs.Calls.{is_among}
 use Rattle.desk_rules.proofs.decisions.imports.set_of.Given as goal
 
 abbrev pub invariant-loop-digest : goal.invariant-loop-digest

@@ -3,7 +3,7 @@ use Rattle.std.specs.Prelude.{reverse}
 use Rattle.std.specs.List.{list_any}
 use Rattle.std.proofs.lemmas.List.{take_all}
 use Rattle.sbat.specs.declared.component.Component.{Component}
-use Rattle.desk_texts.specs.Writes.{all_written}
+use Rattle.desk_history.specs.Writes.{all_written}
 use Rattle.desk_rules.specs.ImportSteps.{IsSoFar}
 use Rattle.desk_rules.specs.Room.{takes_off}
 use Rattle.desk_rules.proofs.ImportLemmas.{name_among, no_sbat, reverse_take}

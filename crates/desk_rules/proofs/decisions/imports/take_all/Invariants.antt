@@ -1,8 +1,8 @@
 use Rattle.std.proofs.Common.{◌≡◌, ◌≤◌, ℕ, List, map, take}
 use Rattle.std.specs.Prelude.{IsTrue, reverse}
 use Rattle.sbat.specs.declared.component.Component.{Component}
-use Rattle.desk_texts.specs.Calls.{is_among}
-use Rattle.desk_texts.specs.Level.{greatest}
+use Rattle.desk_history.specs.Calls.{is_among}
+use Rattle.desk_history.specs.Level.{greatest}
 use Rattle.desk_rules.specs.ImportSteps.{IsSoFar}
 use Rattle.desk_rules.specs.Views.{generation_in}
 use Rattle.desk_rules.proofs.decisions.imports.take_all.Given as goal

@@ -1,0 +1,11 @@
+pub mod CountLemmas
+pub mod KeyLemmas
+pub mod LifeLemmas
+pub mod ListLemmas
+pub mod ListingLemmas
+pub mod RefusalLemmas
+pub mod RequestLemmas
+pub mod RowLemmas
+pub mod RunLemmas
+pub mod VerdictLemmas
+pub mod WriteLemmas

@@ -1,0 +1,139 @@
+-- Series of lives.
+use Rattle.std.proofs.Common.{◌≡◌, ℕ, Bool, true, false, not, List, [], ◌∷◌, ◌++◌, Option, Some, None, refl, sym, ◌∙◌, ap, subst, inl, inr}
+use Rattle.std.specs.Prelude.{if◌then◌else◌, bytes_eq, find}
+use Rattle.std.proofs.lemmas.Bool.{and_parts}
+use Rattle.desk_bytes.specs.declared.refusal.Refusal.{Refusal}
+use Rattle.desk_bytes.specs.declared.refusal.Refusal.TheVariants as refusals
+use Rattle.desk_texts.specs.declared.command.Call.{Call}
+use Rattle.desk_texts.specs.declared.reply.Reply.{Reply}
+use Rattle.desk_texts.specs.Callers.{caller_name}
+use Rattle.desk_history.specs.Calls.{GoesOnFrom, History}
+use Rattle.desk_texts.specs.CommandTexts.{text_of}
+use Rattle.desk_history.specs.declared.rows.Minute.{Minute}
+use Rattle.desk_history.specs.Replies.{minute, minutes, reply}
+use Rattle.desk_history.specs.declared.answer.Answer.TheVariants.{Refused as IsRefused, Repeated}
+use Rattle.desk_history.specs.Laws.{AnswersAreKept, AnswersHaveHistories, EndsAreLegal}
+use Rattle.desk_history.specs.Lives.{Answered, Event, Fate, Holds, MayLeave, MayTurn, Refused, Stopped, events_of}
+use Rattle.desk_history.specs.Refusals.{is_known, refusal}
+use Rattle.desk_history.specs.Runs.{answer, answer_known, earlier, has_key, is_accepted, is_legal, next, reply_in}
+use Rattle.desk_history.proofs.ListLemmas.{bytes_eq-refl, same_text}
+use Rattle.desk_history.proofs.RunLemmas.{accepted_parts, by_next, goes_on-trans, next_goes_on, next_legal}
+
+-- what holds before an event and is kept by its call holds after the event
+turned : (P : History → Type 0) (cs : History) (c : Call) (fate : Fate) (later : History) → P cs → P (next cs c) → MayTurn cs c fate later → P later
+turned P cs c (Answered reply) later same more t = subst P (sym t.1) more
+turned P cs c Refused later same more t = subst P (sym t) same
+turned P cs c Stopped later same more (inl e) = subst P (sym e) same
+turned P cs c Stopped later same more (inr e) = subst P (sym e) more
+
+-- what each call keeps, events keep
+left_kept : (P : History → Type 0) → ((h : History) (c : Call) → P h → P (next h c)) → (cs : History) (events : List Event) (end : History) → P cs → MayLeave cs events end → P end
+left_kept P each cs [] end h left = subst P (sym left) h
+left_kept P each cs (e ∷ events) end h left =
+    left_kept P each left.0 events end (turned P cs e.call e.fate left.0 h (each cs e.call h) left.1) left.2
+
+left_legal : (cs : History) (events : List Event) (end : History) → is_legal cs ≡ true → MayLeave cs events end → is_legal end ≡ true
+left_legal cs events end h left = left_kept (λ h. is_legal h ≡ true) next_legal cs events end h left
+
+left_goes_on : (cs : History) (events : List Event) (end : History) → MayLeave cs events end → GoesOnFrom cs end
+left_goes_on cs events end left =
+    left_kept (GoesOnFrom cs) (λ h c g. goes_on-trans cs h (next h c) g (next_goes_on h c)) cs events end ([], refl) left
+
+pub series_are_legal : EndsAreLegal
+series_are_legal lives cs ends = left_legal [] (events_of lives) cs refl ends.1
+
+-- events in two parts
+record Halves (cs : History) (earlier later : List Event) (end : History) : Type 0 where
+  middle : History
+  first : MayLeave cs earlier middle
+  second : MayLeave middle later end
+
+halves : (cs : History) (earlier later : List Event) (end : History) → MayLeave cs (earlier ++ later) end → Halves cs earlier later end
+halves cs [] later end left = record { middle = cs; first = refl; second = left }
+halves cs (e ∷ earlier) later end left =
+    let rest : Halves left.0 earlier later end = halves left.0 earlier later end left.2 in
+    record { middle = rest.middle; first = (left.0, left.1, rest.first); second = rest.second }
+
+pub answers_have_histories : AnswersHaveHistories
+answers_have_histories lives cs ends c reply earlier later is =
+    let two : Halves [] earlier (record { call = c; fate = Answered reply } ∷ later) cs =
+    halves [] earlier (record { call = c; fate = Answered reply } ∷ later) cs (subst (λ events. MayLeave [] events cs) is ends.1) in
+    (two.second.0, record { earlier = earlier; later = later; is = is; before = two.middle; reached = two.first; answered = two.second.1; left = two.second.2 })
+
+-- a call that is answered Ok is held from then on
+
+no_reply : {reply : Reply} {A : Type 0} → None ≡ Some reply → A
+no_reply h = cc
+
+record Told (m : Option Minute) (text : List ℕ) (given : Reply) : Type 0 where
+  found_minute : Minute
+  is_found : m ≡ Some found_minute
+  has_text : found_minute.text ≡ text
+  has_reply : found_minute.reply ≡ given
+
+-- an Ok that isn't an acceptance comes from the minutes
+told : (known : Bool) (m : Option Minute) (text : List ℕ) (refused : Option Refusal) (new given : Reply) →
+    is_accepted (if not known then IsRefused refusals.UnknownCaller else answer_known m text refused new) ≡ false →
+    reply_in (if not known then IsRefused refusals.UnknownCaller else answer_known m text refused new) ≡ Some given → Told m text given
+told false m text refused new given a h = no_reply h
+told true None text None new given a h = cc
+told true None text (Some r) new given a h = no_reply h
+told true (Some m) text refused new given a h =
+    elim (bytes_eq m.text text) as (λ b. bytes_eq m.text text ≡ b → reply_in (if b then Repeated m.reply else IsRefused refusals.KeyReused) ≡ Some given → Told (Some m) text given) [
+      | true ↦ λ e k. record { found_minute = m; is_found = refl; has_text = same_text m.text text e; has_reply = cc }
+      | false ↦ λ e k. no_reply k
+    ] refl h
+
+-- an acceptance gives the new reply
+accepted_reply : (known : Bool) (m : Option Minute) (text : List ℕ) (refused : Option Refusal) (new given : Reply) →
+    is_accepted (if not known then IsRefused refusals.UnknownCaller else answer_known m text refused new) ≡ true →
+    reply_in (if not known then IsRefused refusals.UnknownCaller else answer_known m text refused new) ≡ Some given → new ≡ given
+accepted_reply false m text refused new given a h = no_reply h
+accepted_reply true None text None new given a h = cc
+accepted_reply true None text (Some r) new given a h = no_reply h
+accepted_reply true (Some m) text refused new given a h =
+    elim (bytes_eq m.text text) as (λ b. is_accepted (if b then Repeated m.reply else IsRefused refusals.KeyReused) ≡ true → new ≡ given) [
+      | true ↦ λ e. cc
+      | false ↦ λ e. cc
+    ] a
+
+own_key : (cs : History) (c : Call) → has_key (caller_name c.caller) c.key (minute cs c) ≡ true
+own_key cs c = rw (bytes_eq-refl (caller_name c.caller), bytes_eq-refl c.key) refl
+
+held_at : (cs : History) (c : Call) (given : Reply) → reply_in (answer cs c) ≡ Some given → Holds (next cs c) c given
+held_at cs c given h =
+    elim (is_accepted (answer cs c)) as (λ b. is_accepted (answer cs c) ≡ b → Holds (if b then c ∷ cs else cs) c given) [
+      | true ↦ λ e. record {
+        minute = minute cs c;
+        found = rw (own_key cs c) refl;
+        text = refl;
+        same = accepted_reply (is_known cs c.caller) (earlier cs c) (text_of c.command) (refusal cs c) (reply cs c) given e h;
+      }
+      | false ↦ λ e. (let t : Told (earlier cs c) (text_of c.command) given = told (is_known cs c.caller) (earlier cs c) (text_of c.command) (refusal cs c) (reply cs c) given e h in
+          record { minute = t.found_minute; found = t.is_found; text = t.has_text; same = t.has_reply })
+    ] refl
+
+-- a new call doesn't take a key that stands
+other_key : (cs : History) (c new : Call) (m : Minute) → earlier cs c ≡ Some m → earlier cs new ≡ None → has_key (caller_name c.caller) c.key (minute cs new) ≡ false
+other_key cs c new m found fresh =
+    elim (has_key (caller_name c.caller) c.key (minute cs new)) as (λ b. has_key (caller_name c.caller) c.key (minute cs new) ≡ b → b ≡ false) [
+      | true ↦ λ e. (let both : (bytes_eq (caller_name c.caller) (caller_name new.caller) ≡ true) × (bytes_eq c.key new.key ≡ true) = and_parts (bytes_eq (caller_name c.caller) (caller_name new.caller)) (bytes_eq c.key new.key) e in
+          clash m (sym found ∙ (ap (λ n. find (has_key n c.key) (minutes cs)) (same_text (caller_name c.caller) (caller_name new.caller) both.0)
+          ∙ (ap (λ k. find (has_key (caller_name new.caller) k) (minutes cs)) (same_text c.key new.key both.1) ∙ fresh))))
+      | false ↦ λ e. refl
+    ] refl
+  where
+    clash : (m : Minute) {A : Type 0} → Some m ≡ None → A
+    clash m e = cc
+
+kept_by_next : (c : Call) (given : Reply) (h : History) (new : Call) → Holds h c given → Holds (next h new) c given
+kept_by_next c given h new held =
+    by_next (λ later. Holds later c given) h new held (λ e.
+    (let fresh : earlier h new ≡ None = (accepted_parts h new e).fresh in
+    let unlike : has_key (caller_name c.caller) c.key (minute h new) ≡ false = other_key h c new held.minute held.found fresh in
+    record { minute = held.minute; found = rw unlike held.found; text = held.text; same = held.same }))
+
+pub answers_are_kept : AnswersAreKept
+answers_are_kept lives cs ends c reply at was =
+    let held : Holds at c reply = subst (λ h. Holds h c reply) (sym was.answered.1) (held_at was.before c reply was.answered.0) in
+    (left_kept (λ h. Holds h c reply) (kept_by_next c reply) at was.later cs held was.left, left_goes_on at was.later cs was.left)

@@ -1,0 +1,65 @@
+-- The SBAT level (shim's SBAT.md, "Generation-Based Revocation Overview"): the least generation asked of each component.
+use Rattle.std.specs.Prelude.{ℕ, Bool, true, nat_lt, if◌then◌else◌, max, List, [], ◌∷◌, map, reverse, flat_map, Option, Some, None, unwrap_or, bytes_eq}
+use Rattle.std.specs.List.{list_any}
+use Rattle.desk_texts.specs.declared.command.Command.{Command}
+use Rattle.desk_texts.specs.declared.command.Command.TheVariants as command
+use Rattle.sbat.specs.declared.component.Component.{Component}
+use Rattle.sbat.specs.Fields.{sbat}
+use Rattle.desk_history.specs.Calls.{History, once}
+
+-- the components whose generation a command names, the last first
+abbrev pub components_of : Command → List Component
+components_of (command.RaiseLevel r) = r.component ∷ []
+components_of (command.ImportRevocations i) = reverse i.components
+components_of _ = []
+
+-- the components whose generation some call names, each as often as it is named
+abbrev pub generations : History → List Component
+generations cs = flat_map (λ c. components_of c.command) cs
+
+-- the greater of a number and one that may be missing
+abbrev pub greater_of : ℕ → Option ℕ → ℕ
+greater_of n None = n
+greater_of n (Some m) = max n m
+
+-- the greatest generation that the components have under this name
+abbrev pub greatest : List Component → List ℕ → Option ℕ
+greatest [] name = None
+greatest (x ∷ xs) name =
+    if bytes_eq name x.name then Some (greater_of x.generation (greatest xs name)) else greatest xs name
+
+-- the component of the revocation data itself (SBAT.md, "Version Check"): its generation is 1 for good
+abbrev pub is_sbat : List ℕ → Bool
+is_sbat name = bytes_eq name sbat
+
+-- the generation that the level asks of a component, if it names it
+abbrev pub level : History → List ℕ → Option ℕ
+level cs name = if is_sbat name then Some 1 else greatest (generations cs) name
+
+-- the names that the level has beside `sbat`, each once
+abbrev pub names : List Component → List (List ℕ)
+names xs = once (map (λ x. x.name) xs)
+
+-- the number is above the present one, or there is none
+abbrev pub is_above : ℕ → Option ℕ → Bool
+is_above n None = true
+is_above n (Some m) = nat_lt m n
+
+-- a call that names this component raises its generation
+abbrev pub raises : History → Component → Bool
+raises cs x = is_above x.generation (greatest (generations cs) x.name)
+
+-- the command raises some generation
+abbrev pub raises_some : History → Command → Bool
+raises_some cs command = list_any (raises cs) (components_of command)
+
+-- the stamp that a command gives to the level
+abbrev pub stamp_of : Command → Option ℕ
+stamp_of (command.RaiseLevel r) = Some r.stamp
+stamp_of (command.ImportRevocations i) = i.stamp
+stamp_of _ = None
+
+-- the level's stamp: that of the last call that raised a generation. own: before any it is that of shim's first level
+abbrev pub stamp : History → ℕ
+stamp [] = 2021030218
+stamp (c ∷ cs) = if raises_some cs c.command then unwrap_or (stamp_of c.command) (stamp cs) else stamp cs

@@ -1,0 +1,15 @@
+pub mod Calls
+pub mod Laws
+pub mod Level
+pub mod Limits
+pub mod Listing
+pub mod Lives
+pub mod People
+pub mod Refusals
+pub mod Replies
+pub mod Requests
+pub mod Revocations
+pub mod Runs
+pub mod Tables
+pub mod Verdicts
+pub mod Writes

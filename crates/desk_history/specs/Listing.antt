@@ -1,0 +1,53 @@
+-- What is listed: the entries of db (UEFI 2.10, 32.4.1), image digests and certificates by their TBS digests.
+use Rattle.std.specs.Prelude.{ℕ, Bool, true, false, not, ◌&&◌, List, [], ◌∷◌, filter, find, bytes_eq}
+use Rattle.std.specs.List.{list_any}
+use Rattle.std.specs.Option.{option_map_or}
+use Rattle.desk_texts.specs.declared.command.Command.{Command}
+use Rattle.desk_texts.specs.declared.command.Command.TheVariants as command
+use Rattle.desk_texts.specs.declared.kind.ListedKind.{ListedKind}
+use Rattle.desk_texts.specs.declared.kind.ListedKind.TheVariants as kinds
+use Rattle.desk_history.specs.declared.rows.Entry.{Entry}
+use Rattle.desk_history.specs.Calls.{History, is_same_kind}
+
+-- the entry is that of this kind and digest
+abbrev pub is_entry : ListedKind → List ℕ → Entry → Bool
+is_entry kind digest e = is_same_kind kind e.kind && bytes_eq digest e.digest
+
+-- the command lists the entry of this kind and digest, or takes it off
+abbrev pub is_about : ListedKind → List ℕ → Command → Bool
+is_about kind digest (command.ListDigest d) = is_same_kind kind kinds.Digest && bytes_eq digest d
+is_about kind digest (command.ListCertificate c) = is_same_kind kind kinds.Certificate && bytes_eq digest c.tbs
+is_about kind digest (command.Unlist l) = is_same_kind kind l.kind && bytes_eq digest l.digest
+is_about kind digest _ = false
+
+-- the command lists an entry
+abbrev pub lists : Command → Bool
+lists (command.ListDigest d) = true
+lists (command.ListCertificate c) = true
+lists _ = false
+
+-- the last call about the entry lists it
+abbrev pub is_listed : ListedKind → History → List ℕ → Bool
+is_listed kind cs digest = option_map_or (λ c. lists c.command) (find (λ c. is_about kind digest c.command) cs) false
+
+-- an entry of this kind and digest is there
+abbrev pub has_entry : ListedKind → List ℕ → List Entry → Bool
+has_entry kind digest entries = list_any (is_entry kind digest) entries
+
+-- the entries but for this one
+abbrev pub without : ListedKind → List ℕ → List Entry → List Entry
+without kind digest entries = filter (λ e. not (is_entry kind digest e)) entries
+
+-- the entries that a command leaves
+abbrev pub relisted : Command → List Entry → List Entry
+relisted (command.ListDigest d) entries =
+    record { kind = kinds.Digest; digest = d; body = [] } ∷ without kinds.Digest d entries
+relisted (command.ListCertificate c) entries =
+    record { kind = kinds.Certificate; digest = c.tbs; body = c.body } ∷ without kinds.Certificate c.tbs entries
+relisted (command.Unlist l) entries = without l.kind l.digest entries
+relisted _ entries = entries
+
+-- the listed entries, with the bodies that the last calls about them gave
+abbrev pub listed : History → List Entry
+listed [] = []
+listed (c ∷ cs) = relisted c.command (listed cs)

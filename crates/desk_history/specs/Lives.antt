@@ -1,0 +1,73 @@
+-- Lives of a desk, and what stops leave of its history.
+use Rattle.std.specs.Prelude.{◌≡◌, ◌⊎◌, Bool, true, false, IsTrue, List, [], ◌∷◌, ◌++◌, Some, flat_map}
+use Rattle.std.specs.List.{list_all}
+use Rattle.desk_texts.specs.declared.command.Call.{Call}
+use Rattle.desk_texts.specs.declared.reply.Reply.{Reply}
+use Rattle.desk_history.specs.Calls.{History}
+use Rattle.desk_history.specs.declared.rows.Minute.{Minute}
+use Rattle.desk_texts.specs.CommandTexts.{text_of}
+use Rattle.desk_history.specs.Runs.{answer, earlier, next, reply_in}
+
+-- What became of a call: it was answered Ok with a reply, it was refused, or it was stopped, which is also what a
+-- call answered with the failure of the store is.
+pub data Fate : Type 0 where
+  Answered : Reply → Fate
+  Refused : Fate
+  Stopped : Fate
+
+-- a call, and what became of it
+pub record Event : Type 0 where
+  pub call : Call
+  pub fate : Fate
+
+-- what a stop during a call leaves: the history before it, or the one after it
+abbrev pub IsLeft : History → Call → History → Type 0
+IsLeft cs c later = (later ≡ cs) ⊎ (later ≡ next cs c)
+
+-- the history that an event may leave
+abbrev pub MayTurn : History → Call → Fate → History → Type 0
+MayTurn cs c (Answered reply) later = (reply_in (answer cs c) ≡ Some reply) × (later ≡ next cs c)
+MayTurn cs c Refused later = later ≡ cs
+MayTurn cs c Stopped later = IsLeft cs c later
+
+-- the history that events may leave, the first of them first
+abbrev pub MayLeave : History → List Event → History → Type 0
+MayLeave cs [] end = end ≡ cs
+MayLeave cs (e ∷ events) end = (later : History) × MayTurn cs e.call e.fate later × MayLeave later events end
+
+-- the call was refused
+abbrev pub is_refused : Event → Bool
+is_refused e = elim e.fate [ Answered reply ↦ false | Refused ↦ true | Stopped ↦ false ]
+
+-- A life of a desk, from its opening on: after a stop each call is refused, until the desk is opened again. An
+-- opening that fails is a life without calls.
+abbrev pub is_life : List Event → Bool
+is_life [] = true
+is_life (e ∷ events) =
+    elim e.fate [ Answered reply ↦ is_life events | Refused ↦ is_life events | Stopped ↦ list_all is_refused events ]
+
+-- the events of lives, one life after another
+abbrev pub events_of : List (List Event) → List Event
+events_of lives = flat_map (λ life. life) lives
+
+-- a series of lives, the first begun with a new desk, may leave this history
+abbrev pub Ends : List (List Event) → History → Type 0
+Ends lives cs = IsTrue (list_all is_life lives) × MayLeave [] (events_of lives) cs
+
+-- In the events that led from a new desk to this history, the call was answered Ok with the reply, and the desk's
+-- history was then `at`.
+pub record WasAnswered (events : List Event) (cs : History) (c : Call) (reply : Reply) (at : History) : Type 0 where
+  pub earlier : List Event
+  pub later : List Event
+  pub is : events ≡ earlier ++ record { call = c; fate = Answered reply } ∷ later
+  pub before : History
+  pub reached : MayLeave [] earlier before
+  pub answered : MayTurn before c (Answered reply) at
+  pub left : MayLeave at later cs
+
+-- the minutes hold the caller's key with the call's text and this reply
+pub record Holds (cs : History) (c : Call) (reply : Reply) : Type 0 where
+  pub minute : Minute
+  pub found : earlier cs c ≡ Some minute
+  pub text : minute.text ≡ text_of c.command
+  pub same : minute.reply ≡ reply

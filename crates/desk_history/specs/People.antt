@@ -1,0 +1,27 @@
+-- The people of a desk: those whom the console added.
+use Rattle.std.specs.Prelude.{ℕ, Bool, List, Option, Some, None, filter_map, find, bytes_eq}
+use Rattle.desk_texts.specs.declared.command.Command.{Command}
+use Rattle.desk_texts.specs.declared.command.Command.TheVariants as command
+use Rattle.desk_texts.specs.declared.command.Person.{Person}
+use Rattle.desk_history.specs.Calls.{History}
+
+-- the person whom a command adds
+abbrev pub added_by : Command → Option Person
+added_by (command.AddPerson person) = Some person
+added_by _ = None
+
+-- those who were added, the newest first
+abbrev pub people : History → List Person
+people cs = filter_map (λ c. added_by c.command) cs
+
+-- the person has this name
+abbrev pub has_name : List ℕ → Person → Bool
+has_name name p = bytes_eq name p.name
+
+-- the person has the token of this SHA-256
+abbrev pub has_token : List ℕ → Person → Bool
+has_token token p = bytes_eq token p.token
+
+-- the person of this name
+abbrev pub person : History → List ℕ → Option Person
+person cs name = find (has_name name) (people cs)

@@ -1,0 +1,160 @@
+-- Why a call is refused: the first condition that holds.
+use Rattle.std.specs.Prelude.{ℕ, Bool, true, false, not, ◌&&◌, ◌||◌, nat_lt, if◌then◌else◌, List, ◌∷◌, find, Option, Some, None, is_some, bytes_eq, codes}
+use Rattle.std.specs.List.{list_any}
+use Rattle.std.specs.Option.{option_map_or, option_or}
+use Rattle.desk_bytes.specs.declared.refusal.Refusal.{Refusal}
+use Rattle.desk_bytes.specs.declared.refusal.Refusal.TheVariants as refusals
+use Rattle.desk_texts.specs.declared.command.Call.{Call}
+use Rattle.desk_texts.specs.declared.caller.Caller.{Caller}
+use Rattle.desk_texts.specs.declared.caller.Caller.TheVariants as caller
+use Rattle.desk_texts.specs.declared.command.Command.{Command}
+use Rattle.desk_texts.specs.declared.command.Command.TheVariants as command
+use Rattle.desk_texts.specs.declared.facts.Facts.{Facts}
+use Rattle.desk_texts.specs.declared.kind.ListedKind.TheVariants as kinds
+use Rattle.desk_texts.specs.declared.command.Person.{Person}
+use Rattle.desk_texts.specs.declared.command.Raise.{Raise}
+use Rattle.desk_texts.specs.declared.role.Role.{Role}
+use Rattle.desk_texts.specs.declared.role.Role.TheVariants as role
+use Rattle.desk_texts.specs.declared.state.State.{State}
+use Rattle.desk_texts.specs.declared.state.State.TheVariants as states
+use Rattle.desk_texts.specs.Callers.{caller_name}
+use Rattle.desk_history.specs.Calls.{History}
+use Rattle.desk_history.specs.Level.{generations, greatest, is_above, is_sbat, raises_some, stamp}
+use Rattle.desk_history.specs.Listing.{is_listed}
+use Rattle.desk_history.specs.People.{has_name, has_token, people}
+use Rattle.desk_history.specs.declared.rows.Voted.{Voted}
+use Rattle.desk_history.specs.Requests.{Request, is_vote_of, request, state, votes, votes_on}
+use Rattle.desk_history.specs.Revocations.{is_revoked}
+use Rattle.desk_history.specs.Limits.{is_within}
+use Rattle.desk_history.specs.Verdicts.{is_barred, stands_in_db}
+
+-- the refusal where the condition holds
+abbrev pub refuse_if : Bool → Refusal → Option Refusal
+refuse_if condition refusal = if condition then Some refusal else None
+
+-- own: the role that gives each command; none gives AddPerson, which is the console's
+abbrev pub is_for : Role → Command → Bool
+is_for role.Submitter (command.Submit _) = true
+is_for role.Reviewer (command.Submit _) = true
+is_for role.Reviewer (command.Review _) = true
+is_for role.Submitter (command.Withdraw _) = true
+is_for role.Reviewer (command.Withdraw _) = true
+is_for role.Signer (command.Return _) = true
+is_for role.Officer (command.ListCertificate _) = true
+is_for role.Officer (command.ListDigest _) = true
+is_for role.Officer (command.Unlist _) = true
+is_for role.Officer (command.RevokeDigest _) = true
+is_for role.Officer (command.RevokeCertificate _) = true
+is_for role.Officer (command.RaiseLevel _) = true
+is_for role.Officer (command.ImportRevocations _) = true
+is_for _ _ = false
+
+-- own: the console gives this command and no other
+abbrev pub is_for_console : Command → Bool
+is_for_console (command.AddPerson _) = true
+is_for_console _ = false
+
+-- the caller is the console, or one of these people
+abbrev pub is_one_of : List Person → Caller → Bool
+is_one_of ps caller.Console = true
+is_one_of ps (caller.Person name) = is_some (find (has_name name) ps)
+
+-- the caller is the console, or a person who was added
+abbrev pub is_known : History → Caller → Bool
+is_known cs c = is_one_of (people cs) c
+
+-- the caller gives such commands, where these are the people
+abbrev pub is_theirs : List Person → Caller → Command → Bool
+is_theirs ps caller.Console command = is_for_console command
+is_theirs ps (caller.Person name) command = option_map_or (λ p. is_for p.role command) (find (has_name name) ps) false
+
+-- the caller gives such commands
+abbrev pub may_give : History → Caller → Command → Bool
+may_give cs c command = is_theirs (people cs) c command
+
+-- AddPerson. own: a name and a token are one person's, and `console` is nobody's name
+abbrev pub add_refusal : List Person → Person → Option Refusal
+add_refusal ps p =
+    refuse_if (bytes_eq p.name (codes "console") || list_any (has_name p.name) ps || list_any (has_token p.token) ps)
+    refusals.NameTaken
+
+-- Review, of a request in this state, the reviewer's own or not, on which the reviewer voted or not. own: nobody votes
+-- twice or on an own request
+abbrev pub review_by : State → Bool → Bool → Option Refusal
+review_by state own voted =
+    if not (elim state [ states.Open ↦ true | _ ↦ false ]) then Some refusals.WrongState
+    else (if own then Some refusals.OwnRequest else refuse_if voted refusals.AlreadyReviewed)
+
+-- Review, of the request with its state and the votes on it
+abbrev pub review_refusal : Option Request → State → List Voted → List ℕ → Option Refusal
+review_refusal None state vs reviewer = Some refusals.NoSuchRequest
+review_refusal (Some r) state vs reviewer =
+    review_by state (bytes_eq r.submitter reviewer) (list_any (is_vote_of reviewer) vs)
+
+-- Withdraw, of a request in this state, the caller's own or not. own: another's request is none to the caller
+abbrev pub withdraw_by : State → Bool → Option Refusal
+withdraw_by state own =
+    if not own then Some refusals.NoSuchRequest
+    else refuse_if (elim state [ states.Open ↦ false | states.Approved ↦ false | _ ↦ true ]) refusals.WrongState
+
+-- Withdraw, of the request with its state
+abbrev pub withdraw_refusal : Option Request → State → List ℕ → Option Refusal
+withdraw_refusal None state caller = Some refusals.NoSuchRequest
+withdraw_refusal (Some r) state caller = withdraw_by state (bytes_eq r.submitter caller)
+
+-- an image as the signed one of the image that has this digest and this digest to be signed; it is barred or not, and
+-- stands in db or not
+abbrev pub image_refusal : List ℕ → List ℕ → Facts → Bool → Bool → Option Refusal
+image_refusal digest signing x barred listed =
+    if not (bytes_eq x.digest signing || bytes_eq x.digest digest) then Some refusals.DigestDiffers
+    else (if barred then Some refusals.Revoked else refuse_if (not listed) refusals.NotListed)
+
+-- Return for a request in this state, of which the image is refused or not
+abbrev pub return_by : State → Option Refusal → Option Refusal
+return_by state image = if not (elim state [ states.Approved ↦ true | _ ↦ false ]) then Some refusals.WrongState else image
+
+-- Return of an image for the request with its state; the image is barred or not, and stands in db or not
+abbrev pub return_refusal : Option Request → State → Facts → Bool → Bool → Option Refusal
+return_refusal None state x barred listed = Some refusals.NoSuchRequest
+return_refusal (Some r) state x barred listed =
+    return_by state (image_refusal r.facts.digest r.facts.signing x barred listed)
+
+-- RaiseLevel, over the present generation of the component and the present stamp
+abbrev pub raise_refusal : Option ℕ → ℕ → Raise → Option Refusal
+raise_refusal present now r =
+    if is_sbat r.component.name || not (is_above r.component.generation present) then Some refusals.NotHigher
+    else refuse_if (not (nat_lt now r.stamp)) refusals.StampNotLater
+
+-- a stamp is there, and above the present one
+abbrev pub is_later : ℕ → Option ℕ → Bool
+is_later now stamp = option_map_or (λ s. nat_lt now s) stamp false
+
+-- ImportRevocations, which raises some generation or none, over the present stamp
+abbrev pub import_refusal : Bool → ℕ → Option ℕ → Option Refusal
+import_refusal raises now stamp = refuse_if (raises && not (is_later now stamp)) refusals.StampNotLater
+
+-- own: each command's own conditions, for the caller of this name
+abbrev pub own_refusal : History → List ℕ → Command → Option Refusal
+own_refusal cs name (command.AddPerson p) = add_refusal (people cs) p
+own_refusal cs name (command.Submit s) = refuse_if (is_barred cs s.facts) refusals.Revoked
+own_refusal cs name (command.Review b) =
+    review_refusal (request cs b.request) (state cs b.request) (votes_on (votes cs) b.request) name
+own_refusal cs name (command.Withdraw k) = withdraw_refusal (request cs k) (state cs k) name
+own_refusal cs name (command.Return h) =
+    return_refusal (request cs h.request) (state cs h.request) h.facts (is_barred cs h.facts) (stands_in_db cs h.facts)
+own_refusal cs name (command.ListCertificate c) =
+    refuse_if (is_listed kinds.Certificate cs c.tbs) refusals.AlreadyListed
+own_refusal cs name (command.ListDigest d) = refuse_if (is_listed kinds.Digest cs d) refusals.AlreadyListed
+own_refusal cs name (command.Unlist l) = refuse_if (not (is_listed l.kind cs l.digest)) refusals.NotThere
+own_refusal cs name (command.RevokeDigest d) = refuse_if (is_revoked kinds.Digest cs d) refusals.AlreadyRevoked
+own_refusal cs name (command.RevokeCertificate d) =
+    refuse_if (is_revoked kinds.Certificate cs d) refusals.AlreadyRevoked
+own_refusal cs name (command.RaiseLevel r) = raise_refusal (greatest (generations cs) r.component.name) (stamp cs) r
+own_refusal cs name (command.ImportRevocations i) =
+    import_refusal (raises_some cs (command.ImportRevocations i)) (stamp cs) i.stamp
+
+-- own: the caller's role comes first, then the command's own conditions, and at the end how much a desk may hold
+abbrev pub refusal : History → Call → Option Refusal
+refusal cs c =
+    if not (may_give cs c.caller c.command) then Some refusals.NotYourRole
+    else option_or (own_refusal cs (caller_name c.caller) c.command) (refuse_if (not (is_within (c ∷ cs))) refusals.Full)

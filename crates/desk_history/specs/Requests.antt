@@ -1,0 +1,128 @@
+-- Requests to sign an image, their votes, what becomes of them, and the files that are returned.
+use Rattle.std.specs.Prelude.{ℕ, ◌+◌, ◌==◌, Bool, true, false, not, nat_le, if◌then◌else◌, List, [], ◌∷◌, length, filter, filter_map, find, count_by, Option, Some, None, option_map, bytes_eq}
+use Rattle.std.specs.List.{list_any}
+use Rattle.desk_texts.specs.declared.caller.Caller.{Caller}
+use Rattle.desk_texts.specs.declared.command.Command.{Command}
+use Rattle.desk_texts.specs.declared.command.Command.TheVariants as command
+use Rattle.desk_texts.specs.declared.facts.Facts.{Facts}
+use Rattle.desk_history.specs.declared.rows.Voted.{Voted}
+use Rattle.desk_texts.specs.declared.state.State.{State}
+use Rattle.desk_texts.specs.declared.state.State.TheVariants as states
+use Rattle.desk_texts.specs.declared.command.Submission.{Submission}
+use Rattle.desk_texts.specs.declared.vote.Vote.TheVariants as vote
+use Rattle.desk_texts.specs.Callers.{caller_name}
+use Rattle.desk_history.specs.Calls.{History}
+
+-- a request to sign the image of these facts
+pub record Request : Type 0 where
+  pub number : ℕ
+  pub submitter : List ℕ
+  pub title : List ℕ
+  pub facts : Facts
+
+-- the request of this number that a caller submitted
+abbrev pub request_of : ℕ → Caller → Submission → Request
+request_of number caller s = record {
+  number = number;
+  submitter = caller_name caller;
+  title = s.title;
+  facts = s.facts;
+}
+
+-- a command's submission
+abbrev pub submission_of : Command → Option Submission
+submission_of (command.Submit submission) = Some submission
+submission_of _ = None
+
+-- who submits what
+pub record Submitted : Type 0 where
+  pub submitter : List ℕ
+  pub submission : Submission
+
+-- the Submit calls, the newest first
+abbrev pub submitted : History → List Submitted
+submitted cs = filter_map (λ c. option_map (λ s. record { submitter = caller_name c.caller; submission = s }) (submission_of c.command)) cs
+
+-- numbered from 1 in the order of their calls, so the newest has the greatest number
+abbrev pub numbered : List Submitted → List Request
+numbered [] = []
+numbered (s ∷ rest) =
+    record { number = length rest + 1; submitter = s.submitter; title = s.submission.title; facts = s.submission.facts }
+    ∷ numbered rest
+
+-- request k is the k-th Submit
+abbrev pub requests : History → List Request
+requests cs = numbered (submitted cs)
+
+-- the request has this number
+abbrev pub has_number : ℕ → Request → Bool
+has_number k r = k == r.number
+
+-- the request of this number
+abbrev pub request : History → ℕ → Option Request
+request cs k = find (has_number k) (requests cs)
+
+-- a reviewer's vote in a command
+abbrev pub vote_of : List ℕ → Command → Option Voted
+vote_of reviewer (command.Review b) =
+    Some (record { request = b.request; reviewer = reviewer; vote = b.vote; note = b.note })
+vote_of reviewer _ = None
+
+-- the Reviews
+abbrev pub votes : History → List Voted
+votes cs = filter_map (λ c. vote_of (caller_name c.caller) c.command) cs
+
+-- the votes on a request
+abbrev pub votes_on : List Voted → ℕ → List Voted
+votes_on vs k = filter (λ v. k == v.request) vs
+
+-- the vote is a yes
+abbrev pub is_yes : Voted → Bool
+is_yes v = elim v.vote [ vote.Yes ↦ true | vote.No ↦ false ]
+
+-- the vote is this reviewer's
+abbrev pub is_vote_of : List ℕ → Voted → Bool
+is_vote_of reviewer v = bytes_eq reviewer v.reviewer
+
+-- the command withdraws the request
+abbrev pub withdraws : ℕ → Command → Bool
+withdraws k (command.Withdraw number) = k == number
+withdraws k _ = false
+
+-- some call withdraws the request
+abbrev pub is_withdrawn : History → ℕ → Bool
+is_withdrawn cs k = list_any (λ c. withdraws k c.command) cs
+
+-- what was returned for a request
+pub record Returned : Type 0 where
+  pub request : ℕ
+  pub signer : List ℕ
+  pub facts : Facts
+
+-- a signer's return in a command
+abbrev pub return_of : List ℕ → Command → Option Returned
+return_of signer (command.Return h) = Some (record { request = h.request; signer = signer; facts = h.facts })
+return_of signer _ = None
+
+-- the Returns
+abbrev pub returns : History → List Returned
+returns cs = filter_map (λ c. return_of (caller_name c.caller) c.command) cs
+
+-- some call returns the request's signed file
+abbrev pub is_returned : History → ℕ → Bool
+is_returned cs k = list_any (λ r. k == r.request) (returns cs)
+
+-- own: one no rejects a request, and two yes approve it
+abbrev pub state_by_votes : List Voted → State
+state_by_votes vs =
+    if list_any (λ v. not (is_yes v)) vs then states.Rejected
+    else (if nat_le 2 (count_by is_yes vs) then states.Approved else states.Open)
+
+-- own: the state of a request that is returned or not, withdrawn or not, with these votes on it
+abbrev pub state_by : Bool → Bool → List Voted → State
+state_by is_signed is_taken vs =
+    if is_signed then states.Signed else (if is_taken then states.Withdrawn else state_by_votes vs)
+
+-- the state of a request
+abbrev pub state : History → ℕ → State
+state cs k = state_by (is_returned cs k) (is_withdrawn cs k) (votes_on (votes cs) k)

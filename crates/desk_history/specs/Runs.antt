@@ -1,0 +1,72 @@
+-- What a call is answered, and runs of calls.
+use Rattle.std.specs.Prelude.{ℕ, Bool, true, false, not, ◌&&◌, if◌then◌else◌, List, [], ◌∷◌, find, Option, Some, None, bytes_eq}
+use Rattle.desk_bytes.specs.declared.refusal.Refusal.{Refusal}
+use Rattle.desk_bytes.specs.declared.refusal.Refusal.TheVariants as refusals
+use Rattle.desk_texts.specs.declared.command.Call.{Call}
+use Rattle.desk_texts.specs.declared.reply.Reply.{Reply}
+use Rattle.desk_texts.specs.Callers.{caller_name}
+use Rattle.desk_history.specs.Calls.{History}
+use Rattle.desk_history.specs.declared.rows.Minute.{Minute}
+use Rattle.desk_history.specs.Replies.{minutes, reply}
+use Rattle.desk_texts.specs.CommandTexts.{text_of}
+use Rattle.desk_history.specs.declared.answer.Answer.{Answer}
+use Rattle.desk_history.specs.declared.answer.Answer.TheVariants.{Accepted, Refused, Repeated}
+use Rattle.desk_history.specs.Refusals.{is_known, refusal}
+
+-- the minute is of a call with this caller and key
+abbrev pub has_key : List ℕ → List ℕ → Minute → Bool
+has_key caller key m = bytes_eq caller (caller_name m.caller) && bytes_eq key m.key
+
+-- the minute of the caller's earlier call with the same key
+abbrev pub earlier : History → Call → Option Minute
+earlier cs c = find (has_key (caller_name c.caller) c.key) (minutes cs)
+
+-- own: a key repeats the call that it was given for, with the reply given then, and serves no other command
+abbrev pub repeated : Minute → List ℕ → Answer
+repeated m text = if bytes_eq m.text text then Repeated m.reply else Refused refusals.KeyReused
+
+-- a call with a new key is refused, or accepted with this reply
+abbrev pub anew : Option Refusal → Reply → Answer
+anew None reply = Accepted reply
+anew (Some refusal) reply = Refused refusal
+
+-- the answer to a caller who is known
+abbrev pub answer_known : Option Minute → List ℕ → Option Refusal → Reply → Answer
+answer_known (Some m) text refusal reply = repeated m text
+answer_known None text refusal reply = anew refusal reply
+
+-- own: what the call is answered after these: who calls, then the key, then the refusals of a call with a new key
+abbrev pub answer : History → Call → Answer
+answer cs c =
+    if not (is_known cs c.caller) then Refused refusals.UnknownCaller
+    else answer_known (earlier cs c) (text_of c.command) (refusal cs c) (reply cs c)
+
+-- the call joins the history
+abbrev pub is_accepted : Answer → Bool
+is_accepted (Accepted reply) = true
+is_accepted _ = false
+
+-- the reply, where the call is answered with one
+abbrev pub reply_in : Answer → Option Reply
+reply_in (Accepted reply) = Some reply
+reply_in (Repeated reply) = Some reply
+reply_in (Refused refusal) = None
+
+-- the history after a call: a repeated and a refused one leave no trace
+abbrev pub next : History → Call → History
+next cs c = if is_accepted (answer cs c) then c ∷ cs else cs
+
+-- the history after calls, the first of them first
+abbrev pub run : History → List Call → History
+run cs [] = cs
+run cs (c ∷ calls) = run (next cs c) calls
+
+-- what the calls are answered, each after those before it
+abbrev pub answers : History → List Call → List Answer
+answers cs [] = []
+answers cs (c ∷ calls) = answer cs c ∷ answers (next cs c) calls
+
+-- each call was accepted after those before it
+abbrev pub is_legal : History → Bool
+is_legal [] = true
+is_legal (c ∷ cs) = is_accepted (answer cs c) && is_legal cs

@@ -1,0 +1,90 @@
+-- What the desk says of an image.
+use Rattle.std.specs.Prelude.{ℕ, ◌+◌, Bool, false, not, ◌||◌, nat_lt, if◌then◌else◌, List, [], ◌∷◌, Option, Some, None}
+use Rattle.std.specs.List.{list_any}
+use Rattle.std.specs.Option.{option_map_or, option_or}
+use Rattle.sbat.specs.declared.component.Component.{Component}
+use Rattle.desk_texts.specs.declared.facts.Facts.{Facts}
+use Rattle.desk_texts.specs.declared.kind.ListedKind.{ListedKind}
+use Rattle.desk_texts.specs.declared.kind.ListedKind.TheVariants as kinds
+use Rattle.desk_history.specs.Calls.{History}
+use Rattle.desk_history.specs.Level.{level}
+use Rattle.desk_history.specs.Listing.{is_listed}
+use Rattle.desk_history.specs.Revocations.{is_revoked}
+use Rattle.desk_history.specs.declared.finding.Below.{Below}
+use Rattle.desk_history.specs.declared.finding.Verdict.{Verdict}
+use Rattle.desk_history.specs.declared.finding.Verdict.TheVariants.{Allowed, DbxCertificate, DbxDigest, NotListed, Sbat}
+
+-- what is revoked and what is listed, of images and of certificates, and the generation that is asked under a name
+pub record Standing : Type 0 where
+  pub revoked : ListedKind → List ℕ → Bool
+  pub listed : ListedKind → List ℕ → Bool
+  pub asked : List ℕ → Option ℕ
+
+-- what calls leave standing
+abbrev pub standing : History → Standing
+standing cs = record {
+  revoked = λ kind digest. is_revoked kind cs digest;
+  listed = λ kind digest. is_listed kind cs digest;
+  asked = λ name. level cs name;
+}
+
+-- the image's digest is revoked (UEFI 2.10, 32.5.3.3). own: or the one that a signature of it would hold
+abbrev pub has_revoked_digest : Standing → Facts → Bool
+has_revoked_digest s x = s.revoked kinds.Digest x.digest || s.revoked kinds.Digest x.signing
+
+-- a certificate that the image carries is revoked (UEFI 2.10, 32.5.3.3). own: at whatever time
+abbrev pub has_revoked_certificate : Standing → Facts → Bool
+has_revoked_certificate s x = list_any (s.revoked kinds.Certificate) x.carried
+
+-- the generation is below the one that is asked, if one is
+abbrev pub is_less : ℕ → Option ℕ → Bool
+is_less generation asked = option_map_or (λ needed. nat_lt generation needed) asked false
+
+-- the component's generation is below the level's (SBAT.md, "Version Check"); one that the level doesn't name isn't
+abbrev pub is_below : Standing → Component → Bool
+is_below s x = is_less x.generation (s.asked x.name)
+
+-- the image is barred: its digest, a certificate or a component's generation is revoked
+abbrev pub bars : Standing → Facts → Bool
+bars s x = has_revoked_digest s x || has_revoked_certificate s x || list_any (is_below s) x.components
+
+-- the image stands in db (UEFI 2.10, 32.5.3.3): by its digest, or by a certificate that it carries
+abbrev pub lists_image : Standing → Facts → Bool
+lists_image s x = s.listed kinds.Digest x.digest || list_any (s.listed kinds.Certificate) x.carried
+
+-- the image is barred after these calls
+abbrev pub is_barred : History → Facts → Bool
+is_barred cs x = bars (standing cs) x
+
+-- the image stands in db after these calls
+abbrev pub stands_in_db : History → Facts → Bool
+stands_in_db cs x = lists_image (standing cs) x
+
+-- what the component at this place lacks to the generation that is asked, if one is
+abbrev pub lack_at : ℕ → ℕ → Option ℕ → Option Below
+lack_at place generation None = None
+lack_at place generation (Some needed) =
+    if nat_lt generation needed then Some (record { place = place; needs = needed }) else None
+
+-- the first component below the level, of components from this place on
+abbrev pub first_below : Standing → ℕ → List Component → Option Below
+first_below s place [] = None
+first_below s place (x ∷ xs) =
+    option_or (lack_at place x.generation (s.asked x.name)) (first_below s (place + 1) xs)
+
+-- own: the first that holds is the verdict
+abbrev pub verdict_by : Bool → Bool → Bool → Option Below → Verdict
+verdict_by digest certificate listed below =
+    if digest then DbxDigest
+    else (if certificate then DbxCertificate
+    else (if not listed then NotListed
+    else option_map_or Sbat below Allowed))
+
+-- what is said of an image where this stands
+abbrev pub verdict_on : Standing → Facts → Verdict
+verdict_on s x =
+    verdict_by (has_revoked_digest s x) (has_revoked_certificate s x) (lists_image s x) (first_below s 0 x.components)
+
+-- what the desk says of an image, after these calls
+abbrev pub verdict : History → Facts → Verdict
+verdict cs x = verdict_on (standing cs) x

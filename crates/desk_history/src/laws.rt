@@ -1,0 +1,53 @@
+//! Laws of the definitions: the clause of each function is one.
+ghost use Rattle.desk_history.specs.Laws as law;
+
+/// An image is allowed exactly where it isn't barred and stands in db.
+pub fn allows_exactly()
+    ensures { law.AllowsExactly }
+{}
+
+/// An image that is barred stays barred.
+pub fn what_is_barred_stays_barred()
+    ensures { law.StaysBarred }
+{}
+
+/// The history at each step of a run goes on from those before it.
+pub fn runs_go_on()
+    ensures { law.RunsGoOn }
+{}
+
+/// The legal histories are those that runs from nothing leave.
+pub fn legal_histories_are_runs()
+    ensures { law.LegalIsRun }
+{}
+
+/// The listed rows are those of the entries that are listed.
+pub fn listed_rows_are_listed()
+    ensures { law.ListsListed }
+{}
+
+/// In a legal history each key of a caller stands once.
+pub fn keys_stand_once()
+    ensures { law.KeysStandOnce }
+{}
+
+/// In the tables of a legal history no two rows have the same key.
+pub fn rows_stand_once()
+    ensures { law.RowsStandOnce }
+{}
+
+/// What a series of lives may leave is legal.
+pub fn series_are_legal()
+    ensures { law.EndsAreLegal }
+{}
+
+/// Each call of a series that was answered Ok was answered at some history.
+pub fn answers_have_histories()
+    ensures { law.AnswersHaveHistories }
+{}
+
+/// What a series leaves holds each call that was answered Ok, with its reply, and goes on from the history of that
+/// time.
+pub fn answers_are_kept()
+    ensures { law.AnswersAreKept }
+{}

@@ -1,0 +1,36 @@
+//! What must be believed of the desk's decisions: what a history of accepted calls means, what each call is answered after
+//! it, what stops leave of it, and the laws of these definitions.
+#![tactic(auto)]
+
+mod answer;
+mod finding;
+mod laws;
+mod limits;
+mod rows;
+mod rules;
+mod standing;
+mod verdicts;
+mod write;
+
+pub use answer::Answer;
+pub use finding::{Below, Verdict};
+pub use laws::{
+    allows_exactly, answers_are_kept, answers_have_histories, keys_stand_once,
+    legal_histories_are_runs, listed_rows_are_listed, rows_stand_once, runs_go_on,
+    series_are_legal, what_is_barred_stays_barred,
+};
+pub use limits::{
+    MOST_CALLS, MOST_LEVEL_COMPONENTS, MOST_LISTED, MOST_PEOPLE, MOST_REQUESTS,
+    MOST_REVOKED_CERTIFICATES, MOST_REVOKED_DIGESTS,
+};
+pub use rows::{
+    CommandText, Entry, EntryBody, Minute, RequestCertificateRow, RequestComponentRow, RequestRow,
+    ReturnRow, Voted,
+};
+pub use rules::{
+    image_refusal, is_above, is_for, is_later, is_same, raise_refusal, refuse_if, return_by,
+    review_by, withdraw_by,
+};
+pub use standing::Standing;
+pub use verdicts::{bars, lists_image, verdict_of};
+pub use write::Write;

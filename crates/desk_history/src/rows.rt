@@ -1,0 +1,136 @@
+//! Rows of the desk's tables.
+ghost use Rattle.std.specs.Prelude.{◌≡◌, ℕ, List, string_bytes};
+
+use desk_bytes::Digest;
+use desk_texts::{
+    Caller, Key, ListedKind, Note, PersonName, Reply, RequestNumber, State, Title, Vote,
+};
+use sbat::{ComponentName, Generation};
+use std::alloc::AllocError;
+use std::marker::Model;
+
+/// The canonical text of a command. A contract sees the list of its bytes.
+#[derive(Debug, Drop)]
+pub struct CommandText {
+    text: String,
+}
+
+impl Model for CommandText {
+    ghost Value = { List ℕ };
+
+    ghost view = { λ t. string_bytes t.text };
+}
+
+impl CommandText {
+    /// The text. Takes no memory.
+    pub fn new(text: String) -> CommandText
+        ensures { result ≡ string_bytes text }
+    {
+        CommandText { text }
+    }
+
+    /// Its bytes, as text.
+    pub fn as_str(&self) -> &str
+        ensures { result.now ≡ self.now }
+    {
+        self.text.as_str()
+    }
+}
+
+/// The bytes of a listed certificate, and none for the digest of an image. A contract sees the list of them.
+#[derive(Debug, Drop)]
+pub struct EntryBody {
+    bytes: Vec<u8>,
+}
+
+impl Model for EntryBody {
+    ghost Value = { List ℕ };
+
+    ghost view = { λ b. b.bytes.items };
+}
+
+impl EntryBody {
+    /// These bytes. Takes no memory.
+    pub fn new(bytes: Vec<u8>) -> EntryBody
+        ensures { result ≡ bytes.items }
+    {
+        EntryBody { bytes }
+    }
+
+    /// The bytes.
+    pub fn as_slice(&self) -> &[u8]
+        ensures { result.now ≡ self.now }
+    {
+        &self.bytes
+    }
+}
+
+/// What the minutes hold of an accepted call: its number from 1, who called, the caller's key, the canonical text of
+/// the command, and the reply.
+#[derive(Debug, Drop)]
+pub struct Minute {
+    pub number: u64,
+    pub caller: Caller,
+    pub key: Key,
+    pub text: CommandText,
+    pub reply: Reply,
+}
+
+/// A request, with its state: who submitted what, the length and the gap of the image's file, the SHA-256 of the
+/// file, the image's digest, and the digest that a signature of it holds.
+#[derive(Debug, Drop)]
+pub struct RequestRow {
+    pub number: RequestNumber,
+    pub submitter: PersonName,
+    pub title: Title,
+    pub length: u64,
+    pub gap: u64,
+    pub file: Digest,
+    pub digest: Digest,
+    pub signing: Digest,
+    pub state: State,
+}
+
+/// A certificate that a request's image carries, by the SHA-256 of its TBSCertificate.
+#[derive(Clone, Copy, Debug, PartialEq, Eq)]
+pub struct RequestCertificateRow {
+    pub request: RequestNumber,
+    pub digest: Digest,
+}
+
+/// A component of a request's image, with its place among them from 0.
+#[derive(Debug, Drop)]
+pub struct RequestComponentRow {
+    pub request: RequestNumber,
+    pub place: u64,
+    pub name: ComponentName,
+    pub generation: Generation,
+}
+
+/// A vote on a request, and who gave it.
+#[derive(Debug, Drop)]
+pub struct Voted {
+    pub request: RequestNumber,
+    pub reviewer: PersonName,
+    pub vote: Vote,
+    pub note: Note,
+}
+
+/// The signed file of a request: who returned it, how many bytes it has, the SHA-256 of it, and the image's digest.
+#[derive(Debug, Drop)]
+pub struct ReturnRow {
+    pub request: RequestNumber,
+    pub signer: PersonName,
+    pub length: u64,
+    pub file: Digest,
+    pub digest: Digest,
+}
+
+/// A listed entry: a certificate by the SHA-256 of its TBSCertificate and with its bytes, or the digest of an image
+/// without any.
+#[derive(Debug, Drop)]
+pub struct Entry {
+    pub kind: ListedKind,
+    pub digest: Digest,
+    pub body: EntryBody,
+}

@@ -1,0 +1,149 @@
+//! What each rule decides by itself: of values, not of histories or rows.
+ghost use Rattle.std.specs.Prelude.{◌≡◌};
+ghost use Rattle.desk_history.specs.Calls.{is_same_kind};
+ghost use Rattle.desk_history.specs.Level as level;
+ghost use Rattle.desk_history.specs.Refusals as spec;
+ghost use Rattle.desk_history.specs.Verdicts.{bars as bars_on, lists_image as lists_on};
+
+use crate::standing::Standing;
+use crate::verdicts::{bars, lists_image};
+use desk_bytes::{Digest, Refusal};
+use desk_texts::{Command, Facts, ListedKind, Raise, Role, State};
+use sbat::{Generation, Stamp};
+
+/// Whether both are of one kind.
+pub fn is_same(a: ListedKind, b: ListedKind) -> bool
+    ensures { result ≡ is_same_kind a b }
+{
+    match (a, b) {
+        (ListedKind::Digest, ListedKind::Digest)
+        | (ListedKind::Certificate, ListedKind::Certificate) => true,
+        (ListedKind::Digest, ListedKind::Certificate)
+        | (ListedKind::Certificate, ListedKind::Digest) => false,
+    }
+}
+
+/// Whether people of the role give the command.
+pub fn is_for(role: Role, command: &Command) -> bool
+    ensures { result ≡ spec.is_for role command.now }
+{
+    match command {
+        Command::AddPerson(_) => false,
+        Command::Submit(_) | Command::Withdraw(_) => matches!(
+            role,
+            Role::Submitter | Role::Reviewer
+        ),
+        Command::Review(_) => matches!(role, Role::Reviewer),
+        Command::Return(_) => matches!(role, Role::Signer),
+        Command::ListCertificate(_)
+        | Command::ListDigest(_)
+        | Command::Unlist(_)
+        | Command::RevokeDigest(_)
+        | Command::RevokeCertificate(_)
+        | Command::RaiseLevel(_)
+        | Command::ImportRevocations(_) => matches!(role, Role::Officer),
+    }
+}
+
+/// Whether the generation is above the present one, if there is one.
+pub fn is_above(generation: Generation, present: Option<Generation>) -> bool
+    ensures { result ≡ level.is_above generation present }
+{
+    match present {
+        None => true,
+        Some(present) => present.value() < generation.value(),
+    }
+}
+
+/// The refusal where the condition holds.
+pub fn refuse_if(condition: bool, refusal: Refusal) -> Option<Refusal>
+    ensures { result ≡ spec.refuse_if condition refusal }
+{
+    if condition { Some(refusal) } else { None }
+}
+
+/// Why a vote isn't taken, on a request in this state, the reviewer's own or not, on which the reviewer voted or not.
+pub fn review_by(state: State, is_own: bool, has_voted: bool) -> Option<Refusal>
+    ensures { result ≡ spec.review_by state is_own has_voted }
+{
+    match state {
+        State::Open => {
+            if is_own {
+                Some(Refusal::OwnRequest)
+            } else {
+                refuse_if(has_voted, Refusal::AlreadyReviewed)
+            }
+        }
+        State::Approved | State::Rejected | State::Withdrawn | State::Signed => Some(
+            Refusal::WrongState,
+        ),
+    }
+}
+
+/// Why a request in this state isn't withdrawn, the caller's own or not.
+pub fn withdraw_by(state: State, is_own: bool) -> Option<Refusal>
+    ensures { result ≡ spec.withdraw_by state is_own }
+{
+    if !is_own {
+        return Some(Refusal::NoSuchRequest);
+    }
+    match state {
+        State::Open | State::Approved => None,
+        State::Rejected | State::Withdrawn | State::Signed => Some(Refusal::WrongState),
+    }
+}
+
+/// Why the image isn't taken as the signed one of the image that has this digest and this digest to be signed.
+pub fn image_refusal<S: Standing>(
+    lists: &S,
+    digest: Digest,
+    signing: Digest,
+    facts: &Facts,
+) -> Option<Refusal>
+    ensures { result ≡ spec.image_refusal digest signing facts.now
+        (bars_on (S.standing lists.now) facts.now) (lists_on (S.standing lists.now) facts.now) }
+{
+    if facts.digest != signing && facts.digest != digest {
+        return Some(Refusal::DigestDiffers);
+    }
+    if bars(lists, facts) {
+        return Some(Refusal::Revoked);
+    }
+    refuse_if(!lists_image(lists, facts), Refusal::NotListed)
+}
+
+/// Why a file isn't taken for a request in this state, of which the image is refused or not.
+pub fn return_by(state: State, image: Option<Refusal>) -> Option<Refusal>
+    ensures { result ≡ spec.return_by state image }
+{
+    match state {
+        State::Approved => image,
+        State::Open | State::Rejected | State::Withdrawn | State::Signed => Some(
+            Refusal::WrongState,
+        ),
+    }
+}
+
+/// Why the generation isn't raised from the present one, where the level's stamp is this.
+pub fn raise_refusal(present: Option<Generation>, now: Stamp, raise: &Raise) -> Option<Refusal>
+    ensures { result ≡ spec.raise_refusal present now raise.now }
+{
+    let component = &raise.component;
+    if component.name.is_sbat() {
+        return Some(Refusal::NotHigher);
+    }
+    if !is_above(component.generation, present) {
+        return Some(Refusal::NotHigher);
+    }
+    refuse_if(raise.stamp.value() <= now.value(), Refusal::StampNotLater)
+}
+
+/// Whether a stamp is there, and above the present one.
+pub fn is_later(now: Stamp, stamp: Option<Stamp>) -> bool
+    ensures { result ≡ spec.is_later now stamp }
+{
+    match stamp {
+        None => false,
+        Some(stamp) => now.value() < stamp.value(),
+    }
+}

@@ -1,0 +1,130 @@
+//! What is said of an image.
+ghost use Rattle.std.specs.Prelude.{◌≡◌};
+ghost use Rattle.std.specs.List.{list_any};
+ghost use Rattle.desk_history.specs.Verdicts as spec;
+
+use crate::finding::{Below, Verdict};
+use crate::standing::Standing;
+use desk_bytes::Digest;
+use desk_texts::{Facts, ListedKind};
+use sbat::{Component, Generation};
+
+/// Whether the image's digest, or the one that a signature of it would hold, is revoked.
+fn has_revoked_digest<S: Standing>(lists: &S, facts: &Facts) -> bool
+    ensures { result ≡ spec.has_revoked_digest (S.standing lists.now) facts.now }
+{
+    lists.is_revoked(ListedKind::Digest, facts.digest)
+        || lists.is_revoked(ListedKind::Digest, facts.signing)
+}
+
+/// Whether one of the certificates is revoked.
+fn has_revoked<S: Standing>(lists: &S, certificates: &[Digest]) -> bool
+    ensures { result
+        ≡ list_any ((S.standing lists.now).revoked ListedKind.Certificate) certificates.now }
+{
+    for certificate in certificates {
+        if lists.is_revoked(ListedKind::Certificate, *certificate) {
+            return true;
+        }
+    }
+    false
+}
+
+/// Whether one of the certificates is listed.
+fn has_listed<S: Standing>(lists: &S, certificates: &[Digest]) -> bool
+    ensures { result
+        ≡ list_any ((S.standing lists.now).listed ListedKind.Certificate) certificates.now }
+{
+    for certificate in certificates {
+        if lists.is_listed(ListedKind::Certificate, *certificate) {
+            return true;
+        }
+    }
+    false
+}
+
+/// Whether the image's digest or a certificate that it carries is listed.
+pub fn lists_image<S: Standing>(lists: &S, facts: &Facts) -> bool
+    ensures { result ≡ spec.lists_image (S.standing lists.now) facts.now }
+{
+    lists.is_listed(ListedKind::Digest, facts.digest) || has_listed(lists, facts.carried.as_slice())
+}
+
+/// What the component at this place lacks to the generation that is asked.
+fn lack_at(place: usize, generation: Generation, asked: Option<Generation>) -> Option<Below>
+    ensures { result ≡ spec.lack_at place generation asked }
+{
+    match asked {
+        None => None,
+        Some(needs) => {
+            if generation.value() < needs.value() {
+                Some(Below { place, needs })
+            } else {
+                None
+            }
+        }
+    }
+}
+
+/// The first component below the level.
+fn first_below<S: Standing>(lists: &S, components: &[Component]) -> Option<Below>
+    ensures { result ≡ spec.first_below (S.standing lists.now) 0 components.now }
+{
+    for place in 0..components.len() {
+        let component = &components[place];
+        if let Some(below) = lack_at(place, component.generation, lists.asked(&component.name)) {
+            return Some(below);
+        }
+    }
+    None
+}
+
+/// Whether the image is barred.
+pub fn bars<S: Standing>(lists: &S, facts: &Facts) -> bool
+    ensures { result ≡ spec.bars (S.standing lists.now) facts.now }
+{
+    has_revoked_digest(lists, facts)
+        || has_revoked(lists, facts.carried.as_slice())
+        || has_below(lists, facts.components.as_slice())
+}
+
+/// Whether the generation is below the one that is asked, if one is.
+fn is_less(generation: Generation, asked: Option<Generation>) -> bool
+    ensures { result ≡ spec.is_less generation asked }
+{
+    match asked {
+        None => false,
+        Some(needs) => generation.value() < needs.value(),
+    }
+}
+
+/// Whether a component is below the level.
+fn has_below<S: Standing>(lists: &S, components: &[Component]) -> bool
+    ensures { result ≡ list_any (spec.is_below (S.standing lists.now)) components.now }
+{
+    for component in components {
+        if is_less(component.generation, lists.asked(&component.name)) {
+            return true;
+        }
+    }
+    false
+}
+
+/// What is said of the image.
+pub fn verdict_of<S: Standing>(lists: &S, facts: &Facts) -> Verdict
+    ensures { result ≡ spec.verdict_on (S.standing lists.now) facts.now }
+{
+    if has_revoked_digest(lists, facts) {
+        return Verdict::DbxDigest;
+    }
+    if has_revoked(lists, facts.carried.as_slice()) {
+        return Verdict::DbxCertificate;
+    }
+    if !lists_image(lists, facts) {
+        return Verdict::NotListed;
+    }
+    match first_below(lists, facts.components.as_slice()) {
+        Some(below) => Verdict::Sbat(below),
+        None => Verdict::Allowed,
+    }
+}

@@ -1,0 +1,42 @@
+//! What the desk writes into its tables.
+use crate::{
+    Entry, Minute, RequestCertificateRow, RequestComponentRow, RequestRow, ReturnRow, Voted,
+};
+use desk_bytes::Digest;
+use desk_texts::{Listing, Outcome, Person};
+use sbat::{Component, Stamp};
+
+/// A row that is written.
+#[derive(Debug, Drop)]
+pub enum Write {
+    /// A person is put in.
+    Person(Person),
+    /// An accepted call is put in.
+    Call(Minute),
+    /// A request is put in.
+    Request(RequestRow),
+    /// A certificate of a request's image is put in.
+    RequestCertificate(RequestCertificateRow),
+    /// A component of a request's image is put in.
+    RequestComponent(RequestComponentRow),
+    /// A vote is put in.
+    Vote(Voted),
+    /// The request gets this state.
+    State(Outcome),
+    /// A returned file is put in.
+    Return(ReturnRow),
+    /// A listed entry is put in.
+    List(Entry),
+    /// The listed entry is taken out.
+    Unlist(Listing),
+    /// A revoked digest of an image is put in.
+    RevokeDigest(Digest),
+    /// A revoked digest of a certificate is put in.
+    RevokeCertificate(Digest),
+    /// A component of the level is put in.
+    Component(Component),
+    /// The row of the component's name gets its generation.
+    Generation(Component),
+    /// The level gets this stamp.
+    Stamp(Stamp),
+}

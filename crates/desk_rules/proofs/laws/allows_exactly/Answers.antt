@@ -1,5 +1,0 @@
-use Rattle.desk_rules.proofs.VerdictLemmas as lemmas
-use Rattle.desk_rules.proofs.laws.allows_exactly.Goals as goal
-
-pub returns : goal.returns
-returns c = lemmas.allows_exactly

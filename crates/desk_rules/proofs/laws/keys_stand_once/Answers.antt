@@ -1,5 +1,0 @@
-use Rattle.desk_rules.proofs.KeyLemmas as lemmas
-use Rattle.desk_rules.proofs.laws.keys_stand_once.Goals as goal
-
-pub returns : goal.returns
-returns c = lemmas.keys_stand_once

@@ -1,5 +1,0 @@
-use Rattle.desk_rules.proofs.RunLemmas as lemmas
-use Rattle.desk_rules.proofs.laws.legal_histories_are_runs.Goals as goal
-
-pub returns : goal.returns
-returns c = lemmas.legal_histories_are_runs

@@ -1,5 +1,0 @@
-use Rattle.desk_rules.proofs.ListingLemmas as lemmas
-use Rattle.desk_rules.proofs.laws.listed_rows_are_listed.Goals as goal
-
-pub returns : goal.returns
-returns c = lemmas.listed_rows_are_listed

@@ -1,5 +1,0 @@
-use Rattle.desk_rules.proofs.RowLemmas as lemmas
-use Rattle.desk_rules.proofs.laws.rows_stand_once.Goals as goal
-
-pub returns : goal.returns
-returns c = lemmas.rows_stand_once

@@ -1,5 +1,0 @@
-use Rattle.desk_rules.proofs.RunLemmas as lemmas
-use Rattle.desk_rules.proofs.laws.runs_go_on.Goals as goal
-
-pub returns : goal.returns
-returns c = lemmas.runs_go_on

@@ -1,5 +1,0 @@
-use Rattle.desk_rules.proofs.LifeLemmas as lemmas
-use Rattle.desk_rules.proofs.laws.series_are_legal.Goals as goal
-
-pub returns : goal.returns
-returns c = lemmas.series_are_legal

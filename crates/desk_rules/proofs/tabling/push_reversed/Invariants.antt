@@ -1,9 +1,0 @@
-use Rattle.std.proofs.Common.{◌≡◌, ◌≤◌, ◌++◌, length, take}
-use Rattle.std.specs.Prelude.{reverse}
-use Rattle.desk_rules.proofs.tabling.push_reversed.Given as goal
-
-abbrev pub invariant-loop-place : goal.invariant-loop-place
-invariant-loop-place l = (l.digests.items ++ reverse (take l.place l.named) ≡ l.initial.digests.items ++ reverse l.named) × (l.place ≤ length l.named)
-
-abbrev pub decreases-loop-place : goal.decreases-loop-place
-decreases-loop-place l = l.place

@@ -1,0 +1,141 @@
+//! The rows that decisions write.
+ghost use Rattle.std.specs.Prelude.{◌≡◌, [], MatchResult};
+ghost use Rattle.desk_texts.specs.Callers.{caller_name};
+ghost use Rattle.desk_history.specs.Requests.{request_of};
+ghost use Rattle.desk_history.specs.Tables.{request_row};
+ghost use Rattle.desk_rules.specs.Decisions as spec;
+
+use desk_bytes::{Digest, Refusal};
+use desk_history::{
+    CommandText, Entry, EntryBody, Minute, RequestComponentRow, RequestRow, ReturnRow, Voted,
+};
+use desk_texts::{
+    Ballot, Caller, Certificate, Handback, Key, ListedKind, Reply, RequestNumber, State, Submission,
+};
+use sbat::Component;
+use std::alloc::Global;
+
+/// The minute of a call. Takes memory for it.
+pub(crate) fn minute(
+    number: u64,
+    caller: &Caller,
+    key: &Key,
+    text: CommandText,
+    reply: &Reply,
+) -> Result<Minute, Refusal>
+    ensures { MatchResult result (λ row. row
+        ≡ record { number = number; caller = caller.now; key = key.now; text = text; reply = reply.now })
+        (λ refusal. refusal ≡ Refusal.NoMemory) }
+{
+    Ok(Minute {
+        number,
+        caller: caller.clone()?,
+        key: key.clone()?,
+        text,
+        reply: reply.clone()?,
+    })
+}
+
+/// The row of the request of this number, that is open. Takes memory for it.
+pub(crate) fn open_request(
+    alloc: Global,
+    number: RequestNumber,
+    caller: &Caller,
+    submission: &Submission,
+) -> Result<RequestRow, Refusal>
+    ensures { MatchResult result (λ row. row
+        ≡ request_row State.Open (request_of number caller.now submission.now))
+        (λ refusal. refusal ≡ Refusal.NoMemory) }
+{
+    let facts = &submission.facts;
+    Ok(RequestRow {
+        number,
+        submitter: caller.to_person_name(alloc)?,
+        title: submission.title.clone()?,
+        length: facts.extent.length(),
+        gap: facts.extent.gap(),
+        file: facts.file,
+        digest: facts.digest,
+        signing: facts.signing,
+        state: State::Open,
+    })
+}
+
+/// The row of a component of a request's image, with its place among them from 0. Takes memory for it.
+pub(crate) fn request_component(
+    request: RequestNumber,
+    place: u64,
+    component: &Component,
+) -> Result<RequestComponentRow, Refusal>
+    ensures { MatchResult result (λ row. row ≡ record {
+      request = request;
+      place = place;
+      name = component.now.name;
+      generation = component.now.generation;
+    }) (λ refusal. refusal ≡ Refusal.NoMemory) }
+{
+    Ok(RequestComponentRow {
+        request,
+        place,
+        name: component.name.clone()?,
+        generation: component.generation,
+    })
+}
+
+/// The row of the caller's vote. Takes memory for it.
+pub(crate) fn vote_row(alloc: Global, caller: &Caller, ballot: &Ballot) -> Result<Voted, Refusal>
+    ensures { MatchResult result (λ row. row ≡ spec.vote_row (caller_name caller.now) ballot.now)
+        (λ refusal. refusal ≡ Refusal.NoMemory) }
+{
+    Ok(Voted {
+        request: ballot.request,
+        reviewer: caller.to_person_name(alloc)?,
+        vote: ballot.vote,
+        note: ballot.note.clone()?,
+    })
+}
+
+/// The row of the caller's returned file. Takes memory for it.
+pub(crate) fn return_row(
+    alloc: Global,
+    caller: &Caller,
+    handback: &Handback,
+) -> Result<ReturnRow, Refusal>
+    ensures { MatchResult result
+        (λ row. row ≡ spec.handback_row (caller_name caller.now) handback.now)
+        (λ refusal. refusal ≡ Refusal.NoMemory) }
+{
+    Ok(ReturnRow {
+        request: handback.request,
+        signer: caller.to_person_name(alloc)?,
+        length: handback.facts.extent.length(),
+        file: handback.facts.file,
+        digest: handback.facts.digest,
+    })
+}
+
+/// The entry of the digest of an image. Takes no memory.
+pub(crate) fn digest_entry(alloc: Global, digest: Digest) -> Entry
+    ensures { result ≡ record { kind = ListedKind.Digest; digest = digest; body = [] } }
+{
+    Entry {
+        kind: ListedKind::Digest,
+        digest,
+        body: EntryBody::new(Vec::new(alloc)),
+    }
+}
+
+/// The entry of the certificate. Takes memory for its bytes.
+pub(crate) fn certificate_entry(alloc: Global, certificate: &Certificate) -> Result<Entry, Refusal>
+    ensures { MatchResult result (λ entry. entry ≡ record {
+      kind = ListedKind.Certificate;
+      digest = certificate.now.tbs;
+      body = certificate.now.body;
+    }) (λ refusal. refusal ≡ Refusal.NoMemory) }
+{
+    Ok(Entry {
+        kind: ListedKind::Certificate,
+        digest: certificate.tbs(),
+        body: EntryBody::new(Vec::from_slice(alloc, certificate.body())?),
+    })
+}
