@@ -6,7 +6,7 @@ use mir.Val.{bool_byte}
 use Rattle.std.proofs.lemmas.List.{reverse-append, take_more}
 use Rattle.std.proofs.lemmas.List.Folds.{list_any-append}
 use Rattle.std.proofs.lemmas.List.Sorted.{IsPermutation-reverse, list_any-IsPermutation}
-use Rattle.desk_history.specs.Calls.{is_among, once}
+use Rattle.desk_history.specs.Calls.{is_among, distinct}
 
 pub any_reverse : {X : Type 0} (p : X → Bool) (xs : List X) → list_any p (reverse xs) ≡ list_any p xs
 any_reverse p xs = sym (list_any-IsPermutation p xs (reverse xs) (IsPermutation-reverse xs))
@@ -32,6 +32,6 @@ one_most true n e = omega arith
 one_most false n e = omega arith
 
 -- one text more counts where it is new
-pub once_more : (t : List ℕ) (ts : List (List ℕ)) → length (once (t ∷ ts)) ≡ one_if (not (is_among ts t)) + length (once ts)
+pub once_more : (t : List ℕ) (ts : List (List ℕ)) → length (distinct (t ∷ ts)) ≡ one_if (not (is_among ts t)) + length (distinct ts)
 once_more t ts =
-    elim (is_among ts t) as (λ b. length (if b then once ts else t ∷ once ts) ≡ one_if (not b) + length (once ts)) [ true ↦ omega arith | false ↦ omega arith ]
+    elim (is_among ts t) as (λ b. length (if b then distinct ts else t ∷ distinct ts) ≡ one_if (not b) + length (distinct ts)) [ true ↦ omega arith | false ↦ omega arith ]

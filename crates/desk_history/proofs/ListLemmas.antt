@@ -6,7 +6,7 @@ use Rattle.std.proofs.lemmas.Bool.{or_cases, or_left, or_right}
 use Rattle.std.proofs.lemmas.Bool.Decides.{nat_tests}
 use Rattle.std.proofs.lemmas.List.Folds.{list_any-append}
 use Rattle.std.proofs.lemmas.Slice.Eq.{bytes_eq-Decides}
-use Rattle.desk_history.specs.Calls.{are_apart, is_among, once}
+use Rattle.desk_history.specs.Calls.{are_apart, is_among, distinct}
 
 pub same_text : (a b : List ℕ) → bytes_eq a b ≡ true → a ≡ b
 same_text a b h = (bytes_eq-Decides a b).0 h
@@ -52,10 +52,10 @@ pub apart-more : {X : Type 0} (same : X → X → Bool) (x : X) (xs : List X) �
 apart-more same x xs fresh rest = rw fresh rest
 
 -- each text of `once` is one of the texts
-pub any_once : (t : List ℕ) (ts : List (List ℕ)) → list_any (bytes_eq t) (once ts) ≡ list_any (bytes_eq t) ts
+pub any_once : (t : List ℕ) (ts : List (List ℕ)) → list_any (bytes_eq t) (distinct ts) ≡ list_any (bytes_eq t) ts
 any_once t [] = refl
 any_once t (u ∷ us) =
-    elim (is_among us u) as (λ b. is_among us u ≡ b → list_any (bytes_eq t) (if b then once us else u ∷ once us) ≡ (bytes_eq t u || list_any (bytes_eq t) us)) [
+    elim (is_among us u) as (λ b. is_among us u ≡ b → list_any (bytes_eq t) (if b then distinct us else u ∷ distinct us) ≡ (bytes_eq t u || list_any (bytes_eq t) us)) [
       | true ↦ λ e. any_once t us ∙ sym (known t u us e)
       | false ↦ λ e. ap (λ b. bytes_eq t u || b) (any_once t us)
     ] refl
@@ -68,12 +68,12 @@ any_once t (u ∷ us) =
         ] refl
 
 -- `once` holds no text twice
-pub once_apart : (ts : List (List ℕ)) → are_apart bytes_eq (once ts) ≡ true
+pub once_apart : (ts : List (List ℕ)) → are_apart bytes_eq (distinct ts) ≡ true
 once_apart [] = refl
 once_apart (t ∷ ts) =
-    elim (is_among ts t) as (λ b. is_among ts t ≡ b → are_apart bytes_eq (if b then once ts else t ∷ once ts) ≡ true) [
+    elim (is_among ts t) as (λ b. is_among ts t ≡ b → are_apart bytes_eq (if b then distinct ts else t ∷ distinct ts) ≡ true) [
       | true ↦ λ e. once_apart ts
-      | false ↦ λ e. apart-more bytes_eq t (once ts) (any_once t ts ∙ e) (once_apart ts)
+      | false ↦ λ e. apart-more bytes_eq t (distinct ts) (any_once t ts ∙ e) (once_apart ts)
     ] refl
 
 -- what is left from a place on begins with the item there

@@ -18,7 +18,7 @@ use Rattle.desk_history.specs.Calls.{History, are_apart}
 use Rattle.desk_history.specs.Level.{generations, names}
 use Rattle.desk_history.specs.People.{has_name, has_token, people}
 use Rattle.desk_history.specs.Replies.{minute, minutes}
-use Rattle.desk_history.specs.declared.rows.Voted.{Voted}
+use Rattle.desk_history.specs.declared.rows.VoteRow.{VoteRow}
 use Rattle.desk_history.specs.Requests.{Request, Returned, Submitted, is_returned, is_vote_of, is_withdrawn, numbered, request, returns, state, state_by, submitted, votes, votes_on}
 use Rattle.desk_history.specs.Revocations.{revocations}
 use Rattle.desk_history.specs.declared.rows.Minute.{Minute}
@@ -84,7 +84,7 @@ one_token cs old name _ own h = h
 
 -- votes
 
-any_vote : (v : Voted) (vs : List Voted) → list_any (is_vote_of v.reviewer) (votes_on vs v.request) ≡ list_any (is_vote_key v) vs
+any_vote : (v : VoteRow) (vs : List VoteRow) → list_any (is_vote_of v.reviewer) (votes_on vs v.request) ≡ list_any (is_vote_key v) vs
 any_vote v [] = refl
 any_vote v (w ∷ vs) =
     elim (v.request == w.request) as (λ b. list_any (is_vote_of v.reviewer) (cond b (w ∷ votes_on vs v.request) (votes_on vs v.request)) ≡ ((b && bytes_eq v.reviewer w.reviewer) || list_any (is_vote_key v) vs)) [
@@ -92,7 +92,7 @@ any_vote v (w ∷ vs) =
       | false ↦ any_vote v vs
     ]
 
-votes_first : (r : Option Request) (s : State) (vs : List Voted) (name : List ℕ) → review_refusal r s vs name ≡ None → list_any (is_vote_of name) vs ≡ false
+votes_first : (r : Option Request) (s : State) (vs : List VoteRow) (name : List ℕ) → review_refusal r s vs name ≡ None → list_any (is_vote_of name) vs ≡ false
 votes_first None s vs name h = no_refusal h
 votes_first (Some r) states.Open vs name h =
     elim (bytes_eq r.submitter name) as (λ b. (if b then Some refusals.OwnRequest else refuse_if (list_any (is_vote_of name) vs) refusals.AlreadyReviewed) ≡ None → list_any (is_vote_of name) vs ≡ false) [
@@ -104,7 +104,7 @@ votes_first (Some r) _ vs name h = no_refusal h
 one_vote : (cs : History) (old : Call) (given : Command) → own_refusal cs (caller_name old.caller) given ≡ None → are_apart is_vote_key (votes cs) ≡ true →
     are_apart is_vote_key (votes (record old { command = given } ∷ cs)) ≡ true
 one_vote cs old (command.Review b) own h =
-    let v : Voted = record { request = b.request; reviewer = caller_name old.caller; vote = b.vote; note = b.note } in
+    let v : VoteRow = record { request = b.request; reviewer = caller_name old.caller; vote = b.vote; note = b.note } in
     apart-more is_vote_key v (votes cs) (sym (any_vote v (votes cs)) ∙ votes_first (request cs b.request) (state cs b.request) (votes_on (votes cs) b.request) (caller_name old.caller) own) h
 one_vote cs old _ own h = h
 
@@ -114,7 +114,7 @@ any_return : (k : ℕ) (rs : List Returned) → list_any (λ (b : ReturnRow). k 
 any_return k [] = refl
 any_return k (r ∷ rs) = ap (λ b. (k == r.request) || b) (any_return k rs)
 
-unsigned : (r : Option Request) (is_signed is_taken : Bool) (vs : List Voted) (x : Facts) (barred listed : Bool) → return_refusal r (state_by is_signed is_taken vs) x barred listed ≡ None → is_signed ≡ false
+unsigned : (r : Option Request) (is_signed is_taken : Bool) (vs : List VoteRow) (x : Facts) (barred listed : Bool) → return_refusal r (state_by is_signed is_taken vs) x barred listed ≡ None → is_signed ≡ false
 unsigned r false is_taken vs x barred listed h = refl
 unsigned None true is_taken vs x barred listed h = no_refusal h
 unsigned (Some r) true is_taken vs x barred listed h = no_refusal h

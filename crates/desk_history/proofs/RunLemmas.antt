@@ -9,7 +9,7 @@ use Rattle.desk_bytes.specs.declared.refusal.Refusal.TheVariants as refusals
 use Rattle.desk_texts.specs.declared.command.Call.{Call}
 use Rattle.desk_texts.specs.declared.reply.Reply.{Reply}
 use Rattle.desk_texts.specs.Callers.{caller_name}
-use Rattle.desk_history.specs.Calls.{GoesOnFrom, History, once}
+use Rattle.desk_history.specs.Calls.{GoesOnFrom, History, distinct}
 use Rattle.desk_texts.specs.CommandTexts.{text_of}
 use Rattle.desk_history.specs.declared.rows.Minute.{Minute}
 use Rattle.desk_history.specs.Replies.{reply}
@@ -113,7 +113,7 @@ few false b d e f g h k = no_parts k
 legal_few : (cs : History) → is_legal cs ≡ true → Few (nat_le (length (people cs)) 1000) (nat_le (length (requests cs)) 100000) (nat_le (length (listed cs)) 10000)
 legal_few cs h =
     few (nat_le (length (people cs)) 1000) (nat_le (length (requests cs)) 100000) (nat_le (length (listed cs)) 10000)
-    (nat_le (length (once (revocations kinds.Digest cs))) 100000) (nat_le (length (once (revocations kinds.Certificate cs))) 10000)
+    (nat_le (length (distinct (revocations kinds.Digest cs))) 100000) (nat_le (length (distinct (revocations kinds.Certificate cs))) 10000)
     (nat_le (length (names (generations cs))) 10000) (nat_le (length cs) 1000000) (legal_within cs h)
 
 -- a legal history has room for a request's number

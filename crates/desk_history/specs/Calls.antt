@@ -29,9 +29,9 @@ abbrev pub is_among : List (List ℕ) → List ℕ → Bool
 is_among texts text = list_any (bytes_eq text) texts
 
 -- each text once
-abbrev pub once : List (List ℕ) → List (List ℕ)
-once [] = []
-once (t ∷ ts) = if is_among ts t then once ts else t ∷ once ts
+abbrev pub distinct : List (List ℕ) → List (List ℕ)
+distinct [] = []
+distinct (t ∷ ts) = if is_among ts t then distinct ts else t ∷ distinct ts
 
 -- no two items are the same by the test
 abbrev pub are_apart : {X : Type 0} → (X → X → Bool) → List X → Bool

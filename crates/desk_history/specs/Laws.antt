@@ -9,7 +9,7 @@ use Rattle.desk_texts.specs.declared.reply.Reply.{Reply}
 use Rattle.desk_history.specs.Calls.{GoesOnFrom, History, are_apart, has_same_key}
 use Rattle.desk_history.specs.declared.rows.Entry.{Entry}
 use Rattle.desk_history.specs.Listing.{has_entry, is_entry, is_listed, listed}
-use Rattle.desk_history.specs.declared.rows.Voted.{Voted}
+use Rattle.desk_history.specs.declared.rows.VoteRow.{VoteRow}
 use Rattle.desk_history.specs.declared.rows.Minute.{Minute}
 use Rattle.desk_history.specs.declared.rows.RequestRow.{RequestRow}
 use Rattle.desk_history.specs.declared.rows.ReturnRow.{ReturnRow}
@@ -48,7 +48,7 @@ abbrev pub is_call_key : Minute → Minute → Bool
 is_call_key a b = bytes_eq (caller_name a.caller) (caller_name b.caller) && bytes_eq a.key b.key
 
 -- two votes of one reviewer on one request
-abbrev pub is_vote_key : Voted → Voted → Bool
+abbrev pub is_vote_key : VoteRow → VoteRow → Bool
 is_vote_key a b = (a.request == b.request) && bytes_eq a.reviewer b.reviewer
 
 -- No two rows of a table have the same key.

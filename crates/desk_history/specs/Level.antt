@@ -5,7 +5,7 @@ use Rattle.desk_texts.specs.declared.command.Command.{Command}
 use Rattle.desk_texts.specs.declared.command.Command.TheVariants as command
 use Rattle.sbat.specs.declared.component.Component.{Component}
 use Rattle.sbat.specs.Fields.{sbat}
-use Rattle.desk_history.specs.Calls.{History, once}
+use Rattle.desk_history.specs.Calls.{History, distinct}
 
 -- the components whose generation a command names, the last first
 abbrev pub components_of : Command → List Component
@@ -38,7 +38,7 @@ level cs name = if is_sbat name then Some 1 else greatest (generations cs) name
 
 -- the names that the level has beside `sbat`, each once
 abbrev pub names : List Component → List (List ℕ)
-names xs = once (map (λ x. x.name) xs)
+names xs = distinct (map (λ x. x.name) xs)
 
 -- the number is above the present one, or there is none
 abbrev pub is_above : ℕ → Option ℕ → Bool

@@ -12,4 +12,5 @@ pub mod Revocations
 pub mod Runs
 pub mod Tables
 pub mod Verdicts
+pub mod Worked
 pub mod Writes

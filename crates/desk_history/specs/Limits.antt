@@ -1,7 +1,7 @@
 -- How much a desk holds.
 use Rattle.std.specs.Prelude.{Bool, ◌&&◌, nat_le, length}
 use Rattle.desk_texts.specs.declared.kind.ListedKind.TheVariants as kinds
-use Rattle.desk_history.specs.Calls.{History, once}
+use Rattle.desk_history.specs.Calls.{History, distinct}
 use Rattle.desk_history.specs.Level.{generations, names}
 use Rattle.desk_history.specs.Listing.{listed}
 use Rattle.desk_history.specs.People.{people}
@@ -15,7 +15,7 @@ is_within cs =
     nat_le (length (people cs)) MOST_PEOPLE
     && nat_le (length (requests cs)) MOST_REQUESTS
     && nat_le (length (listed cs)) MOST_LISTED
-    && nat_le (length (once (revocations kinds.Digest cs))) MOST_REVOKED_DIGESTS
-    && nat_le (length (once (revocations kinds.Certificate cs))) MOST_REVOKED_CERTIFICATES
+    && nat_le (length (distinct (revocations kinds.Digest cs))) MOST_REVOKED_DIGESTS
+    && nat_le (length (distinct (revocations kinds.Certificate cs))) MOST_REVOKED_CERTIFICATES
     && nat_le (length (names (generations cs))) MOST_LEVEL_COMPONENTS
     && nat_le (length cs) MOST_CALLS

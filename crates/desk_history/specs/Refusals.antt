@@ -22,7 +22,7 @@ use Rattle.desk_history.specs.Calls.{History}
 use Rattle.desk_history.specs.Level.{generations, greatest, is_above, is_sbat, raises_some, stamp}
 use Rattle.desk_history.specs.Listing.{is_listed}
 use Rattle.desk_history.specs.People.{has_name, has_token, people}
-use Rattle.desk_history.specs.declared.rows.Voted.{Voted}
+use Rattle.desk_history.specs.declared.rows.VoteRow.{VoteRow}
 use Rattle.desk_history.specs.Requests.{Request, is_vote_of, request, state, votes, votes_on}
 use Rattle.desk_history.specs.Revocations.{is_revoked}
 use Rattle.desk_history.specs.Limits.{is_within}
@@ -86,7 +86,7 @@ review_by state own voted =
     else (if own then Some refusals.OwnRequest else refuse_if voted refusals.AlreadyReviewed)
 
 -- Review, of the request with its state and the votes on it
-abbrev pub review_refusal : Option Request → State → List Voted → List ℕ → Option Refusal
+abbrev pub review_refusal : Option Request → State → List VoteRow → List ℕ → Option Refusal
 review_refusal None state vs reviewer = Some refusals.NoSuchRequest
 review_refusal (Some r) state vs reviewer =
     review_by state (bytes_eq r.submitter reviewer) (list_any (is_vote_of reviewer) vs)

@@ -8,7 +8,7 @@ use Rattle.desk_texts.specs.declared.kind.ListedKind.TheVariants as kinds
 use Rattle.desk_texts.specs.declared.reply.Reply.{Reply}
 use Rattle.desk_texts.specs.declared.reply.Reply.TheVariants as replies
 use Rattle.desk_history.specs.declared.rows.Minute.{Minute}
-use Rattle.desk_history.specs.Calls.{History, once}
+use Rattle.desk_history.specs.Calls.{History, distinct}
 use Rattle.desk_history.specs.Level.{components_of, names, raises}
 use Rattle.desk_history.specs.Requests.{requests, state}
 use Rattle.desk_history.specs.Revocations.{revocations}
@@ -16,7 +16,7 @@ use Rattle.desk_texts.specs.CommandTexts.{text_of}
 
 -- how many different digests of this kind are revoked after the call and weren't before
 abbrev pub gained : ListedKind → History → Call → ℕ
-gained kind cs c = length (once (revocations kind (c ∷ cs))) - length (once (revocations kind cs))
+gained kind cs c = length (distinct (revocations kind (c ∷ cs))) - length (distinct (revocations kind cs))
 
 -- how many different names have their generations raised by a command
 abbrev pub raised_count : History → Command → ℕ

@@ -5,7 +5,7 @@ use Rattle.desk_texts.specs.declared.caller.Caller.{Caller}
 use Rattle.desk_texts.specs.declared.command.Command.{Command}
 use Rattle.desk_texts.specs.declared.command.Command.TheVariants as command
 use Rattle.desk_texts.specs.declared.facts.Facts.{Facts}
-use Rattle.desk_history.specs.declared.rows.Voted.{Voted}
+use Rattle.desk_history.specs.declared.rows.VoteRow.{VoteRow}
 use Rattle.desk_texts.specs.declared.state.State.{State}
 use Rattle.desk_texts.specs.declared.state.State.TheVariants as states
 use Rattle.desk_texts.specs.declared.command.Submission.{Submission}
@@ -63,25 +63,25 @@ abbrev pub request : History → ℕ → Option Request
 request cs k = find (has_number k) (requests cs)
 
 -- a reviewer's vote in a command
-abbrev pub vote_of : List ℕ → Command → Option Voted
+abbrev pub vote_of : List ℕ → Command → Option VoteRow
 vote_of reviewer (command.Review b) =
     Some (record { request = b.request; reviewer = reviewer; vote = b.vote; note = b.note })
 vote_of reviewer _ = None
 
 -- the Reviews
-abbrev pub votes : History → List Voted
+abbrev pub votes : History → List VoteRow
 votes cs = filter_map (λ c. vote_of (caller_name c.caller) c.command) cs
 
 -- the votes on a request
-abbrev pub votes_on : List Voted → ℕ → List Voted
+abbrev pub votes_on : List VoteRow → ℕ → List VoteRow
 votes_on vs k = filter (λ v. k == v.request) vs
 
 -- the vote is a yes
-abbrev pub is_yes : Voted → Bool
+abbrev pub is_yes : VoteRow → Bool
 is_yes v = elim v.vote [ vote.Yes ↦ true | vote.No ↦ false ]
 
 -- the vote is this reviewer's
-abbrev pub is_vote_of : List ℕ → Voted → Bool
+abbrev pub is_vote_of : List ℕ → VoteRow → Bool
 is_vote_of reviewer v = bytes_eq reviewer v.reviewer
 
 -- the command withdraws the request
@@ -113,13 +113,13 @@ abbrev pub is_returned : History → ℕ → Bool
 is_returned cs k = list_any (λ r. k == r.request) (returns cs)
 
 -- own: one no rejects a request, and two yes approve it
-abbrev pub state_by_votes : List Voted → State
+abbrev pub state_by_votes : List VoteRow → State
 state_by_votes vs =
     if list_any (λ v. not (is_yes v)) vs then states.Rejected
     else (if nat_le 2 (count_by is_yes vs) then states.Approved else states.Open)
 
 -- own: the state of a request that is returned or not, withdrawn or not, with these votes on it
-abbrev pub state_by : Bool → Bool → List Voted → State
+abbrev pub state_by : Bool → Bool → List VoteRow → State
 state_by is_signed is_taken vs =
     if is_signed then states.Signed else (if is_taken then states.Withdrawn else state_by_votes vs)
 

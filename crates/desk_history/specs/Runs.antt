@@ -26,14 +26,14 @@ abbrev pub repeated : Minute → List ℕ → Answer
 repeated m text = if bytes_eq m.text text then Repeated m.reply else Refused refusals.KeyReused
 
 -- a call with a new key is refused, or accepted with this reply
-abbrev pub anew : Option Refusal → Reply → Answer
-anew None reply = Accepted reply
-anew (Some refusal) reply = Refused refusal
+abbrev pub answer_new_key : Option Refusal → Reply → Answer
+answer_new_key None reply = Accepted reply
+answer_new_key (Some refusal) reply = Refused refusal
 
 -- the answer to a caller who is known
 abbrev pub answer_known : Option Minute → List ℕ → Option Refusal → Reply → Answer
 answer_known (Some m) text refusal reply = repeated m text
-answer_known None text refusal reply = anew refusal reply
+answer_known None text refusal reply = answer_new_key refusal reply
 
 -- own: what the call is answered after these: who calls, then the key, then the refusals of a call with a new key
 abbrev pub answer : History → Call → Answer

@@ -9,9 +9,9 @@ use Rattle.desk_history.specs.declared.rows.RequestCertificateRow.{RequestCertif
 use Rattle.desk_history.specs.declared.rows.RequestComponentRow.{RequestComponentRow}
 use Rattle.desk_history.specs.declared.rows.RequestRow.{RequestRow}
 use Rattle.desk_history.specs.declared.rows.ReturnRow.{ReturnRow}
-use Rattle.desk_history.specs.declared.rows.Voted.{Voted}
+use Rattle.desk_history.specs.declared.rows.VoteRow.{VoteRow}
 use Rattle.desk_texts.specs.declared.state.State.{State}
-use Rattle.desk_history.specs.Calls.{History, once}
+use Rattle.desk_history.specs.Calls.{History, distinct}
 use Rattle.desk_history.specs.Level.{generations, greatest, names, stamp}
 use Rattle.desk_history.specs.Listing.{listed}
 use Rattle.desk_history.specs.People.{people}
@@ -76,7 +76,7 @@ pub record Tables : Type 0 where
   pub requests : List RequestRow
   pub request_certificates : List RequestCertificateRow
   pub request_components : List RequestComponentRow
-  pub votes : List Voted
+  pub votes : List VoteRow
   pub returns : List ReturnRow
   pub listed : List Entry
   pub revoked_digests : List (List ℕ)
@@ -95,7 +95,7 @@ tables owner cs = record {
   votes = votes cs;
   returns = map return_row (returns cs);
   listed = listed cs;
-  revoked_digests = once (revocations kinds.Digest cs);
-  revoked_certificates = once (revocations kinds.Certificate cs);
+  revoked_digests = distinct (revocations kinds.Digest cs);
+  revoked_certificates = distinct (revocations kinds.Certificate cs);
   components = level_rows (generations cs);
 }

@@ -10,6 +10,7 @@ mod rows;
 mod rules;
 mod standing;
 mod verdicts;
+mod worked;
 mod write;
 
 pub use answer::Answer;
@@ -25,7 +26,7 @@ pub use limits::{
 };
 pub use rows::{
     CommandText, Entry, EntryBody, Minute, RequestCertificateRow, RequestComponentRow, RequestRow,
-    ReturnRow, Voted,
+    ReturnRow, VoteRow,
 };
 pub use rules::{
     image_refusal, is_above, is_for, is_later, is_same, raise_refusal, refuse_if, return_by,
@@ -33,4 +34,8 @@ pub use rules::{
 };
 pub use standing::Standing;
 pub use verdicts::{bars, lists_image, verdict_of};
+pub use worked::{
+    imports_are_answered, keys_are_answered, levels_are_answered, returns_are_answered,
+    reviews_are_answered,
+};
 pub use write::Write;

@@ -109,7 +109,7 @@ pub struct RequestComponentRow {
 
 /// A vote on a request, and who gave it.
 #[derive(Debug, Drop)]
-pub struct Voted {
+pub struct VoteRow {
     pub request: RequestNumber,
     pub reviewer: PersonName,
     pub vote: Vote,

@@ -1,6 +1,6 @@
 //! What the desk writes into its tables.
 use crate::{
-    Entry, Minute, RequestCertificateRow, RequestComponentRow, RequestRow, ReturnRow, Voted,
+    Entry, Minute, RequestCertificateRow, RequestComponentRow, RequestRow, ReturnRow, VoteRow,
 };
 use desk_bytes::Digest;
 use desk_texts::{Listing, Outcome, Person};
@@ -20,7 +20,7 @@ pub enum Write {
     /// A component of a request's image is put in.
     RequestComponent(RequestComponentRow),
     /// A vote is put in.
-    Vote(Voted),
+    Vote(VoteRow),
     /// The request gets this state.
     State(Outcome),
     /// A returned file is put in.

@@ -21,12 +21,12 @@ use Rattle.desk_history.specs.declared.answer.Answer.{Answer}
 use Rattle.desk_history.specs.declared.answer.Answer.TheVariants.{Accepted, Refused, Repeated}
 use Rattle.desk_rules.specs.declared.view.Changes.{Changes}
 use Rattle.desk_rules.specs.declared.view.View.{View}
-use Rattle.desk_rules.specs.Decisions.{Answers, Joins, MakesNext, RefusesCall, RefusesOwn, Repeats, called}
+use Rattle.desk_rules.specs.Decisions.{Answers, AppendsCallRow, IsCommandStep, RefusesCall, RefusesOwn, Repeats, called}
 use Rattle.desk_rules.specs.Shown.{Shows}
 use Rattle.desk_history.specs.Limits.{is_within}
 use Rattle.desk_history.specs.Refusals.{is_for, is_known, is_one_of, is_theirs, may_give, own_refusal, refusal, refuse_if}
 use Rattle.desk_rules.specs.Room.{has_room}
-use Rattle.desk_history.specs.Runs.{anew, answer, answer_known, earlier, has_key, is_accepted, is_legal, next}
+use Rattle.desk_history.specs.Runs.{answer_new_key, answer, answer_known, earlier, has_key, is_accepted, is_legal, next}
 use Rattle.desk_rules.proofs.RoomLemmas.{minutes_length, room_is}
 use Rattle.desk_history.proofs.WriteLemmas.{written-append}
 
@@ -81,11 +81,11 @@ module _ (v : View) (owner : List ℕ) (cs : History) (caller : Caller) (key : L
 
     module _ (fresh : find (has_key (caller_name caller) key) v.calls.items ≡ None) where
       by_role : (b : Bool) → is_theirs v.people.items caller command ≡ b →
-          answer cs (called caller key command) ≡ anew (if not b then Some refusals.NotYourRole
+          answer cs (called caller key command) ≡ answer_new_key (if not b then Some refusals.NotYourRole
           else option_or (own_refusal cs (caller_name caller) command) (refuse_if (not (is_within (called caller key command ∷ cs))) refusals.Full)) (reply cs (called caller key command))
       by_role b h =
           by_key None fresh
-          ∙ ap (λ t. anew (if not t then Some refusals.NotYourRole
+          ∙ ap (λ t. answer_new_key (if not t then Some refusals.NotYourRole
           else option_or (own_refusal cs (caller_name caller) command) (refuse_if (not (is_within (called caller key command ∷ cs))) refusals.Full)) (reply cs (called caller key command))) (sym theirs ∙ h)
 
       -- a command that isn't the caller's
@@ -94,10 +94,10 @@ module _ (v : View) (owner : List ℕ) (cs : History) (caller : Caller) (key : L
 
       module _ (is_theirs : is_theirs v.people.items caller command ≡ true) where
         by_own : (o : Option Refusal) → own_refusal cs (caller_name caller) command ≡ o →
-            answer cs (called caller key command) ≡ anew (option_or o (refuse_if (not (is_within (called caller key command ∷ cs))) refusals.Full)) (reply cs (called caller key command))
+            answer cs (called caller key command) ≡ answer_new_key (option_or o (refuse_if (not (is_within (called caller key command ∷ cs))) refusals.Full)) (reply cs (called caller key command))
         by_own o own =
             by_role true is_theirs
-            ∙ ap (λ p. anew (option_or p (refuse_if (not (is_within (called caller key command ∷ cs))) refusals.Full)) (reply cs (called caller key command))) own
+            ∙ ap (λ p. answer_new_key (option_or p (refuse_if (not (is_within (called caller key command ∷ cs))) refusals.Full)) (reply cs (called caller key command))) own
 
         -- a command that its own conditions refuse
         refused : (r : Refusal) → RefusesOwn r cs (called caller key command) → RefusesCall r cs (called caller key command)
@@ -109,15 +109,15 @@ module _ (v : View) (owner : List ℕ) (cs : History) (caller : Caller) (key : L
         refuses_own r own result is =
             subst (λ out. MatchResult out (λ changes. Answers changes owner cs (called caller key command)) (λ r. RefusesCall r cs (called caller key command))) (sym is) (refused r own)
 
-        module _ (legal : is_legal cs ≡ true) (own : Changes) (makes : MakesNext own owner cs (called caller key command)) where
+        module _ (legal : is_legal cs ≡ true) (own : Changes) (makes : IsCommandStep own owner cs (called caller key command)) where
           room : has_room v.sizes own.writes.items ≡ is_within (called caller key command ∷ cs)
           room = room_is v.sizes owner cs (called caller key command) own.writes.items shown.sizes legal makes.made makes.listed
 
           by_room : (b : Bool) → has_room v.sizes own.writes.items ≡ b →
-              answer cs (called caller key command) ≡ anew (refuse_if (not b) refusals.Full) (reply cs (called caller key command))
+              answer cs (called caller key command) ≡ answer_new_key (refuse_if (not b) refusals.Full) (reply cs (called caller key command))
           by_room b h =
               by_own None makes.accepted
-              ∙ ap (λ t. anew (refuse_if (not t) refusals.Full) (reply cs (called caller key command))) (sym room ∙ h)
+              ∙ ap (λ t. answer_new_key (refuse_if (not t) refusals.Full) (reply cs (called caller key command))) (sym room ∙ h)
 
           -- the call's row
           abbrev row : List ℕ → Minute
@@ -132,7 +132,7 @@ module _ (v : View) (owner : List ℕ) (cs : History) (caller : Caller) (key : L
 
           -- a command with room for what it writes
           pub joins : (text : List ℕ) → text ≡ text_of command → (result : Result Changes Refusal) →
-              Joins result v own (record { number = v.sizes.calls + 1; caller = caller; key = key; text = text; reply = own.reply }) →
+              AppendsCallRow result v own (record { number = v.sizes.calls + 1; caller = caller; key = key; text = text; reply = own.reply }) →
               MatchResult result (λ changes. Answers changes owner cs (called caller key command)) (λ r. RefusesCall r cs (called caller key command))
           joins text is (Ok changes) told =
               let said : answer cs (called caller key command) ≡ Accepted (reply cs (called caller key command)) = by_room true told.0 in

@@ -19,7 +19,7 @@ use Rattle.desk_history.specs.declared.rows.Entry.{Entry}
 use Rattle.desk_history.specs.declared.write.Write.{Write}
 use Rattle.desk_history.specs.declared.write.Write.TheVariants as writes
 use Rattle.desk_texts.specs.Callers.{caller_name}
-use Rattle.desk_history.specs.Calls.{History, is_among, once}
+use Rattle.desk_history.specs.Calls.{History, is_among, distinct}
 use Rattle.desk_history.specs.Listing.{has_entry, is_entry, is_listed, listed, without}
 use Rattle.desk_history.specs.People.{has_name, has_token, people}
 use Rattle.desk_history.specs.Replies.{minutes, reply}
@@ -28,7 +28,7 @@ use Rattle.desk_history.specs.Tables.{tables}
 use Rattle.desk_history.specs.Writes.{all_written}
 use Rattle.desk_rules.specs.declared.view.Changes.{Changes}
 use Rattle.desk_rules.specs.declared.view.View.{View}
-use Rattle.desk_rules.specs.Decisions.{Decided, DecidesOwn, MakesNext, RefusesOwn, called}
+use Rattle.desk_rules.specs.Decisions.{Decided, DecidesOwn, IsCommandStep, RefusesOwn, called}
 use Rattle.desk_rules.specs.Shown.{Shows, keys_named}
 use Rattle.desk_rules.specs.Room.{IsRoomed}
 use Rattle.desk_history.specs.Refusals.{add_refusal, own_refusal, refuse_if}
@@ -42,7 +42,7 @@ use Rattle.desk_rules.proofs.StandingLemmas.{agrees}
 pub decided : (owner : List ℕ) (cs : History) (c : Call) (result : Result Changes Refusal) (refusal : Option Refusal) (given : Reply) (ws : List Write) → Decided result refusal given ws →
     refusal ≡ own_refusal cs (caller_name c.caller) c.command → (refusal ≡ None → given ≡ reply cs c) →
     (refusal ≡ None → all_written ws (tables owner cs) ≡ record (tables owner (c ∷ cs)) { calls = minutes cs }) → IsRoomed ws cs c →
-    MatchResult result (λ changes. MakesNext changes owner cs c) (λ r. RefusesOwn r cs c)
+    MatchResult result (λ changes. IsCommandStep changes owner cs c) (λ r. RefusesOwn r cs c)
 decided owner cs c (Ok changes) refusal given ws told own replied made roomed = record {
   accepted = sym own ∙ told.0;
   replied = told.1 ∙ replied told.0;
@@ -149,7 +149,7 @@ revokes_digest v caller d result told owner cs key legal shown =
     decided owner cs (called caller key (command.RevokeDigest d)) result (refuse_if ((seen_standing v.lists).revoked kinds.Digest d) refusals.AlreadyRevoked) replies.Revoked (writes.RevokeDigest d ∷ []) told
     (ap (λ b. refuse_if b refusals.AlreadyRevoked) seen)
     (λ none. refl)
-    (λ none. ap (λ b. record (tables owner cs) { revoked_digests = if b then once (revocations kinds.Digest cs) else d ∷ once (revocations kinds.Digest cs) })
+    (λ none. ap (λ b. record (tables owner cs) { revoked_digests = if b then distinct (revocations kinds.Digest cs) else d ∷ distinct (revocations kinds.Digest cs) })
     (sym (sym seen ∙ unrefused ((seen_standing v.lists).revoked kinds.Digest d) refusals.AlreadyRevoked none))) (inl refl)
 
 pub revokes_certificate : (v : View) (caller : Caller) (d : List ℕ) (result : Result Changes Refusal) →
@@ -159,5 +159,5 @@ revokes_certificate v caller d result told owner cs key legal shown =
     decided owner cs (called caller key (command.RevokeCertificate d)) result (refuse_if ((seen_standing v.lists).revoked kinds.Certificate d) refusals.AlreadyRevoked) replies.Revoked (writes.RevokeCertificate d ∷ []) told
     (ap (λ b. refuse_if b refusals.AlreadyRevoked) seen)
     (λ none. refl)
-    (λ none. ap (λ b. record (tables owner cs) { revoked_certificates = if b then once (revocations kinds.Certificate cs) else d ∷ once (revocations kinds.Certificate cs) })
+    (λ none. ap (λ b. record (tables owner cs) { revoked_certificates = if b then distinct (revocations kinds.Certificate cs) else d ∷ distinct (revocations kinds.Certificate cs) })
     (sym (sym seen ∙ unrefused ((seen_standing v.lists).revoked kinds.Certificate d) refusals.AlreadyRevoked none))) (inl refl)

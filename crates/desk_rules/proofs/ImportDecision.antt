@@ -15,7 +15,7 @@ use Rattle.desk_texts.specs.declared.reply.Reply.TheVariants as replies
 use Rattle.desk_history.specs.declared.write.Write.{Write}
 use Rattle.desk_history.specs.declared.write.Write.TheVariants as writes
 use Rattle.desk_texts.specs.Callers.{caller_name}
-use Rattle.desk_history.specs.Calls.{History, is_among, once}
+use Rattle.desk_history.specs.Calls.{History, is_among, distinct}
 use Rattle.desk_history.specs.Level.{generations, greatest, raises, raises_some, stamp}
 use Rattle.desk_history.specs.Revocations.{revocations}
 use Rattle.desk_history.specs.Tables.{Tables, level_rows, tables}
@@ -23,9 +23,9 @@ use Rattle.desk_history.specs.Writes.{all_written}
 use Rattle.desk_rules.specs.declared.decisions.imports.SoFar.{SoFar}
 use Rattle.desk_rules.specs.declared.view.Changes.{Changes}
 use Rattle.desk_rules.specs.declared.view.View.{View}
-use Rattle.desk_rules.specs.Decisions.{MakesNext, RefusesOwn, called}
+use Rattle.desk_rules.specs.Decisions.{IsCommandStep, RefusesOwn, called}
 use Rattle.desk_rules.specs.Shown.{Shows, keys_named}
-use Rattle.desk_rules.specs.ImportSteps.{AreNew, IsSoFar, stamp_writes}
+use Rattle.desk_rules.specs.ImportSteps.{AreNew, HasTaken, stamp_writes}
 use Rattle.desk_rules.specs.Room.{takes_off}
 use Rattle.desk_history.specs.Refusals.{is_later, own_refusal, refuse_if}
 use Rattle.desk_rules.specs.Views.{generation_in}
@@ -35,16 +35,16 @@ use Rattle.desk_history.proofs.WriteLemmas.{written-append}
 use Rattle.desk_rules.proofs.SubmissionLemmas.{none_taken, turned}
 
 -- a name is raised exactly where some component raises
-some_once : (t : List ℕ) (ts : List (List ℕ)) → nat_lt 0 (length (once (t ∷ ts))) ≡ true
+some_once : (t : List ℕ) (ts : List (List ℕ)) → nat_lt 0 (length (distinct (t ∷ ts))) ≡ true
 some_once t [] = refl
-some_once t (u ∷ ts) = elim (is_among (u ∷ ts) t) as (λ b. nat_lt 0 (length (if b then once (u ∷ ts) else t ∷ once (u ∷ ts))) ≡ true) [
+some_once t (u ∷ ts) = elim (is_among (u ∷ ts) t) as (λ b. nat_lt 0 (length (if b then distinct (u ∷ ts) else t ∷ distinct (u ∷ ts))) ≡ true) [
   | true ↦ some_once u ts
   | false ↦ grind (arith, nat_tests)
 ]
 
-some_raised : (p : Component → Bool) (seen : List Component) → nat_lt 0 (length (once (map (λ (x : Component). x.name) (filter p seen)))) ≡ list_any p seen
+some_raised : (p : Component → Bool) (seen : List Component) → nat_lt 0 (length (distinct (map (λ (x : Component). x.name) (filter p seen)))) ≡ list_any p seen
 some_raised p [] = refl
-some_raised p (x ∷ xs) = elim (p x) as (λ b. nat_lt 0 (length (once (map (λ (x : Component). x.name) (cond b (x ∷ filter p xs) (filter p xs))))) ≡ (b || list_any p xs)) [
+some_raised p (x ∷ xs) = elim (p x) as (λ b. nat_lt 0 (length (distinct (map (λ (x : Component). x.name) (cond b (x ∷ filter p xs) (filter p xs))))) ≡ (b || list_any p xs)) [
   | true ↦ some_once x.name (map (λ (x : Component). x.name) (filter p xs))
   | false ↦ some_raised p xs
 ]
@@ -69,8 +69,8 @@ counted : (new rows : List (List ℕ)) → length new ≡ length (reverse new ++
 counted new rows = omega (arith, length-append (reverse new) rows, length-reverse new)
 
 module _ (v : View) (i : Imported) (owner : List ℕ) (cs : History) (caller : Caller) (key : List ℕ) (shown : Shows v (tables owner cs) (called caller key (command.ImportRevocations i))) (s : SoFar)
-    (taken : (old : List Component) → ((q : List ℕ) → IsTrue (is_among (map (λ x. x.name) i.components) q) → generation_in v.lists.components.items q ≡ greatest old q) → IsSoFar i.components old (reverse i.components) s) where
-  so_far : IsSoFar i.components (generations cs) (reverse i.components) s
+    (taken : (old : List Component) → ((q : List ℕ) → IsTrue (is_among (map (λ x. x.name) i.components) q) → generation_in v.lists.components.items q ≡ greatest old q) → HasTaken i.components old (reverse i.components) s) where
+  so_far : HasTaken i.components (generations cs) (reverse i.components) s
   so_far = taken (generations cs) (λ q asked. shown_generation v.lists owner cs (keys_named (command.ImportRevocations i)) shown.lists q asked)
 
   names_some : nat_lt 0 s.names ≡ raises_some cs (command.ImportRevocations i)
@@ -84,11 +84,11 @@ module _ (v : View) (i : Imported) (owner : List ℕ) (cs : History) (caller : C
   pub refuses_import : (nat_lt 0 s.names && not (is_later v.stamp i.stamp)) ≡ true → RefusesOwn refusals.StampNotLater cs (called caller key (command.ImportRevocations i))
   refuses_import early = inl (sym refusal_is ∙ ap (λ b. refuse_if b refusals.StampNotLater) early)
 
-  digest_rows : (new : List (List ℕ)) → AreNew v.lists.revoked_digests.items i.digests new → once (reverse i.digests ++ revocations kinds.Digest cs) ≡ reverse new ++ once (revocations kinds.Digest cs)
-  digest_rows new found = sym (put_new-once i.digests (revocations kinds.Digest cs)) ∙ found (once (revocations kinds.Digest cs)) (λ d asked. shown.lists.revoked kinds.Digest d asked)
+  digest_rows : (new : List (List ℕ)) → AreNew v.lists.revoked_digests.items i.digests new → distinct (reverse i.digests ++ revocations kinds.Digest cs) ≡ reverse new ++ distinct (revocations kinds.Digest cs)
+  digest_rows new found = sym (put_new-once i.digests (revocations kinds.Digest cs)) ∙ found (distinct (revocations kinds.Digest cs)) (λ d asked. shown.lists.revoked kinds.Digest d asked)
 
-  certificate_rows : (new : List (List ℕ)) → AreNew v.lists.revoked_certificates.items i.certificates new → once (reverse i.certificates ++ revocations kinds.Certificate cs) ≡ reverse new ++ once (revocations kinds.Certificate cs)
-  certificate_rows new found = sym (put_new-once i.certificates (revocations kinds.Certificate cs)) ∙ found (once (revocations kinds.Certificate cs)) (λ d asked. shown.lists.revoked kinds.Certificate d asked)
+  certificate_rows : (new : List (List ℕ)) → AreNew v.lists.revoked_certificates.items i.certificates new → distinct (reverse i.certificates ++ revocations kinds.Certificate cs) ≡ reverse new ++ distinct (revocations kinds.Certificate cs)
+  certificate_rows new found = sym (put_new-once i.certificates (revocations kinds.Certificate cs)) ∙ found (distinct (revocations kinds.Certificate cs)) (λ d asked. shown.lists.revoked kinds.Certificate d asked)
 
   stamped : (o : Option ℕ) (t : Tables) → t.desk ≡ (tables owner cs).desk → all_written (stamp_writes s.names o) t ≡ record t { desk = record (tables owner cs).desk { stamp = (if nat_lt 0 s.names then unwrap_or o (stamp cs) else stamp cs) } }
   stamped None t is = elim (nat_lt 0 s.names) as (λ b. t ≡ record t { desk = record (tables owner cs).desk { stamp = (if b then stamp cs else stamp cs) } }) [ true ↦ ap (λ d. record t { desk = d }) is | false ↦ ap (λ d. record t { desk = d }) is ]
@@ -101,20 +101,20 @@ module _ (v : View) (i : Imported) (owner : List ℕ) (cs : History) (caller : C
       (digests certificates : List (List ℕ)) → AreNew v.lists.revoked_digests.items i.digests digests → AreNew v.lists.revoked_certificates.items i.certificates certificates →
       (changes : Changes) → changes.reply ≡ replies.Imported (record { digests = length digests; certificates = length certificates; components = s.names; passed = i.passed }) →
       changes.writes.items ≡ ((s.writes.items ++ map (λ d. writes.RevokeDigest d) digests) ++ map (λ d. writes.RevokeCertificate d) certificates) ++ stamp_writes s.names i.stamp →
-      MakesNext changes owner cs (called caller key (command.ImportRevocations i))
+      IsCommandStep changes owner cs (called caller key (command.ImportRevocations i))
   imports fine digests certificates new_digests new_certificates changes replied wrote =
-      let first : once (reverse i.digests ++ revocations kinds.Digest cs) ≡ reverse digests ++ once (revocations kinds.Digest cs) = digest_rows digests new_digests in
-      let second : once (reverse i.certificates ++ revocations kinds.Certificate cs) ≡ reverse certificates ++ once (revocations kinds.Certificate cs) = certificate_rows certificates new_certificates in
+      let first : distinct (reverse i.digests ++ revocations kinds.Digest cs) ≡ reverse digests ++ distinct (revocations kinds.Digest cs) = digest_rows digests new_digests in
+      let second : distinct (reverse i.certificates ++ revocations kinds.Certificate cs) ≡ reverse certificates ++ distinct (revocations kinds.Certificate cs) = certificate_rows certificates new_certificates in
       let t : Tables = record (tables owner cs) { components = level_rows (reverse i.components ++ generations cs) } in
-      let u : Tables = record t { revoked_digests = once (reverse i.digests ++ revocations kinds.Digest cs) } in
-      let w : Tables = record u { revoked_certificates = once (reverse i.certificates ++ revocations kinds.Certificate cs) } in
+      let u : Tables = record t { revoked_digests = distinct (reverse i.digests ++ revocations kinds.Digest cs) } in
+      let w : Tables = record u { revoked_certificates = distinct (reverse i.certificates ++ revocations kinds.Certificate cs) } in
       record {
         accepted = sym refusal_is ∙ ap (λ b. refuse_if b refusals.StampNotLater) fine;
         replied =
             replied
-            ∙ (ap (λ n. replies.Imported (record { digests = n; certificates = length certificates; components = s.names; passed = i.passed })) (counted digests (once (revocations kinds.Digest cs)) ∙ ap (λ r. length r - length (once (revocations kinds.Digest cs))) (sym first))
-            ∙ (ap (λ n. replies.Imported (record { digests = length (once (reverse i.digests ++ revocations kinds.Digest cs)) - length (once (revocations kinds.Digest cs)); certificates = n; components = s.names; passed = i.passed })) (counted certificates (once (revocations kinds.Certificate cs)) ∙ ap (λ r. length r - length (once (revocations kinds.Certificate cs))) (sym second))
-            ∙ ap (λ n. replies.Imported (record { digests = length (once (reverse i.digests ++ revocations kinds.Digest cs)) - length (once (revocations kinds.Digest cs)); certificates = length (once (reverse i.certificates ++ revocations kinds.Certificate cs)) - length (once (revocations kinds.Certificate cs)); components = n; passed = i.passed })) (sym so_far.count)));
+            ∙ (ap (λ n. replies.Imported (record { digests = n; certificates = length certificates; components = s.names; passed = i.passed })) (counted digests (distinct (revocations kinds.Digest cs)) ∙ ap (λ r. length r - length (distinct (revocations kinds.Digest cs))) (sym first))
+            ∙ (ap (λ n. replies.Imported (record { digests = length (distinct (reverse i.digests ++ revocations kinds.Digest cs)) - length (distinct (revocations kinds.Digest cs)); certificates = n; components = s.names; passed = i.passed })) (counted certificates (distinct (revocations kinds.Certificate cs)) ∙ ap (λ r. length r - length (distinct (revocations kinds.Certificate cs))) (sym second))
+            ∙ ap (λ n. replies.Imported (record { digests = length (distinct (reverse i.digests ++ revocations kinds.Digest cs)) - length (distinct (revocations kinds.Digest cs)); certificates = length (distinct (reverse i.certificates ++ revocations kinds.Certificate cs)) - length (distinct (revocations kinds.Certificate cs)); components = n; passed = i.passed })) (sym so_far.count)));
         made =
             ap (λ ws. all_written ws (tables owner cs)) wrote
             ∙ (written-append ((s.writes.items ++ map (λ d. writes.RevokeDigest d) digests) ++ map (λ d. writes.RevokeCertificate d) certificates) (stamp_writes s.names i.stamp) (tables owner cs)

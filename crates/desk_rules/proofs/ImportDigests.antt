@@ -9,7 +9,7 @@ use Rattle.std.specs.Ordering.{is_eq, match_ordering, nat_cmp}
 use Rattle.std.proofs.lemmas.List.{reverse-append}
 use Rattle.std.proofs.lemmas.List.Folds.{list_any-append, list_any_at}
 use Rattle.std.proofs.lemmas.Map.Text.{is_eq-slice_cmp}
-use Rattle.desk_history.specs.Calls.{is_among, once}
+use Rattle.desk_history.specs.Calls.{is_among, distinct}
 use Rattle.desk_rules.specs.ImportSteps.{put_new}
 use Rattle.desk_history.proofs.CountLemmas.{any_two}
 use Rattle.desk_history.proofs.ListLemmas.{any_once, bytes_eq-refl, same_text}
@@ -46,11 +46,11 @@ inserted digest (x ∷ keys) q =
 -- new digests
 
 -- new rows are those that stand once
-pub put_new-once : (ds rest : List (List ℕ)) → put_new ds (once rest) ≡ once (reverse ds ++ rest)
+pub put_new-once : (ds rest : List (List ℕ)) → put_new ds (distinct rest) ≡ distinct (reverse ds ++ rest)
 put_new-once [] rest = refl
 put_new-once (d ∷ ds) rest =
-    ap (λ b. put_new ds (if b then once rest else d ∷ once rest)) (any_once d rest)
-    ∙ (put_new-once ds (d ∷ rest) ∙ ap once (turned d ds rest))
+    ap (λ b. put_new ds (if b then distinct rest else d ∷ distinct rest)) (any_once d rest)
+    ∙ (put_new-once ds (d ∷ rest) ∙ ap distinct (turned d ds rest))
 
 -- one step of an import's digests
 pub new_step : (rows named table new later : List (List ℕ)) (i : ℕ) (d : List ℕ) (is_new : Bool) → ((q : List ℕ) → IsTrue (is_among named q) → is_among rows q ≡ is_among table q) → i < length named → d ≡ get_or named i d →

@@ -11,14 +11,14 @@ use Rattle.std.proofs.lemmas.Map.Text.{is_eq-slice_cmp}
 use Rattle.sbat.specs.declared.component.Component.{Component}
 use Rattle.sbat.specs.Levels.{Generations, greater, raised}
 use Rattle.sbat.proofs.GenerationLemmas.{get-raised, ties}
-use Rattle.desk_history.specs.Calls.{is_among, once}
+use Rattle.desk_history.specs.Calls.{is_among, distinct}
 use Rattle.desk_history.specs.Level.{greatest, greater_of, is_above, is_sbat, names}
 use Rattle.desk_texts.specs.Raising.{names_no_sbat}
 use Rattle.desk_history.specs.Tables.{level_row, level_rows}
 use Rattle.desk_history.specs.Writes.{all_written, is_named, written}
 use Rattle.desk_rules.specs.declared.decisions.imports.SoFar.{SoFar}
 use Rattle.desk_rules.specs.Decisions.{put_of}
-use Rattle.desk_rules.specs.ImportSteps.{IsSoFar, is_raise, or_else, raised_names, rose}
+use Rattle.desk_rules.specs.ImportSteps.{HasTaken, is_raise, or_else, raised_names, rose}
 use Rattle.desk_rules.specs.Room.{takes_off}
 use Rattle.desk_rules.specs.Views.{generation_in}
 use Rattle.desk_rules.proofs.LevelDecisions.{puts_none, row_other, rows_put}
@@ -156,11 +156,11 @@ rows_more rows i row old new q lt is before after =
 
 -- one component of an import more
 
-module _ (asked old seen : List Component) (x : Component) (s : SoFar) (is_asked : IsTrue (is_among (map (λ y. y.name) asked) x.name)) (before : IsSoFar asked old seen s) where
+module _ (asked old seen : List Component) (x : Component) (s : SoFar) (is_asked : IsTrue (is_among (map (λ y. y.name) asked) x.name)) (before : HasTaken asked old seen s) where
   current : get s.level.generations x.name ≡ greatest (seen ++ old) x.name
   current = before.level x.name is_asked
 
-  pub takes_below : is_above x.generation (get s.level.generations x.name) ≡ false → IsSoFar asked old (x ∷ seen) s
+  pub takes_below : is_above x.generation (get s.level.generations x.name) ≡ false → HasTaken asked old (x ∷ seen) s
   takes_below below =
       let under : is_above x.generation (greatest (seen ++ old) x.name) ≡ false = ap (λ o. is_above x.generation o) (sym current) ∙ below in
       record {
@@ -168,8 +168,8 @@ module _ (asked old seen : List Component) (x : Component) (s : SoFar) (is_asked
           | true ↦ λ e. greater_below x.generation (greatest (seen ++ old) q) (ap (λ k. is_above x.generation (greatest (seen ++ old) k)) (same_text q x.name e) ∙ under)
           | false ↦ λ e. refl
         ] refl);
-        count = elim (is_raise old x) as (λ b. is_raise old x ≡ b → length (once (map (λ (y : Component). y.name) (cond b (x ∷ filter (is_raise old) seen) (filter (is_raise old) seen)))) ≡ s.names) [
-          | true ↦ λ e. ap (λ b. length (if b then once (raised_names old seen) else x.name ∷ once (raised_names old seen))) (names_rose old seen x.name ∙ rose_between x.generation (greatest (seen ++ old) x.name) (greatest old x.name) under e) ∙ before.count
+        count = elim (is_raise old x) as (λ b. is_raise old x ≡ b → length (distinct (map (λ (y : Component). y.name) (cond b (x ∷ filter (is_raise old) seen) (filter (is_raise old) seen)))) ≡ s.names) [
+          | true ↦ λ e. ap (λ b. length (if b then distinct (raised_names old seen) else x.name ∷ distinct (raised_names old seen))) (names_rose old seen x.name ∙ rose_between x.generation (greatest (seen ++ old) x.name) (greatest old x.name) under e) ∙ before.count
           | false ↦ λ e. before.count
         ] refl;
         written = λ t rows. before.written t rows ∙ ap (λ rs. record t { components = rs }) (sym (rows_below x (seen ++ old) under));
@@ -182,7 +182,7 @@ module _ (asked old seen : List Component) (x : Component) (s : SoFar) (is_asked
 
   pub takes_above : (prev : Generations) → get prev x.name ≡ greatest old x.name → is_above x.generation (get s.level.generations x.name) ≡ true → (after : SoFar) →
       after.level.generations ≡ raised s.level.generations x → after.writes.items ≡ s.writes.items ++ put_of (get s.level.generations x.name) x ∷ [] →
-      after.names ≡ s.names + one_if (not (rose (get s.level.generations x.name) (get prev x.name))) → IsSoFar asked old (x ∷ seen) after
+      after.names ≡ s.names + one_if (not (rose (get s.level.generations x.name) (get prev x.name))) → HasTaken asked old (x ∷ seen) after
   takes_above prev was above after leveled wrote counted =
       let over : is_above x.generation (greatest (seen ++ old) x.name) ≡ true = ap (λ o. is_above x.generation o) (sym current) ∙ above in
       let raises : is_raise old x ≡ true = above_fewer x.generation x.name seen old over in
@@ -195,8 +195,8 @@ module _ (asked old seen : List Component) (x : Component) (s : SoFar) (is_asked
             ∙ (ap (λ o. cond (bytes_eq q x.name) (Some (greater o x.generation)) o) (before.level q h)
             ∙ ap (λ n. cond (bytes_eq q x.name) (Some n) (greatest (seen ++ old) q)) (greater_turned (greatest (seen ++ old) q) x.generation))));
         count =
-            ap (λ b. length (once (map (λ (y : Component). y.name) (cond b (x ∷ filter (is_raise old) seen) (filter (is_raise old) seen))))) raises
-            ∙ (ap (λ b. length (if b then once (raised_names old seen) else x.name ∷ once (raised_names old seen))) risen
+            ap (λ b. length (distinct (map (λ (y : Component). y.name) (cond b (x ∷ filter (is_raise old) seen) (filter (is_raise old) seen))))) raises
+            ∙ (ap (λ b. length (if b then distinct (raised_names old seen) else x.name ∷ distinct (raised_names old seen))) risen
             ∙ (one_more (rose (get s.level.generations x.name) (get prev x.name)) ∙ sym counted));
         written = λ t rows.
             ap (λ ws. all_written ws t) wrote
@@ -210,9 +210,9 @@ module _ (asked old seen : List Component) (x : Component) (s : SoFar) (is_asked
             ∙ ap (λ b. b || false) (puts_none (get s.level.generations x.name) x)));
       }
     where
-      one_more : (b : Bool) → length (if b then once (raised_names old seen) else x.name ∷ once (raised_names old seen)) ≡ s.names + one_if (not b)
-      one_more true = (let h : length (once (raised_names old seen)) ≡ s.names = before.count in omega arith)
-      one_more false = (let h : length (once (raised_names old seen)) ≡ s.names = before.count in omega arith)
+      one_more : (b : Bool) → length (if b then distinct (raised_names old seen) else x.name ∷ distinct (raised_names old seen)) ≡ s.names + one_if (not b)
+      one_more true = (let h : length (distinct (raised_names old seen)) ≡ s.names = before.count in omega arith)
+      one_more false = (let h : length (distinct (raised_names old seen)) ≡ s.names = before.count in omega arith)
 
 -- over all components of an import
 

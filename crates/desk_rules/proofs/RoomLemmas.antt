@@ -9,7 +9,7 @@ use Rattle.desk_texts.specs.declared.command.Call.{Call}
 use Rattle.desk_texts.specs.declared.kind.ListedKind.TheVariants as kinds
 use Rattle.desk_history.specs.declared.write.Write.{Write}
 use Rattle.desk_history.specs.declared.write.Write.TheVariants as writes
-use Rattle.desk_history.specs.Calls.{History, once}
+use Rattle.desk_history.specs.Calls.{History, distinct}
 use Rattle.desk_history.specs.Level.{generations, names}
 use Rattle.desk_history.specs.Listing.{listed}
 use Rattle.desk_history.specs.People.{people}
@@ -111,10 +111,10 @@ module _ (s : Sizes) (owner : List ℕ) (cs : History) (c : Call) (ws : List Wri
       ap (λ z. nat_le (count_by (puts kept.Listed) ws + z.listed) MOST_LISTED) sizes
       ∙ both_few (count_by (puts kept.Listed) ws) (length (listed cs)) (length (listed (c ∷ cs))) fewer.0 fewer.1 (legal_listed cs legal)
 
-  digests_after : count_by (puts kept.RevokedDigests) ws + s.revoked_digests ≡ length (once (revocations kinds.Digest (c ∷ cs)))
+  digests_after : count_by (puts kept.RevokedDigests) ws + s.revoked_digests ≡ length (distinct (revocations kinds.Digest (c ∷ cs)))
   digests_after = counted (λ t. length t.revoked_digests) (puts kept.RevokedDigests) digests_step s.revoked_digests (ap (λ z. z.revoked_digests) sizes)
 
-  certificates_after : count_by (puts kept.RevokedCertificates) ws + s.revoked_certificates ≡ length (once (revocations kinds.Certificate (c ∷ cs)))
+  certificates_after : count_by (puts kept.RevokedCertificates) ws + s.revoked_certificates ≡ length (distinct (revocations kinds.Certificate (c ∷ cs)))
   certificates_after = counted (λ t. length t.revoked_certificates) (puts kept.RevokedCertificates) certificates_step s.revoked_certificates (ap (λ z. z.revoked_certificates) sizes)
 
   components_after : count_by (puts kept.Components) ws + s.components ≡ length (names (generations (c ∷ cs)))
@@ -135,6 +135,6 @@ module _ (s : Sizes) (owner : List ℕ) (cs : History) (c : Call) (ws : List Wri
       ∙ (ap (λ n. all_fit (length (people (c ∷ cs))) n (nat_le (count_by (puts kept.Listed) ws + s.listed) MOST_LISTED) put_digests put_certificates put_components (1 + s.calls)) requests_after
       ∙ (ap (λ b. all_fit (length (people (c ∷ cs))) (length (requests (c ∷ cs))) b put_digests put_certificates put_components (1 + s.calls)) (listed_after roomed)
       ∙ (ap (λ n. all_fit (length (people (c ∷ cs))) (length (requests (c ∷ cs))) few n put_certificates put_components (1 + s.calls)) digests_after
-      ∙ (ap (λ n. all_fit (length (people (c ∷ cs))) (length (requests (c ∷ cs))) few (length (once (revocations kinds.Digest (c ∷ cs)))) n put_components (1 + s.calls)) certificates_after
-      ∙ (ap (λ n. all_fit (length (people (c ∷ cs))) (length (requests (c ∷ cs))) few (length (once (revocations kinds.Digest (c ∷ cs)))) (length (once (revocations kinds.Certificate (c ∷ cs)))) n (1 + s.calls)) components_after
-      ∙ ap (λ n. all_fit (length (people (c ∷ cs))) (length (requests (c ∷ cs))) few (length (once (revocations kinds.Digest (c ∷ cs)))) (length (once (revocations kinds.Certificate (c ∷ cs)))) (length (names (generations (c ∷ cs)))) n) calls_after)))))
+      ∙ (ap (λ n. all_fit (length (people (c ∷ cs))) (length (requests (c ∷ cs))) few (length (distinct (revocations kinds.Digest (c ∷ cs)))) n put_components (1 + s.calls)) certificates_after
+      ∙ (ap (λ n. all_fit (length (people (c ∷ cs))) (length (requests (c ∷ cs))) few (length (distinct (revocations kinds.Digest (c ∷ cs)))) (length (distinct (revocations kinds.Certificate (c ∷ cs)))) n (1 + s.calls)) components_after
+      ∙ ap (λ n. all_fit (length (people (c ∷ cs))) (length (requests (c ∷ cs))) few (length (distinct (revocations kinds.Digest (c ∷ cs)))) (length (distinct (revocations kinds.Certificate (c ∷ cs)))) (length (names (generations (c ∷ cs)))) n) calls_after)))))

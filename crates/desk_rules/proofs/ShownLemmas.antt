@@ -7,7 +7,7 @@ use Rattle.desk_texts.specs.declared.command.Call.{Call}
 use Rattle.desk_texts.specs.declared.kind.ListedKind.{ListedKind}
 use Rattle.desk_texts.specs.declared.kind.ListedKind.TheVariants as kinds
 use Rattle.desk_history.specs.declared.rows.Entry.{Entry}
-use Rattle.desk_history.specs.declared.rows.Voted.{Voted}
+use Rattle.desk_history.specs.declared.rows.VoteRow.{VoteRow}
 use Rattle.desk_texts.specs.Callers.{caller_name}
 use Rattle.desk_history.specs.Calls.{is_among}
 use Rattle.desk_history.specs.Listing.{has_entry, is_entry}
@@ -45,6 +45,6 @@ whole_shows v t c h = record {
   tokens = λ token _. ap (λ rows. find (has_token token) rows) h.people;
   call = ap (λ rows. find (has_key (caller_name c.caller) c.key) rows) h.calls;
   request = λ k _. ap (λ rows. find (is_request_row k) rows) h.requests;
-  votes = λ k _. subst (λ (rows : List Voted). IsPermutation (votes_on rows k) (votes_on v.votes.items k)) h.votes (IsPermutation-refl (votes_on v.votes.items k));
+  votes = λ k _. subst (λ (rows : List VoteRow). IsPermutation (votes_on rows k) (votes_on v.votes.items k)) h.votes (IsPermutation-refl (votes_on v.votes.items k));
   lists = lists_whole v t c h;
 }

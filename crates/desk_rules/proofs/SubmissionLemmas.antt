@@ -16,7 +16,7 @@ use Rattle.desk_texts.specs.declared.facts.Facts.{Facts}
 use Rattle.desk_texts.specs.declared.reply.Reply.TheVariants as replies
 use Rattle.desk_history.specs.declared.rows.RequestCertificateRow.{RequestCertificateRow}
 use Rattle.desk_history.specs.declared.rows.RequestComponentRow.{RequestComponentRow}
-use Rattle.desk_history.specs.declared.rows.Voted.{Voted}
+use Rattle.desk_history.specs.declared.rows.VoteRow.{VoteRow}
 use Rattle.desk_texts.specs.declared.state.State.{State}
 use Rattle.desk_texts.specs.declared.state.State.TheVariants as states
 use Rattle.desk_history.specs.declared.write.Write.{Write}
@@ -79,7 +79,7 @@ record Untouched (cs : History) (k : ℕ) : Type 0 where
   kept : is_withdrawn cs k ≡ false
   unvoted : votes_on (votes cs) k ≡ []
 
-missing_review : (o : Option Request) (s : State) (vs : List Voted) (name : List ℕ) → o ≡ None → review_refusal o s vs name ≡ None → {A : Type 0} → A
+missing_review : (o : Option Request) (s : State) (vs : List VoteRow) (name : List ℕ) → o ≡ None → review_refusal o s vs name ≡ None → {A : Type 0} → A
 missing_review None s vs name e h = no_refusal h
 missing_review (Some r) s vs name e h = cc
 
@@ -97,7 +97,7 @@ untouched_more cs k lt h old (command.Review b) own = record {
   unsigned = h.unsigned;
   kept = h.kept;
   unvoted =
-      let w : Voted = record { request = b.request; reviewer = caller_name old.caller; vote = b.vote; note = b.note } in
+      let w : VoteRow = record { request = b.request; reviewer = caller_name old.caller; vote = b.vote; note = b.note } in
       elim (k == b.request) as (λ t. (k == b.request) ≡ t → cond t (w ∷ votes_on (votes cs) k) (votes_on (votes cs) k) ≡ []) [
         | true ↦ λ e. missing_review (request cs b.request) (state cs b.request) (votes_on (votes cs) b.request) (caller_name old.caller) (ap (λ n. request cs n) (sym (number_is k b.request e)) ∙ none_above k (submitted cs) lt) own
         | false ↦ λ e. h.unvoted

@@ -9,14 +9,14 @@ use Rattle.desk_texts.specs.declared.caller.Caller.{Caller}
 use Rattle.desk_texts.specs.declared.command.Ballot.{Ballot}
 use Rattle.desk_texts.specs.declared.command.Call.{Call}
 use Rattle.desk_texts.specs.declared.command.Command.{Command}
-use Rattle.desk_texts.specs.declared.command.Handback.{Handback}
+use Rattle.desk_texts.specs.declared.command.ReturnedFile.{ReturnedFile}
 use Rattle.desk_texts.specs.declared.command.Submission.{Submission}
 use Rattle.desk_texts.specs.declared.reply.Outcome.{Outcome}
 use Rattle.desk_texts.specs.declared.reply.Reply.{Reply}
 use Rattle.desk_history.specs.declared.rows.Minute.{Minute}
 use Rattle.desk_history.specs.declared.rows.RequestCertificateRow.{RequestCertificateRow}
 use Rattle.desk_history.specs.declared.rows.ReturnRow.{ReturnRow}
-use Rattle.desk_history.specs.declared.rows.Voted.{Voted}
+use Rattle.desk_history.specs.declared.rows.VoteRow.{VoteRow}
 use Rattle.desk_texts.specs.declared.state.State.{State}
 use Rattle.desk_texts.specs.declared.state.State.TheVariants as states
 use Rattle.desk_texts.specs.declared.vote.Vote.{Vote}
@@ -63,7 +63,7 @@ called caller key command = record { caller = caller; key = key; command = comma
 
 -- The command is accepted by its own conditions, with this reply, and the writes make the tables of the history with
 -- the call, but for the call's own row. They don't both list entries and take some off.
-pub record MakesNext (changes : Changes) (owner : List ℕ) (cs : History) (c : Call) : Type 0 where
+pub record IsCommandStep (changes : Changes) (owner : List ℕ) (cs : History) (c : Call) : Type 0 where
   pub accepted : own_refusal cs (caller_name c.caller) c.command ≡ None
   pub replied : changes.reply ≡ reply cs c
   pub made : all_written changes.writes.items (tables owner cs) ≡ record (tables owner (c ∷ cs)) { calls = minutes cs }
@@ -75,7 +75,7 @@ RefusesOwn refusal cs c = (own_refusal cs (caller_name c.caller) c.command ≡ S
 
 -- the result is what the command's own conditions and writes are after this history
 abbrev pub MatchesOwn : List ℕ → History → Call → Result Changes Refusal → Type 0
-MatchesOwn owner cs c result = MatchResult result (λ changes. MakesNext changes owner cs c) (λ refusal. RefusesOwn refusal cs c)
+MatchesOwn owner cs c result = MatchResult result (λ changes. IsCommandStep changes owner cs c) (λ refusal. RefusesOwn refusal cs c)
 
 -- the same on each legal history that the view shows
 abbrev pub DecidesOwn : View → Caller → Command → Result Changes Refusal → Type 0
@@ -94,24 +94,24 @@ abbrev pub Gives : Result Changes Refusal → Reply → List Write → Type 0
 Gives result reply ws = MatchResult result (λ changes. (changes.reply ≡ reply) × (changes.writes.items ≡ ws)) (λ r. r ≡ refusals.NoMemory)
 
 -- what the rows of a view say of a vote on the request k
-abbrev pub seen_review : View → ℕ → List ℕ → Option Refusal
-seen_review v k reviewer =
+abbrev pub review_refusal_in : View → ℕ → List ℕ → Option Refusal
+review_refusal_in v k reviewer =
     option_map_or (λ row. review_by row.state (bytes_eq row.submitter reviewer) (list_any (is_vote_of reviewer) (votes_on v.votes.items k)))
     (find (is_request_row k) v.requests.items) (Some refusals.NoSuchRequest)
 
 -- what they say of a withdrawal of the request k
-abbrev pub seen_withdraw : View → ℕ → List ℕ → Option Refusal
-seen_withdraw v k caller =
+abbrev pub withdraw_refusal_in : View → ℕ → List ℕ → Option Refusal
+withdraw_refusal_in v k caller =
     option_map_or (λ row. withdraw_by row.state (bytes_eq row.submitter caller)) (find (is_request_row k) v.requests.items) (Some refusals.NoSuchRequest)
 
 -- what they say of a return
-abbrev pub seen_return : View → Handback → Option Refusal
-seen_return v h =
+abbrev pub return_refusal_in : View → ReturnedFile → Option Refusal
+return_refusal_in v h =
     option_map_or (λ row. return_by row.state (image_refusal row.digest row.signing h.facts (bars (seen_standing v.lists) h.facts) (lists_image (seen_standing v.lists) h.facts)))
     (find (is_request_row h.request) v.requests.items) (Some refusals.NoSuchRequest)
 
 -- the vote of a ballot
-abbrev pub vote_row : List ℕ → Ballot → Voted
+abbrev pub vote_row : List ℕ → Ballot → VoteRow
 vote_row reviewer b = record { request = b.request; reviewer = reviewer; vote = b.vote; note = b.note }
 
 -- the state of an open request after this vote, where some vote before it was a no or none, and so many were yes
@@ -131,8 +131,8 @@ abbrev pub outcome_after : View → Ballot → Outcome
 outcome_after v b = record { request = b.request; state = state_after v b }
 
 -- the row of a returned file
-abbrev pub handback_row : List ℕ → Handback → ReturnRow
-handback_row signer h = return_row (record { request = h.request; signer = signer; facts = h.facts })
+abbrev pub returned_file_row : List ℕ → ReturnedFile → ReturnRow
+returned_file_row signer h = return_row (record { request = h.request; signer = signer; facts = h.facts })
 
 -- the rows of the certificates that the image of the request k carries
 abbrev pub carried_rows : ℕ → List (List ℕ) → List RequestCertificateRow
@@ -154,8 +154,8 @@ put_of (Some _) x = writes.Generation x
 
 -- The result is the decision by the command's own conditions with the call's row after its writes, where the tables have
 -- room for them, or Full where they have not, or memory ran out.
-abbrev pub Joins : Result Changes Refusal → View → Changes → Minute → Type 0
-Joins result v own row =
+abbrev pub AppendsCallRow : Result Changes Refusal → View → Changes → Minute → Type 0
+AppendsCallRow result v own row =
     MatchResult result
     (λ changes. (has_room v.sizes own.writes.items ≡ true) × (changes.reply ≡ own.reply) × (changes.writes.items ≡ own.writes.items ++ writes.Call row ∷ []))
     (λ r. ((has_room v.sizes own.writes.items ≡ false) × (r ≡ refusals.Full)) ⊎ (r ≡ refusals.NoMemory))

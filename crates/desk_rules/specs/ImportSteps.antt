@@ -6,7 +6,7 @@ use Rattle.sbat.specs.declared.component.Component.{Component}
 use Rattle.sbat.specs.Levels.{Generations}
 use Rattle.desk_history.specs.declared.write.Write.{Write}
 use Rattle.desk_history.specs.declared.write.Write.TheVariants as writes
-use Rattle.desk_history.specs.Calls.{is_among, once}
+use Rattle.desk_history.specs.Calls.{is_among, distinct}
 use Rattle.desk_history.specs.Level.{greatest, is_above, is_sbat}
 use Rattle.desk_history.specs.Tables.{Tables, level_rows}
 use Rattle.desk_history.specs.Writes.{all_written}
@@ -49,9 +49,9 @@ HasRows generations rows = (q : List ℕ) → is_sbat q ≡ false → get genera
 
 -- What the components seen so far, the last first, make of a level that names these: the generations of the names
 -- that are asked, how many names were raised, and what is written, which takes no entry off.
-pub record IsSoFar (asked old seen : List Component) (s : SoFar) : Type 0 where
+pub record HasTaken (asked old seen : List Component) (s : SoFar) : Type 0 where
   pub level : (q : List ℕ) → IsTrue (is_among (map (λ x. x.name) asked) q) → get s.level.generations q ≡ greatest (seen ++ old) q
-  pub count : length (once (raised_names old seen)) ≡ s.names
+  pub count : length (distinct (raised_names old seen)) ≡ s.names
   pub written : (t : Tables) → t.components ≡ level_rows old → all_written s.writes.items t ≡ record t { components = level_rows (seen ++ old) }
   pub kept : list_any takes_off s.writes.items ≡ false
 

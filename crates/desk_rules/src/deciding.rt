@@ -55,7 +55,7 @@ fn join(
     key: &Key,
     text: CommandText,
 ) -> Result<Changes, Refusal>
-    ensures { spec.Joins result view.now own (record {
+    ensures { spec.AppendsCallRow result view.now own (record {
       number = view.now.sizes.calls + 1;
       caller = caller.now;
       key = key.now;

@@ -18,7 +18,7 @@ use imports::import;
 use level::raise_level;
 use lists::{list_certificate, list_digest, revoke_certificate, revoke_digest, unlist};
 use people::add_person;
-use requests::{hand_back, review, withdraw};
+use requests::{return_file, review, withdraw};
 use std::alloc::{AllocError, Global};
 use submissions::submit;
 
@@ -88,7 +88,7 @@ pub(crate) fn decide_own(
         Command::Submit(submission) => submit_next(alloc, view, caller, submission),
         Command::Review(ballot) => review(alloc, view, caller, ballot),
         Command::Withdraw(number) => withdraw(alloc, view, caller, *number),
-        Command::Return(handback) => hand_back(alloc, view, caller, handback),
+        Command::Return(returned_file) => return_file(alloc, view, caller, returned_file),
         Command::ListCertificate(certificate) => list_certificate(alloc, view, certificate),
         Command::ListDigest(digest) => list_digest(alloc, view, *digest),
         Command::Unlist(listing) => unlist(alloc, view, *listing),

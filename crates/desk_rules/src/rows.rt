@@ -7,10 +7,11 @@ ghost use Rattle.desk_rules.specs.Decisions as spec;
 
 use desk_bytes::{Digest, Refusal};
 use desk_history::{
-    CommandText, Entry, EntryBody, Minute, RequestComponentRow, RequestRow, ReturnRow, Voted,
+    CommandText, Entry, EntryBody, Minute, RequestComponentRow, RequestRow, ReturnRow, VoteRow,
 };
 use desk_texts::{
-    Ballot, Caller, Certificate, Handback, Key, ListedKind, Reply, RequestNumber, State, Submission,
+    Ballot, Caller, Certificate, Key, ListedKind, Reply, RequestNumber, ReturnedFile, State,
+    Submission,
 };
 use sbat::Component;
 use std::alloc::Global;
@@ -83,11 +84,11 @@ pub(crate) fn request_component(
 }
 
 /// The row of the caller's vote. Takes memory for it.
-pub(crate) fn vote_row(alloc: Global, caller: &Caller, ballot: &Ballot) -> Result<Voted, Refusal>
+pub(crate) fn vote_row(alloc: Global, caller: &Caller, ballot: &Ballot) -> Result<VoteRow, Refusal>
     ensures { MatchResult result (λ row. row ≡ spec.vote_row (caller_name caller.now) ballot.now)
         (λ refusal. refusal ≡ Refusal.NoMemory) }
 {
-    Ok(Voted {
+    Ok(VoteRow {
         request: ballot.request,
         reviewer: caller.to_person_name(alloc)?,
         vote: ballot.vote,
@@ -99,18 +100,18 @@ pub(crate) fn vote_row(alloc: Global, caller: &Caller, ballot: &Ballot) -> Resul
 pub(crate) fn return_row(
     alloc: Global,
     caller: &Caller,
-    handback: &Handback,
+    returned_file: &ReturnedFile,
 ) -> Result<ReturnRow, Refusal>
     ensures { MatchResult result
-        (λ row. row ≡ spec.handback_row (caller_name caller.now) handback.now)
+        (λ row. row ≡ spec.returned_file_row (caller_name caller.now) returned_file.now)
         (λ refusal. refusal ≡ Refusal.NoMemory) }
 {
     Ok(ReturnRow {
-        request: handback.request,
+        request: returned_file.request,
         signer: caller.to_person_name(alloc)?,
-        length: handback.facts.extent.length(),
-        file: handback.facts.file,
-        digest: handback.facts.digest,
+        length: returned_file.facts.extent.length(),
+        file: returned_file.facts.file,
+        digest: returned_file.facts.digest,
     })
 }
 

@@ -1,6 +1,6 @@
 //! Rows of the tables that a decision is made from, and what it changes.
 use crate::list_view::ListView;
-use desk_history::{Minute, RequestRow, Voted, Write};
+use desk_history::{Minute, RequestRow, VoteRow, Write};
 use desk_texts::{Person, Reply};
 use sbat::Stamp;
 
@@ -38,7 +38,7 @@ pub struct View {
     pub people: Vec<Person>,
     pub calls: Vec<Minute>,
     pub requests: Vec<RequestRow>,
-    pub votes: Vec<Voted>,
+    pub votes: Vec<VoteRow>,
     pub lists: ListView,
 }
 

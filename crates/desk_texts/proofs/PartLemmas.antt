@@ -12,7 +12,7 @@ use Rattle.desk_texts.specs.Items.{components_text, digests_text, facts_text, sp
 use Rattle.desk_texts.specs.Words.{kind_text, role_text, vote_text}
 use Rattle.desk_texts.specs.declared.command.Ballot.{Ballot}
 use Rattle.desk_texts.specs.declared.command.Command.TheVariants.{RaiseLevel}
-use Rattle.desk_texts.specs.declared.command.Handback.{Handback}
+use Rattle.desk_texts.specs.declared.command.ReturnedFile.{ReturnedFile}
 use Rattle.desk_texts.specs.declared.command.Listing.{Listing}
 use Rattle.desk_texts.specs.declared.command.Person.{Person}
 use Rattle.desk_texts.specs.declared.command.Raise.{Raise}
@@ -142,23 +142,23 @@ ballot_read b h =
     (fields-more 0 (vote_text b.vote) b.note _ (vote_free b.vote) refl) in
     ap ballot_of parts ∙ ap₂ (λ n v. ballot n v b.note) (decimal_read b.request small) (vote_read b.vote)
 
-abbrev handback : ℕ → Facts → Handback
-handback request f = record { request = request; facts = f }
+abbrev returned_file : ℕ → Facts → ReturnedFile
+returned_file request f = record { request = request; facts = f }
 
 abbrev rest_of : List (List ℕ) → List (List ℕ)
 rest_of [] = []
 rest_of (x ∷ xs) = xs
 
-abbrev pub handback_of : List (List ℕ) → Handback
-handback_of parts = handback (decimal_of (field parts 0)) (facts_of (rest_of parts))
+abbrev pub handback_of : List (List ℕ) → ReturnedFile
+handback_of parts = returned_file (decimal_of (field parts 0)) (facts_of (rest_of parts))
 
-pub handback_read : (b : Handback) → is_request_number b.request ≡ true → IsFacts b.facts
+pub handback_read : (b : ReturnedFile) → is_request_number b.request ≡ true → IsFacts b.facts
     → handback_of (fields 7 (decimal b.request ++ (32 ∷ facts_text b.facts))) ≡ b
 handback_read b h k =
     let small = request_small b.request h in
     let parts = fields-more 6 (decimal b.request) (facts_text b.facts) _ (decimal_free b.request small)
     (six_fields b.facts k 0 (components_text b.facts.components) _ refl) in
-    ap handback_of parts ∙ ap₂ handback (decimal_read b.request small) (facts_read b.facts k [])
+    ap handback_of parts ∙ ap₂ returned_file (decimal_read b.request small) (facts_read b.facts k [])
 
 abbrev certificate : List ℕ → List ℕ → WholeCertificate
 certificate tbs body = record { body = body; tbs = tbs }

@@ -34,7 +34,7 @@ pub struct Ballot {
 
 /// The signed file of a request, by its facts.
 #[derive(Debug, Drop)]
-pub struct Handback {
+pub struct ReturnedFile {
     pub request: RequestNumber,
     pub facts: Facts,
 }
@@ -60,7 +60,7 @@ pub enum Command {
     Submit(Submission),
     Review(Ballot),
     Withdraw(RequestNumber),
-    Return(Handback),
+    Return(ReturnedFile),
     ListCertificate(Certificate),
     ListDigest(Digest),
     Unlist(Listing),

@@ -3,7 +3,7 @@ ghost use Rattle.std.specs.Prelude.{◌≡◌, IfOk, string_bytes};
 ghost use Rattle.desk_texts.specs.CommandTexts.{text_of};
 ghost use Rattle.desk_texts.specs.declared.command.Command.TheVariants.{AddPerson, Submit, Review, Return, ListCertificate, Unlist, RaiseLevel, ImportRevocations};
 
-use crate::command::{Ballot, Command, Handback, Listing, Person, Raise, Submission};
+use crate::command::{Ballot, Command, Listing, Person, Raise, ReturnedFile, Submission};
 use crate::items::{components_text, digests_text, facts_text, stamp_text};
 use crate::{Certificate, Import};
 use std::alloc::{AllocError, Global};
@@ -34,11 +34,11 @@ fn review(alloc: Global, ballot: &Ballot) -> Result<String, AllocError>
     format!(in alloc; "review {request} {vote} {note}")
 }
 
-fn hand_back(alloc: Global, handback: &Handback) -> Result<String, AllocError>
-    ensures { IfOk result (λ text. string_bytes text ≡ text_of (Return handback.now)) }
+fn return_file(alloc: Global, returned_file: &ReturnedFile) -> Result<String, AllocError>
+    ensures { IfOk result (λ text. string_bytes text ≡ text_of (Return returned_file.now)) }
 {
-    let request = handback.request.value();
-    let facts = facts_text(alloc, &handback.facts)?;
+    let request = returned_file.request.value();
+    let facts = facts_text(alloc, &returned_file.facts)?;
     format!(in alloc; "return {request} {facts}")
 }
 
@@ -91,7 +91,7 @@ pub fn command_text(alloc: Global, command: &Command) -> Result<String, AllocErr
             let request = request.value();
             format!(in alloc; "withdraw {request}")
         }
-        Command::Return(handback) => hand_back(alloc, handback),
+        Command::Return(returned_file) => return_file(alloc, returned_file),
         Command::ListCertificate(certificate) => list_certificate(alloc, certificate),
         Command::ListDigest(digest) => format!(in alloc; "list-digest {digest}"),
         Command::Unlist(listing) => unlist(alloc, listing),

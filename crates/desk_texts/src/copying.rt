@@ -1,7 +1,7 @@
 //! Copies of commands and of what they are made of.
 ghost use Rattle.std.specs.Prelude.{◌≡◌, IfOk};
 
-use crate::{Ballot, Call, Command, Handback, Person, Raise, Reply, Submission};
+use crate::{Ballot, Call, Command, Person, Raise, Reply, ReturnedFile, Submission};
 use sbat::Component;
 use std::alloc::{AllocError, Global};
 
@@ -52,12 +52,12 @@ impl Clone for Ballot {
     }
 }
 
-impl Clone for Handback {
-    ghost is_clone = { λ handback copy. copy ≡ handback };
+impl Clone for ReturnedFile {
+    ghost is_clone = { λ returned_file copy. copy ≡ returned_file };
 
-    fn clone(&self) -> Result<Handback, AllocError> {
+    fn clone(&self) -> Result<ReturnedFile, AllocError> {
         let facts = self.facts.clone()?;
-        Ok(Handback {
+        Ok(ReturnedFile {
             request: self.request,
             facts,
         })
@@ -85,7 +85,7 @@ impl Clone for Command {
             Command::Submit(submission) => Ok(Command::Submit(submission.clone()?)),
             Command::Review(ballot) => Ok(Command::Review(ballot.clone()?)),
             Command::Withdraw(request) => Ok(Command::Withdraw(*request)),
-            Command::Return(handback) => Ok(Command::Return(handback.clone()?)),
+            Command::Return(returned_file) => Ok(Command::Return(returned_file.clone()?)),
             Command::ListCertificate(certificate) => {
                 Ok(Command::ListCertificate(certificate.clone()?))
             }

@@ -89,9 +89,9 @@ pub fn commands_are_formed(command: &Command)
         Command::Withdraw(request) => {
             let _request = request.value();
         }
-        Command::Return(handback) => {
-            let _request = handback.request.value();
-            show_facts(&handback.facts);
+        Command::Return(returned_file) => {
+            let _request = returned_file.request.value();
+            show_facts(&returned_file.facts);
         }
         Command::ListCertificate(certificate) => {
             let tbs = certificate.tbs();

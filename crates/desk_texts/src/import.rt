@@ -3,7 +3,7 @@ ghost use Rattle.std.specs.Prelude.{◌≡◌, ◌<◌, ◌≤◌, ◌+◌, Matc
 ghost use Rattle.desk_texts.specs.Forms.{most_imported};
 ghost use Rattle.desk_texts.specs.Imports.{Imported, named_count};
 
-use crate::{Digests, Raises};
+use crate::{Digests, ImportedComponents};
 use sbat::Stamp;
 use std::alloc::AllocError;
 use std::marker::Model;
@@ -19,7 +19,7 @@ pub struct Import {
     passed: u64,
     digests: Digests,
     certificates: Digests,
-    components: Raises,
+    components: ImportedComponents,
 }
 
 impl Model for Import {
@@ -48,7 +48,7 @@ impl Import {
         passed: u64,
         digests: Digests,
         certificates: Digests,
-        components: Raises,
+        components: ImportedComponents,
     ) -> Option<Import>
         ensures { MatchOption result
             (most_imported < named_count passed digests certificates components)
@@ -109,7 +109,7 @@ impl Import {
     }
 
     /// The components, in their order, with repeats.
-    pub fn components(&self) -> &Raises
+    pub fn components(&self) -> &ImportedComponents
         ensures { result.now ≡ self.now.components }
     {
         &self.components

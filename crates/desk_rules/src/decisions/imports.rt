@@ -157,8 +157,8 @@ fn take_in(before: &Level, component: &Component, so_far: &mut SoFar) -> Result<
     ensures ok { OnOk result ((asked old seen : List ComponentValue)
         → IsTrue (is_among (map (λ x. x.name) asked) component.now.name)
         → get before.now.generations component.now.name ≡ greatest old component.now.name
-        → spec.IsSoFar asked old seen so_far.old
-        → spec.IsSoFar asked old (component.now ∷ seen) so_far.new) }
+        → spec.HasTaken asked old seen so_far.old
+        → spec.HasTaken asked old (component.now ∷ seen) so_far.new) }
     ensures count { OnOk result (so_far.new.names ≤ so_far.old.names + 1) }
     ensures err { IfErr result (λ refusal. refusal ≡ Refusal.NoMemory) }
 {
@@ -184,7 +184,7 @@ fn take_all(
     ensures ok { IfOk result (λ so_far. (old : List ComponentValue)
         → ((q : List ℕ) → IsTrue (is_among (map (λ x. x.name) components.now) q)
         → generation_in rows.now q ≡ greatest old q)
-        → spec.IsSoFar components.now old (reverse components.now) so_far) }
+        → spec.HasTaken components.now old (reverse components.now) so_far) }
     ensures err { IfErr result (λ refusal. refusal ≡ Refusal.NoMemory) }
 {
     let before = level_of(alloc, stamp, rows)?;

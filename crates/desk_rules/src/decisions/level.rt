@@ -1,4 +1,4 @@
-//! Raises of the SBAT level.
+//! ImportedComponents of the SBAT level.
 ghost use Rattle.std.specs.Prelude.{◌≡◌, [], ◌∷◌};
 ghost use Rattle.desk_history.specs.Refusals.{raise_refusal as raise_refused};
 ghost use Rattle.desk_history.specs.declared.write.Write.TheVariants as puts;
@@ -32,7 +32,7 @@ fn seen_refusal(view: &View, raise: &Raise) -> Option<Refusal>
     raise_refusal(present, view.stamp, raise)
 }
 
-/// Raises the generation that is asked of a component.
+/// ImportedComponents the generation that is asked of a component.
 pub(crate) fn raise_level(alloc: Global, view: &View, raise: &Raise) -> Result<Changes, Refusal>
     ensures { Decided result
         (raise_refused (generation_in view.now.lists.components.items raise.now.component.name) view.now.stamp raise.now)

@@ -12,12 +12,12 @@ use super::{one, two};
 use crate::rows::{return_row, vote_row};
 use crate::view::{Changes, View};
 use desk_bytes::Refusal;
-use desk_history::{RequestRow, Voted, Write, image_refusal, return_by, review_by, withdraw_by};
-use desk_texts::{Ballot, Caller, Handback, Outcome, Reply, RequestNumber, State, Vote};
+use desk_history::{RequestRow, VoteRow, Write, image_refusal, return_by, review_by, withdraw_by};
+use desk_texts::{Ballot, Caller, Outcome, Reply, RequestNumber, ReturnedFile, State, Vote};
 use std::alloc::Global;
 
 /// Whether the vote is a yes.
-fn is_yes(vote: &Voted) -> bool
+fn is_yes(vote: &VoteRow) -> bool
     ensures { result ≡ is_yes vote.now }
 {
     matches!(vote.vote, Vote::Yes)
@@ -85,7 +85,7 @@ impl View {
 
     /// Why the caller's vote on the request isn't taken.
     fn review_refusal(&self, number: RequestNumber, caller: &Caller) -> Option<Refusal>
-        ensures { result ≡ spec.seen_review self.now number (caller_name caller.now) }
+        ensures { result ≡ spec.review_refusal_in self.now number (caller_name caller.now) }
     {
         match self.request(number) {
             None => Some(Refusal::NoSuchRequest),
@@ -107,7 +107,7 @@ impl View {
 
     /// Why the caller's request isn't withdrawn.
     fn withdraw_refusal(&self, number: RequestNumber, caller: &Caller) -> Option<Refusal>
-        ensures { result ≡ spec.seen_withdraw self.now number (caller_name caller.now) }
+        ensures { result ≡ spec.withdraw_refusal_in self.now number (caller_name caller.now) }
     {
         match self.request(number) {
             None => Some(Refusal::NoSuchRequest),
@@ -116,13 +116,18 @@ impl View {
     }
 
     /// Why the returned file isn't taken.
-    fn return_refusal(&self, handback: &Handback) -> Option<Refusal>
-        ensures { result ≡ spec.seen_return self.now handback.now }
+    fn return_refusal(&self, returned_file: &ReturnedFile) -> Option<Refusal>
+        ensures { result ≡ spec.return_refusal_in self.now returned_file.now }
     {
-        match self.request(handback.request) {
+        match self.request(returned_file.request) {
             None => Some(Refusal::NoSuchRequest),
             Some(row) => {
-                let image = image_refusal(&self.lists, row.digest, row.signing, &handback.facts);
+                let image = image_refusal(
+                    &self.lists,
+                    row.digest,
+                    row.signing,
+                    &returned_file.facts,
+                );
                 return_by(row.state, image)
             }
         }
@@ -137,7 +142,7 @@ pub(crate) fn review(
     ballot: &Ballot,
 ) -> Result<Changes, Refusal>
     ensures { spec.Decided result
-        (spec.seen_review view.now ballot.now.request (caller_name caller.now))
+        (spec.review_refusal_in view.now ballot.now.request (caller_name caller.now))
         (replies.Reviewed (spec.outcome_after view.now ballot.now))
         (puts.Vote (spec.vote_row (caller_name caller.now) ballot.now)
         ∷ puts.State (spec.outcome_after view.now ballot.now) ∷ []) }
@@ -163,7 +168,7 @@ pub(crate) fn withdraw(
     caller: &Caller,
     request: RequestNumber,
 ) -> Result<Changes, Refusal>
-    ensures { spec.Decided result (spec.seen_withdraw view.now request (caller_name caller.now))
+    ensures { spec.Decided result (spec.withdraw_refusal_in view.now request (caller_name caller.now))
         (replies.Withdrawn request)
         (puts.State (record { request = request; state = State.Withdrawn }) ∷ []) }
 {
@@ -179,22 +184,22 @@ pub(crate) fn withdraw(
 }
 
 /// Takes the signed file of a request.
-pub(crate) fn hand_back(
+pub(crate) fn return_file(
     alloc: Global,
     view: &View,
     caller: &Caller,
-    handback: &Handback,
+    returned_file: &ReturnedFile,
 ) -> Result<Changes, Refusal>
-    ensures { spec.Decided result (spec.seen_return view.now handback.now)
-        (replies.Returned handback.now.request)
-        (puts.Return (spec.handback_row (caller_name caller.now) handback.now)
-        ∷ puts.State (record { request = handback.now.request; state = State.Signed }) ∷ []) }
+    ensures { spec.Decided result (spec.return_refusal_in view.now returned_file.now)
+        (replies.Returned returned_file.now.request)
+        (puts.Return (spec.returned_file_row (caller_name caller.now) returned_file.now)
+        ∷ puts.State (record { request = returned_file.now.request; state = State.Signed }) ∷ []) }
 {
-    if let Some(refusal) = view.return_refusal(handback) {
+    if let Some(refusal) = view.return_refusal(returned_file) {
         return Err(refusal);
     }
-    let request = handback.request;
-    let row = return_row(alloc, caller, handback)?;
+    let request = returned_file.request;
+    let row = return_row(alloc, caller, returned_file)?;
     let state = State::Signed;
     two(
         alloc,

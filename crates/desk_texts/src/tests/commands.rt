@@ -110,7 +110,7 @@ fn writes_a_submission_of_an_image_that_carries_two_of_each(rt: HostRuntime) -> 
 /// Checks the text of a return of an image of these facts.
 fn is_returned(rt: &impl Abort, alloc: Global, facts: Facts, text: &str) -> Result<(), Fail> {
     let request = number(999_999)?;
-    let command = Command::Return(Handback { request, facts });
+    let command = Command::Return(ReturnedFile { request, facts });
     has_text(rt, alloc, command, text)
 }
 
@@ -269,7 +269,7 @@ fn import(
 ) -> Result<Command, Fail> {
     let digests = Digests::new(digests).ok_or("digests")?;
     let certificates = Digests::new(certificates).ok_or("digests")?;
-    let components = Raises::new(components).ok_or("components")?;
+    let components = ImportedComponents::new(components).ok_or("components")?;
     let import = Import::new(stamp, passed, digests, certificates, components).ok_or("an import")?;
     Ok(Command::ImportRevocations(import))
 }

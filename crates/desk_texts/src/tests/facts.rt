@@ -53,7 +53,7 @@ fn keeps_digests(rt: &impl Abort, alloc: Global, different: usize) -> Result<(),
     let Some(carried) = Carried::new(doubled(alloc, different)?) else {
         panic!(rt; "{different} digests are refused");
     };
-    assert_eq!(rt; carried.as_slice().len(), different, "each once");
+    assert_eq!(rt; carried.as_slice().len(), different, "each distinct");
     for (place, found) in carried.as_slice().iter().enumerate() {
         assert_eq!(rt; *found, digest(place), "ascending, at {place}");
     }

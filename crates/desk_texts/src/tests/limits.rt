@@ -73,7 +73,7 @@ fn refuses_10001_digests_of_an_import(rt: HostRuntime) -> Result<(), Fail> {
 
 /// Checks that so many components are kept.
 fn keeps_components(rt: &impl Abort, alloc: Global, count: usize) -> Result<(), Fail> {
-    let Some(kept) = Raises::new(components(alloc, count)?) else {
+    let Some(kept) = ImportedComponents::new(components(alloc, count)?) else {
         panic!(rt; "{count} components are refused");
     };
     assert_eq!(rt; kept.as_slice().len(), count, "all of them");
@@ -90,7 +90,7 @@ fn keeps_10000_components_of_an_import(rt: HostRuntime) -> Result<(), Fail> {
 
 #[test]
 fn refuses_10001_components_of_an_import(rt: HostRuntime) -> Result<(), Fail> {
-    let kept = Raises::new(components(rt.alloc(), MOST_IMPORTED + 1)?);
+    let kept = ImportedComponents::new(components(rt.alloc(), MOST_IMPORTED + 1)?);
     assert!(rt; kept.is_none(), "one component more");
     Ok(())
 }
@@ -99,7 +99,7 @@ fn refuses_10001_components_of_an_import(rt: HostRuntime) -> Result<(), Fail> {
 fn may_name(alloc: Global, name: &[u8]) -> Result<bool, Fail> {
     let mut named = components(alloc, 1)?;
     named.push(component(alloc, name, 2)?)?;
-    Ok(Raises::new(named).is_some())
+    Ok(ImportedComponents::new(named).is_some())
 }
 
 #[test]
@@ -120,7 +120,7 @@ fn import_of(
 ) -> Result<Option<Import>, Fail> {
     let images = Digests::new(digests(alloc, images)?).ok_or("digests")?;
     let certificates = Digests::new(digests(alloc, certificates)?).ok_or("digests")?;
-    let named = Raises::new(components(alloc, named)?).ok_or("components")?;
+    let named = ImportedComponents::new(components(alloc, named)?).ok_or("components")?;
     let stamp = Stamp::new(2_024_010_100);
     Ok(Import::new(stamp, passed, images, certificates, named))
 }

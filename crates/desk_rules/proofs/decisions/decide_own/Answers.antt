@@ -16,7 +16,7 @@ pub returns-in-Withdraw : goal.returns-in-Withdraw
 returns-in-Withdraw c = subst (λ (command : Command). DecidesOwn c.args.view.now c.args.caller.now command c.withdraw.result) (sym c.in-Withdraw.is) (λ owner cs key legal shown. withdraws_request c.args.view.now c.args.caller.now c.in-Withdraw.number owner cs key shown c.withdraw.result c.withdraw.ensures)
 
 pub returns-in-Return : goal.returns-in-Return
-returns-in-Return c = subst (λ (command : Command). DecidesOwn c.args.view.now c.args.caller.now command c.hand_back.result) (sym c.in-Return.is) (λ owner cs key legal shown. returns_file c.args.view.now c.args.caller.now c.in-Return.handback owner cs key shown c.hand_back.result c.hand_back.ensures)
+returns-in-Return c = subst (λ (command : Command). DecidesOwn c.args.view.now c.args.caller.now command c.return_file.result) (sym c.in-Return.is) (λ owner cs key legal shown. returns_file c.args.view.now c.args.caller.now c.in-Return.returned_file owner cs key shown c.return_file.result c.return_file.ensures)
 
 pub returns-in-ListCertificate : goal.returns-in-ListCertificate
 returns-in-ListCertificate c = subst (λ (command : Command). DecidesOwn c.args.view.now c.args.caller.now command c.list_certificate.result) (sym c.in-ListCertificate.is) (lists_certificate c.args.view.now c.args.caller.now c.in-ListCertificate.certificate c.list_certificate.result c.list_certificate.ensures)

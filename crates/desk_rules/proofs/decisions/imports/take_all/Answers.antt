@@ -4,7 +4,7 @@ use Rattle.std.specs.List.{list_any}
 use Rattle.std.proofs.lemmas.List.{take_all}
 use Rattle.sbat.specs.declared.component.Component.{Component}
 use Rattle.desk_history.specs.Writes.{all_written}
-use Rattle.desk_rules.specs.ImportSteps.{IsSoFar}
+use Rattle.desk_rules.specs.ImportSteps.{HasTaken}
 use Rattle.desk_rules.specs.Room.{takes_off}
 use Rattle.desk_rules.proofs.ImportLemmas.{name_among, no_sbat, reverse_take}
 use Rattle.desk_rules.proofs.decisions.imports.take_all.Goals as goal
@@ -30,7 +30,7 @@ loop-component-preserved c = record {
   counted = omega (arith, c.in_ok-take_in.ensures.count, c.loop-component.invariant.counted);
   taken = λ old knows.
       let asked = name_among c.args.components.now c.loop-component.component-index c.component-item.result c.loop-component-test.true c.component-item.is in
-      subst (λ (seen : List Component). IsSoFar c.args.components.now old seen c.take_in.new.so_far)
+      subst (λ (seen : List Component). HasTaken c.args.components.now old seen c.take_in.new.so_far)
       (sym (reverse_take c.args.components.now c.loop-component.component-index c.component-item.result c.loop-component-test.true c.component-item.is))
       (c.in_ok-take_in.ensures.ok c.args.components.now old (reverse (take c.loop-component.component-index c.args.components.now)) asked
       (c.in_ok-before.ensures.ok c.component-item.result.name (no_sbat c.args.components.now c.requires.other c.component-item.result.name asked) ∙ knows c.component-item.result.name asked)
@@ -40,4 +40,4 @@ loop-component-preserved c = record {
 pub returns-clause-ok : goal.returns-clause-ok
 returns-clause-ok c old knows =
     let whole : take c.loop-component.component-index c.args.components.now ≡ c.args.components.now = take_all c.loop-component.component-index c.args.components.now c.loop-component-test.false in
-    subst (λ (xs : List Component). IsSoFar c.args.components.now old (reverse xs) c.loop-component.so_far) whole (c.loop-component.invariant.taken old knows)
+    subst (λ (xs : List Component). HasTaken c.args.components.now old (reverse xs) c.loop-component.so_far) whole (c.loop-component.invariant.taken old knows)

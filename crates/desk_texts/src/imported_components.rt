@@ -12,11 +12,11 @@ use std::marker::Model;
 /// Components in the order of an import, repeats kept, at most `MOST_IMPORTED`, none of them named `sbat`. A
 /// contract sees the list of them.
 #[derive(Debug, Drop)]
-pub struct Raises {
+pub struct ImportedComponents {
     components: Vec<Component>,
 }
 
-impl Model for Raises {
+impl Model for ImportedComponents {
     ghost use Rattle.std.specs.Prelude.{◌≡◌, ◌≤◌, List, length, true};
     ghost use Rattle.sbat.specs.declared.component.Component.{Component};
     ghost use Rattle.desk_texts.specs.Forms.{most_imported};
@@ -39,9 +39,9 @@ fn is_without_sbat(components: &[Component]) -> bool
         .all(|component| component.name.as_str() != "sbat")
 }
 
-impl Raises {
+impl ImportedComponents {
     /// The components, or `None` where there are more than `MOST_IMPORTED` or one is named `sbat`. Takes no memory.
-    pub fn new(components: Vec<Component>) -> Option<Raises>
+    pub fn new(components: Vec<Component>) -> Option<ImportedComponents>
         ensures { MatchOption result
             ((most_imported < length components.items) ⊎ (names_no_sbat components.items ≡ false))
             (λ named. named ≡ components.items) }
@@ -52,7 +52,7 @@ impl Raises {
         if !is_without_sbat(&components) {
             return None;
         }
-        Some(Raises { components })
+        Some(ImportedComponents { components })
     }
 
     /// The components.
@@ -68,17 +68,17 @@ impl Raises {
     pub fn into_vec(self) -> Vec<Component>
         ensures { result.items ≡ self }
     {
-        let Raises { components } = self;
+        let ImportedComponents { components } = self;
         components
     }
 }
 
-impl Clone for Raises {
+impl Clone for ImportedComponents {
     ghost is_clone = { λ raises copy. copy ≡ raises };
 
     /// A copy. Takes memory for its components.
-    fn clone(&self) -> Result<Raises, AllocError> {
+    fn clone(&self) -> Result<ImportedComponents, AllocError> {
         let components = copies(*self.components.allocator(), &self.components)?;
-        Ok(Raises { components })
+        Ok(ImportedComponents { components })
     }
 }

@@ -1,0 +1,57 @@
+-- Revocations are imported.
+use Rattle.std.specs.Prelude.{◌≡◌, ℕ, List, [], ◌∷◌, codes, Some, None}
+use Rattle.desk_bytes.specs.declared.refusal.Refusal.TheVariants as refusals
+use Rattle.desk_history.specs.Calls.{History}
+use Rattle.desk_history.specs.Level.{level, stamp}
+use Rattle.desk_history.specs.Runs.{answers, run}
+use Rattle.desk_history.specs.Tables.{tables}
+use Rattle.desk_history.specs.Worked.{Step, accepted, answers_of, by, calls_of, counts, digest, grub, imported, people_added, refused, with_people}
+use Rattle.desk_texts.specs.declared.command.Command.{Command}
+
+-- signature lists with an image's digest aa, a certificate's bb, and an entry of another kind
+abbrev pub lists : Command
+lists = imported None 1 (digest 170 ∷ []) (digest 187 ∷ []) []
+
+-- a table with the image's digest aa, and grub of generation 2 and then 3
+abbrev pub table : Command
+table = imported (Some 2024010100) 0 (digest 170 ∷ []) [] (grub 2 ∷ grub 3 ∷ [])
+
+-- the same without a stamp
+abbrev pub unstamped : Command
+unstamped = imported None 0 (digest 170 ∷ []) [] (grub 2 ∷ grub 3 ∷ [])
+
+abbrev pub listed_steps : List Step
+listed_steps = with_people (
+    accepted (by (codes "olga") (codes "olga-1") lists) (counts 1 1 0 1)
+    ∷ accepted (by (codes "olga") (codes "olga-2") lists) (counts 0 0 0 1)
+    ∷ [])
+
+abbrev pub tabled_steps : List Step
+tabled_steps = with_people (
+    refused (by (codes "olga") (codes "olga-1") unstamped) refusals.StampNotLater
+    ∷ accepted (by (codes "olga") (codes "olga-2") table) (counts 1 0 1 0)
+    ∷ accepted (by (codes "olga") (codes "olga-3") unstamped) (counts 0 0 0 0)
+    ∷ [])
+
+abbrev pub listed_history : History
+listed_history = by (codes "olga") (codes "olga-2") lists ∷ by (codes "olga") (codes "olga-1") lists ∷ people_added
+
+abbrev pub tabled_history : History
+tabled_history = by (codes "olga") (codes "olga-3") unstamped ∷ by (codes "olga") (codes "olga-2") table ∷ people_added
+
+abbrev pub AnswersImports : Type 0
+AnswersImports =
+    (answers [] (calls_of listed_steps) ≡ answers_of listed_steps)
+    × (answers [] (calls_of tabled_steps) ≡ answers_of tabled_steps)
+
+abbrev pub KeepsImports : Type 0
+KeepsImports =
+    (run [] (calls_of listed_steps) ≡ listed_history) × (run [] (calls_of tabled_steps) ≡ tabled_history)
+
+abbrev pub TablesImports : Type 0
+TablesImports =
+    ((tables (codes "owner") listed_history).revoked_digests ≡ digest 170 ∷ [])
+    × ((tables (codes "owner") listed_history).revoked_certificates ≡ digest 187 ∷ [])
+    × ((tables (codes "owner") tabled_history).components ≡ grub 3 ∷ [])
+    × (level tabled_history (codes "grub") ≡ Some 3)
+    × (stamp tabled_history ≡ 2024010100)

@@ -1,0 +1,57 @@
+-- The SBAT level rises.
+use Rattle.std.specs.Prelude.{◌≡◌, ℕ, List, [], ◌∷◌, codes, Some, None}
+use Rattle.desk_bytes.specs.declared.refusal.Refusal.TheVariants as refusals
+use Rattle.desk_texts.specs.declared.command.Command.TheVariants as command
+use Rattle.desk_texts.specs.declared.facts.Facts.{Facts}
+use Rattle.desk_texts.specs.declared.reply.Reply.TheVariants as replies
+use Rattle.desk_history.specs.Calls.{History}
+use Rattle.desk_history.specs.Level.{level, stamp}
+use Rattle.desk_history.specs.Runs.{answers, run}
+use Rattle.desk_history.specs.Tables.{tables}
+use Rattle.desk_history.specs.Verdicts.{verdict}
+use Rattle.desk_history.specs.declared.finding.Verdict.TheVariants as says
+use Rattle.desk_history.specs.Worked.{Step, accepted, answers_of, by, calls_of, digest, grub, image, people_added, raise, refused, submit, with_people}
+
+-- an image with this generation of grub
+abbrev pub with_grub : ℕ → Facts
+with_grub generation = image 21 22 22 [] (grub generation ∷ [])
+
+abbrev pub steps : List Step
+steps = with_people (
+    accepted (by (codes "olga") (codes "olga-1") (raise (codes "grub") 3 2024010100)) replies.Raised
+    ∷ refused (by (codes "olga") (codes "olga-2") (raise (codes "grub") 2 2024010101)) refusals.NotHigher
+    ∷ refused (by (codes "olga") (codes "olga-3") (raise (codes "grub") 4 2024010100)) refusals.StampNotLater
+    ∷ refused (by (codes "olga") (codes "olga-4") (raise (codes "sbat") 2 2024010101)) refusals.NotHigher
+    ∷ refused (by (codes "ann") (codes "ann-1") (submit (with_grub 2))) refusals.Revoked
+    ∷ accepted (by (codes "olga") (codes "olga-5") (command.ListDigest (digest 22))) replies.Listed
+    ∷ [])
+
+abbrev pub history : History
+history =
+    by (codes "olga") (codes "olga-5") (command.ListDigest (digest 22))
+    ∷ by (codes "olga") (codes "olga-1") (raise (codes "grub") 3 2024010100)
+    ∷ people_added
+
+abbrev pub AnswersLevels : Type 0
+AnswersLevels = answers [] (calls_of steps) ≡ answers_of steps
+
+abbrev pub KeepsLevels : Type 0
+KeepsLevels = run [] (calls_of steps) ≡ history
+
+-- before any call the stamp is that of shim's first level; generations are compared as numbers, not as texts
+abbrev pub SaysLevels : Type 0
+SaysLevels =
+    (stamp people_added ≡ 2021030218)
+    × (level people_added (codes "grub") ≡ None)
+    × (level people_added (codes "sbat") ≡ Some 1)
+    × (stamp history ≡ 2024010100)
+    × (level history (codes "grub") ≡ Some 3)
+    × (verdict history (with_grub 2) ≡ says.Sbat (record { place = 0; needs = 3 }))
+    × (verdict history (with_grub 3) ≡ says.Allowed)
+    × (verdict history (with_grub 10) ≡ says.Allowed)
+    × (verdict history (with_grub 4294967295) ≡ says.Allowed)
+
+abbrev pub TablesLevels : Type 0
+TablesLevels =
+    ((tables (codes "owner") history).components ≡ grub 3 ∷ [])
+    × ((tables (codes "owner") history).desk.stamp ≡ 2024010100)

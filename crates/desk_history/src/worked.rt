@@ -1,0 +1,44 @@
+//! Worked histories: the clauses of each function are what the definitions give for one.
+ghost use Rattle.desk_history.specs.Worked.Imports as imports;
+ghost use Rattle.desk_history.specs.Worked.Keys as keys;
+ghost use Rattle.desk_history.specs.Worked.Levels as levels;
+ghost use Rattle.desk_history.specs.Worked.Returns as returns;
+ghost use Rattle.desk_history.specs.Worked.Reviews as reviews;
+
+/// A request is approved by two votes of yes, and another one rejected by one of no.
+pub fn reviews_are_answered()
+    ensures answers { reviews.AnswersReviews }
+    ensures history { reviews.KeepsReviews }
+    ensures rows { reviews.TablesReviews }
+{}
+
+/// A signed file comes back; its certificate is listed, revoked and taken off.
+pub fn returns_are_answered()
+    ensures answers { returns.AnswersReturns }
+    ensures history { returns.KeepsReturns }
+    ensures rows { returns.TablesReturns }
+    ensures verdicts { returns.SaysReturns }
+    ensures barred { returns.BarsReturns }
+    ensures either { returns.TakesEither }
+{}
+
+/// The level rises, and bars images below it.
+pub fn levels_are_answered()
+    ensures answers { levels.AnswersLevels }
+    ensures history { levels.KeepsLevels }
+    ensures says { levels.SaysLevels }
+    ensures rows { levels.TablesLevels }
+{}
+
+/// A key is given again.
+pub fn keys_are_answered()
+    ensures answers { keys.AnswersKeys }
+    ensures history { keys.KeepsKeys }
+{}
+
+/// Revocations are imported.
+pub fn imports_are_answered()
+    ensures answers { imports.AnswersImports }
+    ensures history { imports.KeepsImports }
+    ensures rows { imports.TablesImports }
+{}
