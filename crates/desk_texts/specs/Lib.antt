@@ -10,3 +10,4 @@ pub mod Items
 pub mod Raising
 pub mod ReplyTexts
 pub mod Words
+pub mod Worked

@@ -3,6 +3,7 @@ ghost use Rattle.std.specs.Prelude.{◌≡◌};
 ghost use Rattle.desk_texts.specs.Commands.{IsCommand, IsReply};
 ghost use Rattle.desk_texts.specs.CommandTexts.{text_of};
 ghost use Rattle.desk_texts.specs.ReplyTexts.{reply_text_of};
+ghost use Rattle.desk_texts.specs.Worked.{WritesCommands, WritesReplies};
 ghost use Rattle.desk_texts.specs.declared.command.Command.{Command};
 ghost use Rattle.desk_texts.specs.declared.reply.Reply.{Reply};
 
@@ -14,4 +15,10 @@ pub fn command_texts_differ()
 /// Different replies have different texts.
 pub fn reply_texts_differ()
     ensures { (a b : Reply) → IsReply a → IsReply b → reply_text_of a ≡ reply_text_of b → a ≡ b }
+{}
+
+/// The texts of some commands and replies are those that were written down by hand.
+pub fn worked_texts_are_written()
+    ensures commands { WritesCommands }
+    ensures replies { WritesReplies }
 {}

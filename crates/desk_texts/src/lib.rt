@@ -46,7 +46,7 @@ pub use import::{Import, MOST_IMPORTED};
 pub use imported_components::ImportedComponents;
 pub use key::Key;
 pub use kind::ListedKind;
-pub use laws::{command_texts_differ, reply_texts_differ};
+pub use laws::{command_texts_differ, reply_texts_differ, worked_texts_are_written};
 pub use note::Note;
 pub use person_name::PersonName;
 pub use reply::{Counts, Outcome, Reply};
@@ -56,6 +56,3 @@ pub use role::Role;
 pub use state::State;
 pub use title::Title;
 pub use vote::Vote;
-
-#[cfg(test)]
-mod tests;

@@ -1,0 +1,128 @@
+//! Tables as vectors: all rows of a desk in a view, into which decisions are written.
+use super::*;
+
+/// The tables of a new desk.
+pub(super) fn new_tables(alloc: Global) -> Result<View, Fail> {
+    Ok(View {
+        stamp: Stamp::new(2_021_030_218).ok_or("a stamp")?,
+        sizes: NONE,
+        people: Vec::new(alloc),
+        calls: Vec::new(alloc),
+        requests: Vec::new(alloc),
+        votes: Vec::new(alloc),
+        lists: ListView {
+            listed: Vec::new(alloc),
+            revoked_digests: Vec::new(alloc),
+            revoked_certificates: Vec::new(alloc),
+            components: Vec::new(alloc),
+        },
+    })
+}
+
+/// Tables without a row.
+pub(super) const NONE: Sizes = Sizes {
+    people: 0,
+    calls: 0,
+    requests: 0,
+    listed: 0,
+    revoked_digests: 0,
+    revoked_certificates: 0,
+    components: 0,
+};
+
+/// How many rows the tables have.
+fn sizes(tables: &View) -> Sizes {
+    Sizes {
+        people: tables.people.len() as u64,
+        calls: tables.calls.len() as u64,
+        requests: tables.requests.len() as u64,
+        listed: tables.lists.listed.len() as u64,
+        revoked_digests: tables.lists.revoked_digests.len() as u64,
+        revoked_certificates: tables.lists.revoked_certificates.len() as u64,
+        components: tables.lists.components.len() as u64,
+    }
+}
+
+/// Sets the state of the request.
+fn set_state(requests: &mut Vec<RequestRow>, outcome: Outcome) {
+    let number = outcome.request.value();
+    if let Some(place) = requests.iter().position(|row| number == row.number.value()) {
+        requests[place].state = outcome.state;
+    }
+}
+
+/// Lists the entry.
+fn list(listed: &mut Vec<Listing>, entry: &Entry) -> Result<(), Fail> {
+    let kind = entry.kind;
+    let digest = entry.digest;
+    let row = Listing { kind, digest };
+    listed.push(row)?;
+    Ok(())
+}
+
+/// Takes the entry off.
+fn take_off(listed: &mut Vec<Listing>, listing: Listing) {
+    if let Some(place) = listed.iter().position(|row| listing == *row) {
+        listed.swap_remove(place);
+    }
+}
+
+/// Sets the generation of the component's name.
+fn set_generation(components: &mut Vec<Component>, component: &Component) {
+    for row in components.iter_mut() {
+        if row.name.as_str() == component.name.as_str() {
+            row.generation = component.generation;
+        }
+    }
+}
+
+/// Puts one write into the lists.
+fn write_lists(lists: &mut ListView, write: Write) -> Result<(), Fail> {
+    match write {
+        Write::List(entry) => list(&mut lists.listed, &entry)?,
+        Write::Unlist(listing) => take_off(&mut lists.listed, listing),
+        Write::RevokeDigest(digest) => lists.revoked_digests.push(digest)?,
+        Write::RevokeCertificate(digest) => lists.revoked_certificates.push(digest)?,
+        Write::Component(component) => lists.components.push(component)?,
+        Write::Generation(component) => set_generation(&mut lists.components, &component),
+        Write::Person(_)
+        | Write::Call(_)
+        | Write::Request(_)
+        | Write::RequestCertificate(_)
+        | Write::RequestComponent(_)
+        | Write::Vote(_)
+        | Write::State(_)
+        | Write::Return(_)
+        | Write::Stamp(_) => {}
+    }
+    Ok(())
+}
+
+/// Puts one write into the tables.
+fn write(tables: &mut View, write: Write) -> Result<(), Fail> {
+    match write {
+        Write::Person(person) => tables.people.push(person)?,
+        Write::Call(minute) => tables.calls.push(minute)?,
+        Write::Request(request) => tables.requests.push(request)?,
+        Write::Vote(vote) => tables.votes.push(vote)?,
+        Write::State(outcome) => set_state(&mut tables.requests, outcome),
+        Write::Stamp(stamp) => tables.stamp = stamp,
+        Write::RequestCertificate(_) | Write::RequestComponent(_) | Write::Return(_) => {}
+        Write::List(_)
+        | Write::Unlist(_)
+        | Write::RevokeDigest(_)
+        | Write::RevokeCertificate(_)
+        | Write::Component(_)
+        | Write::Generation(_) => write_lists(&mut tables.lists, write)?,
+    }
+    Ok(())
+}
+
+/// Puts the writes into the tables.
+pub(super) fn write_all(tables: &mut View, writes: Vec<Write>) -> Result<(), Fail> {
+    for row in writes {
+        write(tables, row)?;
+    }
+    tables.sizes = sizes(tables);
+    Ok(())
+}
