@@ -1,4 +1,5 @@
 pub mod CountLemmas
+pub mod EntryLemmas
 pub mod KeyLemmas
 pub mod LifeLemmas
 pub mod ListLemmas

@@ -21,7 +21,7 @@ use Rattle.desk_history.specs.Revocations.{revocations}
 use Rattle.desk_texts.specs.declared.kind.ListedKind.TheVariants as kinds
 use Rattle.desk_history.specs.declared.answer.Answer.TheVariants.{Refused, Repeated}
 use Rattle.desk_history.specs.Laws.{LegalIsRun, RunsGoOn}
-use Rattle.desk_history.specs.Limits.{is_within}
+use Rattle.desk_history.specs.Limits.{is_within, most_calls, most_level_components, most_listed, most_people, most_requests, most_revoked_certificates, most_revoked_digests}
 use Rattle.desk_history.specs.Refusals.{is_known, may_give, own_refusal, refusal, refuse_if}
 use Rattle.desk_history.specs.Runs.{answer, answer_known, earlier, is_accepted, is_legal, next, run}
 
@@ -100,29 +100,44 @@ legal_within : (cs : History) → is_legal cs ≡ true → is_within cs ≡ true
 legal_within [] h = refl
 legal_within (c ∷ cs) h = (accepted_parts cs c (and_parts (is_accepted (answer cs c)) (is_legal cs) h).0).within
 
-record Few (a b d : Bool) : Type 0 where
+-- a history keeps within each limit
+pub record Within (cs : History) : Type 0 where
+  pub people : nat_le (length (people cs)) most_people ≡ true
+  pub requests : nat_le (length (requests cs)) most_requests ≡ true
+  pub listed : nat_le (length (listed cs)) most_listed ≡ true
+  pub digests : nat_le (length (distinct (revocations kinds.Digest cs))) most_revoked_digests ≡ true
+  pub certificates : nat_le (length (distinct (revocations kinds.Certificate cs))) most_revoked_certificates ≡ true
+  pub components : nat_le (length (names (generations cs))) most_level_components ≡ true
+
+record All6 (a b d e f g : Bool) : Type 0 where
+  first : a ≡ true
   second : b ≡ true
   third : d ≡ true
+  fourth : e ≡ true
+  fifth : f ≡ true
+  sixth : g ≡ true
 
-few : (a b d e f g h : Bool) → (a && b && d && e && f && g && h) ≡ true → Few a b d
-few true true true e f g h k = record { second = refl; third = refl }
-few true true false e f g h k = no_parts k
-few true false d e f g h k = no_parts k
-few false b d e f g h k = no_parts k
+all_six : (a b d e f g h : Bool) → (a && b && d && e && f && g && h) ≡ true → All6 a b d e f g
+all_six true true true true true true h k = record { first = refl; second = refl; third = refl; fourth = refl; fifth = refl; sixth = refl }
+all_six true true true true true false h k = no_parts k
+all_six true true true true false g h k = no_parts k
+all_six true true true false f g h k = no_parts k
+all_six true true false e f g h k = no_parts k
+all_six true false d e f g h k = no_parts k
+all_six false b d e f g h k = no_parts k
 
-legal_few : (cs : History) → is_legal cs ≡ true → Few (nat_le (length (people cs)) 1000) (nat_le (length (requests cs)) 100000) (nat_le (length (listed cs)) 10000)
-legal_few cs h =
-    few (nat_le (length (people cs)) 1000) (nat_le (length (requests cs)) 100000) (nat_le (length (listed cs)) 10000)
-    (nat_le (length (distinct (revocations kinds.Digest cs))) 100000) (nat_le (length (distinct (revocations kinds.Certificate cs))) 10000)
-    (nat_le (length (names (generations cs))) 10000) (nat_le (length cs) 1000000) (legal_within cs h)
+-- and so does each legal one
+pub legal_parts : (cs : History) → is_legal cs ≡ true → Within cs
+legal_parts cs h =
+    let six : All6 (nat_le (length (people cs)) most_people) (nat_le (length (requests cs)) most_requests) (nat_le (length (listed cs)) most_listed) (nat_le (length (distinct (revocations kinds.Digest cs))) most_revoked_digests) (nat_le (length (distinct (revocations kinds.Certificate cs))) most_revoked_certificates) (nat_le (length (names (generations cs))) most_level_components) =
+    all_six (nat_le (length (people cs)) most_people) (nat_le (length (requests cs)) most_requests) (nat_le (length (listed cs)) most_listed)
+    (nat_le (length (distinct (revocations kinds.Digest cs))) most_revoked_digests) (nat_le (length (distinct (revocations kinds.Certificate cs))) most_revoked_certificates)
+    (nat_le (length (names (generations cs))) most_level_components) (nat_le (length cs) most_calls) (legal_within cs h) in
+    record { people = six.first; requests = six.second; listed = six.third; digests = six.fourth; certificates = six.fifth; components = six.sixth }
 
 -- a legal history has room for a request's number
 pub legal_room : (cs : History) → is_legal cs ≡ true → length (requests cs) ≤ 100000
-legal_room cs h = let within : nat_le (length (requests cs)) 100000 ≡ true = (legal_few cs h).second in grind (arith, nat_tests, within)
-
--- and lists no more than a desk may
-pub legal_listed : (cs : History) → is_legal cs ≡ true → length (listed cs) ≤ 10000
-legal_listed cs h = let within : nat_le (length (listed cs)) 10000 ≡ true = (legal_few cs h).third in grind (arith, nat_tests, within)
+legal_room cs h = let within : nat_le (length (requests cs)) 100000 ≡ true = (legal_parts cs h).requests in grind (arith, nat_tests, within)
 
 -- those before the newest of a legal history are legal
 pub legal_rest : (cs : History) (c : Call) (rest : History) → cs ≡ c ∷ rest → is_legal cs ≡ true → is_legal rest ≡ true

@@ -11,7 +11,16 @@ use Rattle.desk_history.specs.Calls.{History, distinct}
 abbrev pub components_of : Command → List Component
 components_of (command.RaiseLevel r) = r.component ∷ []
 components_of (command.ImportRevocations i) = reverse i.components
-components_of _ = []
+components_of (command.AddPerson _) = []
+components_of (command.Submit _) = []
+components_of (command.Review _) = []
+components_of (command.Withdraw _) = []
+components_of (command.Return _) = []
+components_of (command.ListCertificate _) = []
+components_of (command.ListDigest _) = []
+components_of (command.Unlist _) = []
+components_of (command.RevokeDigest _) = []
+components_of (command.RevokeCertificate _) = []
 
 -- the components whose generation some call names, each as often as it is named
 abbrev pub generations : History → List Component
@@ -57,7 +66,16 @@ raises_some cs command = list_any (raises cs) (components_of command)
 abbrev pub stamp_of : Command → Option ℕ
 stamp_of (command.RaiseLevel r) = Some r.stamp
 stamp_of (command.ImportRevocations i) = i.stamp
-stamp_of _ = None
+stamp_of (command.AddPerson _) = None
+stamp_of (command.Submit _) = None
+stamp_of (command.Review _) = None
+stamp_of (command.Withdraw _) = None
+stamp_of (command.Return _) = None
+stamp_of (command.ListCertificate _) = None
+stamp_of (command.ListDigest _) = None
+stamp_of (command.Unlist _) = None
+stamp_of (command.RevokeDigest _) = None
+stamp_of (command.RevokeCertificate _) = None
 
 -- the level's stamp: that of the last call that raised a generation. own: before any it is that of shim's first level
 abbrev pub stamp : History → ℕ

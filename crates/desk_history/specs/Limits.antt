@@ -1,5 +1,5 @@
 -- How much a desk holds.
-use Rattle.std.specs.Prelude.{Bool, ◌&&◌, nat_le, length}
+use Rattle.std.specs.Prelude.{ℕ, Bool, ◌&&◌, nat_le, length}
 use Rattle.desk_texts.specs.declared.kind.ListedKind.TheVariants as kinds
 use Rattle.desk_history.specs.Calls.{History, distinct}
 use Rattle.desk_history.specs.Level.{generations, names}
@@ -7,15 +7,42 @@ use Rattle.desk_history.specs.Listing.{listed}
 use Rattle.desk_history.specs.People.{people}
 use Rattle.desk_history.specs.Requests.{requests}
 use Rattle.desk_history.specs.Revocations.{revocations}
-use Rattle.desk_history.specs.declared.limits.TheConstants.{MOST_CALLS, MOST_LEVEL_COMPONENTS, MOST_LISTED, MOST_PEOPLE, MOST_REQUESTS, MOST_REVOKED_CERTIFICATES, MOST_REVOKED_DIGESTS}
 
--- own: how much a desk may hold
+-- own: the most people of a desk
+abbrev pub most_people : ℕ
+most_people = 1000
+
+-- own: the most requests
+abbrev pub most_requests : ℕ
+most_requests = 100000
+
+-- own: the most listed entries, of images and certificates together
+abbrev pub most_listed : ℕ
+most_listed = 10000
+
+-- own: the most revoked digests of images
+abbrev pub most_revoked_digests : ℕ
+most_revoked_digests = 100000
+
+-- own: the most revoked certificates
+abbrev pub most_revoked_certificates : ℕ
+most_revoked_certificates = 10000
+
+-- own: the most components of the level, beside `sbat`
+abbrev pub most_level_components : ℕ
+most_level_components = 10000
+
+-- own: the most accepted calls
+abbrev pub most_calls : ℕ
+most_calls = 1000000
+
+-- the desk keeps within what it may hold
 abbrev pub is_within : History → Bool
 is_within cs =
-    nat_le (length (people cs)) MOST_PEOPLE
-    && nat_le (length (requests cs)) MOST_REQUESTS
-    && nat_le (length (listed cs)) MOST_LISTED
-    && nat_le (length (distinct (revocations kinds.Digest cs))) MOST_REVOKED_DIGESTS
-    && nat_le (length (distinct (revocations kinds.Certificate cs))) MOST_REVOKED_CERTIFICATES
-    && nat_le (length (names (generations cs))) MOST_LEVEL_COMPONENTS
-    && nat_le (length cs) MOST_CALLS
+    nat_le (length (people cs)) most_people
+    && nat_le (length (requests cs)) most_requests
+    && nat_le (length (listed cs)) most_listed
+    && nat_le (length (distinct (revocations kinds.Digest cs))) most_revoked_digests
+    && nat_le (length (distinct (revocations kinds.Certificate cs))) most_revoked_certificates
+    && nat_le (length (names (generations cs))) most_level_components
+    && nat_le (length cs) most_calls

@@ -18,13 +18,30 @@ abbrev pub is_about : ListedKind → List ℕ → Command → Bool
 is_about kind digest (command.ListDigest d) = is_same_kind kind kinds.Digest && bytes_eq digest d
 is_about kind digest (command.ListCertificate c) = is_same_kind kind kinds.Certificate && bytes_eq digest c.tbs
 is_about kind digest (command.Unlist l) = is_same_kind kind l.kind && bytes_eq digest l.digest
-is_about kind digest _ = false
+is_about kind digest (command.AddPerson _) = false
+is_about kind digest (command.Submit _) = false
+is_about kind digest (command.Review _) = false
+is_about kind digest (command.Withdraw _) = false
+is_about kind digest (command.Return _) = false
+is_about kind digest (command.RevokeDigest _) = false
+is_about kind digest (command.RevokeCertificate _) = false
+is_about kind digest (command.RaiseLevel _) = false
+is_about kind digest (command.ImportRevocations _) = false
 
 -- the command lists an entry
 abbrev pub lists : Command → Bool
 lists (command.ListDigest d) = true
 lists (command.ListCertificate c) = true
-lists _ = false
+lists (command.AddPerson _) = false
+lists (command.Submit _) = false
+lists (command.Review _) = false
+lists (command.Withdraw _) = false
+lists (command.Return _) = false
+lists (command.Unlist _) = false
+lists (command.RevokeDigest _) = false
+lists (command.RevokeCertificate _) = false
+lists (command.RaiseLevel _) = false
+lists (command.ImportRevocations _) = false
 
 -- the last call about the entry lists it
 abbrev pub is_listed : ListedKind → History → List ℕ → Bool
@@ -45,7 +62,15 @@ relisted (command.ListDigest d) entries =
 relisted (command.ListCertificate c) entries =
     record { kind = kinds.Certificate; digest = c.tbs; body = c.body } ∷ without kinds.Certificate c.tbs entries
 relisted (command.Unlist l) entries = without l.kind l.digest entries
-relisted _ entries = entries
+relisted (command.AddPerson _) entries = entries
+relisted (command.Submit _) entries = entries
+relisted (command.Review _) entries = entries
+relisted (command.Withdraw _) entries = entries
+relisted (command.Return _) entries = entries
+relisted (command.RevokeDigest _) entries = entries
+relisted (command.RevokeCertificate _) entries = entries
+relisted (command.RaiseLevel _) entries = entries
+relisted (command.ImportRevocations _) entries = entries
 
 -- the listed entries, with the bodies that the last calls about them gave
 abbrev pub listed : History → List Entry

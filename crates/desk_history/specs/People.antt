@@ -8,7 +8,17 @@ use Rattle.desk_history.specs.Calls.{History}
 -- the person whom a command adds
 abbrev pub added_by : Command → Option Person
 added_by (command.AddPerson person) = Some person
-added_by _ = None
+added_by (command.Submit _) = None
+added_by (command.Review _) = None
+added_by (command.Withdraw _) = None
+added_by (command.Return _) = None
+added_by (command.ListCertificate _) = None
+added_by (command.ListDigest _) = None
+added_by (command.Unlist _) = None
+added_by (command.RevokeDigest _) = None
+added_by (command.RevokeCertificate _) = None
+added_by (command.RaiseLevel _) = None
+added_by (command.ImportRevocations _) = None
 
 -- those who were added, the newest first
 abbrev pub people : History → List Person

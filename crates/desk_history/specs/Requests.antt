@@ -32,7 +32,17 @@ request_of number caller s = record {
 -- a command's submission
 abbrev pub submission_of : Command → Option Submission
 submission_of (command.Submit submission) = Some submission
-submission_of _ = None
+submission_of (command.AddPerson _) = None
+submission_of (command.Review _) = None
+submission_of (command.Withdraw _) = None
+submission_of (command.Return _) = None
+submission_of (command.ListCertificate _) = None
+submission_of (command.ListDigest _) = None
+submission_of (command.Unlist _) = None
+submission_of (command.RevokeDigest _) = None
+submission_of (command.RevokeCertificate _) = None
+submission_of (command.RaiseLevel _) = None
+submission_of (command.ImportRevocations _) = None
 
 -- who submits what
 pub record Submitted : Type 0 where
@@ -66,7 +76,17 @@ request cs k = find (has_number k) (requests cs)
 abbrev pub vote_of : List ℕ → Command → Option VoteRow
 vote_of reviewer (command.Review b) =
     Some (record { request = b.request; reviewer = reviewer; vote = b.vote; note = b.note })
-vote_of reviewer _ = None
+vote_of reviewer (command.AddPerson _) = None
+vote_of reviewer (command.Submit _) = None
+vote_of reviewer (command.Withdraw _) = None
+vote_of reviewer (command.Return _) = None
+vote_of reviewer (command.ListCertificate _) = None
+vote_of reviewer (command.ListDigest _) = None
+vote_of reviewer (command.Unlist _) = None
+vote_of reviewer (command.RevokeDigest _) = None
+vote_of reviewer (command.RevokeCertificate _) = None
+vote_of reviewer (command.RaiseLevel _) = None
+vote_of reviewer (command.ImportRevocations _) = None
 
 -- the Reviews
 abbrev pub votes : History → List VoteRow
@@ -87,7 +107,17 @@ is_vote_of reviewer v = bytes_eq reviewer v.reviewer
 -- the command withdraws the request
 abbrev pub withdraws : ℕ → Command → Bool
 withdraws k (command.Withdraw number) = k == number
-withdraws k _ = false
+withdraws k (command.AddPerson _) = false
+withdraws k (command.Submit _) = false
+withdraws k (command.Review _) = false
+withdraws k (command.Return _) = false
+withdraws k (command.ListCertificate _) = false
+withdraws k (command.ListDigest _) = false
+withdraws k (command.Unlist _) = false
+withdraws k (command.RevokeDigest _) = false
+withdraws k (command.RevokeCertificate _) = false
+withdraws k (command.RaiseLevel _) = false
+withdraws k (command.ImportRevocations _) = false
 
 -- some call withdraws the request
 abbrev pub is_withdrawn : History → ℕ → Bool
@@ -102,7 +132,17 @@ pub record Returned : Type 0 where
 -- a signer's return in a command
 abbrev pub return_of : List ℕ → Command → Option Returned
 return_of signer (command.Return h) = Some (record { request = h.request; signer = signer; facts = h.facts })
-return_of signer _ = None
+return_of signer (command.AddPerson _) = None
+return_of signer (command.Submit _) = None
+return_of signer (command.Review _) = None
+return_of signer (command.Withdraw _) = None
+return_of signer (command.ListCertificate _) = None
+return_of signer (command.ListDigest _) = None
+return_of signer (command.Unlist _) = None
+return_of signer (command.RevokeDigest _) = None
+return_of signer (command.RevokeCertificate _) = None
+return_of signer (command.RaiseLevel _) = None
+return_of signer (command.ImportRevocations _) = None
 
 -- the Returns
 abbrev pub returns : History → List Returned

@@ -8,11 +8,18 @@ use Rattle.desk_history.specs.Calls.{History, is_among}
 
 -- the digests of this kind that a command revokes, the last first
 abbrev pub revoked_by : ListedKind → Command → List (List ℕ)
-revoked_by kinds.Digest (command.RevokeDigest digest) = digest ∷ []
-revoked_by kinds.Certificate (command.RevokeCertificate digest) = digest ∷ []
-revoked_by kinds.Digest (command.ImportRevocations i) = reverse i.digests
-revoked_by kinds.Certificate (command.ImportRevocations i) = reverse i.certificates
-revoked_by _ _ = []
+revoked_by kind (command.AddPerson _) = []
+revoked_by kind (command.Submit _) = []
+revoked_by kind (command.Review _) = []
+revoked_by kind (command.Withdraw _) = []
+revoked_by kind (command.Return _) = []
+revoked_by kind (command.ListCertificate _) = []
+revoked_by kind (command.ListDigest _) = []
+revoked_by kind (command.Unlist _) = []
+revoked_by kind (command.RevokeDigest digest) = elim kind [ kinds.Digest ↦ digest ∷ [] | kinds.Certificate ↦ [] ]
+revoked_by kind (command.RevokeCertificate digest) = elim kind [ kinds.Digest ↦ [] | kinds.Certificate ↦ digest ∷ [] ]
+revoked_by kind (command.RaiseLevel _) = []
+revoked_by kind (command.ImportRevocations i) = elim kind [ kinds.Digest ↦ reverse i.digests | kinds.Certificate ↦ reverse i.certificates ]
 
 -- the digests that some call revokes, each as often as it is named. own: no call takes a revocation back
 abbrev pub revocations : ListedKind → History → List (List ℕ)

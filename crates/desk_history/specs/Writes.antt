@@ -2,6 +2,8 @@
 use Rattle.std.specs.Prelude.{ℕ, ◌==◌, Bool, if◌then◌else◌, List, [], ◌∷◌, map, bytes_eq}
 use Rattle.sbat.specs.declared.component.Component.{Component}
 use Rattle.desk_history.specs.declared.rows.RequestRow.{RequestRow}
+use Rattle.desk_texts.specs.declared.kind.ListedKind.{ListedKind}
+use Rattle.desk_texts.specs.declared.kind.ListedKind.TheVariants as kinds
 use Rattle.desk_texts.specs.declared.state.State.{State}
 use Rattle.desk_history.specs.declared.write.Write.{Write}
 use Rattle.desk_history.specs.declared.write.Write.TheVariants as writes
@@ -20,6 +22,11 @@ is_named name row = bytes_eq name row.name
 abbrev pub set_generation : Component → Component → Component
 set_generation x row = if is_named x.name row then record row { generation = x.generation } else row
 
+-- the tables with one more revoked digest, of an image or of a certificate
+abbrev pub with_revoked : ListedKind → List ℕ → Tables → Tables
+with_revoked kinds.Digest digest t = record t { revoked_digests = digest ∷ t.revoked_digests }
+with_revoked kinds.Certificate digest t = record t { revoked_certificates = digest ∷ t.revoked_certificates }
+
 -- the tables after a write
 abbrev pub written : Write → Tables → Tables
 written (writes.Person p) t = record t { people = p ∷ t.people }
@@ -32,8 +39,7 @@ written (writes.State o) t = record t { requests = map (set_state o.request o.st
 written (writes.Return r) t = record t { returns = r ∷ t.returns }
 written (writes.List e) t = record t { listed = e ∷ t.listed }
 written (writes.Unlist l) t = record t { listed = without l.kind l.digest t.listed }
-written (writes.RevokeDigest d) t = record t { revoked_digests = d ∷ t.revoked_digests }
-written (writes.RevokeCertificate d) t = record t { revoked_certificates = d ∷ t.revoked_certificates }
+written (writes.Revoke l) t = with_revoked l.kind l.digest t
 written (writes.Component x) t = record t { components = x ∷ t.components }
 written (writes.Generation x) t = record t { components = map (set_generation x) t.components }
 written (writes.Stamp s) t = record t { desk = record t.desk { stamp = s } }

@@ -45,6 +45,26 @@ pub fn is_for(role: Role, command: &Command) -> bool
     }
 }
 
+/// Whether the console gives the command.
+pub fn is_for_console(command: &Command) -> bool
+    ensures { result ≡ spec.is_for_console command.now }
+{
+    match command {
+        Command::AddPerson(_) => true,
+        Command::Submit(_)
+        | Command::Review(_)
+        | Command::Withdraw(_)
+        | Command::Return(_)
+        | Command::ListCertificate(_)
+        | Command::ListDigest(_)
+        | Command::Unlist(_)
+        | Command::RevokeDigest(_)
+        | Command::RevokeCertificate(_)
+        | Command::RaiseLevel(_)
+        | Command::ImportRevocations(_) => false,
+    }
+}
+
 /// Whether the generation is above the present one, if there is one.
 pub fn is_above(generation: Generation, present: Option<Generation>) -> bool
     ensures { result ≡ level.is_above generation present }

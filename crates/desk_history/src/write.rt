@@ -2,7 +2,6 @@
 use crate::{
     Entry, Minute, RequestCertificateRow, RequestComponentRow, RequestRow, ReturnRow, VoteRow,
 };
-use desk_bytes::Digest;
 use desk_texts::{Listing, Outcome, Person};
 use sbat::{Component, Stamp};
 
@@ -29,10 +28,8 @@ pub enum Write {
     List(Entry),
     /// The listed entry is taken out.
     Unlist(Listing),
-    /// A revoked digest of an image is put in.
-    RevokeDigest(Digest),
-    /// A revoked digest of a certificate is put in.
-    RevokeCertificate(Digest),
+    /// A revoked digest is put in, of an image or of a certificate.
+    Revoke(Listing),
     /// A component of the level is put in.
     Component(Component),
     /// The row of the component's name gets its generation.

@@ -111,7 +111,7 @@ module _ (v : View) (owner : List ℕ) (cs : History) (caller : Caller) (key : L
 
         module _ (legal : is_legal cs ≡ true) (own : Changes) (makes : IsCommandStep own owner cs (called caller key command)) where
           room : has_room v.sizes own.writes.items ≡ is_within (called caller key command ∷ cs)
-          room = room_is v.sizes owner cs (called caller key command) own.writes.items shown.sizes legal makes.made makes.listed
+          room = room_is v.sizes owner cs (called caller key command) own.writes.items shown.count shown.sizes legal makes.made makes.listed
 
           by_room : (b : Bool) → has_room v.sizes own.writes.items ≡ b →
               answer cs (called caller key command) ≡ answer_new_key (refuse_if (not b) refusals.Full) (reply cs (called caller key command))
@@ -127,7 +127,7 @@ module _ (v : View) (owner : List ℕ) (cs : History) (caller : Caller) (key : L
           row_is : (text : List ℕ) → text ≡ text_of command → row text ≡ minute cs (called caller key command)
           row_is text is =
               ap row is
-              ∙ (ap (λ n. record { number = n + 1; caller = caller; key = key; text = text_of command; reply = own.reply }) (ap (λ z. z.calls) shown.sizes ∙ minutes_length cs)
+              ∙ (ap (λ n. record { number = n + 1; caller = caller; key = key; text = text_of command; reply = own.reply }) (shown.count ∙ minutes_length cs)
               ∙ ap (λ said. record { number = length cs + 1; caller = caller; key = key; text = text_of command; reply = said }) makes.replied)
 
           -- a command with room for what it writes

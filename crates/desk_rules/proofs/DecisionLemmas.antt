@@ -24,19 +24,20 @@ use Rattle.desk_history.specs.Listing.{has_entry, is_entry, is_listed, listed, w
 use Rattle.desk_history.specs.People.{has_name, has_token, people}
 use Rattle.desk_history.specs.Replies.{minutes, reply}
 use Rattle.desk_history.specs.Revocations.{is_revoked, revocations}
-use Rattle.desk_history.specs.Tables.{tables}
-use Rattle.desk_history.specs.Writes.{all_written}
+use Rattle.desk_history.specs.Tables.{Tables, tables}
+use Rattle.desk_history.specs.Writes.{all_written, written}
 use Rattle.desk_rules.specs.declared.view.Changes.{Changes}
 use Rattle.desk_rules.specs.declared.view.View.{View}
 use Rattle.desk_rules.specs.Decisions.{Decided, DecidesOwn, IsCommandStep, RefusesOwn, called}
-use Rattle.desk_rules.specs.Shown.{Shows, keys_named}
+use Rattle.desk_rules.specs.Shown.{Shows, keys_named, one_key}
 use Rattle.desk_rules.specs.Room.{IsRoomed}
 use Rattle.desk_history.specs.Refusals.{add_refusal, own_refusal, refuse_if}
 use Rattle.desk_rules.specs.Views.{keys_for, seen_standing}
+use Rattle.desk_history.proofs.EntryLemmas.{without_fewer}
 use Rattle.desk_history.proofs.ListLemmas.{bytes_eq-refl}
 use Rattle.desk_history.proofs.ListingLemmas.{listed_rows_are_listed}
 use Rattle.desk_history.proofs.RefusalLemmas.{unrefused}
-use Rattle.desk_rules.proofs.StandingLemmas.{agrees}
+use Rattle.desk_rules.proofs.StandingLemmas.{bars_so, lists_so}
 
 -- a decision by a refusal, a reply and writes
 pub decided : (owner : List ℕ) (cs : History) (c : Call) (result : Result Changes Refusal) (refusal : Option Refusal) (given : Reply) (ws : List Write) → Decided result refusal given ws →
@@ -87,15 +88,16 @@ without_missing kind digest (x ∷ rows) h =
       | false ↦ λ e. ap (λ rs. x ∷ rs) (without_missing kind digest rows e)
     ] h
 
-module _ (v : View) (owner : List ℕ) (cs : History) (c : Call) (shown : Shows v (tables owner cs) c) (kind : ListedKind) (digest : List ℕ) (asked : IsTrue (is_among (keys_for (keys_named c.command) kind) digest)) where
-  pub listed_seen : (seen_standing v.lists).listed kind digest ≡ is_listed kind cs digest
-  listed_seen = (agrees v.lists owner cs (keys_named c.command) shown.lists).listed kind digest asked
+module _ (v : View) (owner : List ℕ) (cs : History) (c : Call) (shown : Shows v (tables owner cs) c) (kind : ListedKind) (digest : List ℕ) where
+  pub revoked_seen : IsTrue (is_among (keys_for (keys_named c.command).revoked kind) digest) → (seen_standing v.lists).revoked kind digest ≡ is_revoked kind cs digest
+  revoked_seen asked = (bars_so v.lists owner cs (keys_named c.command) shown.lists).revoked kind digest asked
 
-  pub revoked_seen : (seen_standing v.lists).revoked kind digest ≡ is_revoked kind cs digest
-  revoked_seen = (agrees v.lists owner cs (keys_named c.command) shown.lists).revoked kind digest asked
+  module _ (asked : IsTrue (is_among (keys_for (keys_named c.command).listed kind) digest)) where
+    pub listed_seen : (seen_standing v.lists).listed kind digest ≡ is_listed kind cs digest
+    listed_seen = (lists_so v.lists owner cs (keys_named c.command) shown.lists).listed kind digest asked
 
-  pub unlisted_same : (seen_standing v.lists).listed kind digest ≡ false → without kind digest (listed cs) ≡ listed cs
-  unlisted_same h = without_missing kind digest (listed cs) (listed_rows_are_listed cs kind digest ∙ (sym listed_seen ∙ h))
+    pub unlisted_same : (seen_standing v.lists).listed kind digest ≡ false → without kind digest (listed cs) ≡ listed cs
+    unlisted_same h = without_missing kind digest (listed cs) (listed_rows_are_listed cs kind digest ∙ (sym listed_seen ∙ h))
 
 pub lists_digest : (v : View) (caller : Caller) (d : List ℕ) (result : Result Changes Refusal) →
     Decided result (refuse_if ((seen_standing v.lists).listed kinds.Digest d) refusals.AlreadyListed) replies.Listed (writes.List (record { kind = kinds.Digest; digest = d; body = [] }) ∷ []) →
@@ -119,17 +121,10 @@ lists_certificate v caller x result told owner cs key legal shown =
     (λ none. ap (λ rows. record (tables owner cs) { listed = e ∷ rows })
     (sym (unlisted_same v owner cs (called caller key (command.ListCertificate x)) shown kinds.Certificate x.tbs (among_one x.tbs) (unrefused ((seen_standing v.lists).listed kinds.Certificate x.tbs) refusals.AlreadyListed none)))) (inl refl)
 
--- leaving out entries makes no more of them
-without_fewer : (kind : ListedKind) (digest : List ℕ) (rows : List Entry) → length (without kind digest rows) ≤ length rows
-without_fewer kind digest [] = omega arith
-without_fewer kind digest (x ∷ rows) =
-    let rest : length (without kind digest rows) ≤ length rows = without_fewer kind digest rows in
-    elim (is_entry kind digest x) as (λ b. length (cond (not b) (x ∷ without kind digest rows) (without kind digest rows)) ≤ length (x ∷ rows)) [ true ↦ omega arith | false ↦ omega arith ]
-
-one_key_asked : (l : Listing) → is_among (keys_for (keys_named (command.Unlist l)) l.kind) l.digest ≡ true
+one_key_asked : (l : Listing) → is_among (keys_for (one_key l.kind l.digest) l.kind) l.digest ≡ true
 one_key_asked l = asked l.kind
   where
-    asked : (kind : ListedKind) → is_among (keys_for (keys_named (command.Unlist (record { kind = kind; digest = l.digest }))) kind) l.digest ≡ true
+    asked : (kind : ListedKind) → is_among (keys_for (one_key kind l.digest) kind) l.digest ≡ true
     asked kinds.Digest = among_one l.digest
     asked kinds.Certificate = among_one l.digest
 
@@ -142,22 +137,29 @@ unlists v caller l result told owner cs key legal shown =
 
 -- what is revoked
 
-pub revokes_digest : (v : View) (caller : Caller) (d : List ℕ) (result : Result Changes Refusal) →
-    Decided result (refuse_if ((seen_standing v.lists).revoked kinds.Digest d) refusals.AlreadyRevoked) replies.Revoked (writes.RevokeDigest d ∷ []) → DecidesOwn v caller (command.RevokeDigest d) result
-revokes_digest v caller d result told owner cs key legal shown =
-    let seen : (seen_standing v.lists).revoked kinds.Digest d ≡ is_revoked kinds.Digest cs d = revoked_seen v owner cs (called caller key (command.RevokeDigest d)) shown kinds.Digest d (among_one d) in
-    decided owner cs (called caller key (command.RevokeDigest d)) result (refuse_if ((seen_standing v.lists).revoked kinds.Digest d) refusals.AlreadyRevoked) replies.Revoked (writes.RevokeDigest d ∷ []) told
-    (ap (λ b. refuse_if b refusals.AlreadyRevoked) seen)
-    (λ none. refl)
-    (λ none. ap (λ b. record (tables owner cs) { revoked_digests = if b then distinct (revocations kinds.Digest cs) else d ∷ distinct (revocations kinds.Digest cs) })
-    (sym (sym seen ∙ unrefused ((seen_standing v.lists).revoked kinds.Digest d) refusals.AlreadyRevoked none))) (inl refl)
+-- a revocation by its listing
+revoked_rows_more : (kind : ListedKind) (d : List ℕ) (owner : List ℕ) (cs : History) → Tables
+revoked_rows_more kinds.Digest d owner cs = record (tables owner cs) { revoked_digests = distinct (d ∷ revocations kinds.Digest cs) }
+revoked_rows_more kinds.Certificate d owner cs = record (tables owner cs) { revoked_certificates = distinct (d ∷ revocations kinds.Certificate cs) }
 
-pub revokes_certificate : (v : View) (caller : Caller) (d : List ℕ) (result : Result Changes Refusal) →
-    Decided result (refuse_if ((seen_standing v.lists).revoked kinds.Certificate d) refusals.AlreadyRevoked) replies.Revoked (writes.RevokeCertificate d ∷ []) → DecidesOwn v caller (command.RevokeCertificate d) result
-revokes_certificate v caller d result told owner cs key legal shown =
-    let seen : (seen_standing v.lists).revoked kinds.Certificate d ≡ is_revoked kinds.Certificate cs d = revoked_seen v owner cs (called caller key (command.RevokeCertificate d)) shown kinds.Certificate d (among_one d) in
-    decided owner cs (called caller key (command.RevokeCertificate d)) result (refuse_if ((seen_standing v.lists).revoked kinds.Certificate d) refusals.AlreadyRevoked) replies.Revoked (writes.RevokeCertificate d ∷ []) told
-    (ap (λ b. refuse_if b refusals.AlreadyRevoked) seen)
-    (λ none. refl)
-    (λ none. ap (λ b. record (tables owner cs) { revoked_certificates = if b then distinct (revocations kinds.Certificate cs) else d ∷ distinct (revocations kinds.Certificate cs) })
-    (sym (sym seen ∙ unrefused ((seen_standing v.lists).revoked kinds.Certificate d) refusals.AlreadyRevoked none))) (inl refl)
+revoked_put : (kind : ListedKind) (d : List ℕ) (owner : List ℕ) (cs : History) → is_revoked kind cs d ≡ false → written (writes.Revoke (record { kind = kind; digest = d })) (tables owner cs) ≡ revoked_rows_more kind d owner cs
+unfolding revoked_rows_more
+revoked_put kinds.Digest d owner cs fresh = ap (λ b. record (tables owner cs) { revoked_digests = if b then distinct (revocations kinds.Digest cs) else d ∷ distinct (revocations kinds.Digest cs) }) (sym fresh)
+revoked_put kinds.Certificate d owner cs fresh = ap (λ b. record (tables owner cs) { revoked_certificates = if b then distinct (revocations kinds.Certificate cs) else d ∷ distinct (revocations kinds.Certificate cs) }) (sym fresh)
+
+module _ (v : View) (caller : Caller) (d : List ℕ) (result : Result Changes Refusal) where
+  pub revokes_digest : Decided result (refuse_if ((seen_standing v.lists).revoked kinds.Digest d) refusals.AlreadyRevoked) replies.Revoked (writes.Revoke (record { kind = kinds.Digest; digest = d }) ∷ []) → DecidesOwn v caller (command.RevokeDigest d) result
+  unfolding revoked_rows_more
+  revokes_digest told owner cs key legal shown =
+      let seen : (seen_standing v.lists).revoked kinds.Digest d ≡ is_revoked kinds.Digest cs d = revoked_seen v owner cs (called caller key (command.RevokeDigest d)) shown kinds.Digest d (among_one d) in
+      decided owner cs (called caller key (command.RevokeDigest d)) result (refuse_if ((seen_standing v.lists).revoked kinds.Digest d) refusals.AlreadyRevoked) replies.Revoked (writes.Revoke (record { kind = kinds.Digest; digest = d }) ∷ []) told
+      (ap (λ b. refuse_if b refusals.AlreadyRevoked) seen) (λ none. refl)
+      (λ none. revoked_put kinds.Digest d owner cs (sym seen ∙ unrefused ((seen_standing v.lists).revoked kinds.Digest d) refusals.AlreadyRevoked none)) (inl refl)
+
+  pub revokes_certificate : Decided result (refuse_if ((seen_standing v.lists).revoked kinds.Certificate d) refusals.AlreadyRevoked) replies.Revoked (writes.Revoke (record { kind = kinds.Certificate; digest = d }) ∷ []) → DecidesOwn v caller (command.RevokeCertificate d) result
+  unfolding revoked_rows_more
+  revokes_certificate told owner cs key legal shown =
+      let seen : (seen_standing v.lists).revoked kinds.Certificate d ≡ is_revoked kinds.Certificate cs d = revoked_seen v owner cs (called caller key (command.RevokeCertificate d)) shown kinds.Certificate d (among_one d) in
+      decided owner cs (called caller key (command.RevokeCertificate d)) result (refuse_if ((seen_standing v.lists).revoked kinds.Certificate d) refusals.AlreadyRevoked) replies.Revoked (writes.Revoke (record { kind = kinds.Certificate; digest = d }) ∷ []) told
+      (ap (λ b. refuse_if b refusals.AlreadyRevoked) seen) (λ none. refl)
+      (λ none. revoked_put kinds.Certificate d owner cs (sym seen ∙ unrefused ((seen_standing v.lists).revoked kinds.Certificate d) refusals.AlreadyRevoked none)) (inl refl)

@@ -10,6 +10,7 @@ use Rattle.desk_bytes.specs.declared.refusal.Refusal.TheVariants as refusals
 use Rattle.desk_texts.specs.Imports.{Imported}
 use Rattle.desk_texts.specs.declared.caller.Caller.{Caller}
 use Rattle.desk_texts.specs.declared.command.Command.TheVariants as command
+use Rattle.desk_texts.specs.declared.kind.ListedKind.{ListedKind}
 use Rattle.desk_texts.specs.declared.kind.ListedKind.TheVariants as kinds
 use Rattle.desk_texts.specs.declared.reply.Reply.TheVariants as replies
 use Rattle.desk_history.specs.declared.write.Write.{Write}
@@ -23,7 +24,7 @@ use Rattle.desk_history.specs.Writes.{all_written}
 use Rattle.desk_rules.specs.declared.decisions.imports.SoFar.{SoFar}
 use Rattle.desk_rules.specs.declared.view.Changes.{Changes}
 use Rattle.desk_rules.specs.declared.view.View.{View}
-use Rattle.desk_rules.specs.Decisions.{IsCommandStep, RefusesOwn, called}
+use Rattle.desk_rules.specs.Decisions.{IsCommandStep, RefusesOwn, called, revocation_writes}
 use Rattle.desk_rules.specs.Shown.{Shows, keys_named}
 use Rattle.desk_rules.specs.ImportSteps.{AreNew, HasTaken, stamp_writes}
 use Rattle.desk_rules.specs.Room.{takes_off}
@@ -49,13 +50,20 @@ some_raised p (x ∷ xs) = elim (p x) as (λ b. nat_lt 0 (length (distinct (map 
   | false ↦ some_raised p xs
 ]
 
-digests_put : (ds : List (List ℕ)) (t : Tables) → all_written (map (λ d. writes.RevokeDigest d) ds) t ≡ record t { revoked_digests = reverse ds ++ t.revoked_digests }
-digests_put [] t = refl
-digests_put (d ∷ ds) t = digests_put ds (record t { revoked_digests = d ∷ t.revoked_digests }) ∙ ap (λ rows. record t { revoked_digests = rows }) (turned d ds t.revoked_digests)
+-- the tables with these digests of this kind in front of the revoked ones
+abbrev with_all : ListedKind → List (List ℕ) → Tables → Tables
+with_all kinds.Digest ds t = record t { revoked_digests = ds ++ t.revoked_digests }
+with_all kinds.Certificate ds t = record t { revoked_certificates = ds ++ t.revoked_certificates }
 
-certificates_put : (ds : List (List ℕ)) (t : Tables) → all_written (map (λ d. writes.RevokeCertificate d) ds) t ≡ record t { revoked_certificates = reverse ds ++ t.revoked_certificates }
-certificates_put [] t = refl
-certificates_put (d ∷ ds) t = certificates_put ds (record t { revoked_certificates = d ∷ t.revoked_certificates }) ∙ ap (λ rows. record t { revoked_certificates = rows }) (turned d ds t.revoked_certificates)
+revocations_put : (kind : ListedKind) (ds : List (List ℕ)) (t : Tables) → all_written (revocation_writes kind ds) t ≡ with_all kind (reverse ds) t
+revocations_put kinds.Digest [] t = refl
+revocations_put kinds.Certificate [] t = refl
+revocations_put kinds.Digest (d ∷ ds) t = revocations_put kinds.Digest ds (record t { revoked_digests = d ∷ t.revoked_digests }) ∙ ap (λ rows. record t { revoked_digests = rows }) (turned d ds t.revoked_digests)
+revocations_put kinds.Certificate (d ∷ ds) t = revocations_put kinds.Certificate ds (record t { revoked_certificates = d ∷ t.revoked_certificates }) ∙ ap (λ rows. record t { revoked_certificates = rows }) (turned d ds t.revoked_certificates)
+
+-- revocations take nothing off
+revocations_kept : (kind : ListedKind) (ds : List (List ℕ)) → list_any takes_off (revocation_writes kind ds) ≡ false
+revocations_kept kind ds = none_taken (λ d. writes.Revoke (record { kind = kind; digest = d })) (λ d. refl) ds
 
 -- writes one after the other take nothing off
 none_of_two : (ws vs : List Write) → list_any takes_off ws ≡ false → list_any takes_off vs ≡ false → list_any takes_off (ws ++ vs) ≡ false
@@ -100,7 +108,7 @@ module _ (v : View) (i : Imported) (owner : List ℕ) (cs : History) (caller : C
   pub imports : (nat_lt 0 s.names && not (is_later v.stamp i.stamp)) ≡ false →
       (digests certificates : List (List ℕ)) → AreNew v.lists.revoked_digests.items i.digests digests → AreNew v.lists.revoked_certificates.items i.certificates certificates →
       (changes : Changes) → changes.reply ≡ replies.Imported (record { digests = length digests; certificates = length certificates; components = s.names; passed = i.passed }) →
-      changes.writes.items ≡ ((s.writes.items ++ map (λ d. writes.RevokeDigest d) digests) ++ map (λ d. writes.RevokeCertificate d) certificates) ++ stamp_writes s.names i.stamp →
+      changes.writes.items ≡ ((s.writes.items ++ revocation_writes kinds.Digest digests) ++ revocation_writes kinds.Certificate certificates) ++ stamp_writes s.names i.stamp →
       IsCommandStep changes owner cs (called caller key (command.ImportRevocations i))
   imports fine digests certificates new_digests new_certificates changes replied wrote =
       let first : distinct (reverse i.digests ++ revocations kinds.Digest cs) ≡ reverse digests ++ distinct (revocations kinds.Digest cs) = digest_rows digests new_digests in
@@ -117,21 +125,21 @@ module _ (v : View) (i : Imported) (owner : List ℕ) (cs : History) (caller : C
             ∙ ap (λ n. replies.Imported (record { digests = length (distinct (reverse i.digests ++ revocations kinds.Digest cs)) - length (distinct (revocations kinds.Digest cs)); certificates = length (distinct (reverse i.certificates ++ revocations kinds.Certificate cs)) - length (distinct (revocations kinds.Certificate cs)); components = n; passed = i.passed })) (sym so_far.count)));
         made =
             ap (λ ws. all_written ws (tables owner cs)) wrote
-            ∙ (written-append ((s.writes.items ++ map (λ d. writes.RevokeDigest d) digests) ++ map (λ d. writes.RevokeCertificate d) certificates) (stamp_writes s.names i.stamp) (tables owner cs)
+            ∙ (written-append ((s.writes.items ++ revocation_writes kinds.Digest digests) ++ revocation_writes kinds.Certificate certificates) (stamp_writes s.names i.stamp) (tables owner cs)
             ∙ (ap (λ r. all_written (stamp_writes s.names i.stamp) r)
-            (written-append (s.writes.items ++ map (λ d. writes.RevokeDigest d) digests) (map (λ d. writes.RevokeCertificate d) certificates) (tables owner cs)
-            ∙ (ap (λ r. all_written (map (λ d. writes.RevokeCertificate d) certificates) r)
-            (written-append s.writes.items (map (λ d. writes.RevokeDigest d) digests) (tables owner cs)
-            ∙ (ap (λ r. all_written (map (λ d. writes.RevokeDigest d) digests) r) (so_far.written (tables owner cs) refl)
-            ∙ (digests_put digests t ∙ ap (λ rows. record t { revoked_digests = rows }) (sym first))))
-            ∙ (certificates_put certificates u ∙ ap (λ rows. record u { revoked_certificates = rows }) (sym second))))
+            (written-append (s.writes.items ++ revocation_writes kinds.Digest digests) (revocation_writes kinds.Certificate certificates) (tables owner cs)
+            ∙ (ap (λ r. all_written (revocation_writes kinds.Certificate certificates) r)
+            (written-append s.writes.items (revocation_writes kinds.Digest digests) (tables owner cs)
+            ∙ (ap (λ r. all_written (revocation_writes kinds.Digest digests) r) (so_far.written (tables owner cs) refl)
+            ∙ (revocations_put kinds.Digest digests t ∙ ap (λ rows. record t { revoked_digests = rows }) (sym first))))
+            ∙ (revocations_put kinds.Certificate certificates u ∙ ap (λ rows. record u { revoked_certificates = rows }) (sym second))))
             ∙ (stamped i.stamp w refl
             ∙ ap (λ b. record w { desk = record (tables owner cs).desk { stamp = (if b then unwrap_or i.stamp (stamp cs) else stamp cs) } }) names_some)));
         listed = inl
             (ap (λ ws. list_any takes_off ws) wrote
-            ∙ none_of_two ((s.writes.items ++ map (λ d. writes.RevokeDigest d) digests) ++ map (λ d. writes.RevokeCertificate d) certificates) (stamp_writes s.names i.stamp)
-            (none_of_two (s.writes.items ++ map (λ d. writes.RevokeDigest d) digests) (map (λ d. writes.RevokeCertificate d) certificates)
-            (none_of_two s.writes.items (map (λ d. writes.RevokeDigest d) digests) so_far.kept (none_taken (λ d. writes.RevokeDigest d) (λ d. refl) digests))
-            (none_taken (λ d. writes.RevokeCertificate d) (λ d. refl) certificates))
+            ∙ none_of_two ((s.writes.items ++ revocation_writes kinds.Digest digests) ++ revocation_writes kinds.Certificate certificates) (stamp_writes s.names i.stamp)
+            (none_of_two (s.writes.items ++ revocation_writes kinds.Digest digests) (revocation_writes kinds.Certificate certificates)
+            (none_of_two s.writes.items (revocation_writes kinds.Digest digests) so_far.kept (revocations_kept kinds.Digest digests))
+            (revocations_kept kinds.Certificate certificates))
             (stamp_kept s.names i.stamp));
       }

@@ -1,3 +1,4 @@
+pub mod AnswerLemmas
 pub mod CallLemmas
 pub mod DecisionLemmas
 pub mod ImportDecision

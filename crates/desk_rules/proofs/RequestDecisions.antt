@@ -38,7 +38,7 @@ use Rattle.desk_rules.proofs.DecisionLemmas.{decided}
 use Rattle.desk_history.proofs.ListLemmas.{number_is}
 use Rattle.desk_history.proofs.RefusalLemmas.{no_refusal}
 use Rattle.desk_history.proofs.RequestLemmas.{count_more}
-use Rattle.desk_rules.proofs.StandingLemmas.{agrees, bars_alike, lists_alike}
+use Rattle.desk_rules.proofs.StandingLemmas.{bars_alike, bars_so, lists_alike, lists_so}
 
 other_number : (k n : ℕ) → (k == n) ≡ false → (n == k) ≡ false
 other_number k n h = grind (arith, nat_tests)
@@ -219,9 +219,9 @@ module _ (v : View) (caller : Caller) (h : ReturnedFile) (owner : List ℕ) (cs 
       (seen_row v owner cs (called caller key (command.Return h)) shown h.request (shown.request h.request refl))
       ∙ (return_of_row (request cs h.request) (state cs h.request) h.facts (bars (seen_standing v.lists) h.facts) (lists_image (seen_standing v.lists) h.facts)
       ∙ (ap (λ t. return_refusal (request cs h.request) (state cs h.request) h.facts t (lists_image (seen_standing v.lists) h.facts))
-      (bars_alike (seen_standing v.lists) (standing cs) h.facts (agrees v.lists owner cs (keys_of h.facts) shown.lists))
+      (bars_alike (seen_standing v.lists) (standing cs) h.facts (bars_so v.lists owner cs (keys_of h.facts) shown.lists))
       ∙ ap (λ t. return_refusal (request cs h.request) (state cs h.request) h.facts (is_barred cs h.facts) t)
-      (lists_alike (seen_standing v.lists) (standing cs) h.facts (agrees v.lists owner cs (keys_of h.facts) shown.lists))))
+      (lists_alike (seen_standing v.lists) (standing cs) h.facts (lists_so v.lists owner cs (keys_of h.facts) shown.lists))))
 
   pub returns_file : (result : Result Changes Refusal) →
       Decided result (return_refusal_in v h) (replies.Returned h.request) (writes.Return (returned_file_row (caller_name caller) h) ∷ writes.State (record { request = h.request; state = states.Signed }) ∷ []) →

@@ -39,7 +39,8 @@ lists_whole v t c h = record {
 pub whole_shows : WholeTablesShow
 whole_shows v t c h = record {
   stamp = h.stamp;
-  sizes = h.sizes;
+  count = h.count;
+  sizes = λ table _. h.sizes table;
   caller = ap (λ rows. find (has_name (caller_name c.caller)) rows) h.people;
   names = λ name _. ap (λ rows. find (has_name name) rows) h.people;
   tokens = λ token _. ap (λ rows. find (has_token token) rows) h.people;

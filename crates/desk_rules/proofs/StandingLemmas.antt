@@ -16,15 +16,18 @@ use Rattle.desk_history.specs.Writes.{is_named}
 use Rattle.desk_history.specs.declared.finding.Verdict.{Verdict}
 use Rattle.desk_rules.specs.declared.list_view.ListView.{ListView}
 use Rattle.desk_history.specs.Verdicts.{Standing, bars, first_below, has_revoked_certificate, has_revoked_digest, is_below, is_less, lack_at, lists_image, standing, verdict, verdict_by, verdict_on}
-use Rattle.desk_rules.specs.Views.{Keys, ShowsLists, generation_in, keys_for, keys_of, seen_standing}
+use Rattle.desk_rules.specs.Views.{EntryKeys, Keys, ShowsLists, component_names, generation_in, keys_for, keys_of, listed_keys, revoked_keys, seen_standing}
 use Rattle.desk_history.proofs.ListLemmas.{any_once, bytes_eq-refl, same_text}
 use Rattle.desk_history.proofs.ListingLemmas.{listed_rows_are_listed}
 
--- both say the same of these keys
-pub record Agree (s u : Standing) (k : Keys) : Type 0 where
-  pub revoked : (kind : ListedKind) (digest : List ℕ) → IsTrue (is_among (keys_for k kind) digest) → s.revoked kind digest ≡ u.revoked kind digest
-  pub listed : (kind : ListedKind) (digest : List ℕ) → IsTrue (is_among (keys_for k kind) digest) → s.listed kind digest ≡ u.listed kind digest
-  pub asked : (name : List ℕ) → IsTrue (is_among k.names name) → s.asked name ≡ u.asked name
+-- both bar the same of these keys
+pub record BarAlike (s u : Standing) (entries : EntryKeys) (names : List (List ℕ)) : Type 0 where
+  pub revoked : (kind : ListedKind) (digest : List ℕ) → IsTrue (is_among (keys_for entries kind) digest) → s.revoked kind digest ≡ u.revoked kind digest
+  pub asked : (name : List ℕ) → IsTrue (is_among names name) → s.asked name ≡ u.asked name
+
+-- both list the same of these keys
+pub record ListAlike (s u : Standing) (entries : EntryKeys) : Type 0 where
+  pub listed : (kind : ListedKind) (digest : List ℕ) → IsTrue (is_among (keys_for entries kind) digest) → s.listed kind digest ≡ u.listed kind digest
 
 -- a name is named exactly where it has a greatest generation
 pub named_some : (named : List Component) (n : List ℕ) → is_among (map (λ x. x.name) named) n ≡ is_some (greatest named n)
@@ -54,7 +57,7 @@ generation_row named n =
     whole (Some g) = refl
 
 module _ (v : ListView) (owner : List ℕ) (cs : History) (k : Keys) (shown : ShowsLists v (tables owner cs) k) where
-  revoked_alike : (kind : ListedKind) (digest : List ℕ) → IsTrue (is_among (keys_for k kind) digest) → (seen_standing v).revoked kind digest ≡ (standing cs).revoked kind digest
+  revoked_alike : (kind : ListedKind) (digest : List ℕ) → IsTrue (is_among (keys_for k.revoked kind) digest) → (seen_standing v).revoked kind digest ≡ (standing cs).revoked kind digest
   revoked_alike kinds.Digest digest h = shown.revoked kinds.Digest digest h ∙ any_once digest (revocations kinds.Digest cs)
   revoked_alike kinds.Certificate digest h = shown.revoked kinds.Certificate digest h ∙ any_once digest (revocations kinds.Certificate cs)
 
@@ -62,12 +65,14 @@ module _ (v : ListView) (owner : List ℕ) (cs : History) (k : Keys) (shown : Sh
   shown_generation name h = ap (λ o. option_map (λ (row : Component). row.generation) o) (shown.components name h) ∙ generation_row (generations cs) name
 
   -- the view says of the keys what the calls leave standing
-  pub agrees : Agree (seen_standing v) (standing cs) k
-  agrees = record {
+  pub bars_so : BarAlike (seen_standing v) (standing cs) k.revoked k.names
+  bars_so = record {
     revoked = revoked_alike;
-    listed = λ kind digest h. shown.listed kind digest h ∙ listed_rows_are_listed cs kind digest;
     asked = λ name h. ap (λ o. if is_sbat name then Some 1 else o) (shown_generation name h);
   }
+
+  pub lists_so : ListAlike (seen_standing v) (standing cs) k.listed
+  lists_so = record { listed = λ kind digest h. shown.listed kind digest h ∙ listed_rows_are_listed cs kind digest }
 
 any_alike : (p q : List ℕ → Bool) (xs : List (List ℕ)) → ((x : List ℕ) → IsTrue (is_among xs x) → p x ≡ q x) → list_any p xs ≡ list_any q xs
 any_alike p q [] each = refl
@@ -88,39 +93,41 @@ module _ (s u : Standing) where
       ap (λ o. option_or (lack_at place x.generation o) (first_below s (place + 1) xs)) (each x.name (or_left (bytes_eq x.name x.name) (is_among (map (λ x. x.name) xs) x.name) (bytes_eq-refl x.name)))
       ∙ ap (λ b. option_or (lack_at place x.generation (u.asked x.name)) b) (first_alike (place + 1) xs (λ n h. each n (or_right (bytes_eq n x.name) (is_among (map (λ x. x.name) xs) n) h)))
 
-  module _ (x : Facts) (agree : Agree s u (keys_of x)) where
-    own_digest : IsTrue (is_among (x.digest ∷ x.signing ∷ []) x.digest)
-    own_digest = or_left (bytes_eq x.digest x.digest) (is_among (x.signing ∷ []) x.digest) (bytes_eq-refl x.digest)
+  module _ (x : Facts) where
+    own_digest : (rest : List (List ℕ)) → IsTrue (is_among (x.digest ∷ rest) x.digest)
+    own_digest rest = or_left (bytes_eq x.digest x.digest) (is_among rest x.digest) (bytes_eq-refl x.digest)
 
     own_signing : IsTrue (is_among (x.digest ∷ x.signing ∷ []) x.signing)
     own_signing = or_right (bytes_eq x.signing x.digest) (is_among (x.signing ∷ []) x.signing) (or_left (bytes_eq x.signing x.signing) false (bytes_eq-refl x.signing))
 
-    digest_alike : has_revoked_digest s x ≡ has_revoked_digest u x
-    digest_alike =
-        ap (λ b. b || s.revoked kinds.Digest x.signing) (agree.revoked kinds.Digest x.digest own_digest)
-        ∙ ap (λ b. u.revoked kinds.Digest x.digest || b) (agree.revoked kinds.Digest x.signing own_signing)
+    module _ (agree : ListAlike s u (listed_keys x)) where
+      pub lists_alike : lists_image s x ≡ lists_image u x
+      lists_alike =
+          ap (λ b. b || list_any (s.listed kinds.Certificate) x.carried) (agree.listed kinds.Digest x.digest (own_digest []))
+          ∙ ap (λ b. u.listed kinds.Digest x.digest || b) (any_alike (s.listed kinds.Certificate) (u.listed kinds.Certificate) x.carried (agree.listed kinds.Certificate))
 
-    certificate_alike : has_revoked_certificate s x ≡ has_revoked_certificate u x
-    certificate_alike = any_alike (s.revoked kinds.Certificate) (u.revoked kinds.Certificate) x.carried (agree.revoked kinds.Certificate)
+    module _ (agree : BarAlike s u (revoked_keys x) (component_names x)) where
+      digest_alike : has_revoked_digest s x ≡ has_revoked_digest u x
+      digest_alike =
+          ap (λ b. b || s.revoked kinds.Digest x.signing) (agree.revoked kinds.Digest x.digest (own_digest (x.signing ∷ [])))
+          ∙ ap (λ b. u.revoked kinds.Digest x.digest || b) (agree.revoked kinds.Digest x.signing own_signing)
 
-    pub lists_alike : lists_image s x ≡ lists_image u x
-    lists_alike =
-        ap (λ b. b || list_any (s.listed kinds.Certificate) x.carried) (agree.listed kinds.Digest x.digest own_digest)
-        ∙ ap (λ b. u.listed kinds.Digest x.digest || b) (any_alike (s.listed kinds.Certificate) (u.listed kinds.Certificate) x.carried (agree.listed kinds.Certificate))
+      certificate_alike : has_revoked_certificate s x ≡ has_revoked_certificate u x
+      certificate_alike = any_alike (s.revoked kinds.Certificate) (u.revoked kinds.Certificate) x.carried (agree.revoked kinds.Certificate)
 
-    pub bars_alike : bars s x ≡ bars u x
-    bars_alike =
-        ap (λ b. b || has_revoked_certificate s x || list_any (is_below s) x.components) digest_alike
-        ∙ (ap (λ b. has_revoked_digest u x || b || list_any (is_below s) x.components) certificate_alike
-        ∙ ap (λ b. has_revoked_digest u x || has_revoked_certificate u x || b) (below_alike x.components agree.asked))
+      pub bars_alike : bars s x ≡ bars u x
+      bars_alike =
+          ap (λ b. b || has_revoked_certificate s x || list_any (is_below s) x.components) digest_alike
+          ∙ (ap (λ b. has_revoked_digest u x || b || list_any (is_below s) x.components) certificate_alike
+          ∙ ap (λ b. has_revoked_digest u x || has_revoked_certificate u x || b) (below_alike x.components agree.asked))
 
-    pub verdict_alike : verdict_on s x ≡ verdict_on u x
-    verdict_alike =
-        ap (λ b. verdict_by b (has_revoked_certificate s x) (lists_image s x) (first_below s 0 x.components)) digest_alike
-        ∙ (ap (λ b. verdict_by (has_revoked_digest u x) b (lists_image s x) (first_below s 0 x.components)) certificate_alike
-        ∙ (ap (λ b. verdict_by (has_revoked_digest u x) (has_revoked_certificate u x) b (first_below s 0 x.components)) lists_alike
-        ∙ ap (λ o. verdict_by (has_revoked_digest u x) (has_revoked_certificate u x) (lists_image u x) o) (first_alike 0 x.components agree.asked)))
+      pub verdict_alike : ListAlike s u (listed_keys x) → verdict_on s x ≡ verdict_on u x
+      verdict_alike listing =
+          ap (λ b. verdict_by b (has_revoked_certificate s x) (lists_image s x) (first_below s 0 x.components)) digest_alike
+          ∙ (ap (λ b. verdict_by (has_revoked_digest u x) b (lists_image s x) (first_below s 0 x.components)) certificate_alike
+          ∙ (ap (λ b. verdict_by (has_revoked_digest u x) (has_revoked_certificate u x) b (first_below s 0 x.components)) (lists_alike listing)
+          ∙ ap (λ o. verdict_by (has_revoked_digest u x) (has_revoked_certificate u x) (lists_image u x) o) (first_alike 0 x.components agree.asked)))
 
 -- the view's verdict is that on the history
 pub says_verdict : (v : ListView) (x : Facts) (said : Verdict) → said ≡ verdict_on (seen_standing v) x → (owner : List ℕ) (cs : History) → ShowsLists v (tables owner cs) (keys_of x) → said ≡ verdict cs x
-says_verdict v x said is owner cs shown = is ∙ verdict_alike (seen_standing v) (standing cs) x (agrees v owner cs (keys_of x) shown)
+says_verdict v x said is owner cs shown = is ∙ verdict_alike (seen_standing v) (standing cs) x (bars_so v owner cs (keys_of x) shown) (lists_so v owner cs (keys_of x) shown)

@@ -29,7 +29,8 @@ use Rattle.desk_history.specs.Writes.{all_written, written}
 use Rattle.desk_rules.specs.declared.view.Changes.{Changes}
 use Rattle.desk_rules.specs.declared.view.View.{View}
 use Rattle.desk_rules.specs.Decisions.{Decided, MatchesOwn, called, submission_writes}
-use Rattle.desk_rules.specs.Shown.{Shows}
+use Rattle.desk_rules.specs.Shown.{Shows, keys_named}
+use Rattle.desk_rules.specs.declared.view.Counted.TheVariants as counted
 use Rattle.desk_rules.specs.Room.{takes_off}
 use Rattle.desk_history.specs.Refusals.{own_refusal, refuse_if, return_refusal, review_refusal, withdraw_refusal}
 use Rattle.desk_history.specs.Runs.{answer, is_accepted, is_legal}
@@ -42,7 +43,7 @@ use Rattle.desk_history.proofs.RefusalLemmas.{no_refusal}
 use Rattle.desk_history.proofs.WriteLemmas.{written-append}
 use Rattle.desk_history.proofs.RequestLemmas.{length_numbered}
 use Rattle.desk_history.proofs.RunLemmas.{IsNew, accepted_parts, legal_room}
-use Rattle.desk_rules.proofs.StandingLemmas.{agrees, bars_alike}
+use Rattle.desk_rules.proofs.StandingLemmas.{bars_alike, bars_so}
 
 -- one row more in front of others turned round
 pub turned : {X : Type 0} (x : X) (xs rest : List X) → reverse xs ++ x ∷ rest ≡ reverse (x ∷ xs) ++ rest
@@ -167,7 +168,7 @@ module _ (v : View) (caller : Caller) (s : Submission) (owner : List ℕ) (cs : 
       let components : List Write = map (λ row. writes.RequestComponent row) (reverse (component_rows r)) in
       let at : k ≡ length (submitted cs) + 1 = is ∙ ap (λ n. n + 1) (length_numbered (submitted cs)) in
       decided owner cs (called caller key (command.Submit s)) result (refuse_if (bars (seen_standing v.lists) s.facts) refusals.Revoked) (replies.Submitted k) (submission_writes k caller s) told
-      (ap (λ b. refuse_if b refusals.Revoked) (bars_alike (seen_standing v.lists) (standing cs) s.facts (agrees v.lists owner cs (keys_of s.facts) shown.lists)))
+      (ap (λ b. refuse_if b refusals.Revoked) (bars_alike (seen_standing v.lists) (standing cs) s.facts (bars_so v.lists owner cs (keys_named (command.Submit s)) shown.lists)))
       (λ none. ap (λ n. replies.Submitted n) is)
       (λ none. ap (λ n. all_written (submission_writes n caller s) (tables owner cs)) at ∙ made_at)
       (inl (list_any-append takes_off certificates components
@@ -177,11 +178,11 @@ module _ (v : View) (caller : Caller) (s : Submission) (owner : List ℕ) (cs : 
 -- a desk that a legal history stands for has numbers left
 pub has_numbers : (v : View) (caller : Caller) (s : Submission) (owner : List ℕ) (cs : History) (key : List ℕ) → is_legal cs ≡ true → Shows v (tables owner cs) (called caller key (command.Submit s)) → (999999 ≤ v.sizes.requests) → {A : Type 0} → A
 has_numbers v caller s owner cs key legal shown full =
-    let counted : v.sizes.requests ≡ length (requests cs) = ap (λ z. z.requests) shown.sizes ∙ length-map (requests cs) (λ r. request_row (state cs r.number) r) in
-    absurd (no_more v.sizes.requests (length (requests cs)) counted full (legal_room cs legal))
+    let number : v.sizes.requests ≡ length (requests cs) = shown.sizes counted.Requests refl ∙ length-map (requests cs) (λ r. request_row (state cs r.number) r) in
+    absurd (no_more v.sizes.requests (length (requests cs)) number full (legal_room cs legal))
   where
     no_more : (n m : ℕ) → n ≡ m → 999999 ≤ n → m ≤ 100000 → ⊥
     no_more n m is h k = omega arith
 
 pub count_seen : (v : View) (caller : Caller) (s : Submission) (owner : List ℕ) (cs : History) (key : List ℕ) → Shows v (tables owner cs) (called caller key (command.Submit s)) → v.sizes.requests ≡ length (requests cs)
-count_seen v caller s owner cs key shown = ap (λ z. z.requests) shown.sizes ∙ length-map (requests cs) (λ r. request_row (state cs r.number) r)
+count_seen v caller s owner cs key shown = shown.sizes counted.Requests refl ∙ length-map (requests cs) (λ r. request_row (state cs r.number) r)

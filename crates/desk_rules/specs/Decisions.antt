@@ -11,6 +11,7 @@ use Rattle.desk_texts.specs.declared.command.Call.{Call}
 use Rattle.desk_texts.specs.declared.command.Command.{Command}
 use Rattle.desk_texts.specs.declared.command.ReturnedFile.{ReturnedFile}
 use Rattle.desk_texts.specs.declared.command.Submission.{Submission}
+use Rattle.desk_texts.specs.declared.kind.ListedKind.{ListedKind}
 use Rattle.desk_texts.specs.declared.reply.Outcome.{Outcome}
 use Rattle.desk_texts.specs.declared.reply.Reply.{Reply}
 use Rattle.desk_history.specs.declared.rows.Minute.{Minute}
@@ -144,6 +145,10 @@ submission_writes k caller s =
     writes.Request (request_row states.Open (request_of k caller s))
     ∷ map (λ row. writes.RequestCertificate row) (reverse (certificate_rows (request_of k caller s)))
     ++ map (λ row. writes.RequestComponent row) (reverse (component_rows (request_of k caller s)))
+
+-- the writes of revoked digests of this kind
+abbrev pub revocation_writes : ListedKind → List (List ℕ) → List Write
+revocation_writes kind digests = map (λ d. writes.Revoke (record { kind = kind; digest = d })) digests
 
 -- the write of a component whose present generation is this
 abbrev pub put_of : Option ℕ → Component → Write

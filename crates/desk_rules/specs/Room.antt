@@ -1,23 +1,30 @@
 -- Whether the tables have room for what a decision writes.
-use Rattle.std.specs.Prelude.{◌≡◌, ◌≤◌, ◌⊎◌, ◌+◌, Bool, true, false, ◌&&◌, nat_le, List, ◌∷◌, length, count_by}
+use Rattle.std.specs.Prelude.{◌≡◌, ◌≤◌, ◌⊎◌, ℕ, ◌+◌, ◌==◌, Bool, true, false, ◌&&◌, ◌||◌, nat_le, List, ◌∷◌, length, count_by}
 use Rattle.std.specs.List.{list_any}
 use Rattle.desk_texts.specs.declared.command.Call.{Call}
 use Rattle.desk_history.specs.declared.write.Write.{Write}
 use Rattle.desk_history.specs.declared.write.Write.TheVariants as writes
-use Rattle.desk_history.specs.Calls.{History}
+use Rattle.desk_texts.specs.declared.kind.ListedKind.{ListedKind}
+use Rattle.desk_texts.specs.declared.kind.ListedKind.TheVariants as kinds
+use Rattle.desk_history.specs.Calls.{History, is_same_kind}
 use Rattle.desk_history.specs.Listing.{listed}
-use Rattle.desk_history.specs.declared.limits.TheConstants.{MOST_CALLS, MOST_LEVEL_COMPONENTS, MOST_LISTED, MOST_PEOPLE, MOST_REQUESTS, MOST_REVOKED_CERTIFICATES, MOST_REVOKED_DIGESTS}
+use Rattle.desk_history.specs.Limits.{most_calls, most_level_components, most_listed, most_people, most_requests, most_revoked_certificates, most_revoked_digests}
 use Rattle.desk_rules.specs.declared.view.Counted.{Counted}
 use Rattle.desk_rules.specs.declared.view.Counted.TheVariants as counted
 use Rattle.desk_rules.specs.declared.view.Sizes.{Sizes}
+
+-- the write revokes a digest of this kind
+abbrev pub revokes : ListedKind → Write → Bool
+revokes kind (writes.Revoke l) = is_same_kind kind l.kind
+revokes kind _ = false
 
 -- the write puts a row into the table
 abbrev pub puts : Counted → Write → Bool
 puts counted.People (writes.Person p) = true
 puts counted.Requests (writes.Request r) = true
 puts counted.Listed (writes.List e) = true
-puts counted.RevokedDigests (writes.RevokeDigest d) = true
-puts counted.RevokedCertificates (writes.RevokeCertificate d) = true
+puts counted.RevokedDigests w = revokes kinds.Digest w
+puts counted.RevokedCertificates w = revokes kinds.Certificate w
 puts counted.Components (writes.Component x) = true
 puts _ _ = false
 
@@ -26,16 +33,20 @@ abbrev pub takes_off : Write → Bool
 takes_off (writes.Unlist l) = true
 takes_off _ = false
 
+-- so many rows more keep within the limit; where none is put in, the table's size isn't looked at
+abbrev pub fits : ℕ → ℕ → ℕ → Bool
+fits count size most = (count == 0) || nat_le (count + size) most
+
 -- own: tables of these sizes have room for the rows that a command's writes put into them, and for the call's own
 abbrev pub has_room : Sizes → List Write → Bool
 has_room s ws =
-    nat_le (count_by (puts counted.People) ws + s.people) MOST_PEOPLE
-    && nat_le (count_by (puts counted.Requests) ws + s.requests) MOST_REQUESTS
-    && nat_le (count_by (puts counted.Listed) ws + s.listed) MOST_LISTED
-    && nat_le (count_by (puts counted.RevokedDigests) ws + s.revoked_digests) MOST_REVOKED_DIGESTS
-    && nat_le (count_by (puts counted.RevokedCertificates) ws + s.revoked_certificates) MOST_REVOKED_CERTIFICATES
-    && nat_le (count_by (puts counted.Components) ws + s.components) MOST_LEVEL_COMPONENTS
-    && nat_le (1 + s.calls) MOST_CALLS
+    fits (count_by (puts counted.People) ws) s.people most_people
+    && fits (count_by (puts counted.Requests) ws) s.requests most_requests
+    && fits (count_by (puts counted.Listed) ws) s.listed most_listed
+    && fits (count_by (puts counted.RevokedDigests) ws) s.revoked_digests most_revoked_digests
+    && fits (count_by (puts counted.RevokedCertificates) ws) s.revoked_certificates most_revoked_certificates
+    && fits (count_by (puts counted.Components) ws) s.components most_level_components
+    && nat_le (1 + s.calls) most_calls
 
 -- the writes take no entry off, or they list none and no more is listed after the call
 abbrev pub IsRoomed : List Write → History → Call → Type 0

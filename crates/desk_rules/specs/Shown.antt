@@ -1,5 +1,5 @@
 -- What a view has to show of the tables for a decision.
-use Rattle.std.specs.Prelude.{◌≡◌, ℕ, ◌==◌, Bool, List, [], ◌∷◌, length, map, find, bytes_eq, Option, Some, None, IsPermutation, IsTrue}
+use Rattle.std.specs.Prelude.{◌≡◌, ℕ, ◌==◌, ◌||◌, Bool, true, false, List, [], ◌∷◌, length, map, find, bytes_eq, Option, Some, None, IsPermutation, IsTrue}
 use Rattle.std.specs.List.{list_any}
 use Rattle.desk_texts.specs.declared.command.Call.{Call}
 use Rattle.desk_texts.specs.declared.command.Command.{Command}
@@ -16,66 +16,141 @@ use Rattle.desk_history.specs.Tables.{Tables}
 use Rattle.desk_rules.specs.declared.view.Sizes.{Sizes}
 use Rattle.desk_rules.specs.declared.view.View.{View}
 use Rattle.desk_history.specs.Runs.{has_key}
-use Rattle.desk_rules.specs.Views.{Keys, ShowsLists, keys_of}
+use Rattle.desk_rules.specs.declared.view.Counted.{Counted}
+use Rattle.desk_rules.specs.declared.view.Counted.TheVariants as counted
+use Rattle.desk_rules.specs.Views.{EntryKeys, Keys, ShowsLists, component_names, keys_of, no_entries, revoked_keys}
 
 -- the names of people that a command has
 abbrev pub people_named : Command → List (List ℕ)
 people_named (command.AddPerson p) = p.name ∷ []
-people_named _ = []
+people_named (command.Submit _) = []
+people_named (command.Review _) = []
+people_named (command.Withdraw _) = []
+people_named (command.Return _) = []
+people_named (command.ListCertificate _) = []
+people_named (command.ListDigest _) = []
+people_named (command.Unlist _) = []
+people_named (command.RevokeDigest _) = []
+people_named (command.RevokeCertificate _) = []
+people_named (command.RaiseLevel _) = []
+people_named (command.ImportRevocations _) = []
 
 -- the tokens of people that a command has
 abbrev pub tokens_named : Command → List (List ℕ)
 tokens_named (command.AddPerson p) = p.token ∷ []
-tokens_named _ = []
+tokens_named (command.Submit _) = []
+tokens_named (command.Review _) = []
+tokens_named (command.Withdraw _) = []
+tokens_named (command.Return _) = []
+tokens_named (command.ListCertificate _) = []
+tokens_named (command.ListDigest _) = []
+tokens_named (command.Unlist _) = []
+tokens_named (command.RevokeDigest _) = []
+tokens_named (command.RevokeCertificate _) = []
+tokens_named (command.RaiseLevel _) = []
+tokens_named (command.ImportRevocations _) = []
 
 -- the request that a command names
 abbrev pub request_named : Command → Option ℕ
 request_named (command.Review b) = Some b.request
 request_named (command.Withdraw k) = Some k
 request_named (command.Return h) = Some h.request
-request_named _ = None
+request_named (command.AddPerson _) = None
+request_named (command.Submit _) = None
+request_named (command.ListCertificate _) = None
+request_named (command.ListDigest _) = None
+request_named (command.Unlist _) = None
+request_named (command.RevokeDigest _) = None
+request_named (command.RevokeCertificate _) = None
+request_named (command.RaiseLevel _) = None
+request_named (command.ImportRevocations _) = None
 
 -- a key of this kind
-abbrev pub one_key : ListedKind → List ℕ → Keys
-one_key kinds.Digest digest = record { digests = digest ∷ []; certificates = []; names = [] }
-one_key kinds.Certificate digest = record { digests = []; certificates = digest ∷ []; names = [] }
+abbrev pub one_key : ListedKind → List ℕ → EntryKeys
+one_key kinds.Digest digest = record { digests = digest ∷ []; certificates = [] }
+one_key kinds.Certificate digest = record { digests = []; certificates = digest ∷ [] }
 
--- the keys that a command names
+-- no key of any list
+abbrev pub no_keys : Keys
+no_keys = record { listed = no_entries; revoked = no_entries; names = [] }
+
+-- the keys that a command reads of what is listed, of what is revoked and of the level
 abbrev pub keys_named : Command → Keys
-keys_named (command.Submit s) = keys_of s.facts
+keys_named (command.AddPerson _) = no_keys
+keys_named (command.Submit s) = record no_keys { revoked = revoked_keys s.facts; names = component_names s.facts }
+keys_named (command.Review _) = no_keys
+keys_named (command.Withdraw _) = no_keys
 keys_named (command.Return h) = keys_of h.facts
-keys_named (command.ListCertificate c) = one_key kinds.Certificate c.tbs
-keys_named (command.ListDigest d) = one_key kinds.Digest d
-keys_named (command.Unlist l) = one_key l.kind l.digest
-keys_named (command.RevokeDigest d) = one_key kinds.Digest d
-keys_named (command.RevokeCertificate d) = one_key kinds.Certificate d
-keys_named (command.RaiseLevel r) = record { digests = []; certificates = []; names = r.component.name ∷ [] }
-keys_named (command.ImportRevocations i) =
-    record { digests = i.digests; certificates = i.certificates; names = map (λ x. x.name) i.components }
-keys_named _ = record { digests = []; certificates = []; names = [] }
+keys_named (command.ListCertificate c) = record no_keys { listed = one_key kinds.Certificate c.tbs }
+keys_named (command.ListDigest d) = record no_keys { listed = one_key kinds.Digest d }
+keys_named (command.Unlist l) = record no_keys { listed = one_key l.kind l.digest }
+keys_named (command.RevokeDigest d) = record no_keys { revoked = one_key kinds.Digest d }
+keys_named (command.RevokeCertificate d) = record no_keys { revoked = one_key kinds.Certificate d }
+keys_named (command.RaiseLevel r) = record no_keys { names = r.component.name ∷ [] }
+keys_named (command.ImportRevocations i) = record no_keys {
+  revoked = record { digests = i.digests; certificates = i.certificates };
+  names = map (λ x. x.name) i.components;
+}
+
+-- the keys that a call reads of those lists, where these are the tables
+abbrev pub keys_asked : Tables → Call → Keys
+keys_asked t c = keys_named c.command
 
 -- the row of the request of this number
 abbrev pub is_request_row : ℕ → RequestRow → Bool
 is_request_row k row = k == row.number
 
--- how many rows the tables have
-abbrev pub sizes_of : Tables → Sizes
-sizes_of t = record {
-  people = length t.people;
-  calls = length t.calls;
-  requests = length t.requests;
-  listed = length t.listed;
-  revoked_digests = length t.revoked_digests;
-  revoked_certificates = length t.revoked_certificates;
-  components = length t.components;
-}
+-- the tables are the same
+abbrev pub is_table : Counted → Counted → Bool
+is_table counted.People counted.People = true
+is_table counted.Requests counted.Requests = true
+is_table counted.Listed counted.Listed = true
+is_table counted.RevokedDigests counted.RevokedDigests = true
+is_table counted.RevokedCertificates counted.RevokedCertificates = true
+is_table counted.Components counted.Components = true
+is_table _ _ = false
+
+-- the command may put rows into the table
+abbrev pub may_put : Command → Counted → Bool
+may_put (command.AddPerson _) table = is_table counted.People table
+may_put (command.Submit _) table = is_table counted.Requests table
+may_put (command.Review _) table = false
+may_put (command.Withdraw _) table = false
+may_put (command.Return _) table = false
+may_put (command.ListCertificate _) table = is_table counted.Listed table
+may_put (command.ListDigest _) table = is_table counted.Listed table
+may_put (command.Unlist _) table = false
+may_put (command.RevokeDigest _) table = is_table counted.RevokedDigests table
+may_put (command.RevokeCertificate _) table = is_table counted.RevokedCertificates table
+may_put (command.RaiseLevel _) table = is_table counted.Components table
+may_put (command.ImportRevocations _) table =
+    is_table counted.RevokedDigests table || is_table counted.RevokedCertificates table || is_table counted.Components table
+
+-- how many rows the sizes tell of the table
+abbrev pub size_in : Sizes → Counted → ℕ
+size_in s counted.People = s.people
+size_in s counted.Requests = s.requests
+size_in s counted.Listed = s.listed
+size_in s counted.RevokedDigests = s.revoked_digests
+size_in s counted.RevokedCertificates = s.revoked_certificates
+size_in s counted.Components = s.components
+
+-- how many rows the table has
+abbrev pub rows_in : Tables → Counted → ℕ
+rows_in t counted.People = length t.people
+rows_in t counted.Requests = length t.requests
+rows_in t counted.Listed = length t.listed
+rows_in t counted.RevokedDigests = length t.revoked_digests
+rows_in t counted.RevokedCertificates = length t.revoked_certificates
+rows_in t counted.Components = length t.components
 
 -- For the call the view has the tables' row of `desk`, for the caller, the caller's key and each key that the command
--- names the tables' row, or none where they have none, the votes on the request that the command names, and how many
--- rows the tables have. It may have other rows.
+-- names the tables' row, or none where they have none, the votes on the request that the command names, how many calls
+-- there are, and how many rows each table has that the command may put rows into. It may have other rows.
 pub record Shows (v : View) (t : Tables) (c : Call) : Type 0 where
   pub stamp : v.stamp ≡ t.desk.stamp
-  pub sizes : v.sizes ≡ sizes_of t
+  pub count : v.sizes.calls ≡ length t.calls
+  pub sizes : (table : Counted) → IsTrue (may_put c.command table) → size_in v.sizes table ≡ rows_in t table
   pub caller : find (has_name (caller_name c.caller)) v.people.items ≡ find (has_name (caller_name c.caller)) t.people
   pub names : (name : List ℕ) → IsTrue (list_any (λ n. bytes_eq name n) (people_named c.command))
       → find (has_name name) v.people.items ≡ find (has_name name) t.people
@@ -84,7 +159,7 @@ pub record Shows (v : View) (t : Tables) (c : Call) : Type 0 where
   pub call : find (has_key (caller_name c.caller) c.key) v.calls.items ≡ find (has_key (caller_name c.caller) c.key) t.calls
   pub request : (k : ℕ) → request_named c.command ≡ Some k → find (is_request_row k) v.requests.items ≡ find (is_request_row k) t.requests
   pub votes : (k : ℕ) → request_named c.command ≡ Some k → IsPermutation (votes_on t.votes k) (votes_on v.votes.items k)
-  pub lists : ShowsLists v.lists t (keys_named c.command)
+  pub lists : ShowsLists v.lists t (keys_asked t c)
 
 -- the key of a listed entry
 abbrev pub key_of : Entry → Listing
@@ -93,7 +168,8 @@ key_of e = record { kind = e.kind; digest = e.digest }
 -- The view has all rows of the tables that a decision may need.
 pub record HoldsWhole (v : View) (t : Tables) : Type 0 where
   pub stamp : v.stamp ≡ t.desk.stamp
-  pub sizes : v.sizes ≡ sizes_of t
+  pub count : v.sizes.calls ≡ length t.calls
+  pub sizes : (table : Counted) → size_in v.sizes table ≡ rows_in t table
   pub people : v.people.items ≡ t.people
   pub calls : v.calls.items ≡ t.calls
   pub requests : v.requests.items ≡ t.requests

@@ -41,26 +41,47 @@ seen_standing v = record {
   asked = λ name. if is_sbat name then Some 1 else generation_in v.components.items name;
 }
 
--- keys of rows: digests of images and of certificates, and names of components
-pub record Keys : Type 0 where
+-- keys of entries: digests of images and of certificates
+pub record EntryKeys : Type 0 where
   pub digests : List (List ℕ)
   pub certificates : List (List ℕ)
-  pub names : List (List ℕ)
 
 -- the keys of this kind
-abbrev pub keys_for : Keys → ListedKind → List (List ℕ)
+abbrev pub keys_for : EntryKeys → ListedKind → List (List ℕ)
 keys_for k kinds.Digest = k.digests
 keys_for k kinds.Certificate = k.certificates
 
--- the keys that an image's facts have
+-- no key
+abbrev pub no_entries : EntryKeys
+no_entries = record { digests = []; certificates = [] }
+
+-- the keys that a verdict or a decision reads: of what is listed, of what is revoked, and names of the level
+pub record Keys : Type 0 where
+  pub listed : EntryKeys
+  pub revoked : EntryKeys
+  pub names : List (List ℕ)
+
+-- the keys that an image's facts have in what is listed: its digest, and the certificates that it carries
+abbrev pub listed_keys : Facts → EntryKeys
+listed_keys x = record { digests = x.digest ∷ []; certificates = x.carried }
+
+-- in what is revoked: the digest that a signature of it holds too
+abbrev pub revoked_keys : Facts → EntryKeys
+revoked_keys x = record { digests = x.digest ∷ x.signing ∷ []; certificates = x.carried }
+
+-- and in the level
+abbrev pub component_names : Facts → List (List ℕ)
+component_names x = map (λ y. y.name) x.components
+
+-- all keys that an image's facts have
 abbrev pub keys_of : Facts → Keys
-keys_of x = record { digests = x.digest ∷ x.signing ∷ []; certificates = x.carried; names = map (λ y. y.name) x.components }
+keys_of x = record { listed = listed_keys x; revoked = revoked_keys x; names = component_names x }
 
 -- For each of these keys the view has the tables' row, or none where they have none. It may have other rows.
 pub record ShowsLists (v : ListView) (t : Tables) (k : Keys) : Type 0 where
-  pub revoked : (kind : ListedKind) (digest : List ℕ) → IsTrue (is_among (keys_for k kind) digest)
+  pub revoked : (kind : ListedKind) (digest : List ℕ) → IsTrue (is_among (keys_for k.revoked kind) digest)
       → is_among (seen_revoked v kind) digest ≡ is_among (revoked_rows t kind) digest
-  pub listed : (kind : ListedKind) (digest : List ℕ) → IsTrue (is_among (keys_for k kind) digest)
+  pub listed : (kind : ListedKind) (digest : List ℕ) → IsTrue (is_among (keys_for k.listed kind) digest)
       → list_any (is_listing kind digest) v.listed.items ≡ has_entry kind digest t.listed
   pub components : (name : List ℕ) → IsTrue (is_among k.names name)
       → find (is_named name) v.components.items ≡ find (is_named name) t.components

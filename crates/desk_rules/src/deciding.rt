@@ -1,5 +1,6 @@
 //! Decisions over a view: who calls, the call's key, the caller's role, the command, and room for what it writes.
-ghost use Rattle.std.specs.Prelude.{◌≡◌, ◌+◌, find, option_copied, MatchResult};
+ghost use Rattle.std.specs.Prelude.{◌≡◌, ◌+◌, find, option_copied, IfErr, IsTrue, MatchResult};
+ghost use Rattle.desk_history.specs.Refusals.{may_answer};
 ghost use Rattle.desk_texts.specs.Callers.{caller_name};
 ghost use Rattle.desk_texts.specs.CommandTexts.{text_of as canonical_text};
 ghost use Rattle.desk_history.specs.Runs.{has_key};
@@ -86,7 +87,8 @@ pub fn decide(
     key: &Key,
     command: &Command,
 ) -> Result<Changes, Refusal>
-    ensures { spec.DecidesCall view.now (spec.called caller.now key.now command.now) result }
+    ensures exact { spec.DecidesCall view.now (spec.called caller.now key.now command.now) result }
+    ensures only { IfErr result (λ refusal. IsTrue (may_answer refusal)) }
 {
     if !view.is_known(caller) {
         return Err(Refusal::UnknownCaller);

@@ -6,17 +6,18 @@ mod people;
 mod requests;
 mod submissions;
 
-ghost use Rattle.std.specs.Prelude.{◌≡◌, ◌≤◌, ◌+◌, [], ◌∷◌, ◌++◌, MatchOption, OnOk};
+ghost use Rattle.std.specs.Prelude.{◌≡◌, ◌≤◌, ◌+◌, [], ◌∷◌, ◌++◌, IfErr, IsTrue, MatchOption, OnOk};
+ghost use Rattle.desk_history.specs.Refusals.{may_answer};
 ghost use Rattle.desk_rules.specs.Decisions.{DecidesOwn, Gives};
 ghost use Rattle.desk_texts.specs.declared.command.Command.TheVariants.{Submit};
 
 use crate::view::{Changes, View};
 use desk_bytes::Refusal;
 use desk_history::Write;
-use desk_texts::{Caller, Command, Reply, RequestNumber, Submission};
+use desk_texts::{Caller, Command, ListedKind, Reply, RequestNumber, Submission};
 use imports::import;
 use level::raise_level;
-use lists::{list_certificate, list_digest, revoke_certificate, revoke_digest, unlist};
+use lists::{list_certificate, list_digest, revoke, unlist};
 use people::add_person;
 use requests::{return_file, review, withdraw};
 use std::alloc::{AllocError, Global};
@@ -66,7 +67,8 @@ fn submit_next(
     caller: &Caller,
     submission: &Submission,
 ) -> Result<Changes, Refusal>
-    ensures { DecidesOwn view.now caller.now (Submit submission.now) result }
+    ensures exact { DecidesOwn view.now caller.now (Submit submission.now) result }
+    ensures only { IfErr result (λ refusal. IsTrue (may_answer refusal)) }
 {
     match number_after(view.sizes.requests) {
         None => Err(Refusal::Full),
@@ -81,7 +83,8 @@ pub(crate) fn decide_own(
     caller: &Caller,
     command: &Command,
 ) -> Result<Changes, Refusal>
-    ensures { DecidesOwn view.now caller.now command.now result }
+    ensures exact { DecidesOwn view.now caller.now command.now result }
+    ensures only { IfErr result (λ refusal. IsTrue (may_answer refusal)) }
 {
     match command {
         Command::AddPerson(person) => add_person(alloc, view, person),
@@ -92,8 +95,10 @@ pub(crate) fn decide_own(
         Command::ListCertificate(certificate) => list_certificate(alloc, view, certificate),
         Command::ListDigest(digest) => list_digest(alloc, view, *digest),
         Command::Unlist(listing) => unlist(alloc, view, *listing),
-        Command::RevokeDigest(digest) => revoke_digest(alloc, view, *digest),
-        Command::RevokeCertificate(digest) => revoke_certificate(alloc, view, *digest),
+        Command::RevokeDigest(digest) => { revoke(alloc, view, ListedKind::Digest, *digest) }
+        Command::RevokeCertificate(digest) => {
+            revoke(alloc, view, ListedKind::Certificate, *digest)
+        }
         Command::RaiseLevel(raise) => raise_level(alloc, view, raise),
         Command::ImportRevocations(named) => import(alloc, view, named),
     }

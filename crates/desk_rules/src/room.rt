@@ -1,18 +1,30 @@
 //! Whether the tables have room for what a decision writes.
-ghost use Rattle.std.specs.Prelude.{◌≡◌, ◌+◌, count_by, nat_le};
+ghost use Rattle.std.specs.Prelude.{◌≡◌, count_by};
 ghost use Rattle.desk_rules.specs.Room as spec;
 
 use crate::view::{Counted, Sizes};
 use desk_history::{
     MOST_CALLS, MOST_LEVEL_COMPONENTS, MOST_LISTED, MOST_PEOPLE, MOST_REQUESTS,
-    MOST_REVOKED_CERTIFICATES, MOST_REVOKED_DIGESTS, Write,
+    MOST_REVOKED_CERTIFICATES, MOST_REVOKED_DIGESTS, Write, is_same,
 };
+use desk_texts::ListedKind;
 
-/// Whether so many rows more keep within the limit.
+/// Whether so many rows more keep within the limit; where none is put in, the table's size isn't looked at.
 fn fits(count: usize, size: u64, most: usize) -> bool
-    ensures { result ≡ nat_le (count + size) most }
+    ensures { result ≡ spec.fits count size most }
 {
-    count <= most && size <= (most - count) as u64
+    count == 0 || (count <= most && size <= (most - count) as u64)
+}
+
+/// Whether the write revokes a digest of this kind.
+fn revokes(kind: ListedKind, write: &Write) -> bool
+    ensures { result ≡ spec.revokes kind write.now }
+{
+    if let Write::Revoke(listing) = write {
+        is_same(kind, listing.kind)
+    } else {
+        false
+    }
 }
 
 /// Whether the write puts a row into the table.
@@ -23,8 +35,8 @@ fn puts(table: Counted, write: &Write) -> bool
         Counted::People => matches!(write, Write::Person(_)),
         Counted::Requests => matches!(write, Write::Request(_)),
         Counted::Listed => matches!(write, Write::List(_)),
-        Counted::RevokedDigests => matches!(write, Write::RevokeDigest(_)),
-        Counted::RevokedCertificates => matches!(write, Write::RevokeCertificate(_)),
+        Counted::RevokedDigests => revokes(ListedKind::Digest, write),
+        Counted::RevokedCertificates => revokes(ListedKind::Certificate, write),
         Counted::Components => matches!(write, Write::Component(_)),
     }
 }
@@ -57,5 +69,5 @@ pub(crate) fn has_room(sizes: &Sizes, writes: &[Write]) -> bool
             MOST_REVOKED_CERTIFICATES,
         )
         & fits(components, sizes.components, MOST_LEVEL_COMPONENTS)
-        & fits(1, sizes.calls, MOST_CALLS)
+        & (sizes.calls < MOST_CALLS as u64)
 }

@@ -7,10 +7,9 @@ ghost use Rattle.desk_history.specs.Level.{greatest, is_sbat as sbat_name};
 ghost use Rattle.desk_texts.specs.Raising.{names_no_sbat};
 ghost use Rattle.desk_texts.specs.declared.caller.Caller.{Caller as CallerValue};
 ghost use Rattle.desk_texts.specs.declared.command.Command.TheVariants as Command;
-ghost use Rattle.desk_history.specs.declared.write.Write.TheVariants as puts;
-ghost use Rattle.desk_rules.specs.Decisions.{DecidesOwn};
+ghost use Rattle.desk_rules.specs.Decisions.{DecidesOwn, revocation_writes};
 ghost use Rattle.desk_rules.specs.ImportSteps as spec;
-ghost use Rattle.desk_history.specs.Refusals.{is_later};
+ghost use Rattle.desk_history.specs.Refusals.{is_later, may_answer};
 ghost use Rattle.desk_rules.specs.Views.{generation_in};
 
 use super::level::put;
@@ -18,7 +17,7 @@ use super::push;
 use crate::view::{Changes, View};
 use desk_bytes::{Digest, Refusal};
 use desk_history::{Write, is_above, is_later};
-use desk_texts::{Counts, Import, Reply};
+use desk_texts::{Counts, Import, ListedKind, Listing, Reply};
 use sbat::{Component, ComponentName, Generation, Level, Stamp};
 use std::alloc::{AllocError, Global};
 use std::collections::BTreeSet;
@@ -199,26 +198,14 @@ fn take_all(
     Ok(so_far)
 }
 
-/// Writes the digests of images, after others.
-fn put_digests(writes: &mut Vec<Write>, digests: &[Digest]) -> Result<(), Refusal>
-    ensures ok { OnOk result (writes.new.items
-        ≡ writes.old.items ++ map (λ d. puts.RevokeDigest d) digests.now) }
+/// Writes the revoked digests of this kind, after others.
+fn put_revoked(writes: &mut Vec<Write>, kind: ListedKind, digests: &[Digest]) -> Result<(), Refusal>
+    ensures ok { OnOk result (writes.new.items ≡ writes.old.items ++ revocation_writes kind digests.now) }
     ensures err { IfErr result (λ refusal. refusal ≡ Refusal.NoMemory) }
 {
     for digest in digests {
-        push(writes, Write::RevokeDigest(*digest))?;
-    }
-    Ok(())
-}
-
-/// Writes the digests of certificates, after others.
-fn put_certificates(writes: &mut Vec<Write>, digests: &[Digest]) -> Result<(), Refusal>
-    ensures ok { OnOk result (writes.new.items
-        ≡ writes.old.items ++ map (λ d. puts.RevokeCertificate d) digests.now) }
-    ensures err { IfErr result (λ refusal. refusal ≡ Refusal.NoMemory) }
-{
-    for digest in digests {
-        push(writes, Write::RevokeCertificate(*digest))?;
+        let digest = *digest;
+        push(writes, Write::Revoke(Listing { kind, digest }))?;
     }
     Ok(())
 }
@@ -247,8 +234,9 @@ fn is_early(names: u64, now: Stamp, stamp: Option<Stamp>) -> bool
 
 /// Takes the import in.
 pub(crate) fn import(alloc: Global, view: &View, import: &Import) -> Result<Changes, Refusal>
-    ensures { (caller : CallerValue)
+    ensures exact { (caller : CallerValue)
         → DecidesOwn view.now caller (Command.ImportRevocations import.now) result }
+    ensures only { IfErr result (λ refusal. IsTrue (may_answer refusal)) }
 {
     let lists = &view.lists;
     let components = import.components().as_slice();
@@ -262,8 +250,8 @@ pub(crate) fn import(alloc: Global, view: &View, import: &Import) -> Result<Chan
     let certificates = import.certificates().as_slice();
     let certificates = new_digests(alloc, &lists.revoked_certificates, certificates)?;
     let mut writes = so_far.writes;
-    put_digests(&mut writes, &digests)?;
-    put_certificates(&mut writes, &certificates)?;
+    put_revoked(&mut writes, ListedKind::Digest, &digests)?;
+    put_revoked(&mut writes, ListedKind::Certificate, &certificates)?;
     put_stamp(&mut writes, names, import.stamp())?;
     let counts = Counts {
         digests: digests.len() as u64,

@@ -2,7 +2,7 @@
 ghost use Rattle.std.specs.Prelude.{◌≡◌, [], ◌∷◌, not};
 ghost use Rattle.desk_history.specs.Refusals.{refuse_if};
 ghost use Rattle.desk_history.specs.declared.write.Write.TheVariants as puts;
-ghost use Rattle.desk_rules.specs.Decisions.{Decided};
+ghost use Rattle.desk_rules.specs.Decisions.{Decided, revocation_writes};
 ghost use Rattle.desk_rules.specs.Views.{seen_standing};
 
 use super::one;
@@ -64,30 +64,23 @@ pub(crate) fn unlist(alloc: Global, view: &View, listing: Listing) -> Result<Cha
     one(alloc, Reply::Unlisted, Write::Unlist(listing))
 }
 
-/// Revokes the image of this digest.
-pub(crate) fn revoke_digest(alloc: Global, view: &View, digest: Digest) -> Result<Changes, Refusal>
-    ensures { Decided result
-        (refuse_if ((seen_standing view.now.lists).revoked ListedKind.Digest digest) Refusal.AlreadyRevoked)
-        Reply.Revoked (puts.RevokeDigest digest ∷ []) }
-{
-    if view.lists.is_revoked(ListedKind::Digest, digest) {
-        return Err(Refusal::AlreadyRevoked);
-    }
-    one(alloc, Reply::Revoked, Write::RevokeDigest(digest))
-}
-
-/// Revokes the certificate whose TBSCertificate has this SHA-256.
-pub(crate) fn revoke_certificate(
+/// Revokes the digest, of an image or of a certificate.
+pub(crate) fn revoke(
     alloc: Global,
     view: &View,
+    kind: ListedKind,
     digest: Digest,
 ) -> Result<Changes, Refusal>
     ensures { Decided result
-        (refuse_if ((seen_standing view.now.lists).revoked ListedKind.Certificate digest) Refusal.AlreadyRevoked)
-        Reply.Revoked (puts.RevokeCertificate digest ∷ []) }
+        (refuse_if ((seen_standing view.now.lists).revoked kind digest) Refusal.AlreadyRevoked)
+        Reply.Revoked (revocation_writes kind (digest ∷ [])) }
 {
-    if view.lists.is_revoked(ListedKind::Certificate, digest) {
+    if view.lists.is_revoked(kind, digest) {
         return Err(Refusal::AlreadyRevoked);
     }
-    one(alloc, Reply::Revoked, Write::RevokeCertificate(digest))
+    one(
+        alloc,
+        Reply::Revoked,
+        Write::Revoke(Listing { kind, digest }),
+    )
 }

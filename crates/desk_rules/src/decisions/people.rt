@@ -10,7 +10,7 @@ ghost use Rattle.desk_texts.specs.declared.reply.Reply.TheVariants.{Added};
 use super::one;
 use crate::view::{Changes, View};
 use desk_bytes::{Digest, Refusal};
-use desk_history::{Write, is_for, refuse_if};
+use desk_history::{Write, is_for, is_for_console, refuse_if};
 use desk_texts::{Caller, Command, Person, PersonName, Reply};
 use std::alloc::Global;
 
@@ -39,7 +39,7 @@ impl View {
         ensures { result ≡ is_theirs self.now.people.items caller.now command.now }
     {
         match caller {
-            Caller::Console => matches!(command, Command::AddPerson(_)),
+            Caller::Console => is_for_console(command),
             Caller::Person(name) => match self.person(name) {
                 None => false,
                 Some(person) => is_for(person.role, command),
