@@ -5,6 +5,7 @@ pub mod ImportDecision
 pub mod ImportDigests
 pub mod ImportLemmas
 pub mod LevelDecisions
+pub mod OrderLemmas
 pub mod RequestDecisions
 pub mod RoomLemmas
 pub mod ShownLemmas

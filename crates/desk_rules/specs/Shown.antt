@@ -12,10 +12,11 @@ use Rattle.desk_history.specs.declared.rows.RequestRow.{RequestRow}
 use Rattle.desk_texts.specs.Callers.{caller_name}
 use Rattle.desk_history.specs.People.{has_name, has_token}
 use Rattle.desk_history.specs.Requests.{votes_on}
-use Rattle.desk_history.specs.Tables.{Tables}
+use Rattle.desk_history.specs.Calls.{History}
+use Rattle.desk_history.specs.Tables.{Tables, tables}
 use Rattle.desk_rules.specs.declared.view.Sizes.{Sizes}
 use Rattle.desk_rules.specs.declared.view.View.{View}
-use Rattle.desk_history.specs.Runs.{has_key}
+use Rattle.desk_history.specs.Runs.{has_key, is_legal}
 use Rattle.desk_rules.specs.declared.view.Counted.{Counted}
 use Rattle.desk_rules.specs.declared.view.Counted.TheVariants as counted
 use Rattle.desk_rules.specs.Views.{EntryKeys, Keys, ShowsLists, component_names, keys_of, no_entries, revoked_keys}
@@ -165,20 +166,22 @@ pub record Shows (v : View) (t : Tables) (c : Call) : Type 0 where
 abbrev pub key_of : Entry → Listing
 key_of e = record { kind = e.kind; digest = e.digest }
 
--- The view has all rows of the tables that a decision may need.
+-- The view has all rows of the tables that a decision may need, in any order.
 pub record HoldsWhole (v : View) (t : Tables) : Type 0 where
   pub stamp : v.stamp ≡ t.desk.stamp
   pub count : v.sizes.calls ≡ length t.calls
   pub sizes : (table : Counted) → size_in v.sizes table ≡ rows_in t table
-  pub people : v.people.items ≡ t.people
-  pub calls : v.calls.items ≡ t.calls
-  pub requests : v.requests.items ≡ t.requests
-  pub votes : v.votes.items ≡ t.votes
-  pub listed : v.lists.listed.items ≡ map key_of t.listed
-  pub revoked_digests : v.lists.revoked_digests.items ≡ t.revoked_digests
-  pub revoked_certificates : v.lists.revoked_certificates.items ≡ t.revoked_certificates
-  pub components : v.lists.components.items ≡ t.components
+  pub people : IsPermutation t.people v.people.items
+  pub calls : IsPermutation t.calls v.calls.items
+  pub requests : IsPermutation t.requests v.requests.items
+  pub votes : IsPermutation t.votes v.votes.items
+  pub listed : IsPermutation (map key_of t.listed) v.lists.listed.items
+  pub revoked_digests : IsPermutation t.revoked_digests v.lists.revoked_digests.items
+  pub revoked_certificates : IsPermutation t.revoked_certificates v.lists.revoked_certificates.items
+  pub components : IsPermutation t.components v.lists.components.items
 
--- a view of whole tables shows them for every call
+-- a view of whole tables of a legal history shows them for every call
 abbrev pub WholeTablesShow : Type 0
-WholeTablesShow = (v : View) (t : Tables) (c : Call) → HoldsWhole v t → Shows v t c
+WholeTablesShow =
+    (v : View) (owner : List ℕ) (cs : History) (c : Call) → IsTrue (is_legal cs) → HoldsWhole v (tables owner cs)
+    → Shows v (tables owner cs) c
