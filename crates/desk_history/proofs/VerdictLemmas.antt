@@ -10,13 +10,14 @@ use Rattle.desk_texts.specs.declared.facts.Facts.{Facts}
 use Rattle.desk_texts.specs.declared.kind.ListedKind.{ListedKind}
 use Rattle.desk_texts.specs.declared.kind.ListedKind.TheVariants as kinds
 use Rattle.desk_history.specs.Calls.{History, is_among}
-use Rattle.desk_history.specs.Level.{components_of, generations, greater_of, greatest, is_sbat}
-use Rattle.desk_history.specs.Revocations.{is_revoked, revocations, revoked_by}
+use Rattle.desk_history.specs.Forces.{into_force, revoked_in}
+use Rattle.desk_history.specs.Level.{generations, greater_of, greatest, is_sbat}
+use Rattle.desk_history.specs.Revocations.{is_revoked, revocations}
 use Rattle.desk_history.specs.declared.finding.Below.{Below}
 use Rattle.desk_history.specs.declared.finding.Verdict.TheVariants.{Allowed, Sbat}
 use Rattle.desk_history.specs.Laws.{AllowsExactly, StaysBarred}
 use Rattle.desk_history.specs.Verdicts.{first_below, Standing, has_revoked_certificate, has_revoked_digest, is_barred, is_below, is_less, lack_at, standing, stands_in_db, verdict_by}
-use Rattle.desk_history.proofs.ListLemmas.{any_after, any_of, flat_map-append, or_mono}
+use Rattle.desk_history.proofs.ListLemmas.{any_after, any_of, or_mono}
 
 -- no component is below the level exactly where the first such is none
 abbrev AllowsBy : Option Below → Bool → Type 0
@@ -48,9 +49,9 @@ allows_exactly cs x =
 -- what more calls add
 
 pub revoked_after : (kind : ListedKind) (cs new : History) (digest : List ℕ) → is_revoked kind cs digest ≡ true → is_revoked kind (new ++ cs) digest ≡ true
-revoked_after kind cs new digest h =
-    ap (λ ds. is_among ds digest) (flat_map-append (λ (c : Call). revoked_by kind c.command) new cs)
-    ∙ any_after (bytes_eq digest) (revocations kind new) (revocations kind cs) h
+revoked_after kind cs [] digest h = h
+revoked_after kind cs (c ∷ new) digest h =
+    any_after (bytes_eq digest) (revoked_in kind (into_force (new ++ cs) c.command)) (revocations kind (new ++ cs)) (revoked_after kind cs new digest h)
 
 more_asked : (n m : ℕ) (asked : Option ℕ) → is_less n asked ≡ true → is_less n (Some (greater_of m asked)) ≡ true
 more_asked n m None h = cc
@@ -65,13 +66,15 @@ greatest_after n name (x ∷ xs) ys h =
       | false ↦ later
     ]
 
+asked_after : (cs new : History) (n : ℕ) (name : List ℕ) → is_less n (greatest (generations cs) name) ≡ true → is_less n (greatest (generations (new ++ cs)) name) ≡ true
+asked_after cs [] n name h = h
+asked_after cs (c ∷ new) n name h = greatest_after n name (into_force (new ++ cs) c.command).components (generations (new ++ cs)) (asked_after cs new n name h)
+
 below_after : (cs new : History) (x : Component) → is_below (standing cs) x ≡ true → is_below (standing (new ++ cs)) x ≡ true
 below_after cs new x h =
     elim (is_sbat x.name) as (λ b. is_less x.generation (if b then Some 1 else greatest (generations cs) x.name) ≡ true → is_less x.generation (if b then Some 1 else greatest (generations (new ++ cs)) x.name) ≡ true) [
       | true ↦ λ k. k
-      | false ↦ λ k.
-          ap (λ gs. is_less x.generation (greatest gs x.name)) (flat_map-append (λ (c : Call). components_of c.command) new cs)
-          ∙ greatest_after x.generation x.name (generations new) (generations cs) k
+      | false ↦ asked_after cs new x.generation x.name
     ] h
 
 barred_after : (cs new : History) (x : Facts) → is_barred cs x ≡ true → is_barred (new ++ cs) x ≡ true

@@ -16,7 +16,7 @@ use Rattle.desk_history.specs.declared.rows.ReturnRow.{ReturnRow}
 use Rattle.desk_history.specs.Tables.{Tables, tables}
 use Rattle.desk_texts.specs.Callers.{caller_name}
 use Rattle.desk_history.specs.declared.finding.Verdict.TheVariants.{Allowed}
-use Rattle.desk_history.specs.Lives.{Answered, Ends, Event, Holds, WasAnswered, events_of}
+use Rattle.desk_history.specs.Lives.{Answered, Ends, Event, Holds, Life, WasAnswered, events_of}
 use Rattle.desk_history.specs.Runs.{is_legal, run}
 use Rattle.desk_history.specs.Verdicts.{is_barred, stands_in_db, verdict}
 
@@ -75,17 +75,17 @@ KeysStandOnce = (cs : History) → IsTrue (is_legal cs) → IsTrue (are_apart ha
 
 -- what a series of lives may leave is legal
 abbrev pub EndsAreLegal : Type 0
-EndsAreLegal = (lives : List (List Event)) (cs : History) → Ends lives cs → IsTrue (is_legal cs)
+EndsAreLegal = (lives : List Life) (cs : History) → Ends lives cs → IsTrue (is_legal cs)
 
 -- each call of a series that was answered Ok was answered at some history
 abbrev pub AnswersHaveHistories : Type 0
 AnswersHaveHistories =
-    (lives : List (List Event)) (cs : History) → Ends lives cs → (c : Call) (reply : Reply) (earlier later : List Event)
+    (lives : List Life) (cs : History) → Ends lives cs → (c : Call) (reply : Reply) (earlier later : List Event)
     → events_of lives ≡ earlier ++ record { call = c; fate = Answered reply } ∷ later
     → (at : History) × WasAnswered (events_of lives) cs c reply at
 
 -- what a series leaves holds each call that was answered Ok with its reply, and goes on from the history of that time
 abbrev pub AnswersAreKept : Type 0
 AnswersAreKept =
-    (lives : List (List Event)) (cs : History) → Ends lives cs → (c : Call) (reply : Reply) (at : History)
+    (lives : List Life) (cs : History) → Ends lives cs → (c : Call) (reply : Reply) (at : History)
     → WasAnswered (events_of lives) cs c reply at → Holds cs c reply × GoesOnFrom at cs

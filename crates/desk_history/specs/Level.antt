@@ -1,30 +1,16 @@
 -- The SBAT level (shim's SBAT.md, "Generation-Based Revocation Overview"): the least generation asked of each component.
-use Rattle.std.specs.Prelude.{ℕ, Bool, true, nat_lt, if◌then◌else◌, max, List, [], ◌∷◌, map, reverse, flat_map, Option, Some, None, unwrap_or, bytes_eq}
+use Rattle.std.specs.Prelude.{ℕ, Bool, true, nat_lt, if◌then◌else◌, max, List, [], ◌∷◌, ◌++◌, map, Option, Some, None, unwrap_or, bytes_eq}
 use Rattle.std.specs.List.{list_any}
 use Rattle.desk_texts.specs.declared.command.Command.{Command}
-use Rattle.desk_texts.specs.declared.command.Command.TheVariants as command
 use Rattle.sbat.specs.declared.component.Component.{Component}
 use Rattle.sbat.specs.Fields.{sbat}
 use Rattle.desk_history.specs.Calls.{History, distinct}
-
--- the components whose generation a command names, the last first
-abbrev pub components_of : Command → List Component
-components_of (command.RaiseLevel r) = r.component ∷ []
-components_of (command.ImportRevocations i) = reverse i.components
-components_of (command.AddPerson _) = []
-components_of (command.Submit _) = []
-components_of (command.Review _) = []
-components_of (command.Withdraw _) = []
-components_of (command.Return _) = []
-components_of (command.ListCertificate _) = []
-components_of (command.ListDigest _) = []
-components_of (command.Unlist _) = []
-components_of (command.RevokeDigest _) = []
-components_of (command.RevokeCertificate _) = []
+use Rattle.desk_history.specs.Forces.{into_force}
 
 -- the components whose generation some call names, each as often as it is named
 abbrev pub generations : History → List Component
-generations cs = flat_map (λ c. components_of c.command) cs
+generations [] = []
+generations (c ∷ cs) = (into_force cs c.command).components ++ generations cs
 
 -- the greater of a number and one that may be missing
 abbrev pub greater_of : ℕ → Option ℕ → ℕ
@@ -60,24 +46,9 @@ raises cs x = is_above x.generation (greatest (generations cs) x.name)
 
 -- the command raises some generation
 abbrev pub raises_some : History → Command → Bool
-raises_some cs command = list_any (raises cs) (components_of command)
-
--- the stamp that a command gives to the level
-abbrev pub stamp_of : Command → Option ℕ
-stamp_of (command.RaiseLevel r) = Some r.stamp
-stamp_of (command.ImportRevocations i) = i.stamp
-stamp_of (command.AddPerson _) = None
-stamp_of (command.Submit _) = None
-stamp_of (command.Review _) = None
-stamp_of (command.Withdraw _) = None
-stamp_of (command.Return _) = None
-stamp_of (command.ListCertificate _) = None
-stamp_of (command.ListDigest _) = None
-stamp_of (command.Unlist _) = None
-stamp_of (command.RevokeDigest _) = None
-stamp_of (command.RevokeCertificate _) = None
+raises_some cs command = list_any (raises cs) (into_force cs command).components
 
 -- the level's stamp: that of the last call that raised a generation. own: before any it is that of shim's first level
 abbrev pub stamp : History → ℕ
 stamp [] = 2021030218
-stamp (c ∷ cs) = if raises_some cs c.command then unwrap_or (stamp_of c.command) (stamp cs) else stamp cs
+stamp (c ∷ cs) = if raises_some cs c.command then unwrap_or (into_force cs c.command).stamp (stamp cs) else stamp cs

@@ -1,4 +1,5 @@
 pub mod Calls
+pub mod Forces
 pub mod Laws
 pub mod Level
 pub mod Limits

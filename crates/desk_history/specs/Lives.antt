@@ -39,19 +39,41 @@ MayLeave cs (e ∷ events) end = (later : History) × MayTurn cs e.call e.fate l
 abbrev pub is_refused : Event → Bool
 is_refused e = elim e.fate [ Answered reply ↦ false | Refused ↦ true | Stopped ↦ false ]
 
--- A life of a desk, from its opening on: after a stop each call is refused, until the desk is opened again. An
--- opening that fails is a life without calls.
-abbrev pub is_life : List Event → Bool
-is_life [] = true
-is_life (e ∷ events) =
-    elim e.fate [ Answered reply ↦ is_life events | Refused ↦ is_life events | Stopped ↦ list_all is_refused events ]
+-- no event
+abbrev pub is_empty : List Event → Bool
+is_empty [] = true
+is_empty (e ∷ events) = false
+
+-- after a stop each call is refused, until the desk is opened again
+abbrev pub ends_at_a_stop : List Event → Bool
+ends_at_a_stop [] = true
+ends_at_a_stop (e ∷ events) =
+    elim e.fate [
+      | Answered reply ↦ ends_at_a_stop events
+      | Refused ↦ ends_at_a_stop events
+      | Stopped ↦ list_all is_refused events
+    ]
+
+-- what became of an opening of the desk: it answered Ok, or it was refused or stopped
+pub data Opening : Type 0 where
+  Opened : Opening
+  NotOpened : Opening
+
+-- A life of a desk: its opening, and the calls from then on.
+pub record Life : Type 0 where
+  pub opening : Opening
+  pub events : List Event
+
+-- a desk that isn't open has no calls
+abbrev pub is_life : Life → Bool
+is_life life = elim life.opening [ Opened ↦ ends_at_a_stop life.events | NotOpened ↦ is_empty life.events ]
 
 -- the events of lives, one life after another
-abbrev pub events_of : List (List Event) → List Event
-events_of lives = flat_map (λ life. life) lives
+abbrev pub events_of : List Life → List Event
+events_of lives = flat_map (λ life. life.events) lives
 
 -- a series of lives, the first begun with a new desk, may leave this history
-abbrev pub Ends : List (List Event) → History → Type 0
+abbrev pub Ends : List Life → History → Type 0
 Ends lives cs = IsTrue (list_all is_life lives) × MayLeave [] (events_of lives) cs
 
 -- In the events that led from a new desk to this history, the call was answered Ok with the reply, and the desk's

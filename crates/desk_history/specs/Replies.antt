@@ -9,7 +9,8 @@ use Rattle.desk_texts.specs.declared.reply.Reply.{Reply}
 use Rattle.desk_texts.specs.declared.reply.Reply.TheVariants as replies
 use Rattle.desk_history.specs.declared.rows.Minute.{Minute}
 use Rattle.desk_history.specs.Calls.{History, distinct}
-use Rattle.desk_history.specs.Level.{components_of, names, raises}
+use Rattle.desk_history.specs.Forces.{into_force}
+use Rattle.desk_history.specs.Level.{names, raises}
 use Rattle.desk_history.specs.Requests.{requests, state}
 use Rattle.desk_history.specs.Revocations.{revocations}
 use Rattle.desk_texts.specs.CommandTexts.{text_of}
@@ -20,7 +21,7 @@ gained kind cs c = length (distinct (revocations kind (c ∷ cs))) - length (dis
 
 -- how many different names have their generations raised by a command
 abbrev pub raised_count : History → Command → ℕ
-raised_count cs command = length (names (filter (raises cs) (components_of command)))
+raised_count cs command = length (names (filter (raises cs) (into_force cs command).components))
 
 -- the reply to a command that is accepted in this call
 abbrev pub reply_to : History → Call → Command → Reply

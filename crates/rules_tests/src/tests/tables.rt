@@ -60,6 +60,16 @@ fn list(listed: &mut Vec<Listing>, entry: &Entry) -> Result<(), Fail> {
     Ok(())
 }
 
+/// Revokes the digest.
+fn revoke(lists: &mut ListView, listing: Listing) -> Result<(), Fail> {
+    let digest = listing.digest;
+    match listing.kind {
+        ListedKind::Digest => lists.revoked_digests.push(digest)?,
+        ListedKind::Certificate => lists.revoked_certificates.push(digest)?,
+    }
+    Ok(())
+}
+
 /// Takes the entry off.
 fn take_off(listed: &mut Vec<Listing>, listing: Listing) {
     if let Some(place) = listed.iter().position(|row| listing == *row) {
@@ -81,8 +91,7 @@ fn write_lists(lists: &mut ListView, write: Write) -> Result<(), Fail> {
     match write {
         Write::List(entry) => list(&mut lists.listed, &entry)?,
         Write::Unlist(listing) => take_off(&mut lists.listed, listing),
-        Write::RevokeDigest(digest) => lists.revoked_digests.push(digest)?,
-        Write::RevokeCertificate(digest) => lists.revoked_certificates.push(digest)?,
+        Write::Revoke(listing) => revoke(lists, listing)?,
         Write::Component(component) => lists.components.push(component)?,
         Write::Generation(component) => set_generation(&mut lists.components, &component),
         Write::Person(_)
@@ -110,8 +119,7 @@ fn write(tables: &mut View, write: Write) -> Result<(), Fail> {
         Write::RequestCertificate(_) | Write::RequestComponent(_) | Write::Return(_) => {}
         Write::List(_)
         | Write::Unlist(_)
-        | Write::RevokeDigest(_)
-        | Write::RevokeCertificate(_)
+        | Write::Revoke(_)
         | Write::Component(_)
         | Write::Generation(_) => write_lists(&mut tables.lists, write)?,
     }
