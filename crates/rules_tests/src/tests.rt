@@ -1,6 +1,6 @@
 //! Tests.
 use desk_bytes::{Digest, Refusal};
-use desk_history::{Entry, RequestRow, Write};
+use desk_history::{CommandText, Entry, Minute, RequestRow, VoteRow, Write};
 use desk_rules::{Changes, ListView, Sizes, View, decide, verdict};
 use desk_texts::{
     Ballot, Caller, Carried, Certificate, Command, Components, Digests, Extent, Facts, Import,

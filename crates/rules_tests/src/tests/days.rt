@@ -35,8 +35,8 @@ fn ask(alloc: Global, tables: &mut View, words: &mut Words, who: &str) -> Result
     let command = words.command(verb)?;
     let decision = decide(alloc, tables, &caller, &key, &command);
     let answer = told(alloc, &decision)?;
-    if let Ok(changes) = decision {
-        write_all(tables, changes.writes)?;
+    if let Ok(changes) = &decision {
+        write_all(alloc, tables, &changes.writes)?;
     }
     Ok(answer)
 }

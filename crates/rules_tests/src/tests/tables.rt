@@ -86,50 +86,65 @@ fn set_generation(components: &mut Vec<Component>, component: &Component) {
     }
 }
 
-/// Puts one write into the lists.
-fn write_lists(lists: &mut ListView, write: Write) -> Result<(), Fail> {
-    match write {
-        Write::List(entry) => list(&mut lists.listed, &entry)?,
-        Write::Unlist(listing) => take_off(&mut lists.listed, listing),
-        Write::Revoke(listing) => revoke(lists, listing)?,
-        Write::Component(component) => lists.components.push(component)?,
-        Write::Generation(component) => set_generation(&mut lists.components, &component),
-        Write::Person(_)
-        | Write::Call(_)
-        | Write::Request(_)
-        | Write::RequestCertificate(_)
-        | Write::RequestComponent(_)
-        | Write::Vote(_)
-        | Write::State(_)
-        | Write::Return(_)
-        | Write::Stamp(_) => {}
-    }
-    Ok(())
+/// A copy of the minute.
+fn minute(alloc: Global, row: &Minute) -> Result<Minute, Fail> {
+    Ok(Minute {
+        number: row.number,
+        caller: row.caller.clone()?,
+        key: row.key.clone()?,
+        text: CommandText::new(String::from_str(alloc, row.text.as_str())?),
+        reply: row.reply.clone()?,
+    })
 }
 
-/// Puts one write into the tables.
-fn write(tables: &mut View, write: Write) -> Result<(), Fail> {
+/// A copy of the request.
+fn request(row: &RequestRow) -> Result<RequestRow, Fail> {
+    Ok(RequestRow {
+        number: row.number,
+        submitter: row.submitter.clone()?,
+        title: row.title.clone()?,
+        length: row.length,
+        gap: row.gap,
+        file: row.file,
+        digest: row.digest,
+        signing: row.signing,
+        state: row.state,
+    })
+}
+
+/// A copy of the vote.
+fn vote(row: &VoteRow) -> Result<VoteRow, Fail> {
+    Ok(VoteRow {
+        request: row.request,
+        reviewer: row.reviewer.clone()?,
+        vote: row.vote,
+        note: row.note.clone()?,
+    })
+}
+
+/// Puts one write into the tables. Certificates and components of requests, and returned files, are never read.
+fn write(alloc: Global, tables: &mut View, write: &Write) -> Result<(), Fail> {
     match write {
-        Write::Person(person) => tables.people.push(person)?,
-        Write::Call(minute) => tables.calls.push(minute)?,
-        Write::Request(request) => tables.requests.push(request)?,
-        Write::Vote(vote) => tables.votes.push(vote)?,
-        Write::State(outcome) => set_state(&mut tables.requests, outcome),
-        Write::Stamp(stamp) => tables.stamp = stamp,
+        Write::Person(person) => tables.people.push(person.clone()?)?,
+        Write::Call(row) => tables.calls.push(minute(alloc, row)?)?,
+        Write::Request(row) => tables.requests.push(request(row)?)?,
+        Write::Vote(row) => tables.votes.push(vote(row)?)?,
+        Write::State(outcome) => set_state(&mut tables.requests, *outcome),
+        Write::List(entry) => list(&mut tables.lists.listed, entry)?,
+        Write::Unlist(listing) => take_off(&mut tables.lists.listed, *listing),
+        Write::Revoke(listing) => revoke(&mut tables.lists, *listing)?,
+        Write::Component(component) => tables.lists.components.push(component.clone()?)?,
+        Write::Generation(component) => set_generation(&mut tables.lists.components, component),
+        Write::Stamp(stamp) => tables.stamp = *stamp,
         Write::RequestCertificate(_) | Write::RequestComponent(_) | Write::Return(_) => {}
-        Write::List(_)
-        | Write::Unlist(_)
-        | Write::Revoke(_)
-        | Write::Component(_)
-        | Write::Generation(_) => write_lists(&mut tables.lists, write)?,
     }
     Ok(())
 }
 
 /// Puts the writes into the tables.
-pub(super) fn write_all(tables: &mut View, writes: Vec<Write>) -> Result<(), Fail> {
+pub(super) fn write_all(alloc: Global, tables: &mut View, writes: &[Write]) -> Result<(), Fail> {
     for row in writes {
-        write(tables, row)?;
+        write(alloc, tables, row)?;
     }
     tables.sizes = sizes(tables);
     Ok(())
