@@ -1,0 +1,16 @@
+//! Laws of the definitions that this crate's contracts cite.
+ghost use Rattle.std.specs.Prelude.{◌≡◌, ℕ, List, ◌++◌};
+ghost use Rattle.httparse.specs.Grammar.{RequestHead};
+ghost use Rattle.desk_heads.specs.Heads.{HasHead};
+
+/// No input begins with two heads.
+pub fn head_is_one()
+    ensures { (b : List ℕ) (h k : RequestHead) (rest others : List ℕ)
+        → HasHead b h rest → HasHead b k others → (h ≡ k) × (rest ≡ others) }
+{}
+
+/// What follows a head changes nothing of the head.
+pub fn rest_changes_no_head()
+    ensures { (b : List ℕ) (h : RequestHead) (rest more : List ℕ)
+        → HasHead b h rest → HasHead (b ++ more) h (rest ++ more) }
+{}
