@@ -1,0 +1,16 @@
+//! What a request of HTTP asks the desk for: routes, checks of a request's head, and what its fields say.
+#![tactic(auto)]
+
+mod fault;
+mod fields;
+mod path;
+mod route;
+mod routing;
+mod want;
+mod wanting;
+
+pub use fault::{AskedFault, WantedFault};
+pub use path::Path;
+pub use route::{Methods, Route};
+pub use want::Wanted;
+pub use wanting::wanted;
