@@ -4,3 +4,4 @@ pub mod Lengths
 pub mod Paths
 pub mod Routes
 pub mod Wanted
+pub mod Asked
