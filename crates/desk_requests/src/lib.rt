@@ -5,6 +5,7 @@ mod ask;
 mod asking;
 mod fault;
 mod fields;
+mod laws;
 mod path;
 mod route;
 mod routing;
@@ -14,6 +15,10 @@ mod wanting;
 pub use ask::Asked;
 pub use asking::asked;
 pub use fault::{AskedFault, WantedFault};
+pub use laws::{
+    no_other_path_is_found, other_paths_are_found, paths_of_lists_are_found,
+    paths_of_requests_are_found,
+};
 pub use path::Path;
 pub use route::{Methods, Route};
 pub use want::Wanted;
