@@ -1,5 +1,5 @@
 -- own: what a request asks for, but for its body, or the first of the checks on its fields that fails.
-use Rattle.std.specs.Prelude.{◌≡◌, ◌≢◌, ℕ, List, Option, Some, None, option_map, Result, Ok, Err, ⊤, if◌then◌else◌}
+use Rattle.std.specs.Prelude.{◌≡◌, ◌≢◌, ℕ, List, Option, Some, None, option_map, Result, Ok, Err, if◌then◌else◌}
 use Rattle.sbat.specs.Fields.{decimal_of, stamp_of}
 use Rattle.desk_texts.specs.Forms.{is_key, is_title, is_decimal}
 use Rattle.desk_texts.specs.declared.fault.TextFault.{TextFault}

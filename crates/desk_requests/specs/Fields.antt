@@ -38,7 +38,7 @@ unless_encoded repeated values = Err NotSupported
 abbrev pub fields_of : Parts → Result Values WantedFault
 fields_of p = unless_encoded p.transfer_encoding
     (all_of (length_in p.content_length) (value_of p.desk_token) (value_of p.desk_key)
-        (value_of p.desk_title) (value_of p.desk_stamp))
+    (value_of p.desk_title) (value_of p.desk_stamp))
 
 -- the bytes that a borrowed value of the code holds
 abbrev pub bytes_of : Option (Bor (List ℕ)) → Option (List ℕ)

@@ -1,5 +1,5 @@
 -- own: what a head asks for, or the first of the checks on it that fails.
-use Rattle.std.specs.Prelude.{◌≡◌, ◌≢◌, ℕ, List, Bool, true, false, Option, Some, None, Result, Ok, Err, ⊤, nat_le, nat_eq, ◌==◌, if◌then◌else◌}
+use Rattle.std.specs.Prelude.{◌≡◌, ◌≢◌, ℕ, List, Bool, Option, Some, None, Result, Ok, Err, nat_le, ◌==◌, if◌then◌else◌}
 use Rattle.std.specs.List.{before_first, after_first}
 use Rattle.desk_heads.specs.Fields.{Parts}
 use Rattle.desk_requests.specs.Fields.{Values, fields_of, bytes_of}

@@ -1,4 +1,4 @@
-use Rattle.std.proofs.Common.{rules, ◌≡◌, ℕ, refl}
+use Rattle.std.proofs.Common.{rules, refl}
 use Rattle.desk_requests.proofs.NumberLemmas.{number_found, number_only}
 use Rattle.desk_requests.proofs.asking.number.Goals as goal
 
