@@ -72,7 +72,7 @@ impl Methods {
 
 impl Route {
     /// The most bytes of a body: 134,217,728 where it is an image, else 4,194,304.
-    pub fn limit(self) -> u64
+    pub(crate) fn limit(self) -> u64
         ensures { result ≡ spec.limit_of self }
     {
         match self {
@@ -98,7 +98,7 @@ impl Route {
     }
 
     /// Whether its method is GET.
-    pub fn is_read(self) -> bool
+    pub(crate) fn is_read(self) -> bool
         ensures { result ≡ spec.is_read self }
     {
         match self {
