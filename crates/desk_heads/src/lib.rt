@@ -13,4 +13,4 @@ pub use body_reading::read_body;
 pub use head::{Given, Head};
 pub use head_parsing::parse_head;
 pub use head_reading::read_head;
-pub use laws::{head_is_one, rest_changes_no_head};
+pub use laws::{head_is_one, what_follows_changes_nothing};

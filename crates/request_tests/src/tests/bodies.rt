@@ -42,6 +42,7 @@ level BadBody {"component":"grub","generation":1e3,"stamp":2024010100}
 level BadBody {"component":"grub","generation":3.0,"stamp":2024010100}
 level BadBody {"component":"grub","generation":03,"stamp":2024010100}
 level BadBody {"component":"grub","generation":+3,"stamp":2024010100}
+level BadBody {"component":"grub","generation":3,"stamp":-0}
 level BadBody {"component":"grub","generation":-3,"stamp":2024010100}
 level BadBody {"component":"grub","generation":"3","stamp":2024010100}
 level BadBody {"component":"grub","generation":3,"stamp":999999999}
@@ -72,26 +73,52 @@ fn takes_the_object_that_is_asked_for_alone(rt: HostRuntime) -> Result<(), Fail>
     for line in BODIES.lines() {
         let (reader, case) = line.split_once(' ').ok_or("a reader")?;
         let (name, body) = case.split_once(' ').ok_or("a name and a body")?;
-        assert!(rt; outcome(rt.alloc(), reader, body.as_bytes()) == name, "{line}");
+        assert!(rt;
+            outcome(rt.alloc(), reader, body.as_bytes()) == name,
+            "{line}"
+        );
     }
     let no_text = b"{\"note\":\"\xff\",\"vote\":\"no\"}";
-    assert!(rt; outcome(rt.alloc(), "review", no_text) == "BadBody", "no UTF-8");
+    assert!(rt;
+        outcome(rt.alloc(), "review", no_text) == "BadBody",
+        "no UTF-8"
+    );
     let marked = b"\xef\xbb\xbf{\"note\":\"\",\"vote\":\"no\"}";
-    assert!(rt; outcome(rt.alloc(), "review", marked) == "BadBody", "a byte order mark");
+    assert!(rt;
+        outcome(rt.alloc(), "review", marked) == "BadBody",
+        "a byte order mark"
+    );
     Ok(())
 }
 
 #[test]
 fn gives_the_parts_of_bodies(rt: HostRuntime) -> Result<(), Fail> {
     let alloc = rt.alloc();
-    let review = read_review(alloc, br#"{"note":"a","vote":"no","note":"b c"}"#).ok().ok_or("a review")?;
-    assert!(rt; review.note.as_str() == "b c" && review.vote == Vote::No, "the review");
-    let text = b"{\"kind\":\"certificate\",\"digest\":\"00AAaaaaaaaaaaaaaaaaaaaaaaaaaaaaaaaaaaaaaaaaaaaaaaaaaaaaaaaaaaaa\"}";
+    let review = read_review(alloc, br#"{"note":"a","vote":"no","note":"b c"}"#)
+        .ok()
+        .ok_or("a review")?;
+    assert!(rt;
+        review.note.as_str() == "b c" && review.vote == Vote::No,
+        "the review"
+    );
+    let text =
+        b"{\"kind\":\"certificate\",\"digest\":\"00AAaaaaaaaaaaaaaaaaaaaaaaaaaaaaaaaaaaaaaaaaaaaaaaaaaaaaaaaaaaaa\"}";
     let unlist = read_unlist(alloc, text).ok().ok_or("an entry")?;
     assert!(rt; unlist.kind == ListedKind::Certificate, "the kind");
-    assert!(rt; unlist.digest.as_bytes().get(..2) == Some(b"\x00\xaa".as_slice()), "the digest");
-    let level = read_level(alloc, br#"{"component":"grub","generation":3,"stamp":2024010100}"#).ok().ok_or("a level")?;
-    assert!(rt; level.component.as_str() == "grub" && level.generation.value() == 3, "the component");
+    assert!(rt;
+        unlist.digest.as_bytes().get(..2) == Some(b"\x00\xaa".as_slice()),
+        "the digest"
+    );
+    let level = read_level(
+        alloc,
+        br#"{"component":"grub","generation":3,"stamp":2024010100}"#,
+    )
+    .ok()
+    .ok_or("a level")?;
+    assert!(rt;
+        level.component.as_str() == "grub" && level.generation.value() == 3,
+        "the component"
+    );
     assert!(rt; level.stamp.value() == 2_024_010_100, "the stamp");
     Ok(())
 }

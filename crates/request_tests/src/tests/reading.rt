@@ -50,7 +50,10 @@ const HEAD: &str = "|POST /level HTTP/1.1|Desk-Key: k|Content-Length: 4||";
 fn reads_a_head_alone(rt: HostRuntime) -> Result<(), Fail> {
     let alloc = rt.alloc();
     let head = bytes_of(alloc, HEAD)?;
-    let all = bytes_of(alloc, "|POST /level HTTP/1.1|Desk-Key: k|Content-Length: 4||body")?;
+    let all = bytes_of(
+        alloc,
+        "|POST /level HTTP/1.1|Desk-Key: k|Content-Length: 4||body",
+    )?;
     let mut reader = Slow::new(all.as_slice(), usize::MAX);
     match read_head(alloc, &mut reader) {
         Ok(Begun::Head(bytes)) => assert!(rt; bytes.as_slice() == head.as_slice(), "the head"),
@@ -134,6 +137,9 @@ fn reads_a_body_alone(rt: HostRuntime) -> Result<(), Fail> {
         }
     }
     let mut short = all;
-    assert!(rt; matches!(read_body(alloc, &mut short, 14), Ok(None)), "cut short");
+    assert!(rt;
+        matches!(read_body(alloc, &mut short, 14), Ok(None)),
+        "cut short"
+    );
     Ok(())
 }
