@@ -92,8 +92,8 @@ abbrev pub review_in : Data → Option ReviewBody
 review_in d = review_from (two_of (codes "note") (codes "vote") d)
 
 -- {"digest":HEX}
-abbrev pub digest_body : Data → Option (List ℕ)
-digest_body d = option_and_then digest_in (one_of (codes "digest") d)
+abbrev pub digest_object : Data → Option (List ℕ)
+digest_object d = option_and_then digest_in (one_of (codes "digest") d)
 
 -- what is taken off the list, of these parts
 abbrev pub unlist_by : Option (List ℕ) → Option ListedKind → Option UnlistBody
@@ -123,6 +123,22 @@ level_from (Some values) = level_by (name_in values.0) (generation_in values.1) 
 -- {"component":NAME,"generation":N,"stamp":N}
 abbrev pub level_in : Data → Option LevelBody
 level_in d = level_from (three_of (codes "component") (codes "generation") (codes "stamp") d)
+
+-- the review that a body is
+abbrev pub review_of : List ℕ → Option ReviewBody
+review_of body = option_and_then review_in (data_of body)
+
+-- the digest that a body is
+abbrev pub named_digest : List ℕ → Option (List ℕ)
+named_digest body = option_and_then digest_object (data_of body)
+
+-- what a body says is taken off the list
+abbrev pub unlist_of : List ℕ → Option UnlistBody
+unlist_of body = option_and_then unlist_in (data_of body)
+
+-- what a body says the level is raised by
+abbrev pub level_of : List ℕ → Option LevelBody
+level_of body = option_and_then level_in (data_of body)
 
 -- its row in the table of refusals
 abbrev pub refusal_of : BodyFault → Refusal

@@ -1,5 +1,5 @@
 //! The bodies of requests.
-ghost use Rattle.std.specs.Prelude.{◌≡◌, IfOk, IfErr, IfSome, Some, option_and_then};
+ghost use Rattle.std.specs.Prelude.{◌≡◌, IfOk, IfErr, IfSome, Some};
 ghost use Rattle.serde_json.specs.View.{view};
 ghost use Rattle.desk_bodies.specs.Bodies as spec;
 
@@ -27,8 +27,8 @@ fn review_in(alloc: Global, value: &Value) -> Result<ReviewBody, BodyFault>
 
 /// The digest of an object of one.
 fn digest_in(value: &Value) -> Result<Digest, BodyFault>
-    ensures ok { IfOk result (λ body. spec.digest_body (view value.now) ≡ Some body) }
-    ensures err { IfErr result (spec.Refuses (spec.digest_body (view value.now))) }
+    ensures ok { IfOk result (λ body. spec.digest_object (view value.now) ≡ Some body) }
+    ensures err { IfErr result (spec.Refuses (spec.digest_object (view value.now))) }
 {
     let Some(text) = one(value, "digest") else {
         return Err(BodyFault::BadBody);
@@ -71,8 +71,8 @@ fn level_in(alloc: Global, value: &Value) -> Result<LevelBody, BodyFault>
 
 /// Reads the body `{"note":TEXT,"vote":"yes" or "no"}`. Takes memory.
 pub fn read_review(alloc: Global, body: &[u8]) -> Result<ReviewBody, BodyFault>
-    ensures ok { IfOk result (λ review. option_and_then spec.review_in (spec.data_of body.now) ≡ Some review) }
-    ensures err { IfErr result (spec.Refuses (option_and_then spec.review_in (spec.data_of body.now))) }
+    ensures ok { IfOk result (λ review. spec.review_of body.now ≡ Some review) }
+    ensures err { IfErr result (spec.Refuses (spec.review_of body.now)) }
 {
     let value = parse(alloc, body)?;
     review_in(alloc, &value)
@@ -80,8 +80,8 @@ pub fn read_review(alloc: Global, body: &[u8]) -> Result<ReviewBody, BodyFault>
 
 /// Reads the body `{"digest":HEX}`, with 64 hexadecimal digits of either case. Takes memory.
 pub fn read_digest(alloc: Global, body: &[u8]) -> Result<Digest, BodyFault>
-    ensures ok { IfOk result (λ digest. option_and_then spec.digest_body (spec.data_of body.now) ≡ Some digest) }
-    ensures err { IfErr result (spec.Refuses (option_and_then spec.digest_body (spec.data_of body.now))) }
+    ensures ok { IfOk result (λ digest. spec.named_digest body.now ≡ Some digest) }
+    ensures err { IfErr result (spec.Refuses (spec.named_digest body.now)) }
 {
     let value = parse(alloc, body)?;
     digest_in(&value)
@@ -89,8 +89,8 @@ pub fn read_digest(alloc: Global, body: &[u8]) -> Result<Digest, BodyFault>
 
 /// Reads the body `{"digest":HEX,"kind":"digest" or "certificate"}`. Takes memory.
 pub fn read_unlist(alloc: Global, body: &[u8]) -> Result<UnlistBody, BodyFault>
-    ensures ok { IfOk result (λ unlist. option_and_then spec.unlist_in (spec.data_of body.now) ≡ Some unlist) }
-    ensures err { IfErr result (spec.Refuses (option_and_then spec.unlist_in (spec.data_of body.now))) }
+    ensures ok { IfOk result (λ unlist. spec.unlist_of body.now ≡ Some unlist) }
+    ensures err { IfErr result (spec.Refuses (spec.unlist_of body.now)) }
 {
     let value = parse(alloc, body)?;
     unlist_in(&value)
@@ -98,8 +98,8 @@ pub fn read_unlist(alloc: Global, body: &[u8]) -> Result<UnlistBody, BodyFault>
 
 /// Reads the body `{"component":NAME,"generation":N,"stamp":N}`. Takes memory.
 pub fn read_level(alloc: Global, body: &[u8]) -> Result<LevelBody, BodyFault>
-    ensures ok { IfOk result (λ level. option_and_then spec.level_in (spec.data_of body.now) ≡ Some level) }
-    ensures err { IfErr result (spec.Refuses (option_and_then spec.level_in (spec.data_of body.now))) }
+    ensures ok { IfOk result (λ level. spec.level_of body.now ≡ Some level) }
+    ensures err { IfErr result (spec.Refuses (spec.level_of body.now)) }
 {
     let value = parse(alloc, body)?;
     level_in(alloc, &value)

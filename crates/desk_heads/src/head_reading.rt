@@ -51,7 +51,8 @@ fn examine(bytes: &[u8]) -> Look
 
 /// Reads the head of a request (RFC 9112, section 2.1, as `httparse` takes it) of at most 16,384 bytes and
 /// 64 fields. After a head the reader stands at the first byte of the body; one byte is asked for at a time,
-/// so a reader without a buffer is slow. An interrupted read is a fault. Takes memory for the head.
+/// so a reader without a buffer is slow. All bytes so far are parsed at each LF, so the time goes by the bytes
+/// times the lines. An interrupted read is a fault. Takes memory for the head.
 pub fn read_head<R: Read>(alloc: Global, reader: &mut R) -> Result<Begun, InputFault>
     ensures { IfOk result (FindsOf (R.remaining reader.old) (R.remaining reader.new)) }
 {
