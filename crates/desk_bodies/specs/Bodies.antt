@@ -1,0 +1,151 @@
+-- own: what the JSON bodies of requests say.
+use Rattle.std.specs.Prelude.{◌≡◌, ℕ, ⊤, List, codes, bytes_eq, if◌then◌else◌, Option, Some, None, option_and_then}
+use Rattle.std.specs.Str.{is_utf8}
+use Rattle.serde_json.specs.Data.{Data}
+use Rattle.serde_json.specs.Find.{as_number, as_str, as_u64}
+use Rattle.serde_json.specs.Read.{read}
+use Rattle.sbat.specs.Fields.{is_name, is_generation, is_stamp}
+use Rattle.desk_bytes.specs.Digests.{digest_of}
+use Rattle.desk_bytes.specs.declared.refusal.Refusal.{Refusal}
+use Rattle.desk_bytes.specs.declared.refusal.Refusal.TheVariants as refusal
+use Rattle.desk_texts.specs.Forms.{is_note}
+use Rattle.desk_texts.specs.Words.{vote_text, kind_text}
+use Rattle.desk_texts.specs.declared.vote.Vote.{Vote}
+use Rattle.desk_texts.specs.declared.vote.Vote.TheVariants as vote
+use Rattle.desk_texts.specs.declared.kind.ListedKind.{ListedKind}
+use Rattle.desk_texts.specs.declared.kind.ListedKind.TheVariants as kind
+use Rattle.desk_bodies.specs.Members.{one_of, two_of, three_of}
+use Rattle.desk_bodies.specs.declared.body.BodyFault.{BodyFault}
+use Rattle.desk_bodies.specs.declared.body.BodyFault.TheVariants.{BadBody, NoMemory}
+use Rattle.desk_bodies.specs.declared.body.ReviewBody.{ReviewBody}
+use Rattle.desk_bodies.specs.declared.body.UnlistBody.{UnlistBody}
+use Rattle.desk_bodies.specs.declared.body.LevelBody.{LevelBody}
+
+-- the value of a body that is JSON text in UTF-8 (RFC 8259), as serde_json reads it
+abbrev pub data_of : List ℕ → Option Data
+data_of body = if is_utf8 body then read body else None
+
+-- the digest that a text of 64 hexadecimal digits of either case spells
+abbrev pub digest_in : Data → Option (List ℕ)
+digest_in d = option_and_then digest_of (as_str d)
+
+-- the vote whose word a text is
+abbrev pub vote_of : List ℕ → Option Vote
+vote_of text =
+    if bytes_eq text (vote_text vote.Yes) then Some vote.Yes
+    else (if bytes_eq text (vote_text vote.No) then Some vote.No else None)
+
+-- that of a value
+abbrev pub vote_in : Data → Option Vote
+vote_in d = option_and_then vote_of (as_str d)
+
+-- the kind whose word a text is
+abbrev pub kind_of : List ℕ → Option ListedKind
+kind_of text =
+    if bytes_eq text (kind_text kind.Digest) then Some kind.Digest
+    else (if bytes_eq text (kind_text kind.Certificate) then Some kind.Certificate else None)
+
+-- that of a value
+abbrev pub kind_in : Data → Option ListedKind
+kind_in d = option_and_then kind_of (as_str d)
+
+-- a text in the form of a note
+abbrev pub note_of : List ℕ → Option (List ℕ)
+note_of text = if is_note text then Some text else None
+
+-- that of a value
+abbrev pub note_in : Data → Option (List ℕ)
+note_in d = option_and_then note_of (as_str d)
+
+-- a text in the form of a component's name
+abbrev pub name_of : List ℕ → Option (List ℕ)
+name_of text = if is_name text then Some text else None
+
+-- that of a value
+abbrev pub name_in : Data → Option (List ℕ)
+name_in d = option_and_then name_of (as_str d)
+
+-- a whole number, written as an integer alone: no fraction, no exponent, no sign
+abbrev pub whole_in : Data → Option ℕ
+whole_in d = option_and_then as_u64 (as_number d)
+
+-- the generation that a value is
+abbrev pub generation_in : Data → Option ℕ
+generation_in d = option_and_then (λ n. if is_generation n then Some n else None) (whole_in d)
+
+-- the stamp that a value is
+abbrev pub stamp_in : Data → Option ℕ
+stamp_in d = option_and_then (λ n. if is_stamp n then Some n else None) (whole_in d)
+
+-- a review of these parts
+abbrev pub review_by : Option (List ℕ) → Option Vote → Option ReviewBody
+review_by (Some note) (Some vote) = Some (record { note = note; vote = vote })
+review_by _ _ = None
+
+-- the review that two values are
+abbrev pub review_from : Option (Data × Data) → Option ReviewBody
+review_from None = None
+review_from (Some values) = review_by (note_in values.0) (vote_in values.1)
+
+-- {"note":TEXT,"vote":"yes" or "no"}
+abbrev pub review_in : Data → Option ReviewBody
+review_in d = review_from (two_of (codes "note") (codes "vote") d)
+
+-- {"digest":HEX}
+abbrev pub digest_object : Data → Option (List ℕ)
+digest_object d = option_and_then digest_in (one_of (codes "digest") d)
+
+-- what is taken off the list, of these parts
+abbrev pub unlist_by : Option (List ℕ) → Option ListedKind → Option UnlistBody
+unlist_by (Some digest) (Some kind) = Some (record { digest = digest; kind = kind })
+unlist_by _ _ = None
+
+-- that of two values
+abbrev pub unlist_from : Option (Data × Data) → Option UnlistBody
+unlist_from None = None
+unlist_from (Some values) = unlist_by (digest_in values.0) (kind_in values.1)
+
+-- {"digest":HEX,"kind":"digest" or "certificate"}
+abbrev pub unlist_in : Data → Option UnlistBody
+unlist_in d = unlist_from (two_of (codes "digest") (codes "kind") d)
+
+-- what the level is raised by, of these parts
+abbrev pub level_by : Option (List ℕ) → Option ℕ → Option ℕ → Option LevelBody
+level_by (Some component) (Some generation) (Some stamp) =
+    Some (record { component = component; generation = generation; stamp = stamp })
+level_by _ _ _ = None
+
+-- that of three values
+abbrev pub level_from : Option (Data × Data × Data) → Option LevelBody
+level_from None = None
+level_from (Some values) = level_by (name_in values.0) (generation_in values.1) (stamp_in values.2)
+
+-- {"component":NAME,"generation":N,"stamp":N}
+abbrev pub level_in : Data → Option LevelBody
+level_in d = level_from (three_of (codes "component") (codes "generation") (codes "stamp") d)
+
+-- the review that a body is
+abbrev pub review_of : List ℕ → Option ReviewBody
+review_of body = option_and_then review_in (data_of body)
+
+-- the digest that a body is
+abbrev pub named_digest : List ℕ → Option (List ℕ)
+named_digest body = option_and_then digest_object (data_of body)
+
+-- what a body says is taken off the list
+abbrev pub unlist_of : List ℕ → Option UnlistBody
+unlist_of body = option_and_then unlist_in (data_of body)
+
+-- what a body says the level is raised by
+abbrev pub level_of : List ℕ → Option LevelBody
+level_of body = option_and_then level_in (data_of body)
+
+-- its row in the table of refusals
+abbrev pub refusal_of : BodyFault → Refusal
+refusal_of BadBody = refusal.BadBody
+refusal_of NoMemory = refusal.NoMemory
+
+-- BadBody comes only where there is no value; NoMemory may come at any time
+abbrev pub Refuses : {A : Type 0} → Option A → BodyFault → Type 0
+Refuses value BadBody = value ≡ None
+Refuses value NoMemory = ⊤

@@ -1,0 +1,46 @@
+use Rattle.std.proofs.Common.{rules, ◌≡◌, [], ◌∷◌, ◌++◌, arith, length-append, Some}
+use Rattle.desk_heads.specs.Heads.{TakesByte}
+use Rattle.desk_heads.proofs.HeadLemmas.{consumed_none, consumed_more, finds_head, finds_never, finds_long, no_request_yet, no_request_in_nothing}
+use Rattle.desk_heads.proofs.head_reading.read_head.Goals as goal
+
+pub loop-reader-init : goal.loop-reader-init
+loop-reader-init g c =
+    let nil : c.new-taken.result.items ≡ [] = search rules in
+    record {
+      short = search rules;
+      consumed = rw nil (consumed_none (g.R.Read.remaining c.args.reader.now));
+      none = rw nil no_request_in_nothing;
+    }
+
+pub returns-in-Whole : goal.returns-in-Whole
+returns-in-Whole g c =
+    let kept = c.loop-reader.invariant in
+    let pushed : c.push.new.self.items ≡ c.loop-reader.taken.items ++ c.in-Some.byte ∷ [] = search rules in
+    let more = length-append c.loop-reader.taken.items (c.in-Some.byte ∷ []) in
+    let took : TakesByte (g.R.Read.remaining c.loop-reader.reader) (g.R.Read.remaining c.read_byte.new.reader) (Some c.in-Some.byte) = rw c.in-Some.is at c.in_ok-byte.ensures in
+    let looks = rw (c.as_slice.ensures.value, pushed) at c.in-Whole.ensures in
+    finds_head _ _ _ _ _ pushed kept.none (omega arith) (consumed_more _ _ _ _ _ kept.consumed took) looks
+
+pub loop-reader-preserved : goal.loop-reader-preserved
+loop-reader-preserved g c =
+    let kept = c.loop-reader.invariant in
+    let pushed : c.push.new.self.items ≡ c.loop-reader.taken.items ++ c.in-Some.byte ∷ [] = search rules in
+    let more = length-append c.loop-reader.taken.items (c.in-Some.byte ∷ []) in
+    let took : TakesByte (g.R.Read.remaining c.loop-reader.reader) (g.R.Read.remaining c.read_byte.new.reader) (Some c.in-Some.byte) = rw c.in-Some.is at c.in_ok-byte.ensures in
+    record {
+      short = rw pushed (omega arith);
+      consumed = rw pushed (consumed_more _ _ _ _ _ kept.consumed took);
+      none = rw pushed (no_request_yet _ _ kept.none (search rules));
+    }
+
+pub returns-in-Never : goal.returns-in-Never
+returns-in-Never g c =
+    let kept = c.loop-reader.invariant in
+    let pushed : c.push.new.self.items ≡ c.loop-reader.taken.items ++ c.in-Some.byte ∷ [] = search rules in
+    let more = length-append c.loop-reader.taken.items (c.in-Some.byte ∷ []) in
+    let took : TakesByte (g.R.Read.remaining c.loop-reader.reader) (g.R.Read.remaining c.read_byte.new.reader) (Some c.in-Some.byte) = rw c.in-Some.is at c.in_ok-byte.ensures in
+    let over = rw (c.as_slice.ensures.value, pushed) at c.in-Never.ensures in
+    finds_never _ _ _ (consumed_more _ _ _ _ _ kept.consumed took) (omega arith) over
+
+pub returns : goal.returns
+returns g c = finds_long _ _ _ c.loop-reader.invariant.consumed c.loop-reader.invariant.none (omega arith)

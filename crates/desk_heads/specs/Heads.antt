@@ -1,0 +1,56 @@
+-- Which beginning of an input is the head of a request (RFC 9112, section 2.1).
+use Rattle.std.specs.Prelude.{◌≡◌, ◌≢◌, ℕ, ◌≤◌, List, [], ◌∷◌, length, Option, Some, None, ⊤}
+use Rattle.httparse.specs.Grammar.{RequestHead, print_request, ReadsRequest, HasNoRequest}
+use Rattle.httparse.specs.Spans.{RequestOverflows}
+use Rattle.std.specs.Io.KnownBytes.{Consumes, IsAtEnd}
+use Rattle.desk_heads.specs.declared.head_reading.Look.{Look}
+use Rattle.desk_heads.specs.declared.head_reading.Look.TheVariants.{Whole, Open, Never}
+use Rattle.desk_heads.specs.declared.begun.Begun.{Begun}
+use Rattle.desk_heads.specs.declared.begun.Begun.TheVariants.{Nothing, Head, NoHead}
+
+-- own: the most bytes of a head, with the empty lines before it
+abbrev pub most_bytes : ℕ
+most_bytes = 16384
+
+-- own: the most fields of a head
+abbrev pub most_fields : ℕ
+most_fields = 64
+
+-- the head has no more fields than that
+abbrev pub HasFewFields : RequestHead → Type 0
+HasFewFields h = length h.fields ≤ most_fields
+
+-- b begins with the head h of httparse's default grammar, within the limits, and goes on with rest
+pub record HasHead (b : List ℕ) (h : RequestHead) (rest : List ℕ) : Type 0 where
+  pub reads : ReadsRequest b h rest
+  pub short : length (print_request h) ≤ most_bytes
+  pub few : HasFewFields h
+
+-- b begins with no such head
+abbrev pub HasNoHead : List ℕ → Type 0
+HasNoHead b = (h : RequestHead) (rest : List ℕ) → ¬ (HasHead b h rest)
+
+-- what the input b begins with: nothing at all; a head, after which `left` is to be read; or no head
+abbrev pub Finds : List ℕ → Option (List ℕ) → Begun → Type 0
+Finds b left Nothing = b ≡ []
+Finds b left (Head taken) =
+    (h : RequestHead) × (rest : List ℕ)
+    × HasHead b h rest × (taken.items ≡ print_request h) × (left ≡ Some rest)
+Finds b left NoHead = (b ≢ []) × HasNoHead b
+
+-- the same, where the reader's bytes are known
+abbrev pub FindsOf : Option (List ℕ) → Option (List ℕ) → Begun → Type 0
+FindsOf None left begun = ⊤
+FindsOf (Some b) left begun = Finds b left begun
+
+-- a byte was taken from the known bytes, or they were at their end
+abbrev pub TakesByte : Option (List ℕ) → Option (List ℕ) → Option ℕ → Type 0
+TakesByte old new None = IsAtEnd old
+TakesByte old new (Some x) = Consumes old new (x ∷ [])
+
+-- the bytes begin with a head of few fields, with no head, or with no head of few fields whatever follows
+abbrev pub Looks : List ℕ → Look → Type 0
+Looks bytes Whole =
+    (h : RequestHead) × (rest : List ℕ) × ReadsRequest bytes h rest × HasFewFields h
+Looks bytes Open = HasNoRequest bytes
+Looks bytes Never = RequestOverflows most_fields bytes

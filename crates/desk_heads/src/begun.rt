@@ -1,0 +1,12 @@
+//! What an input begins with.
+
+/// What the input of a connection begins with.
+#[derive(Debug, Drop)]
+pub enum Begun {
+    /// It has no byte.
+    Nothing,
+    /// The head of a request: its bytes, from the input's first to the LF of the empty line that ends it.
+    Head(Vec<u8>),
+    /// No head within the limits.
+    NoHead,
+}

@@ -1,0 +1,80 @@
+//! The head of a request, read byte by byte.
+ghost use Rattle.std.specs.Prelude.{IfOk};
+ghost use Rattle.desk_heads.specs.Heads.{FindsOf, Looks, TakesByte};
+
+use crate::Begun;
+use desk_bytes::InputFault;
+use httparse::Status;
+use httparse::spans::{EMPTY_HEADER_SPAN, parse_request};
+use std::alloc::Global;
+use std::io::Read;
+
+/// The most bytes of a head, with the empty lines before it.
+const MOST_BYTES: usize = 16_384;
+
+/// The most fields of a head.
+pub(crate) const MOST_FIELDS: usize = 64;
+
+/// How the bytes so far stand to a head.
+enum Look {
+    /// They begin with one.
+    Whole,
+    /// They don't begin with one.
+    Open,
+    /// They don't, whatever follows, or with one of too many fields.
+    Never,
+}
+
+/// The next byte, or none at the input's end.
+fn read_byte<R: Read>(reader: &mut R) -> Result<Option<u8>, InputFault>
+    ensures { IfOk result (TakesByte (R.remaining reader.old) (R.remaining reader.new)) }
+{
+    let mut byte = [0];
+    match reader.read(&mut byte) {
+        Ok(0) => Ok(None),
+        Ok(_) => Ok(Some(byte[0])),
+        Err(_) => Err(InputFault::Read),
+    }
+}
+
+/// Looks for a head at the front.
+fn examine(bytes: &[u8]) -> Look
+    ensures { Looks bytes.now result }
+{
+    let mut fields = [EMPTY_HEADER_SPAN; MOST_FIELDS];
+    match parse_request(bytes, &mut fields) {
+        Ok(Status::Complete(_)) => Look::Whole,
+        Ok(Status::Partial) => Look::Open,
+        Err(_) => Look::Never,
+    }
+}
+
+/// Reads the head of a request (RFC 9112, section 2.1, as `httparse` takes it) of at most 16,384 bytes and
+/// 64 fields. After a head the reader stands at the first byte of the body; one byte is asked for at a time,
+/// so a reader without a buffer is slow. All bytes so far are parsed at each LF, so the time goes by the bytes
+/// times the lines. An interrupted read is a fault. Takes memory for the head.
+pub fn read_head<R: Read>(alloc: Global, reader: &mut R) -> Result<Begun, InputFault>
+    ensures { IfOk result (FindsOf (R.remaining reader.old) (R.remaining reader.new)) }
+{
+    let mut taken = Vec::new(alloc);
+    while taken.len() < MOST_BYTES {
+        let Some(byte) = read_byte(reader)? else {
+            return Ok(if taken.is_empty() {
+                Begun::Nothing
+            } else {
+                Begun::NoHead
+            });
+        };
+        if taken.push(byte).is_err() {
+            return Err(InputFault::NoMemory);
+        }
+        if byte == b'\n' {
+            match examine(taken.as_slice()) {
+                Look::Whole => return Ok(Begun::Head(taken)),
+                Look::Open => {}
+                Look::Never => return Ok(Begun::NoHead),
+            }
+        }
+    }
+    Ok(Begun::NoHead)
+}

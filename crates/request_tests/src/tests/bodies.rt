@@ -1,0 +1,124 @@
+//! JSON bodies.
+use desk_bodies::{read_digest, read_level, read_review, read_unlist};
+use desk_texts::{ListedKind, Vote};
+use std::alloc::Global;
+use std::test::Fail;
+
+/// Bodies, each behind the reader's name and what it answers.
+const BODIES: &str = r#"review Ok {"note":"","vote":"yes"}
+review Ok {"vote":"no","note":"no \"b\" \u0041"}
+review Ok { "note" : "a" , "vote" : "no" }
+review Ok {"note":"a","note":"b","vote":"no"}
+review BadBody {"note":"a","vote":"no","x":1}
+review BadBody {"note":"a","vote":"no"}x
+review BadBody {"note":"a","vote":"No"}
+review BadBody {"note":"a","vote":true}
+review BadBody {"note":"a"}
+review BadBody {"vote":"yes"}
+review BadBody {"Note":"a","vote":"no"}
+review BadBody {"note":"a\n","vote":"no"}
+review BadBody {"note":"é","vote":"no"}
+review BadBody {"note":null,"vote":"no"}
+review BadBody ["a","no"]
+review BadBody {"note":"a","vote":"no",}
+review BadBody {'note':'a','vote':'no'}
+digest Ok {"digest":"AAaaaaaaaaaaaaaaaaaaaaaaaaaaaaaaaaaaaaaaaaaaaaaaaaaaaaaaaaaaaaaa"}
+digest BadBody {"digest":"aaaaaaaaaaaaaaaaaaaaaaaaaaaaaaaaaaaaaaaaaaaaaaaaaaaaaaaaaaaaaaa"}
+digest BadBody {"digest":"gaaaaaaaaaaaaaaaaaaaaaaaaaaaaaaaaaaaaaaaaaaaaaaaaaaaaaaaaaaaaaaa"}
+digest BadBody {"Digest":"aaaaaaaaaaaaaaaaaaaaaaaaaaaaaaaaaaaaaaaaaaaaaaaaaaaaaaaaaaaaaaaa"}
+digest BadBody {"digest":"aaaaaaaaaaaaaaaaaaaaaaaaaaaaaaaaaaaaaaaaaaaaaaaaaaaaaaaaaaaaaaaa","kind":"digest"}
+digest BadBody {"digest":170}
+digest BadBody {}
+digest BadBody "aaaaaaaaaaaaaaaaaaaaaaaaaaaaaaaaaaaaaaaaaaaaaaaaaaaaaaaaaaaaaaaa"
+unlist Ok {"digest":"aaaaaaaaaaaaaaaaaaaaaaaaaaaaaaaaaaaaaaaaaaaaaaaaaaaaaaaaaaaaaaaa","kind":"digest"}
+unlist Ok {"kind":"certificate","digest":"aaaaaaaaaaaaaaaaaaaaaaaaaaaaaaaaaaaaaaaaaaaaaaaaaaaaaaaaaaaaaaaa"}
+unlist BadBody {"digest":"aaaaaaaaaaaaaaaaaaaaaaaaaaaaaaaaaaaaaaaaaaaaaaaaaaaaaaaaaaaaaaaa","kind":"hash"}
+unlist BadBody {"digest":"aa","kind":"digest"}
+unlist BadBody {"digest":"aaaaaaaaaaaaaaaaaaaaaaaaaaaaaaaaaaaaaaaaaaaaaaaaaaaaaaaaaaaaaaaa"}
+level Ok {"component":"grub","generation":4294967295,"stamp":2024010100}
+level BadBody {"component":"grub","generation":4294967296,"stamp":2024010100}
+level BadBody {"component":"grub","generation":0,"stamp":2024010100}
+level BadBody {"component":"grub","generation":1e3,"stamp":2024010100}
+level BadBody {"component":"grub","generation":3.0,"stamp":2024010100}
+level BadBody {"component":"grub","generation":03,"stamp":2024010100}
+level BadBody {"component":"grub","generation":+3,"stamp":2024010100}
+level BadBody {"component":"grub","generation":3,"stamp":-0}
+level BadBody {"component":"grub","generation":-3,"stamp":2024010100}
+level BadBody {"component":"grub","generation":"3","stamp":2024010100}
+level BadBody {"component":"grub","generation":3,"stamp":999999999}
+level BadBody {"component":"grub","generation":3,"stamp":10000000000}
+level BadBody {"component":"grub","generation":3,"stamp":18446744073709551616}
+level BadBody {"component":"a,b","generation":3,"stamp":2024010100}
+level BadBody {"component":"","generation":3,"stamp":2024010100}
+level BadBody {"component":"grub","generation":3}
+level BadBody {"component":"grub","generation":3,"stamp":2024010100,"why":""}
+"#;
+
+/// What the reader of this name answers: the name of the refusal, or `Ok`.
+fn outcome(alloc: Global, reader: &str, body: &[u8]) -> &'static str {
+    let fault = match reader {
+        "review" => read_review(alloc, body).err(),
+        "digest" => read_digest(alloc, body).err(),
+        "unlist" => read_unlist(alloc, body).err(),
+        _ => read_level(alloc, body).err(),
+    };
+    match fault {
+        Some(fault) => fault.refusal().name(),
+        None => "Ok",
+    }
+}
+
+#[test]
+fn takes_the_object_that_is_asked_for_alone(rt: HostRuntime) -> Result<(), Fail> {
+    for line in BODIES.lines() {
+        let (reader, case) = line.split_once(' ').ok_or("a reader")?;
+        let (name, body) = case.split_once(' ').ok_or("a name and a body")?;
+        assert!(rt;
+            outcome(rt.alloc(), reader, body.as_bytes()) == name,
+            "{line}"
+        );
+    }
+    let no_text = b"{\"note\":\"\xff\",\"vote\":\"no\"}";
+    assert!(rt;
+        outcome(rt.alloc(), "review", no_text) == "BadBody",
+        "no UTF-8"
+    );
+    let marked = b"\xef\xbb\xbf{\"note\":\"\",\"vote\":\"no\"}";
+    assert!(rt;
+        outcome(rt.alloc(), "review", marked) == "BadBody",
+        "a byte order mark"
+    );
+    Ok(())
+}
+
+#[test]
+fn gives_the_parts_of_bodies(rt: HostRuntime) -> Result<(), Fail> {
+    let alloc = rt.alloc();
+    let review = read_review(alloc, br#"{"note":"a","vote":"no","note":"b c"}"#)
+        .ok()
+        .ok_or("a review")?;
+    assert!(rt;
+        review.note.as_str() == "b c" && review.vote == Vote::No,
+        "the review"
+    );
+    let text =
+        b"{\"kind\":\"certificate\",\"digest\":\"00AAaaaaaaaaaaaaaaaaaaaaaaaaaaaaaaaaaaaaaaaaaaaaaaaaaaaaaaaaaaaa\"}";
+    let unlist = read_unlist(alloc, text).ok().ok_or("an entry")?;
+    assert!(rt; unlist.kind == ListedKind::Certificate, "the kind");
+    assert!(rt;
+        unlist.digest.as_bytes().get(..2) == Some(b"\x00\xaa".as_slice()),
+        "the digest"
+    );
+    let level = read_level(
+        alloc,
+        br#"{"component":"grub","generation":3,"stamp":2024010100}"#,
+    )
+    .ok()
+    .ok_or("a level")?;
+    assert!(rt;
+        level.component.as_str() == "grub" && level.generation.value() == 3,
+        "the component"
+    );
+    assert!(rt; level.stamp.value() == 2_024_010_100, "the stamp");
+    Ok(())
+}
