@@ -1,0 +1,7 @@
+use Rattle.sqlite.specs.Held.{state}
+use Rattle.desk_sql.proofs.TableLemmas.{creates}
+use Rattle.desk_sql.proofs.writing.create_table.Goals as goal
+
+pub returns-in-Ok-clause-value : goal.returns-in-Ok-clause-value
+returns-in-Ok-clause-value g c clean inside =
+    creates c.args.sql.now (state g.S.Store c.args.tx.now.conn.now) (state g.S.Store c.execute.new.self.conn.now) c.in-Ok.field-0 (c.in-Ok.ensures.runs clean inside)

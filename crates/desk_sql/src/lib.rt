@@ -1,0 +1,10 @@
+//! What SQL statements do to the rows of a store, stated once for any schema.
+#![tactic(auto)]
+
+mod laws;
+mod reading;
+mod writing;
+
+pub use laws::stop_leaves_what_is_shown;
+pub use reading::{count, select};
+pub use writing::{create_table, delete, insert, update};
