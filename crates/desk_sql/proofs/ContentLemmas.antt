@@ -1,5 +1,5 @@
 -- From what becomes of one table's tree to what all tables hold.
-use Rattle.std.proofs.Common.{◌≡◌, ◌≢◌, ℕ, zero, suc, ◌==◌, not, List, [], ◌∷◌, map, slice_get, true, Some, sym, subst, subst₂}
+use Rattle.std.proofs.Common.{◌≡◌, ◌≢◌, ℕ, zero, suc, ◌==◌, not, List, [], ◌∷◌, map, slice_get, true, Some, sym, subst, subst₂, ◌∙◌}
 use Rattle.std.specs.List.{AllByRecursion}
 use Rattle.std.specs.List.Sorted.{IsPermutation}
 use Rattle.std.proofs.lemmas.Bool.{eq-eqb, and_parts}
@@ -7,7 +7,7 @@ use Rattle.sqlite.specs.Effect.{Database}
 use Rattle.sqlite.specs.Order.{Row}
 use Rattle.sqlite.specs.Schema.{Schema}
 use Rattle.sqlite.specs.State as states
-use Rattle.sqlite.specs.State.{State}
+use Rattle.sqlite.specs.State.{State, KeepsCommit}
 use Rattle.sqlite.specs.Table.{Table}
 use Rattle.sqlite.specs.Tree.{Trees}
 use Rattle.desk_sql.specs.Contents.{Contents, HoldRows, IsIn, IsKeyed, seen, change_at, are_other, is_apart}
@@ -85,3 +85,10 @@ moves schema at table stands change old new shown steps = record {
         };
       };
 }
+
+-- a step that ran inside a transaction commits nothing
+pub ran_keeps : (old new : State) → states.Shows old new new.now old.committed true → KeepsCommit old new
+ran_keeps old new shown = record { was_open = λ _. shown.was_open; committed = λ _. shown.committed_is }
+
+pub keeps_then : (first mid new : State) → KeepsCommit first mid → KeepsCommit mid new → KeepsCommit first new
+keeps_then first mid new a b = record { was_open = λ o. a.was_open (b.was_open o); committed = λ o. b.committed o ∙ a.committed (b.was_open o) }

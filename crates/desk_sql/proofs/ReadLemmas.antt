@@ -27,7 +27,7 @@ use Rattle.desk_sql.proofs.ContentLemmas.{rows_at}
 use Rattle.desk_sql.proofs.QueryLemmas.{selected}
 use Rattle.desk_sql.proofs.RowLemmas.{picked}
 
-shown_inside : (sql : List ℕ) (params : Row) (old new : State) (rows : List Row) → IsTrue old.in_transaction → Shown sql params old new rows → states.Shows old new new.now old.committed true
+pub shown_inside : (sql : List ℕ) (params : Row) (old new : State) (rows : List Row) → IsTrue old.in_transaction → Shown sql params old new rows → states.Shows old new new.now old.committed true
 unfolding Shown
 shown_inside sql params old new rows inside h = go h.0 (timed params h.0.formats h.1.now) h.0.returning h.2
   where

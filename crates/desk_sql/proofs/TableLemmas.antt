@@ -1,5 +1,5 @@
 -- CREATE TABLE.
-use Rattle.std.proofs.Common.{◌≡◌, ℕ, None, List, [], ◌∷◌, ◌++◌, map, false, Ok, sym, ap, subst, ◌∙◌}
+use Rattle.std.proofs.Common.{refl, IsTrue, ◌≡◌, ℕ, None, List, [], ◌∷◌, ◌++◌, map, false, Ok, sym, ap, subst, ◌∙◌}
 use Rattle.std.specs.List.{AllByRecursion}
 use Rattle.std.proofs.lemmas.List.Sorted.{IsPermutation-refl}
 use Rattle.sqlite.specs.Table.{Table}
@@ -13,8 +13,9 @@ use Rattle.sqlite.specs.Effect.{Database}
 use Rattle.sqlite.specs.State.{State, Writes, ExecutesInside}
 use Rattle.sqlite.proofs.Callers.{runs_as}
 use Rattle.desk_sql.specs.Contents.{Holds, HoldRows, IsKeyed, seen, no_rows}
-use Rattle.desk_sql.specs.Effects.{Creates}
-use Rattle.desk_sql.specs.States.{Made}
+use Rattle.desk_sql.specs.Effects.{Creates, CreatesAll}
+use Rattle.desk_sql.specs.Meanings.{MakesTable, MakeTables, schema_after}
+use Rattle.desk_sql.specs.States.{Made, Makes}
 use Rattle.desk_sql.proofs.PartLemmas.{went, same_value}
 use Rattle.std.specs.List.Sorted.{IsPermutation}
 
@@ -28,7 +29,7 @@ emptied (t ∷ tables) old new k h = (k.0 ∙ h.0, emptied tables old new k.1 h.
 
 pub creates : (text : List ℕ) (old new : State) (count : ℕ) → ExecutesInside 0 text [] old new (Ok count) → Creates text old new
 creates text old new count h schema table means = record {
-  is_open = h.1.is_open;
+  is_open = λ _. h.1.is_open;
   inside = h.1.mode;
   kept = record { was_open = λ _. h.1.was_open; committed = λ _. h.1.committed_is };
   value = λ made.
@@ -62,3 +63,39 @@ empty_tables (t ∷ ts) db h = (
 -- what was made holds no rows
 pub made_holds : (schema : Schema) (db : Database) → Made db schema → Holds schema db (no_rows schema.tables)
 made_holds schema db made = record { listed = made.listed; rows = empty_tables schema.tables db.trees made.empty }
+
+-- ---- one table after another
+
+pub creates_none : (s : State) → IsTrue s.in_transaction → CreatesAll [] s s
+creates_none s inside schema [] make = record { is_open = λ o. o; inside = inside; kept = record { was_open = λ o. o; committed = λ _. refl }; value = λ made. made }
+creates_none s inside schema (t ∷ ts) make = absurd make
+
+makes_then : (first mid new : State) (before between after : Schema) → Makes first mid before between → Makes mid new between after → Makes first new before after
+makes_then first mid new before between after a b = record {
+  is_open = λ o. b.is_open (a.is_open o);
+  inside = b.inside;
+  kept = record { was_open = λ o. a.kept.was_open (b.kept.was_open o); committed = λ o. b.kept.committed o ∙ a.kept.committed (b.kept.was_open o) };
+  value = λ made. b.value (a.value made);
+}
+
+record LastTable (schema : Schema) (tables : List Table) (texts : List (List ℕ)) (text : List ℕ) : Type 0 where
+  pub front : List Table
+  pub table : Table
+  pub earlier : MakeTables schema front texts
+  pub makes : MakesTable (schema_after schema front) table text
+  pub is : schema_after schema tables ≡ created (schema_after schema front) table
+
+last_table : (texts : List (List ℕ)) (text : List ℕ) (schema : Schema) (tables : List Table) → MakeTables schema tables (texts ++ text ∷ []) → LastTable schema tables texts text
+last_table [] text schema [] h = absurd h
+last_table [] text schema (t ∷ []) h = record { front = []; table = t; earlier = tt; makes = h.0; is = refl }
+last_table [] text schema (t ∷ u ∷ ts) h = absurd h.1
+last_table (x ∷ xs) text schema [] h = absurd h
+last_table (x ∷ xs) text schema (t ∷ ts) h =
+    let it = last_table xs text (created schema t) ts h.1 in
+    record { front = t ∷ it.front; table = it.table; earlier = (h.0, it.earlier); makes = it.makes; is = it.is }
+
+pub creates_then : (first mid new : State) (texts : List (List ℕ)) (text : List ℕ) → CreatesAll texts first mid → Creates text mid new → CreatesAll (texts ++ text ∷ []) first new
+creates_then first mid new texts text all one schema tables make =
+    let it = last_table texts text schema tables make in
+    subst (Makes first new schema) (sym it.is)
+    (makes_then first mid new schema (schema_after schema it.front) (created (schema_after schema it.front) it.table) (all schema it.front it.earlier) (one (schema_after schema it.front) it.table it.makes))

@@ -12,7 +12,7 @@ use Rattle.sqlite.specs.Table.{Table}
 use Rattle.sqlite.specs.Term.{Term, eval_all}
 use Rattle.sqlite_value.specs.declared.keys.Key.{Key}
 use Rattle.desk_sql.specs.Contents.{Contents, seen, whole, change_at}
-use Rattle.desk_sql.specs.Meanings.{InsertsRow, UpdatesRows, DeletesRows, SelectsRows, CountsRows, MakesTable}
+use Rattle.desk_sql.specs.Meanings.{InsertsRow, UpdatesRows, DeletesRows, SelectsRows, CountsRows, MakesTable, MakeTables, schema_after}
 use Rattle.desk_sql.specs.Queries.{meets, projected, rewritten, keys_of, by_keys}
 use Rattle.desk_sql.specs.States.{Sees, Moves, Makes}
 
@@ -48,6 +48,9 @@ Deletes text params old new = (schema : Schema) (at : ℕ) (table : Table) (term
 
 abbrev pub Creates : List ℕ → State → State → Type 0
 Creates text old new = (schema : Schema) (table : Table) → MakesTable schema table text → Makes old new schema (created schema table)
+
+abbrev pub CreatesAll : List (List ℕ) → State → State → Type 0
+CreatesAll texts old new = (schema : Schema) (tables : List Table) → MakeTables schema tables texts → Makes old new schema (schema_after schema tables)
 
 -- the answer is what the query shows of the rows that meet the terms, all and only those, in the order asked for
 pub record IsSelected (table : Table) (terms : List Term) (order : List (Term × Key)) (rest : List Term) (params : Row) (rows answer : List Row) : Type 0 where

@@ -78,3 +78,15 @@ pub record MakesTable (schema : Schema) (table : Table) (text : List ℕ) : Type
   pub whole : statement_of text (understood schema text) ≡ text
   pub plain : IsPlain (understood schema text)
   pub complete : lacks_sequence (created schema table) ≡ false
+
+-- the schema after these tables were made
+abbrev pub schema_after : Schema → List Table → Schema
+schema_after schema [] = schema
+schema_after schema (t ∷ ts) = schema_after (created schema t) ts
+
+-- each of the texts makes its table, where the tables before it stand
+abbrev pub MakeTables : Schema → List Table → List (List ℕ) → Type 0
+MakeTables schema [] [] = ⊤
+MakeTables schema [] (x ∷ xs) = ⊥
+MakeTables schema (t ∷ ts) [] = ⊥
+MakeTables schema (t ∷ ts) (x ∷ xs) = MakesTable schema t x × MakeTables (created schema t) ts xs

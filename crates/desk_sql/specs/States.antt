@@ -45,7 +45,7 @@ pub record Made (db : Database) (schema : Schema) : Type 0 where
 
 -- a step of making them
 pub record Makes (old new : State) (before after : Schema) : Type 0 where
-  pub is_open : IsTrue new.is_open
+  pub is_open : IsTrue old.is_open → IsTrue new.is_open
   pub inside : IsTrue new.in_transaction
   pub kept : KeepsCommit old new
   pub value : Made old.now before → Made new.now after

@@ -7,4 +7,4 @@ mod writing;
 
 pub use laws::stop_leaves_what_is_shown;
 pub use reading::{count, select};
-pub use writing::{create_table, delete, insert, update};
+pub use writing::{create_table, create_tables, delete, insert, update};
