@@ -1,13 +1,13 @@
 -- What SELECT answers of the contents, and what a query does inside a transaction.
-use Rattle.std.proofs.Common.{◌≡◌, ◌⊎◌, inl, inr, ℕ, List, ◌++◌, slice_get, Option, Some, None, refl, sym, subst, ◌∙◌, IsTrue, true}
+use Rattle.std.proofs.Common.{◌≡◌, ◌⊎◌, inl, inr, ℕ, List, ◌++◌, slice_get, Option, Some, None, refl, sym, subst, ◌∙◌, IsTrue, true, Ok}
 use Rattle.std.specs.List.Sorted.{IsPermutation}
 use Rattle.std.proofs.lemmas.List.Sorted.{IsPermutation-map, IsPermutation-trans}
-use Rattle.sqlite.proofs.Callers.{IsPlain, reads_as}
+use Rattle.sqlite.proofs.Callers.{IsPlain, reads_as, unchanged_then}
 use Rattle.sqlite.specs.Clock.{timed}
 use Rattle.sqlite.specs.declared.error.Error.{Error}
 use Rattle.sqlite.specs.declared.types.Value.TheVariants.{Null}
 use Rattle.sqlite.specs.Effect.{Database}
-use Rattle.sqlite.specs.Listing.{understood}
+use Rattle.sqlite.specs.Listing.{understood, reads_listing, IsSourceOf}
 use Rattle.sqlite.specs.Order.{Row}
 use Rattle.sqlite.specs.Schema.{Schema}
 use Rattle.sqlite.specs.State as states
@@ -19,7 +19,7 @@ use Rattle.sqlite_schema.specs.declared.command.Returning.{Returning}
 use Rattle.sqlite_trees.proofs.ListLemmas.{IsPermutation-filter}
 use Rattle.sqlite_value.specs.declared.keys.Key.{Key}
 use Rattle.desk_sql.specs.Contents.{Contents, Holds}
-use Rattle.desk_sql.specs.Effects.{Selects, IsSelected, passes, shown_of}
+use Rattle.desk_sql.specs.Effects.{Selects, Streams, IsSelected, passes, shown_of}
 use Rattle.desk_sql.specs.Meanings.{SelectsRows}
 use Rattle.desk_sql.specs.Queries.{meets, projected, keys_of}
 use Rattle.desk_sql.specs.States.{Moves}
@@ -101,3 +101,21 @@ selects text params old new answer inside h schema at table terms order rest nam
   stays schema text params old new answer means.plain inside h,
   λ c rows sees has. finds_rows text params old new answer schema at table terms order rest names means h c rows sees.holds has,
 )
+
+-- ---- outside a transaction
+
+-- an answer after a step that changed nothing
+pub shown_after : (sql : List ℕ) (params : Row) (old mid new : State) (rows : List Row) → IsPlain (understood mid.now.schema sql) → IsUnchanged old mid → Shown sql params mid new rows → Shown sql params old new rows
+unfolding Shown
+shown_after sql params old mid new rows plain same h =
+    let none = (subst IsPlain h.1.is plain).0 in
+    let full = timed params h.0.formats h.1.now in
+    let it = subst (ShowsRows mid new sql h.0 full rows) none h.2 in
+    let now : mid.now ≡ old.now = same.0.now_is in
+    (h.0, record { is = subst (λ (d : Database). understood d.schema sql ≡ Ok h.0) now h.1.is; whole = h.1.whole; given = h.1.given; now = h.1.now },
+     subst (ShowsRows old new sql h.0 full rows) (sym none) (it.0, subst (λ (d : Database). IsSourceOf (reads_listing d.schema sql) d it.0) now it.1, it.2, unchanged_then old mid new same it.3))
+
+pub streams : (text : List ℕ) (params : Row) (old new : State) (answer : List Row) → Shown text params old new answer → Streams text params old new answer
+streams text params old new answer h schema at table terms order rest names means has =
+    (shown_same text params old new answer (subst (λ (k : Schema). IsPlain (understood k text)) (sym has) means.plain) h,
+     λ c rows held found. finds_rows text params old new answer schema at table terms order rest names means h c rows held found)

@@ -7,11 +7,11 @@ use Rattle.sqlite.specs.Edit.{with_rowid}
 use Rattle.sqlite.specs.Order.{Row}
 use Rattle.sqlite.specs.Rowids.TheVariants.{Chosen}
 use Rattle.sqlite.specs.Schema.{Schema}
-use Rattle.sqlite.specs.State.{State}
+use Rattle.sqlite.specs.State.{State, IsUnchanged}
 use Rattle.sqlite.specs.Table.{Table}
 use Rattle.sqlite.specs.Term.{Term, eval_all}
 use Rattle.sqlite_value.specs.declared.keys.Key.{Key}
-use Rattle.desk_sql.specs.Contents.{Contents, seen, whole, change_at}
+use Rattle.desk_sql.specs.Contents.{Contents, Holds, change_at, seen, whole}
 use Rattle.desk_sql.specs.Meanings.{InsertsRow, UpdatesRows, DeletesRows, SelectsRows, CountsRows, MakesTable, MakeTables, schema_after}
 use Rattle.desk_sql.specs.Queries.{meets, projected, rewritten, keys_of, by_keys}
 use Rattle.desk_sql.specs.States.{Sees, Moves, Makes}
@@ -62,6 +62,12 @@ abbrev pub Selects : List ℕ → Row → State → State → List Row → Type 
 Selects text params old new answer = (schema : Schema) (at : ℕ) (table : Table) (terms : List Term) (order : List (Term × Key)) (rest : List Term) (names : List (List ℕ))
     → SelectsRows schema at table text terms order rest names → Moves schema (λ c. c) old new
     × ((c : Contents) (rows : List Row) → Sees schema old c → slice_get c at ≡ Some rows → IsSelected table terms order rest params rows answer)
+
+-- outside a transaction, of what the database holds; a query still changes nothing
+abbrev pub Streams : List ℕ → Row → State → State → List Row → Type 0
+Streams text params old new answer = (schema : Schema) (at : ℕ) (table : Table) (terms : List Term) (order : List (Term × Key)) (rest : List Term) (names : List (List ℕ))
+    → SelectsRows schema at table text terms order rest names → old.now.schema ≡ schema → IsUnchanged old new
+    × ((c : Contents) (rows : List Row) → Holds schema old.now c → slice_get c at ≡ Some rows → IsSelected table terms order rest params rows answer)
 
 -- a count stops at the greatest integer of SQL
 abbrev pub counted : ℕ → ℕ

@@ -24,7 +24,8 @@ pub fn select<S: Alter>(
         → KeepsCommit (state S.Store tx.old.conn.now) (state S.Store tx.new.conn.now) }
     ensures survives { Survives (state S.Store tx.old.conn.now) (state S.Store tx.new.conn.now) (λ _. ⊥) }
 {
-    match tx.query_all(sql, params) {
+    let selected = tx.query_all(sql, params);
+    match selected {
         Ok(rows) => Ok(rows),
         Err(error) => Err(error),
     }
@@ -60,7 +61,7 @@ pub fn count<S: Alter>(
 {
     match tx.query_all(sql, params) {
         Ok(rows) => match only_number(&rows) {
-            Ok(number) => Ok(number),
+            Ok(counted) => Ok(counted),
             Err(error) => Err(error),
         },
         Err(error) => Err(error),

@@ -23,7 +23,8 @@ pub fn insert<S: Alter>(
         → KeepsCommit (state S.Store tx.old.conn.now) (state S.Store tx.new.conn.now) }
     ensures survives { Survives (state S.Store tx.old.conn.now) (state S.Store tx.new.conn.now) (λ _. ⊥) }
 {
-    match tx.execute(sql, params) {
+    let inserted = tx.execute(sql, params);
+    match inserted {
         Ok(_) => Ok(()),
         Err(error) => Err(error),
     }
@@ -44,7 +45,8 @@ pub fn update<S: Alter>(
         → KeepsCommit (state S.Store tx.old.conn.now) (state S.Store tx.new.conn.now) }
     ensures survives { Survives (state S.Store tx.old.conn.now) (state S.Store tx.new.conn.now) (λ _. ⊥) }
 {
-    match tx.execute(sql, params) {
+    let updated = tx.execute(sql, params);
+    match updated {
         Ok(_) => Ok(()),
         Err(error) => Err(error),
     }
@@ -65,7 +67,8 @@ pub fn delete<S: Alter>(
         → KeepsCommit (state S.Store tx.old.conn.now) (state S.Store tx.new.conn.now) }
     ensures survives { Survives (state S.Store tx.old.conn.now) (state S.Store tx.new.conn.now) (λ _. ⊥) }
 {
-    match tx.execute(sql, params) {
+    let deleted = tx.execute(sql, params);
+    match deleted {
         Ok(_) => Ok(()),
         Err(error) => Err(error),
     }
