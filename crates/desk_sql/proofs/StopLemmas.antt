@@ -1,0 +1,60 @@
+-- From the steps of a transaction to its commit.
+use Rattle.std.proofs.Common.{◌≡◌, true, false, refl, sym, subst, ◌∙◌, arith, IsTrue}
+use Rattle.sqlite.specs.Store as store
+use Rattle.sqlite.specs.Effect.{Database}
+use Rattle.sqlite.specs.Held.{Held, state}
+use Rattle.sqlite.specs.Schema.{Schema}
+use Rattle.sqlite.specs.State as states
+use Rattle.sqlite.specs.State.{State, HasCleanDisk, Survives, KeepsCommit}
+use Rattle.sqlite.proofs.StateLemmas.{survives_then}
+use Rattle.sqlite.proofs.Callers.{survives_begin}
+use Rattle.desk_sql.specs.Contents.{Contents, Holds, HoldRows}
+use Rattle.desk_sql.specs.States.{Changes, Turns, Sees, Shows}
+
+module _ {T : Type 0} (schema : Schema) (contents : T → Contents) where
+  pub changes_then : (first mid new : State) (f h : T → T) → Changes schema contents first mid f → Changes schema contents mid new h → Changes schema contents first new (λ t. h (f t))
+  changes_then first mid new f h w c = record {
+    is_open = λ o. c.is_open (w.is_open o);
+    inside = c.inside;
+    kept = record { was_open = λ o. w.kept.was_open (c.kept.was_open o); committed = λ o. c.kept.committed o ∙ w.kept.committed (c.kept.was_open o) };
+    value = λ t sees. c.value (f t) (w.value t sees);
+  }
+
+module _ {T : Type 0} (schema : Schema) (before : T → Contents) where
+  pub turns_none : (s : State) → IsTrue s.in_transaction → Turns schema before before s s
+  turns_none s inside = record { is_open = λ o. o; inside = inside; kept = record { was_open = λ o. o; committed = λ _. refl }; value = λ t sees. sees }
+
+  pub turns_then : (middle after : T → Contents) (first mid new : State) → Turns schema before middle first mid → ((t : T) → Sees schema mid (middle t) → Sees schema new (after t))
+      → (IsTrue mid.is_open → IsTrue new.is_open) → IsTrue new.in_transaction → KeepsCommit mid new → Turns schema before after first new
+  turns_then middle after first mid new w value opens inside kept = record {
+    is_open = λ o. opens (w.is_open o);
+    inside = inside;
+    kept = record { was_open = λ o. w.kept.was_open (kept.was_open o); committed = λ o. kept.committed o ∙ w.kept.committed (kept.was_open o) };
+    value = λ t sees. value t (w.value t sees);
+  }
+
+module _ {T S : Type 0} (schema : Schema) (before after : T → Contents) (g : store.Ghosts S) (old last end : Held S) where
+  abbrev begun : State
+  begun = state g (record old { in_transaction = true })
+
+  pub holds_all : (t : T) → Shows schema (state g old) (before t) → HasCleanDisk (state g old) → IsTrue (state g last).is_open → Turns schema before after begun (state g last)
+      → Sees schema (state g last) (after t)
+  holds_all t shows clean live w = w.value t (record { inside = refl; holds = (shows.holds clean (w.kept.was_open live)).0 })
+
+  pub survives_all : Survives begun (state g last) (λ _. ⊥) → (HasCleanDisk (state g last) → IsTrue (state g last).is_open × Turns schema before after begun (state g last))
+      → Survives (state g last) (state g end) (λ db. db ≡ (state g last).now.trees)
+      → Survives (state g old) (state g end) (λ db. (t : T) → Shows schema (state g old) (before t) → HoldRows db schema.tables (after t))
+  survives_all s w e = survives_then (state g old) (state g last) (state g end) (λ _. ⊥) (λ db. db ≡ (state g last).now.trees) (λ db. (t : T) → Shows schema (state g old) (before t) → HoldRows db schema.tables (after t))
+      (λ _ db none. absurd none)
+      (λ clean db is t shows. let late : HasCleanDisk (state g last) = omega (arith, e.clean, clean) in
+      let it = w late in
+      let sees = holds_all t shows (omega (arith, s.clean, late)) it.0 it.1 in
+      subst (λ d. HoldRows d schema.tables (after t)) (sym is) sees.holds.rows)
+      (survives_begin g old (state g last) (λ _. ⊥) s) e
+
+  pub shows_all : Survives begun (state g last) (λ _. ⊥) → (HasCleanDisk (state g last) → IsTrue (state g last).is_open × Turns schema before after begun (state g last))
+      → HasCleanDisk (state g last) → states.Shows (state g last) (state g end) (state g last).now (state g last).now false → (t : T) → Shows schema (state g old) (before t) → Shows schema (state g end) (after t)
+  shows_all s w late e t shows =
+      let it = w late in
+      let sees = holds_all t shows (omega (arith, s.clean, late)) it.0 it.1 in
+      record { outside = e.mode; holds = λ _ _. (subst (λ (d : Database). Holds schema d (after t)) (sym e.now_is) sees.holds, e.now_is ∙ sym e.committed_is) }

@@ -1,0 +1,71 @@
+-- What the tables of a store hold: for each table its rows, in any order.
+use Rattle.std.specs.Prelude.{◌≡◌, ℕ, zero, suc, ◌==◌, Bool, true, not, ◌&&◌, IsTrue, List, [], ◌∷◌, map, drop, Option, Some, None}
+use Rattle.std.specs.List.{AllByRecursion, AllZip}
+use Rattle.std.specs.List.Sorted.{IsPermutation}
+use Rattle.sqlite.specs.declared.types.Value.TheVariants.{Null}
+use Rattle.sqlite.specs.Effect.{Database}
+use Rattle.sqlite.specs.Order.{Row}
+use Rattle.sqlite.specs.Schema.{Schema}
+use Rattle.sqlite.specs.Table.{Table}
+use Rattle.sqlite.specs.Tree.{Trees, IsTable, rowid}
+use Rattle.sqlite_trees.specs.View.{is_int}
+
+-- A stored row begins with its row id. Where an INTEGER PRIMARY KEY is that number, all of the row counts; in other
+-- tables what follows the row id does (SQLite, "Rowid Tables").
+abbrev pub by_key : Option ℕ → Row → Row
+by_key (Some _) row = row
+by_key None row = drop 1 row
+
+abbrev pub seen : Table → Row → Row
+seen table row = by_key table.key row
+
+-- a stored row, where what counts of it is known: a row id that doesn't count is written as NULL
+abbrev pub with_rowid_by_key : Option ℕ → Row → Row
+with_rowid_by_key (Some _) row = row
+with_rowid_by_key None row = Null ∷ row
+
+abbrev pub whole : Table → Row → Row
+whole table row = with_rowid_by_key table.key row
+
+-- for each table of the schema what counts of its rows
+abbrev pub Contents : Type 0
+Contents = List (List Row)
+
+-- The row ids are integers and rise, so none comes twice. UPDATE and DELETE find rows by them.
+abbrev pub IsKeyed : List Row → Type 0
+IsKeyed rows = IsTable rows × AllByRecursion (λ (r : Row). IsTrue (is_int (rowid r))) rows
+
+-- the table's tree holds these rows and no other
+pub record IsIn (db : Trees) (table : Table) (rows : List Row) : Type 0 where
+  pub same : IsPermutation rows (map (seen table) (db table.tree))
+  pub keyed : IsKeyed (db table.tree)
+
+abbrev pub HoldRows : Trees → List Table → Contents → Type 0
+HoldRows db tables contents = AllZip (IsIn db) tables contents
+
+-- the database has these tables and no other, with these rows
+pub record Holds (schema : Schema) (db : Database) (contents : Contents) : Type 0 where
+  pub listed : db.schema ≡ schema
+  pub rows : HoldRows db.trees schema.tables contents
+
+-- the contents where the rows of the table at this place change
+abbrev pub change_at : ℕ → (List Row → List Row) → Contents → Contents
+change_at at change [] = []
+change_at zero change (rows ∷ contents) = change rows ∷ contents
+change_at (suc at) change (rows ∷ contents) = rows ∷ change_at at change contents
+
+-- every table without a row
+abbrev pub no_rows : List Table → Contents
+no_rows [] = []
+no_rows (t ∷ ts) = [] ∷ no_rows ts
+
+-- none of the tables has this tree
+abbrev pub are_other : ℕ → List Table → Bool
+are_other tree [] = true
+are_other tree (t ∷ ts) = not (t.tree == tree) && are_other tree ts
+
+-- none but the one at this place has it
+abbrev pub is_apart : ℕ → ℕ → List Table → Bool
+is_apart at tree [] = true
+is_apart zero tree (t ∷ ts) = are_other tree ts
+is_apart (suc at) tree (t ∷ ts) = not (t.tree == tree) && is_apart at tree ts

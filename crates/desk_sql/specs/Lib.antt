@@ -1,0 +1,5 @@
+pub mod Contents
+pub mod States
+pub mod Queries
+pub mod Meanings
+pub mod Effects

@@ -1,0 +1,51 @@
+-- What a connection shows of a store's tables, inside a transaction and outside, and how steps change that.
+use Rattle.std.specs.Prelude.{◌≡◌, IsTrue, false, []}
+use Rattle.std.specs.List.{AllByRecursion}
+use Rattle.sqlite.specs.Effect.{Database}
+use Rattle.sqlite.specs.Schema.{Schema}
+use Rattle.sqlite.specs.State.{State, HasCleanDisk, KeepsCommit}
+use Rattle.sqlite.specs.Table.{Table}
+use Rattle.sqlite.specs.Tree.{Trees}
+use Rattle.desk_sql.specs.Contents.{Contents, Holds}
+
+-- inside a transaction
+pub record Sees (schema : Schema) (s : State) (contents : Contents) : Type 0 where
+  pub inside : IsTrue s.in_transaction
+  pub holds : Holds schema s.now contents
+
+-- Outside. After some failures nobody knows whether the connection is still open, so what it holds is said of an open one.
+pub record Shows (schema : Schema) (s : State) (contents : Contents) : Type 0 where
+  pub outside : s.in_transaction ≡ false
+  pub holds : HasCleanDisk s → IsTrue s.is_open → Holds schema s.now contents × (s.now ≡ s.committed)
+
+-- Steps inside a transaction commit nothing, and turn what the tables held before into what they hold after.
+-- T is the type of what the tables stand for.
+pub record Turns {T : Type 0} (schema : Schema) (before after : T → Contents) (old new : State) : Type 0 where
+  pub is_open : IsTrue old.is_open → IsTrue new.is_open
+  pub inside : IsTrue new.in_transaction
+  pub kept : KeepsCommit old new
+  pub value : (t : T) → Sees schema old (before t) → Sees schema new (after t)
+
+-- the same, by what becomes of what the tables stand for
+abbrev pub Changes : {T : Type 0} → Schema → (T → Contents) → State → State → (T → T) → Type 0
+Changes schema contents old new change = Turns schema contents (λ t. contents (change t)) old new
+
+-- the same, of the contents themselves
+abbrev pub Moves : Schema → (Contents → Contents) → State → State → Type 0
+Moves schema change old new = Turns schema (λ (c : Contents). c) change old new
+
+-- what a stop leaves
+abbrev pub Leaves : State → (Trees → Type 0) → Type 0
+Leaves s P = HasCleanDisk s → (db : Trees) → s.may_leave db → P db
+
+-- the tables of the schema stand there, and are empty
+pub record Made (db : Database) (schema : Schema) : Type 0 where
+  pub listed : db.schema ≡ schema
+  pub empty : AllByRecursion (λ (t : Table). db.trees t.tree ≡ []) schema.tables
+
+-- a step of making them
+pub record Makes (old new : State) (before after : Schema) : Type 0 where
+  pub is_open : IsTrue old.is_open → IsTrue new.is_open
+  pub inside : IsTrue new.in_transaction
+  pub kept : KeepsCommit old new
+  pub value : Made old.now before → Made new.now after

@@ -1,0 +1,12 @@
+//! What SQL statements do to the rows of a store, stated once for any schema.
+#![tactic(auto)]
+
+mod laws;
+mod reading;
+mod streaming;
+mod writing;
+
+pub use laws::stop_leaves_what_is_shown;
+pub use reading::{count, select};
+pub use streaming::stream;
+pub use writing::{create_table, create_tables, delete, insert, update};

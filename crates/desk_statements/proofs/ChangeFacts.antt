@@ -1,0 +1,24 @@
+-- What each text means, told by computing: UPDATE and DELETE.
+use Rattle.std.proofs.Common.{[], ◌∷◌, refl}
+use Rattle.sqlite.specs.Listing.{understood}
+use Rattle.sqlite_tied.specs.Compute.{everything}
+use Rattle.desk_sql.specs.Meanings.{UpdatesRows, DeletesRows}
+use Rattle.desk_statements.specs.Columns.{equals, set_to}
+use Rattle.desk_statements.specs.Tables.{desk_schema, desk, requests, listed, components}
+use Rattle.desk_statements.specs.declared.changing.TheConstants.{UPDATE_STAMP, UPDATE_STATE, UPDATE_GENERATION, DELETE_LISTED}
+
+pub update_stamp : UpdatesRows desk_schema 0 desk UPDATE_STAMP.now [] (set_to desk 4 0)
+unfolding understood everything
+update_stamp = record { stands = record { place = refl; apart = refl; quiet = λ _ _. refl }; means = refl; plain = (refl, refl); overlooks = λ _. tt; passes_over = λ _. tt }
+
+pub update_state : UpdatesRows desk_schema 3 requests UPDATE_STATE.now (equals requests 0 0 ∷ []) (set_to requests 8 1)
+unfolding understood everything
+update_state = record { stands = record { place = refl; apart = refl; quiet = λ _ _. refl }; means = refl; plain = (refl, refl); overlooks = λ _. tt; passes_over = λ _. tt }
+
+pub update_generation : UpdatesRows desk_schema 11 components UPDATE_GENERATION.now (equals components 0 0 ∷ []) (set_to components 1 1)
+unfolding understood everything
+update_generation = record { stands = record { place = refl; apart = refl; quiet = λ _ _. refl }; means = refl; plain = (refl, refl); overlooks = λ _ _ _. refl; passes_over = λ _ _ _. refl }
+
+pub delete_listed : DeletesRows desk_schema 8 listed DELETE_LISTED.now (equals listed 0 0 ∷ equals listed 1 1 ∷ [])
+unfolding understood everything
+delete_listed = record { stands = record { place = refl; apart = refl; quiet = λ _ _. refl }; means = refl; plain = (refl, refl); overlooks = λ _ _ _. refl }

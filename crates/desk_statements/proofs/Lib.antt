@@ -1,0 +1,5 @@
+pub mod CreateFacts
+pub mod InsertFacts
+pub mod ChangeFacts
+pub mod SelectFacts
+pub mod CountFacts

@@ -1,0 +1,69 @@
+-- What the statements read, test and write, by the columns of a table, counted from 0, and the parameters, counted from 0.
+use Rattle.std.specs.Prelude.{ℕ, zero, suc, ◌+◌, ◌==◌, List, [], ◌∷◌, ◌++◌, map, drop, Option, Some, None, if◌then◌else◌}
+use Rattle.sqlite.specs.Collation.TheVariants.{Binary}
+use Rattle.sqlite.specs.declared.types.Value.TheVariants.{Null}
+use Rattle.sqlite.specs.Table.{Table}
+use Rattle.sqlite.specs.Term.{Term, col, lit, op2}
+use Rattle.sqlite_schema.specs.declared.schema.Column.{Column}
+use Rattle.sqlite_sql.specs.declared.ops.BinaryOp.TheVariants.{Compare}
+use Rattle.sqlite_sql.specs.declared.ops.CompareOp.TheVariants.{Eq}
+use Rattle.sqlite_value.specs.declared.keys.Key.{Key}
+use Rattle.sqlite_value.specs.Keys.{ascending}
+
+-- In terms, col 0 is the parameters and col 1 a stored row: the row id, then the columns. A column that is the row id is
+-- NULL at its own place.
+abbrev pub column_at : Option ℕ → ℕ → Term
+column_at None at = col 1 (at + 1)
+column_at (Some _) zero = col 1 0
+column_at (Some _) (suc at) = col 1 (at + 2)
+
+abbrev pub columns_from : Option ℕ → ℕ → List Column → List Term
+columns_from key at [] = []
+columns_from key at (c ∷ cs) = column_at key at ∷ columns_from key (at + 1) cs
+
+-- every column, in the table's order
+abbrev pub columns_of : Table → List Term
+columns_of table = columns_from table.key 0 table.columns
+
+abbrev pub names_of : Table → List (List ℕ)
+names_of table = map (λ (c : Column). c.name) table.columns
+
+-- WHERE column = ?parameter
+abbrev pub equals : Table → ℕ → ℕ → Term
+equals table at parameter = op2 (Compare Eq Binary) (column_at table.key at) (col 0 parameter)
+
+-- ORDER BY the first columns, ascending
+abbrev pub by_first : ℕ → Table → List (Term × Key)
+by_first zero table = []
+by_first (suc n) table = by_first n table ++ (column_at table.key n, ascending Binary) ∷ []
+
+-- the columns after the first n
+abbrev pub columns_after : ℕ → Table → List Term
+columns_after n table = drop n (columns_of table)
+
+-- what a row is made of where the value of each column is given: its row id, then its columns
+abbrev pub stored_as : Option ℕ → List Term → List Term
+stored_as None values = lit Null ∷ values
+stored_as (Some _) [] = []
+stored_as (Some _) (key ∷ values) = key ∷ lit Null ∷ values
+
+abbrev pub parameters_from : ℕ → List Column → List Term
+parameters_from at [] = []
+parameters_from at (c ∷ cs) = col 0 at ∷ parameters_from (at + 1) cs
+
+-- VALUES (?1, ?2, ..), a parameter for each column
+abbrev pub values_of : Table → List Term
+values_of table = stored_as table.key (parameters_from 0 table.columns)
+
+-- a stored row as it is, but for this column, which is set to the parameter
+abbrev pub set_from : Option ℕ → ℕ → ℕ → ℕ → List Column → List Term
+set_from key set parameter at [] = []
+set_from key set parameter at (c ∷ cs) = (if at == set then col 0 parameter else column_at key at) ∷ set_from key set parameter (at + 1) cs
+
+abbrev pub with_row_id : Option ℕ → List Term → List Term
+with_row_id None values = col 1 0 ∷ values
+with_row_id (Some _) [] = []
+with_row_id (Some _) (key ∷ values) = key ∷ lit Null ∷ values
+
+abbrev pub set_to : Table → ℕ → ℕ → List Term
+set_to table at parameter = with_row_id table.key (set_from table.key at parameter 0 table.columns)

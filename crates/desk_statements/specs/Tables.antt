@@ -1,0 +1,117 @@
+-- own: the twelve tables of a desk, as SQL sees them. All are STRICT, and no column may be NULL.
+use Rattle.std.specs.Prelude.{ℕ, List, [], ◌∷◌, Option, Some, None, codes, true, false, map}
+use Rattle.sqlite.specs.Collation.TheVariants.{Binary}
+use Rattle.sqlite.specs.declared.types.Value.TheVariants.{Null}
+use Rattle.sqlite.specs.Kind.{Kind}
+use Rattle.sqlite.specs.Kind.TheVariants.{Integer, Text, Blob}
+use Rattle.sqlite.specs.Schema.{Schema}
+use Rattle.sqlite.specs.Table.{Table}
+use Rattle.sqlite_schema.specs.declared.schema.Column.{Column}
+use Rattle.sqlite_value.specs.Keys.{plain}
+use Rattle.desk_sql.specs.Meanings.{schema_after}
+
+abbrev pub column_of : List ℕ → Kind → Column
+column_of name kind = record { name = name; kind = kind; is_strict = true; not_null = true; default = Null; collation = Binary }
+
+-- A table whose first column is its INTEGER PRIMARY KEY, or one whose primary key is other columns. A key's columns are
+-- counted from 0 where it is the row id, and from 1, after the row id, elsewhere.
+abbrev pub table_of : List ℕ → ℕ → List Column → Option ℕ → List ℕ → List (List ℕ) → Table
+table_of name tree columns key primary uniques = record {
+  name = name;
+  tree = tree;
+  columns = columns;
+  key = key;
+  primary = primary;
+  uniques = uniques;
+  orders = map (λ _. plain) uniques;
+  checks = [];
+  references = [];
+  computed = [];
+  stamps = record { places = []; terms = []; formats = [] };
+  is_counted = false;
+}
+
+abbrev pub numbered_table : List ℕ → ℕ → List Column → List (List ℕ) → Table
+numbered_table name tree columns uniques = table_of name tree columns (Some 0) (0 ∷ []) uniques
+
+abbrev pub keyed_table : List ℕ → ℕ → List Column → List ℕ → List (List ℕ) → Table
+keyed_table name tree columns primary others = table_of name tree columns None primary (primary ∷ others)
+
+-- ---- the tables, each with its tree; a tree more stands after it for each key that isn't the row id
+
+abbrev pub desk : Table
+desk = numbered_table (codes "desk") 0
+    (column_of (codes "id") Integer ∷ column_of (codes "mark") Text ∷ column_of (codes "version") Integer ∷ column_of (codes "owner") Blob
+    ∷ column_of (codes "stamp") Integer ∷ [])
+    []
+
+abbrev pub people : Table
+people = keyed_table (codes "people") 1
+    (column_of (codes "name") Text ∷ column_of (codes "role") Text ∷ column_of (codes "token") Blob ∷ [])
+    (1 ∷ []) ((3 ∷ []) ∷ [])
+
+abbrev pub calls : Table
+calls = numbered_table (codes "calls") 4
+    (column_of (codes "no") Integer ∷ column_of (codes "caller") Text ∷ column_of (codes "key") Text ∷ column_of (codes "text") Text
+    ∷ column_of (codes "reply") Text ∷ [])
+    ((2 ∷ 3 ∷ []) ∷ [])
+
+abbrev pub requests : Table
+requests = numbered_table (codes "requests") 6
+    (column_of (codes "no") Integer ∷ column_of (codes "submitter") Text ∷ column_of (codes "title") Text ∷ column_of (codes "length") Integer
+    ∷ column_of (codes "gap") Integer ∷ column_of (codes "file") Blob ∷ column_of (codes "digest") Blob ∷ column_of (codes "signing") Blob
+    ∷ column_of (codes "state") Text ∷ [])
+    []
+
+abbrev pub request_certificates : Table
+request_certificates = keyed_table (codes "request_certificates") 7
+    (column_of (codes "request") Integer ∷ column_of (codes "digest") Blob ∷ [])
+    (1 ∷ 2 ∷ []) []
+
+abbrev pub request_components : Table
+request_components = keyed_table (codes "request_components") 9
+    (column_of (codes "request") Integer ∷ column_of (codes "place") Integer ∷ column_of (codes "name") Text ∷ column_of (codes "generation") Integer ∷ [])
+    (1 ∷ 2 ∷ []) []
+
+abbrev pub votes : Table
+votes = keyed_table (codes "votes") 11
+    (column_of (codes "request") Integer ∷ column_of (codes "reviewer") Text ∷ column_of (codes "vote") Text ∷ column_of (codes "note") Text ∷ [])
+    (1 ∷ 2 ∷ []) []
+
+abbrev pub returns : Table
+returns = numbered_table (codes "returns") 13
+    (column_of (codes "request") Integer ∷ column_of (codes "signer") Text ∷ column_of (codes "length") Integer ∷ column_of (codes "file") Blob
+    ∷ column_of (codes "digest") Blob ∷ [])
+    []
+
+abbrev pub listed : Table
+listed = keyed_table (codes "listed") 14
+    (column_of (codes "kind") Text ∷ column_of (codes "digest") Blob ∷ column_of (codes "body") Blob ∷ [])
+    (1 ∷ 2 ∷ []) []
+
+abbrev pub revoked_digests : Table
+revoked_digests = keyed_table (codes "revoked_digests") 16 (column_of (codes "digest") Blob ∷ []) (1 ∷ []) []
+
+abbrev pub revoked_certificates : Table
+revoked_certificates = keyed_table (codes "revoked_certificates") 18 (column_of (codes "digest") Blob ∷ []) (1 ∷ []) []
+
+abbrev pub components : Table
+components = keyed_table (codes "components") 20
+    (column_of (codes "name") Text ∷ column_of (codes "generation") Integer ∷ [])
+    (1 ∷ []) []
+
+abbrev pub desk_tables : List Table
+desk_tables = desk ∷ people ∷ calls ∷ requests ∷ request_certificates ∷ request_components ∷ votes ∷ returns ∷ listed ∷ revoked_digests ∷ revoked_certificates
+    ∷ components ∷ []
+
+-- as CREATE TABLE defines it, before it has a tree
+abbrev pub defined : Table → Table
+defined table = record table { tree = 0 }
+
+-- a store without tables, indexes and views
+abbrev pub no_schema : Schema
+no_schema = record { tables = []; indexes = []; views = [] }
+
+-- a desk's store: these tables, the indexes of their keys, and nothing else
+abbrev pub desk_schema : Schema
+desk_schema = schema_after no_schema (map defined desk_tables)

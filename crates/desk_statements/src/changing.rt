@@ -1,0 +1,13 @@
+//! UPDATE and DELETE, by key.
+
+/// Sets the stamp (`?1`) of every row: the table has one.
+pub const UPDATE_STAMP: &str = "UPDATE desk SET stamp = ?1";
+
+/// Sets the state (`?2`) of the request with a number (`?1`).
+pub const UPDATE_STATE: &str = "UPDATE requests SET state = ?2 WHERE no = ?1";
+
+/// Sets the generation (`?2`) of the component with a name (`?1`).
+pub const UPDATE_GENERATION: &str = "UPDATE components SET generation = ?2 WHERE name = ?1";
+
+/// Takes out the entry with a kind (`?1`) and a digest (`?2`).
+pub const DELETE_LISTED: &str = "DELETE FROM listed WHERE kind = ?1 AND digest = ?2";

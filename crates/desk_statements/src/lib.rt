@@ -1,0 +1,34 @@
+//! The statements of a desk over its twelve tables, and what each means there.
+#![tactic(auto)]
+
+mod changing;
+mod counting;
+mod creating;
+mod inserting;
+mod laws;
+mod selecting;
+
+pub use changing::{DELETE_LISTED, UPDATE_GENERATION, UPDATE_STAMP, UPDATE_STATE};
+pub use counting::{
+    COUNT_CALLS, COUNT_COMPONENTS, COUNT_LISTED, COUNT_LISTED_OF, COUNT_PEOPLE, COUNT_REQUESTS,
+    COUNT_REQUESTS_IN, COUNT_REVOKED_CERTIFICATES, COUNT_REVOKED_DIGESTS,
+};
+pub use creating::{CREATE_TABLES, make};
+pub use inserting::{
+    INSERT_CALL, INSERT_COMPONENT, INSERT_DESK, INSERT_LISTED, INSERT_PERSON, INSERT_REQUEST,
+    INSERT_REQUEST_CERTIFICATE, INSERT_REQUEST_COMPONENT, INSERT_RETURN,
+    INSERT_REVOKED_CERTIFICATE, INSERT_REVOKED_DIGEST, INSERT_VOTE,
+};
+pub use laws::{
+    calls_statements, components_statements, desk_statements, listed_statements, people_statements,
+    request_certificates_statements, request_components_statements, requests_statements,
+    returns_statements, revoked_certificates_statements, revoked_digests_statements,
+    votes_statements,
+};
+pub use selecting::{
+    SELECT_CALL, SELECT_CALLS, SELECT_COMPONENT, SELECT_COMPONENTS, SELECT_DESK, SELECT_LISTED,
+    SELECT_LISTED_OF, SELECT_PEOPLE, SELECT_PERSON, SELECT_PERSON_OF_TOKEN, SELECT_REQUEST,
+    SELECT_REQUEST_CERTIFICATES, SELECT_REQUEST_COMPONENTS, SELECT_REQUESTS, SELECT_REQUESTS_OF,
+    SELECT_RETURN, SELECT_REVOKED_CERTIFICATE, SELECT_REVOKED_CERTIFICATES, SELECT_REVOKED_DIGEST,
+    SELECT_REVOKED_DIGESTS, SELECT_VOTES,
+};
