@@ -1,11 +1,8 @@
 //! Files that are read whole.
-use crate::fault::Fault;
 use desk_bytes::{Refusal, read_up_to};
+use desk_lines::{Fault, MOST_BYTES};
 use std::rt::Files;
 use std::{fs, io};
-
-/// The most bytes of an image, and of signature lists.
-pub const MOST_BYTES: usize = 134_217_728;
 
 /// The bytes of a file: all of them, or one more than it may have.
 pub fn read_file<R: Files + AllocGlobal>(rt: &R, path: &str) -> Result<Vec<u8>, Fault> {
