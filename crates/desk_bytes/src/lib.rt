@@ -31,6 +31,3 @@ pub use order::arrange;
 pub use output::{WriteFailed, put};
 pub use parting::parted;
 pub use refusal::Refusal;
-
-#[cfg(test)]
-mod tests;
