@@ -1,4 +1,6 @@
 //! What stops a subcommand.
+ghost use Rattle.std.specs.Prelude.{◌≡◌};
+
 use desk_lines::Fault;
 
 /// What stops a subcommand: a word of the command line that is out of its form, by the name that help gives
@@ -10,6 +12,8 @@ pub enum Stop {
 }
 
 impl From<Fault> for Stop {
+    ghost from_gives = { λ fault stop. stop ≡ Stop.Fault fault };
+
     fn from(fault: Fault) -> Stop {
         Stop::Fault(fault)
     }

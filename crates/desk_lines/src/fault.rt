@@ -1,4 +1,7 @@
 //! A row of the table of refusals, with its place.
+ghost use Rattle.std.specs.Prelude.{◌≡◌};
+ghost use Rattle.desk_bytes.specs.declared.refusal.Refusal.TheVariants.{Write};
+ghost use Rattle.desk_lines.specs.Faults.{of_facts, of_input, of_layout, of_lists, of_pack, row_of};
 
 use desk_bytes::{InputFault, Refusal, WriteFailed};
 use desk_service::FactsFault;
@@ -13,6 +16,8 @@ pub struct Fault {
 }
 
 impl From<Refusal> for Fault {
+    ghost from_gives = { λ fault row. row ≡ row_of fault };
+
     fn from(refusal: Refusal) -> Fault {
         Fault {
             refusal,
@@ -22,6 +27,8 @@ impl From<Refusal> for Fault {
 }
 
 impl From<PackFault> for Fault {
+    ghost from_gives = { λ fault row. row ≡ of_pack fault };
+
     fn from(fault: PackFault) -> Fault {
         Fault {
             refusal: fault.refusal(),
@@ -31,12 +38,16 @@ impl From<PackFault> for Fault {
 }
 
 impl From<LayoutFault> for Fault {
+    ghost from_gives = { λ fault row. row ≡ of_layout fault };
+
     fn from(fault: LayoutFault) -> Fault {
         Fault::from(fault.refusal())
     }
 }
 
 impl From<FactsFault> for Fault {
+    ghost from_gives = { λ fault row. row ≡ of_facts fault };
+
     fn from(fault: FactsFault) -> Fault {
         Fault {
             refusal: fault.refusal(),
@@ -46,6 +57,8 @@ impl From<FactsFault> for Fault {
 }
 
 impl From<ListsFault> for Fault {
+    ghost from_gives = { λ fault row. row ≡ of_lists fault };
+
     fn from(fault: ListsFault) -> Fault {
         Fault {
             refusal: fault.refusal(),
@@ -55,12 +68,16 @@ impl From<ListsFault> for Fault {
 }
 
 impl From<InputFault> for Fault {
+    ghost from_gives = { λ fault row. row ≡ of_input fault };
+
     fn from(fault: InputFault) -> Fault {
         Fault::from(fault.refusal())
     }
 }
 
 impl From<WriteFailed> for Fault {
+    ghost from_gives = { λ _ row. row ≡ row_of Write };
+
     fn from(fault: WriteFailed) -> Fault {
         Fault::from(fault.refusal())
     }

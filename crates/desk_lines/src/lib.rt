@@ -7,4 +7,4 @@ mod printing;
 
 pub use fault::Fault;
 pub use listing::{MOST_BYTES, print_facts, print_list, print_ranges};
-pub use printing::print_fault;
+pub use printing::{print_fault, put_fault};

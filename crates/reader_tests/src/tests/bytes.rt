@@ -1,6 +1,6 @@
 //! Lines, GUIDs, digests and DER elements.
 use super::{Call, check, refused, unbarred};
-use desk_bytes::{Digest, Guid, InputFault, WriteFailed, element, parted, put, read_up_to, tbs};
+use desk_bytes::{Digest, Guid, InputFault, WriteFailed, element, parted, put, read_all, tbs};
 use desk_testing::{Narrow, Slow};
 use std::alloc::Global;
 use std::io::ErrorKind;
@@ -185,11 +185,12 @@ fn reads_an_input_up_to_a_limit(rt: HostRuntime) {
         calls: 0,
         fails_at: 12,
     };
-    let bytes = read_up_to(rt.alloc(), &mut reader, 50_001);
-    assert!(rt; bytes.map(|some| some.len()) == Ok(50_001));
-    let bytes = read_up_to(rt.alloc(), &mut reader, 50_001);
-    assert!(rt; bytes.map(|some| some.len()) == Ok(19_999));
-    reader.fails_at = reader.calls.saturating_add(1);
-    let bytes = read_up_to(rt.alloc(), &mut reader, 1);
-    assert!(rt; bytes.err() == Some(InputFault::Read));
+    let bytes = read_all(rt.alloc(), &mut reader, 70_000);
+    assert!(rt; bytes.map(|some| some.len()) == Ok(70_000));
+    reader.rest = &long;
+    let bytes = read_all(rt.alloc(), &mut reader, 70_000);
+    assert!(rt; bytes.err() == Some(InputFault::Read), "the twelfth read");
+    reader.rest = &long;
+    let bytes = read_all(rt.alloc(), &mut reader, 69_999);
+    assert!(rt; bytes.err() == Some(InputFault::TooLong));
 }
