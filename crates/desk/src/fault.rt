@@ -12,7 +12,9 @@ pub enum Stop {
 }
 
 impl From<Fault> for Stop {
-    ghost from_gives = { λ fault stop. stop ≡ Stop.Fault fault };
+    ghost use Rattle.desk.specs.declared.fault.Stop.TheVariants as variant;
+
+    ghost from_gives = { λ fault stop. stop ≡ variant.Fault fault };
 
     fn from(fault: Fault) -> Stop {
         Stop::Fault(fault)
