@@ -1,6 +1,7 @@
 #!/bin/sh
 # Refuses each allocation of the proved program in turn: on `desk pack OWNER` with the lines in crates/desk/stdin, and
-# on `desk facts` with examples/signed.efi, an image with a certificate and two SBAT components. Each such run has to
+# on `desk facts` with examples/signed.efi, an image with a certificate and two SBAT components, and on `desk list` with a
+# list of another type than the three, whose GUID is printed. Each such run has to
 # end with status 3, the line `device 40 NoMemory` and nothing written; the first run that meets no refusal has to
 # write what it writes with ample memory. Not part of the gate: it needs a C compiler, for a malloc that refuses.
 set -eu
@@ -80,3 +81,8 @@ refuse() {
 refuse pack "$root/crates/desk/stdout" "$root/crates/desk/stdin" pack 00112233-4455-6677-8899-aabbccddeeff
 "$program" facts "$root/examples/signed.efi" > "$room/facts"
 refuse facts "$room/facts" /dev/null facts "$root/examples/signed.efi"
+printf '33221100554477668899aabbccddeeff300000000000000014000000' > "$room/hex"
+printf '33221100554477668899aabbccddeeff01020304' >> "$room/hex"
+xxd -r -p "$room/hex" > "$room/list"
+printf '0 00112233-4455-6677-8899-aabbccddeeff 1\n' > "$room/lines"
+refuse list "$room/lines" /dev/null list "$room/list"

@@ -1,3 +1,4 @@
+pub mod BodyLemmas
 pub mod CarriedLemmas
 pub mod HashingLemmas
 pub mod OutcomeLemmas

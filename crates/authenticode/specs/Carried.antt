@@ -5,7 +5,6 @@ use Rattle.sha2.specs.Sha256.{sha256}
 use Rattle.authenticode.specs.Certificates.{IsBodyOf}
 use Rattle.authenticode.specs.Steps.{Walks}
 use Rattle.authenticode.specs.Table.{body_at, has_no_entry, is_end, next_at, signed_data, type_at}
-use Rattle.authenticode.specs.declared.carrying.TheConstants.{MOST_CERTIFICATES}
 use Rattle.authenticode.specs.declared.fault.CarriedFault.{CarriedFault}
 use Rattle.authenticode.specs.declared.fault.CarriedFault.TheVariants as fault
 
@@ -46,15 +45,19 @@ pub record Carries (table : List ℕ) (digests : List (List ℕ)) : Type 0 where
   pub walked : IsWalked table tbs
   pub arranged : IsArranged (map sha256 tbs) digests
 
+-- own: the most different certificates of an image
+abbrev pub most_certificates : ℕ
+most_certificates = 64
+
 -- the same within the limit
 abbrev pub IsCarried : List ℕ → List (List ℕ) → Type 0
-IsCarried table digests = Carries table digests × (length digests ≤ MOST_CERTIFICATES)
+IsCarried table digests = Carries table digests × (length digests ≤ most_certificates)
 
 -- own: the table carries more than the limit, and has no other fault
 pub record PassesLimit (table : List ℕ) : Type 0 where
   pub digests : List (List ℕ)
   pub carries : Carries table digests
-  pub many : MOST_CERTIFICATES < length digests
+  pub many : most_certificates < length digests
 
 -- the walk over a table comes to bytes that aren't its end, and are refused for this
 pub record MeetsFault (table : List ℕ) (fault : CarriedFault) : Type 0 where

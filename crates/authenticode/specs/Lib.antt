@@ -1,3 +1,4 @@
+pub mod Bodies
 pub mod Carried
 pub mod Certificates
 pub mod Faults

@@ -13,7 +13,7 @@ mod walk;
 pub use carrying::carried;
 pub use fault::CarriedFault;
 pub use hashing::{ImageDigests, digest, digests, file_digest, signing_digest};
-pub use laws::{carried_is_not_refused, carried_is_one, fault_is_one, padding_is_fewest};
-
-#[cfg(test)]
-mod tests;
+pub use laws::{
+    carried_is_not_refused, carried_is_one, certificates_are_nested, fault_is_one,
+    padding_is_fewest,
+};

@@ -1,19 +1,14 @@
 //! The Secure Boot signing and revocation desk.
 #![tactic(auto)]
 
-mod command;
 mod fault;
 mod file;
-mod line;
-mod listing;
-mod printing;
-mod reading;
 mod run;
 
 use desk_bytes::Refusal;
-use fault::{Fault, Stop};
-use line::WordsFault;
-use reading::words;
+use desk_lines::Fault;
+use desk_words::{WordsFault, words};
+use fault::Stop;
 use run::{MISUSED, run, stop};
 use std::process::ExitCode;
 use std::rt::Env;
@@ -56,6 +51,3 @@ fn main(rt: HostRuntime) -> ExitCode {
         }
     }
 }
-
-#[cfg(test)]
-mod tests;

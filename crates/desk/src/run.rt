@@ -1,12 +1,10 @@
 //! From what the words say to the work.
-use crate::fault::{Fault, Stop};
+use crate::fault::Stop;
 use crate::file::read_file;
-use crate::line::Words;
-use crate::listing::{print_facts, print_list, print_ranges};
-use crate::printing::print_fault;
 use desk_bytes::{Guid, Refusal, WriteFailed};
+use desk_lines::{Fault, print_facts, print_fault, print_list, print_ranges};
 use desk_service::facts;
-use desk_texts::Facts;
+use desk_words::Words;
 use pe_image::Bytes;
 use siglist::pack;
 use std::alloc::Global;
@@ -47,11 +45,6 @@ fn run_pack(rt: &HostRuntime, owner: &str) -> Result<(), Stop> {
     Ok(())
 }
 
-/// What the desk keeps of an image.
-pub fn facts_of(alloc: Global, bytes: &[u8]) -> Result<Facts, Fault> {
-    Ok(facts(alloc, &mut Bytes(bytes))?)
-}
-
 /// Prints the ranges of an image's file.
 fn run_ranges(rt: &HostRuntime, file: &str) -> Result<(), Stop> {
     let bytes = read_file(rt, file)?;
@@ -64,7 +57,7 @@ fn run_ranges(rt: &HostRuntime, file: &str) -> Result<(), Stop> {
 /// Prints what the desk keeps of an image's file.
 fn run_facts(rt: &HostRuntime, file: &str) -> Result<(), Stop> {
     let bytes = read_file(rt, file)?;
-    let found = facts_of(rt.alloc(), &bytes)?;
+    let found = facts(rt.alloc(), &mut Bytes(&bytes)).map_err(Fault::from)?;
     let mut out = buffered(rt.alloc(), rt.stdout())?;
     print_facts(&found, &mut out).map_err(Fault::from)?;
     flush(&mut out)?;

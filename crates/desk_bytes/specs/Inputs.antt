@@ -6,5 +6,6 @@ use Rattle.desk_bytes.specs.declared.refusal.Refusal.TheVariants as refusal
 
 -- its row in the table of refusals
 abbrev pub refusal_of : InputFault → Refusal
+refusal_of fault.TooLong = refusal.TooLong
 refusal_of fault.Read = refusal.Read
 refusal_of fault.NoMemory = refusal.NoMemory

@@ -1,5 +1,5 @@
 -- The numbers and names of refusals.
-use Rattle.std.specs.Prelude.{ℕ, List, codes}
+use Rattle.std.specs.Prelude.{ℕ, Bool, false, true, List, codes}
 use Rattle.desk_bytes.specs.declared.refusal.Refusal.{Refusal}
 use Rattle.desk_bytes.specs.declared.refusal.Refusal.TheVariants as refusal
 
@@ -110,3 +110,57 @@ name_of refusal.BadMethod = codes "BadMethod"
 name_of refusal.LengthNeeded = codes "LengthNeeded"
 name_of refusal.TooLarge = codes "TooLarge"
 name_of refusal.NotSupported = codes "NotSupported"
+
+-- own: a device failed, where the others refuse the input
+abbrev pub is_device : Refusal → Bool
+is_device refusal.Short = false
+is_device refusal.NoMz = false
+is_device refusal.NoPe = false
+is_device refusal.Magic = false
+is_device refusal.NotEfi = false
+is_device refusal.Headers = false
+is_device refusal.Sections = false
+is_device refusal.Overlap = false
+is_device refusal.Table = false
+is_device refusal.Der = false
+is_device refusal.TwoSbat = false
+is_device refusal.SbatRow = false
+is_device refusal.TooLong = false
+is_device refusal.Read = true
+is_device refusal.List = false
+is_device refusal.EntrySize = false
+is_device refusal.Write = true
+is_device refusal.Line = false
+is_device refusal.CsvRow = false
+is_device refusal.UnknownCaller = false
+is_device refusal.NotYourRole = false
+is_device refusal.KeyReused = false
+is_device refusal.NoSuchRequest = false
+is_device refusal.WrongState = false
+is_device refusal.OwnRequest = false
+is_device refusal.AlreadyReviewed = false
+is_device refusal.DigestDiffers = false
+is_device refusal.Revoked = false
+is_device refusal.NotListed = false
+is_device refusal.AlreadyRevoked = false
+is_device refusal.NotHigher = false
+is_device refusal.StampNotLater = false
+is_device refusal.AlreadyListed = false
+is_device refusal.NotThere = false
+is_device refusal.NameTaken = false
+is_device refusal.Full = false
+is_device refusal.NoMemory = true
+is_device refusal.Store = true
+is_device refusal.Reopen = true
+is_device refusal.NotADesk = false
+is_device refusal.Version = false
+is_device refusal.File = true
+is_device refusal.Exists = false
+is_device refusal.BadHead = false
+is_device refusal.BadField = false
+is_device refusal.BadBody = false
+is_device refusal.NoRoute = false
+is_device refusal.BadMethod = false
+is_device refusal.LengthNeeded = false
+is_device refusal.TooLarge = false
+is_device refusal.NotSupported = false

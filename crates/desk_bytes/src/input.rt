@@ -1,5 +1,5 @@
-//! Input read to its end, or to a limit.
-ghost use Rattle.std.specs.Prelude.{◌≡◌, ◌<◌, ◌≤◌, IfOk, length};
+//! Input read to its end, up to a limit.
+ghost use Rattle.std.specs.Prelude.{◌≡◌, ◌<◌, ◌≤◌, ◌^◌, ◌-◌, IfOk, IfSome, IsErrOf, length};
 ghost use Rattle.std.specs.Io.KnownBytes.{Consumes, IsAtEnd};
 ghost use Rattle.desk_bytes.specs.Inputs.{refusal_of};
 
@@ -11,6 +11,9 @@ use thiserror::Error;
 /// Why an input was not read.
 #[derive(Clone, Copy, Debug, PartialEq, Eq, Error)]
 pub enum InputFault {
+    /// More bytes came than the limit.
+    #[error("the input passes its limit")]
+    TooLong,
     /// The reader failed or was interrupted.
     #[error("a read failed")]
     Read,
@@ -25,6 +28,7 @@ impl InputFault {
         ensures { result ≡ refusal_of self }
     {
         match self {
+            InputFault::TooLong => Refusal::TooLong,
             InputFault::Read => Refusal::Read,
             InputFault::NoMemory => Refusal::NoMemory,
         }
@@ -34,18 +38,14 @@ impl InputFault {
 /// How many bytes are asked for at a time.
 const PIECE: usize = 65_536;
 
-/// Reads until there are `most` bytes or the input ends. An interrupted read is a fault: none is tried
-/// again. Takes memory for what it reads.
-pub fn read_up_to<R: Read>(
-    alloc: Global,
-    reader: &mut R,
-    most: usize,
-) -> Result<Vec<u8>, InputFault>
+/// Reads until there are `most` bytes or the input ends.
+fn read_up_to<R: Read>(alloc: Global, reader: &mut R, most: usize) -> Result<Vec<u8>, InputFault>
     ensures ok { IfOk result (λ bytes.
         Consumes (R.remaining reader.old) (R.remaining reader.new) bytes.items) }
     ensures bound { IfOk result (λ bytes. length bytes.items ≤ most) }
     ensures end { IfOk result (λ bytes. length bytes.items < most
         → IsAtEnd (R.remaining reader.new)) }
+    ensures short { IsErrOf result InputFault.TooLong → ⊥ }
 {
     let mut bytes = Vec::new(alloc);
     let mut piece = [0; PIECE];
@@ -60,6 +60,24 @@ pub fn read_up_to<R: Read>(
                 }
             }
         }
+    }
+    Ok(bytes)
+}
+
+/// Reads an input to its end. TooLong where it has more than `most` bytes: one more than these is read at most.
+/// An interrupted read is a fault: none is tried again. Takes memory for what it reads.
+pub fn read_all<R: Read>(alloc: Global, reader: &mut R, most: usize) -> Result<Vec<u8>, InputFault>
+    requires { most < 2 ^ 64 - 1 }
+    ensures whole { IfOk result (λ bytes.
+        IfSome (R.remaining reader.old) (λ given. bytes.items ≡ given)) }
+    ensures bound { IfOk result (λ bytes. length bytes.items ≤ most) }
+
+    ensures long { IsErrOf result InputFault.TooLong
+        → IfSome (R.remaining reader.old) (λ given. most < length given) }
+{
+    let bytes = read_up_to(alloc, reader, most + 1)?;
+    if bytes.len() > most {
+        return Err(InputFault::TooLong);
     }
     Ok(bytes)
 }

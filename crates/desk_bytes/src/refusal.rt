@@ -1,6 +1,6 @@
 //! The one table of refusals.
 ghost use Rattle.std.specs.Prelude.{◌≡◌, Some};
-ghost use Rattle.desk_bytes.specs.Refusals.{name_of, number_of};
+ghost use Rattle.desk_bytes.specs.Refusals.{is_device, name_of, number_of};
 ghost use Rattle.desk_bytes.specs.declared.refusal.Refusal.TheVariants.{NoMemory};
 
 use std::alloc::AllocError;
@@ -241,6 +241,65 @@ impl Refusal {
             Refusal::LengthNeeded => "LengthNeeded",
             Refusal::TooLarge => "TooLarge",
             Refusal::NotSupported => "NotSupported",
+        }
+    }
+
+    /// Whether a device failed: a read, a write, memory or the desk's file. Otherwise the input was refused.
+    pub fn is_device(self) -> bool
+        ensures { result ≡ is_device self }
+    {
+        match self {
+            Refusal::Read
+            | Refusal::Write
+            | Refusal::NoMemory
+            | Refusal::Store
+            | Refusal::Reopen
+            | Refusal::File => true,
+            Refusal::Short
+            | Refusal::NoMz
+            | Refusal::NoPe
+            | Refusal::Magic
+            | Refusal::NotEfi
+            | Refusal::Headers
+            | Refusal::Sections
+            | Refusal::Overlap
+            | Refusal::Table
+            | Refusal::Der
+            | Refusal::TwoSbat
+            | Refusal::SbatRow
+            | Refusal::TooLong
+            | Refusal::List
+            | Refusal::EntrySize
+            | Refusal::Line
+            | Refusal::CsvRow
+            | Refusal::UnknownCaller
+            | Refusal::NotYourRole
+            | Refusal::KeyReused
+            | Refusal::NoSuchRequest
+            | Refusal::WrongState
+            | Refusal::OwnRequest
+            | Refusal::AlreadyReviewed
+            | Refusal::DigestDiffers
+            | Refusal::Revoked
+            | Refusal::NotListed
+            | Refusal::AlreadyRevoked
+            | Refusal::NotHigher
+            | Refusal::StampNotLater
+            | Refusal::AlreadyListed
+            | Refusal::NotThere
+            | Refusal::NameTaken
+            | Refusal::Full
+            | Refusal::NotADesk
+            | Refusal::Version
+            | Refusal::Exists
+            | Refusal::BadHead
+            | Refusal::BadField
+            | Refusal::BadBody
+            | Refusal::NoRoute
+            | Refusal::BadMethod
+            | Refusal::LengthNeeded
+            | Refusal::TooLarge
+            | Refusal::NotSupported => false,
         }
     }
 }

@@ -7,6 +7,3 @@ mod part;
 
 pub use collecting::facts;
 pub use fault::FactsFault;
-
-#[cfg(test)]
-mod tests;

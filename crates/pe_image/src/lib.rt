@@ -26,6 +26,3 @@ pub use places::{Layout, gap, sbat_range, table};
 pub use reading::layout;
 pub use source::{Bytes, ReadFailed, Source};
 pub use span_list::Ranges;
-
-#[cfg(test)]
-mod tests;

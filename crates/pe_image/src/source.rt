@@ -33,6 +33,7 @@ pub trait Source {
             ≡ slice_range (content self.old) at (at + length out.old)) }
 
         ensures device { OnErr result (HaveRisen (failures self.old) (failures self.new)) }
+        ensures steady { OnOk result (failures self.new ≡ failures self.old) }
 
         ensures kept { failures self.old ≤ failures self.new }
         ensures same { content self.new ≡ content self.old };
@@ -61,6 +62,7 @@ impl Source for Bytes<'_> {
         ensures ok { OnOk result (out.new ≡ slice_range self.old.0.now at (at + length out.old)) }
 
         ensures device { OnErr result (HaveRisen 0 0) }
+        ensures steady { OnOk result (◌≡◌ {A = ℕ} 0 0) }
 
         ensures kept { 0 ≤ 0 }
         ensures same { self.new.0.now ≡ self.old.0.now }

@@ -8,7 +8,7 @@ use Rattle.desk_bytes.specs.Lines.{Numbered}
 use Rattle.sbat.specs.Levels.{Generations, Stamped, level_row, raised, with_rows}
 use Rattle.sbat.specs.Refusals.{PassesNames}
 use Rattle.sbat.specs.Rows.{Row, put_first, row_at, rows_in}
-use Rattle.sbat.specs.declared.level_reading.TheConstants.{MOST_NAMES}
+use Rattle.sbat.specs.Refusals.{most_names}
 use Rattle.sbat.proofs.GenerationLemmas.{len-raised-le, raised_all, raised_all-empty}
 
 -- generations, and the rows that were read after them
@@ -25,7 +25,7 @@ pub record Raising (kept : Stamped) (stamp : ℕ) (lines all : List Numbered) : 
   pub full : Generations
   pub same : joined full (rows_in level_row lines) ≡ joined empty (rows_in level_row all)
   pub stamped : kept.stamp ≡ stamp
-  pub first : (kept.generations ≡ full) ⊎ ((MOST_NAMES < len kept.generations) × (MOST_NAMES < len full))
+  pub first : (kept.generations ≡ full) ⊎ ((most_names < len kept.generations) × (most_names < len full))
 
 pub Raising-begins : (new : Stamped) (stamp : ℕ) (lines all : List Numbered) → new ≡ record { stamp = stamp; generations = empty } → lines ≡ all → Raising new stamp lines all
 Raising-begins new stamp lines all is whole = record {
@@ -42,7 +42,7 @@ next_row m l lines ls r h e =
     ∙ sym (joined-more m r (rows_in level_row ls))
 
 -- one more row, which was raised where there was room
-raised_row : (kept : Stamped) (stamp : ℕ) (l : Numbered) (lines ls all : List Numbered) (r : Row) → Raising kept stamp lines all → lines ≡ l ∷ ls → level_row l.text ≡ Some r → len kept.generations ≤ MOST_NAMES → Raising (record kept { generations = raised kept.generations r }) stamp ls all
+raised_row : (kept : Stamped) (stamp : ℕ) (l : Numbered) (lines ls all : List Numbered) (r : Row) → Raising kept stamp lines all → lines ≡ l ∷ ls → level_row l.text ≡ Some r → len kept.generations ≤ most_names → Raising (record kept { generations = raised kept.generations r }) stamp ls all
 raised_row kept stamp l lines ls all r h goes e room = record {
   full = raised h.full r;
   same = sym (next_row h.full l lines ls r goes e) ∙ h.same;
@@ -50,7 +50,7 @@ raised_row kept stamp l lines ls all r h goes e room = record {
   first = ⊎_elim (λ same. inl (ap (λ m. raised m r) same)) (λ past. absurd (omega (arith, past.0))) h.first;
 }
 
-passed_row : (kept : Stamped) (stamp : ℕ) (l : Numbered) (lines ls all : List Numbered) (r : Row) → Raising kept stamp lines all → lines ≡ l ∷ ls → level_row l.text ≡ Some r → MOST_NAMES < len kept.generations → Raising kept stamp ls all
+passed_row : (kept : Stamped) (stamp : ℕ) (l : Numbered) (lines ls all : List Numbered) (r : Row) → Raising kept stamp lines all → lines ≡ l ∷ ls → level_row l.text ≡ Some r → most_names < len kept.generations → Raising kept stamp ls all
 passed_row kept stamp l lines ls all r h goes e full = record {
   full = raised h.full r;
   same = sym (next_row h.full l lines ls r goes e) ∙ h.same;
@@ -58,12 +58,12 @@ passed_row kept stamp l lines ls all r h goes e full = record {
   first = inr (full, ⊎_elim (λ same. omega (arith, len-raised-le h.full r, ap len same)) (λ past. omega (arith, len-raised-le h.full r, past.1)) h.first);
 }
 
-next_raised : (b : Bool) (kept new : Stamped) (stamp : ℕ) (l : Numbered) (lines ls all : List Numbered) (r : Row) → leb (len kept.generations) MOST_NAMES ≡ b → new ≡ cond b (record kept { generations = raised kept.generations r }) kept → Raising kept stamp lines all → lines ≡ l ∷ ls → level_row l.text ≡ Some r → Raising new stamp ls all
+next_raised : (b : Bool) (kept new : Stamped) (stamp : ℕ) (l : Numbered) (lines ls all : List Numbered) (r : Row) → leb (len kept.generations) most_names ≡ b → new ≡ cond b (record kept { generations = raised kept.generations r }) kept → Raising kept stamp lines all → lines ≡ l ∷ ls → level_row l.text ≡ Some r → Raising new stamp ls all
 next_raised true kept new stamp l lines ls all r room is h goes e = subst (λ k. Raising k stamp ls all) (sym is) (raised_row kept stamp l lines ls all r h goes e (grind (arith, nat_tests, room)))
 next_raised false kept new stamp l lines ls all r room is h goes e = subst (λ k. Raising k stamp ls all) (sym is) (passed_row kept stamp l lines ls all r h goes e (grind (arith, nat_tests, room)))
 
-pub Raising-next : (kept new : Stamped) (stamp : ℕ) (l : Numbered) (lines ls all : List Numbered) (r : Row) → new ≡ cond (leb (len kept.generations) MOST_NAMES) (record kept { generations = raised kept.generations r }) kept → Raising kept stamp lines all → lines ≡ l ∷ ls → level_row l.text ≡ Some r → Raising new stamp ls all
-Raising-next kept new stamp l lines ls all r = next_raised (leb (len kept.generations) MOST_NAMES) kept new stamp l lines ls all r refl
+pub Raising-next : (kept new : Stamped) (stamp : ℕ) (l : Numbered) (lines ls all : List Numbered) (r : Row) → new ≡ cond (leb (len kept.generations) most_names) (record kept { generations = raised kept.generations r }) kept → Raising kept stamp lines all → lines ≡ l ∷ ls → level_row l.text ≡ Some r → Raising new stamp ls all
+Raising-next kept new stamp l lines ls all r = next_raised (leb (len kept.generations) most_names) kept new stamp l lines ls all r refl
 
 -- no line is left
 same_generations : (m n : Generations) → ◌≡◌ {A = Result Generations ℕ} (Ok m) (Ok n) → m ≡ n
@@ -78,16 +78,16 @@ all_raised : (kept : Stamped) (stamp : ℕ) (lines all : List Numbered) (h : Rai
 all_raised kept stamp lines all h e =
     with_all stamp h.full (rows_in level_row all) (sym (ap (λ x. joined h.full (rows_in level_row x)) e) ∙ h.same)
 
-pub Raising-ends : (kept : Stamped) (stamp : ℕ) (lines all : List Numbered) → Raising kept stamp lines all → lines ≡ [] → len kept.generations ≤ MOST_NAMES → with_rows stamp (rows_in level_row all) ≡ Ok kept
+pub Raising-ends : (kept : Stamped) (stamp : ℕ) (lines all : List Numbered) → Raising kept stamp lines all → lines ≡ [] → len kept.generations ≤ most_names → with_rows stamp (rows_in level_row all) ≡ Ok kept
 Raising-ends kept stamp lines all h e room =
     let full : h.full ≡ kept.generations = ⊎_elim (λ same. sym same) (λ past. absurd (omega (arith, past.0))) h.first in
     all_raised kept stamp lines all h e
     ∙ ap (λ s. Ok (record { stamp = s; generations = h.full })) (sym h.stamped)
     ∙ ap (λ m. Ok (record { stamp = kept.stamp; generations = m })) full
 
-pub Raising-long : (kept : Stamped) (stamp : ℕ) (lines all : List Numbered) → Raising kept stamp lines all → lines ≡ [] → MOST_NAMES < len kept.generations → IsOkAnd (with_rows stamp (rows_in level_row all)) PassesNames
+pub Raising-long : (kept : Stamped) (stamp : ℕ) (lines all : List Numbered) → Raising kept stamp lines all → lines ≡ [] → most_names < len kept.generations → IsOkAnd (with_rows stamp (rows_in level_row all)) PassesNames
 Raising-long kept stamp lines all h e long =
-    let many : MOST_NAMES < len h.full = ⊎_elim (λ same. omega (arith, ap len same)) (λ past. past.1) h.first in
+    let many : most_names < len h.full = ⊎_elim (λ same. omega (arith, ap len same)) (λ past. past.1) h.first in
     subst (λ r. IsOkAnd r PassesNames) (sym (all_raised kept stamp lines all h e)) many
 
 -- the first line that is no row

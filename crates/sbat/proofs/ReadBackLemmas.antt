@@ -21,7 +21,7 @@ use Rattle.sbat.specs.Refusals.{IsLevelOf}
 use Rattle.sbat.specs.Rows.{rows_in}
 use Rattle.sbat.specs.Texts.{before_zero, rows_of, without_mark}
 use Rattle.sbat.specs.Writing.{head_text, level_text, row_text, rows_text}
-use Rattle.sbat.specs.declared.level_reading.TheConstants.{MOST_NAMES}
+use Rattle.sbat.specs.Refusals.{most_names}
 use Rattle.sbat.proofs.DigitLemmas.{both_parts, digits-decimal, first_part, second_part, stamp_of-decimal}
 use Rattle.sbat.proofs.GenerationLemmas.{names_differ, ties, ties_are_one}
 use Rattle.sbat.proofs.TextLemmas.{AreRight, IsGraphic, IsRight, fields_of-digits, graphic_both, graphic_digits, graphic_line, graphic_line_text, line_text, numbered_line, row_with, rows_in-text}
@@ -149,7 +149,7 @@ is_other : (b : Bool) (m : Generations) (q : List ℕ) (n : ℕ) → ties q sbat
 is_other true m q n t none e = absurd (some_is_not_none n (get m q) (ap (get m) (ties_are_one q sbat t) ∙ none) e)
 is_other false m q n t none e = refl
 
-pub reads_back : (l : Stamped) → IsLevel l → len l.generations ≤ MOST_NAMES → IsLevelOf (level_text l) l
+pub reads_back : (l : Stamped) → IsLevel l → len l.generations ≤ most_names → IsLevelOf (level_text l) l
 reads_back l h few =
     let es = entries l.generations in
     let sorted = entries_sorted l.generations in

@@ -5,7 +5,7 @@ use Rattle.std.proofs.lemmas.List.{take_all, take-append-le, append-nil}
 use Rattle.std.specs.Result.{IsOkAnd}
 use Rattle.desk_bytes.specs.Lines.{Numbered}
 use Rattle.sbat.specs.Rows.{Row, image_row, put_first, row_at, rows_in}
-use Rattle.sbat.specs.declared.image.TheConstants.{MOST_COMPONENTS}
+use Rattle.sbat.specs.Refusals.{most_components}
 
 -- rows in front of what was read
 abbrev pub put_before : List Row → Result (List Row) ℕ → Result (List Row) ℕ
@@ -20,7 +20,7 @@ put_before-more full r (Err line) = refl
 pub record Reading (kept : List Row) (lines all : List Numbered) : Type 0 where
   pub full : List Row
   pub same : put_before full (rows_in image_row lines) ≡ rows_in image_row all
-  pub first : kept ≡ take (MOST_COMPONENTS + 1) full
+  pub first : kept ≡ take (most_components + 1) full
 
 begins : (read : Result (List Row) ℕ) → put_before [] read ≡ read
 begins (Ok rows) = refl
@@ -36,33 +36,33 @@ next_row full l lines ls r h e =
     ∙ ap (λ x. put_before full (row_at l.number x (rows_in image_row ls))) e
     ∙ sym (put_before-more full r (rows_in image_row ls))
 
-Reading-kept : (kept : List Row) (l : Numbered) (lines ls all : List Numbered) (r : Row) → Reading kept lines all → lines ≡ l ∷ ls → image_row l.text ≡ Some r → length kept ≤ MOST_COMPONENTS → Reading (kept ++ r ∷ []) ls all
+Reading-kept : (kept : List Row) (l : Numbered) (lines ls all : List Numbered) (r : Row) → Reading kept lines all → lines ≡ l ∷ ls → image_row l.text ≡ Some r → length kept ≤ most_components → Reading (kept ++ r ∷ []) ls all
 Reading-kept kept l lines ls all r h is e room =
-    let few : length h.full ≤ MOST_COMPONENTS = omega (arith, ap length h.first, length-take (MOST_COMPONENTS + 1) h.full) in
-    let whole : take (MOST_COMPONENTS + 1) h.full ≡ h.full = take_all (MOST_COMPONENTS + 1) h.full (omega arith) in
-    let more : take (MOST_COMPONENTS + 1) (h.full ++ r ∷ []) ≡ h.full ++ r ∷ [] = take_all (MOST_COMPONENTS + 1) (h.full ++ r ∷ []) (omega (arith, length-append h.full (r ∷ []))) in
+    let few : length h.full ≤ most_components = omega (arith, ap length h.first, length-take (most_components + 1) h.full) in
+    let whole : take (most_components + 1) h.full ≡ h.full = take_all (most_components + 1) h.full (omega arith) in
+    let more : take (most_components + 1) (h.full ++ r ∷ []) ≡ h.full ++ r ∷ [] = take_all (most_components + 1) (h.full ++ r ∷ []) (omega (arith, length-append h.full (r ∷ []))) in
     record {
       full = h.full ++ r ∷ [];
       same = sym (next_row h.full l lines ls r is e) ∙ h.same;
       first = ap (λ k. k ++ r ∷ []) (h.first ∙ whole) ∙ sym more;
     }
 
-Reading-passed : (kept : List Row) (l : Numbered) (lines ls all : List Numbered) (r : Row) → Reading kept lines all → lines ≡ l ∷ ls → image_row l.text ≡ Some r → MOST_COMPONENTS < length kept → Reading kept ls all
+Reading-passed : (kept : List Row) (l : Numbered) (lines ls all : List Numbered) (r : Row) → Reading kept lines all → lines ≡ l ∷ ls → image_row l.text ≡ Some r → most_components < length kept → Reading kept ls all
 Reading-passed kept l lines ls all r h is e full =
-    let many : MOST_COMPONENTS + 1 ≤ length h.full = omega (arith, ap length h.first, length-take (MOST_COMPONENTS + 1) h.full) in
+    let many : most_components + 1 ≤ length h.full = omega (arith, ap length h.first, length-take (most_components + 1) h.full) in
     record {
       full = h.full ++ r ∷ [];
       same = sym (next_row h.full l lines ls r is e) ∙ h.same;
-      first = h.first ∙ sym (take-append-le (MOST_COMPONENTS + 1) h.full (r ∷ []) many);
+      first = h.first ∙ sym (take-append-le (most_components + 1) h.full (r ∷ []) many);
     }
 
 -- one more row, kept where there is room
-next_kept : (b : Bool) (kept new : List Row) (l : Numbered) (lines ls all : List Numbered) (r : Row) → leb (length kept) MOST_COMPONENTS ≡ b → new ≡ cond b (kept ++ r ∷ []) kept → Reading kept lines all → lines ≡ l ∷ ls → image_row l.text ≡ Some r → Reading new ls all
+next_kept : (b : Bool) (kept new : List Row) (l : Numbered) (lines ls all : List Numbered) (r : Row) → leb (length kept) most_components ≡ b → new ≡ cond b (kept ++ r ∷ []) kept → Reading kept lines all → lines ≡ l ∷ ls → image_row l.text ≡ Some r → Reading new ls all
 next_kept true kept new l lines ls all r room is h goes e = subst (λ k. Reading k ls all) (sym is) (Reading-kept kept l lines ls all r h goes e (grind (arith, nat_tests, room)))
 next_kept false kept new l lines ls all r room is h goes e = subst (λ k. Reading k ls all) (sym is) (Reading-passed kept l lines ls all r h goes e (grind (arith, nat_tests, room)))
 
-pub Reading-next : (kept new : List Row) (l : Numbered) (lines ls all : List Numbered) (r : Row) → new ≡ cond (leb (length kept) MOST_COMPONENTS) (kept ++ r ∷ []) kept → Reading kept lines all → lines ≡ l ∷ ls → image_row l.text ≡ Some r → Reading new ls all
-Reading-next kept new l lines ls all r = next_kept (leb (length kept) MOST_COMPONENTS) kept new l lines ls all r refl
+pub Reading-next : (kept new : List Row) (l : Numbered) (lines ls all : List Numbered) (r : Row) → new ≡ cond (leb (length kept) most_components) (kept ++ r ∷ []) kept → Reading kept lines all → lines ≡ l ∷ ls → image_row l.text ≡ Some r → Reading new ls all
+Reading-next kept new l lines ls all r = next_kept (leb (length kept) most_components) kept new l lines ls all r refl
 
 -- the first line that is no row
 pub Reading-wrong : (kept : List Row) (l : Numbered) (lines ls all : List Numbered) → Reading kept lines all → lines ≡ l ∷ ls → image_row l.text ≡ None → rows_in image_row all ≡ Err l.number
@@ -76,13 +76,13 @@ Reading-all : (kept : List Row) (lines all : List Numbered) (h : Reading kept li
 Reading-all kept lines all h e =
     sym h.same ∙ ap (λ x. put_before h.full (rows_in image_row x)) e ∙ ap Ok (append-nil h.full)
 
-pub Reading-ends : (kept : List Row) (lines all : List Numbered) → Reading kept lines all → lines ≡ [] → length kept ≤ MOST_COMPONENTS → rows_in image_row all ≡ Ok kept
+pub Reading-ends : (kept : List Row) (lines all : List Numbered) → Reading kept lines all → lines ≡ [] → length kept ≤ most_components → rows_in image_row all ≡ Ok kept
 Reading-ends kept lines all h e room =
-    let whole : take (MOST_COMPONENTS + 1) h.full ≡ h.full = take_all (MOST_COMPONENTS + 1) h.full (omega (arith, ap length h.first, length-take (MOST_COMPONENTS + 1) h.full)) in
+    let whole : take (most_components + 1) h.full ≡ h.full = take_all (most_components + 1) h.full (omega (arith, ap length h.first, length-take (most_components + 1) h.full)) in
     Reading-all kept lines all h e ∙ ap Ok (sym (h.first ∙ whole))
 
 -- no line is left, and more rows are kept than the limit
-pub Reading-long : (kept : List Row) (lines all : List Numbered) → Reading kept lines all → lines ≡ [] → MOST_COMPONENTS < length kept → IsOkAnd (rows_in image_row all) (λ rows. MOST_COMPONENTS < length rows)
+pub Reading-long : (kept : List Row) (lines all : List Numbered) → Reading kept lines all → lines ≡ [] → most_components < length kept → IsOkAnd (rows_in image_row all) (λ rows. most_components < length rows)
 Reading-long kept lines all h e long =
-    let many : MOST_COMPONENTS < length h.full = omega (arith, ap length h.first, length-take (MOST_COMPONENTS + 1) h.full) in
-    subst (λ r. IsOkAnd r (λ rows. MOST_COMPONENTS < length rows)) (sym (Reading-all kept lines all h e)) many
+    let many : most_components < length h.full = omega (arith, ap length h.first, length-take (most_components + 1) h.full) in
+    subst (λ r. IsOkAnd r (λ rows. most_components < length rows)) (sym (Reading-all kept lines all h e)) many

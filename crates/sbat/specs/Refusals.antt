@@ -7,8 +7,14 @@ use Rattle.sbat.specs.Levels.{Stamped, level_of}
 use Rattle.sbat.specs.Rows.{Row, components_of}
 use Rattle.sbat.specs.declared.fault.SbatFault.{SbatFault}
 use Rattle.sbat.specs.declared.fault.SbatFault.TheVariants as fault
-use Rattle.sbat.specs.declared.image.TheConstants.{MOST_COMPONENTS}
-use Rattle.sbat.specs.declared.level_reading.TheConstants.{MOST_NAMES}
+
+-- own: the most components of an image
+abbrev pub most_components : ℕ
+most_components = 256
+
+-- own: the most names of a level
+abbrev pub most_names : ℕ
+most_names = 10000
 
 -- its row in the table of refusals
 abbrev pub refusal_of : SbatFault → Refusal
@@ -31,19 +37,19 @@ IsRefused read TooMany fault.NoMemory = ⊤
 
 -- the text's lines are all right, and these are its components, within the limit
 abbrev pub IsComponents : List ℕ → List Row → Type 0
-IsComponents text rows = (components_of text ≡ Ok rows) × (length rows ≤ MOST_COMPONENTS)
+IsComponents text rows = (components_of text ≡ Ok rows) × (length rows ≤ most_components)
 
 -- own: the text is refused for this; TooLong only where its lines are all right
 abbrev pub RefusesComponents : List ℕ → SbatFault → Type 0
-RefusesComponents text = IsRefused (components_of text) (λ rows. MOST_COMPONENTS < length rows)
+RefusesComponents text = IsRefused (components_of text) (λ rows. most_components < length rows)
 
 -- own: the level has more names than the limit
 abbrev pub PassesNames : Stamped → Type 0
-PassesNames level = MOST_NAMES < len level.generations
+PassesNames level = most_names < len level.generations
 
 -- this level was read, and is within the limit
 abbrev pub IsRead : Result Stamped ℕ → Stamped → Type 0
-IsRead read level = (read ≡ Ok level) × (len level.generations ≤ MOST_NAMES)
+IsRead read level = (read ≡ Ok level) × (len level.generations ≤ most_names)
 
 -- the text's lines are all right, and this is its level, within the limit
 abbrev pub IsLevelOf : List ℕ → Stamped → Type 0

@@ -1,6 +1,6 @@
 //! The components of an image.
 ghost use Rattle.std.specs.Prelude.{◌≡◌, ◌∷◌, ◌++◌, [], IfErr, IfOk, OnOk, if◌then◌else◌, length, nat_le};
-ghost use Rattle.sbat.specs.Refusals.{IsComponents, RefusesComponents};
+ghost use Rattle.sbat.specs.Refusals.{IsComponents, RefusesComponents, most_components};
 
 use crate::component::Component;
 use crate::fault::SbatFault;
@@ -14,7 +14,7 @@ pub const MOST_COMPONENTS: usize = 256;
 
 /// Adds a component where there are no more than the limit.
 fn keep(found: &mut Vec<Component>, component: Component) -> Result<(), AllocError>
-    ensures ok { OnOk result (found.new.items ≡ (if nat_le (length found.old.items) MOST_COMPONENTS
+    ensures ok { OnOk result (found.new.items ≡ (if nat_le (length found.old.items) most_components
         then found.old.items ++ component ∷ [] else found.old.items)) }
 {
     if found.len() <= MOST_COMPONENTS {

@@ -3,10 +3,9 @@ ghost use Rattle.std.specs.Prelude.{◌≤◌, ℕ, List};
 ghost use Rattle.std.specs.FinMap.{get, len};
 ghost use Rattle.sbat.specs.Greatest.{IsGreatest};
 ghost use Rattle.sbat.specs.Levels.{IsLevel, Stamped, generations_in};
-ghost use Rattle.sbat.specs.Refusals.{IsLevelOf};
+ghost use Rattle.sbat.specs.Refusals.{IsLevelOf, most_names};
 ghost use Rattle.sbat.specs.Rows.{Row};
 ghost use Rattle.sbat.specs.Writing.{level_text};
-ghost use Rattle.sbat.specs.declared.level_reading.TheConstants.{MOST_NAMES};
 
 /// Of the generations that rows give a name, the greatest counts.
 pub fn greatest_counts()
@@ -16,6 +15,6 @@ pub fn greatest_counts()
 
 /// The text of a level within the limit reads back as that level.
 pub fn level_reads_back()
-    ensures { (l : Stamped) → IsLevel l → len l.generations ≤ MOST_NAMES
+    ensures { (l : Stamped) → IsLevel l → len l.generations ≤ most_names
         → IsLevelOf (level_text l) l }
 {}

@@ -4,7 +4,7 @@ ghost use Rattle.std.specs.FinMap.{len};
 ghost use Rattle.std.specs.Str.{bytes_eq};
 ghost use Rattle.sbat.specs.Fields.{sbat};
 ghost use Rattle.sbat.specs.Levels.{level_row, raised, stamp_on, with_rows};
-ghost use Rattle.sbat.specs.Refusals.{IsLevelOf, IsRead, IsRefused, PassesNames, RefusesLevel};
+ghost use Rattle.sbat.specs.Refusals.{IsLevelOf, IsRead, IsRefused, PassesNames, RefusesLevel, most_names};
 ghost use Rattle.sbat.specs.Rows.{rows_in};
 
 use crate::component::Component;
@@ -38,7 +38,7 @@ fn read_stamp(line: &[u8]) -> Option<Stamp>
 /// Raises the level where it has no more names than the limit.
 fn raise_within(level: &mut Level, component: &Component) -> Result<(), AllocError>
     requires other { bytes_eq component.now.name sbat ≡ false }
-    ensures ok { OnOk result (level.new ≡ (if nat_le (len level.old.generations) MOST_NAMES
+    ensures ok { OnOk result (level.new ≡ (if nat_le (len level.old.generations) most_names
         then record level.old { generations = raised level.old.generations component.now }
         else level.old)) }
 {

@@ -27,6 +27,3 @@ pub use level_writing::write_level;
 pub use name::{ComponentName, NameFault};
 pub use stamp::Stamp;
 pub use text::rows;
-
-#[cfg(test)]
-mod tests;

@@ -7,7 +7,7 @@ use Rattle.desk_bytes.proofs.DigestLemmas.{digest_size}
 use Rattle.std.specs.Io.KnownBytes.{Appends}
 use Rattle.desk_bytes.specs.Output.{AppendsBeginning}
 use Rattle.siglist.specs.Packing.{IsPacked, IsPartlyPacked, Packs, digests_in, digest_at, packed, put_first}
-use Rattle.siglist.specs.declared.packing.TheConstants.{MOST_BYTES}
+use Rattle.siglist.specs.Packing.{longest_text}
 use Rattle.desk_bytes.proofs.OrderLemmas.{IsArranged-one}
 
 -- what was read already, and then the rest
@@ -75,7 +75,7 @@ Packs-one text ds es h k =
 
 -- what was read to the end, read as digests and arranged
 pub Packs-given : (given : Option (List ℕ)) (text part : List ℕ) (named ds : List (List ℕ)) → IfSome given (λ xs. text ≡ xs)
-    → length text ≤ MOST_BYTES → part ≡ text → digests_in (parted part) ≡ Ok named → IsArranged named ds → IfSome given (λ xs. Packs xs ds)
+    → length text ≤ longest_text → part ≡ text → digests_in (parted part) ≡ Ok named → IsArranged named ds → IfSome given (λ xs. Packs xs ds)
 Packs-given None text part named ds same fits whole read arranged = tt
 Packs-given (Some xs) text part named ds same fits whole read arranged =
     record { fits = rw (← same) fits; named = named; read = rw (← same, ← whole) read; arranged = arranged }

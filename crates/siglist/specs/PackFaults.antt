@@ -25,5 +25,6 @@ place_of fault.NoMemory = None
 
 -- what a fault of the input is to `pack`
 abbrev pub fault_of : InputFault → PackFault
+fault_of input.TooLong = fault.TooLong
 fault_of input.Read = fault.Read
 fault_of input.NoMemory = fault.NoMemory

@@ -6,7 +6,10 @@ use Rattle.desk_bytes.specs.Lines.{Numbered, parted}
 use Rattle.desk_bytes.specs.Output.{AppendsBeginning}
 use Rattle.siglist.specs.SignatureLists.{spelling}
 use Rattle.siglist.specs.Writing.{sha256_row}
-use Rattle.siglist.specs.declared.packing.TheConstants.{MOST_BYTES}
+
+-- own: the most bytes of a text
+abbrev pub longest_text : ℕ
+longest_text = 8388608
 
 -- one more in front of what was read, where that was no wrong line
 abbrev pub put_first : {X : Type 0} → X → Result (List X) ℕ → Result (List X) ℕ
@@ -25,7 +28,7 @@ digests_in (l ∷ ls) = digest_at l.number (digest_of l.text) (digests_in ls)
 
 -- the text is within the limit, and these are the digests of its lines, arranged
 pub record Packs (text : List ℕ) (ds : List (List ℕ)) : Type 0 where
-  pub fits : length text ≤ MOST_BYTES
+  pub fits : length text ≤ longest_text
   pub named : List (List ℕ)
   pub read : digests_in (parted text) ≡ Ok named
   pub arranged : IsArranged named ds
@@ -49,8 +52,8 @@ pub record IsPartlyPacked (owner text : List ℕ) (old new : Option (List ℕ)) 
 
 -- own: the text passes the limit
 abbrev pub IsTooLong : List ℕ → Type 0
-IsTooLong text = MOST_BYTES < length text
+IsTooLong text = longest_text < length text
 
 -- the text is within the limit, and this is the first line that names no digest
 abbrev pub HasWrongLine : List ℕ → ℕ → Type 0
-HasWrongLine text line = (length text ≤ MOST_BYTES) × (digests_in (parted text) ≡ Err line)
+HasWrongLine text line = (length text ≤ longest_text) × (digests_in (parted text) ≡ Err line)

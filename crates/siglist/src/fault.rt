@@ -31,6 +31,7 @@ impl From<InputFault> for PackFault {
 
     fn from(input: InputFault) -> PackFault {
         match input {
+            InputFault::TooLong => PackFault::TooLong,
             InputFault::Read => PackFault::Read,
             InputFault::NoMemory => PackFault::NoMemory,
         }

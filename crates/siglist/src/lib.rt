@@ -21,6 +21,3 @@ pub use packing::pack;
 pub use reading::lists;
 pub use row::Lists;
 pub use writing::{write_sha256, write_x509, write_x509_sha256};
-
-#[cfg(test)]
-mod tests;

@@ -2,11 +2,11 @@
 ghost use Rattle.std.specs.Prelude.{◌≡◌, ◌≤◌, ℕ, length, Ok, Err, IfErr, IfOk, IfSome, IsErrOf};
 ghost use Rattle.std.specs.Io.KnownBytes.{Keeps};
 ghost use Rattle.desk_bytes.specs.Lines.{parted};
-ghost use Rattle.siglist.specs.Packing.{HasWrongLine, IsPacked, IsPartlyPacked, IsTooLong, digests_in};
+ghost use Rattle.siglist.specs.Packing.{HasWrongLine, IsPacked, IsPartlyPacked, IsTooLong, digests_in, longest_text};
 
 use crate::fault::PackFault;
 use crate::writing::write_sha256;
-use desk_bytes::{Digest, Guid, arrange, parted, read_up_to};
+use desk_bytes::{Digest, Guid, arrange, parted, read_all};
 use std::alloc::Global;
 use std::io::{Read, Write};
 
@@ -17,17 +17,13 @@ pub const MOST_BYTES: usize = 8_388_608;
 fn read_text<R: Read>(alloc: Global, reader: &mut R) -> Result<Vec<u8>, PackFault>
     ensures whole { IfOk result (λ text.
         IfSome (R.remaining reader.old) (λ given. text.items ≡ given)) }
-    ensures bound { IfOk result (λ text. length text.items ≤ MOST_BYTES) }
+    ensures bound { IfOk result (λ text. length text.items ≤ longest_text) }
     ensures too_long { IsErrOf result PackFault.TooLong
         → IfSome (R.remaining reader.old) IsTooLong }
     ensures no_line { (line : ℕ) → IsErrOf result (PackFault.Line line) → ⊥ }
     ensures no_write { IsErrOf result PackFault.Write → ⊥ }
 {
-    let text = read_up_to(alloc, reader, MOST_BYTES + 1)?;
-    if text.len() > MOST_BYTES {
-        return Err(PackFault::TooLong);
-    }
-    Ok(text)
+    Ok(read_all(alloc, reader, MOST_BYTES)?)
 }
 
 /// The digests of a text's lines, in their order.
@@ -36,6 +32,7 @@ fn read_digests(alloc: Global, text: &[u8]) -> Result<Vec<Digest>, PackFault>
     ensures line { (line : ℕ) → IsErrOf result (PackFault.Line line)
         → digests_in (parted text.now) ≡ Err line }
     ensures short { IsErrOf result PackFault.TooLong → ⊥ }
+    ensures no_read { IsErrOf result PackFault.Read → ⊥ }
     ensures no_write { IsErrOf result PackFault.Write → ⊥ }
 {
     let mut digests = Vec::new(alloc);

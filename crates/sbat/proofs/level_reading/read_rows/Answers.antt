@@ -2,7 +2,7 @@ use Rattle.std.proofs.Common.{◌≤◌, arith, rules}
 use Rattle.std.specs.FinMap.{len}
 use Rattle.std.proofs.lemmas.Bool.Decides.{nat_tests}
 use Rattle.desk_bytes.specs.Lines.{line_of}
-use Rattle.sbat.specs.declared.level_reading.TheConstants.{MOST_NAMES}
+use Rattle.sbat.specs.Refusals.{most_names}
 use Rattle.sbat.proofs.LevelLemmas.{Raising-begins, Raising-ends, Raising-long, Raising-next}
 use Rattle.sbat.proofs.level_reading.read_rows.Goals as goal
 
@@ -19,5 +19,5 @@ returns-then-len-gt-MOST_NAMES-clause-first c =
 
 pub returns-clause-exact : goal.returns-clause-exact
 returns-clause-exact c =
-    let room : len c.loop-line.level.generations ≤ MOST_NAMES = grind (arith, nat_tests, c.len.ensures.exact, c.if-len-gt-MOST_NAMES.false) in
+    let room : len c.loop-line.level.generations ≤ most_names = grind (arith, nat_tests, c.len.ensures.exact, c.if-len-gt-MOST_NAMES.false) in
     (Raising-ends _ _ _ _ c.loop-line.invariant c.in-None.ensures.steps.0 room, room)

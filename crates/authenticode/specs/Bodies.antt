@@ -1,0 +1,45 @@
+-- The body of a signature as nested elements (RFC 5652), by what stands where.
+use Rattle.std.specs.Prelude.{◌≡◌, ◌⊎◌, ℕ, false, List, [], ◌++◌}
+use Rattle.desk_bytes.specs.Elements.{IsElement, sequence}
+use Rattle.authenticode.specs.SignedData.{begins_with, first_own, integer, object_identifier, set}
+
+-- an element of this tag and content begins the bytes, and this follows it
+pub record Begins (tag : ℕ) (content rest b : List ℕ) : Type 0 where
+  pub whole : List ℕ
+  pub element : IsElement tag content whole
+  pub is : b ≡ whole ++ rest
+
+-- what follows encapContentInfo holds this row of certificates: that of the element [0] (RFC 5652, 5.1), and
+-- none where [0] doesn't follow
+abbrev pub HoldsSet : List ℕ → List ℕ → Type 0
+HoldsSet b row =
+    ((rest : List ℕ) × Begins first_own row rest b) ⊎ ((begins_with first_own b ≡ false) × (row ≡ []))
+
+-- SignedData (RFC 5652, 5.1): version, digestAlgorithms, encapContentInfo, certificates
+pub record HoldsRow (signed row : List ℕ) : Type 0 where
+  pub version : List ℕ
+  pub after_version : List ℕ
+  pub digests : List ℕ
+  pub after_digests : List ℕ
+  pub info : List ℕ
+  pub after_info : List ℕ
+  pub version_stands : Begins integer version after_version signed
+  pub digests_stand : Begins set digests after_digests after_version
+  pub info_stands : Begins sequence info after_info after_digests
+  pub certificates : HoldsSet after_info row
+
+-- ContentInfo (RFC 5652, 3): contentType, and content, which is [0] around SignedData
+pub record HoldsCertificates (body row : List ℕ) : Type 0 where
+  pub info : List ℕ
+  pub after_body : List ℕ
+  pub kind : List ℕ
+  pub after_kind : List ℕ
+  pub content : List ℕ
+  pub after_content : List ℕ
+  pub signed : List ℕ
+  pub after_signed : List ℕ
+  pub body_stands : Begins sequence info after_body body
+  pub kind_stands : Begins object_identifier kind after_kind info
+  pub content_stands : Begins first_own content after_content after_kind
+  pub signed_stands : Begins sequence signed after_signed content
+  pub holds : HoldsRow signed row

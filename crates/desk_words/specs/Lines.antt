@@ -1,0 +1,79 @@
+-- What the program's words say.
+use Rattle.std.specs.Prelude.{◌≡◌, ◌≢◌, ℕ, codes, List, [], ◌∷◌, Option, None, Result, Ok, Err}
+use Rattle.std.specs.Prelude.{⊤, Some, if◌then◌else◌, option_and_then}
+use Rattle.std.specs.List.{All}
+use Rattle.std.specs.Str.{bytes_eq}
+use Rattle.clap.specs.Words.{IsAmong, Row, Text, fault_of, first_of, kind_of, subcommand_of}
+use Rattle.desk_words.specs.Commands.{desk_app, id_of}
+use Rattle.desk_words.specs.declared.line.Words.{Words}
+use Rattle.desk_words.specs.declared.line.Words.TheVariants as said
+use Rattle.desk_words.specs.declared.line.WordsFault.{WordsFault}
+use Rattle.desk_words.specs.declared.line.WordsFault.TheVariants.{Missing, NoMemory, Refused}
+
+-- a subcommand with its words, as texts
+pub data Line : Type 0 where
+  pack : Text → Line
+  ranges : Text → Line
+  facts : Text → Line
+  list : Text → Line
+
+-- the name of its subcommand
+abbrev pub subcommand_name : Line → Text
+subcommand_name (pack owner) = codes "pack"
+subcommand_name (ranges file) = codes "ranges"
+subcommand_name (facts file) = codes "facts"
+subcommand_name (list file) = codes "list"
+
+-- the words after it
+abbrev pub words_after : Line → List Text
+words_after (pack owner) = owner ∷ []
+words_after (ranges file) = file ∷ []
+words_after (facts file) = file ∷ []
+words_after (list file) = file ∷ []
+
+-- what the program takes the line for
+abbrev pub line_of : Words → Line
+line_of (said.Pack owner) = pack owner.now
+line_of (said.Ranges file) = ranges file.now
+line_of (said.Facts file) = facts file.now
+line_of (said.List file) = list file.now
+
+-- what follows from the word at a place, where the rows that `clap` found have it
+abbrev pub with_word : List Row → ℕ → (Text → Option Line) → Option Line
+with_word rows place next = option_and_then next (first_of (id_of place) rows)
+
+-- what a subcommand of that name says by its rows
+abbrev pub line_in : Text × List Row → Option Line
+line_in (name, rows) =
+    if bytes_eq name (codes "pack") then with_word rows 0 (λ owner. Some (pack owner))
+    else if bytes_eq name (codes "ranges") then with_word rows 0 (λ file. Some (ranges file))
+    else if bytes_eq name (codes "facts") then with_word rows 0 (λ file. Some (facts file))
+    else if bytes_eq name (codes "list") then with_word rows 0 (λ file. Some (list file))
+    else None
+
+-- a word that stands for itself: it isn't empty and doesn't begin with a hyphen (45)
+abbrev pub IsPlainWord : Text → Type 0
+IsPlainWord [] = ⊥
+IsPlainWord (b ∷ bs) = b ≢ 45
+
+-- the words are the line's, and none of those after the subcommand could be an option
+pub record Spells (words : List Text) (line : Line) : Type 0 where
+  pub same : words ≡ subcommand_name line ∷ words_after line
+  pub plain : All IsPlainWord (words_after line)
+
+-- the line that `clap` finds in the words, by its own definition
+abbrev pub line_found : List Text → Option Line
+line_found words = option_and_then line_in (subcommand_of desk_app words)
+
+-- where `clap` finds no fault, the line that it finds, and else a fault that it finds
+abbrev pub Answers : List Text → Result Words WordsFault → Type 0
+Answers words (Ok said) =
+    (fault_of desk_app words ≡ []) × (line_found words ≡ Some (line_of said))
+Answers words (Err (Refused error)) = IsAmong (kind_of error) (fault_of desk_app words)
+Answers words (Err Missing) = (fault_of desk_app words ≡ []) × (line_found words ≡ None)
+Answers words (Err NoMemory) = ⊤
+
+-- taken as just that line, want of memory aside
+abbrev pub Takes : Line → Result Words WordsFault → Type 0
+Takes line (Ok words) = line_of words ≡ line
+Takes line (Err fault) = fault ≡ NoMemory

@@ -1,0 +1,73 @@
+//! From the program's words to what they say.
+ghost use Rattle.std.specs.Prelude.{◌≡◌, ◌<◌, length, map, option_and_then, option_map, string_bytes};
+ghost use Rattle.clap.specs.Words.{first_of, found_of, rows_of, subcommand_rows_of};
+ghost use Rattle.desk_words.specs.Commands.{id_of, ids};
+ghost use Rattle.desk_words.specs.Lines.{Answers, Line, Spells, Takes, line_in, line_of};
+
+use crate::command::{desk_command, id_at};
+use crate::line::{Words, WordsFault};
+use clap::ArgMatches;
+use clap::error::ErrorKind;
+use std::alloc::Global;
+
+/// The word at this place of a subcommand.
+fn word_at<'a>(matches: &ArgMatches<'a>, place: usize) -> Option<&'a str>
+    requires { place < length ids }
+    ensures { option_map (λ word. word.now) result
+        ≡ first_of (id_of place) (rows_of (found_of matches.now)) }
+{
+    matches.get_str(id_at(place))
+}
+
+/// The subcommand of this name, with its words.
+fn line_at<'a>(name: &'a str, matches: &ArgMatches<'a>) -> Option<Words<'a>>
+    ensures { option_map line_of result ≡ line_in (name.now, rows_of (found_of matches.now)) }
+{
+    match name {
+        "pack" => {
+            let owner = word_at(matches, 0)?;
+            Some(Words::Pack { owner })
+        }
+        "ranges" => {
+            let file = word_at(matches, 0)?;
+            Some(Words::Ranges { file })
+        }
+        "facts" => {
+            let file = word_at(matches, 0)?;
+            Some(Words::Facts { file })
+        }
+        "list" => {
+            let file = word_at(matches, 0)?;
+            Some(Words::List { file })
+        }
+        _ => None,
+    }
+}
+
+/// What `clap` found, as a subcommand with its words.
+fn met<'a>(matches: &ArgMatches<'a>) -> Option<Words<'a>>
+    ensures { option_map line_of result ≡ option_and_then line_in (subcommand_rows_of matches.now) }
+{
+    let (name, found) = matches.subcommand()?;
+    line_at(name, found)
+}
+
+/// Reads the words after the program's name.
+pub fn words<'a>(alloc: Global, given: &'a [String]) -> Result<Words<'a>, WordsFault>
+    ensures exact { Answers (map string_bytes given.entry.now) result }
+    ensures taken { (line : Line) → Spells (map string_bytes given.entry.now) line
+        → Takes line result }
+{
+    let Ok(command) = desk_command(alloc) else {
+        return Err(WordsFault::NoMemory);
+    };
+    match command.try_get_matches_from(given) {
+        Err(error) => {
+            if error.kind() == ErrorKind::OutOfMemory {
+                return Err(WordsFault::NoMemory);
+            }
+            Err(WordsFault::Refused(error))
+        }
+        Ok(matches) => met(&matches).ok_or(WordsFault::Missing),
+    }
+}

@@ -1,0 +1,5 @@
+//! What is answered of images, and what the program prints. Tests alone.
+#![tactic(auto)]
+
+#[cfg(test)]
+mod tests;

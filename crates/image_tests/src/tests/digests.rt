@@ -1,0 +1,61 @@
+//! Digests of images.
+use super::{Call, check, image};
+use authenticode::{digest, digests, file_digest, signing_digest};
+use pe_image::{Bytes, layout};
+use std::alloc::Global;
+use std::test::Fail;
+
+/// Images, their digests and those that a signature holds. The digests are those that pesign 0.112 computes;
+/// with the second section first what osslsigncode 2.9 does, and with four directories what Python's hashlib
+/// gives for the ranges. The others are what a signature by osslsigncode 2.9 holds; with four directories,
+/// with a table that isn't padded and with a gap what hashlib gives for the ranges.
+const DIGESTS: &str = "\
+1024 * = \
+aca69e4a6a15817340b124c38fb7d691e63c6e9819cd08c8246acec4c0c2e7db aca69e4a6a15817340b124c38fb7d691e63c6e9819cd08c8246acec4c0c2e7db
+1024 * 84:e000 88:0b01 180:10000000 196:00000000 312:2e74657874000000 328:0002000000020000 344:0000000000000000 = \
+7f2f3a07eaf2c0d4ae757e20817ee9d6845e07b219f05f213162f08095578dbe 7f2f3a07eaf2c0d4ae757e20817ee9d6845e07b219f05f213162f08095578dbe
+1536 * 70:0200 348:00040000 384:0002000000020000 = \
+946af9ce87335ac23cba0be1f21da35bc8ae848fc928508688f3243c17843860 946af9ce87335ac23cba0be1f21da35bc8ae848fc928508688f3243c17843860
+1024 * 196:04000000 232:0102030405060708 = \
+13a1ca3a4382a7322b281573c690ec54dacc60162fc0f4fe6b78cd90b6dba6cd 13a1ca3a4382a7322b281573c690ec54dacc60162fc0f4fe6b78cd90b6dba6cd
+1029 * = \
+0c127eab76b4e7ce10d3c286fcb122aae75396f0bc6800eb2a9124c7c4e80ec4 2c58af52ba8ed0486c7a0a522168315c0bcb192f7dc1437deed291f1ac0a5932
+1080 * 232:0804000030000000 1029:000000 1032:T = \
+2c58af52ba8ed0486c7a0a522168315c0bcb192f7dc1437deed291f1ac0a5932 2c58af52ba8ed0486c7a0a522168315c0bcb192f7dc1437deed291f1ac0a5932
+1077 * 232:0504000030000000 1029:T = \
+0c127eab76b4e7ce10d3c286fcb122aae75396f0bc6800eb2a9124c7c4e80ec4 0c127eab76b4e7ce10d3c286fcb122aae75396f0bc6800eb2a9124c7c4e80ec4
+1072 * 232:0004000030000000 1024:T = \
+aca69e4a6a15817340b124c38fb7d691e63c6e9819cd08c8246acec4c0c2e7db aca69e4a6a15817340b124c38fb7d691e63c6e9819cd08c8246acec4c0c2e7db
+2560 * 70:0200 384:0002000000080000 = \
+718b280aedf43c161adb84c332229d2b4cbdb78dc3e1719d0fe38dc8f5c14352 718b280aedf43c161adb84c332229d2b4cbdb78dc3e1719d0fe38dc8f5c14352
+";
+
+/// The digest of an image and that to be signed, where both calls agree.
+pub fn of_digests(alloc: Global, input: &str) -> Result<String, Fail> {
+    let bytes = image(alloc, input)?;
+    let mut source = Bytes(&bytes);
+    let places = layout(&mut source)?;
+    let both = digests(&mut source, &places)?;
+    let hashed = digest(&mut source, &places)?;
+    let signed = signing_digest(&mut source, &places)?;
+    if both.digest != hashed || both.signing != signed {
+        return Ok(String::from_str(alloc, "two calls differ")?);
+    }
+    Ok(format!(in alloc; "{hashed} {signed}")?)
+}
+
+#[test]
+fn gives_the_digests_of_images(rt: HostRuntime) -> Result<(), Fail> {
+    check(&rt, rt.alloc(), Call::Digests, DIGESTS)
+}
+
+/// FIPS 180-2, appendix B.
+const MILLION: &str = "cdc76e5c9914fb9281a1c7e284d73e67f1809a48a497200e046d39ccc7112cd0";
+
+#[test]
+fn gives_the_digest_of_a_file(rt: HostRuntime) -> Result<(), Fail> {
+    let long = vec![in rt.alloc(); b'a'; 1_000_000]?;
+    let found = file_digest(&mut Bytes(&long))?;
+    assert!(rt; found.text().as_slice() == MILLION.as_bytes());
+    Ok(())
+}

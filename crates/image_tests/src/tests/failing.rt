@@ -1,0 +1,117 @@
+//! Sources that fail.
+ghost use Rattle.std.specs.Prelude.{ℕ, List, ◌≡◌, ◌+◌, ◌≤◌, length, replicate, slice_range, OnOk, OnErr};
+ghost use Rattle.pe_image.specs.Sources.{HaveRisen};
+
+use super::{TABLE, image};
+use desk_bytes::Refusal;
+use desk_lines::{Fault, print_ranges};
+use desk_service::facts;
+use pe_image::{LayoutFault, ReadFailed, Source, layout};
+use std::test::Fail;
+
+/// A source that fails once so many reads were made, and then always.
+#[derive(Drop)]
+struct Failing<'a> {
+    bytes: &'a [u8],
+    left: u64,
+    failures: u64,
+}
+
+impl Source for Failing<'_> {
+    ghost content = { λ s. s.bytes.now };
+
+    ghost failures = { λ s. s.failures };
+
+    fn len(&self) -> u64 {
+        self.bytes.len() as u64
+    }
+
+    fn failures(&self) -> u64 {
+        self.failures
+    }
+
+    fn read_at(&mut self, at: u64, out: &mut [u8]) -> Result<(), ReadFailed> {
+        if self.left == 0 {
+            if self.failures < u64::MAX {
+                self.failures += 1;
+            }
+            return Err(ReadFailed);
+        }
+        self.left -= 1;
+        let at = at as usize;
+        out.copy_from_slice(&self.bytes[at..at + out.len()]);
+        Ok(())
+    }
+}
+
+/// Every read that fails is told of, at that call: within the layout, the digests, the table and the text.
+#[test]
+fn tells_of_each_read_that_fails(rt: HostRuntime) -> Result<(), Fail> {
+    let words = format!(in rt.alloc();
+        "1584 + 70:0200 232:0006000030000000 368:2e73626174 \
+        376:0f000000 384:0002000000040000 1024:677275622c332c612c622c312c750a 1536:{TABLE}"
+    )?;
+    let bytes = image(rt.alloc(), words.as_str())?;
+    for left in 0..200 {
+        let mut source = Failing {
+            bytes: &bytes,
+            left,
+            failures: 0,
+        };
+        let Err(fault) = facts(rt.alloc(), &mut source) else {
+            assert!(rt; source.failures() == 0 && left > 50);
+            return Ok(());
+        };
+        assert!(rt; fault.refusal() == Refusal::Read && source.failures() == 1);
+    }
+    assert!(rt; false, "200 reads are enough");
+    Ok(())
+}
+
+#[test]
+fn prints_no_range_where_a_read_fails(rt: HostRuntime) -> Result<(), Fail> {
+    let bytes = image(rt.alloc(), "1024 +")?;
+    for left in 0..12 {
+        let mut source = Failing {
+            bytes: &bytes,
+            left,
+            failures: 0,
+        };
+        let mut out = Vec::new(rt.alloc());
+        let answer = print_ranges(&mut source, &mut out);
+        assert!(rt; answer == Err(Fault::from(Refusal::Read)) && out.is_empty());
+    }
+    Ok(())
+}
+
+/// A source of zeros that says how many there are and reads none.
+#[derive(Drop)]
+struct Unread {
+    size: u64,
+}
+
+impl Source for Unread {
+    ghost content = { λ s. replicate s.size 0 };
+
+    ghost failures = { λ _. 18446744073709551615 };
+
+    fn len(&self) -> u64 {
+        self.size
+    }
+
+    fn failures(&self) -> u64 {
+        u64::MAX
+    }
+
+    fn read_at(&mut self, _at: u64, _out: &mut [u8]) -> Result<(), ReadFailed> {
+        Err(ReadFailed)
+    }
+}
+
+#[test]
+fn refuses_what_is_too_long(rt: HostRuntime) {
+    let long = layout(&mut Unread { size: 134_217_729 }).err();
+    assert!(rt; long == Some(LayoutFault::TooLong));
+    let longest = layout(&mut Unread { size: 134_217_728 }).err();
+    assert!(rt; longest == Some(LayoutFault::Read));
+}

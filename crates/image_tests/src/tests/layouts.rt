@@ -1,0 +1,142 @@
+//! Layouts of images.
+use super::{Call, change, check, image, parted};
+use desk_lines::{print_fault, print_ranges};
+use pe_image::{Bytes, LayoutFault, gap, layout, ranges, sbat_range, table};
+use std::alloc::Global;
+use std::test::Fail;
+
+/// What is printed of an image's ranges: as it is, of EFI's last subsystem; PE32; its second section first;
+/// with four and five directories; followed by bytes; with a table, padded and not; with a gap; with a table
+/// that has an offset and no size. Then images that are refused.
+const RANGES: &str = "\
+1024 + = 0-152;156-232;240-512;512-1024;gap 0;
+1024 + 156:0d = 0-152;156-232;240-512;512-1024;gap 0;
+1024 - = 0-152;156-216;224-512;512-1024;gap 0;
+1536 + 70:02 348:00040000 384:0002000000020000 = 0-152;156-232;240-512;512-1024;1024-1536;gap 0;
+1024 + 196:04 = 0-152;156-512;512-1024;gap 0;
+1024 + 196:05 = 0-152;156-232;240-512;512-1024;gap 0;
+1029 + = 0-152;156-232;240-512;512-1024;1024-1029;gap 0;
+1080 + 232:0804000030000000 = 0-152;156-232;240-512;512-1024;1024-1032;gap 0;
+1077 + 232:0504000030000000 = 0-152;156-232;240-512;512-1024;1024-1029;gap 0;
+2560 + 70:02 384:0002000000080000 = 0-152;156-232;240-512;512-1024;2048-2560;1536-2560;gap 1024;
+1024 + 232:ffffffff00000000 = 0-152;156-232;240-512;512-1024;gap 0;
+63 + = refused 1 Short;
+1024 + 0:4d5b = refused 2 NoMz;
+1024 + 60:ffffffff = refused 1 Short;
+1024 + 66:01 = refused 3 NoPe;
+1024 + 88:0701 = refused 4 Magic;
+1024 + 84:6f00 = refused 6 Headers;
+1024 + 84:9700 = refused 6 Headers;
+1024 + 148:01040000 = refused 6 Headers;
+1024 + 148:6f010000 = refused 6 Headers;
+1024 + 156:03 = refused 5 NotEfi;
+1024 + 156:0e = refused 5 NotEfi;
+1024 + 344:01020000 = refused 7 Sections;
+1024 + 348:ffffffff = refused 7 Sections;
+1023 + = refused 7 Sections;
+1024 + 70:02 384:0002000000020000 = refused 8 Overlap;
+1024 + 348:ff010000 = refused 8 Overlap;
+1024 + 232:e803000018000000 = refused 9 Table;
+1024 + 232:f8ffffff08040000 = refused 9 Table;
+1024 + 70:02 328:2e73626174 344:00000000 368:2e73626174 = refused 11 TwoSbat;
+1057793 + 232:0024000001001000 344:00000000 = refused 13 TooLong;
+70000 + 328:2e73626174 344:01000100 = refused 13 TooLong;
+";
+
+/// What is printed of an image's ranges.
+pub fn of_ranges(alloc: Global, input: &str) -> Result<String, Fail> {
+    let bytes = image(alloc, input)?;
+    let mut out = Vec::new(alloc);
+    if let Err(fault) = print_ranges(&mut Bytes(&bytes), &mut out) {
+        print_fault(fault.refusal, fault.place, &mut out);
+    }
+    parted(alloc, &out)
+}
+
+#[test]
+fn prints_the_ranges_of_an_image(rt: HostRuntime) -> Result<(), Fail> {
+    check(&rt, rt.alloc(), Call::Ranges, RANGES)
+}
+
+/// The table and the text of `.sbat`: another name, with a VirtualSize, without one, with one past the
+/// section; both of the greatest size.
+const PARTS: &str = "\
+1024 + = no table, no text
+1024 + 232:00040000 = no table, no text
+1080 + 232:0804000030000000 = 1032 to 1080, no text
+1024 + 328:2e73626174000001 = no table, no text
+1024 + 328:2e7362617400000024000000 = no table, 512 to 548
+1024 + 328:2e7362617400000000000000 = no table, 512 to 1024
+1024 + 328:2e7362617400000001020000 = no table, 512 to 1024
+1057792 + 232:0024000000001000 344:00000000 = 9216 to 1057792, no text
+70000 + 328:2e73626174 344:00000100 = no table, 512 to 66048
+";
+
+/// Where the table and the text of `.sbat` stand.
+pub fn of_parts(alloc: Global, input: &str) -> Result<String, Fail> {
+    let bytes = image(alloc, input)?;
+    let places = layout(&mut Bytes(&bytes))?;
+    let table = match table(&places) {
+        Some((from, to)) => format!(in alloc; "{from} to {to}")?,
+        None => String::from_str(alloc, "no table")?,
+    };
+    match sbat_range(&places) {
+        Some((from, to)) => Ok(format!(in alloc; "{table}, {from} to {to}")?),
+        None => Ok(format!(in alloc; "{table}, no text")?),
+    }
+}
+
+#[test]
+fn gives_the_table_and_the_text(rt: HostRuntime) -> Result<(), Fail> {
+    check(&rt, rt.alloc(), Call::Parts, PARTS)
+}
+
+/// From which length on the beginnings of an image are what.
+const CUTS: &str = "\
+0 Some(Short)
+88 Some(Magic)
+90 Some(Headers)
+512 Some(Sections)
+1024 None
+";
+
+#[test]
+fn refuses_every_truncation(rt: HostRuntime) -> Result<(), Fail> {
+    let bytes = image(rt.alloc(), "1024 +")?;
+    let mut told = String::new(rt.alloc());
+    let mut before = Some(LayoutFault::Read);
+    for size in 0..1025 {
+        let now = layout(&mut Bytes(bytes.get(..size).unwrap_or(&[]))).err();
+        if now != before {
+            told.push_str(format!(in rt.alloc(); "{size} {now:?}\n")?.as_str())?;
+            before = now;
+        }
+    }
+    assert!(rt; told.as_str() == CUTS, "{told}");
+    Ok(())
+}
+
+/// An image with so many sections of one byte each, the last first, and a byte between any two.
+fn with_sections(alloc: Global, count: u16) -> Result<Vec<u8>, Fail> {
+    let mut bytes = image(alloc, "8192 + 148:00140000")?;
+    change(alloc, &mut bytes, "")?;
+    super::put(&mut bytes, 70, &count.to_le_bytes());
+    for i in 0..count {
+        let at = 5120 + 2 * u32::from(count - i);
+        super::put(&mut bytes, 344 + 40 * usize::from(i), &1u32.to_le_bytes());
+        super::put(&mut bytes, 348 + 40 * usize::from(i), &at.to_le_bytes());
+    }
+    Ok(bytes)
+}
+
+#[test]
+fn takes_96_sections_and_no_more(rt: HostRuntime) -> Result<(), Fail> {
+    let bytes = with_sections(rt.alloc(), 96)?;
+    let places = layout(&mut Bytes(&bytes))?;
+    assert!(rt; ranges(&places).count() == 100 && gap(&places) == 97);
+    assert!(rt; ranges(&places).skip(3).next() == Some((5122, 5123)));
+    assert!(rt; ranges(&places).skip(98).next() == Some((5312, 5313)));
+    let more = with_sections(rt.alloc(), 97)?;
+    assert!(rt; layout(&mut Bytes(&more)).err() == Some(LayoutFault::Sections));
+    Ok(())
+}
