@@ -10,7 +10,8 @@ for crate in desk_sql desk_statements; do
     mkdir -p "$room/crates/$crate"
     (cd "$root/crates/$crate" && tar -cf - --exclude=out --exclude=must-fail .) | (cd "$room/crates/$crate" && tar -xf -)
 done
-cp -R "$root/bench/store/src" "$room/crates/store_bench/"
+mkdir -p "$room/crates/store_bench/src"
+cp "$root/bench/store/main.rt.txt" "$room/crates/store_bench/src/main.rt"
 grep -E '^(desk_sql|desk_statements):' "$root/crates.txt" > "$room/crates.txt"
 echo 'store_bench: desk_statements desk_sql sqlite' >> "$room/crates.txt"
 (cd "$room/crates/store_bench" && rt run > "$room/build.log" 2>&1) || true
