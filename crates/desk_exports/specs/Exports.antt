@@ -1,0 +1,62 @@
+-- What a desk with this owner exports after these calls: dbx and db as signature lists (UEFI 2.10, section 32.4.1), the
+-- level (shim's SBAT.md), and the minutes.
+use Rattle.std.specs.Prelude.{ℕ, Bool, true, false, List, [], ◌∷◌, ◌++◌, codes, decimal, filter, flat_map, map, reverse}
+use Rattle.sbat.specs.declared.component.Component.{Component}
+use Rattle.sbat.specs.Writing.{head_text, rows_text}
+use Rattle.siglist.specs.SignatureLists.{SignatureList, spelling}
+use Rattle.siglist.specs.Writing.{sha256_row, x509_row, x509_sha256_row}
+use Rattle.desk_texts.specs.declared.kind.ListedKind.{ListedKind}
+use Rattle.desk_texts.specs.declared.kind.ListedKind.TheVariants as kinds
+use Rattle.desk_texts.specs.Callers.{caller_name}
+use Rattle.desk_texts.specs.ReplyTexts.{reply_text_of}
+use Rattle.desk_history.specs.declared.rows.Entry.{Entry}
+use Rattle.desk_history.specs.declared.rows.Minute.{Minute}
+use Rattle.desk_history.specs.Calls.{History, distinct, is_same_kind}
+use Rattle.desk_history.specs.Level.{generations, stamp}
+use Rattle.desk_history.specs.Listing.{listed}
+use Rattle.desk_history.specs.Replies.{minutes}
+use Rattle.desk_history.specs.Revocations.{revocations}
+use Rattle.desk_history.specs.Tables.{level_rows}
+use Rattle.desk_exports.specs.Orders.{ascending, ascending_by}
+
+-- the revoked digests of this kind, each once, ascending
+abbrev pub revoked : ListedKind → History → List (List ℕ)
+revoked kind cs = ascending (distinct (revocations kind cs))
+
+-- own: one SHA256 list of the revoked digests of images, then one X509_SHA256 list of the revoked certificates
+abbrev pub dbx_lists : List ℕ → History → List SignatureList
+dbx_lists owner cs = sha256_row owner (revoked kinds.Digest cs) ++ x509_sha256_row owner (revoked kinds.Certificate cs)
+
+-- the bytes of dbx
+abbrev pub dbx : List ℕ → History → List ℕ
+dbx owner cs = spelling (dbx_lists owner cs)
+
+-- the listed entries of this kind, ascending by their digests
+abbrev pub entries_of : ListedKind → History → List Entry
+entries_of kind cs = ascending_by (λ e. e.digest) (filter (λ e. is_same_kind kind e.kind) (listed cs))
+
+-- own: one SHA256 list of the listed digests of images, then an X509 list for each listed certificate
+abbrev pub db_lists : List ℕ → History → List SignatureList
+db_lists owner cs =
+    sha256_row owner (map (λ e. e.digest) (entries_of kinds.Digest cs))
+    ++ flat_map (λ e. x509_row owner e.body) (entries_of kinds.Certificate cs)
+
+-- the bytes of db
+abbrev pub db : List ℕ → History → List ℕ
+db owner cs = spelling (db_lists owner cs)
+
+-- the text of the level: its stamp, and a line for each name beside `sbat`, ascending
+abbrev pub level : History → List ℕ
+level cs =
+    head_text (stamp cs)
+    ++ rows_text (map (λ x. (x.name, x.generation)) (ascending_by (λ (x : Component). x.name) (level_rows (generations cs))))
+
+-- own: a line of the minutes: number, caller, key, text and reply, parted by tabs
+abbrev pub minute_line : Minute → List ℕ
+minute_line m =
+    decimal m.number ++ codes "\t" ++ caller_name m.caller ++ codes "\t" ++ m.key ++ codes "\t" ++ m.text ++ codes "\t"
+    ++ reply_text_of m.reply ++ codes "\n"
+
+-- the minutes, the first call first
+abbrev pub minutes_text : History → List ℕ
+minutes_text cs = flat_map minute_line (reverse (minutes cs))

@@ -1,0 +1,4 @@
+pub mod Exports
+pub mod Orders
+pub mod Reports
+pub mod Worked

@@ -1,0 +1,51 @@
+-- own: what a desk counts, as a text.
+use Rattle.std.specs.Prelude.{ℕ, ◌-◌, Bool, true, false, List, [], ◌∷◌, ◌++◌, codes, count_by, decimal, length, replicate}
+use Rattle.desk_texts.specs.declared.kind.ListedKind.{ListedKind}
+use Rattle.desk_texts.specs.declared.kind.ListedKind.TheVariants as kinds
+use Rattle.desk_texts.specs.declared.state.State.{State}
+use Rattle.desk_texts.specs.declared.state.State.TheVariants as states
+use Rattle.desk_history.specs.Calls.{History, distinct, is_same_kind}
+use Rattle.desk_history.specs.Level.{generations, names, stamp}
+use Rattle.desk_history.specs.Listing.{listed}
+use Rattle.desk_history.specs.People.{people}
+use Rattle.desk_history.specs.Requests.{requests, state}
+use Rattle.desk_history.specs.Revocations.{revocations}
+
+abbrev pub is_state : State → State → Bool
+is_state states.Open states.Open = true
+is_state states.Approved states.Approved = true
+is_state states.Rejected states.Rejected = true
+is_state states.Withdrawn states.Withdrawn = true
+is_state states.Signed states.Signed = true
+is_state _ _ = false
+
+-- how many requests are in this state
+abbrev pub count_in : State → History → ℕ
+count_in s cs = count_by (λ r. is_state s (state cs r.number)) (requests cs)
+
+-- how many entries of this kind are listed
+abbrev pub count_listed : ListedKind → History → ℕ
+count_listed kind cs = count_by (λ e. is_same_kind kind e.kind) (listed cs)
+
+-- the label left in 24 places, the number right in 10, and LF
+abbrev pub line : List ℕ → ℕ → List ℕ
+line label number =
+    label ++ replicate (24 - length label) 32 ++ replicate (10 - length (decimal number)) 32 ++ decimal number ++ codes "\n"
+
+-- the fourteen lines
+abbrev pub report : History → List ℕ
+report cs =
+    line (codes "people") (length (people cs))
+    ++ line (codes "requests") (length (requests cs))
+    ++ line (codes "open") (count_in states.Open cs)
+    ++ line (codes "approved") (count_in states.Approved cs)
+    ++ line (codes "rejected") (count_in states.Rejected cs)
+    ++ line (codes "withdrawn") (count_in states.Withdrawn cs)
+    ++ line (codes "signed") (count_in states.Signed cs)
+    ++ line (codes "listed digests") (count_listed kinds.Digest cs)
+    ++ line (codes "listed certificates") (count_listed kinds.Certificate cs)
+    ++ line (codes "revoked digests") (length (distinct (revocations kinds.Digest cs)))
+    ++ line (codes "revoked certificates") (length (distinct (revocations kinds.Certificate cs)))
+    ++ line (codes "level components") (length (names (generations cs)))
+    ++ line (codes "commands") (length cs)
+    ++ line (codes "stamp") (stamp cs)

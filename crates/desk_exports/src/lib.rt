@@ -1,0 +1,7 @@
+//! What a desk exports after a history of calls: the bytes of dbx and db, the level, the minutes and the report, as
+//! definitions, and worked examples of them.
+#![tactic(auto)]
+
+mod laws;
+
+pub use laws::exports_are_written;
