@@ -11,6 +11,7 @@ use Rattle.desk_history.specs.People.{people}
 use Rattle.desk_history.specs.Requests.{requests, state}
 use Rattle.desk_history.specs.Revocations.{revocations}
 
+-- both are the same state
 abbrev pub is_state : State → State → Bool
 is_state states.Open states.Open = true
 is_state states.Approved states.Approved = true

@@ -1,4 +1,5 @@
 pub mod Calls
+pub mod DecisionRefusals
 pub mod Forces
 pub mod Laws
 pub mod Level
@@ -10,6 +11,7 @@ pub mod Refusals
 pub mod Replies
 pub mod Requests
 pub mod Revocations
+pub mod Roles
 pub mod Runs
 pub mod Tables
 pub mod Verdicts

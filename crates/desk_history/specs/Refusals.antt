@@ -13,8 +13,6 @@ use Rattle.desk_texts.specs.declared.facts.Facts.{Facts}
 use Rattle.desk_texts.specs.declared.kind.ListedKind.TheVariants as kinds
 use Rattle.desk_texts.specs.declared.command.Person.{Person}
 use Rattle.desk_texts.specs.declared.command.Raise.{Raise}
-use Rattle.desk_texts.specs.declared.role.Role.{Role}
-use Rattle.desk_texts.specs.declared.role.Role.TheVariants as role
 use Rattle.desk_texts.specs.declared.state.State.{State}
 use Rattle.desk_texts.specs.declared.state.State.TheVariants as states
 use Rattle.desk_texts.specs.Callers.{caller_name}
@@ -25,121 +23,13 @@ use Rattle.desk_history.specs.People.{has_name, has_token, people}
 use Rattle.desk_history.specs.declared.rows.VoteRow.{VoteRow}
 use Rattle.desk_history.specs.Requests.{Request, is_vote_of, request, state, votes, votes_on}
 use Rattle.desk_history.specs.Revocations.{is_revoked}
+use Rattle.desk_history.specs.Roles.{is_for, is_for_console}
 use Rattle.desk_history.specs.Limits.{is_within}
 use Rattle.desk_history.specs.Verdicts.{is_barred, stands_in_db}
 
 -- the refusal where the condition holds
 abbrev pub refuse_if : Bool → Refusal → Option Refusal
 refuse_if condition refusal = if condition then Some refusal else None
-
--- the refusals that a call may be answered by the desk's rules, and want of memory
-abbrev pub may_answer : Refusal → Bool
-may_answer refusals.Short = false
-may_answer refusals.NoMz = false
-may_answer refusals.NoPe = false
-may_answer refusals.Magic = false
-may_answer refusals.NotEfi = false
-may_answer refusals.Headers = false
-may_answer refusals.Sections = false
-may_answer refusals.Overlap = false
-may_answer refusals.Table = false
-may_answer refusals.Der = false
-may_answer refusals.TwoSbat = false
-may_answer refusals.SbatRow = false
-may_answer refusals.TooLong = false
-may_answer refusals.Read = false
-may_answer refusals.List = false
-may_answer refusals.EntrySize = false
-may_answer refusals.Write = false
-may_answer refusals.Line = false
-may_answer refusals.CsvRow = false
-may_answer refusals.UnknownCaller = true
-may_answer refusals.NotYourRole = true
-may_answer refusals.KeyReused = true
-may_answer refusals.NoSuchRequest = true
-may_answer refusals.WrongState = true
-may_answer refusals.OwnRequest = true
-may_answer refusals.AlreadyReviewed = true
-may_answer refusals.DigestDiffers = true
-may_answer refusals.Revoked = true
-may_answer refusals.NotListed = true
-may_answer refusals.AlreadyRevoked = true
-may_answer refusals.NotHigher = true
-may_answer refusals.StampNotLater = true
-may_answer refusals.AlreadyListed = true
-may_answer refusals.NotThere = true
-may_answer refusals.NameTaken = true
-may_answer refusals.Full = true
-may_answer refusals.NoMemory = true
-may_answer refusals.Store = false
-may_answer refusals.Reopen = false
-may_answer refusals.NotADesk = false
-may_answer refusals.Version = false
-may_answer refusals.File = false
-may_answer refusals.Exists = false
-may_answer refusals.BadHead = false
-may_answer refusals.BadField = false
-may_answer refusals.BadBody = false
-may_answer refusals.NoRoute = false
-may_answer refusals.BadMethod = false
-may_answer refusals.LengthNeeded = false
-may_answer refusals.TooLarge = false
-may_answer refusals.NotSupported = false
-
--- own: those who ask for signatures
-abbrev pub asks : Role → Bool
-asks role.Submitter = true
-asks role.Reviewer = true
-asks role.Officer = false
-asks role.Signer = false
-
-abbrev pub is_reviewer : Role → Bool
-is_reviewer role.Submitter = false
-is_reviewer role.Reviewer = true
-is_reviewer role.Officer = false
-is_reviewer role.Signer = false
-
-abbrev pub is_officer : Role → Bool
-is_officer role.Submitter = false
-is_officer role.Reviewer = false
-is_officer role.Officer = true
-is_officer role.Signer = false
-
-abbrev pub is_signer : Role → Bool
-is_signer role.Submitter = false
-is_signer role.Reviewer = false
-is_signer role.Officer = false
-is_signer role.Signer = true
-
--- own: the role that gives each command; none gives AddPerson, which is the console's
-abbrev pub is_for : Role → Command → Bool
-is_for r (command.AddPerson _) = false
-is_for r (command.Submit _) = asks r
-is_for r (command.Review _) = is_reviewer r
-is_for r (command.Withdraw _) = asks r
-is_for r (command.Return _) = is_signer r
-is_for r (command.ListCertificate _) = is_officer r
-is_for r (command.ListDigest _) = is_officer r
-is_for r (command.Unlist _) = is_officer r
-is_for r (command.RevokeDigest _) = is_officer r
-is_for r (command.RevokeCertificate _) = is_officer r
-is_for r (command.RaiseLevel _) = is_officer r
-is_for r (command.ImportRevocations _) = is_officer r
-
--- own: the console gives this command and no other
-abbrev pub is_for_console : Command → Bool
-is_for_console (command.AddPerson _) = true
-is_for_console (command.Submit _) = false
-is_for_console (command.Review _) = false
-is_for_console (command.Withdraw _) = false
-is_for_console (command.Return _) = false
-is_for_console (command.ListCertificate _) = false
-is_for_console (command.ListDigest _) = false
-is_for_console (command.Unlist _) = false
-is_for_console (command.RevokeDigest _) = false
-is_for_console (command.RevokeCertificate _) = false
-is_for_console (command.RaiseLevel _) = false
-is_for_console (command.ImportRevocations _) = false
 
 -- the caller is the console, or one of these people
 abbrev pub is_one_of : List Person → Caller → Bool

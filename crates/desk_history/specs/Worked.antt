@@ -99,15 +99,19 @@ image file plain signing carried components = record {
   components = components;
 }
 
+-- asks for a signature of the image of these facts
 abbrev pub submit : Facts → Command
 submit x = command.Submit (record { title = codes "shim 15.8"; facts = x })
 
+-- votes on a request, with a note
 abbrev pub vote : ℕ → Vote → Command
 vote request given = command.Review (record { request = request; vote = given; note = codes "looked" })
 
+-- the reply to a vote, with the state after it
 abbrev pub reviewed : ℕ → State → Reply
 reviewed request state = replies.Reviewed (record { request = request; state = state })
 
+-- returns the signed file of a request, by its facts
 abbrev pub give_back : ℕ → Facts → Command
 give_back request x = command.Return (record { request = request; facts = x })
 
@@ -115,6 +119,7 @@ give_back request x = command.Return (record { request = request; facts = x })
 abbrev pub grub : ℕ → Component
 grub generation = record { name = codes "grub"; generation = generation }
 
+-- raises a name to a generation, with a stamp
 abbrev pub raise : List ℕ → ℕ → ℕ → Command
 raise name generation stamp =
     command.RaiseLevel (record { component = record { name = name; generation = generation }; stamp = stamp })

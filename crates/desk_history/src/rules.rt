@@ -3,6 +3,7 @@ ghost use Rattle.std.specs.Prelude.{◌≡◌};
 ghost use Rattle.desk_history.specs.Calls.{is_same_kind};
 ghost use Rattle.desk_history.specs.Level as level;
 ghost use Rattle.desk_history.specs.Refusals as spec;
+ghost use Rattle.desk_history.specs.Roles as roles;
 ghost use Rattle.desk_history.specs.Verdicts.{bars as bars_on, lists_image as lists_on};
 
 use crate::standing::Standing;
@@ -25,7 +26,7 @@ pub fn is_same(a: ListedKind, b: ListedKind) -> bool
 
 /// Whether people of the role give the command.
 pub fn is_for(role: Role, command: &Command) -> bool
-    ensures { result ≡ spec.is_for role command.now }
+    ensures { result ≡ roles.is_for role command.now }
 {
     match command {
         Command::AddPerson(_) => false,
@@ -47,7 +48,7 @@ pub fn is_for(role: Role, command: &Command) -> bool
 
 /// Whether the console gives the command.
 pub fn is_for_console(command: &Command) -> bool
-    ensures { result ≡ spec.is_for_console command.now }
+    ensures { result ≡ roles.is_for_console command.now }
 {
     match command {
         Command::AddPerson(_) => true,

@@ -27,7 +27,8 @@ use Rattle.desk_history.specs.declared.write.Write.{Write}
 use Rattle.desk_history.specs.declared.write.Write.TheVariants as writes
 use Rattle.desk_history.specs.Level.{is_above, is_sbat}
 use Rattle.desk_history.specs.People.{has_name, has_token}
-use Rattle.desk_history.specs.Refusals.{add_refusal, image_refusal, may_answer, raise_refusal, refuse_if, return_by, review_by, withdraw_by}
+use Rattle.desk_history.specs.Refusals.{add_refusal, image_refusal, raise_refusal, refuse_if, return_by, review_by, withdraw_by}
+use Rattle.desk_history.specs.DecisionRefusals.{may_answer}
 use Rattle.desk_history.specs.Requests.{is_vote_of, votes_on}
 use Rattle.desk_history.specs.Runs.{repeated}
 use Rattle.desk_history.specs.Verdicts.{bars, lists_image}

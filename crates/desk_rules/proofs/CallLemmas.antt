@@ -24,7 +24,8 @@ use Rattle.desk_rules.specs.declared.view.View.{View}
 use Rattle.desk_rules.specs.Decisions.{Answers, AppendsCallRow, IsCommandStep, RefusesCall, RefusesOwn, Repeats, called}
 use Rattle.desk_rules.specs.Shown.{Shows}
 use Rattle.desk_history.specs.Limits.{is_within}
-use Rattle.desk_history.specs.Refusals.{is_for, is_known, is_one_of, is_theirs, may_give, own_refusal, refusal, refuse_if}
+use Rattle.desk_history.specs.Refusals.{is_known, is_one_of, is_theirs, may_give, own_refusal, refusal, refuse_if}
+use Rattle.desk_history.specs.Roles.{is_for}
 use Rattle.desk_rules.specs.Room.{has_room}
 use Rattle.desk_history.specs.Runs.{answer_new_key, answer, answer_known, earlier, has_key, is_accepted, is_legal, next}
 use Rattle.desk_rules.proofs.RoomLemmas.{minutes_length, room_is}

@@ -1,6 +1,6 @@
 //! Decisions over a view: who calls, the call's key, the caller's role, the command, and room for what it writes.
 ghost use Rattle.std.specs.Prelude.{◌≡◌, ◌+◌, find, option_copied, IfErr, IsTrue, MatchResult};
-ghost use Rattle.desk_history.specs.Refusals.{may_answer};
+ghost use Rattle.desk_history.specs.DecisionRefusals.{may_answer};
 ghost use Rattle.desk_texts.specs.Callers.{caller_name};
 ghost use Rattle.desk_texts.specs.CommandTexts.{text_of as canonical_text};
 ghost use Rattle.desk_history.specs.Runs.{has_key};

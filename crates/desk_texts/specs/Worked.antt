@@ -11,18 +11,23 @@ use Rattle.desk_texts.specs.declared.vote.Vote.TheVariants as votes
 use Rattle.desk_texts.specs.CommandTexts.{text_of}
 use Rattle.desk_texts.specs.ReplyTexts.{reply_text_of}
 
+-- three digests
 abbrev aa : List ℕ
 aa = 170 ∷ 170 ∷ []
 
+-- the second
 abbrev bb : List ℕ
 bb = 187 ∷ 187 ∷ []
 
+-- the third
 abbrev cc1 : List ℕ
 cc1 = 12 ∷ 193 ∷ []
 
+-- two components
 abbrev grub : Component
 grub = record { name = codes "grub"; generation = 3 }
 
+-- that of SBAT itself
 abbrev sbat : Component
 sbat = record { name = codes "sbat"; generation = 1 }
 

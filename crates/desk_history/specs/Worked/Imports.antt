@@ -20,12 +20,14 @@ table = imported (Some 2024010100) 0 (digest 170 ∷ []) [] (grub 2 ∷ grub 3 �
 abbrev pub unstamped : Command
 unstamped = imported None 0 (digest 170 ∷ []) [] (grub 2 ∷ grub 3 ∷ [])
 
+-- signature lists are imported, twice
 abbrev pub listed_steps : List Step
 listed_steps = with_people (
     accepted (by (codes "olga") (codes "olga-1") lists) (counts 1 1 0 1)
     ∷ accepted (by (codes "olga") (codes "olga-2") lists) (counts 0 0 0 1)
     ∷ [])
 
+-- the table is imported, first without a stamp
 abbrev pub tabled_steps : List Step
 tabled_steps = with_people (
     refused (by (codes "olga") (codes "olga-1") unstamped) refusals.StampNotLater
@@ -33,21 +35,26 @@ tabled_steps = with_people (
     ∷ accepted (by (codes "olga") (codes "olga-3") unstamped) (counts 0 0 0 0)
     ∷ [])
 
+-- the calls that were accepted of the first
 abbrev pub listed_history : History
 listed_history = by (codes "olga") (codes "olga-2") lists ∷ by (codes "olga") (codes "olga-1") lists ∷ people_added
 
+-- and of the second
 abbrev pub tabled_history : History
 tabled_history = by (codes "olga") (codes "olga-3") unstamped ∷ by (codes "olga") (codes "olga-2") table ∷ people_added
 
+-- each call is answered so
 abbrev pub AnswersImports : Type 0
 AnswersImports =
     (answers [] (calls_of listed_steps) ≡ answers_of listed_steps)
     × (answers [] (calls_of tabled_steps) ≡ answers_of tabled_steps)
 
+-- and these are the calls that were accepted
 abbrev pub KeepsImports : Type 0
 KeepsImports =
     (run [] (calls_of listed_steps) ≡ listed_history) × (run [] (calls_of tabled_steps) ≡ tabled_history)
 
+-- the rows, the level and its stamp after them
 abbrev pub TablesImports : Type 0
 TablesImports =
     ((tables (codes "owner") listed_history).revoked_digests ≡ digest 170 ∷ [])

@@ -12,6 +12,7 @@ use Rattle.desk_history.specs.declared.answer.Answer.TheVariants.{Repeated}
 use Rattle.desk_history.specs.Worked.{Step, accepted, answers_of, by, calls_of, digest, people_added, person, refused, submit, with_people}
 use Rattle.desk_history.specs.Worked.Reviews.{a}
 
+-- keys that are given again, and names that are taken
 abbrev pub steps : List Step
 steps = with_people (
     accepted (by (codes "ann") (codes "k1") (submit a)) (replies.Submitted 1)
@@ -26,6 +27,7 @@ steps = with_people (
     ∷ refused (person (codes "zoe") roles.Officer 1) refusals.NameTaken
     ∷ [])
 
+-- the calls that were accepted, the newest first
 abbrev pub history : History
 history =
     by (codes "ann") (codes "k2") (command.Withdraw 1)
@@ -33,8 +35,10 @@ history =
     ∷ by (codes "ann") (codes "k1") (submit a)
     ∷ people_added
 
+-- each call is answered so
 abbrev pub AnswersKeys : Type 0
 AnswersKeys = answers [] (calls_of steps) ≡ answers_of steps
 
+-- a repeated submission makes no second request
 abbrev pub KeepsKeys : Type 0
 KeepsKeys = (run [] (calls_of steps) ≡ history) × (length (requests history) ≡ 2)

@@ -16,6 +16,7 @@ use Rattle.desk_history.specs.Worked.{Step, accepted, answers_of, by, calls_of, 
 abbrev pub with_grub : ℕ → Facts
 with_grub generation = image 21 22 22 [] (grub generation ∷ [])
 
+-- raises of the level, and what they bar
 abbrev pub steps : List Step
 steps = with_people (
     accepted (by (codes "olga") (codes "olga-1") (raise (codes "grub") 3 2024010100)) replies.Raised
@@ -26,15 +27,18 @@ steps = with_people (
     ∷ accepted (by (codes "olga") (codes "olga-5") (command.ListDigest (digest 22))) replies.Listed
     ∷ [])
 
+-- the calls that were accepted, the newest first
 abbrev pub history : History
 history =
     by (codes "olga") (codes "olga-5") (command.ListDigest (digest 22))
     ∷ by (codes "olga") (codes "olga-1") (raise (codes "grub") 3 2024010100)
     ∷ people_added
 
+-- each call is answered so
 abbrev pub AnswersLevels : Type 0
 AnswersLevels = answers [] (calls_of steps) ≡ answers_of steps
 
+-- and these are the calls that were accepted
 abbrev pub KeepsLevels : Type 0
 KeepsLevels = run [] (calls_of steps) ≡ history
 
@@ -51,6 +55,7 @@ SaysLevels =
     × (verdict history (with_grub 10) ≡ says.Allowed)
     × (verdict history (with_grub 4294967295) ≡ says.Allowed)
 
+-- the rows of the level and its stamp
 abbrev pub TablesLevels : Type 0
 TablesLevels =
     ((tables (codes "owner") history).components ≡ grub 3 ∷ [])

@@ -31,9 +31,11 @@ signed = image 13 11 11 (c ∷ []) []
 abbrev pub changed : Facts
 changed = image 14 15 15 (c ∷ []) []
 
+-- lists C
 abbrev pub list_c : Command
 list_c = command.ListCertificate (record { tbs = c; body = codes "30053003020101" })
 
+-- takes C off
 abbrev pub unlist_c : Command
 unlist_c = command.Unlist (record { kind = kinds.Certificate; digest = c })
 
@@ -60,29 +62,36 @@ revoked =
     ∷ refused (by (codes "ann") (codes "ann-5") (submit signed)) refusals.Revoked
     ∷ []
 
+-- the history after the return
 abbrev pub after_return : History
 after_return =
     by (codes "sid") (codes "sid-3") (give_back 1 signed)
     ∷ by (codes "olga") (codes "olga-1") list_c
     ∷ reviews.history
 
+-- after the revocation
 abbrev pub after_revocation : History
 after_revocation = by (codes "olga") (codes "olga-3") (command.RevokeCertificate c) ∷ after_return
 
+-- after C was taken off
 abbrev pub after_unlisting : History
 after_unlisting = by (codes "olga") (codes "olga-5") unlist_c ∷ after_revocation
 
+-- each call is answered so
 abbrev pub AnswersReturns : Type 0
 AnswersReturns = answers reviews.history (calls_of (returned ++ revoked)) ≡ answers_of (returned ++ revoked)
 
+-- and these are the calls that were accepted
 abbrev pub KeepsReturns : Type 0
 KeepsReturns =
     (run reviews.history (calls_of returned) ≡ after_return)
     × (run after_return (calls_of revoked) ≡ after_unlisting)
 
+-- the tables after the return
 abbrev day : Tables
 day = tables (codes "owner") after_return
 
+-- the rows after the return, and after C was taken off
 abbrev pub TablesReturns : Type 0
 TablesReturns =
     (map (λ r. r.state) day.requests ≡ states.Rejected ∷ states.Signed ∷ [])
@@ -121,6 +130,7 @@ unpadded = image 16 17 18 [] []
 abbrev pub signed_unpadded : Facts
 signed_unpadded = image 19 17 17 (c ∷ []) []
 
+-- the same, padded
 abbrev pub signed_padded : Facts
 signed_padded = image 20 18 18 (c ∷ []) []
 
@@ -133,6 +143,7 @@ approved =
     ∷ accepted (by (codes "raul") (codes "raul-2") (vote 3 Yes)) (reviewed 3 states.Approved)
     ∷ []
 
+-- the steps in which sid returns this file for request 3
 abbrev taking : Facts → List Step
 taking x = approved ++ accepted (by (codes "sid") (codes "sid-1") (give_back 3 x)) (replies.Returned 3) ∷ []
 

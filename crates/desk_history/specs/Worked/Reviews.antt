@@ -40,6 +40,7 @@ history =
     ∷ by (codes "ann") (codes "ann-1") (submit a)
     ∷ people_added
 
+-- the tables after the day
 abbrev day : Tables
 day = tables (codes "owner") history
 

@@ -9,7 +9,8 @@ ghost use Rattle.desk_texts.specs.declared.caller.Caller.{Caller as CallerValue}
 ghost use Rattle.desk_texts.specs.declared.command.Command.TheVariants as Command;
 ghost use Rattle.desk_rules.specs.Decisions.{DecidesOwn, revocation_writes};
 ghost use Rattle.desk_rules.specs.ImportSteps as spec;
-ghost use Rattle.desk_history.specs.Refusals.{is_later, may_answer};
+ghost use Rattle.desk_history.specs.Refusals.{is_later};
+ghost use Rattle.desk_history.specs.DecisionRefusals.{may_answer};
 ghost use Rattle.desk_rules.specs.Views.{generation_in};
 
 use super::level::put;
@@ -200,7 +201,8 @@ fn take_all(
 
 /// Writes the revoked digests of this kind, after others.
 fn put_revoked(writes: &mut Vec<Write>, kind: ListedKind, digests: &[Digest]) -> Result<(), Refusal>
-    ensures ok { OnOk result (writes.new.items ≡ writes.old.items ++ revocation_writes kind digests.now) }
+    ensures ok { OnOk result (writes.new.items
+        ≡ writes.old.items ++ revocation_writes kind digests.now) }
     ensures err { IfErr result (λ refusal. refusal ≡ Refusal.NoMemory) }
 {
     for digest in digests {

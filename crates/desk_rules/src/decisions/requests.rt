@@ -168,7 +168,8 @@ pub(crate) fn withdraw(
     caller: &Caller,
     request: RequestNumber,
 ) -> Result<Changes, Refusal>
-    ensures { spec.Decided result (spec.withdraw_refusal_in view.now request (caller_name caller.now))
+    ensures { spec.Decided result
+        (spec.withdraw_refusal_in view.now request (caller_name caller.now))
         (replies.Withdrawn request)
         (puts.State (record { request = request; state = State.Withdrawn }) ∷ []) }
 {
