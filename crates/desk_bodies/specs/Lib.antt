@@ -1,2 +1,3 @@
-pub mod Members
 pub mod Bodies
+pub mod Forms
+pub mod Members

@@ -1,7 +1,8 @@
 //! The values of members, in their forms.
 ghost use Rattle.std.specs.Prelude.{◌≡◌, IfOk, IfErr, None, Some, true};
 ghost use Rattle.serde_json.specs.View.{view};
-ghost use Rattle.desk_bodies.specs.Bodies as spec;
+ghost use Rattle.desk_bodies.specs.Bodies.{Refuses, data_of};
+ghost use Rattle.desk_bodies.specs.Forms as form;
 
 use crate::BodyFault;
 use desk_bytes::Digest;
@@ -13,8 +14,8 @@ use std::str;
 
 /// The value of a JSON text.
 pub(crate) fn parse(alloc: Global, body: &[u8]) -> Result<Value, BodyFault>
-    ensures ok { IfOk result (λ value. spec.data_of body.now ≡ Some (view value)) }
-    ensures err { IfErr result (spec.Refuses (spec.data_of body.now)) }
+    ensures ok { IfOk result (λ value. data_of body.now ≡ Some (view value)) }
+    ensures err { IfErr result (Refuses (data_of body.now)) }
 {
     let Ok(text) = str::from_utf8(body) else {
         return Err(BodyFault::BadBody);
@@ -33,7 +34,7 @@ pub(crate) fn parse(alloc: Global, body: &[u8]) -> Result<Value, BodyFault>
 
 /// The digest that a value's 64 hexadecimal digits spell.
 pub(crate) fn digest(value: &Value) -> Option<Digest>
-    ensures { result ≡ spec.digest_in (view value.now) }
+    ensures { result ≡ form.digest_in (view value.now) }
 {
     let text = value.as_str()?;
     match Digest::parse(text.as_bytes()) {
@@ -44,7 +45,7 @@ pub(crate) fn digest(value: &Value) -> Option<Digest>
 
 /// The vote whose word the value is.
 pub(crate) fn vote(value: &Value) -> Option<Vote>
-    ensures { result ≡ spec.vote_in (view value.now) }
+    ensures { result ≡ form.vote_in (view value.now) }
 {
     let text = value.as_str()?;
     if text == Vote::Yes.text() {
@@ -58,7 +59,7 @@ pub(crate) fn vote(value: &Value) -> Option<Vote>
 
 /// The kind whose word the value is.
 pub(crate) fn kind(value: &Value) -> Option<ListedKind>
-    ensures { result ≡ spec.kind_in (view value.now) }
+    ensures { result ≡ form.kind_in (view value.now) }
 {
     let text = value.as_str()?;
     if text == ListedKind::Digest.text() {
@@ -72,7 +73,7 @@ pub(crate) fn kind(value: &Value) -> Option<ListedKind>
 
 /// The generation whose number the value is.
 pub(crate) fn generation(value: &Value) -> Option<Generation>
-    ensures { result ≡ spec.generation_in (view value.now) }
+    ensures { result ≡ form.generation_in (view value.now) }
 {
     let number = value.as_u64()?;
     match u32::try_from(number) {
@@ -83,15 +84,15 @@ pub(crate) fn generation(value: &Value) -> Option<Generation>
 
 /// The stamp whose number the value is.
 pub(crate) fn stamp(value: &Value) -> Option<Stamp>
-    ensures { result ≡ spec.stamp_in (view value.now) }
+    ensures { result ≡ form.stamp_in (view value.now) }
 {
     Stamp::new(value.as_u64()?)
 }
 
 /// The note that the value is.
 pub(crate) fn note(alloc: Global, value: &Value) -> Result<Note, BodyFault>
-    ensures ok { IfOk result (λ note. spec.note_in (view value.now) ≡ Some note) }
-    ensures err { IfErr result (spec.Refuses (spec.note_in (view value.now))) }
+    ensures ok { IfOk result (λ note. form.note_in (view value.now) ≡ Some note) }
+    ensures err { IfErr result (Refuses (form.note_in (view value.now))) }
 {
     let Some(text) = value.as_str() else {
         return Err(BodyFault::BadBody);
@@ -105,8 +106,8 @@ pub(crate) fn note(alloc: Global, value: &Value) -> Result<Note, BodyFault>
 
 /// The component's name that the value is.
 pub(crate) fn component(alloc: Global, value: &Value) -> Result<ComponentName, BodyFault>
-    ensures ok { IfOk result (λ name. spec.name_in (view value.now) ≡ Some name) }
-    ensures err { IfErr result (spec.Refuses (spec.name_in (view value.now))) }
+    ensures ok { IfOk result (λ name. form.name_in (view value.now) ≡ Some name) }
+    ensures err { IfErr result (Refuses (form.name_in (view value.now))) }
 {
     let Some(text) = value.as_str() else {
         return Err(BodyFault::BadBody);

@@ -57,6 +57,7 @@ NoRoute POST /nowhere HTTP/1.1||
 NoRoute GET /nowhere HTTP/1.1|Content-Length: 1||
 NoRoute POST /nowhere HTTP/1.1|Content-Length: 134217729||
 NoRoute GET /requests/007/x HTTP/1.1||
+NoRoute POST /requests/12/review/x HTTP/1.1|Content-Length: 1||
 BadMethod PUT /level HTTP/1.1||
 BadMethod get /level HTTP/1.1||
 BadMethod HEAD /level HTTP/1.1||
