@@ -28,7 +28,8 @@ pub enum Refusal {
     Sections,
     /// A section's raw data begins within the headers, or shares a byte with another's.
     Overlap,
-    /// The certificate table isn't the end of the file, or an entry of it isn't whole.
+    /// The certificate table isn't the end of the file or begins before the sections' end, or an entry of it
+    /// isn't whole.
     Table,
     /// No DER element, SignedData or certificate stands where one is needed.
     Der,

@@ -8,6 +8,38 @@ ghost use Rattle.desk_words.specs.Commands.{word_rule};
 use clap::{Arg, Command};
 use std::alloc::{AllocError, Global};
 
+/// What the help of `pack` ends with.
+const PACK: &str = "\
+Reads lines of 64 hexadecimal digits from standard input, and writes one list to standard output.
+
+Example: desk pack 00112233-4455-6677-8899-aabbccddeeff < digests.txt > dbx.esl
+
+Status: 0 done, 1 a line was refused, 2 the words are wrong, 3 a device failed";
+
+/// What the help of `ranges` ends with.
+const RANGES: &str = "\
+Reads FILE, and writes a line FROM-TO for each range, half-open, and then the gap.
+
+Example: desk ranges shimx64.efi
+
+Status: 0 done, 1 the image was refused, 2 the words are wrong, 3 a device failed";
+
+/// What the help of `facts` ends with.
+const FACTS: &str = "\
+Reads FILE, and writes a line for its length, each digest, the gap, each certificate and each component.
+
+Example: desk facts shimx64.efi
+
+Status: 0 done, 1 the image was refused, 2 the words are wrong, 3 a device failed";
+
+/// What the help of `list` ends with.
+const LIST: &str = "\
+Reads FILE, and writes a line OFFSET KIND COUNT for each signature list in it.
+
+Example: desk list dbx.esl
+
+Status: 0 done, 1 the file was refused, 2 the words are wrong, 3 a device failed";
+
 /// What help shows of a word.
 #[derive(Clone, Copy)]
 struct Shown<'a> {
@@ -44,13 +76,14 @@ fn subcommand<'a>(
     alloc: Global,
     name: &'a str,
     about: &'a str,
+    more: &'a str,
     words: &[Shown<'a>],
 ) -> Result<Command<'a>, AllocError>
     requires { length words.now ≤ length ids }
     ensures shape { IfOk result (λ c. shape_of c ≡ subcommand_shape name.now (length words.now)) }
     ensures local { IfOk result (λ c. (out-Command c).has_globals ≡ false) }
 {
-    let mut command = Command::new(alloc, name).about(about);
+    let mut command = Command::new(alloc, name).about(about).after_help(more);
     for (place, shown) in words.iter().enumerate() {
         command = command.arg(word(alloc, id_at(place), shown))?;
     }
@@ -63,13 +96,14 @@ fn with_one_more<'a>(
     command: Command<'a>,
     name: &'a str,
     about: &'a str,
+    more: &'a str,
     words: &[Shown<'a>],
 ) -> Result<Command<'a>, AllocError>
     requires { length words.now ≤ length ids }
     ensures { IfOk result (λ c. app_of c
         ≡ with_subcommand (app_of command.entry) (subcommand_shape name.now (length words.now))) }
 {
-    let added = subcommand(alloc, name, about, words)?;
+    let added = subcommand(alloc, name, about, more, words)?;
     command.subcommand(added)
 }
 
@@ -90,6 +124,7 @@ fn with_readers<'a>(alloc: Global, command: Command<'a>) -> Result<Command<'a>, 
         command,
         "ranges",
         "Prints the ranges of an EFI image that its Authenticode digest is made of",
+        RANGES,
         &[image],
     )?;
     let command = with_one_more(
@@ -97,6 +132,7 @@ fn with_readers<'a>(alloc: Global, command: Command<'a>) -> Result<Command<'a>, 
         command,
         "facts",
         "Prints the digests, certificates and SBAT components of an EFI image",
+        FACTS,
         &[image],
     )?;
     with_one_more(
@@ -104,6 +140,7 @@ fn with_readers<'a>(alloc: Global, command: Command<'a>) -> Result<Command<'a>, 
         command,
         "list",
         "Prints the place, kind and count of each signature list in a file",
+        LIST,
         &[lists],
     )
 }
@@ -128,6 +165,7 @@ pub fn desk_command<'a>(alloc: Global) -> Result<Command<'a>, AllocError>
         bare,
         "pack",
         "Packs the digests on standard input, one a line in hexadecimal, into a signature list",
+        PACK,
         &[owner],
     )?;
     with_readers(alloc, command)

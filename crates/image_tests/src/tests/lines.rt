@@ -1,10 +1,11 @@
 //! The lines that are printed of facts, of lists and of a fault.
 use super::{Call, check, image, parted};
-use desk_bytes::{Refusal, WriteFailed};
+use desk_bytes::{Guid, Refusal, WriteFailed};
 use desk_lines::{Fault, MOST_BYTES, print_facts, print_fault, print_list};
 use desk_service::facts;
 use desk_testing::Narrow;
 use pe_image::Bytes;
+use siglist::pack;
 use std::alloc::Global;
 use std::io::ErrorKind;
 use std::test::Fail;
@@ -162,5 +163,24 @@ fn prints_the_line_of_a_fault(rt: HostRuntime) -> Result<(), Fail> {
     tell(&mut told, Refusal::Reopen, None)?;
     tell(&mut told, Refusal::File, None)?;
     assert!(rt; told.as_slice() == FAULTS.as_bytes());
+    Ok(())
+}
+
+/// 64 digits, and twice 63.
+const SHORT: &str = "\
+0000000000000000000000000000000000000000000000000000000000000000
+000000000000000000000000000000000000000000000000000000000000000
+000000000000000000000000000000000000000000000000000000000000000
+";
+
+#[test]
+fn prints_why_a_text_is_not_packed(rt: HostRuntime) -> Result<(), Fail> {
+    let owner = Guid::parse("00112233-4455-6677-8899-aabbccddeeff")?;
+    let mut list = Vec::new(rt.alloc());
+    let mut out = Vec::new(rt.alloc());
+    let answer = pack(rt.alloc(), &owner, &mut SHORT.as_bytes(), &mut list);
+    let fault = Fault::from(answer.err().ok_or("it is packed")?);
+    assert!(rt; print_fault(fault.refusal, fault.place, &mut out) == 1);
+    assert!(rt; out.as_slice() == b"refused 18 Line at 2\n".as_slice() && list.is_empty());
     Ok(())
 }
