@@ -69,10 +69,10 @@ fn fill_row(alloc: Global, tx: &mut Transaction<'_, FileStore<File>>, n: u32) ->
     insert(
         tx,
         INSERT_REQUEST,
-        params![n, "ann", &name, 1024u32, 0u32, &digest, &digest, &digest, "open"],
+        params![n, "ann", &name, 1024u32, 0u32, digest.as_slice(), digest.as_slice(), digest.as_slice(), "open"],
     )?;
-    insert(tx, INSERT_LISTED, params!["digest", &digest, &[0u8; 0]])?;
-    insert(tx, INSERT_REVOKED_DIGEST, params![&digest])?;
+    insert(tx, INSERT_LISTED, params!["digest", digest.as_slice(), [0u8; 0].as_slice()])?;
+    insert(tx, INSERT_REVOKED_DIGEST, params![digest.as_slice()])?;
     insert(tx, INSERT_COMPONENT, params![&name, n])
 }
 
@@ -82,7 +82,7 @@ fn fill(alloc: Global, conn: &mut Desk, rows: u32) -> Result<(), Error> {
     }
     let mut tx = conn.transaction();
     make(&mut tx)?;
-    insert(&mut tx, INSERT_DESK, params![1u32, "boot-desk", 1u32, &[9u8; 16], 2021030218u32])?;
+    insert(&mut tx, INSERT_DESK, params![1u32, "boot-desk", 1u32, [9u8; 16].as_slice(), 2021030218u32])?;
     for n in 0..rows {
         fill_row(alloc, &mut tx, n)?;
     }
@@ -105,16 +105,16 @@ fn run(
             insert(tx, INSERT_CALL, params![fresh, "console", &new, "revoke-digest", "revoked"])
         }
         Statement::InsertRevokedDigest => {
-            insert(tx, INSERT_REVOKED_DIGEST, params![&digest_of(fresh)])
+            insert(tx, INSERT_REVOKED_DIGEST, params![digest_of(fresh).as_slice()])
         }
         Statement::UpdateState => update(tx, UPDATE_STATE, params![n, "approved"]),
         Statement::UpdateGeneration => update(tx, UPDATE_GENERATION, params![&name, n]),
         Statement::UpdateStamp => update(tx, UPDATE_STAMP, params![n]),
-        Statement::DeleteListed => delete(tx, DELETE_LISTED, params!["digest", &digest]),
+        Statement::DeleteListed => delete(tx, DELETE_LISTED, params!["digest", digest.as_slice()]),
         Statement::SelectCall => look(tx, SELECT_CALL, params!["console", &name]),
         Statement::SelectRequest => look(tx, SELECT_REQUEST, params![n]),
-        Statement::SelectListed => look(tx, SELECT_LISTED, params!["digest", &digest]),
-        Statement::SelectRevokedDigest => look(tx, SELECT_REVOKED_DIGEST, params![&digest]),
+        Statement::SelectListed => look(tx, SELECT_LISTED, params!["digest", digest.as_slice()]),
+        Statement::SelectRevokedDigest => look(tx, SELECT_REVOKED_DIGEST, params![digest.as_slice()]),
         Statement::SelectComponent => look(tx, SELECT_COMPONENT, params![&name]),
         Statement::SelectDesk => look(tx, SELECT_DESK, &[]),
         Statement::CountCalls => tally(tx, COUNT_CALLS, &[]),
