@@ -9,7 +9,8 @@ use sqlite::{Alter, Connection};
 
 /// Outside a transaction a stop leaves exactly the rows that an open connection shows.
 pub fn stop_leaves_what_is_shown<S: Alter>(conn: &Connection<S>)
-    ensures { (schema : Schema) (c : Contents) → Shows schema (state S.Store conn.now) c → IsTrue (state S.Store conn.now).is_open
+    ensures { (schema : Schema) (c : Contents) → Shows schema (state S.Store conn.now) c
+        → IsTrue (state S.Store conn.now).is_open
         → Leaves (state S.Store conn.now) (λ db. HoldRows db schema.tables c) }
 {
     let _ = conn;

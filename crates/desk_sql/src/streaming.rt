@@ -17,8 +17,11 @@ pub fn stream<S: Alter>(
     sql: &str,
     params: &[ValueRef<'_>],
 ) -> Result<Vec<Row>, Error>
-    ensures value { HasCleanDisk (state S.Store conn.new) → IfOk result (λ rows. Streams sql.now (bound params.now) (state S.Store conn.old) (state S.Store conn.new) rows.items) }
-    ensures survives { Survives (state S.Store conn.old) (state S.Store conn.new) (CommitsShowing sql.now (bound params.now) (state S.Store conn.old)) }
+    ensures value { HasCleanDisk (state S.Store conn.new)
+        → IfOk result (λ rows. Streams sql.now (bound params.now) (state S.Store conn.old)
+        (state S.Store conn.new) rows.items) }
+    ensures survives { Survives (state S.Store conn.old) (state S.Store conn.new)
+        (CommitsShowing sql.now (bound params.now) (state S.Store conn.old)) }
 {
     let mut all = Vec::new(alloc);
     let mut rows = conn.query(sql, params)?;

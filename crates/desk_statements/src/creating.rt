@@ -27,11 +27,15 @@ pub const CREATE_TABLES: [&str; 12] = [
 /// Makes the twelve tables in a store that has none.
 pub fn make<S: Alter>(tx: &mut Transaction<'_, S>) -> Result<(), Error>
     ensures same_reference { tx.new.conn.ghost_name ≡ tx.old.conn.ghost_name }
-    ensures value { HasCleanDisk (state S.Store tx.new.conn.now) → IsTrue (state S.Store tx.old.conn.now).in_transaction
-        → OnOk result (Makes (state S.Store tx.old.conn.now) (state S.Store tx.new.conn.now) no_schema desk_schema) }
-    ensures kept { HasCleanDisk (state S.Store tx.new.conn.now) → IsTrue (state S.Store tx.old.conn.now).in_transaction
+    ensures value { HasCleanDisk (state S.Store tx.new.conn.now)
+        → IsTrue (state S.Store tx.old.conn.now).in_transaction
+        → OnOk result (Makes (state S.Store tx.old.conn.now)
+        (state S.Store tx.new.conn.now) no_schema desk_schema) }
+    ensures kept { HasCleanDisk (state S.Store tx.new.conn.now)
+        → IsTrue (state S.Store tx.old.conn.now).in_transaction
         → KeepsCommit (state S.Store tx.old.conn.now) (state S.Store tx.new.conn.now) }
-    ensures survives { Survives (state S.Store tx.old.conn.now) (state S.Store tx.new.conn.now) (λ _. ⊥) }
+    ensures survives { Survives (state S.Store tx.old.conn.now) (state S.Store tx.new.conn.now)
+        (λ _. ⊥) }
 {
     match create_tables(tx, &CREATE_TABLES) {
         Ok(()) => Ok(()),

@@ -56,7 +56,8 @@ fn take_digest(
     digest: Digest,
 ) -> Result<(), Refusal>
     ensures ok { OnOk result (new.new.items
-        ≡ (if not (is_among known.old.keys digest) then new.old.items ++ digest ∷ [] else new.old.items)) }
+        ≡ (if not (is_among known.old.keys digest) then new.old.items ++ digest
+        ∷ [] else new.old.items)) }
     ensures known { OnOk result ((q : List ℕ) → is_among known.new.keys q
         ≡ (bytes_eq q digest || is_among known.old.keys q)) }
     ensures err { IfErr result (λ refusal. refusal ≡ Refusal.NoMemory) }

@@ -54,7 +54,8 @@ impl View {
     /// Whether the caller voted on the request.
     fn has_voted(&self, number: RequestNumber, caller: &Caller) -> bool
         ensures { result
-            ≡ list_any (is_vote_of (caller_name caller.now)) (votes_on self.now.votes.items number) }
+            ≡ list_any (is_vote_of (caller_name caller.now))
+        (votes_on self.now.votes.items number) }
     {
         self.votes
             .iter()

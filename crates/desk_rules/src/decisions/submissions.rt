@@ -24,7 +24,8 @@ fn put_certificates(
     carried: &[Digest],
 ) -> Result<(), Refusal>
     ensures ok { OnOk result (writes.new.items
-        ≡ writes.old.items ++ map (λ row. puts.RequestCertificate row) (reverse (carried_rows request carried.now))) }
+        ≡ writes.old.items ++ map (λ row. puts.RequestCertificate row) (reverse
+        (carried_rows request carried.now))) }
     ensures err { IfErr result (λ refusal. refusal ≡ Refusal.NoMemory) }
 {
     let mut place = carried.len();
@@ -44,7 +45,8 @@ fn put_components(
     components: &[Component],
 ) -> Result<(), Refusal>
     ensures ok { OnOk result (writes.new.items
-        ≡ writes.old.items ++ map (λ row. puts.RequestComponent row) (reverse (placed_from request 0 components.now))) }
+        ≡ writes.old.items ++ map (λ row. puts.RequestComponent row) (reverse
+        (placed_from request 0 components.now))) }
     ensures err { IfErr result (λ refusal. refusal ≡ Refusal.NoMemory) }
 {
     let mut place = components.len();
