@@ -62,18 +62,49 @@ fn digest_of(n: u32) -> [u8; 32] {
     digest
 }
 
+/// Calls without clauses, so that a proof of many of them stays short.
+fn put(
+    tx: &mut Transaction<'_, FileStore<File>>,
+    sql: &str,
+    params: &[sqlite::types::ValueRef<'_>],
+) -> Result<(), Error> {
+    insert(tx, sql, params)
+}
+
+fn set(
+    tx: &mut Transaction<'_, FileStore<File>>,
+    sql: &str,
+    params: &[sqlite::types::ValueRef<'_>],
+) -> Result<(), Error> {
+    update(tx, sql, params)
+}
+
+fn take_out(
+    tx: &mut Transaction<'_, FileStore<File>>,
+    sql: &str,
+    params: &[sqlite::types::ValueRef<'_>],
+) -> Result<(), Error> {
+    delete(tx, sql, params)
+}
+
+fn read_all(rt: &HostRuntime, conn: &mut Desk, sql: &str) -> io::Result<()> {
+    let rows = or_other(stream(rt.alloc(), conn, sql, &[]))?;
+    let _ = rows;
+    Ok(())
+}
+
 fn fill_row(alloc: Global, tx: &mut Transaction<'_, FileStore<File>>, n: u32) -> Result<(), Error> {
     let name = format!(in alloc; "n{n}")?;
     let digest = digest_of(n);
-    insert(tx, INSERT_CALL, params![n, "console", &name, "revoke-digest", "revoked"])?;
-    insert(
+    put(tx, INSERT_CALL, params![n, "console", &name, "revoke-digest", "revoked"])?;
+    put(
         tx,
         INSERT_REQUEST,
         params![n, "ann", &name, 1024u32, 0u32, digest.as_slice(), digest.as_slice(), digest.as_slice(), "open"],
     )?;
-    insert(tx, INSERT_LISTED, params!["digest", digest.as_slice(), [0u8; 0].as_slice()])?;
-    insert(tx, INSERT_REVOKED_DIGEST, params![digest.as_slice()])?;
-    insert(tx, INSERT_COMPONENT, params![&name, n])
+    put(tx, INSERT_LISTED, params!["digest", digest.as_slice(), [0u8; 0].as_slice()])?;
+    put(tx, INSERT_REVOKED_DIGEST, params![digest.as_slice()])?;
+    put(tx, INSERT_COMPONENT, params![&name, n])
 }
 
 fn fill(alloc: Global, conn: &mut Desk, rows: u32) -> Result<(), Error> {
@@ -82,7 +113,7 @@ fn fill(alloc: Global, conn: &mut Desk, rows: u32) -> Result<(), Error> {
     }
     let mut tx = conn.transaction();
     make(&mut tx)?;
-    insert(&mut tx, INSERT_DESK, params![1u32, "boot-desk", 1u32, [9u8; 16].as_slice(), 2021030218u32])?;
+    put(&mut tx, INSERT_DESK, params![1u32, "boot-desk", 1u32, [9u8; 16].as_slice(), 2021030218u32])?;
     for n in 0..rows {
         fill_row(alloc, &mut tx, n)?;
     }
@@ -102,15 +133,15 @@ fn run(
     match statement {
         Statement::InsertCall => {
             let new = format!(in alloc; "n{fresh}")?;
-            insert(tx, INSERT_CALL, params![fresh, "console", &new, "revoke-digest", "revoked"])
+            put(tx, INSERT_CALL, params![fresh, "console", &new, "revoke-digest", "revoked"])
         }
         Statement::InsertRevokedDigest => {
-            insert(tx, INSERT_REVOKED_DIGEST, params![digest_of(fresh).as_slice()])
+            put(tx, INSERT_REVOKED_DIGEST, params![digest_of(fresh).as_slice()])
         }
-        Statement::UpdateState => update(tx, UPDATE_STATE, params![n, "approved"]),
-        Statement::UpdateGeneration => update(tx, UPDATE_GENERATION, params![&name, n]),
-        Statement::UpdateStamp => update(tx, UPDATE_STAMP, params![n]),
-        Statement::DeleteListed => delete(tx, DELETE_LISTED, params!["digest", digest.as_slice()]),
+        Statement::UpdateState => set(tx, UPDATE_STATE, params![n, "approved"]),
+        Statement::UpdateGeneration => set(tx, UPDATE_GENERATION, params![&name, n]),
+        Statement::UpdateStamp => set(tx, UPDATE_STAMP, params![n]),
+        Statement::DeleteListed => take_out(tx, DELETE_LISTED, params!["digest", digest.as_slice()]),
         Statement::SelectCall => look(tx, SELECT_CALL, params!["console", &name]),
         Statement::SelectRequest => look(tx, SELECT_REQUEST, params![n]),
         Statement::SelectListed => look(tx, SELECT_LISTED, params!["digest", digest.as_slice()]),
@@ -140,8 +171,8 @@ fn tally(
     Ok(())
 }
 
-fn or_other<T: Drop>(result: Result<T, Error>) -> io::Result<T> {
-    match result {
+fn or_other<T: Drop>(given: Result<T, Error>) -> io::Result<T> {
+    match given {
         Ok(value) => Ok(value),
         Err(_) => Err(io::Error::from(io::ErrorKind::Other)),
     }
@@ -190,16 +221,19 @@ fn time_one(
 
 fn time_stream(rt: &HostRuntime, conn: &mut Desk, label: &str, sql: &str) -> io::Result<()> {
     let start = Instant::now(rt)?;
-    let rows = or_other(stream(rt.alloc(), conn, sql, &[]))?;
+    read_all(rt, conn, sql)?;
     let nanos = start.elapsed(rt)?.as_nanos();
-    let _ = rows;
     println!(rt; "{label} {nanos}")?;
     Ok(())
 }
 
+fn open(rt: &HostRuntime, path: &str) -> io::Result<Desk> {
+    or_other(Connection::open(rt, path))
+}
+
 fn time_all(rt: &HostRuntime, path: &str, rows: u32, rounds: u32) -> io::Result<()> {
     let start = Instant::now(rt)?;
-    let mut conn = or_other(Connection::open(rt, path))?;
+    let mut conn = open(rt, path)?;
     let nanos = start.elapsed(rt)?.as_nanos();
     println!(rt; "open {nanos}")?;
     for (label, statement) in STATEMENTS {
@@ -226,7 +260,7 @@ fn main(rt: HostRuntime) -> io::Result<()> {
     };
     let rows = number(words.get(2));
     if what.as_str() == "fill" {
-        let mut conn = or_other(Connection::open(&rt, path.as_str()))?;
+        let mut conn = open(&rt, path.as_str())?;
         return or_other(fill(rt.alloc(), &mut conn, rows));
     }
     time_all(&rt, path.as_str(), rows, number(words.get(3)))
