@@ -17,7 +17,6 @@ use Rattle.desk_texts.specs.declared.vote.Vote.{Vote}
 use Rattle.desk_history.specs.Calls.{History}
 use Rattle.desk_history.specs.declared.answer.Answer.{Answer}
 use Rattle.desk_history.specs.declared.answer.Answer.TheVariants.{Accepted, Refused}
-
 pub mod Imports
 pub mod Keys
 pub mod Levels
@@ -128,12 +127,12 @@ raise name generation stamp =
 abbrev pub imported : Option ℕ → ℕ → List (List ℕ) → List (List ℕ) → List Component → Command
 imported stamp passed digests certificates components =
     command.ImportRevocations (record {
-  stamp = stamp;
-  passed = passed;
-  digests = digests;
-  certificates = certificates;
-  components = components;
-})
+      stamp = stamp;
+      passed = passed;
+      digests = digests;
+      certificates = certificates;
+      components = components;
+    })
 
 -- the reply to an import that changed so many, and passed over so many entries
 abbrev pub counts : ℕ → ℕ → ℕ → ℕ → Reply

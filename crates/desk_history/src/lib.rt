@@ -29,8 +29,8 @@ pub use rows::{
     ReturnRow, VoteRow,
 };
 pub use rules::{
-    image_refusal, is_above, is_for, is_for_console, is_later, is_same, raise_refusal, refuse_if, return_by,
-    review_by, withdraw_by,
+    image_refusal, is_above, is_for, is_for_console, is_later, is_same, raise_refusal, refuse_if,
+    return_by, review_by, withdraw_by,
 };
 pub use standing::Standing;
 pub use verdicts::{bars, lists_image, verdict_of};

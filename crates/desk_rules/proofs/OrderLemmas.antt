@@ -19,12 +19,13 @@ module _ {X : Type 0} (p : X → Bool) where
   skip x xs ys h =
       let more_xs : count_by p (x ∷ xs) ≡ one_if (p x) + count_by p xs = count_more p x xs in
       let more_ys : count_by p (x ∷ ys) ≡ one_if (p x) + count_by p ys = count_more p x ys in
-      let same : count_by p ys ≡ count_by p xs = h.0 in
-      (omega arith,
-      elim (p x) as (λ b. count_by p (x ∷ xs) ≡ one_if b + count_by p xs → count_by p (x ∷ xs) ≤ 1 → (if b then Some x else find p xs) ≡ (if b then Some x else find p ys)) [
-        | true ↦ λ m few. refl
-        | false ↦ λ m few. h.1 (omega arith)
-      ] more_xs)
+      let same : count_by p ys ≡ count_by p xs = h.0 in (
+        omega arith,
+        elim (p x) as (λ b. count_by p (x ∷ xs) ≡ one_if b + count_by p xs → count_by p (x ∷ xs) ≤ 1 → (if b then Some x else find p xs) ≡ (if b then Some x else find p ys)) [
+          | true ↦ λ m few. refl
+          | false ↦ λ m few. h.1 (omega arith)
+        ] more_xs,
+      )
 
   turn : (x y : X) (xs : List X) → FoundAlike (x ∷ y ∷ xs) (y ∷ x ∷ xs)
   turn x y xs =

@@ -52,12 +52,12 @@ WritesCommands =
     (text_of (command.AddPerson (record { name = codes "olga"; role = roles.Officer; token = aa })) ≡ codes "add-person olga officer aaaa")
     × (text_of (command.Submit (record { title = codes "shim 15.8"; facts = bare })) ≡ codes "submit 1024 0 aaaa bbbb 0cc1 - - shim 15.8")
     × (text_of (command.Submit (record { title = codes "s"; facts = full }))
-        ≡ codes "submit 134217728 512 aaaa bbbb 0cc1 aaaa,bbbb 1:sbat,3:grub s")
+    ≡ codes "submit 134217728 512 aaaa bbbb 0cc1 aaaa,bbbb 1:sbat,3:grub s")
     × (text_of (command.Review (record { request = 7; vote = votes.Yes; note = codes "built it" })) ≡ codes "review 7 yes built it")
     × (text_of (command.Review (record { request = 999999; vote = votes.No; note = [] })) ≡ codes "review 999999 no ")
     × (text_of (command.Withdraw 12) ≡ codes "withdraw 12")
     × (text_of (command.Return (record { request = 3; facts = full }))
-        ≡ codes "return 3 134217728 512 aaaa bbbb 0cc1 aaaa,bbbb 1:sbat,3:grub")
+    ≡ codes "return 3 134217728 512 aaaa bbbb 0cc1 aaaa,bbbb 1:sbat,3:grub")
     × (text_of (command.ListCertificate (record { tbs = aa; body = 48 ∷ 5 ∷ 255 ∷ [] })) ≡ codes "list-certificate aaaa 3005ff")
     × (text_of (command.ListDigest bb) ≡ codes "list-digest bbbb")
     × (text_of (command.Unlist (record { kind = kinds.Digest; digest = aa })) ≡ codes "unlist digest aaaa")
@@ -66,9 +66,9 @@ WritesCommands =
     × (text_of (command.RevokeCertificate cc1) ≡ codes "revoke-certificate 0cc1")
     × (text_of (command.RaiseLevel (record { component = grub; stamp = 2024010100 })) ≡ codes "raise grub 3 2024010100")
     × (text_of (command.ImportRevocations (record { stamp = None; passed = 2; digests = bb ∷ aa ∷ []; certificates = []; components = [] }))
-        ≡ codes "import 0 2 bbbb,aaaa - -")
+    ≡ codes "import 0 2 bbbb,aaaa - -")
     × (text_of (command.ImportRevocations (record { stamp = Some 2024010100; passed = 0; digests = []; certificates = cc1 ∷ []; components = grub ∷ [] }))
-        ≡ codes "import 2024010100 0 - 0cc1 3:grub")
+    ≡ codes "import 2024010100 0 - 0cc1 3:grub")
 
 -- the text of each reply
 abbrev pub WritesReplies : Type 0

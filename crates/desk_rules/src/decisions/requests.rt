@@ -55,7 +55,7 @@ impl View {
     fn has_voted(&self, number: RequestNumber, caller: &Caller) -> bool
         ensures { result
             ≡ list_any (is_vote_of (caller_name caller.now))
-        (votes_on self.now.votes.items number) }
+            (votes_on self.now.votes.items number) }
     {
         self.votes
             .iter()
