@@ -1,5 +1,5 @@
 -- Rows of the table of refusals with their places.
-use Rattle.std.specs.Prelude.{ℕ, Option, None, Some}
+use Rattle.std.specs.Prelude.{None, Some}
 use Rattle.desk_bytes.specs.Inputs as input
 use Rattle.desk_bytes.specs.declared.input.InputFault.{InputFault}
 use Rattle.desk_bytes.specs.declared.refusal.Refusal.{Refusal}

@@ -1,7 +1,6 @@
-use Rattle.std.proofs.Common.{◌++◌, codes, decimal}
+use Rattle.std.proofs.Common.{codes}
 use Rattle.desk_bytes.proofs.OutputLemmas.{AppendsBeginning-before, OnErr-after, OnErr-fact}
-use Rattle.desk_bytes.specs.Refusals.{name_of, number_of}
-use Rattle.desk_lines.specs.FaultLines.{place_text, word_of}
+use Rattle.desk_lines.specs.FaultLines.{place_text}
 use Rattle.desk_lines.proofs.printing.put_end.Goals as goal
 
 pub returns-in_err-put_place-clause-err : goal.returns-in_err-put_place-clause-err
