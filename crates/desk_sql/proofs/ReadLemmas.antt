@@ -111,11 +111,14 @@ shown_after sql params old mid new rows plain same h =
     let none = (subst IsPlain h.1.is plain).0 in
     let full = timed params h.0.formats h.1.now in
     let it = subst (ShowsRows mid new sql h.0 full rows) none h.2 in
-    let now : mid.now ≡ old.now = same.0.now_is in
-    (h.0, record { is = subst (λ (d : Database). understood d.schema sql ≡ Ok h.0) now h.1.is; whole = h.1.whole; given = h.1.given; now = h.1.now },
-     subst (ShowsRows old new sql h.0 full rows) (sym none) (it.0, subst (λ (d : Database). IsSourceOf (reads_listing d.schema sql) d it.0) now it.1, it.2, unchanged_then old mid new same it.3))
+    let now : mid.now ≡ old.now = same.0.now_is in (
+      h.0,
+      record { is = subst (λ (d : Database). understood d.schema sql ≡ Ok h.0) now h.1.is; whole = h.1.whole; given = h.1.given; now = h.1.now },
+      subst (ShowsRows old new sql h.0 full rows) (sym none) (it.0, subst (λ (d : Database). IsSourceOf (reads_listing d.schema sql) d it.0) now it.1, it.2, unchanged_then old mid new same it.3),
+    )
 
 pub streams : (text : List ℕ) (params : Row) (old new : State) (answer : List Row) → Shown text params old new answer → Streams text params old new answer
-streams text params old new answer h schema at table terms order rest names means has =
-    (shown_same text params old new answer (subst (λ (k : Schema). IsPlain (understood k text)) (sym has) means.plain) h,
-     λ c rows held found. finds_rows text params old new answer schema at table terms order rest names means h c rows held found)
+streams text params old new answer h schema at table terms order rest names means has = (
+  shown_same text params old new answer (subst (λ (k : Schema). IsPlain (understood k text)) (sym has) means.plain) h,
+  λ c rows held found. finds_rows text params old new answer schema at table terms order rest names means h c rows held found,
+)

@@ -4,7 +4,7 @@ use Rattle.sqlite.specs.Effect.{Database}
 use Rattle.sqlite.specs.Held.{state}
 use Rattle.sqlite.specs.Listing.{understood}
 use Rattle.sqlite.specs.Schema.{Schema}
-use Rattle.sqlite.specs.State.{HasCleanDisk, Shown, IsUnchanged}
+use Rattle.sqlite.specs.State.{HasCleanDisk, Shown}
 use Rattle.sqlite.specs.Values.{bound}
 use Rattle.desk_sql.proofs.ReadLemmas.{shown_after, streams}
 use Rattle.desk_sql.proofs.streaming.stream.Goals as goal
@@ -28,5 +28,5 @@ returns-in_default-clause-value g c clean schema at table terms order rest names
     let later = subst (λ (d : Database). IsPlain (understood d.schema text)) (sym was.1.0.now_is) plain in
     let same : now ≡ c.conn-in_default-1.given.0 = search rules in
     let all : Shown text params old (state g.S.Store c.conn-in_default-1.given.0) c.rows.all.items =
-        subst (λ h. Shown text params old (state g.S.Store h) c.rows.all.items) same (shown_after text params old (state g.S.Store c.rows.rows.conn.now) (state g.S.Store now) c.rows.all.items later was.1 shown) in
+    subst (λ h. Shown text params old (state g.S.Store h) c.rows.all.items) same (shown_after text params old (state g.S.Store c.rows.rows.conn.now) (state g.S.Store now) c.rows.all.items later was.1 shown) in
     streams text params old (state g.S.Store c.conn-in_default-1.given.0) c.rows.all.items all schema at table terms order rest names means has
