@@ -4,7 +4,7 @@ use Rattle.sqlite.specs.Effect.{Database}
 use Rattle.sqlite.specs.Held.{state}
 use Rattle.sqlite.specs.Listing.{understood}
 use Rattle.sqlite.specs.Schema.{Schema}
-use Rattle.sqlite.specs.State.{HasCleanDisk, Shown, IsUnchanged}
+use Rattle.sqlite.specs.State.{HasCleanDisk, Shown}
 use Rattle.sqlite.specs.Values.{bound}
 use Rattle.desk_sql.proofs.ReadLemmas.{shown_after, streams}
 use Rattle.desk_sql.proofs.streaming.stream.Goals as goal
