@@ -1,6 +1,6 @@
 -- What a desk with this owner exports after these calls: dbx and db as signature lists (UEFI 2.10, section 32.4.1), the
 -- level (shim's SBAT.md), and the minutes.
-use Rattle.std.specs.Prelude.{ℕ, Bool, true, false, List, [], ◌∷◌, ◌++◌, codes, decimal, filter, flat_map, map, reverse}
+use Rattle.std.specs.Prelude.{ℕ, List, ◌++◌, codes, decimal, filter, flat_map, map, reverse}
 use Rattle.sbat.specs.declared.component.Component.{Component}
 use Rattle.sbat.specs.Writing.{head_text, rows_text}
 use Rattle.siglist.specs.SignatureLists.{SignatureList, spelling}

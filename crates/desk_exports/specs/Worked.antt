@@ -1,10 +1,9 @@
 -- Worked exports, written down by hand and computed by the definitions.
 use Rattle.std.specs.Prelude.{◌≡◌, ℕ, List, [], ◌∷◌, codes, None}
-use Rattle.desk_texts.specs.declared.command.Command.{Command}
 use Rattle.desk_texts.specs.declared.command.Command.TheVariants as command
 use Rattle.desk_texts.specs.declared.role.Role.TheVariants as roles
 use Rattle.desk_history.specs.Calls.{History}
-use Rattle.desk_history.specs.Worked.{by, digest, grub, imported, people_added, person, raise}
+use Rattle.desk_history.specs.Worked.{by, digest, imported, people_added, person, raise}
 use Rattle.desk_history.specs.Worked.Imports.{listed_history}
 use Rattle.desk_history.specs.Worked.Levels as levels
 use Rattle.desk_history.specs.Worked.Returns as returns

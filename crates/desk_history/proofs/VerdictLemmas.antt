@@ -1,15 +1,14 @@
 -- Verdicts: which images are allowed, and that what is barred stays barred.
-use Rattle.std.proofs.Common.{◌≡◌, ℕ, ◌+◌, Bool, true, false, ◌||◌, List, [], ◌∷◌, ◌++◌, Option, Some, None, refl, sym, ◌∙◌, ap, subst, ◌↔◌, arith}
+use Rattle.std.proofs.Common.{◌≡◌, ℕ, ◌+◌, Bool, true, false, ◌||◌, List, [], ◌∷◌, ◌++◌, Option, Some, None, refl, sym, subst, ◌↔◌, arith}
 use Rattle.std.specs.Prelude.{if◌then◌else◌, IsTrue, bytes_eq, nat_lt}
 use Rattle.std.specs.List.{list_any}
 use Rattle.std.specs.Option.{option_map_or, option_or}
 use Rattle.std.proofs.lemmas.Bool.Decides.{nat_tests}
 use Rattle.sbat.specs.declared.component.Component.{Component}
-use Rattle.desk_texts.specs.declared.command.Call.{Call}
 use Rattle.desk_texts.specs.declared.facts.Facts.{Facts}
 use Rattle.desk_texts.specs.declared.kind.ListedKind.{ListedKind}
 use Rattle.desk_texts.specs.declared.kind.ListedKind.TheVariants as kinds
-use Rattle.desk_history.specs.Calls.{History, is_among}
+use Rattle.desk_history.specs.Calls.{History}
 use Rattle.desk_history.specs.Forces.{into_force, revoked_in}
 use Rattle.desk_history.specs.Level.{generations, greater_of, greatest, is_sbat}
 use Rattle.desk_history.specs.Revocations.{is_revoked, revocations}

@@ -34,7 +34,7 @@ use Rattle.desk_history.specs.Runs.{repeated}
 use Rattle.desk_history.specs.Verdicts.{bars, lists_image}
 use Rattle.desk_rules.specs.declared.view.Changes.{Changes}
 use Rattle.desk_rules.specs.declared.view.View.{View}
-use Rattle.desk_rules.specs.Decisions.{AppendsCallRow, Decided, Repeats, outcome_after, put_of, return_refusal_in, returned_file_row, review_refusal_in, revocation_writes, submission_writes, vote_row, withdraw_refusal_in}
+use Rattle.desk_rules.specs.DecisionSteps.{AppendsCallRow, Decided, Repeats, outcome_after, put_of, return_refusal_in, returned_file_row, review_refusal_in, revocation_writes, submission_writes, vote_row, withdraw_refusal_in}
 use Rattle.desk_rules.specs.Shown.{is_request_row}
 use Rattle.desk_rules.specs.Views.{generation_in, seen_standing}
 

@@ -1,5 +1,5 @@
 -- What the writes of each command make: people, what is listed, what is revoked.
-use Rattle.std.proofs.Common.{◌≡◌, ℕ, ◌≤◌, Bool, true, false, not, ◌||◌, cond, List, [], ◌∷◌, length, Option, Some, None, Ok, Err, Result, refl, sym, ◌∙◌, ap, subst, inl, inr, arith}
+use Rattle.std.proofs.Common.{◌≡◌, ℕ, Bool, true, false, not, ◌||◌, cond, List, [], ◌∷◌, Option, Some, None, Ok, Err, Result, refl, sym, ◌∙◌, ap, subst, inl, inr}
 use Rattle.std.specs.Prelude.{if◌then◌else◌, MatchResult, IsTrue, bytes_eq, codes, find, is_some}
 use Rattle.std.specs.List.{list_any}
 use Rattle.std.proofs.lemmas.Bool.{or_left}
@@ -28,7 +28,8 @@ use Rattle.desk_history.specs.Tables.{Tables, tables}
 use Rattle.desk_history.specs.Writes.{all_written, written}
 use Rattle.desk_rules.specs.declared.view.Changes.{Changes}
 use Rattle.desk_rules.specs.declared.view.View.{View}
-use Rattle.desk_rules.specs.Decisions.{Decided, DecidesOwn, IsCommandStep, RefusesOwn, called}
+use Rattle.desk_rules.specs.DecisionSteps.{Decided, DecidesOwn, IsCommandStep, RefusesOwn}
+use Rattle.desk_rules.specs.Decisions.{called}
 use Rattle.desk_rules.specs.Shown.{Shows, keys_named, one_key}
 use Rattle.desk_rules.specs.Room.{IsRoomed}
 use Rattle.desk_history.specs.Refusals.{add_refusal, own_refusal, refuse_if}

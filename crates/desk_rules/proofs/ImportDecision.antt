@@ -24,7 +24,8 @@ use Rattle.desk_history.specs.Writes.{all_written}
 use Rattle.desk_rules.specs.declared.decisions.imports.SoFar.{SoFar}
 use Rattle.desk_rules.specs.declared.view.Changes.{Changes}
 use Rattle.desk_rules.specs.declared.view.View.{View}
-use Rattle.desk_rules.specs.Decisions.{IsCommandStep, RefusesOwn, called, revocation_writes}
+use Rattle.desk_rules.specs.DecisionSteps.{IsCommandStep, RefusesOwn, revocation_writes}
+use Rattle.desk_rules.specs.Decisions.{called}
 use Rattle.desk_rules.specs.Shown.{Shows, keys_named}
 use Rattle.desk_rules.specs.ImportSteps.{AreNew, HasTaken, stamp_writes}
 use Rattle.desk_rules.specs.Room.{takes_off}

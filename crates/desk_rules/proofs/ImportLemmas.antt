@@ -17,7 +17,7 @@ use Rattle.desk_texts.specs.Raising.{names_no_sbat}
 use Rattle.desk_history.specs.Tables.{level_row, level_rows}
 use Rattle.desk_history.specs.Writes.{all_written, is_named, written}
 use Rattle.desk_rules.specs.declared.decisions.imports.SoFar.{SoFar}
-use Rattle.desk_rules.specs.Decisions.{put_of}
+use Rattle.desk_rules.specs.DecisionSteps.{put_of}
 use Rattle.desk_rules.specs.ImportSteps.{HasTaken, is_raise, or_else, raised_names, rose}
 use Rattle.desk_rules.specs.Room.{takes_off}
 use Rattle.desk_rules.specs.Views.{generation_in}

@@ -16,7 +16,8 @@ use Rattle.desk_history.specs.Tables.{Tables, level_row, level_rows, tables}
 use Rattle.desk_history.specs.Writes.{set_generation, written}
 use Rattle.desk_rules.specs.declared.view.Changes.{Changes}
 use Rattle.desk_rules.specs.declared.view.View.{View}
-use Rattle.desk_rules.specs.Decisions.{Decided, DecidesOwn, called, put_of}
+use Rattle.desk_rules.specs.DecisionSteps.{Decided, DecidesOwn, put_of}
+use Rattle.desk_rules.specs.Decisions.{called}
 use Rattle.desk_rules.specs.Shown.{keys_named}
 use Rattle.desk_rules.specs.Room.{takes_off}
 use Rattle.desk_history.specs.Refusals.{raise_refusal, refuse_if}

@@ -1,13 +1,13 @@
 -- What is found by a key that one row alone has is found in any order of the rows.
-use Rattle.std.proofs.Common.{◌≡◌, ℕ, ◌+◌, ◌≤◌, Bool, true, false, not, ◌&&◌, List, [], ◌∷◌, length, Option, Some, None, refl, sym, ◌∙◌, ap, arith}
-use Rattle.std.specs.Prelude.{◌==◌, if◌then◌else◌, IsPermutation, IsTrue, bytes_eq, count_by, find}
+use Rattle.std.proofs.Common.{◌≡◌, ℕ, ◌+◌, ◌≤◌, Bool, true, false, not, List, [], ◌∷◌, Some, refl, sym, ◌∙◌, ap, arith}
+use Rattle.std.specs.Prelude.{◌==◌, if◌then◌else◌, IsPermutation, bytes_eq, count_by, find}
 use Rattle.std.specs.List.{list_any}
 use Rattle.std.proofs.lemmas.Bool.{and_parts, or_parts}
 use Rattle.std.proofs.lemmas.Bool.Decides.{nat_tests}
 use Rattle.sqlite_trees.proofs.ListLemmas.{along_permutation}
 use Rattle.desk_history.specs.Calls.{are_apart}
 use Rattle.desk_history.proofs.CountLemmas.{one_if}
-use Rattle.desk_history.proofs.ListLemmas.{bytes_eq-refl, same_text}
+use Rattle.desk_history.proofs.ListLemmas.{same_text}
 use Rattle.desk_history.proofs.RequestLemmas.{count_more}
 
 module _ {X : Type 0} (p : X → Bool) where

@@ -1,6 +1,6 @@
 -- The tables after a call have room where those before it have room for what it writes.
 use Rattle.std.proofs.Common.{◌≡◌, ℕ, ◌+◌, ◌≤◌, Bool, true, false, ◌&&◌, List, [], ◌∷◌, length, refl, sym, ◌∙◌, ap, inl, inr, arith, suc}
-use Rattle.std.specs.Prelude.{◌==◌, ◌||◌, IsTrue, count_by, nat_le}
+use Rattle.std.specs.Prelude.{IsTrue, count_by, nat_le}
 use Rattle.std.specs.List.{list_any}
 use Rattle.std.proofs.lemmas.Bool.{or_parts}
 use Rattle.std.proofs.lemmas.Bool.Decides.{nat_tests}

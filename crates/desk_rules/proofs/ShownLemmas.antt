@@ -1,6 +1,6 @@
 -- A view of whole tables shows them for every call.
-use Rattle.std.proofs.Common.{◌≡◌, ℕ, Bool, true, ◌&&◌, ◌||◌, List, [], ◌∷◌, map, refl, sym, ◌∙◌, ap}
-use Rattle.std.specs.Prelude.{◌==◌, IsPermutation, IsTrue, bytes_eq, find}
+use Rattle.std.proofs.Common.{◌≡◌, ℕ, true, ◌&&◌, ◌||◌, List, [], ◌∷◌, map, refl, sym, ◌∙◌, ap}
+use Rattle.std.specs.Prelude.{◌==◌, bytes_eq, find}
 use Rattle.std.specs.List.{list_any}
 use Rattle.std.proofs.lemmas.Bool.{and_parts}
 use Rattle.std.proofs.lemmas.List.Sorted.{list_any-IsPermutation}
@@ -15,12 +15,11 @@ use Rattle.desk_history.specs.declared.rows.Entry.{Entry}
 use Rattle.desk_history.specs.declared.rows.Minute.{Minute}
 use Rattle.desk_history.specs.declared.rows.RequestRow.{RequestRow}
 use Rattle.desk_history.specs.declared.rows.VoteRow.{VoteRow}
-use Rattle.desk_history.specs.Calls.{History, is_among}
+use Rattle.desk_history.specs.Calls.{is_among}
 use Rattle.desk_history.specs.Laws.{StandOnce, is_call_key}
 use Rattle.desk_history.specs.Listing.{has_entry, is_entry}
 use Rattle.desk_history.specs.People.{has_name, has_token}
-use Rattle.desk_history.specs.Requests.{votes_on}
-use Rattle.desk_history.specs.Runs.{has_key, is_legal}
+use Rattle.desk_history.specs.Runs.{has_key}
 use Rattle.desk_history.specs.Tables.{Tables, tables}
 use Rattle.desk_history.specs.Writes.{is_named}
 use Rattle.desk_history.proofs.RowLemmas.{rows_stand_once}

@@ -25,10 +25,11 @@ use Rattle.desk_texts.specs.Callers.{caller_name}
 use Rattle.desk_history.specs.Calls.{History}
 use Rattle.desk_history.specs.Requests.{Request, Submitted, has_number, is_returned, is_withdrawn, numbered, request, requests, state, state_by, submitted, votes, votes_on}
 use Rattle.desk_history.specs.Tables.{Tables, certificate_rows, component_rows, request_row, tables}
-use Rattle.desk_history.specs.Writes.{all_written, written}
+use Rattle.desk_history.specs.Writes.{all_written}
 use Rattle.desk_rules.specs.declared.view.Changes.{Changes}
 use Rattle.desk_rules.specs.declared.view.View.{View}
-use Rattle.desk_rules.specs.Decisions.{Decided, MatchesOwn, called, submission_writes}
+use Rattle.desk_rules.specs.DecisionSteps.{Decided, MatchesOwn, submission_writes}
+use Rattle.desk_rules.specs.Decisions.{called}
 use Rattle.desk_rules.specs.Shown.{Shows, keys_named}
 use Rattle.desk_rules.specs.declared.view.Counted.TheVariants as counted
 use Rattle.desk_rules.specs.Room.{takes_off}
@@ -36,7 +37,7 @@ use Rattle.desk_history.specs.Refusals.{own_refusal, refuse_if, return_refusal, 
 use Rattle.desk_history.specs.Runs.{answer, is_accepted, is_legal}
 use Rattle.desk_history.specs.Requests.{request_of}
 use Rattle.desk_history.specs.Verdicts.{bars, lists_image, standing}
-use Rattle.desk_rules.specs.Views.{keys_of, seen_standing}
+use Rattle.desk_rules.specs.Views.{seen_standing}
 use Rattle.desk_rules.proofs.DecisionLemmas.{decided}
 use Rattle.desk_history.proofs.ListLemmas.{number_above, number_is}
 use Rattle.desk_history.proofs.RefusalLemmas.{no_refusal}

@@ -1,3 +1,4 @@
+pub mod DecisionSteps
 pub mod Decisions
 pub mod ImportSteps
 pub mod Room

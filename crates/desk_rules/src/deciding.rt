@@ -4,6 +4,7 @@ ghost use Rattle.desk_history.specs.DecisionRefusals.{may_answer};
 ghost use Rattle.desk_texts.specs.Callers.{caller_name};
 ghost use Rattle.desk_texts.specs.CommandTexts.{text_of as canonical_text};
 ghost use Rattle.desk_history.specs.Runs.{has_key};
+ghost use Rattle.desk_rules.specs.DecisionSteps as steps;
 ghost use Rattle.desk_rules.specs.Decisions as spec;
 
 use crate::decisions::{decide_own, push};
@@ -37,7 +38,7 @@ fn text_of(alloc: Global, command: &Command) -> Result<CommandText, Refusal>
 
 /// What a call with the key of this minute is answered: the reply given then, if the command has the same text.
 fn repeat(alloc: Global, minute: &Minute, text: &CommandText) -> Result<Changes, Refusal>
-    ensures { spec.Repeats result minute.now text.now }
+    ensures { steps.Repeats result minute.now text.now }
 {
     if minute.text.as_str() != text.as_str() {
         return Err(Refusal::KeyReused);
@@ -56,7 +57,7 @@ fn join(
     key: &Key,
     text: CommandText,
 ) -> Result<Changes, Refusal>
-    ensures { spec.AppendsCallRow result view.now own (record {
+    ensures { steps.AppendsCallRow result view.now own (record {
       number = view.now.sizes.calls + 1;
       caller = caller.now;
       key = key.now;

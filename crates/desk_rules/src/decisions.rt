@@ -8,7 +8,7 @@ mod submissions;
 
 ghost use Rattle.std.specs.Prelude.{◌≡◌, ◌≤◌, ◌+◌, [], ◌∷◌, ◌++◌, IfErr, IsTrue, MatchOption, OnOk};
 ghost use Rattle.desk_history.specs.DecisionRefusals.{may_answer};
-ghost use Rattle.desk_rules.specs.Decisions.{DecidesOwn, Gives};
+ghost use Rattle.desk_rules.specs.DecisionSteps.{DecidesOwn, Gives};
 ghost use Rattle.desk_texts.specs.declared.command.Command.TheVariants.{Submit};
 
 use crate::view::{Changes, View};

@@ -3,7 +3,7 @@ ghost use Rattle.std.specs.Prelude.{◌≡◌, [], MatchResult};
 ghost use Rattle.desk_texts.specs.Callers.{caller_name};
 ghost use Rattle.desk_history.specs.Requests.{request_of};
 ghost use Rattle.desk_history.specs.Tables.{request_row};
-ghost use Rattle.desk_rules.specs.Decisions as spec;
+ghost use Rattle.desk_rules.specs.DecisionSteps as spec;
 
 use desk_bytes::{Digest, Refusal};
 use desk_history::{

@@ -1,5 +1,5 @@
 -- Revocations are imported.
-use Rattle.std.specs.Prelude.{◌≡◌, ℕ, List, [], ◌∷◌, codes, Some, None}
+use Rattle.std.specs.Prelude.{◌≡◌, List, [], ◌∷◌, codes, Some, None}
 use Rattle.desk_bytes.specs.declared.refusal.Refusal.TheVariants as refusals
 use Rattle.desk_history.specs.Calls.{History}
 use Rattle.desk_history.specs.Level.{level, stamp}

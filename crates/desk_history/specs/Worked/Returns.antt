@@ -1,7 +1,6 @@
 -- The signed file of a request comes back, and its certificate is listed, revoked and taken off.
 use Rattle.std.specs.Prelude.{◌≡◌, ℕ, List, [], ◌∷◌, ◌++◌, map, codes}
 use Rattle.desk_bytes.specs.declared.refusal.Refusal.TheVariants as refusals
-use Rattle.desk_texts.specs.declared.command.Call.{Call}
 use Rattle.desk_texts.specs.declared.command.Command.{Command}
 use Rattle.desk_texts.specs.declared.command.Command.TheVariants as command
 use Rattle.desk_texts.specs.declared.facts.Facts.{Facts}
@@ -15,7 +14,7 @@ use Rattle.desk_history.specs.Runs.{answers, run}
 use Rattle.desk_history.specs.Tables.{Tables, tables}
 use Rattle.desk_history.specs.Verdicts.{verdict}
 use Rattle.desk_history.specs.declared.finding.Verdict.TheVariants as says
-use Rattle.desk_history.specs.Worked.{Step, accepted, answers_of, by, calls_of, digest, give_back, image, people_added, refused, reviewed, submit, vote, with_people}
+use Rattle.desk_history.specs.Worked.{Step, accepted, answers_of, by, calls_of, digest, give_back, image, refused, reviewed, submit, vote}
 use Rattle.desk_history.specs.Worked.Reviews.{a}
 use Rattle.desk_history.specs.Worked.Reviews as reviews
 

@@ -7,7 +7,7 @@ ghost use Rattle.desk_history.specs.Level.{greatest, is_sbat as sbat_name};
 ghost use Rattle.desk_texts.specs.Raising.{names_no_sbat};
 ghost use Rattle.desk_texts.specs.declared.caller.Caller.{Caller as CallerValue};
 ghost use Rattle.desk_texts.specs.declared.command.Command.TheVariants as Command;
-ghost use Rattle.desk_rules.specs.Decisions.{DecidesOwn, revocation_writes};
+ghost use Rattle.desk_rules.specs.DecisionSteps.{DecidesOwn, revocation_writes};
 ghost use Rattle.desk_rules.specs.ImportSteps as spec;
 ghost use Rattle.desk_history.specs.Refusals.{is_later};
 ghost use Rattle.desk_history.specs.DecisionRefusals.{may_answer};

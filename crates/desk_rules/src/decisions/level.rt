@@ -2,7 +2,7 @@
 ghost use Rattle.std.specs.Prelude.{◌≡◌, [], ◌∷◌};
 ghost use Rattle.desk_history.specs.Refusals.{raise_refusal as raise_refused};
 ghost use Rattle.desk_history.specs.declared.write.Write.TheVariants as puts;
-ghost use Rattle.desk_rules.specs.Decisions.{Decided, put_of};
+ghost use Rattle.desk_rules.specs.DecisionSteps.{Decided, put_of};
 ghost use Rattle.desk_rules.specs.Views.{generation_in};
 
 use super::two;

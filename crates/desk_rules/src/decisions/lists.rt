@@ -2,7 +2,7 @@
 ghost use Rattle.std.specs.Prelude.{◌≡◌, [], ◌∷◌, not};
 ghost use Rattle.desk_history.specs.Refusals.{refuse_if};
 ghost use Rattle.desk_history.specs.declared.write.Write.TheVariants as puts;
-ghost use Rattle.desk_rules.specs.Decisions.{Decided, revocation_writes};
+ghost use Rattle.desk_rules.specs.DecisionSteps.{Decided, revocation_writes};
 ghost use Rattle.desk_rules.specs.Views.{seen_standing};
 
 use super::one;

@@ -2,7 +2,7 @@
 ghost use Rattle.std.specs.Prelude.{◌≡◌, [], ◌∷◌, find, option_copied};
 ghost use Rattle.std.specs.List.{list_any};
 ghost use Rattle.desk_history.specs.People as spec;
-ghost use Rattle.desk_rules.specs.Decisions.{Decided};
+ghost use Rattle.desk_rules.specs.DecisionSteps.{Decided};
 ghost use Rattle.desk_history.specs.Refusals.{add_refusal as refusal_of, is_one_of, is_theirs};
 ghost use Rattle.desk_history.specs.declared.write.Write.TheVariants.{Person as PutPerson};
 ghost use Rattle.desk_texts.specs.declared.reply.Reply.TheVariants.{Added};

@@ -3,7 +3,7 @@ ghost use Rattle.std.specs.Prelude.{◌≡◌, [], ◌∷◌, count_by, find, no
 ghost use Rattle.std.specs.List.{list_any};
 ghost use Rattle.desk_texts.specs.Callers.{caller_name};
 ghost use Rattle.desk_history.specs.Requests.{is_vote_of, is_yes, votes_on};
-ghost use Rattle.desk_rules.specs.Decisions as spec;
+ghost use Rattle.desk_rules.specs.DecisionSteps as spec;
 ghost use Rattle.desk_rules.specs.Shown.{is_request_row};
 ghost use Rattle.desk_texts.specs.declared.reply.Reply.TheVariants as replies;
 ghost use Rattle.desk_history.specs.declared.write.Write.TheVariants as puts;

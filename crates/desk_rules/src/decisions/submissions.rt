@@ -3,7 +3,7 @@ ghost use Rattle.std.specs.Prelude.{◌≡◌, ◌++◌, IfErr, OnOk, map, rever
 ghost use Rattle.desk_history.specs.declared.write.Write.TheVariants as puts;
 ghost use Rattle.desk_texts.specs.declared.reply.Reply.TheVariants as replies;
 ghost use Rattle.desk_history.specs.Tables.{placed_from};
-ghost use Rattle.desk_rules.specs.Decisions.{Decided, carried_rows, submission_writes};
+ghost use Rattle.desk_rules.specs.DecisionSteps.{Decided, carried_rows, submission_writes};
 ghost use Rattle.desk_history.specs.Refusals.{refuse_if};
 ghost use Rattle.desk_history.specs.Verdicts.{bars as bars_on};
 ghost use Rattle.desk_rules.specs.Views.{seen_standing};

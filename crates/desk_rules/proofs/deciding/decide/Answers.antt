@@ -1,5 +1,5 @@
 use Rattle.std.proofs.Common.{◌+◌, rules}
-use Rattle.desk_rules.proofs.AnswerLemmas.{appends_only, repeats_only}
+use Rattle.desk_rules.proofs.AnswerLemmas.{appends_only}
 use Rattle.desk_rules.proofs.CallLemmas.{joins, refuses_own}
 use Rattle.desk_rules.proofs.deciding.decide.Goals as goal
 

@@ -1,6 +1,6 @@
-use Rattle.std.proofs.Common.{[], ◌∷◌, subst, sym}
+use Rattle.std.proofs.Common.{[], subst, sym}
 use Rattle.desk_texts.specs.declared.command.Command.{Command}
-use Rattle.desk_rules.specs.Decisions.{DecidesOwn}
+use Rattle.desk_rules.specs.DecisionSteps.{DecidesOwn}
 use Rattle.desk_texts.specs.declared.kind.ListedKind.TheVariants as kinds
 use Rattle.desk_rules.proofs.AnswerLemmas.{adds_only, lists_only, raises_only, returns_only, reviews_only, revokes_only, unlists_only, withdraws_only}
 use Rattle.desk_rules.proofs.DecisionLemmas.{adds, lists_certificate, lists_digest, revokes_certificate, revokes_digest, unlists}

@@ -1,5 +1,5 @@
 use Rattle.std.proofs.Common.{◌≡◌, ◌++◌, take}
-use Rattle.desk_rules.specs.Decisions.{revocation_writes}
+use Rattle.desk_rules.specs.DecisionSteps.{revocation_writes}
 use Rattle.desk_rules.proofs.decisions.imports.put_revoked.Given as goal
 
 abbrev pub invariant-loop-digest : goal.invariant-loop-digest

@@ -1,7 +1,7 @@
 use Rattle.std.proofs.Common.{◌≡◌, ◌≤◌, ◌++◌, drop, length, map}
 use Rattle.std.specs.Prelude.{reverse}
 use Rattle.desk_history.specs.declared.write.Write.TheVariants as puts
-use Rattle.desk_rules.specs.Decisions.{carried_rows}
+use Rattle.desk_rules.specs.DecisionSteps.{carried_rows}
 use Rattle.desk_rules.proofs.decisions.submissions.put_certificates.Given as goal
 
 abbrev pub invariant-loop-place : goal.invariant-loop-place

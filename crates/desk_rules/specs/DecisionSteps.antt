@@ -1,0 +1,150 @@
+-- Words of the steps of a decision, that private functions cite.
+use Rattle.std.specs.Prelude.{◌≡◌, ◌⊎◌, ℕ, Bool, true, false, not, nat_le, if◌then◌else◌, List, [], ◌∷◌, ◌++◌, map, find, reverse, bytes_eq, count_by, Option, Some, None, Result, MatchResult, IsTrue}
+use Rattle.std.specs.List.{list_any}
+use Rattle.std.specs.Option.{option_map_or}
+use Rattle.sbat.specs.declared.component.Component.{Component}
+use Rattle.desk_bytes.specs.declared.refusal.Refusal.{Refusal}
+use Rattle.desk_bytes.specs.declared.refusal.Refusal.TheVariants as refusals
+use Rattle.desk_texts.specs.declared.caller.Caller.{Caller}
+use Rattle.desk_texts.specs.declared.command.Ballot.{Ballot}
+use Rattle.desk_texts.specs.declared.command.Call.{Call}
+use Rattle.desk_texts.specs.declared.command.Command.{Command}
+use Rattle.desk_texts.specs.declared.command.ReturnedFile.{ReturnedFile}
+use Rattle.desk_texts.specs.declared.command.Submission.{Submission}
+use Rattle.desk_texts.specs.declared.kind.ListedKind.{ListedKind}
+use Rattle.desk_texts.specs.declared.reply.Outcome.{Outcome}
+use Rattle.desk_texts.specs.declared.reply.Reply.{Reply}
+use Rattle.desk_history.specs.declared.rows.Minute.{Minute}
+use Rattle.desk_history.specs.declared.rows.RequestCertificateRow.{RequestCertificateRow}
+use Rattle.desk_history.specs.declared.rows.ReturnRow.{ReturnRow}
+use Rattle.desk_history.specs.declared.rows.VoteRow.{VoteRow}
+use Rattle.desk_texts.specs.declared.state.State.{State}
+use Rattle.desk_texts.specs.declared.state.State.TheVariants as states
+use Rattle.desk_texts.specs.declared.vote.Vote.{Vote}
+use Rattle.desk_texts.specs.declared.vote.Vote.TheVariants as votes
+use Rattle.desk_history.specs.declared.write.Write.{Write}
+use Rattle.desk_history.specs.declared.write.Write.TheVariants as writes
+use Rattle.desk_texts.specs.Callers.{caller_name}
+use Rattle.desk_history.specs.Calls.{History}
+use Rattle.desk_history.specs.Replies.{minutes, reply}
+use Rattle.desk_history.specs.Requests.{is_vote_of, is_yes, votes_on}
+use Rattle.desk_history.specs.Tables.{certificate_rows, component_rows, request_row, return_row, tables}
+use Rattle.desk_history.specs.Writes.{all_written}
+use Rattle.desk_history.specs.declared.answer.Answer.TheVariants.{Refused, Repeated}
+use Rattle.desk_rules.specs.declared.view.Changes.{Changes}
+use Rattle.desk_rules.specs.declared.view.View.{View}
+use Rattle.desk_rules.specs.Decisions.{called}
+use Rattle.desk_rules.specs.Room.{IsRoomed, has_room}
+use Rattle.desk_history.specs.Refusals.{image_refusal, own_refusal, return_by, review_by, withdraw_by}
+use Rattle.desk_history.specs.Runs.{is_legal, repeated}
+use Rattle.desk_rules.specs.Shown.{Shows, is_request_row}
+use Rattle.desk_history.specs.Requests.{request_of}
+use Rattle.desk_history.specs.Verdicts.{bars, lists_image}
+use Rattle.desk_rules.specs.Views.{seen_standing}
+
+-- The command is accepted by its own conditions, with this reply, and the writes make the tables of the history with
+-- the call, but for the call's own row. They don't both list entries and take some off.
+pub record IsCommandStep (changes : Changes) (owner : List ℕ) (cs : History) (c : Call) : Type 0 where
+  pub accepted : own_refusal cs (caller_name c.caller) c.command ≡ None
+  pub replied : changes.reply ≡ reply cs c
+  pub made : all_written changes.writes.items (tables owner cs) ≡ record (tables owner (c ∷ cs)) { calls = minutes cs }
+  pub listed : IsRoomed changes.writes.items cs c
+
+-- the command's own conditions refuse it so, or memory ran out
+abbrev pub RefusesOwn : Refusal → History → Call → Type 0
+RefusesOwn refusal cs c = (own_refusal cs (caller_name c.caller) c.command ≡ Some refusal) ⊎ (refusal ≡ refusals.NoMemory)
+
+-- the result is what the command's own conditions and writes are after this history
+abbrev pub MatchesOwn : List ℕ → History → Call → Result Changes Refusal → Type 0
+MatchesOwn owner cs c result = MatchResult result (λ changes. IsCommandStep changes owner cs c) (λ refusal. RefusesOwn refusal cs c)
+
+-- the same on each legal history that the view shows
+abbrev pub DecidesOwn : View → Caller → Command → Result Changes Refusal → Type 0
+DecidesOwn v caller command result =
+    (owner : List ℕ) (cs : History) (key : List ℕ) → IsTrue (is_legal cs) → Shows v (tables owner cs) (called caller key command)
+    → MatchesOwn owner cs (called caller key command) result
+
+-- the result is this refusal where there is one, and else this reply with these writes, or memory ran out
+abbrev pub Decided : Result Changes Refusal → Option Refusal → Reply → List Write → Type 0
+Decided result refusal reply ws =
+    MatchResult result (λ changes. (refusal ≡ None) × (changes.reply ≡ reply) × (changes.writes.items ≡ ws))
+    (λ r. (refusal ≡ Some r) ⊎ (r ≡ refusals.NoMemory))
+
+-- the result has this reply and these writes, or memory ran out
+abbrev pub Gives : Result Changes Refusal → Reply → List Write → Type 0
+Gives result reply ws = MatchResult result (λ changes. (changes.reply ≡ reply) × (changes.writes.items ≡ ws)) (λ r. r ≡ refusals.NoMemory)
+
+-- what the rows of a view say of a vote on the request k
+abbrev pub review_refusal_in : View → ℕ → List ℕ → Option Refusal
+review_refusal_in v k reviewer =
+    option_map_or (λ row. review_by row.state (bytes_eq row.submitter reviewer) (list_any (is_vote_of reviewer) (votes_on v.votes.items k)))
+    (find (is_request_row k) v.requests.items) (Some refusals.NoSuchRequest)
+
+-- what they say of a withdrawal of the request k
+abbrev pub withdraw_refusal_in : View → ℕ → List ℕ → Option Refusal
+withdraw_refusal_in v k caller =
+    option_map_or (λ row. withdraw_by row.state (bytes_eq row.submitter caller)) (find (is_request_row k) v.requests.items) (Some refusals.NoSuchRequest)
+
+-- what they say of a return
+abbrev pub return_refusal_in : View → ReturnedFile → Option Refusal
+return_refusal_in v h =
+    option_map_or (λ row. return_by row.state (image_refusal row.digest row.signing h.facts (bars (seen_standing v.lists) h.facts) (lists_image (seen_standing v.lists) h.facts)))
+    (find (is_request_row h.request) v.requests.items) (Some refusals.NoSuchRequest)
+
+-- the vote of a ballot
+abbrev pub vote_row : List ℕ → Ballot → VoteRow
+vote_row reviewer b = record { request = b.request; reviewer = reviewer; vote = b.vote; note = b.note }
+
+-- the state of an open request after this vote, where some vote before it was a no or none, and so many were yes
+abbrev pub state_with : Vote → Bool → ℕ → State
+state_with votes.No some_no count = states.Rejected
+state_with votes.Yes some_no count =
+    if some_no then states.Rejected else (if nat_le 1 count then states.Approved else states.Open)
+
+-- the state of the request after the ballot, by the votes in a view
+abbrev pub state_after : View → Ballot → State
+state_after v b =
+    state_with b.vote (list_any (λ w. not (is_yes w)) (votes_on v.votes.items b.request))
+    (count_by is_yes (votes_on v.votes.items b.request))
+
+-- the request with that state
+abbrev pub outcome_after : View → Ballot → Outcome
+outcome_after v b = record { request = b.request; state = state_after v b }
+
+-- the row of a returned file
+abbrev pub returned_file_row : List ℕ → ReturnedFile → ReturnRow
+returned_file_row signer h = return_row (record { request = h.request; signer = signer; facts = h.facts })
+
+-- the rows of the certificates that the image of the request k carries
+abbrev pub carried_rows : ℕ → List (List ℕ) → List RequestCertificateRow
+carried_rows k carried = map (λ d. record { request = k; digest = d }) carried
+
+-- what a submission writes
+abbrev pub submission_writes : ℕ → Caller → Submission → List Write
+submission_writes k caller s =
+    writes.Request (request_row states.Open (request_of k caller s))
+    ∷ map (λ row. writes.RequestCertificate row) (reverse (certificate_rows (request_of k caller s)))
+    ++ map (λ row. writes.RequestComponent row) (reverse (component_rows (request_of k caller s)))
+
+-- the writes of revoked digests of this kind
+abbrev pub revocation_writes : ListedKind → List (List ℕ) → List Write
+revocation_writes kind digests = map (λ d. writes.Revoke (record { kind = kind; digest = d })) digests
+
+-- the write of a component whose present generation is this
+abbrev pub put_of : Option ℕ → Component → Write
+put_of None x = writes.Component x
+put_of (Some _) x = writes.Generation x
+
+-- The result is the decision by the command's own conditions with the call's row after its writes, where the tables have
+-- room for them, or Full where they have not, or memory ran out.
+abbrev pub AppendsCallRow : Result Changes Refusal → View → Changes → Minute → Type 0
+AppendsCallRow result v own row =
+    MatchResult result
+    (λ changes. (has_room v.sizes own.writes.items ≡ true) × (changes.reply ≡ own.reply) × (changes.writes.items ≡ own.writes.items ++ writes.Call row ∷ []))
+    (λ r. ((has_room v.sizes own.writes.items ≡ false) × (r ≡ refusals.Full)) ⊎ (r ≡ refusals.NoMemory))
+
+-- the result is what the key's earlier call says of a call with this text, and no write, or memory ran out
+abbrev pub Repeats : Result Changes Refusal → Minute → List ℕ → Type 0
+Repeats result m text =
+    MatchResult result (λ changes. (repeated m text ≡ Repeated changes.reply) × (changes.writes.items ≡ []))
+    (λ r. (repeated m text ≡ Refused r) ⊎ (r ≡ refusals.NoMemory))
