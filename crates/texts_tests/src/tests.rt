@@ -1,8 +1,8 @@
 //! Tests: what takes memory gets it, also at the longest of each form.
 use desk_bytes::Digest;
 use desk_texts::{
-    Caller, Carried, Command, Components, Counts, Extent, Facts, Key, Note, PersonName, Reply,
-    Submission, Title, command_text, reply_text,
+    Caller, Carried, Command, Components, Extent, Facts, Key, Note, PersonName, Reply,
+    RequestNumber, Submission, Title, command_text, reply_text,
 };
 use sbat::{Component, ComponentName, Generation};
 use std::alloc::Global;
@@ -90,22 +90,18 @@ fn writes_the_longest_submission(rt: HostRuntime) -> Result<(), Fail> {
 }
 
 #[test]
-fn writes_commands_and_replies(rt: HostRuntime) -> Result<(), Fail> {
-    let alloc = rt.alloc();
-    let command = Command::RevokeDigest(Digest::from([171; 32])).clone()?;
-    let text = command_text(alloc, &command)?;
-    let wanted = "revoke-digest abababababababababababababababababababababababababababababababab";
-    assert!(rt; text.as_str() == wanted, "a revocation");
-    let reply = Reply::Imported(Counts {
-        digests: 10_000,
-        certificates: 2,
-        components: 0,
-        passed: 1,
-    });
-    let text = reply_text(alloc, &reply.clone()?)?;
-    assert!(rt;
-        text.as_str() == "imported 10000 2 0 1",
-        "an import's reply"
-    );
+fn writes_a_command(rt: HostRuntime) -> Result<(), Fail> {
+    let request = RequestNumber::new(12).ok_or("a request's number")?;
+    let text = command_text(rt.alloc(), &Command::Withdraw(request))?;
+    assert!(rt; text.as_str() == "withdraw 12", "a withdrawal");
+    Ok(())
+}
+
+#[test]
+fn writes_a_reply(rt: HostRuntime) -> Result<(), Fail> {
+    let request = RequestNumber::new(12).ok_or("a request's number")?;
+    let reply = Reply::Withdrawn(request).clone()?;
+    let text = reply_text(rt.alloc(), &reply)?;
+    assert!(rt; text.as_str() == "withdrawn 12", "the reply to it");
     Ok(())
 }

@@ -33,7 +33,7 @@ fn play(
     let verb = words.text()?;
     let command = words.command(verb)?;
     let answer = told(alloc, &decide(alloc, tables, &caller, &key, &command))?;
-    assert!(rt; answer.as_str() == wanted, "{line}: {answer}");
+    assert!(rt; answer.as_str() == wanted, "the answer");
     Ok(())
 }
 
