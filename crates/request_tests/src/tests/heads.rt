@@ -9,6 +9,13 @@ use std::test::Fail;
 /// Heads, each behind the name of the first check that fails, or of the route. Of two faults the earlier is told.
 const HEADS: &str = "\
 BadHead POST /nowhere HTTP/1.1|Transfer-Encoding: chunked|No Field: x||
+BadHead GET /level HTTP/1.1|Desk-Token: a|Desk-Token: a|No Field: x||
+BadHead PUT /level HTTP/1.1|No Field: x||
+BadHead POST /verdict HTTP/1.1|No Field: x||
+BadHead GET /level HTTP/1.1|Content-Length: 1|No Field: x||
+BadHead POST /verdict HTTP/1.1|Content-Length: 134217729|No Field: x||
+BadHead POST /level HTTP/1.1|Content-Length: 1|Desk-Key: a b|No Field: x||
+BadHead GET /requests/007 HTTP/1.1|No Field: x||
 BadHead GET /level HTTP/2.0||
 BadHead GET /level||
 BadHead GET  /level HTTP/1.1||
@@ -44,6 +51,9 @@ BadField PUT /verdict HTTP/1.1|Content-Length: x||
 BadField POST /verdict HTTP/1.1|Desk-Token: a|Desk-Token: a||
 BadField POST /verdict HTTP/1.1|Content-Length: 134217729|Desk-Token: a|Desk-Token: a||
 BadField POST /requests/x/review HTTP/1.1|Content-Length: 2|Desk-Key: a|Desk-Key: a||
+BadField GET /level HTTP/1.1|Content-Length: 1|Content-Length: 1||
+BadField POST /level HTTP/1.1|Content-Length: 1|Desk-Key: a b|Desk-Key: a b||
+BadField POST /level HTTP/1.1|Content-Length: x|Desk-Key: a b||
 NoRoute GET / HTTP/1.1||
 NoRoute GET /level/ HTTP/1.1||
 NoRoute GET /level?x HTTP/1.1||
