@@ -22,7 +22,7 @@ impl<'a> Words<'a> {
     }
 
     /// The next word, as a number.
-    fn number(&mut self) -> Result<u64, Fail> {
+    pub(super) fn number(&mut self) -> Result<u64, Fail> {
         Ok(self.text()?.parse::<u64>()?)
     }
 

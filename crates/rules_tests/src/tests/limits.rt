@@ -4,6 +4,23 @@ use super::days::{caller, told};
 use super::tables::{NONE, new_tables};
 use super::*;
 
+/// Calls, each on a desk whose tables have these sizes: how many tables are named, the name and the size of each, and the
+/// call with its answer, as `WHO VERB .. : ANSWER`.
+const CALLS: &str = "\
+1 people 999 console add a signer 2 : added a
+1 people 1000 console add a signer 2 : Full
+1 requests 99999 ann submit s 1 1 0 0 : submitted 100000
+1 requests 100000 ann submit s 1 1 0 0 : Full
+1 listed 9999 olga list 1 : listed
+1 listed 10000 olga list 1 : Full
+1 listed 10000 olga unlist 1 : NotThere
+1 digests 99999 olga revoke 1 : revoked
+1 digests 100000 olga revoke 1 : Full
+3 certificates 9999 components 9999 calls 999999 olga import 2024010100 0 0 1 1 1 grub 1 : imported 0 1 1 0
+3 certificates 9999 components 9999 calls 999999 olga import 2024010100 0 0 2 1 2 1 grub 1 : Full
+3 certificates 9999 components 9999 calls 999999 olga import 2024010100 0 0 1 1 2 grub 1 shim 1 : Full
+1 calls 1000000 olga revoke 1 : Full";
+
 /// A desk with an officer and a submitter.
 fn tables(alloc: Global) -> Result<View, Fail> {
     let mut tables = new_tables(alloc)?;
@@ -17,150 +34,49 @@ fn tables(alloc: Global) -> Result<View, Fail> {
     Ok(tables)
 }
 
-/// Plays a line `WHO VERB .. : ANSWER` on tables of these sizes.
-fn play(
-    rt: &impl Abort,
-    alloc: Global,
-    tables: &mut View,
-    sizes: Sizes,
-    line: &str,
-) -> Result<(), Fail> {
-    tables.sizes = sizes;
-    let (given, wanted) = line.split_once(" : ").ok_or("an answer")?;
-    let mut words = Words::new(alloc, given);
+/// Sets the size of the table of this name.
+fn set_size(sizes: &mut Sizes, table: &str, size: u64) {
+    match table {
+        "people" => sizes.people = size,
+        "requests" => sizes.requests = size,
+        "listed" => sizes.listed = size,
+        "digests" => sizes.revoked_digests = size,
+        "certificates" => sizes.revoked_certificates = size,
+        "components" => sizes.components = size,
+        _ => sizes.calls = size,
+    }
+}
+
+/// The sizes that the words begin with.
+fn sizes(words: &mut Words) -> Result<Sizes, Fail> {
+    let mut sizes = NONE;
+    for _ in 0..words.number()? {
+        let table = words.text()?;
+        let size = words.number()?;
+        set_size(&mut sizes, table, size);
+    }
+    Ok(sizes)
+}
+
+/// The answer to the call that the words say.
+fn answer(alloc: Global, tables: &View, words: &mut Words) -> Result<String, Fail> {
     let caller = caller(alloc, words.text()?)?;
     let key = Key::parse(alloc, b"k")?;
     let verb = words.text()?;
     let command = words.command(verb)?;
-    let answer = told(alloc, &decide(alloc, tables, &caller, &key, &command))?;
-    assert!(rt; answer.as_str() == wanted, "the answer");
-    Ok(())
+    told(alloc, &decide(alloc, tables, &caller, &key, &command))
 }
 
 #[test]
 fn takes_what_a_desk_may_hold_and_no_more(rt: HostRuntime) -> Result<(), Fail> {
     let alloc = rt.alloc();
     let mut tables = tables(alloc)?;
-    let all = &mut tables;
-    play(
-        &rt,
-        alloc,
-        all,
-        Sizes {
-            people: 999,
-            ..NONE
-        },
-        "console add a signer 2 : added a",
-    )?;
-    play(
-        &rt,
-        alloc,
-        all,
-        Sizes {
-            people: 1_000,
-            ..NONE
-        },
-        "console add a signer 2 : Full",
-    )?;
-    play(
-        &rt,
-        alloc,
-        all,
-        Sizes {
-            requests: 99_999,
-            ..NONE
-        },
-        "ann submit s 1 1 0 0 : submitted 100000",
-    )?;
-    play(
-        &rt,
-        alloc,
-        all,
-        Sizes {
-            requests: 100_000,
-            ..NONE
-        },
-        "ann submit s 1 1 0 0 : Full",
-    )?;
-    play(
-        &rt,
-        alloc,
-        all,
-        Sizes {
-            listed: 9_999,
-            ..NONE
-        },
-        "olga list 1 : listed",
-    )?;
-    play(
-        &rt,
-        alloc,
-        all,
-        Sizes {
-            listed: 10_000,
-            ..NONE
-        },
-        "olga list 1 : Full",
-    )?;
-    play(
-        &rt,
-        alloc,
-        all,
-        Sizes {
-            listed: 10_000,
-            ..NONE
-        },
-        "olga unlist 1 : NotThere",
-    )?;
-    play(
-        &rt,
-        alloc,
-        all,
-        Sizes {
-            revoked_digests: 99_999,
-            ..NONE
-        },
-        "olga revoke 1 : revoked",
-    )?;
-    play(
-        &rt,
-        alloc,
-        all,
-        Sizes {
-            revoked_digests: 100_000,
-            ..NONE
-        },
-        "olga revoke 1 : Full",
-    )?;
-    Ok(())
-}
-
-#[test]
-fn takes_what_a_dbx_and_a_level_may_hold_and_no_more(rt: HostRuntime) -> Result<(), Fail> {
-    let alloc = rt.alloc();
-    let mut tables = tables(alloc)?;
-    let all = &mut tables;
-    let most = Sizes {
-        revoked_certificates: 9_999,
-        components: 9_999,
-        calls: 999_999,
-        ..NONE
-    };
-    let line = "olga import 2024010100 0 0 1 1 1 grub 1 : imported 0 1 1 0";
-    play(&rt, alloc, all, most, line)?;
-    let line = "olga import 2024010100 0 0 2 1 2 1 grub 1 : Full";
-    play(&rt, alloc, all, most, line)?;
-    let line = "olga import 2024010100 0 0 1 1 2 grub 1 shim 1 : Full";
-    play(&rt, alloc, all, most, line)?;
-    play(
-        &rt,
-        alloc,
-        all,
-        Sizes {
-            calls: 1_000_000,
-            ..NONE
-        },
-        "olga revoke 1 : Full",
-    )?;
+    for line in CALLS.lines() {
+        let (given, wanted) = line.split_once(" : ").ok_or("an answer")?;
+        let mut words = Words::new(alloc, given);
+        tables.sizes = sizes(&mut words)?;
+        let answer = answer(alloc, &tables, &mut words)?;
+        assert!(rt; answer.as_str() == wanted, "{line}: {answer}");
+    }
     Ok(())
 }
