@@ -5,5 +5,6 @@ pub mod NumberLemmas
 pub mod PartLemmas
 pub mod ReadingLemmas
 pub mod ReplyLemmas
+pub mod SpaceLemmas
 pub mod ValueLemmas
 pub mod WordLemmas

@@ -1,5 +1,5 @@
 -- Who calls.
-use Rattle.std.specs.Prelude.{ℕ, List, codes}
+use Rattle.std.specs.Prelude.{ℕ, Bool, true, not, List, bytes_eq, codes}
 use Rattle.desk_texts.specs.declared.caller.Caller.{Caller}
 use Rattle.desk_texts.specs.declared.caller.Caller.TheVariants.{Console, Person}
 
@@ -7,3 +7,8 @@ use Rattle.desk_texts.specs.declared.caller.Caller.TheVariants.{Console, Person}
 abbrev pub caller_name : Caller → List ℕ
 caller_name Console = codes "console"
 caller_name (Person name) = name
+
+-- own: the name tells the caller: `console` is always the console's
+abbrev pub is_told_by_name : Caller → Bool
+is_told_by_name Console = true
+is_told_by_name (Person name) = not (bytes_eq name (codes "console"))

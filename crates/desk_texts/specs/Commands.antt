@@ -6,6 +6,8 @@ use Rattle.sbat.specs.Fields.{is_generation, is_name, is_stamp}
 use Rattle.desk_texts.specs.Forms.{is_note, is_person_name, is_request_number, is_title}
 use Rattle.desk_texts.specs.Imports.{Imported}
 use Rattle.desk_texts.specs.declared.facts.Facts.{Facts}
+use Rattle.desk_texts.specs.declared.caller.Caller.{Caller}
+use Rattle.desk_texts.specs.declared.caller.Caller.TheVariants.{Console, Person}
 use Rattle.desk_texts.specs.declared.command.Command.{Command}
 use Rattle.desk_texts.specs.declared.command.Command.TheVariants.{AddPerson, Submit, Review, Withdraw, Return, ListCertificate, ListDigest, Unlist, RevokeDigest, RevokeCertificate, RaiseLevel, ImportRevocations}
 use Rattle.desk_texts.specs.declared.reply.Reply.{Reply}
@@ -62,6 +64,11 @@ IsCommand (RevokeDigest digest) = IsDigest digest
 IsCommand (RevokeCertificate digest) = IsDigest digest
 IsCommand (RaiseLevel r) = IsComponent r.component × (is_stamp r.stamp ≡ true)
 IsCommand (ImportRevocations i) = IsImport i
+
+-- a person who calls has a person's name
+abbrev pub IsCaller : Caller → Type 0
+IsCaller Console = Unit {0}
+IsCaller (Person name) = is_person_name name ≡ true
 
 -- the values of the reply are in the forms that their texts need
 abbrev pub IsReply : Reply → Type 0

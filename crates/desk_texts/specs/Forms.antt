@@ -37,6 +37,15 @@ abbrev pub is_decimal : List ℕ → Bool
 is_decimal text =
     nat_le 1 (length text) && nat_le (length text) 6 && not (slice_index text 0 == 48) && list_all is_ascii_digit text
 
+-- the decimal text of a number, without leading zeros
+abbrev pub is_numeral : List ℕ → Bool
+is_numeral text =
+    nat_le 1 (length text) && (nat_le (length text) 1 || not (slice_index text 0 == 48)) && list_all is_ascii_digit text
+
+-- a space
+abbrev pub is_space : ℕ → Bool
+is_space byte = byte == 32
+
 -- own: one import has at most 10,000 entries
 abbrev pub most_imported : ℕ
 most_imported = 10000

@@ -1,8 +1,10 @@
 //! Who calls.
-ghost use Rattle.std.specs.Prelude.{◌≡◌, IfOk};
-ghost use Rattle.desk_texts.specs.Callers.{caller_name};
+ghost use Rattle.std.specs.Prelude.{◌≡◌, IfOk, MatchResult, true};
+ghost use Rattle.desk_texts.specs.Callers.{caller_name, is_told_by_name};
+ghost use Rattle.desk_texts.specs.Commands.{IsCaller};
+ghost use Rattle.desk_texts.specs.declared.caller.Caller.{Caller};
 
-use crate::PersonName;
+use crate::{PersonName, TextFault};
 use std::alloc::{AllocError, Global};
 
 /// Who calls: the command line of the desk's own machine, or a person.
@@ -20,6 +22,24 @@ impl Caller {
         match self {
             Caller::Console => "console",
             Caller::Person(name) => name.as_str(),
+        }
+    }
+
+    /// The caller whom the minutes hold under this name: the console for `console`, and else the person of the
+    /// name. Takes memory for the name.
+    pub fn parse(alloc: Global, name: &[u8]) -> Result<Caller, TextFault>
+        ensures found { (caller : Caller) → IsCaller caller → is_told_by_name caller ≡ true
+            → name.now ≡ caller_name caller
+            → MatchResult result (λ read. read ≡ caller) (λ fault. fault ≡ TextFault.NoMemory) }
+        ensures only { IfOk result (λ caller. IsCaller caller × (is_told_by_name caller ≡ true)
+            × (name.now ≡ caller_name caller)) }
+    {
+        if name == b"console".as_slice() {
+            return Ok(Caller::Console);
+        }
+        match PersonName::parse(alloc, name) {
+            Ok(name) => Ok(Caller::Person(name)),
+            Err(fault) => Err(fault),
         }
     }
 

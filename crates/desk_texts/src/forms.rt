@@ -1,5 +1,5 @@
 //! The forms of the desk's texts.
-ghost use Rattle.std.specs.Prelude.{◌≡◌, ◌≤◌, MatchResult, length, string_bytes, true};
+ghost use Rattle.std.specs.Prelude.{◌≡◌, ◌≤◌, ◌∷◌, ◌++◌, IfNone, IfSome, MatchResult, length, not, position, string_bytes, true};
 ghost use Rattle.std.specs.Char.{is_ascii_digit};
 ghost use Rattle.std.specs.List.{list_all};
 ghost use Rattle.desk_texts.specs.Forms as spec;
@@ -84,6 +84,36 @@ pub(crate) fn is_decimal(text: &[u8]) -> bool
         return false;
     }
     are_digits(text)
+}
+
+/// Whether the text is the decimal text of a number, without leading zeros.
+pub(crate) fn is_numeral(text: &[u8]) -> bool
+    ensures { result ≡ spec.is_numeral text.now }
+{
+    if text.is_empty() {
+        return false;
+    }
+    if 1 < text.len() && text[0] == b'0' {
+        return false;
+    }
+    are_digits(text)
+}
+
+/// The place of the first space.
+fn first_space(text: &[u8]) -> Option<usize>
+    ensures { result ≡ position spec.is_space text.now }
+{
+    text.iter().position(|byte| *byte == b' ')
+}
+
+/// The text before the first space, and the text behind it, where there is one.
+pub(crate) fn parted_at_space(text: &[u8]) -> Option<(&[u8], &[u8])>
+    ensures found { IfSome result (λ parts. (text.now ≡ parts.0.now ++ (32 ∷ parts.1.now))
+        × (list_all (λ b. not (spec.is_space b)) parts.0.now ≡ true)) }
+    ensures only { IfNone result (list_all (λ b. not (spec.is_space b)) text.now ≡ true) }
+{
+    let end = first_space(text)?;
+    Some((&text[..end], &text[end + 1..]))
 }
 
 /// The text, held. Takes memory for it.

@@ -98,10 +98,22 @@ fn writes_a_command(rt: HostRuntime) -> Result<(), Fail> {
 }
 
 #[test]
-fn writes_a_reply(rt: HostRuntime) -> Result<(), Fail> {
-    let request = RequestNumber::new(12).ok_or("a request's number")?;
-    let reply = Reply::Withdrawn(request).clone()?;
-    let text = reply_text(rt.alloc(), &reply)?;
-    assert!(rt; text.as_str() == "withdrawn 12", "the reply to it");
+fn reads_replies_back(rt: HostRuntime) -> Result<(), Fail> {
+    let alloc = rt.alloc();
+    for text in [
+        b"added ann".as_slice(),
+        b"submitted 1".as_slice(),
+        b"reviewed 2 rejected".as_slice(),
+        b"withdrawn 12".as_slice(),
+        b"imported 18446744073709551615 0 10 2".as_slice(),
+        b"listed".as_slice(),
+    ] {
+        let reply = Reply::parse(alloc, text)?.clone()?;
+        assert!(rt; reply_text(alloc, &reply)?.as_bytes() == text, "a reply");
+    }
+    for name in [b"console".as_slice(), b"ann".as_slice()] {
+        let caller = Caller::parse(alloc, name)?;
+        assert!(rt; caller.name().as_bytes() == name, "a caller");
+    }
     Ok(())
 }
