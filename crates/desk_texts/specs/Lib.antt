@@ -4,6 +4,7 @@ pub mod Certificates
 pub mod CommandTexts
 pub mod Commands
 pub mod Extents
+pub mod Formed
 pub mod Forms
 pub mod Imports
 pub mod Items

@@ -2,6 +2,7 @@
 ghost use Rattle.std.specs.Prelude.{◌≡◌, ◌<◌, ◌≤◌, ℕ, List, length, MatchOption};
 ghost use Rattle.desk_bytes.specs.Digests.{IsArranged, IsAscending};
 ghost use Rattle.desk_texts.specs.Carrying.{HasMore};
+ghost use Rattle.desk_texts.specs.Forms.{most_carried};
 ghost use Rattle.desk_texts.specs.declared.carried.TheConstants.{MOST_CARRIED};
 
 use desk_bytes::{Digest, arrange};
@@ -53,7 +54,9 @@ impl Carried {
 
     /// The digests.
     pub fn as_slice(&self) -> &[Digest]
-        ensures { result.now ≡ self.now }
+        ensures value { result.now ≡ self.now }
+        ensures ascending { IsAscending self.now }
+        ensures few { length self.now ≤ most_carried }
     {
         &self.digests
     }

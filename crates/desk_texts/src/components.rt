@@ -1,5 +1,6 @@
 //! The components that an image names.
 ghost use Rattle.std.specs.Prelude.{◌≡◌, ◌<◌, ◌≤◌, List, length, MatchOption};
+ghost use Rattle.desk_texts.specs.Forms.{most_named};
 ghost use Rattle.desk_texts.specs.declared.components.TheConstants.{MOST_COMPONENTS};
 
 use crate::copying::copies;
@@ -43,7 +44,8 @@ impl Components {
 
     /// The components.
     pub fn as_slice(&self) -> &[Component]
-        ensures { result.now ≡ self.now }
+        ensures value { result.now ≡ self.now }
+        ensures few { length self.now ≤ most_named }
     {
         &self.items
     }

@@ -1,9 +1,10 @@
 //! That what a program holds is in its form.
 ghost use Rattle.std.specs.Prelude.{All};
 ghost use Rattle.hex.specs.Hex.{IsBytes};
-ghost use Rattle.desk_texts.specs.Commands.{IsCommand, IsComponent, IsCount, IsDigest, IsFacts, IsImport, IsReply};
+ghost use Rattle.desk_texts.specs.Commands.{IsCaller, IsCommand, IsComponent, IsCount, IsDigest, IsFacts, IsImport, IsReply};
+ghost use Rattle.desk_texts.specs.Formed.{AreFactsWithin, IsCall, IsImportWithin, IsWithin};
 
-use crate::{Command, Facts, Import, Reply};
+use crate::{Call, Caller, Command, Facts, Import, Reply};
 use desk_bytes::Digest;
 use sbat::Component;
 
@@ -108,6 +109,64 @@ pub fn commands_are_formed(command: &Command)
         }
         Command::ImportRevocations(import) => show_import(import),
     }
+}
+
+fn show_facts_within(facts: &Facts)
+    ensures { AreFactsWithin facts.now }
+{
+    let _length = facts.extent.length();
+    let _gap = facts.extent.gap();
+    let _carried = facts.carried.as_slice();
+    let _components = facts.components.as_slice();
+}
+
+fn show_import_within(import: &Import)
+    ensures { IsImportWithin import.now }
+{
+    let _passed = import.passed();
+    let _components = import.components().as_slice();
+}
+
+fn show_within(command: &Command)
+    ensures { IsWithin command.now }
+{
+    match command {
+        Command::Submit(submission) => show_facts_within(&submission.facts),
+        Command::Return(returned_file) => show_facts_within(&returned_file.facts),
+        Command::ListCertificate(certificate) => {
+            let _body = certificate.body();
+        }
+        Command::ImportRevocations(import) => show_import_within(import),
+        Command::AddPerson(_)
+        | Command::Review(_)
+        | Command::Withdraw(_)
+        | Command::ListDigest(_)
+        | Command::Unlist(_)
+        | Command::RevokeDigest(_)
+        | Command::RevokeCertificate(_)
+        | Command::RaiseLevel(_) => {}
+    }
+}
+
+fn show_caller(caller: &Caller)
+    ensures { IsCaller caller.now }
+{
+    match caller {
+        Caller::Console => {}
+        Caller::Person(name) => {
+            let _name = name.as_str();
+        }
+    }
+}
+
+/// Changes nothing, and tells that each call that a program holds is in its forms and within its limits.
+pub fn calls_are_formed(call: &Call)
+    ensures { IsCall call.now }
+{
+    show_caller(&call.caller);
+    let _key = call.key.as_str();
+    commands_are_formed(&call.command);
+    show_within(&call.command);
 }
 
 /// Changes nothing, and tells that each reply that a program holds is in its form: the premise of

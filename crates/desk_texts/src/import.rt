@@ -90,6 +90,8 @@ impl Import {
     pub fn passed(&self) -> u64
         ensures value { result ≡ self.now.passed }
         ensures few { result ≤ most_imported }
+        ensures limit { named_count self.now.passed self.now.digests self.now.certificates
+            self.now.components ≤ most_imported }
     {
         self.passed
     }

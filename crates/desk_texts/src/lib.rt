@@ -43,7 +43,7 @@ pub use digests::Digests;
 pub use extent::{Extent, LONGEST_IMAGE};
 pub use facts::Facts;
 pub use fault::TextFault;
-pub use form_keeping::{commands_are_formed, replies_are_formed};
+pub use form_keeping::{calls_are_formed, commands_are_formed, replies_are_formed};
 pub use import::{Import, MOST_IMPORTED};
 pub use imported_components::ImportedComponents;
 pub use key::Key;

@@ -1,0 +1,47 @@
+-- A call in its forms and within its limits: what holds of each call that a program can have.
+use Rattle.std.specs.Prelude.{◌≡◌, ◌≤◌, length, true}
+use Rattle.desk_bytes.specs.Digests.{IsAscending}
+use Rattle.desk_texts.specs.Certificates.{is_certificate_size}
+use Rattle.desk_texts.specs.Commands.{IsCaller, IsCommand}
+use Rattle.desk_texts.specs.Forms.{is_key, longest_image, most_carried, most_imported, most_named}
+use Rattle.desk_texts.specs.Imports.{Imported, named_count}
+use Rattle.desk_texts.specs.Raising.{names_no_sbat}
+use Rattle.desk_texts.specs.declared.command.Call.{Call}
+use Rattle.desk_texts.specs.declared.command.Command.{Command}
+use Rattle.desk_texts.specs.declared.command.Command.TheVariants.{AddPerson, Submit, Review, Withdraw, Return, ListCertificate, ListDigest, Unlist, RevokeDigest, RevokeCertificate, RaiseLevel, ImportRevocations}
+use Rattle.desk_texts.specs.declared.facts.Facts.{Facts}
+
+-- own: how long an image's file is and how much of it no section holds; its certificates ascend, each once
+pub record AreFactsWithin (facts : Facts) : Type 0 where
+  pub gap : facts.extent.gap ≤ facts.extent.length
+  pub file : facts.extent.length ≤ longest_image
+  pub ascending : IsAscending facts.carried
+  pub carried : length facts.carried ≤ most_carried
+  pub components : length facts.components ≤ most_named
+
+-- own: how many entries an import has, with those that it passes over; `sbat` is none of them
+pub record IsImportWithin (named : Imported) : Type 0 where
+  pub entries : named_count named.passed named.digests named.certificates named.components ≤ most_imported
+  pub no_sbat : names_no_sbat named.components ≡ true
+
+-- the command keeps within the limits of what it names
+abbrev pub IsWithin : Command → Type 0
+IsWithin (AddPerson _) = Unit {0}
+IsWithin (Submit s) = AreFactsWithin s.facts
+IsWithin (Review _) = Unit {0}
+IsWithin (Withdraw _) = Unit {0}
+IsWithin (Return h) = AreFactsWithin h.facts
+IsWithin (ListCertificate c) = is_certificate_size (length c.body) ≡ true
+IsWithin (ListDigest _) = Unit {0}
+IsWithin (Unlist _) = Unit {0}
+IsWithin (RevokeDigest _) = Unit {0}
+IsWithin (RevokeCertificate _) = Unit {0}
+IsWithin (RaiseLevel _) = Unit {0}
+IsWithin (ImportRevocations i) = IsImportWithin i
+
+-- Who calls, the key, and all that the command names are in their forms and within their limits.
+pub record IsCall (c : Call) : Type 0 where
+  pub caller : IsCaller c.caller
+  pub key : is_key c.key ≡ true
+  pub forms : IsCommand c.command
+  pub limits : IsWithin c.command
