@@ -7,10 +7,11 @@ use Rattle.std.proofs.lemmas.List.{length-take-le, take-replicate}
 use Rattle.std.proofs.lemmas.List.Elements.{All-tail}
 use Rattle.sha2.specs.Hashers.{Holds256}
 use Rattle.sha2.specs.declared.Sha256.{Sha256}
-use Rattle.pe_image.specs.Hashed.{hashed}
+use Rattle.pe_image.specs.Hashed.{hashed_bytes}
 use Rattle.pe_image.specs.Image.{has_table, table_offset, table_size}
 use Rattle.pe_image.specs.Places.{Places, places_of}
-use Rattle.pe_image.specs.Spans.{EndWithin, bytes_at}
+use Rattle.pe_image.specs.Spans.{EndWithin, bytes_at, span}
+use Rattle.pe_image.specs.declared.span.Span.{Span}
 use Rattle.pe_image.proofs.SpanLemmas.{slice_range-join}
 use Rattle.authenticode.specs.Hashing.{padding_of, signed_bytes}
 
@@ -32,21 +33,21 @@ block_fed file out block from at size read wide after fits =
 -- ---- ranges
 
 -- the hasher holds what stands before the ranges that are left, and these lie within the file
-pub record Feeds (hasher : Sha256) (f : List ℕ) (left : List (ℕ × ℕ)) : Type 0 where
+pub record Feeds (hasher : Sha256) (f : List ℕ) (left : List Span) : Type 0 where
   pub fed : List ℕ
   pub held : Holds256 hasher fed
-  pub whole : fed ++ bytes_at f left ≡ hashed f
-  pub full : All (λ s. s.0 < s.1) left
+  pub whole : fed ++ bytes_at f left ≡ hashed_bytes f
+  pub full : All (λ s. s.from < s.to) left
   pub within : EndWithin (length f) left
 
-pub Feeds-next : (hasher next : Sha256) (f : List ℕ) (s : ℕ × ℕ) (rest : List (ℕ × ℕ)) → Feeds hasher f (s ∷ rest)
-    → ((m : List ℕ) → Holds256 hasher m → Holds256 next (m ++ slice_range f s.0 s.1)) → Feeds next f rest
+pub Feeds-next : (hasher next : Sha256) (f : List ℕ) (s : Span) (rest : List Span) → Feeds hasher f (s ∷ rest)
+    → ((m : List ℕ) → Holds256 hasher m → Holds256 next (m ++ slice_range f s.from s.to)) → Feeds next f rest
 Feeds-next hasher next f s rest h more = record {
-  fed = h.fed ++ slice_range f s.0 s.1;
+  fed = h.fed ++ slice_range f s.from s.to;
   held = more h.fed h.held;
-  whole = append_assoc h.fed (slice_range f s.0 s.1) (bytes_at f rest) ∙ h.whole;
-  full = All-tail (λ s. s.0 < s.1) s rest h.full;
-  within = All-tail (λ s. s.1 ≤ length f) s rest h.within;
+  whole = append_assoc h.fed (slice_range f s.from s.to) (bytes_at f rest) ∙ h.whole;
+  full = All-tail (λ s. s.from < s.to) s rest h.full;
+  within = All-tail (λ s. s.to ≤ length f) s rest h.within;
 }
 
 -- ---- what is to be signed
@@ -56,20 +57,20 @@ told true x = refl
 told false x = refl
 
 -- a layout tells whether there is a table
-pub has_table-told : (f : List ℕ) (p : Places) (table : Option (ℕ × ℕ)) (none : Bool) → p ≡ places_of f → table ≡ p.table
+pub has_table-told : (f : List ℕ) (p : Places) (table : Option Span) (none : Bool) → p ≡ places_of f → table ≡ p.table
     → is_some table ≡ not none → has_table f ≡ not none
 unfolding places_of
 has_table-told f p table none places is test =
-    sym (told (has_table f) (table_offset f, table_offset f + table_size f)) ∙ ap (λ (q : Places). is_some q.table) (sym places) ∙ ap is_some (sym is) ∙ test
+    sym (told (has_table f) (span (table_offset f) (table_offset f + table_size f))) ∙ ap (λ (q : Places). is_some q.table) (sym places) ∙ ap is_some (sym is) ∙ test
 
-pub Holds-signed : (hasher : Sha256) (f : List ℕ) → has_table f ≡ true → Holds256 hasher (hashed f) → Holds256 hasher (signed_bytes f)
+pub Holds-signed : (hasher : Sha256) (f : List ℕ) → has_table f ≡ true → Holds256 hasher (hashed_bytes f) → Holds256 hasher (signed_bytes f)
 Holds-signed hasher f table held =
-    let is : signed_bytes f ≡ hashed f = rw table refl in
+    let is : signed_bytes f ≡ hashed_bytes f = rw table refl in
     subst (Holds256 hasher) (sym is) held
 
 pub Holds-padded : (hasher : Sha256) (f : List ℕ) (count : ℕ) → has_table f ≡ false → count ≡ padding_of (length f) → count < 8
-    → Holds256 hasher (hashed f ++ take count (replicate 8 0)) → Holds256 hasher (signed_bytes f)
+    → Holds256 hasher (hashed_bytes f ++ take count (replicate 8 0)) → Holds256 hasher (signed_bytes f)
 Holds-padded hasher f count table is few held =
     let zeros : take count (replicate 8 0) ≡ replicate (padding_of (length f)) 0 = take-replicate count 8 0 (omega arith) ∙ ap (λ n. replicate n 0) is in
-    let whole : signed_bytes f ≡ hashed f ++ replicate (padding_of (length f)) 0 = rw table refl in
-    subst (Holds256 hasher) (ap (λ z. hashed f ++ z) zeros ∙ sym whole) held
+    let whole : signed_bytes f ≡ hashed_bytes f ++ replicate (padding_of (length f)) 0 = rw table refl in
+    subst (Holds256 hasher) (ap (λ z. hashed_bytes f ++ z) zeros ∙ sym whole) held

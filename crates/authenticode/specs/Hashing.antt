@@ -1,12 +1,12 @@
 -- The digests of an image (Authenticode, "Calculating the PE Image Hash"; SHA-256 is that of FIPS 180-4).
 use Rattle.std.specs.Prelude.{ℕ, ◌-◌, ◌%◌, ◌++◌, if◌then◌else◌, List, length, replicate}
 use Rattle.sha2.specs.Sha256.{sha256}
-use Rattle.pe_image.specs.Hashed.{hashed}
+use Rattle.pe_image.specs.Hashed.{hashed_bytes}
 use Rattle.pe_image.specs.Image.{has_table}
 
 -- the digest of the file f
 abbrev pub image_digest : List ℕ → List ℕ
-image_digest f = sha256 (hashed f)
+image_digest f = sha256 (hashed_bytes f)
 
 -- how many bytes are missing to a multiple of 8
 abbrev pub padding_of : ℕ → ℕ
@@ -15,7 +15,7 @@ padding_of n = (8 - n % 8) % 8
 -- what a signature of f covers. own: where there is no table yet, a signing tool brings the length to a
 -- multiple of 8 by zero bytes before it appends one, so they are hashed too
 abbrev pub signed_bytes : List ℕ → List ℕ
-signed_bytes f = if has_table f then hashed f else hashed f ++ replicate (padding_of (length f)) 0
+signed_bytes f = if has_table f then hashed_bytes f else hashed_bytes f ++ replicate (padding_of (length f)) 0
 
 -- the digest that a signature of f holds
 abbrev pub signed_digest : List ℕ → List ℕ

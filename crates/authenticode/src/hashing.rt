@@ -2,42 +2,34 @@
 ghost use Rattle.std.specs.Prelude.{◌≡◌, ◌+◌, ◌<◌, ◌≤◌, ◌++◌, ℕ, List, length, slice_range, IfOk, OnErr, OnOk};
 ghost use Rattle.sha2.specs.Hashers.{Holds256};
 ghost use Rattle.sha2.specs.Sha256.{sha256};
-ghost use Rattle.pe_image.specs.Hashed.{hashed};
+ghost use Rattle.pe_image.specs.Hashed.{hashed_bytes};
 ghost use Rattle.pe_image.specs.Places.{IsLayoutOf, places_of};
-ghost use Rattle.pe_image.specs.Sources.{HaveRisen};
+ghost use Rattle.pe_image.specs.Sources.{HaveRisen, OnlyReads};
 ghost use Rattle.authenticode.specs.Hashing.{image_digest, padding_of, signed_bytes, signed_digest};
 
 use desk_bytes::Digest;
-use pe_image::{Layout, ReadFailed, Source, ranges, table};
+use pe_image::{Layout, ReadFailed, Source, Span, ranges, table};
 use sha2::{Digest as Hasher, Sha256};
 
 /// How many bytes are read at once.
 const BLOCK: usize = 64;
 
-/// Adds the bytes from `from` up to `to` to the message of a hasher, a block at a time.
-fn feed<S: Source>(
-    source: &mut S,
-    from: u64,
-    to: u64,
-    hasher: &mut Sha256,
-) -> Result<(), ReadFailed>
-    requires order { from ≤ to }
-    requires within { to ≤ length (S.content source.old) }
+/// Adds the bytes of a span to the message of a hasher, a block at a time.
+fn feed<S: Source>(source: &mut S, span: Span, hasher: &mut Sha256) -> Result<(), ReadFailed>
+    requires order { span.from ≤ span.to }
+    requires within { span.to ≤ length (S.content source.old) }
     ensures ok { OnOk result ((m : List ℕ) → Holds256 hasher.old m
-        → Holds256 hasher.new (m ++ slice_range (S.content source.old) from to)) }
+        → Holds256 hasher.new (m ++ slice_range (S.content source.old) span.from span.to)) }
 
     ensures device { OnErr result (HaveRisen (S.failures source.old) (S.failures source.new)) }
 
-    ensures kept { S.failures source.old ≤ S.failures source.new }
-    ensures same { S.content source.new ≡ S.content source.old }
+    ensures reads { OnlyReads S.content S.failures source.old source.new }
 {
     let mut block = [0; BLOCK];
-    let mut at = from;
-    while at < to {
-        let size = (to - at).min(BLOCK as u64) as usize;
-        let Ok(()) = source.read_at(at, &mut block[..size]) else {
-            return Err(ReadFailed);
-        };
+    let mut at = span.from;
+    while at < span.to {
+        let size = (span.to - at).min(BLOCK as u64) as usize;
+        source.read_at(at, &mut block[..size])?;
         hasher.update(&block[..size]);
         at += size as u64;
     }
@@ -47,18 +39,15 @@ fn feed<S: Source>(
 /// A hasher of the bytes that are hashed.
 fn hash_ranges<S: Source>(source: &mut S, layout: &Layout) -> Result<Sha256, ReadFailed>
     requires { IsLayoutOf (S.content source.old) layout.now }
-    ensures ok { IfOk result (λ hasher. Holds256 hasher (hashed (S.content source.old))) }
+    ensures ok { IfOk result (λ hasher. Holds256 hasher (hashed_bytes (S.content source.old))) }
 
     ensures device { OnErr result (HaveRisen (S.failures source.old) (S.failures source.new)) }
 
-    ensures kept { S.failures source.old ≤ S.failures source.new }
-    ensures same { S.content source.new ≡ S.content source.old }
+    ensures reads { OnlyReads S.content S.failures source.old source.new }
 {
     let mut hasher = Sha256::new();
-    for (from, to) in ranges(layout) {
-        let Ok(()) = feed(source, from, to, &mut hasher) else {
-            return Err(ReadFailed);
-        };
+    for span in ranges(layout) {
+        feed(source, span, &mut hasher)?;
     }
     Ok(hasher)
 }
@@ -74,7 +63,7 @@ fn missing(length: u64) -> usize
 /// Adds the zero bytes that a signature of the image covers, where it has no certificate table.
 fn pad(hasher: &mut Sha256, layout: &Layout, size: u64)
     ensures { (f : List ℕ) → layout.now ≡ places_of f → size ≡ length f
-        → Holds256 hasher.old (hashed f) → Holds256 hasher.new (signed_bytes f) }
+        → Holds256 hasher.old (hashed_bytes f) → Holds256 hasher.new (signed_bytes f) }
 {
     if table(layout).is_none() {
         hasher.update(&[0; 8][..missing(size)]);
@@ -88,14 +77,15 @@ pub fn file_digest<S: Source>(source: &mut S) -> Result<Digest, ReadFailed>
     // A fault comes only where the source's count of failures rose or stood at its greatest.
     ensures device { OnErr result (HaveRisen (S.failures source.old) (S.failures source.new)) }
 
-    ensures kept { S.failures source.old ≤ S.failures source.new }
-    ensures same { S.content source.new ≡ S.content source.old }
+    ensures reads { OnlyReads S.content S.failures source.old source.new }
 {
     let mut hasher = Sha256::new();
     let length = source.len();
-    let Ok(()) = feed(source, 0, length, &mut hasher) else {
-        return Err(ReadFailed);
+    let whole = Span {
+        from: 0,
+        to: length,
     };
+    feed(source, whole, &mut hasher)?;
     Ok(Digest::from(hasher.finalize()))
 }
 
@@ -116,12 +106,9 @@ pub fn digests<S: Source>(source: &mut S, layout: &Layout) -> Result<ImageDigest
     // A fault comes only where the source's count of failures rose or stood at its greatest.
     ensures device { OnErr result (HaveRisen (S.failures source.old) (S.failures source.new)) }
 
-    ensures kept { S.failures source.old ≤ S.failures source.new }
-    ensures same { S.content source.new ≡ S.content source.old }
+    ensures reads { OnlyReads S.content S.failures source.old source.new }
 {
-    let Ok(plain) = hash_ranges(source, layout) else {
-        return Err(ReadFailed);
-    };
+    let plain = hash_ranges(source, layout)?;
     let Ok(mut padded) = plain.clone() else {
         unreachable!()
     };
@@ -141,12 +128,9 @@ pub fn digest<S: Source>(source: &mut S, layout: &Layout) -> Result<Digest, Read
     // A fault comes only where the source's count of failures rose or stood at its greatest.
     ensures device { OnErr result (HaveRisen (S.failures source.old) (S.failures source.new)) }
 
-    ensures kept { S.failures source.old ≤ S.failures source.new }
-    ensures same { S.content source.new ≡ S.content source.old }
+    ensures reads { OnlyReads S.content S.failures source.old source.new }
 {
-    let Ok(hasher) = hash_ranges(source, layout) else {
-        return Err(ReadFailed);
-    };
+    let hasher = hash_ranges(source, layout)?;
     Ok(Digest::from(hasher.finalize()))
 }
 
@@ -160,11 +144,7 @@ pub fn signing_digest<S: Source>(source: &mut S, layout: &Layout) -> Result<Dige
     // A fault comes only where the source's count of failures rose or stood at its greatest.
     ensures device { OnErr result (HaveRisen (S.failures source.old) (S.failures source.new)) }
 
-    ensures kept { S.failures source.old ≤ S.failures source.new }
-    ensures same { S.content source.new ≡ S.content source.old }
+    ensures reads { OnlyReads S.content S.failures source.old source.new }
 {
-    match digests(source, layout) {
-        Ok(both) => Ok(both.signing),
-        Err(ReadFailed) => Err(ReadFailed),
-    }
+    Ok(digests(source, layout)?.signing)
 }

@@ -14,8 +14,8 @@ pub const MOST_BYTES: usize = 134_217_728;
 /// and then `gap N`. Nothing is written of an image that is refused.
 pub fn print_ranges<S: Source, W: Write>(source: &mut S, writer: &mut W) -> Result<(), Fault> {
     let places = layout(source)?;
-    for (from, to) in ranges(&places) {
-        writeln!(writer, "{from}-{to}").map_err(|_| WriteFailed)?;
+    for span in ranges(&places) {
+        writeln!(writer, "{}-{}", span.from, span.to).map_err(|_| WriteFailed)?;
     }
     writeln!(writer, "gap {}", gap(&places)).map_err(|_| WriteFailed)?;
     Ok(())

@@ -1,13 +1,14 @@
 -- Parts of a file.
 use Rattle.std.specs.Prelude.{ℕ, List, [], Option, Some, None, slice_range, ⊤}
 use Rattle.pe_image.specs.Sources.{HaveRisen}
+use Rattle.pe_image.specs.declared.span.Span.{Span}
 use Rattle.desk_service.specs.declared.part.PartFault.{PartFault}
 use Rattle.desk_service.specs.declared.part.PartFault.TheVariants as fault
 
--- the bytes at a half-open pair of places, none where there is no pair
-abbrev pub part_of : List ℕ → Option (ℕ × ℕ) → List ℕ
+-- the bytes of a span, none where there is no span
+abbrev pub part_of : List ℕ → Option Span → List ℕ
 part_of f None = []
-part_of f (Some p) = slice_range f p.0 p.1
+part_of f (Some p) = slice_range f p.from p.to
 
 -- a part isn't read for this, of which the counts of failures before and after tell
 abbrev pub IsPartFault : ℕ → ℕ → PartFault → Type 0

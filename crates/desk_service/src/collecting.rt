@@ -1,6 +1,7 @@
 //! The facts of an image.
 ghost use Rattle.std.specs.Prelude.{◌≡◌, ◌≤◌, List, length, IfOk, IfErr};
 ghost use Rattle.pe_image.specs.Places.{IsLayoutOf};
+ghost use Rattle.pe_image.specs.Sources.{OnlyReads};
 ghost use Rattle.authenticode.specs.Carried.{IsCarried};
 ghost use Rattle.sbat.specs.Refusals.{IsComponents};
 ghost use Rattle.desk_service.specs.ImageFacts.{HasCarried, IsFactsOf, IsFirstFault};
@@ -26,8 +27,7 @@ fn read_carried<S: Source>(
     ensures first { IfErr result (IsFirstFault (S.content source.old)
         (S.failures source.old) (S.failures source.new)) }
 
-    ensures kept { S.failures source.old ≤ S.failures source.new }
-    ensures same { S.content source.new ≡ S.content source.old }
+    ensures reads { OnlyReads S.content S.failures source.old source.new }
 {
     let bytes = match read_part(alloc, source, table(layout)) {
         Ok(bytes) => bytes,
@@ -53,8 +53,7 @@ fn read_components<S: Source>(
     ensures first { IfErr result (IsFirstFault (S.content source.old)
         (S.failures source.old) (S.failures source.new)) }
 
-    ensures kept { S.failures source.old ≤ S.failures source.new }
-    ensures same { S.content source.new ≡ S.content source.old }
+    ensures reads { OnlyReads S.content S.failures source.old source.new }
 {
     let text = match read_part(alloc, source, sbat_range(layout)) {
         Ok(text) => text,
@@ -83,8 +82,7 @@ pub fn facts<S: Source>(alloc: Global, source: &mut S) -> Result<Facts, FactsFau
     ensures first { IfErr result (IsFirstFault (S.content source.old)
         (S.failures source.old) (S.failures source.new)) }
 
-    ensures kept { S.failures source.old ≤ S.failures source.new }
-    ensures same { S.content source.new ≡ S.content source.old }
+    ensures reads { OnlyReads S.content S.failures source.old source.new }
 {
     let layout = match layout(source) {
         Ok(layout) => layout,

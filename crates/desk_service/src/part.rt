@@ -1,10 +1,10 @@
 //! A part of a source, in memory.
 ghost use Rattle.std.specs.Prelude.{◌≡◌, ◌≤◌, ℕ, List, length, IfOk, IfErr, IfSome};
-ghost use Rattle.pe_image.specs.Sources.{HaveRisen};
+ghost use Rattle.pe_image.specs.Sources.{OnlyReads};
 ghost use Rattle.pe_image.specs.Spans.{IsWithin};
 ghost use Rattle.desk_service.specs.Parts.{IsPartFault, part_of};
 
-use pe_image::Source;
+use pe_image::{Source, Span};
 use std::alloc::Global;
 
 /// Why a part isn't in memory.
@@ -14,28 +14,27 @@ pub enum PartFault {
     NoMemory,
 }
 
-/// The bytes at a half-open pair of places, none where there is no pair.
+/// The bytes of a span, none where there is no span.
 pub fn read_part<S: Source>(
     alloc: Global,
     source: &mut S,
-    places: Option<(u64, u64)>,
+    places: Option<Span>,
 ) -> Result<Vec<u8>, PartFault>
     requires { IfSome places (IsWithin (length (S.content source.old))) }
     ensures exact { IfOk result (λ bytes. bytes.items ≡ part_of (S.content source.old) places) }
 
     ensures first { IfErr result (IsPartFault (S.failures source.old) (S.failures source.new)) }
 
-    ensures kept { S.failures source.old ≤ S.failures source.new }
-    ensures same { S.content source.new ≡ S.content source.old }
+    ensures reads { OnlyReads S.content S.failures source.old source.new }
 {
-    let Some((from, to)) = places else {
+    let Some(span) = places else {
         return Ok(Vec::new(alloc));
     };
-    let size = (to - from) as usize;
+    let size = (span.to - span.from) as usize;
     let Ok(mut bytes) = vec![in alloc; 0u8; size] else {
         return Err(PartFault::NoMemory);
     };
-    let Ok(()) = source.read_at(from, &mut bytes) else {
+    let Ok(()) = source.read_at(span.from, &mut bytes) else {
         return Err(PartFault::Read);
     };
     Ok(bytes)

@@ -3,26 +3,27 @@ use Rattle.std.proofs.Common.{◌≡◌, ◌+◌, ◌-◌, ◌≤◌, ◌++◌, 
 use Rattle.std.proofs.lemmas.List.{take-take, take-append-le, drop-append-le, drop-take, length-take-le}
 use Rattle.std.proofs.lemmas.List.Concat.{flat_map-append}
 use Rattle.std.proofs.lemmas.Bool.{ltb-false}
-use Rattle.pe_image.specs.Spans.{reach, in_order, nonempty, bytes_at, without}
-use Rattle.pe_image.specs.Image.{checksum, has_entry, entry, size_of_headers, raw, hashed_size, image_end, gap, has_table, table_offset, sections_end}
+use Rattle.pe_image.specs.Spans.{span, reach, in_order, nonempty, bytes_at, without}
+use Rattle.pe_image.specs.Image.{checksum_offset, has_certificate_directory, certificate_directory_offset, size_of_headers, raw, sum_of_bytes_hashed, image_end, gap, has_table, table_offset, sections_end}
 use Rattle.pe_image.specs.Hashed.{plain, HashesAllElse}
 use Rattle.pe_image.proofs.PlacesLemmas.{header_spans, spans-of_file}
 use Rattle.pe_image.proofs.SpanLemmas.{reach-within, slice_range-join, reach-above, chain-size, chain-bytes, chain-in_order, size-in_order, reach-in_order}
 use Rattle.pe_image.proofs.RawLemmas.{raw-wide}
 use Rattle.pe_image.proofs.CheckLemmas.{IsPlaced, placed-from-laid, fixed-least}
+use Rattle.pe_image.specs.declared.span.Span.{Span}
 
 -- a slice that ends before it begins
 empty-slice : (f : List ℕ) (i j : ℕ) → j ≤ i → slice_range f i j ≡ []
 empty-slice f i j h = let none : j - i ≡ 0 = omega arith in ap (λ n. take n (drop i f)) none
 
 -- the empty spans have no bytes
-pub bytes-nonempty : (f : List ℕ) (ss : List (ℕ × ℕ)) → bytes_at f (nonempty ss) ≡ bytes_at f ss
+pub bytes-nonempty : (f : List ℕ) (ss : List Span) → bytes_at f (nonempty ss) ≡ bytes_at f ss
 bytes-nonempty f [] = refl
 bytes-nonempty f (s ∷ ss) =
     let rest = bytes-nonempty f ss in
-    elim (nat_lt s.0 s.1) as (λ b. nat_lt s.0 s.1 ≡ b → bytes_at f (cond b (s ∷ nonempty ss) (nonempty ss)) ≡ slice_range f s.0 s.1 ++ bytes_at f ss) [
-      | true ↦ λ is. ap (λ l. slice_range f s.0 s.1 ++ l) rest
-      | false ↦ λ is. rest ∙ ap (λ l. l ++ bytes_at f ss) (sym (empty-slice f s.0 s.1 (ltb-false s.0 s.1 is)))
+    elim (nat_lt s.from s.to) as (λ b. nat_lt s.from s.to ≡ b → bytes_at f (cond b (s ∷ nonempty ss) (nonempty ss)) ≡ slice_range f s.from s.to ++ bytes_at f ss) [
+      | true ↦ λ is. ap (λ l. slice_range f s.from s.to ++ l) rest
+      | false ↦ λ is. rest ∙ ap (λ l. l ++ bytes_at f ss) (sym (empty-slice f s.from s.to (ltb-false s.from s.to is)))
     ] refl
 
 -- f without one part, and without two
@@ -66,7 +67,7 @@ image-end f p within =
     ] refl
 
 -- without a gap the sections and what follows them are all that follows the headers
-pub body-bytes : (f : List ℕ) → IsPlaced f → gap f ≡ 0 → (size_of_headers f ≤ image_end f) × (image_end f ≤ length f) × (bytes_at f (in_order (raw f)) ++ slice_range f (hashed_size f) (image_end f) ≡ slice_range f (size_of_headers f) (image_end f))
+pub body-bytes : (f : List ℕ) → IsPlaced f → gap f ≡ 0 → (size_of_headers f ≤ image_end f) × (image_end f ≤ length f) × (bytes_at f (in_order (raw f)) ++ slice_range f (sum_of_bytes_hashed f) (image_end f) ≡ slice_range f (size_of_headers f) (image_end f))
 body-bytes f p gapless =
     let z = size_of_headers f in
     let end = sections_end f in
@@ -75,12 +76,12 @@ body-bytes f p gapless =
     let sizes = size-in_order (raw f) in
     let far = reach-in_order z (raw f) in
     let above = reach-above z (raw f) in
-    let full : end ≡ hashed_size f = omega arith in
+    let full : end ≡ sum_of_bytes_hashed f = omega arith in
     let fits = reach-within z (length f) (raw f) p.within p.ends in
     let last = image-end f p fits in
     let sections : bytes_at f (in_order (raw f)) ≡ slice_range f z (reach z (in_order (raw f))) = chain-bytes f z (in_order (raw f)) chain (omega arith) (omega arith) in
     let joined = slice_range-join f z end (image_end f) above last.0 fits in
-    (omega arith, last.1, ap (λ l. l ++ slice_range f (hashed_size f) (image_end f)) (sections ∙ ap (λ n. slice_range f z n) far) ∙ ap (λ n. slice_range f z end ++ slice_range f n (image_end f)) (sym full) ∙ joined)
+    (omega arith, last.1, ap (λ l. l ++ slice_range f (sum_of_bytes_hashed f) (image_end f)) (sections ∙ ap (λ n. slice_range f z n) far) ∙ ap (λ n. slice_range f z end ++ slice_range f n (image_end f)) (sym full) ∙ joined)
 
 -- the law of the hashed bytes
 pub hashes-all-else : HashesAllElse
@@ -92,23 +93,23 @@ hashes-all-else f laid gapless =
     let body = body-bytes f p gapless in
     let least = fixed-least f in
     let header = p.header in
-    let a = checksum f in
-    let b = checksum f + 4 in
+    let a = checksum_offset f in
+    let b = checksum_offset f + 4 in
     let ss = in_order (raw f) in
-    let tail = slice_range f (hashed_size f) v in
-    let full = bytes-nonempty f (header_spans f ++ ss ++ (hashed_size f, v) ∷ []) in
-    let parts = flat_map-append (λ s. slice_range f s.0 s.1) (header_spans f ++ ss) ((hashed_size f, v) ∷ []) in
-    let heads = flat_map-append (λ s. slice_range f s.0 s.1) (header_spans f) ss in
+    let tail = slice_range f (sum_of_bytes_hashed f) v in
+    let full = bytes-nonempty f (header_spans f ++ ss ++ span (sum_of_bytes_hashed f) v ∷ []) in
+    let parts = flat_map-append (λ s. slice_range f s.from s.to) (header_spans f ++ ss) (span (sum_of_bytes_hashed f) v ∷ []) in
+    let heads = flat_map-append (λ s. slice_range f s.from s.to) (header_spans f) ss in
     let head = bytes_at f (header_spans f) in
-    let whole : bytes_at f (header_spans f ++ ss ++ (hashed_size f, v) ∷ []) ≡ head ++ slice_range f z v =
+    let whole : bytes_at f (header_spans f ++ ss ++ span (sum_of_bytes_hashed f) v ∷ []) ≡ head ++ slice_range f z v =
     parts ∙ ap (λ l. l ++ (tail ++ [])) heads ∙ append_assoc head (bytes_at f ss) (tail ++ []) ∙ ap (λ l. head ++ (bytes_at f ss ++ l)) (append-nil tail) ∙ ap (λ l. head ++ l) body.2 in
     let rest : head ++ slice_range f z v ≡ plain f =
-    elim (has_entry f) as (λ e. has_entry f ≡ e → bytes_at f (if e then (0, a) ∷ (b, entry f) ∷ (entry f + 8, z) ∷ [] else (0, a) ∷ (b, z) ∷ []) ++ slice_range f z v ≡ (if e then without a b (without (entry f) (entry f + 8) (take v f)) else without a b (take v f))) [
+    elim (has_certificate_directory f) as (λ e. has_certificate_directory f ≡ e → bytes_at f (if e then span 0 a ∷ span b (certificate_directory_offset f) ∷ span (certificate_directory_offset f + 8) z ∷ [] else span 0 a ∷ span b z ∷ []) ++ slice_range f z v ≡ (if e then without a b (without (certificate_directory_offset f) (certificate_directory_offset f + 8) (take v f)) else without a b (take v f))) [
       | true ↦ λ is.
           let room = p.directory is in
-          let joined = slice_range-join f (entry f + 8) z v room body.0 p.within in
-          let cut = two-cuts f a b (entry f) (entry f + 8) v (omega arith) (omega arith) (omega arith) (omega arith) body.1 in
-          three-and (slice_range f 0 a) (slice_range f b (entry f)) (slice_range f (entry f + 8) z) (slice_range f z v) ∙ ap (λ l. slice_range f 0 a ++ (slice_range f b (entry f) ++ l)) joined ∙ sym cut
+          let joined = slice_range-join f (certificate_directory_offset f + 8) z v room body.0 p.within in
+          let cut = two-cuts f a b (certificate_directory_offset f) (certificate_directory_offset f + 8) v (omega arith) (omega arith) (omega arith) (omega arith) body.1 in
+          three-and (slice_range f 0 a) (slice_range f b (certificate_directory_offset f)) (slice_range f (certificate_directory_offset f + 8) z) (slice_range f z v) ∙ ap (λ l. slice_range f 0 a ++ (slice_range f b (certificate_directory_offset f) ++ l)) joined ∙ sym cut
       | false ↦ λ is.
           let joined = slice_range-join f b z v (omega arith) body.0 p.within in
           let cut = one-cut f a b v (omega arith) (omega arith) body.1 in

@@ -7,12 +7,12 @@ use Rattle.pe_image.specs.Image.{raw, headers, sections_begin, number_of_section
 use Rattle.pe_image.specs.declared.header.Header.{Header}
 
 -- each has one at least
-pub raw_of-wide : (hs : List Header) → list_all (λ s. nat_lt s.0 s.1) (raw_of hs) ≡ true
+pub raw_of-wide : (hs : List Header) → list_all (λ s. nat_lt s.from s.to) (raw_of hs) ≡ true
 unfolding raw_of
 raw_of-wide [] = refl
 raw_of-wide (h ∷ hs) =
     let rest = raw_of-wide hs in
-    elim (is_raw h) as (λ b. is_raw h ≡ b → list_all (λ s. nat_lt s.0 s.1) (map span_of (cond b (h ∷ filter is_raw hs) (filter is_raw hs))) ≡ true) [
+    elim (is_raw h) as (λ b. is_raw h ≡ b → list_all (λ s. nat_lt s.from s.to) (map span_of (cond b (h ∷ filter is_raw hs) (filter is_raw hs))) ≡ true) [
       | true ↦ λ is.
           let some = ltb-true 0 h.size_of_raw_data is in
           let from = h.pointer_to_raw_data in
@@ -20,7 +20,7 @@ raw_of-wide (h ∷ hs) =
       | false ↦ λ is. rest
     ] refl
 
-pub raw-wide : (f : List ℕ) → list_all (λ s. nat_lt s.0 s.1) (raw f) ≡ true
+pub raw-wide : (f : List ℕ) → list_all (λ s. nat_lt s.from s.to) (raw f) ≡ true
 unfolding raw
 raw-wide f = raw_of-wide (headers f)
 

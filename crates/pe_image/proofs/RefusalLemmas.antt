@@ -53,6 +53,13 @@ hold-both cs ds front rest = first_of-rest cs ds front ∙ rest
 abbrev pub sections_of : List ℕ → List (Bool × LayoutFault)
 sections_of f = section_checks (raw f) (size_of_headers f) (length f)
 
+-- the refusal of the first part is that of all
+pub refused-first : (f : List ℕ) (before after : ℕ) (fault : LayoutFault) → IsRefused (front_checks f) before after fault → IsRefused (checks f) before after fault
+refused-first f before after fault why =
+    refused-front (front_checks f ++ sections_of f ++ table_checks f) (sbat_checks (headers f)) before after fault
+    (refused-front (front_checks f ++ sections_of f) (table_checks f) before after fault
+    (refused-front (front_checks f) (sections_of f) before after fault why))
+
 -- the refusal of a part that comes after others is that of all
 pub refused-sections : (f : List ℕ) (cs : List (Bool × LayoutFault)) (before after : ℕ) (fault : LayoutFault) → first_of (front_checks f) ≡ None → cs ≡ sections_of f → first_of cs ≡ Some fault → IsRefused (checks f) before after fault
 refused-sections f cs before after fault front same why =

@@ -7,11 +7,11 @@ use Rattle.std.proofs.lemmas.List.Elements.{All-append, All-filter}
 use Rattle.std.proofs.lemmas.List.Sums.{AllPass-from_list_all}
 use Rattle.pe_image.specs.Checks.{IsLaid}
 use Rattle.pe_image.specs.Headers.{is_raw, raw_of, span_of}
-use Rattle.pe_image.specs.Image.{checksum, has_entry, has_table, entry, headers, size_of_headers, raw, hashed_size, image_end, table_offset, table_size}
+use Rattle.pe_image.specs.Image.{checksum_offset, has_certificate_directory, has_table, certificate_directory_offset, headers, size_of_headers, raw, sum_of_bytes_hashed, image_end, table_offset, table_size}
 use Rattle.pe_image.specs.Sbat.{is_sbat, sbat_section, text_at, text_size}
 use Rattle.pe_image.specs.declared.header.Header.{Header}
 use Rattle.pe_image.specs.Places.{Places, places_of, spans_of, table_of, IsLayoutOf}
-use Rattle.pe_image.specs.Spans.{in_order, follows, are_apart, EndWithin, IsWithin, StandBetween}
+use Rattle.pe_image.specs.Spans.{span, in_order, follows, are_apart, EndWithin, IsWithin, StandBetween}
 use Rattle.pe_image.proofs.CheckLemmas.{IsPlaced, placed-from-laid, fixed-least}
 use Rattle.pe_image.proofs.HashedLemmas.{image-end}
 use Rattle.pe_image.proofs.OrderLemmas.{All-cons}
@@ -22,13 +22,13 @@ use Rattle.pe_image.proofs.SpanLemmas.{all-in_order, follows-in_order, reach-wit
 -- the sections end within the file, and follow one another
 sections-within : (f : List ℕ) → IsPlaced f → EndWithin (length f) (in_order (raw f))
 sections-within f p =
-    let each = AllPass-from_list_all (λ s. nat_le s.1 (length f)) (in_order (raw f)) (all-in_order (λ s. nat_le s.1 (length f)) (raw f) ∙ p.ends) in
+    let each = AllPass-from_list_all (λ s. nat_le s.to (length f)) (in_order (raw f)) (all-in_order (λ s. nat_le s.to (length f)) (raw f) ∙ p.ends) in
     λ k d within. leb-true _ _ (each k d within)
 
 sections-follow : (f : List ℕ) → IsPlaced f → follows (size_of_headers f) (in_order (raw f)) ≡ true
 sections-follow f p =
     let z = size_of_headers f in
-    follows-in_order z (raw f) (raw-wide f) ∙ and_from (list_all (λ s. nat_le z s.0) (raw f)) (are_apart (raw f)) p.low p.apart
+    follows-in_order z (raw f) (raw-wide f) ∙ and_from (list_all (λ s. nat_le z s.from) (raw f)) (are_apart (raw f)) p.low p.apart
 
 -- no span passes a place
 none-within : (n : ℕ) → EndWithin n []
@@ -41,15 +41,15 @@ headers-within f p =
     let least = fixed-least f in
     let header = p.header in
     let low = p.within in
-    let early : checksum f ≤ n = omega arith in
-    let last = All-cons (λ s. s.1 ≤ n) (checksum f + 4, size_of_headers f) [] low (none-within n) in
-    elim (has_entry f) as (λ b. has_entry f ≡ b → EndWithin n (if b then (0, checksum f) ∷ (checksum f + 4, entry f) ∷ (entry f + 8, size_of_headers f) ∷ [] else (0, checksum f) ∷ (checksum f + 4, size_of_headers f) ∷ [])) [
+    let early : checksum_offset f ≤ n = omega arith in
+    let last = All-cons (λ s. s.to ≤ n) (span (checksum_offset f + 4) (size_of_headers f)) [] low (none-within n) in
+    elim (has_certificate_directory f) as (λ b. has_certificate_directory f ≡ b → EndWithin n (if b then span 0 (checksum_offset f) ∷ span (checksum_offset f + 4) (certificate_directory_offset f) ∷ span (certificate_directory_offset f + 8) (size_of_headers f) ∷ [] else span 0 (checksum_offset f) ∷ span (checksum_offset f + 4) (size_of_headers f) ∷ [])) [
       | true ↦ λ is.
           let room = p.directory is in
-          let rest = All-cons (λ s. s.1 ≤ n) (entry f + 8, size_of_headers f) [] low (none-within n) in
-          let middle = All-cons (λ s. s.1 ≤ n) (checksum f + 4, entry f) ((entry f + 8, size_of_headers f) ∷ []) (omega arith) rest in
-          All-cons (λ s. s.1 ≤ n) (0, checksum f) ((checksum f + 4, entry f) ∷ (entry f + 8, size_of_headers f) ∷ []) early middle
-      | false ↦ λ is. All-cons (λ s. s.1 ≤ n) (0, checksum f) ((checksum f + 4, size_of_headers f) ∷ []) early last
+          let rest = All-cons (λ s. s.to ≤ n) (span (certificate_directory_offset f + 8) (size_of_headers f)) [] low (none-within n) in
+          let middle = All-cons (λ s. s.to ≤ n) (span (checksum_offset f + 4) (certificate_directory_offset f)) (span (certificate_directory_offset f + 8) (size_of_headers f) ∷ []) (omega arith) rest in
+          All-cons (λ s. s.to ≤ n) (span 0 (checksum_offset f)) (span (checksum_offset f + 4) (certificate_directory_offset f) ∷ span (certificate_directory_offset f + 8) (size_of_headers f) ∷ []) early middle
+      | false ↦ λ is. All-cons (λ s. s.to ≤ n) (span 0 (checksum_offset f)) (span (checksum_offset f + 4) (size_of_headers f) ∷ []) early last
     ] refl
 
 -- all that is hashed does
@@ -58,10 +58,10 @@ spans-within f laid =
     let p = placed-from-laid f laid in
     let n = length f in
     let last = image-end f p (reach-within (size_of_headers f) n (raw f) p.within p.ends) in
-    let tail = All-cons (λ s. s.1 ≤ n) (hashed_size f, image_end f) [] last.1 (none-within n) in
-    let front = All-append (λ s. s.1 ≤ n) (header_spans f) (in_order (raw f)) (headers-within f p) (sections-within f p) in
-    let all = All-append (λ s. s.1 ≤ n) (header_spans f ++ in_order (raw f)) ((hashed_size f, image_end f) ∷ []) front tail in
-    subst (EndWithin n) (sym (spans-of_file f)) (All-filter (λ s. nat_lt s.0 s.1) (λ s. s.1 ≤ n) _ all)
+    let tail = All-cons (λ s. s.to ≤ n) (span (sum_of_bytes_hashed f) (image_end f)) [] last.1 (none-within n) in
+    let front = All-append (λ s. s.to ≤ n) (header_spans f) (in_order (raw f)) (headers-within f p) (sections-within f p) in
+    let all = All-append (λ s. s.to ≤ n) (header_spans f ++ in_order (raw f)) (span (sum_of_bytes_hashed f) (image_end f) ∷ []) front tail in
+    subst (EndWithin n) (sym (spans-of_file f)) (All-filter (λ s. nat_lt s.from s.to) (λ s. s.to ≤ n) _ all)
 
 -- the sections of a layout stand in order between the headers and the end
 pub sections-between : (f : List ℕ) → IsLaid f → StandBetween (places_of f).headers_end (length f) (places_of f).sections
@@ -72,7 +72,7 @@ sections-between f laid =
 
 -- the certificate table does
 table-within : (f : List ℕ) → IsPlaced f → IfSome (table_of f) (IsWithin (length f))
-table-within f p = elim (has_table f) as (λ b. has_table f ≡ b → IfSome (if b then Some (table_offset f, table_offset f + table_size f) else None) (IsWithin (length f))) [
+table-within f p = elim (has_table f) as (λ b. has_table f ≡ b → IfSome (if b then Some (span (table_offset f) (table_offset f + table_size f)) else None) (IsWithin (length f))) [
   | true ↦ λ is. let at = p.table is in (omega arith, omega arith)
   | false ↦ λ is. tt
 ] refl
@@ -97,7 +97,7 @@ text-within n h fits = elim (cases_lt 0 (text_size h)) [
 ]
 
 -- what all raw data tell of those of the first header, and of the others
-first-within : (n : ℕ) (h : Header) (hs : List Header) → list_all (λ s. nat_le s.1 n) (raw_of (h ∷ hs)) ≡ true → 0 < h.size_of_raw_data
+first-within : (n : ℕ) (h : Header) (hs : List Header) → list_all (λ s. nat_le s.to n) (raw_of (h ∷ hs)) ≡ true → 0 < h.size_of_raw_data
     → h.pointer_to_raw_data + h.size_of_raw_data ≤ n
 unfolding raw_of
 first-within n h hs ends some =
@@ -105,18 +105,18 @@ first-within n h hs ends some =
     let both = and_parts (nat_le (h.pointer_to_raw_data + h.size_of_raw_data) n) _ (rw test at ends) in
     leb-true _ _ both.0
 
-others-within : (n : ℕ) (h : Header) (hs : List Header) → list_all (λ s. nat_le s.1 n) (raw_of (h ∷ hs)) ≡ true
-    → list_all (λ s. nat_le s.1 n) (raw_of hs) ≡ true
+others-within : (n : ℕ) (h : Header) (hs : List Header) → list_all (λ s. nat_le s.to n) (raw_of (h ∷ hs)) ≡ true
+    → list_all (λ s. nat_le s.to n) (raw_of hs) ≡ true
 unfolding raw_of
 others-within n h hs ends =
-    elim (nat_lt 0 h.size_of_raw_data) as (λ b. list_all (λ s. nat_le s.1 n) (map span_of (if b then h ∷ filter is_raw hs else filter is_raw hs)) ≡ true
-    → list_all (λ s. nat_le s.1 n) (map span_of (filter is_raw hs)) ≡ true) [
+    elim (nat_lt 0 h.size_of_raw_data) as (λ b. list_all (λ s. nat_le s.to n) (map span_of (if b then h ∷ filter is_raw hs else filter is_raw hs)) ≡ true
+    → list_all (λ s. nat_le s.to n) (map span_of (filter is_raw hs)) ≡ true) [
       | true ↦ λ all. (and_parts (nat_le (h.pointer_to_raw_data + h.size_of_raw_data) n) _ all).1
       | false ↦ λ all. all
     ] ends
 
 -- the text of `.sbat` does
-sbat-within : (n : ℕ) (hs : List Header) → list_all (λ s. nat_le s.1 n) (raw_of hs) ≡ true → IfSome (text_at (find is_sbat hs)) (IsWithin n)
+sbat-within : (n : ℕ) (hs : List Header) → list_all (λ s. nat_le s.to n) (raw_of hs) ≡ true → IfSome (text_at (find is_sbat hs)) (IsWithin n)
 unfolding raw_of
 sbat-within n [] ends = tt
 sbat-within n (h ∷ hs) ends =

@@ -3,12 +3,13 @@ use Rattle.std.specs.Prelude.{◌≡◌, ◌⊎◌, ℕ, ◌+◌, ◌*◌, ◌==
 use Rattle.std.specs.List.{list_all}
 use Rattle.pe_image.specs.Numbers.{u16_at, u32_at}
 use Rattle.pe_image.specs.Sources.{HaveRisen}
-use Rattle.pe_image.specs.Image.{mz, pe, pe32, pe32_plus, signature, optional, number_of_sections, size_of_optional_header, magic, fixed_size, size_of_headers, subsystem, has_entry, table_offset, table_size, has_table, sections_begin, sections_end, raw, headers}
+use Rattle.pe_image.specs.Image.{mz, pe, pe32, pe32_plus, pe_signature_offset, optional_header_offset, number_of_sections, size_of_optional_header, magic, fixed_size, size_of_headers, subsystem, has_certificate_directory, table_offset, table_size, has_table, sections_begin, sections_end, raw, headers}
 use Rattle.pe_image.specs.Sbat.{sbat_count, sbat_section, size_of_text}
 use Rattle.pe_image.specs.Spans.{are_apart}
 use Rattle.pe_image.specs.declared.fault.LayoutFault.{LayoutFault}
 use Rattle.pe_image.specs.declared.fault.LayoutFault.TheVariants.{Short, NoMz, NoPe, Magic, NotEfi, Headers, Sections, Overlap, Table, TwoSbat, TooLong, Read}
 use Rattle.pe_image.specs.declared.header.Header.{Header}
+use Rattle.pe_image.specs.declared.span.Span.{Span}
 
 -- own: no file is longer than 128 MiB
 abbrev pub longest_file : ℕ
@@ -28,21 +29,21 @@ start_checks f =
     (nat_le (length f) longest_file, TooLong)
     ∷ (nat_le 64 (length f), Short)
     ∷ (u16_at f 0 == mz, NoMz)
-    ∷ (nat_le (optional f) (length f), Short)
-    ∷ (u32_at f (signature f) == pe, NoPe)
+    ∷ (nat_le (optional_header_offset f) (length f), Short)
+    ∷ (u32_at f (pe_signature_offset f) == pe, NoPe)
     ∷ []
 
 -- PE32 or PE32+ ("Optional Header Standard Fields")
 abbrev pub magic_checks : List ℕ → List (Bool × LayoutFault)
 magic_checks f =
-    (nat_le (optional f + 2) (length f) && (magic f == pe32 || magic f == pe32_plus), Magic)
+    (nat_le (optional_header_offset f + 2) (length f) && (magic f == pe32 || magic f == pe32_plus), Magic)
     ∷ []
 
 -- the optional header has room for what it needs ("Optional Header")
 abbrev pub size_checks : List ℕ → List (Bool × LayoutFault)
 size_checks f =
     (nat_le (fixed_size f) (size_of_optional_header f) && nat_le (sections_begin f) (length f), Headers)
-    ∷ (not (has_entry f) || nat_le (fixed_size f + 40) (size_of_optional_header f), Headers)
+    ∷ (not (has_certificate_directory f) || nat_le (fixed_size f + 40) (size_of_optional_header f), Headers)
     ∷ []
 
 -- a subsystem of EFI ("Windows Subsystem"), and headers that have room for the section table
@@ -62,10 +63,10 @@ abbrev pub front_checks : List ℕ → List (Bool × LayoutFault)
 front_checks f = start_checks f ++ magic_checks f ++ size_checks f ++ header_checks f
 
 -- own: raw sections stand within a file of so many bytes, behind its headers, and share no byte
-abbrev pub section_checks : List (ℕ × ℕ) → ℕ → ℕ → List (Bool × LayoutFault)
+abbrev pub section_checks : List Span → ℕ → ℕ → List (Bool × LayoutFault)
 section_checks spans headers_end size =
-    (list_all (λ s. nat_le s.1 size) spans, Sections)
-    ∷ (list_all (λ s. nat_le headers_end s.0) spans && are_apart spans, Overlap)
+    (list_all (λ s. nat_le s.to size) spans, Sections)
+    ∷ (list_all (λ s. nat_le headers_end s.from) spans && are_apart spans, Overlap)
     ∷ []
 
 -- own: the certificate table is the end of the file, and begins behind the sections

@@ -18,3 +18,7 @@ refusal_of fault.Table = refusal.Table
 refusal_of fault.TwoSbat = refusal.TwoSbat
 refusal_of fault.TooLong = refusal.TooLong
 refusal_of fault.Read = refusal.Read
+
+-- own: a read that failed is the fault Read
+abbrev pub read_failed : LayoutFault
+read_failed = fault.Read

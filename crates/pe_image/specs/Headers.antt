@@ -2,6 +2,8 @@
 use Rattle.std.specs.Prelude.{ℕ, zero, suc, ◌+◌, Bool, nat_lt, List, [], ◌∷◌, slice_range, filter, map}
 use Rattle.pe_image.specs.Numbers.{u32_at}
 use Rattle.pe_image.specs.declared.header.Header.{Header}
+use Rattle.pe_image.specs.Spans.{span}
+use Rattle.pe_image.specs.declared.span.Span.{Span}
 
 -- the section header at a place: Name, VirtualSize, SizeOfRawData, PointerToRawData
 unfoldable pub header_at : List ℕ → ℕ → Header
@@ -22,9 +24,9 @@ abbrev pub is_raw : Header → Bool
 is_raw h = nat_lt 0 h.size_of_raw_data
 
 -- where the raw data of a section stand: SizeOfRawData bytes from PointerToRawData on
-abbrev pub span_of : Header → ℕ × ℕ
-span_of h = (h.pointer_to_raw_data, h.pointer_to_raw_data + h.size_of_raw_data)
+abbrev pub span_of : Header → Span
+span_of h = span h.pointer_to_raw_data (h.pointer_to_raw_data + h.size_of_raw_data)
 
 -- where the raw sections stand, in the order of their headers
-unfoldable pub raw_of : List Header → List (ℕ × ℕ)
+unfoldable pub raw_of : List Header → List Span
 raw_of hs = map span_of (filter is_raw hs)

@@ -4,42 +4,43 @@ use Rattle.pe_image.specs.Numbers.{u16_at, u32_at}
 use Rattle.pe_image.specs.Headers.{headers_from, raw_of}
 use Rattle.pe_image.specs.Spans.{size_of, reach}
 use Rattle.pe_image.specs.declared.header.Header.{Header}
+use Rattle.pe_image.specs.declared.span.Span.{Span}
 
 -- `MZ` ("MS-DOS Stub"), as the u16 that it is
 abbrev pub mz : ℕ
-mz = 23117
+mz = 0x5a4d
 
 -- `PE`, 0, 0 ("Signature"), as the u32 that it is
 abbrev pub pe : ℕ
-pe = 17744
+pe = 0x4550
 
--- the place of the signature, which stands at 0x3C ("MS-DOS Stub")
-abbrev pub signature : List ℕ → ℕ
-signature f = u32_at f 60
+-- the offset of the signature, which stands at 0x3c ("MS-DOS Stub")
+abbrev pub pe_signature_offset : List ℕ → ℕ
+pe_signature_offset f = u32_at f 0x3c
 
--- the place of the optional header: the signature and the file header have 24 bytes ("COFF File Header")
-abbrev pub optional : List ℕ → ℕ
-optional f = signature f + 24
+-- the offset of the optional header: the signature and the file header have 24 bytes ("COFF File Header")
+abbrev pub optional_header_offset : List ℕ → ℕ
+optional_header_offset f = pe_signature_offset f + 24
 
 -- NumberOfSections ("COFF File Header")
 abbrev pub number_of_sections : List ℕ → ℕ
-number_of_sections f = u16_at f (signature f + 6)
+number_of_sections f = u16_at f (pe_signature_offset f + 6)
 
 -- SizeOfOptionalHeader ("COFF File Header")
 abbrev pub size_of_optional_header : List ℕ → ℕ
-size_of_optional_header f = u16_at f (signature f + 20)
+size_of_optional_header f = u16_at f (pe_signature_offset f + 20)
 
 -- Magic ("Optional Header Standard Fields")
 abbrev pub magic : List ℕ → ℕ
-magic f = u16_at f (optional f)
+magic f = u16_at f (optional_header_offset f)
 
 -- Magic of PE32
 abbrev pub pe32 : ℕ
-pe32 = 267
+pe32 = 0x10b
 
 -- Magic of PE32+
 abbrev pub pe32_plus : ℕ
-pe32_plus = 523
+pe32_plus = 0x20b
 
 -- the size of the optional header without its data directories ("Optional Header")
 abbrev pub fixed_size : List ℕ → ℕ
@@ -47,55 +48,55 @@ fixed_size f = if magic f == pe32_plus then 112 else 96
 
 -- SizeOfHeaders ("Optional Header Windows-Specific Fields")
 abbrev pub size_of_headers : List ℕ → ℕ
-size_of_headers f = u32_at f (optional f + 60)
+size_of_headers f = u32_at f (optional_header_offset f + 60)
 
--- the place of CheckSum, which has 4 bytes ("Optional Header Windows-Specific Fields")
-abbrev pub checksum : List ℕ → ℕ
-checksum f = optional f + 64
+-- the offset of CheckSum, which has 4 bytes ("Optional Header Windows-Specific Fields")
+abbrev pub checksum_offset : List ℕ → ℕ
+checksum_offset f = optional_header_offset f + 64
 
 -- Subsystem ("Windows Subsystem")
 abbrev pub subsystem : List ℕ → ℕ
-subsystem f = u16_at f (optional f + 68)
+subsystem f = u16_at f (optional_header_offset f + 68)
 
 -- NumberOfRvaAndSizes, the last number before the data directories
-abbrev pub number_of_directories : List ℕ → ℕ
-number_of_directories f = u32_at f (optional f + (fixed_size f - 4))
+abbrev pub number_of_rva_and_sizes : List ℕ → ℕ
+number_of_rva_and_sizes f = u32_at f (optional_header_offset f + (fixed_size f - 4))
 
 -- whether there is an entry of the certificate table, the fifth data directory
-abbrev pub has_entry : List ℕ → Bool
-has_entry f = nat_lt 4 (number_of_directories f)
+abbrev pub has_certificate_directory : List ℕ → Bool
+has_certificate_directory f = nat_lt 4 (number_of_rva_and_sizes f)
 
--- the place of that entry, which has 8 bytes ("Optional Header Data Directories")
-abbrev pub entry : List ℕ → ℕ
-entry f = optional f + (fixed_size f + 32)
+-- the offset of that entry, which has 8 bytes ("Optional Header Data Directories")
+abbrev pub certificate_directory_offset : List ℕ → ℕ
+certificate_directory_offset f = optional_header_offset f + (fixed_size f + 32)
 
 -- where the certificate table begins: its entry gives a place in the file
 abbrev pub table_offset : List ℕ → ℕ
-table_offset f = u32_at f (entry f)
+table_offset f = u32_at f (certificate_directory_offset f)
 
 -- how many bytes the certificate table has
 abbrev pub table_size : List ℕ → ℕ
-table_size f = u32_at f (entry f + 4)
+table_size f = u32_at f (certificate_directory_offset f + 4)
 
 -- whether there is a certificate table
 abbrev pub has_table : List ℕ → Bool
-has_table f = has_entry f && nat_lt 0 (table_size f)
+has_table f = has_certificate_directory f && nat_lt 0 (table_size f)
 
 -- where the section table begins ("Section Table")
 abbrev pub sections_begin : List ℕ → ℕ
-sections_begin f = optional f + size_of_optional_header f
+sections_begin f = optional_header_offset f + size_of_optional_header f
 
 -- the section headers
 unfoldable pub headers : List ℕ → List Header
 headers f = headers_from f (sections_begin f) (number_of_sections f)
 
 -- where the raw sections stand, in the order of their headers
-unfoldable pub raw : List ℕ → List (ℕ × ℕ)
+unfoldable pub raw : List ℕ → List Span
 raw f = raw_of (headers f)
 
 -- SUM_OF_BYTES_HASHED: the size of the headers and of all raw sections (Authenticode)
-abbrev pub hashed_size : List ℕ → ℕ
-hashed_size f = size_of_headers f + sum_by size_of (raw f)
+abbrev pub sum_of_bytes_hashed : List ℕ → ℕ
+sum_of_bytes_hashed f = size_of_headers f + sum_by size_of (raw f)
 
 -- where the headers and the raw sections end
 abbrev pub sections_end : List ℕ → ℕ
@@ -103,7 +104,7 @@ sections_end f = reach (size_of_headers f) (raw f)
 
 -- own: how many bytes before the sections' end stand in no header and in no section
 abbrev pub gap : List ℕ → ℕ
-gap f = sections_end f - hashed_size f
+gap f = sections_end f - sum_of_bytes_hashed f
 
 -- where the hashed bytes end: at the certificate table, or with the file (Authenticode)
 abbrev pub image_end : List ℕ → ℕ

@@ -1,6 +1,5 @@
 pub mod Checks
 pub mod Faults
-pub mod Front
 pub mod Hashed
 pub mod Headers
 pub mod Image
@@ -9,3 +8,4 @@ pub mod Places
 pub mod Sbat
 pub mod Sources
 pub mod Spans
+pub mod Steps

@@ -1,39 +1,46 @@
 -- What a layout tells of a file, and which places of it are hashed.
 use Rattle.std.specs.Prelude.{◌≡◌, ℕ, ◌+◌, ◌≤◌, if◌then◌else◌, List, [], ◌∷◌, ◌++◌, length, Option, Some, None, IfSome}
-use Rattle.pe_image.specs.Spans.{nonempty, in_order, EndWithin, IsWithin, StandBetween}
+use Rattle.pe_image.specs.Spans.{span, nonempty, in_order, EndWithin, IsWithin, StandBetween}
 use Rattle.pe_image.specs.Checks.{IsLaid}
 use Rattle.pe_image.specs.Sbat.{text_at, sbat_section}
 use Rattle.pe_image.specs.Image as image
-use Rattle.pe_image.specs.Image.{headers, size_of_headers, raw, has_entry, has_table, table_offset, table_size}
+use Rattle.pe_image.specs.Image.{checksum_offset, certificate_directory_offset, headers, size_of_headers, raw, has_certificate_directory, has_table, table_offset, table_size}
+use Rattle.pe_image.specs.declared.span.Span.{Span}
 
--- the places of an image's parts; pairs are half-open
+-- the places of an image's parts
 pub record Places : Type 0 where
-  pub checksum : ℕ × ℕ
-  pub entry : Option (ℕ × ℕ)
+  pub checksum : Span
+  pub certificate_directory : Option Span
   pub headers_end : ℕ
-  pub sections : List (ℕ × ℕ)
-  pub hashed_size : ℕ
+  pub sections : List Span
+  pub sum_of_bytes_hashed : ℕ
   pub image_end : ℕ
   pub gap : ℕ
-  pub table : Option (ℕ × ℕ)
-  pub sbat : Option (ℕ × ℕ)
+  pub table : Option Span
+  pub sbat : Option Span
 
 -- the entry of the certificate table, where there is one ("Optional Header Data Directories")
-abbrev pub entry_of : List ℕ → Option (ℕ × ℕ)
-entry_of f = if has_entry f then Some (image.entry f, image.entry f + 8) else None
+abbrev pub certificate_directory_of : List ℕ → Option Span
+certificate_directory_of f =
+    if has_certificate_directory f
+    then Some (span (certificate_directory_offset f) (certificate_directory_offset f + 8))
+    else None
 
 -- the certificate table, where there is one ("The Attribute Certificate Table")
-abbrev pub table_of : List ℕ → Option (ℕ × ℕ)
-table_of f = if has_table f then Some (table_offset f, table_offset f + table_size f) else None
+abbrev pub table_of : List ℕ → Option Span
+table_of f =
+    if has_table f
+    then Some (span (table_offset f) (table_offset f + table_size f))
+    else None
 
 -- the places of a file's parts
 unfoldable pub places_of : List ℕ → Places
 places_of f = record {
-  checksum = (image.checksum f, image.checksum f + 4);
-  entry = entry_of f;
+  checksum = span (checksum_offset f) (checksum_offset f + 4);
+  certificate_directory = certificate_directory_of f;
   headers_end = size_of_headers f;
   sections = in_order (raw f);
-  hashed_size = image.hashed_size f;
+  sum_of_bytes_hashed = image.sum_of_bytes_hashed f;
   image_end = image.image_end f;
   gap = image.gap f;
   table = table_of f;
@@ -41,21 +48,24 @@ places_of f = record {
 }
 
 -- the headers without CheckSum and the entry ("Calculating the PE Image Hash", steps 3 to 7)
-abbrev pub around : ℕ × ℕ → Option (ℕ × ℕ) → ℕ → List (ℕ × ℕ)
-around c None end = (0, c.0) ∷ (c.1, end) ∷ []
-around c (Some e) end = (0, c.0) ∷ (c.1, e.0) ∷ (e.1, end) ∷ []
+abbrev pub around : Span → Option Span → ℕ → List Span
+around c None end = span 0 c.from ∷ span c.to end ∷ []
+around c (Some e) end = span 0 c.from ∷ span c.to e.from ∷ span e.to end ∷ []
 
 -- What is hashed (Authenticode, "Calculating the PE Image Hash"): the headers, the sections in ascending
 -- order, and the bytes from SUM_OF_BYTES_HASHED up to the certificate table. own: with a gap they begin
 -- there too, and may repeat bytes of a section.
-unfoldable pub spans_of : Places → List (ℕ × ℕ)
+unfoldable pub spans_of : Places → List Span
 spans_of p =
-    nonempty (around p.checksum p.entry p.headers_end ++ p.sections ++ (p.hashed_size, p.image_end) ∷ [])
+    nonempty (
+    around p.checksum p.certificate_directory p.headers_end ++ p.sections
+    ++ span p.sum_of_bytes_hashed p.image_end ∷ []
+    )
 
 -- where the hashed bytes end, for the certificate table and the length of the file
-abbrev pub end_by : Option (ℕ × ℕ) → ℕ → ℕ
+abbrev pub end_by : Option Span → ℕ → ℕ
 end_by None n = n
-end_by (Some t) n = t.0
+end_by (Some t) n = t.from
 
 -- p is the layout of f: f is accepted, its sections stand in ascending order behind the headers, no two
 -- share a byte, and all that is hashed, the table, the text of `.sbat` and the gap lie within the file

@@ -2,6 +2,8 @@
 use Rattle.std.specs.Prelude.{ℕ, ◌+◌, ◌==◌, Bool, nat_lt, if◌then◌else◌, List, [], ◌∷◌, find, count_by, min, Option, Some, None}
 use Rattle.std.specs.Str.{bytes_eq}
 use Rattle.pe_image.specs.declared.header.Header.{Header}
+use Rattle.pe_image.specs.Spans.{span}
+use Rattle.pe_image.specs.declared.span.Span.{Span}
 
 -- whether a section has the name `.sbat`, 0, 0, 0
 abbrev pub is_sbat : Header → Bool
@@ -17,11 +19,11 @@ size_of_text None = 0
 size_of_text (Some h) = text_size h
 
 -- where the text of a section stands, where it has any
-abbrev pub text_at : Option Header → Option (ℕ × ℕ)
+abbrev pub text_at : Option Header → Option Span
 text_at None = None
 text_at (Some h) =
     if nat_lt 0 (text_size h)
-    then Some (h.pointer_to_raw_data, h.pointer_to_raw_data + text_size h)
+    then Some (span h.pointer_to_raw_data (h.pointer_to_raw_data + text_size h))
     else None
 
 -- the section `.sbat`

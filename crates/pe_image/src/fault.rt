@@ -1,7 +1,8 @@
 //! Why an image has no layout.
 ghost use Rattle.std.specs.Prelude.{◌≡◌};
-ghost use Rattle.pe_image.specs.Faults.{refusal_of};
+ghost use Rattle.pe_image.specs.Faults.{read_failed, refusal_of};
 
+use crate::source::ReadFailed;
 use desk_bytes::Refusal;
 use thiserror::Error;
 
@@ -24,7 +25,7 @@ pub enum LayoutFault {
     Sections,
     #[error("a section shares bytes with the headers or with another section")]
     Overlap,
-    #[error("the certificate table isn't the end of the file")]
+    #[error("the certificate table isn't the end of the file, or begins before the sections' end")]
     Table,
     #[error("two sections are named .sbat")]
     TwoSbat,
@@ -32,6 +33,14 @@ pub enum LayoutFault {
     TooLong,
     #[error("a read failed")]
     Read,
+}
+
+impl From<ReadFailed> for LayoutFault {
+    ghost from_gives = { λ _ fault. fault ≡ read_failed };
+
+    fn from(_: ReadFailed) -> LayoutFault {
+        LayoutFault::Read
+    }
 }
 
 impl LayoutFault {

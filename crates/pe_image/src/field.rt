@@ -4,8 +4,8 @@
 /// The size of the MS-DOS header.
 pub(crate) const DOS_HEADER_SIZE: u64 = 64;
 
-/// Where the signature's place stands, from the file's beginning.
-pub(crate) const SIGNATURE_PLACE: u64 = 0x3c;
+/// Where the offset of the signature stands, from the file's beginning.
+pub(crate) const PE_SIGNATURE_OFFSET: u64 = 0x3c;
 
 /// NumberOfSections, a u16.
 pub(crate) const NUMBER_OF_SECTIONS: u64 = 6;
@@ -21,6 +21,9 @@ pub(crate) const SIZE_OF_HEADERS: u64 = OPTIONAL_HEADER + 60;
 
 /// CheckSum, a u32.
 pub(crate) const CHECKSUM: u64 = OPTIONAL_HEADER + 64;
+
+/// The size of CheckSum.
+pub(crate) const CHECKSUM_SIZE: u64 = 4;
 
 /// Subsystem, a u16.
 pub(crate) const SUBSYSTEM: u64 = OPTIONAL_HEADER + 68;

@@ -1,17 +1,18 @@
 //! What stands before the sections.
 ghost use Rattle.std.specs.Prelude.{◌≡◌, ◌≤◌, None, OnOk, IfOk, IfErr};
 ghost use Rattle.pe_image.specs.Checks.{first_of, front_checks, IsRefused};
-ghost use Rattle.pe_image.specs.Front.{IsFront};
+ghost use Rattle.pe_image.specs.Sources.{OnlyReads};
+ghost use Rattle.pe_image.specs.Steps.Front.{IsFront};
 
 use crate::fault::LayoutFault;
 use crate::optional::{Directories, Extent, read_directories, read_extent, read_fixed_size};
 use crate::source::Source;
 use crate::start::read_start;
 
-/// The signature's place, and what the headers say of the image.
+/// The offset of the PE signature, and what the headers say of the image.
 #[derive(Clone, Copy, Debug)]
 pub(crate) struct Front {
-    pub(crate) place: u64,
+    pub(crate) pe_signature: u64,
     pub(crate) directories: Directories,
     pub(crate) extent: Extent,
 }
@@ -24,27 +25,14 @@ pub(crate) fn read_front<S: Source>(source: &mut S) -> Result<Front, LayoutFault
     ensures err { IfErr result (IsRefused (front_checks (S.content source.old))
         (S.failures source.old) (S.failures source.new)) }
 
-    ensures kept { S.failures source.old ≤ S.failures source.new }
-    ensures same { S.content source.new ≡ S.content source.old }
+    ensures reads { OnlyReads S.content S.failures source.old source.new }
 {
-    let place = match read_start(source) {
-        Ok(place) => place,
-        Err(fault) => return Err(fault),
-    };
-    let fixed = match read_fixed_size(source, place) {
-        Ok(fixed) => fixed,
-        Err(fault) => return Err(fault),
-    };
-    let directories = match read_directories(source, place, fixed) {
-        Ok(directories) => directories,
-        Err(fault) => return Err(fault),
-    };
-    let extent = match read_extent(source, place, directories) {
-        Ok(extent) => extent,
-        Err(fault) => return Err(fault),
-    };
+    let pe_signature = read_start(source)?;
+    let fixed = read_fixed_size(source, pe_signature)?;
+    let directories = read_directories(source, pe_signature, fixed)?;
+    let extent = read_extent(source, pe_signature, directories)?;
     Ok(Front {
-        place,
+        pe_signature,
         directories,
         extent,
     })

@@ -1,6 +1,6 @@
 //! The section table.
 ghost use Rattle.std.specs.Prelude.{◌≡◌, ◌+◌, ◌*◌, ◌<◌, ◌^◌, ◌≤◌, length, take, OnOk, OnErr, IfOk};
-ghost use Rattle.pe_image.specs.Sources.{HaveRisen};
+ghost use Rattle.pe_image.specs.Sources.{HaveRisen, OnlyReads};
 ghost use Rattle.pe_image.specs.Headers.{header_at};
 ghost use Rattle.pe_image.specs.Image.{headers, number_of_sections, sections_begin};
 
@@ -35,8 +35,7 @@ fn read_header<S: Source>(source: &mut S, at: u64) -> Result<Header, ReadFailed>
 
     ensures device { OnErr result (HaveRisen (S.failures source.old) (S.failures source.new)) }
 
-    ensures kept { S.failures source.old ≤ S.failures source.new }
-    ensures same { S.content source.new ≡ S.content source.old }
+    ensures reads { OnlyReads S.content S.failures source.old source.new }
 {
     let mut bytes = [0; 40];
     source.read_at(at, &mut bytes)?;
@@ -67,8 +66,7 @@ pub(crate) fn read_headers<S: Source>(
 
     ensures device { OnErr result (HaveRisen (S.failures source.old) (S.failures source.new)) }
 
-    ensures kept { S.failures source.old ≤ S.failures source.new }
-    ensures same { S.content source.new ≡ S.content source.old }
+    ensures reads { OnlyReads S.content S.failures source.old source.new }
 {
     for i in 0..count {
         table[i] = read_header(source, begin + SECTION_HEADER_SIZE * i as u64)?;

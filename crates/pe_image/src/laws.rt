@@ -4,6 +4,7 @@ ghost use Rattle.pe_image.specs.Checks.{checks, first_fault, IsLaid, IsRefused};
 ghost use Rattle.pe_image.specs.Hashed.{HashesAllElse};
 ghost use Rattle.pe_image.specs.Spans.{in_order};
 ghost use Rattle.pe_image.specs.declared.fault.LayoutFault.{LayoutFault};
+ghost use Rattle.pe_image.specs.declared.span.Span.{Span};
 
 /// An image is accepted exactly where no check gives a fault.
 pub fn none_fails_where_laid()
@@ -19,8 +20,8 @@ pub fn no_slice_fails()
 
 /// The sections are hashed in ascending order, and each of them is.
 pub fn sections_are_in_order()
-    ensures ascending { (ss : List (ℕ × ℕ)) → AllPairs (λ s t. s.0 ≤ t.0) (in_order ss) }
-    ensures each { (ss : List (ℕ × ℕ)) → IsPermutation ss (in_order ss) }
+    ensures ascending { (ss : List Span) → AllPairs (λ s t. s.from ≤ t.from) (in_order ss) }
+    ensures each { (ss : List Span) → IsPermutation ss (in_order ss) }
 {}
 
 /// Where there is no gap, the hashed bytes are the file without CheckSum, the certificate table's entry and

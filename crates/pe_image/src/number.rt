@@ -1,7 +1,7 @@
 //! Numbers that stand in a source or a slice, low byte first.
 ghost use Rattle.std.specs.Prelude.{◌≡◌, ◌+◌, ◌≤◌, length, OnErr, IfOk};
 ghost use Rattle.pe_image.specs.Numbers.{u16_at, u32_at};
-ghost use Rattle.pe_image.specs.Sources.{HaveRisen};
+ghost use Rattle.pe_image.specs.Sources.{HaveRisen, OnlyReads};
 
 use crate::source::{ReadFailed, Source};
 
@@ -13,8 +13,7 @@ pub(crate) fn read_u16<S: Source>(source: &mut S, at: u64) -> Result<u16, ReadFa
 
     ensures device { OnErr result (HaveRisen (S.failures source.old) (S.failures source.new)) }
 
-    ensures kept { S.failures source.old ≤ S.failures source.new }
-    ensures same { S.content source.new ≡ S.content source.old }
+    ensures reads { OnlyReads S.content S.failures source.old source.new }
 {
     let mut bytes = [0; 2];
     source.read_at(at, &mut bytes)?;
@@ -29,8 +28,7 @@ pub(crate) fn read_u32<S: Source>(source: &mut S, at: u64) -> Result<u32, ReadFa
 
     ensures device { OnErr result (HaveRisen (S.failures source.old) (S.failures source.new)) }
 
-    ensures kept { S.failures source.old ≤ S.failures source.new }
-    ensures same { S.content source.new ≡ S.content source.old }
+    ensures reads { OnlyReads S.content S.failures source.old source.new }
 {
     let mut bytes = [0; 4];
     source.read_at(at, &mut bytes)?;

@@ -1,7 +1,8 @@
 //! The optional header.
 ghost use Rattle.std.specs.Prelude.{◌≡◌, ◌≤◌, None, OnOk, IfOk, IfErr};
 ghost use Rattle.pe_image.specs.Checks.{first_of, magic_checks, size_checks, header_checks, IsRefused};
-ghost use Rattle.pe_image.specs.Front.{IsStart, IsFixedSize, AreDirectories, IsExtent};
+ghost use Rattle.pe_image.specs.Sources.{OnlyReads};
+ghost use Rattle.pe_image.specs.Steps.Front.{IsStart, IsFixedSize, AreDirectories, IsExtent};
 
 use crate::fault::LayoutFault;
 use crate::field::{
@@ -11,6 +12,7 @@ use crate::field::{
 };
 use crate::number::{read_u16, read_u32};
 use crate::source::Source;
+use crate::span::Span;
 
 /// Magic of PE32.
 const PE32: u16 = 0x10b;
@@ -27,9 +29,12 @@ const EFI_ROM: u16 = 13;
 /// The most sections that an image may have.
 const MOST_SECTIONS: u16 = 96;
 
-/// The size of the optional header without its directories, for the signature's place.
-pub(crate) fn read_fixed_size<S: Source>(source: &mut S, place: u64) -> Result<u64, LayoutFault>
-    requires { IsStart (S.content source.old) place }
+/// The size of the optional header without its directories, for the offset of the PE signature.
+pub(crate) fn read_fixed_size<S: Source>(
+    source: &mut S,
+    pe_signature: u64,
+) -> Result<u64, LayoutFault>
+    requires { IsStart (S.content source.old) pe_signature }
 
     ensures ok { OnOk result (first_of (magic_checks (S.content source.old)) ≡ None) }
     ensures exact { IfOk result (λ size. IsFixedSize (S.content source.old) size) }
@@ -37,17 +42,15 @@ pub(crate) fn read_fixed_size<S: Source>(source: &mut S, place: u64) -> Result<u
     ensures err { IfErr result (IsRefused (magic_checks (S.content source.old))
         (S.failures source.old) (S.failures source.new)) }
 
-    ensures kept { S.failures source.old ≤ S.failures source.new }
-    ensures same { S.content source.new ≡ S.content source.old }
+    ensures reads { OnlyReads S.content S.failures source.old source.new }
 {
-    if source.len() < place + OPTIONAL_HEADER + 2 {
+    if source.len() < pe_signature + OPTIONAL_HEADER + 2 {
         return Err(LayoutFault::Magic);
     }
-    match read_u16(source, place + OPTIONAL_HEADER) {
-        Err(_) => Err(LayoutFault::Read),
-        Ok(PE32) => Ok(PE32_SIZE),
-        Ok(PE32_PLUS) => Ok(PE32_PLUS_SIZE),
-        Ok(_) => Err(LayoutFault::Magic),
+    match read_u16(source, pe_signature + OPTIONAL_HEADER)? {
+        PE32 => Ok(PE32_SIZE),
+        PE32_PLUS => Ok(PE32_PLUS_SIZE),
+        _ => Err(LayoutFault::Magic),
     }
 }
 
@@ -55,16 +58,16 @@ pub(crate) fn read_fixed_size<S: Source>(source: &mut S, place: u64) -> Result<u
 #[derive(Clone, Copy, Debug)]
 pub(crate) struct Directories {
     pub(crate) sections_begin: u64,
-    pub(crate) entry: Option<(u64, u64)>,
+    pub(crate) certificate_directory: Option<Span>,
 }
 
-/// The directories, for the signature's place and the size that `read_fixed_size` gave.
+/// The directories, for the offset of the PE signature and the size that `read_fixed_size` gave.
 pub(crate) fn read_directories<S: Source>(
     source: &mut S,
-    place: u64,
+    pe_signature: u64,
     fixed: u64,
 ) -> Result<Directories, LayoutFault>
-    requires start { IsStart (S.content source.old) place }
+    requires start { IsStart (S.content source.old) pe_signature }
     requires fixed { IsFixedSize (S.content source.old) fixed }
 
     ensures ok { OnOk result (first_of (size_checks (S.content source.old)) ≡ None) }
@@ -73,27 +76,21 @@ pub(crate) fn read_directories<S: Source>(
     ensures err { IfErr result (IsRefused (size_checks (S.content source.old))
         (S.failures source.old) (S.failures source.new)) }
 
-    ensures kept { S.failures source.old ≤ S.failures source.new }
-    ensures same { S.content source.new ≡ S.content source.old }
+    ensures reads { OnlyReads S.content S.failures source.old source.new }
 {
     let length = source.len();
-    let Ok(size) = read_u16(source, place + SIZE_OF_OPTIONAL_HEADER) else {
-        return Err(LayoutFault::Read);
-    };
-    let size = u64::from(size);
-    let optional = place + OPTIONAL_HEADER;
+    let size = u64::from(read_u16(source, pe_signature + SIZE_OF_OPTIONAL_HEADER)?);
+    let optional = pe_signature + OPTIONAL_HEADER;
     let sections_begin = optional + size;
     if size < fixed || length < sections_begin {
         return Err(LayoutFault::Headers);
     }
     // NumberOfRvaAndSizes is the last u32 before the data directories.
-    let Ok(number) = read_u32(source, optional + (fixed - 4)) else {
-        return Err(LayoutFault::Read);
-    };
+    let number = read_u32(source, optional + (fixed - 4))?;
     if number <= CERTIFICATE_INDEX {
         return Ok(Directories {
             sections_begin,
-            entry: None,
+            certificate_directory: None,
         });
     }
     if size < fixed + CERTIFICATE_ENTRY + ENTRY_SIZE {
@@ -102,7 +99,7 @@ pub(crate) fn read_directories<S: Source>(
     let entry = optional + (fixed + CERTIFICATE_ENTRY);
     Ok(Directories {
         sections_begin,
-        entry: Some((entry, entry + ENTRY_SIZE)),
+        certificate_directory: Some(Span::new(entry, entry + ENTRY_SIZE)),
     })
 }
 
@@ -113,13 +110,13 @@ pub(crate) struct Extent {
     pub(crate) headers_end: u64,
 }
 
-/// The extent of the headers, for the signature's place and what `read_directories` gave.
+/// The extent of the headers, for the offset of the PE signature and what `read_directories` gave.
 pub(crate) fn read_extent<S: Source>(
     source: &mut S,
-    place: u64,
+    pe_signature: u64,
     directories: Directories,
 ) -> Result<Extent, LayoutFault>
-    requires start { IsStart (S.content source.old) place }
+    requires start { IsStart (S.content source.old) pe_signature }
     requires directories { AreDirectories (S.content source.old) directories }
 
     ensures ok { OnOk result (first_of (header_checks (S.content source.old)) ≡ None) }
@@ -128,26 +125,18 @@ pub(crate) fn read_extent<S: Source>(
     ensures err { IfErr result (IsRefused (header_checks (S.content source.old))
         (S.failures source.old) (S.failures source.new)) }
 
-    ensures kept { S.failures source.old ≤ S.failures source.new }
-    ensures same { S.content source.new ≡ S.content source.old }
+    ensures reads { OnlyReads S.content S.failures source.old source.new }
 {
     let length = source.len();
-    let Ok(subsystem) = read_u16(source, place + SUBSYSTEM) else {
-        return Err(LayoutFault::Read);
-    };
+    let subsystem = read_u16(source, pe_signature + SUBSYSTEM)?;
     if subsystem < EFI_APPLICATION || EFI_ROM < subsystem {
         return Err(LayoutFault::NotEfi);
     }
-    let Ok(count) = read_u16(source, place + NUMBER_OF_SECTIONS) else {
-        return Err(LayoutFault::Read);
-    };
+    let count = read_u16(source, pe_signature + NUMBER_OF_SECTIONS)?;
     if MOST_SECTIONS < count {
         return Err(LayoutFault::Sections);
     }
-    let Ok(headers_end) = read_u32(source, place + SIZE_OF_HEADERS) else {
-        return Err(LayoutFault::Read);
-    };
-    let headers_end = u64::from(headers_end);
+    let headers_end = u64::from(read_u32(source, pe_signature + SIZE_OF_HEADERS)?);
     let table_end = directories.sections_begin + SECTION_HEADER_SIZE * u64::from(count);
     if headers_end < table_end || length < headers_end {
         return Err(LayoutFault::Headers);

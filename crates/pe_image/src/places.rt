@@ -3,20 +3,21 @@ ghost use Rattle.std.specs.Prelude.{◌≡◌};
 ghost use Rattle.pe_image.specs.Places.{Places};
 
 use crate::sections::Sections;
+use crate::span::Span;
 use std::marker::Model;
 
-/// Where the parts of an image stand. Pairs of places are half-open. A contract sees all of them.
+/// Where the parts of an image stand. A contract sees all of them.
 #[derive(Debug, Drop)]
 pub struct Layout {
-    pub(crate) checksum: (u64, u64),
-    pub(crate) entry: Option<(u64, u64)>,
+    pub(crate) checksum: Span,
+    pub(crate) certificate_directory: Option<Span>,
     pub(crate) headers_end: u64,
     pub(crate) sections: Sections,
-    pub(crate) hashed_size: u64,
+    pub(crate) sum_of_bytes_hashed: u64,
     pub(crate) image_end: u64,
     pub(crate) gap: u64,
-    pub(crate) table: Option<(u64, u64)>,
-    pub(crate) sbat: Option<(u64, u64)>,
+    pub(crate) table: Option<Span>,
+    pub(crate) sbat: Option<Span>,
 }
 
 impl Model for Layout {
@@ -24,10 +25,10 @@ impl Model for Layout {
 
     ghost view = { λ l. record {
       checksum = l.checksum;
-      entry = l.entry;
+      certificate_directory = l.certificate_directory;
       headers_end = l.headers_end;
       sections = l.sections;
-      hashed_size = l.hashed_size;
+      sum_of_bytes_hashed = l.sum_of_bytes_hashed;
       image_end = l.image_end;
       gap = l.gap;
       table = l.table;
@@ -42,15 +43,15 @@ pub fn gap(layout: &Layout) -> u64
     layout.gap
 }
 
-/// Where the certificate table stands, a half-open pair, where the image has one.
-pub fn table(layout: &Layout) -> Option<(u64, u64)>
+/// Where the certificate table stands, where the image has one.
+pub fn table(layout: &Layout) -> Option<Span>
     ensures { result ≡ layout.now.table }
 {
     layout.table
 }
 
-/// Where the text of the section `.sbat` stands, a half-open pair, where it has any bytes.
-pub fn sbat_range(layout: &Layout) -> Option<(u64, u64)>
+/// Where the text of the section `.sbat` stands, where it has any bytes.
+pub fn sbat_range(layout: &Layout) -> Option<Span>
     ensures { result ≡ layout.now.sbat }
 {
     layout.sbat

@@ -5,6 +5,7 @@ ghost use Rattle.pe_image.specs.Sbat.{is_sbat, text_size, text_at, sbat_count, s
 
 use crate::fault::LayoutFault;
 use crate::header::Header;
+use crate::span::Span;
 
 /// The most bytes that the text may have.
 const LONGEST_TEXT: u64 = 65536;
@@ -49,7 +50,7 @@ fn size_of_text(header: Header) -> u32
 }
 
 /// Where the text of the section `.sbat` stands.
-pub(crate) fn find_text(headers: &[Header]) -> Result<Option<(u64, u64)>, LayoutFault>
+pub(crate) fn find_text(headers: &[Header]) -> Result<Option<Span>, LayoutFault>
     ensures ok { OnOk result (first_of (sbat_checks headers.now) ≡ None) }
     ensures exact { IfOk result (λ text. text ≡ text_at (sbat_section headers.now)) }
 
@@ -69,5 +70,5 @@ pub(crate) fn find_text(headers: &[Header]) -> Result<Option<(u64, u64)>, Layout
         return Err(LayoutFault::TooLong);
     }
     let from = u64::from(header.pointer_to_raw_data);
-    Ok(Some((from, from + size)))
+    Ok(Some(Span::new(from, from + size)))
 }

@@ -1,6 +1,6 @@
 //! Sources of bytes that are read at places.
 ghost use Rattle.std.specs.Prelude.{◌≡◌, ◌+◌, ◌≤◌, ℕ, List, length, slice_range, OnOk, OnErr};
-ghost use Rattle.pe_image.specs.Sources.{HaveRisen};
+ghost use Rattle.pe_image.specs.Sources.{HaveRisen, OnlyReads};
 
 use thiserror::Error;
 
@@ -35,8 +35,7 @@ pub trait Source {
         ensures device { OnErr result (HaveRisen (failures self.old) (failures self.new)) }
         ensures steady { OnOk result (failures self.new ≡ failures self.old) }
 
-        ensures kept { failures self.old ≤ failures self.new }
-        ensures same { content self.new ≡ content self.old };
+        ensures reads { OnlyReads content failures self.old self.new };
 }
 
 /// A source over a slice, which never fails.
@@ -64,8 +63,7 @@ impl Source for Bytes<'_> {
         ensures device { OnErr result (HaveRisen 0 0) }
         ensures steady { OnOk result (◌≡◌ {A = ℕ} 0 0) }
 
-        ensures kept { 0 ≤ 0 }
-        ensures same { self.new.0.now ≡ self.old.0.now }
+        ensures reads { OnlyReads (λ b. b.0.now) (λ _. 0) self.old self.new }
     {
         let at = at as usize;
         out.copy_from_slice(&self.0[at..at + out.len()]);

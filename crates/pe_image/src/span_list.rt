@@ -2,20 +2,22 @@
 ghost use Rattle.std.specs.Prelude.{◌≡◌, ◌+◌, ◌<◌, ◌≤◌, ◌++◌, ◌∷◌, ℕ, List, [], length, take, drop};
 ghost use Rattle.std.specs.Iterator.{YieldsFirst, item_count};
 ghost use Rattle.pe_image.specs.Spans.{nonempty};
+ghost use Rattle.pe_image.specs.declared.span.Span.{Span};
 
+use crate::span::Span;
 use std::marker::Model;
 
-/// Half-open pairs of places in a file, in the order in which they are hashed. A contract sees the list of
+/// Spans of a file, in the order in which they are hashed. A contract sees the list of
 /// those that are left.
 #[derive(Debug, Drop)]
 pub struct Ranges {
-    spans: [(u64, u64); 100],
+    spans: [Span; 100],
     next: usize,
     end: usize,
 }
 
 impl Model for Ranges {
-    ghost Value = { List (ℕ × ℕ) };
+    ghost Value = { List Span };
 
     ghost view = { λ r. drop r.next (take r.end r.spans) };
 
@@ -23,13 +25,13 @@ impl Model for Ranges {
 }
 
 impl Iterator for Ranges {
-    type Item = (u64, u64);
+    type Item = Span;
 
     ghost next_gives = { YieldsFirst (λ spans. spans) };
 
     ghost remaining = { item_count (λ spans. spans) };
 
-    fn next(&mut self) -> Option<(u64, u64)> {
+    fn next(&mut self) -> Option<Span> {
         if self.next == self.end {
             return None;
         }
@@ -40,12 +42,12 @@ impl Iterator for Ranges {
 }
 
 /// Puts a span behind the first `count`, unless it is empty, and says how many there are then.
-pub(crate) fn push(spans: &mut [(u64, u64)], count: usize, span: (u64, u64)) -> usize
+pub(crate) fn push(spans: &mut [Span], count: usize, span: Span) -> usize
     requires { count < length spans.old }
     ensures more { result ≤ count + 1 }
     ensures spans { take result spans.new ≡ take count spans.old ++ nonempty (span ∷ []) }
 {
-    if span.0 < span.1 {
+    if span.from < span.to {
         spans[count] = span;
         count + 1
     } else {
@@ -55,7 +57,7 @@ pub(crate) fn push(spans: &mut [(u64, u64)], count: usize, span: (u64, u64)) -> 
 
 impl Ranges {
     /// The first `end` spans.
-    pub(crate) fn of(spans: [(u64, u64); 100], end: usize) -> Self
+    pub(crate) fn of(spans: [Span; 100], end: usize) -> Self
         requires { end ≤ 100 }
         ensures { result ≡ take end spans }
     {

@@ -1,7 +1,7 @@
 //! Layouts of images.
 use super::{Call, change, check, image, parted};
 use desk_lines::{print_fault, print_ranges};
-use pe_image::{Bytes, LayoutFault, gap, layout, ranges, sbat_range, table};
+use pe_image::{Bytes, LayoutFault, Span, gap, layout, ranges, sbat_range, table};
 use std::alloc::Global;
 use std::test::Fail;
 
@@ -77,11 +77,11 @@ pub fn of_parts(alloc: Global, input: &str) -> Result<String, Fail> {
     let bytes = image(alloc, input)?;
     let places = layout(&mut Bytes(&bytes))?;
     let table = match table(&places) {
-        Some((from, to)) => format!(in alloc; "{from} to {to}")?,
+        Some(span) => format!(in alloc; "{} to {}", span.from, span.to)?,
         None => String::from_str(alloc, "no table")?,
     };
     match sbat_range(&places) {
-        Some((from, to)) => Ok(format!(in alloc; "{table}, {from} to {to}")?),
+        Some(span) => Ok(format!(in alloc; "{table}, {} to {}", span.from, span.to)?),
         None => Ok(format!(in alloc; "{table}, no text")?),
     }
 }
@@ -134,8 +134,20 @@ fn takes_96_sections_and_no_more(rt: HostRuntime) -> Result<(), Fail> {
     let bytes = with_sections(rt.alloc(), 96)?;
     let places = layout(&mut Bytes(&bytes))?;
     assert!(rt; ranges(&places).count() == 100 && gap(&places) == 97);
-    assert!(rt; ranges(&places).skip(3).next() == Some((5122, 5123)));
-    assert!(rt; ranges(&places).skip(98).next() == Some((5312, 5313)));
+    assert!(rt;
+        ranges(&places).skip(3).next()
+            == Some(Span {
+                from: 5122,
+                to: 5123
+            })
+    );
+    assert!(rt;
+        ranges(&places).skip(98).next()
+            == Some(Span {
+                from: 5312,
+                to: 5313
+            })
+    );
     let more = with_sections(rt.alloc(), 97)?;
     assert!(rt; layout(&mut Bytes(&more)).err() == Some(LayoutFault::Sections));
     Ok(())

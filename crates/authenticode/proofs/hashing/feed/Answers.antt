@@ -8,19 +8,18 @@ pub loop-at-preserved : goal.loop-at-preserved
 loop-at-preserved g c =
     let file = g.S.Source.content c.args.source.now in
     let at = c.loop-at.at in
-    let from = c.args.from in
+    let from = c.args.span.from in
     let size = c.min-size.result in
     let out = c.read_at.new.out in
     let block = c.loop-at.block in
-    let read = block_read (g.S.Source.content c.loop-at.source) file out block at size c.loop-at.invariant.same (omega arith) c.in-Ok.ensures.ok in
+    let read = block_read (g.S.Source.content c.loop-at.source) file out block at size c.loop-at.invariant.reads.same (omega arith) c.in_ok-read_at.ensures.ok in
     let wide : length out ≡ size = search (rules, places) in
     let fed = block_fed file out block from at size read wide (omega arith) (omega (arith, c.requires.within)) in
     record {
       after = search rules;
       before = search rules;
       block = search (rules, places);
-      kept = search rules;
-      same = search rules;
+      reads = record { same = search rules; kept = search rules };
       fed = λ m held.
           subst (Holds256 c.update.new.self) (append_assoc m (slice_range file from at) _ ∙ ap (λ l. m ++ l) fed)
           (c.update.ensures (m ++ slice_range file from at) (c.loop-at.invariant.fed m held));

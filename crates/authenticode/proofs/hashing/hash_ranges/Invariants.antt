@@ -1,10 +1,9 @@
-use Rattle.std.proofs.Common.{◌≡◌, ◌≤◌}
+use Rattle.pe_image.specs.Sources.{OnlyReads}
 use Rattle.authenticode.proofs.HashingLemmas.{Feeds}
 use Rattle.authenticode.proofs.hashing.hash_ranges.Given as goal
 
-abbrev pub invariant-loop-from : goal.invariant-loop-from
-invariant-loop-from g l = record {
-  feeds : Feeds l.hasher (g.S.Source.content l.initial.source) l.from-iterator;
-  kept : g.S.Source.failures l.initial.source ≤ g.S.Source.failures l.source;
-  same : g.S.Source.content l.source ≡ g.S.Source.content l.initial.source;
+abbrev pub invariant-loop-span : goal.invariant-loop-span
+invariant-loop-span g l = record {
+  feeds : Feeds l.hasher (g.S.Source.content l.initial.source) l.span-iterator;
+  reads : OnlyReads g.S.Source.content g.S.Source.failures l.initial.source l.source;
 }

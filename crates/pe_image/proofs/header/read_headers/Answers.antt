@@ -9,7 +9,7 @@ loop-i-init g c = record { same = refl; kept = omega arith; read = sym (headers-
 
 pub loop-i-preserved : goal.loop-i-preserved
 loop-i-preserved g c = record {
-  same = c.read_header.ensures.same ∙ c.loop-i.invariant.same;
+  same = c.read_header.ensures.reads.same ∙ c.loop-i.invariant.same;
   kept = search rules;
   read = headers-written _ c.args.begin c.loop-i.i c.loop-i.table c.in_ok-table.field-0 (search rules) c.loop-i.invariant.read (c.in_ok-table.ensures.ok ∙ ap (λ f. header_at f (c.args.begin + 40 * c.loop-i.i)) c.loop-i.invariant.same);
 }

@@ -3,16 +3,18 @@ ghost use Rattle.std.specs.Prelude.{◌≡◌, ◌+◌, ◌<◌, ◌^◌, ◌≤
 ghost use Rattle.pe_image.specs.Spans.{reach, size_of};
 ghost use Rattle.pe_image.specs.Places.{end_by, IsLayoutOf};
 ghost use Rattle.pe_image.specs.Checks.{checks, IsRefused};
+ghost use Rattle.pe_image.specs.Sources.{OnlyReads};
 
 use crate::certificates::read_table;
 use crate::fault::LayoutFault;
-use crate::field::CHECKSUM;
+use crate::field::{CHECKSUM, CHECKSUM_SIZE};
 use crate::front::read_front;
 use crate::header::{Header, read_headers};
 use crate::places::Layout;
 use crate::sbat::find_text;
 use crate::sections::place_sections;
 use crate::source::Source;
+use crate::span::Span;
 use crate::spans::{greatest_end, total_size};
 
 /// How many bytes the headers and the sections have, and where they end.
@@ -23,7 +25,7 @@ struct Measured {
 }
 
 /// The measure of the sections and the headers before them.
-fn measure(sections: &[(u64, u64)], headers_end: u64) -> Measured
+fn measure(sections: &[Span], headers_end: u64) -> Measured
     requires { headers_end + sum_by size_of sections.now < 2 ^ 64 }
     ensures size { result.size ≡ headers_end + sum_by size_of sections.now }
     ensures end { result.end ≡ reach headers_end sections.now }
@@ -36,11 +38,11 @@ fn measure(sections: &[(u64, u64)], headers_end: u64) -> Measured
 }
 
 /// Where the hashed bytes end, for the table and the length of the file.
-fn end_of(table: Option<(u64, u64)>, length: u64) -> u64
+fn end_of(table: Option<Span>, length: u64) -> u64
     ensures { result ≡ end_by table length }
 {
     match table {
-        Some((from, _)) => from,
+        Some(table) => table.from,
         None => length,
     }
 }
@@ -53,41 +55,27 @@ pub fn layout<S: Source>(source: &mut S) -> Result<Layout, LayoutFault>
     ensures first { IfErr result (IsRefused (checks (S.content source.old))
         (S.failures source.old) (S.failures source.new)) }
 
-    ensures kept { S.failures source.old ≤ S.failures source.new }
-    ensures same { S.content source.new ≡ S.content source.old }
+    ensures reads { OnlyReads S.content S.failures source.old source.new }
 {
-    let front = match read_front(source) {
-        Ok(front) => front,
-        Err(fault) => return Err(fault),
-    };
+    let front = read_front(source)?;
     let begin = front.directories.sections_begin;
     let count = front.extent.count;
     let headers_end = front.extent.headers_end;
     let mut headers = [Header::EMPTY; 96];
-    let Ok(()) = read_headers(source, begin, count, &mut headers) else {
-        return Err(LayoutFault::Read);
-    };
+    read_headers(source, begin, count, &mut headers)?;
     let length = source.len();
-    let sections = match place_sections(&headers[..count], headers_end, length) {
-        Ok(sections) => sections,
-        Err(fault) => return Err(fault),
-    };
+    let sections = place_sections(&headers[..count], headers_end, length)?;
     let measured = measure(sections.as_slice(), headers_end);
-    let table = match read_table(source, front.directories.entry, measured.end) {
-        Ok(table) => table,
-        Err(fault) => return Err(fault),
-    };
-    let sbat = match find_text(&headers[..count]) {
-        Ok(sbat) => sbat,
-        Err(fault) => return Err(fault),
-    };
-    let checksum = front.place + CHECKSUM;
+    let directory = front.directories.certificate_directory;
+    let table = read_table(source, directory, measured.end)?;
+    let sbat = find_text(&headers[..count])?;
+    let checksum = front.pe_signature + CHECKSUM;
     Ok(Layout {
-        checksum: (checksum, checksum + 4),
-        entry: front.directories.entry,
+        checksum: Span::new(checksum, checksum + CHECKSUM_SIZE),
+        certificate_directory: directory,
         headers_end,
         sections,
-        hashed_size: measured.size,
+        sum_of_bytes_hashed: measured.size,
         image_end: end_of(table, length),
         gap: measured.end.saturating_sub(measured.size),
         table,

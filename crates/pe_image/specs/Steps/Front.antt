@@ -1,17 +1,17 @@
 -- What is known of an image before its sections are read.
 use Rattle.std.specs.Prelude.{◌≡◌, ◌<◌, ◌≤◌, ◌+◌, ◌*◌, ◌^◌, ℕ, List, length, IfSome}
 use Rattle.pe_image.specs.Checks.{longest_file}
-use Rattle.pe_image.specs.Image.{signature, fixed_size, sections_begin, number_of_sections, size_of_headers}
-use Rattle.pe_image.specs.Places.{entry_of}
+use Rattle.pe_image.specs.Image.{pe_signature_offset, fixed_size, sections_begin, number_of_sections, size_of_headers}
+use Rattle.pe_image.specs.Places.{certificate_directory_of}
 use Rattle.pe_image.specs.declared.front.Front.{Front}
 use Rattle.pe_image.specs.declared.optional.Directories.{Directories}
 use Rattle.pe_image.specs.declared.optional.Extent.{Extent}
 
--- the signature stands at a place of a file that isn't too long
-pub record IsStart (f : List ℕ) (place : ℕ) : Type 0 where
-  pub exact : place ≡ signature f
-  pub small : place < 2 ^ 32
-  pub within : place + 24 ≤ length f
+-- the signature stands at an offset of a file that isn't too long
+pub record IsStart (f : List ℕ) (pe_signature : ℕ) : Type 0 where
+  pub exact : pe_signature ≡ pe_signature_offset f
+  pub small : pe_signature < 2 ^ 32
+  pub within : pe_signature + 24 ≤ length f
   pub short : length f ≤ longest_file
 
 -- the size of the optional header without its data directories
@@ -24,9 +24,9 @@ pub record IsFixedSize (f : List ℕ) (size : ℕ) : Type 0 where
 pub record AreDirectories (f : List ℕ) (directories : Directories) : Type 0 where
   pub begin : directories.sections_begin ≡ sections_begin f
   pub low : directories.sections_begin < 2 ^ 40
-  pub entry : directories.entry ≡ entry_of f
-  pub inside : IfSome directories.entry (λ e. e.0 + 8 ≤ length f)
-  pub fields : signature f + 120 ≤ length f
+  pub certificate_directory : directories.certificate_directory ≡ certificate_directory_of f
+  pub inside : IfSome directories.certificate_directory (λ e. e.from + 8 ≤ length f)
+  pub fields : pe_signature_offset f + 120 ≤ length f
 
 -- how many sections there are, and where the headers end, behind the section table
 pub record IsExtent (f : List ℕ) (extent : Extent) : Type 0 where
@@ -38,6 +38,6 @@ pub record IsExtent (f : List ℕ) (extent : Extent) : Type 0 where
 
 -- all of these
 pub record IsFront (f : List ℕ) (front : Front) : Type 0 where
-  pub start : IsStart f front.place
+  pub start : IsStart f front.pe_signature
   pub directories : AreDirectories f front.directories
   pub extent : IsExtent f front.extent
