@@ -2,6 +2,7 @@ pub mod CheckLemmas
 pub mod HashedLemmas
 pub mod HeaderLemmas
 pub mod OrderLemmas
+pub mod PiecesLemmas
 pub mod PlacesLemmas
 pub mod PlacingLemmas
 pub mod RawLemmas

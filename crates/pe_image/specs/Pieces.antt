@@ -1,0 +1,10 @@
+-- The rows of the table of refusals that reading into pieces meets.
+use Rattle.desk_bytes.specs.declared.refusal.Refusal.{Refusal}
+use Rattle.desk_bytes.specs.declared.refusal.Refusal.TheVariants as refusal
+use Rattle.pe_image.specs.declared.pieces.PiecesFault.{PiecesFault}
+use Rattle.pe_image.specs.declared.pieces.PiecesFault.TheVariants as fault
+
+-- own: a fault is the refusal of its name
+abbrev pub refusal_of : PiecesFault → Refusal
+refusal_of fault.Read = refusal.Read
+refusal_of fault.NoMemory = refusal.NoMemory
