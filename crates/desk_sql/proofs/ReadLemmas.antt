@@ -1,5 +1,5 @@
 -- What SELECT answers of the contents, and what a query does inside a transaction.
-use Rattle.std.proofs.Common.{◌≡◌, ◌⊎◌, inl, inr, ℕ, List, ◌++◌, slice_get, Option, Some, None, refl, sym, subst, ◌∙◌, IsTrue, true, Ok}
+use Rattle.std.proofs.Common.{◌≡◌, ◌⊎◌, inl, inr, ℕ, List, [], ◌∷◌, ◌++◌, slice_get, Option, Some, None, refl, sym, subst, ◌∙◌, IsTrue, true, Ok}
 use Rattle.std.specs.List.Sorted.{IsPermutation}
 use Rattle.std.proofs.lemmas.List.Sorted.{IsPermutation-map, IsPermutation-trans}
 use Rattle.sqlite.proofs.Callers.{IsPlain, reads_as, unchanged_then}
@@ -19,7 +19,7 @@ use Rattle.sqlite_schema.specs.declared.command.Returning.{Returning}
 use Rattle.sqlite_trees.proofs.ListLemmas.{IsPermutation-filter}
 use Rattle.sqlite_value.specs.declared.keys.Key.{Key}
 use Rattle.desk_sql.specs.Contents.{Contents, Holds}
-use Rattle.desk_sql.specs.Effects.{Selects, Streams, IsSelected, passes, shown_of}
+use Rattle.desk_sql.specs.Effects.{Selects, Streams, TakesAll, IsSelected, passes, shown_of}
 use Rattle.desk_sql.specs.Meanings.{SelectsRows}
 use Rattle.desk_sql.specs.Queries.{meets, projected, keys_of}
 use Rattle.desk_sql.specs.States.{Moves}
@@ -122,3 +122,10 @@ streams text params old new answer h schema at table terms order rest names mean
   shown_same text params old new answer (subst (λ (k : Schema). IsPlain (understood k text)) (sym has) means.plain) h,
   λ c rows held found. finds_rows text params old new answer schema at table terms order rest names means h c rows held found,
 )
+
+-- ---- handing over
+
+-- one row more is handed over
+pub takes_one_more : {T : Type 0} (takes : T → Row → T → Type 0) (first mid new : T) (rows : List Row) (row : Row) → TakesAll takes first rows mid → takes mid row new → TakesAll takes first (rows ++ row ∷ []) new
+takes_one_more takes first mid new [] row h step = (new, subst (λ s. takes s row new) (sym h) step, refl)
+takes_one_more takes first mid new (r ∷ rows) row h step = (h.0, h.1, takes_one_more takes h.0 mid new rows row h.2 step)

@@ -16,6 +16,7 @@ abbrev pub by_key : Option ℕ → Row → Row
 by_key (Some _) row = row
 by_key None row = drop 1 row
 
+-- what of a stored row of this table counts
 abbrev pub seen : Table → Row → Row
 seen table row = by_key table.key row
 
@@ -24,6 +25,7 @@ abbrev pub with_rowid_by_key : Option ℕ → Row → Row
 with_rowid_by_key (Some _) row = row
 with_rowid_by_key None row = Null ∷ row
 
+-- a stored row of this table, where what counts of it is known
 abbrev pub whole : Table → Row → Row
 whole table row = with_rowid_by_key table.key row
 
@@ -40,6 +42,7 @@ pub record IsIn (db : Trees) (table : Table) (rows : List Row) : Type 0 where
   pub same : IsPermutation rows (map (seen table) (db table.tree))
   pub keyed : IsKeyed (db table.tree)
 
+-- the trees hold for each table these rows
 abbrev pub HoldRows : Trees → List Table → Contents → Type 0
 HoldRows db tables contents = AllZip (IsIn db) tables contents
 

@@ -34,21 +34,26 @@ IsInserted table terms params row = (rows : List Row) → seen table (with_rowid
 
 -- ---- the effects of a text with its parameters, where it means one of these
 
+-- INSERT: this row is put to its table, and no other table changes
 abbrev pub Inserts : List ℕ → Row → State → State → Type 0
 Inserts text params old new = (schema : Schema) (at : ℕ) (table : Table) (terms : List Term) (row : Row) → InsertsRow schema at table text terms → IsInserted table terms params row
     → Moves schema (change_at at (λ rows. row ∷ rows)) old new
 
+-- UPDATE: the rows of one table that meet WHERE are rewritten, and all else stays
 abbrev pub Updates : List ℕ → Row → State → State → Type 0
 Updates text params old new = (schema : Schema) (at : ℕ) (table : Table) (terms rest : List Term) → UpdatesRows schema at table text terms rest
     → Moves schema (change_at at (map (updated table terms rest params))) old new
 
+-- DELETE: the rows of one table that meet WHERE are gone, and all else stays
 abbrev pub Deletes : List ℕ → Row → State → State → Type 0
 Deletes text params old new = (schema : Schema) (at : ℕ) (table : Table) (terms : List Term) → DeletesRows schema at table text terms
     → Moves schema (change_at at (filter (λ r. not (passes table terms params r)))) old new
 
+-- CREATE TABLE: an empty table stands after the others
 abbrev pub Creates : List ℕ → State → State → Type 0
 Creates text old new = (schema : Schema) (table : Table) → MakesTable schema table text → Makes old new schema (created schema table)
 
+-- CREATE TABLE of each text: the empty tables stand in the order of the texts
 abbrev pub CreatesAll : List (List ℕ) → State → State → Type 0
 CreatesAll texts old new = (schema : Schema) (tables : List Table) → MakeTables schema tables texts → Makes old new schema (schema_after schema tables)
 
@@ -69,10 +74,22 @@ Streams text params old new answer = (schema : Schema) (at : ℕ) (table : Table
     → SelectsRows schema at table text terms order rest names → old.now.schema ≡ schema → IsUnchanged old new
     × ((c : Contents) (rows : List Row) → Holds schema old.now c → slice_get c at ≡ Some rows → IsSelected table terms order rest params rows answer)
 
+-- a taker was handed these rows, one after another, and no other
+abbrev pub TakesAll : {T : Type 0} → (T → Row → T → Type 0) → T → List Row → T → Type 0
+TakesAll takes old [] new = old ≡ new
+TakesAll {T = T} takes old (row ∷ rows) new = (mid : T) × takes old row mid × TakesAll takes mid rows new
+
+-- what was handed over, in this order, is the whole answer
+pub record HandsOver {T : Type 0} (takes : T → Row → T → Type 0) (text : List ℕ) (params : Row) (old new : State) (before after : T) : Type 0 where
+  pub answer : List Row
+  pub handed : TakesAll takes before answer after
+  pub exact : Streams text params old new answer
+
 -- a count stops at the greatest integer of SQL
 abbrev pub counted : ℕ → ℕ
 counted n = min n 9223372036854775807
 
+-- SELECT count(*): how many rows of the table meet WHERE; nothing changes
 abbrev pub Counts : List ℕ → Row → State → State → ℕ → Type 0
 Counts text params old new n = (schema : Schema) (at : ℕ) (table : Table) (terms : List Term) (names : List (List ℕ))
     → CountsRows schema at table text terms names → Moves schema (λ c. c) old new

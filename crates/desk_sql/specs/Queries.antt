@@ -28,6 +28,7 @@ plain_query tree terms project order = record {
   offset = lit (Int (pos 0));
 }
 
+-- count(*), the number of rows of a group
 abbrev pub row_count : Aggregate
 row_count = record { op = op.CountRows; distinct = false; collation = Binary; argument = lit Null }
 
@@ -59,9 +60,11 @@ finding tree terms project = record { lets = []; body = plain_query tree terms p
 
 -- ---- one row, as the parameters and the row stand in the terms
 
+-- all of the terms are true of the row
 abbrev pub meets : List Term → Row → Row → Bool
 meets terms params row = list_all (holds (params ∷ row ∷ [])) terms
 
+-- the values of the terms, for this row
 abbrev pub projected : List Term → Row → Row → Row
 projected project params row = eval_all project (params ∷ row ∷ [])
 
@@ -71,6 +74,7 @@ rewritten table rest params row = cast_row table (projected rest params row)
 
 -- ---- orders
 
+-- the terms of ORDER BY
 abbrev pub keys_of : List (Term × Key) → List Term
 keys_of order = map (λ (k : Term × Key). k.0) order
 

@@ -1,9 +1,11 @@
 -- What a connection shows of a store's tables, inside a transaction and outside, and how steps change that.
-use Rattle.std.specs.Prelude.{◌≡◌, IsTrue, false, []}
+use Rattle.std.specs.Prelude.{◌≡◌, IsTrue, false, [], Result, IfOk, OnOk}
 use Rattle.std.specs.List.{AllByRecursion}
 use Rattle.sqlite.specs.Effect.{Database}
+use Rattle.sqlite.specs.Held.{Held, state}
 use Rattle.sqlite.specs.Schema.{Schema}
-use Rattle.sqlite.specs.State.{State, HasCleanDisk, KeepsCommit}
+use Rattle.sqlite.specs.State.{State, HasCleanDisk, KeepsCommit, Survives}
+use Rattle.sqlite.specs.Store.{Ghosts}
 use Rattle.sqlite.specs.Table.{Table}
 use Rattle.sqlite.specs.Tree.{Trees}
 use Rattle.desk_sql.specs.Contents.{Contents, Holds}
@@ -49,3 +51,23 @@ pub record Makes (old new : State) (before after : Schema) : Type 0 where
   pub inside : IsTrue new.in_transaction
   pub kept : KeepsCommit old new
   pub value : Made old.now before → Made new.now after
+
+-- ---- what a call inside a transaction promises of the connection, where the disk is clean at its end
+
+-- what it gave, and how the state changed with that
+abbrev pub DoesInside : {S X E : Type 0} → Ghosts S → Held S → Held S → Result X E → (X → State → State → Type 0) → Type 0
+DoesInside g old new result does =
+    HasCleanDisk (state g new) → IsTrue (state g old).in_transaction → IfOk result (λ x. does x (state g old) (state g new))
+
+-- Ok is given by an open connection that is still inside its transaction
+abbrev pub StaysInside : {S X E : Type 0} → Ghosts S → Held S → Held S → Result X E → Type 0
+StaysInside g old new result =
+    HasCleanDisk (state g new) → IsTrue (state g old).in_transaction → OnOk result (IsTrue (state g new).is_open × IsTrue (state g new).in_transaction)
+
+-- nothing is committed, also after an error
+abbrev pub Keeps : {S : Type 0} → Ghosts S → Held S → Held S → Type 0
+Keeps g old new = HasCleanDisk (state g new) → IsTrue (state g old).in_transaction → KeepsCommit (state g old) (state g new)
+
+-- a stop leaves what it left before, on any disk
+abbrev pub Spares : {S : Type 0} → Ghosts S → Held S → Held S → Type 0
+Spares g old new = Survives (state g old) (state g new) (λ _. ⊥)

@@ -8,5 +8,5 @@ mod writing;
 
 pub use laws::stop_leaves_what_is_shown;
 pub use reading::{count, select};
-pub use streaming::stream;
+pub use streaming::{Halt, TakesRow, stream};
 pub use writing::{create_table, create_tables, delete, insert, update};

@@ -1,10 +1,9 @@
 //! Queries inside a transaction: they change nothing.
-ghost use Rattle.std.specs.Prelude.{◌≡◌, ℕ, IfOk, IsTrue, OnOk};
-ghost use Rattle.sqlite.specs.Held.{state};
-ghost use Rattle.sqlite.specs.State.{HasCleanDisk, KeepsCommit, Survives};
+ghost use Rattle.std.specs.Prelude.{◌≡◌, ℕ, IfOk};
 ghost use Rattle.sqlite.specs.Values.{bound};
 ghost use Rattle.desk_sql.specs.Effects.{Counts, Selects};
 ghost use Rattle.desk_sql.specs.Queries.{number_row};
+ghost use Rattle.desk_sql.specs.States.{DoesInside, Keeps, Spares, StaysInside};
 
 use sqlite::types::ValueRef;
 use sqlite::{Alter, Error, Row, Transaction};
@@ -16,25 +15,14 @@ pub fn select<S: Alter>(
     params: &[ValueRef<'_>],
 ) -> Result<Vec<Row>, Error>
     ensures same_reference { tx.new.conn.ghost_name ≡ tx.old.conn.ghost_name }
-    ensures value { HasCleanDisk (state S.Store tx.new.conn.now)
-        → IsTrue (state S.Store tx.old.conn.now).in_transaction
-        → IfOk result (λ rows. Selects sql.now (bound params.now) (state S.Store tx.old.conn.now)
-        (state S.Store tx.new.conn.now) rows.items) }
-    ensures inside { HasCleanDisk (state S.Store tx.new.conn.now)
-        → IsTrue (state S.Store tx.old.conn.now).in_transaction
-        → OnOk result (IsTrue (state S.Store tx.new.conn.now).is_open
-        × IsTrue (state S.Store tx.new.conn.now).in_transaction) }
-    ensures kept { HasCleanDisk (state S.Store tx.new.conn.now)
-        → IsTrue (state S.Store tx.old.conn.now).in_transaction
-        → KeepsCommit (state S.Store tx.old.conn.now) (state S.Store tx.new.conn.now) }
-    ensures survives { Survives (state S.Store tx.old.conn.now) (state S.Store tx.new.conn.now)
-        (λ _. ⊥) }
+    ensures value { DoesInside S.Store tx.old.conn.now tx.new.conn.now result
+        (λ rows old new. Selects sql.now (bound params.now) old new rows.items) }
+    ensures inside { StaysInside S.Store tx.old.conn.now tx.new.conn.now result }
+    ensures kept { Keeps S.Store tx.old.conn.now tx.new.conn.now }
+    ensures survives { Spares S.Store tx.old.conn.now tx.new.conn.now }
 {
-    let selected = tx.query_all(sql, params);
-    match selected {
-        Ok(rows) => Ok(rows),
-        Err(error) => Err(error),
-    }
+    let selected = tx.query_all(sql, params)?;
+    Ok(selected)
 }
 
 /// The integer of the only row.
@@ -44,10 +32,7 @@ fn only_number(rows: &[Row]) -> Result<u64, Error>
     let Some(row) = rows.first() else {
         return Err(Error::QueryReturnedNoRows);
     };
-    match row.get(0) {
-        Ok(number) => Ok(number),
-        Err(error) => Err(error),
-    }
+    row.get(0)
 }
 
 /// `SELECT count(*) FROM .. WHERE ..`. Every row of the table is visited.
@@ -57,25 +42,13 @@ pub fn count<S: Alter>(
     params: &[ValueRef<'_>],
 ) -> Result<u64, Error>
     ensures same_reference { tx.new.conn.ghost_name ≡ tx.old.conn.ghost_name }
-    ensures value { HasCleanDisk (state S.Store tx.new.conn.now)
-        → IsTrue (state S.Store tx.old.conn.now).in_transaction
-        → IfOk result (λ n. Counts sql.now (bound params.now) (state S.Store tx.old.conn.now)
-        (state S.Store tx.new.conn.now) n) }
-    ensures inside { HasCleanDisk (state S.Store tx.new.conn.now)
-        → IsTrue (state S.Store tx.old.conn.now).in_transaction
-        → OnOk result (IsTrue (state S.Store tx.new.conn.now).is_open
-        × IsTrue (state S.Store tx.new.conn.now).in_transaction) }
-    ensures kept { HasCleanDisk (state S.Store tx.new.conn.now)
-        → IsTrue (state S.Store tx.old.conn.now).in_transaction
-        → KeepsCommit (state S.Store tx.old.conn.now) (state S.Store tx.new.conn.now) }
-    ensures survives { Survives (state S.Store tx.old.conn.now) (state S.Store tx.new.conn.now)
-        (λ _. ⊥) }
+    ensures value { DoesInside S.Store tx.old.conn.now tx.new.conn.now result
+        (λ n old new. Counts sql.now (bound params.now) old new n) }
+    ensures inside { StaysInside S.Store tx.old.conn.now tx.new.conn.now result }
+    ensures kept { Keeps S.Store tx.old.conn.now tx.new.conn.now }
+    ensures survives { Spares S.Store tx.old.conn.now tx.new.conn.now }
 {
-    match tx.query_all(sql, params) {
-        Ok(rows) => match only_number(&rows) {
-            Ok(counted) => Ok(counted),
-            Err(error) => Err(error),
-        },
-        Err(error) => Err(error),
-    }
+    let rows = tx.query_all(sql, params)?;
+    let counted = only_number(&rows)?;
+    Ok(counted)
 }

@@ -1,35 +1,66 @@
-//! Queries outside a transaction, one row at a time.
-ghost use Rattle.std.specs.Prelude.{◌≡◌, IfOk, IsTrue};
+//! Queries outside a transaction, whose rows are handed over one at a time.
+ghost use Rattle.std.specs.Prelude.{◌≡◌, List, IfOk, IsTrue, OnErr, OnOk};
 ghost use Rattle.sqlite.specs.Held.{state};
+ghost use Rattle.sqlite.specs.Order.{Row as Shown};
 ghost use Rattle.sqlite.specs.State.{CommitsShowing, HasCleanDisk, Survives};
 ghost use Rattle.sqlite.specs.Values.{bound};
-ghost use Rattle.desk_sql.specs.Effects.{Streams};
+ghost use Rattle.desk_sql.specs.Effects.{HandsOver};
 
 use sqlite::types::ValueRef;
 use sqlite::{Alter, Connection, Error, Row};
-use std::alloc::Global;
 
-/// `SELECT .. FROM .. WHERE .. ORDER BY ..`: the store gives one row after another, and each is copied. No more memory is
-/// taken than for the rows of the answer.
-pub fn stream<S: Alter>(
-    alloc: Global,
+/// Who is handed the rows of an answer, one after another.
+pub trait TakesRow {
+    /// Why a row isn't taken.
+    type Fault;
+
+    /// What a taker becomes by taking a row: the taker before, the row, the taker after.
+    ghost takes: { Self → Shown → Self → Type 0 };
+
+    /// Takes the next row. After an error no further row is handed over.
+    fn take(&mut self, row: &Row) -> Result<(), Self::Fault>
+        ensures ok { OnOk result (takes self.old row.now self.new) };
+}
+
+/// Why rows weren't handed over to the end of their answer.
+#[derive(Debug, Drop)]
+pub enum Halt<F> {
+    /// The store failed, or refused the query.
+    Store(Error),
+    /// The taker didn't take a row.
+    Taker(F),
+}
+
+/// `SELECT .. FROM .. WHERE .. ORDER BY ..`: hands each row to the taker as the store gives it, and keeps none. Takes no
+/// memory for the rows.
+pub fn stream<S: Alter, T: TakesRow>(
     conn: &mut Connection<S>,
     sql: &str,
     params: &[ValueRef<'_>],
-) -> Result<Vec<Row>, Error>
+    taker: &mut T,
+) -> Result<(), Halt<T::Fault>>
     ensures value { HasCleanDisk (state S.Store conn.new)
-        → IfOk result (λ rows. Streams sql.now (bound params.now) (state S.Store conn.old)
-        (state S.Store conn.new) rows.items) }
+        → OnOk result (HandsOver T.TakesRow.takes sql.now (bound params.now)
+        (state S.Store conn.old) (state S.Store conn.new) taker.old taker.new) }
     ensures survives { Survives (state S.Store conn.old) (state S.Store conn.new)
         (CommitsShowing sql.now (bound params.now) (state S.Store conn.old)) }
 {
-    let mut all = Vec::new(alloc);
-    let mut rows = conn.query(sql, params)?;
+    let mut rows = match conn.query(sql, params) {
+        Ok(rows) => rows,
+        Err(error) => return Err(Halt::Store(error)),
+    };
     'rows: for _ in 0..u64::MAX {
-        let Some(row) = rows.next()? else {
-            return Ok(all);
+        let next = match rows.next() {
+            Ok(next) => next,
+            Err(error) => return Err(Halt::Store(error)),
         };
-        all.push(row.copy()?)?;
+        let Some(row) = next else {
+            return Ok(());
+        };
+        match taker.take(row) {
+            Ok(()) => {}
+            Err(fault) => return Err(Halt::Taker(fault)),
+        }
     }
-    Err(Error::InvalidQuery)
+    Err(Halt::Store(Error::InvalidQuery))
 }

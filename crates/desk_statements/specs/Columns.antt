@@ -17,6 +17,7 @@ column_at None at = col 1 (at + 1)
 column_at (Some _) zero = col 1 0
 column_at (Some _) (suc at) = col 1 (at + 2)
 
+-- the terms of these columns, of which the first stands at this place
 abbrev pub columns_from : Option ℕ → ℕ → List Column → List Term
 columns_from key at [] = []
 columns_from key at (c ∷ cs) = column_at key at ∷ columns_from key (at + 1) cs
@@ -25,6 +26,7 @@ columns_from key at (c ∷ cs) = column_at key at ∷ columns_from key (at + 1) 
 abbrev pub columns_of : Table → List Term
 columns_of table = columns_from table.key 0 table.columns
 
+-- the names of the columns, as an answer heads them
 abbrev pub names_of : Table → List (List ℕ)
 names_of table = map (λ (c : Column). c.name) table.columns
 
@@ -47,6 +49,7 @@ stored_as None values = lit Null ∷ values
 stored_as (Some _) [] = []
 stored_as (Some _) (key ∷ values) = key ∷ lit Null ∷ values
 
+-- a parameter for each of these columns, the first of them at this place
 abbrev pub parameters_from : ℕ → List Column → List Term
 parameters_from at [] = []
 parameters_from at (c ∷ cs) = col 0 at ∷ parameters_from (at + 1) cs
@@ -60,10 +63,12 @@ abbrev pub set_from : Option ℕ → ℕ → ℕ → ℕ → List Column → Lis
 set_from key set parameter at [] = []
 set_from key set parameter at (c ∷ cs) = (if at == set then col 0 parameter else column_at key at) ∷ set_from key set parameter (at + 1) cs
 
+-- what UPDATE writes into a row whose columns become these: the row id first, as the key says or as it was
 abbrev pub with_row_id : Option ℕ → List Term → List Term
 with_row_id None values = col 1 0 ∷ values
 with_row_id (Some _) [] = []
 with_row_id (Some _) (key ∷ values) = key ∷ lit Null ∷ values
 
+-- SET column = ?parameter: the row id and every column of the row that an UPDATE writes
 abbrev pub set_to : Table → ℕ → ℕ → List Term
 set_to table at parameter = with_row_id table.key (set_from table.key at parameter 0 table.columns)

@@ -72,15 +72,22 @@ pub fn requests_statements()
 
 /// Certificates of a request: put in, listed by digest.
 pub fn request_certificates_statements()
-    ensures inserted { InsertsRow desk_schema 4 request_certificates INSERT_REQUEST_CERTIFICATE.now (values_of request_certificates) }
-    ensures of_request { SelectsRows desk_schema 4 request_certificates SELECT_REQUEST_CERTIFICATES.now (equals request_certificates 0 0 ∷ []) (by_first 2 request_certificates) (columns_after 2 request_certificates) (names_of request_certificates) }
+    ensures inserted { InsertsRow desk_schema 4 request_certificates INSERT_REQUEST_CERTIFICATE.now
+        (values_of request_certificates) }
+    ensures of_request { SelectsRows desk_schema 4 request_certificates
+        SELECT_REQUEST_CERTIFICATES.now (equals request_certificates 0 0 ∷ [])
+        (by_first 2 request_certificates) (columns_after 2 request_certificates)
+        (names_of request_certificates) }
 {}
 
 /// Components of a request: put in, listed by place.
 pub fn request_components_statements()
     ensures inserted { InsertsRow desk_schema 5 request_components INSERT_REQUEST_COMPONENT.now
         (values_of request_components) }
-    ensures of_request { SelectsRows desk_schema 5 request_components SELECT_REQUEST_COMPONENTS.now (equals request_components 0 0 ∷ []) (by_first 2 request_components) (columns_after 2 request_components) (names_of request_components) }
+    ensures of_request { SelectsRows desk_schema 5 request_components
+        SELECT_REQUEST_COMPONENTS.now (equals request_components 0 0 ∷ [])
+        (by_first 2 request_components) (columns_after 2 request_components)
+        (names_of request_components) }
 {}
 
 /// Votes: put in, listed by reviewer.
@@ -126,12 +133,16 @@ pub fn revoked_digests_statements()
 
 /// Revoked certificates: put in, found, listed in order, counted.
 pub fn revoked_certificates_statements()
-    ensures inserted { InsertsRow desk_schema 10 revoked_certificates INSERT_REVOKED_CERTIFICATE.now (values_of revoked_certificates) }
+    ensures inserted { InsertsRow desk_schema 10 revoked_certificates
+        INSERT_REVOKED_CERTIFICATE.now (values_of revoked_certificates) }
     ensures found { SelectsRows desk_schema 10 revoked_certificates SELECT_REVOKED_CERTIFICATE.now
         (equals revoked_certificates 0 0 ∷ []) [] (columns_of revoked_certificates)
         (names_of revoked_certificates) }
-    ensures all { SelectsRows desk_schema 10 revoked_certificates SELECT_REVOKED_CERTIFICATES.now [] (by_first 1 revoked_certificates) (columns_after 1 revoked_certificates) (names_of revoked_certificates) }
-    ensures counted { CountsRows desk_schema 10 revoked_certificates COUNT_REVOKED_CERTIFICATES.now [] (codes "count(*)" ∷ []) }
+    ensures all { SelectsRows desk_schema 10 revoked_certificates SELECT_REVOKED_CERTIFICATES.now []
+        (by_first 1 revoked_certificates) (columns_after 1 revoked_certificates)
+        (names_of revoked_certificates) }
+    ensures counted { CountsRows desk_schema 10 revoked_certificates COUNT_REVOKED_CERTIFICATES.now
+        [] (codes "count(*)" ∷ []) }
 {}
 
 /// Components of the level: put in, raised, found by name, listed by name, counted.

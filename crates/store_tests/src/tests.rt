@@ -1,5 +1,5 @@
 //! Each statement once, on its happy path, and what a taken key does.
-use desk_sql::{count, delete, insert, select, stream, update};
+use desk_sql::{Halt, TakesRow, count, create_table, delete, insert, select, stream, update};
 use desk_statements::{
     COUNT_CALLS, COUNT_COMPONENTS, COUNT_LISTED, COUNT_LISTED_OF, COUNT_PEOPLE, COUNT_REQUESTS,
     COUNT_REQUESTS_IN, COUNT_REVOKED_CERTIFICATES, COUNT_REVOKED_DIGESTS, DELETE_LISTED,
@@ -13,7 +13,7 @@ use desk_statements::{
     SELECT_REVOKED_DIGESTS, SELECT_VOTES, UPDATE_GENERATION, UPDATE_STAMP, UPDATE_STATE, make,
 };
 use sqlite::types::ValueRef;
-use sqlite::{Connection, Error, MemStore, Transaction, params};
+use sqlite::{Connection, Error, MemStore, Row, Transaction, params};
 use std::test::Fail;
 
 type Memory<'a> = Transaction<'a, MemStore>;
@@ -120,6 +120,31 @@ fn change(tx: &mut Memory<'_>) -> Result<(), Error> {
     delete(tx, DELETE_LISTED, params!["digest", ONE])
 }
 
+/// Keeps the first byte of each digest, up to so many.
+#[derive(Drop)]
+struct FirstBytes {
+    bytes: Vec<u8>,
+    most: usize,
+}
+
+impl TakesRow for FirstBytes {
+    type Fault = Error;
+
+    ghost takes = { λ _ _ _. Unit {0} };
+
+    fn take(&mut self, row: &Row) -> Result<(), Error> {
+        let digest: Vec<u8> = row.get(0)?;
+        let Some(first) = digest.first() else {
+            return Err(Error::InvalidQuery);
+        };
+        if self.bytes.len() == self.most {
+            return Err(Error::QueryReturnedNoRows);
+        }
+        self.bytes.push(*first)?;
+        Ok(())
+    }
+}
+
 #[test]
 fn every_statement_runs(rt: HostRuntime) -> Result<(), Fail> {
     let mut conn = Connection::open_in_memory(rt.alloc())?;
@@ -138,11 +163,43 @@ fn every_statement_runs(rt: HostRuntime) -> Result<(), Fail> {
     let total = counted(&mut tx)?;
     assert!(rt; total == 8, "a refused INSERT changes nothing");
     tx.commit()?;
-    let digests = stream(rt.alloc(), &mut conn, SELECT_REVOKED_DIGESTS, &[])?;
-    let Some(first) = digests.first() else {
-        return Err(Fail::new("no digest"));
+    let mut all = FirstBytes {
+        bytes: Vec::new(rt.alloc()),
+        most: 2,
     };
-    let first: Vec<u8> = first.get(0)?;
-    assert!(rt; first.as_slice() == ONE, "the least digest comes first");
+    let streamed = stream(&mut conn, SELECT_REVOKED_DIGESTS, &[], &mut all);
+    assert!(rt; streamed.is_ok(), "the answer ends");
+    assert!(rt;
+        all.bytes.as_slice() == [1, 2].as_slice(),
+        "the least digest comes first"
+    );
+    all.most = 3;
+    let halted = stream(&mut conn, SELECT_REVOKED_DIGESTS, &[], &mut all);
+    assert!(rt;
+        matches!(halted, Err(Halt::Taker(_))),
+        "a taker that is full ends the query"
+    );
+    assert!(rt;
+        all.bytes.as_slice() == [1, 2, 1].as_slice(),
+        "it took one row before"
+    );
+    Ok(())
+}
+
+#[test]
+fn one_table_is_made(rt: HostRuntime) -> Result<(), Fail> {
+    let mut conn = Connection::open_in_memory(rt.alloc())?;
+    let mut tx = conn.transaction();
+    create_table(
+        &mut tx,
+        "CREATE TABLE seals (digest BLOB NOT NULL PRIMARY KEY) STRICT",
+    )?;
+    insert(
+        &mut tx,
+        "INSERT INTO seals (digest) VALUES (?1)",
+        params![ONE],
+    )?;
+    let stands = count(&mut tx, "SELECT count(*) FROM seals", &[])?;
+    assert!(rt; stands == 1, "the table that was made takes a row");
     Ok(())
 }

@@ -1,11 +1,7 @@
 use Rattle.sqlite.specs.Held.{state}
-use Rattle.desk_sql.proofs.ContentLemmas.{ran_keeps}
 use Rattle.desk_sql.proofs.TableLemmas.{creates}
 use Rattle.desk_sql.proofs.writing.create_table.Goals as goal
 
-pub returns-in-Ok-clause-value : goal.returns-in-Ok-clause-value
-returns-in-Ok-clause-value g c clean inside =
-    creates c.args.sql.now (state g.S.Store c.args.tx.now.conn.now) (state g.S.Store c.execute.new.self.conn.now) c.in-Ok.field-0 (c.in-Ok.ensures.runs clean inside)
-
-pub returns-in-Ok-clause-kept : goal.returns-in-Ok-clause-kept
-returns-in-Ok-clause-kept g c clean inside = ran_keeps (state g.S.Store c.args.tx.now.conn.now) (state g.S.Store c.execute.new.self.conn.now) (c.in-Ok.ensures.runs clean inside).1
+pub returns-clause-value : goal.returns-clause-value
+returns-clause-value g c clean inside =
+    creates c.args.sql.now (state g.S.Store c.args.tx.now.conn.now) (state g.S.Store c.execute.new.self.conn.now) c.in_ok-execute.field-0 (c.in_ok-execute.ensures.runs clean inside)
