@@ -3,4 +3,4 @@
 
 mod laws;
 
-pub use laws::rows_have_their_columns;
+pub use laws::{rows_have_their_columns, worked_tables_are_rows};
