@@ -1,5 +1,5 @@
 -- The rows that INSERT puts in, of its parameters.
-use Rattle.std.proofs.Common.{ℕ, pos, List, [], ◌∷◌, refl}
+use Rattle.std.proofs.Common.{ℕ, pos, List, [], ◌∷◌, codes, refl}
 use Rattle.sqlite.specs.declared.types.Value.TheVariants.{Int, Text, Blob}
 use Rattle.sqlite.specs.Order.{Row}
 use Rattle.desk_sql.specs.Effects.{IsInserted}
@@ -18,6 +18,7 @@ use Rattle.desk_history.specs.declared.rows.RequestComponentRow.{RequestComponen
 use Rattle.desk_history.specs.declared.rows.RequestRow.{RequestRow}
 use Rattle.desk_history.specs.declared.rows.ReturnRow.{ReturnRow}
 use Rattle.desk_history.specs.declared.rows.VoteRow.{VoteRow}
+use Rattle.desk_history.specs.Tables.{tables as new_desk}
 use Rattle.desk_contents.specs.Values as values
 
 -- ---- the parameters, where the row has NULL for its key besides
@@ -34,6 +35,10 @@ abbrev pub return_params : ReturnRow → Row
 return_params r = Int (pos r.request) ∷ Text r.signer ∷ Int (pos r.length) ∷ Blob r.file ∷ Blob r.digest ∷ []
 
 -- ---- the rows
+
+-- of a desk without calls
+pub desk_in : (owner : List ℕ) → IsInserted tables.desk (values_of tables.desk) (Int (pos 1) ∷ Text (codes "boot-desk") ∷ Int (pos 1) ∷ Blob owner ∷ Int (pos 2021030218) ∷ []) (values.desk_values (new_desk owner []).desk)
+desk_in owner rows = rw (cast_null, cast_int (pos 1), cast_int (pos 2021030218)) refl
 
 pub person_in : (p : Person) → IsInserted tables.people (values_of tables.people) (values.person_values p) (values.person_values p)
 person_in p rows = rw cast_null refl

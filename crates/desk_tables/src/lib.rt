@@ -9,5 +9,6 @@ mod setting;
 mod stored;
 mod writing;
 
+pub use entering::put_desk;
 pub use fault::WriteFault;
 pub use writing::{write, write_all};

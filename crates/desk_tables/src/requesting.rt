@@ -17,31 +17,31 @@ use sqlite::{Alter, Transaction, params};
 /// Puts in a request.
 pub(crate) fn put_request<S: Alter>(
     tx: &mut Transaction<'_, S>,
-    row: &RequestRow,
+    request: &RequestRow,
 ) -> Result<(), WriteFault>
     ensures same_reference { tx.new.conn.ghost_name ≡ tx.old.conn.ghost_name }
     ensures value { Steps S.Store tx.old.conn.now tx.new.conn.now result
-        (written (writes.Request row.now)) }
+        (written (writes.Request request.now)) }
     ensures inside { Stays S.Store tx.old.conn.now tx.new.conn.now result }
     ensures kept { Keeps S.Store tx.old.conn.now tx.new.conn.now }
     ensures survives { Spares S.Store tx.old.conn.now tx.new.conn.now }
 {
-    let number = stored(row.number.value())?;
-    let length = stored(row.length)?;
-    let gap = stored(row.gap)?;
+    let number = stored(request.number.value())?;
+    let length = stored(request.length)?;
+    let gap = stored(request.gap)?;
     match insert(
         tx,
         INSERT_REQUEST,
         params![
             &number,
-            row.submitter.as_str(),
-            row.title.as_str(),
+            request.submitter.as_str(),
+            request.title.as_str(),
             &length,
             &gap,
-            row.file.as_bytes(),
-            row.digest.as_bytes(),
-            row.signing.as_bytes(),
-            row.state.text()
+            request.file.as_bytes(),
+            request.digest.as_bytes(),
+            request.signing.as_bytes(),
+            request.state.text()
         ],
     ) {
         Ok(()) => Ok(()),
@@ -52,20 +52,20 @@ pub(crate) fn put_request<S: Alter>(
 /// Puts in a certificate of a request's image.
 pub(crate) fn put_request_certificate<S: Alter>(
     tx: &mut Transaction<'_, S>,
-    row: &RequestCertificateRow,
+    certificate: &RequestCertificateRow,
 ) -> Result<(), WriteFault>
     ensures same_reference { tx.new.conn.ghost_name ≡ tx.old.conn.ghost_name }
     ensures value { Steps S.Store tx.old.conn.now tx.new.conn.now result
-        (written (writes.RequestCertificate row.now)) }
+        (written (writes.RequestCertificate certificate.now)) }
     ensures inside { Stays S.Store tx.old.conn.now tx.new.conn.now result }
     ensures kept { Keeps S.Store tx.old.conn.now tx.new.conn.now }
     ensures survives { Spares S.Store tx.old.conn.now tx.new.conn.now }
 {
-    let request = stored(row.request.value())?;
+    let request = stored(certificate.request.value())?;
     match insert(
         tx,
         INSERT_REQUEST_CERTIFICATE,
-        params![&request, row.digest.as_bytes()],
+        params![&request, certificate.digest.as_bytes()],
     ) {
         Ok(()) => Ok(()),
         Err(error) => Err(WriteFault::from(error)),
@@ -75,21 +75,26 @@ pub(crate) fn put_request_certificate<S: Alter>(
 /// Puts in a component of a request's image.
 pub(crate) fn put_request_component<S: Alter>(
     tx: &mut Transaction<'_, S>,
-    row: &RequestComponentRow,
+    component: &RequestComponentRow,
 ) -> Result<(), WriteFault>
     ensures same_reference { tx.new.conn.ghost_name ≡ tx.old.conn.ghost_name }
     ensures value { Steps S.Store tx.old.conn.now tx.new.conn.now result
-        (written (writes.RequestComponent row.now)) }
+        (written (writes.RequestComponent component.now)) }
     ensures inside { Stays S.Store tx.old.conn.now tx.new.conn.now result }
     ensures kept { Keeps S.Store tx.old.conn.now tx.new.conn.now }
     ensures survives { Spares S.Store tx.old.conn.now tx.new.conn.now }
 {
-    let request = stored(row.request.value())?;
-    let place = stored(row.place)?;
+    let request = stored(component.request.value())?;
+    let place = stored(component.place)?;
     match insert(
         tx,
         INSERT_REQUEST_COMPONENT,
-        params![&request, &place, row.name.as_str(), row.generation.value()],
+        params![
+            &request,
+            &place,
+            component.name.as_str(),
+            component.generation.value()
+        ],
     ) {
         Ok(()) => Ok(()),
         Err(error) => Err(WriteFault::from(error)),
@@ -99,24 +104,24 @@ pub(crate) fn put_request_component<S: Alter>(
 /// Puts in a vote.
 pub(crate) fn put_vote<S: Alter>(
     tx: &mut Transaction<'_, S>,
-    row: &VoteRow,
+    vote: &VoteRow,
 ) -> Result<(), WriteFault>
     ensures same_reference { tx.new.conn.ghost_name ≡ tx.old.conn.ghost_name }
     ensures value { Steps S.Store tx.old.conn.now tx.new.conn.now result
-        (written (writes.Vote row.now)) }
+        (written (writes.Vote vote.now)) }
     ensures inside { Stays S.Store tx.old.conn.now tx.new.conn.now result }
     ensures kept { Keeps S.Store tx.old.conn.now tx.new.conn.now }
     ensures survives { Spares S.Store tx.old.conn.now tx.new.conn.now }
 {
-    let request = stored(row.request.value())?;
+    let request = stored(vote.request.value())?;
     match insert(
         tx,
         INSERT_VOTE,
         params![
             &request,
-            row.reviewer.as_str(),
-            row.vote.text(),
-            row.note.as_str()
+            vote.reviewer.as_str(),
+            vote.vote.text(),
+            vote.note.as_str()
         ],
     ) {
         Ok(()) => Ok(()),
@@ -127,26 +132,26 @@ pub(crate) fn put_vote<S: Alter>(
 /// Puts in a returned file.
 pub(crate) fn put_return<S: Alter>(
     tx: &mut Transaction<'_, S>,
-    row: &ReturnRow,
+    returned: &ReturnRow,
 ) -> Result<(), WriteFault>
     ensures same_reference { tx.new.conn.ghost_name ≡ tx.old.conn.ghost_name }
     ensures value { Steps S.Store tx.old.conn.now tx.new.conn.now result
-        (written (writes.Return row.now)) }
+        (written (writes.Return returned.now)) }
     ensures inside { Stays S.Store tx.old.conn.now tx.new.conn.now result }
     ensures kept { Keeps S.Store tx.old.conn.now tx.new.conn.now }
     ensures survives { Spares S.Store tx.old.conn.now tx.new.conn.now }
 {
-    let request = stored(row.request.value())?;
-    let length = stored(row.length)?;
+    let request = stored(returned.request.value())?;
+    let length = stored(returned.length)?;
     match insert(
         tx,
         INSERT_RETURN,
         params![
             &request,
-            row.signer.as_str(),
+            returned.signer.as_str(),
             &length,
-            row.file.as_bytes(),
-            row.digest.as_bytes()
+            returned.file.as_bytes(),
+            returned.digest.as_bytes()
         ],
     ) {
         Ok(()) => Ok(()),

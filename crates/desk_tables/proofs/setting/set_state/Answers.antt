@@ -18,4 +18,4 @@ returns-in-Ok-clause-value g c clean inside =
     sets 3 requests UPDATE_STATE.now (equals requests 0 0 ∷ []) (state_params o) request_values (λ (t : Tables). t.requests) (λ t. refl)
     (λ x. o.request == x.number) (has_number o) (written (writes.State o)) (state g.S.Store c.args.tx.now.conn.now) (state g.S.Store c.update.new.tx.conn.now)
     (set_to requests 8 1) (λ x. record x { state = o.state }) update_state (gets_state o) (λ t. refl)
-    (rw (c.params-to_sql.ensures, c.params-to_sql-2.ensures, c.in_ok-number.ensures, c.value.ensures.value, c.text.ensures) at (c.in-Ok.ensures.value clean inside))
+    (rw (c.params-to_sql.ensures, c.params-to_sql-2.ensures, c.in_ok-number.ensures.value, c.value.ensures.value, c.text.ensures) at (c.in-Ok.ensures.value clean inside))
