@@ -1,0 +1,22 @@
+-- What the twelve tables hold as rows of SQL, in the order in which the tables are made.
+use Rattle.std.specs.Prelude.{List, [], ◌∷◌, map}
+use Rattle.desk_sql.specs.Contents.{Contents}
+use Rattle.desk_history.specs.Tables.{Tables}
+use Rattle.desk_contents.specs.Values.{desk_values, person_values, call_values, request_values, request_certificate_values, request_component_values, vote_values, return_values, entry_values, digest_values, component_values}
+
+-- own: the rows of the twelve tables
+abbrev pub contents : Tables → Contents
+contents t =
+    (desk_values t.desk ∷ [])
+    ∷ map person_values t.people
+    ∷ map call_values t.calls
+    ∷ map request_values t.requests
+    ∷ map request_certificate_values t.request_certificates
+    ∷ map request_component_values t.request_components
+    ∷ map vote_values t.votes
+    ∷ map return_values t.returns
+    ∷ map entry_values t.listed
+    ∷ map digest_values t.revoked_digests
+    ∷ map digest_values t.revoked_certificates
+    ∷ map component_values t.components
+    ∷ []

@@ -1,0 +1,4 @@
+pub mod Values
+pub mod Contents
+pub mod Columns
+pub mod Worked

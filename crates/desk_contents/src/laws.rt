@@ -1,0 +1,18 @@
+//! Laws of the rows.
+ghost use Rattle.std.specs.List.{AllZip};
+ghost use Rattle.desk_history.specs.Tables.{Tables};
+ghost use Rattle.desk_statements.specs.Tables.{desk_tables};
+ghost use Rattle.desk_contents.specs.Columns.{HaveColumns};
+ghost use Rattle.desk_contents.specs.Contents.{contents};
+ghost use Rattle.desk_contents.specs.Worked as worked;
+
+/// Each row has a value for each column of its table, of the column's kind, and no NULL but where the row id stands
+/// for the key.
+pub fn rows_have_their_columns()
+    ensures { (t : Tables) → AllZip HaveColumns desk_tables (contents t) }
+{}
+
+/// The rows of a worked history are those that were written down by hand.
+pub fn worked_tables_are_rows()
+    ensures { worked.HoldsDay }
+{}

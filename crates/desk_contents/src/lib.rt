@@ -1,0 +1,6 @@
+//! What the twelve tables of a desk are as rows of SQL, as definitions, and laws of them.
+#![tactic(auto)]
+
+mod laws;
+
+pub use laws::{rows_have_their_columns, worked_tables_are_rows};

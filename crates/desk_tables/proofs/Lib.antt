@@ -1,0 +1,4 @@
+mod StepLemmas
+mod RowLemmas
+mod ChangeLemmas
+mod WritesLemmas

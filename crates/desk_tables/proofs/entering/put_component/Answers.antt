@@ -1,0 +1,19 @@
+use Rattle.std.proofs.Common.{refl}
+use Rattle.sqlite.specs.Held.{state}
+use Rattle.desk_statements.specs.Columns.{values_of}
+use Rattle.desk_statements.specs.Tables.{components}
+use Rattle.desk_statements.specs.declared.inserting.TheConstants.{INSERT_COMPONENT}
+use Rattle.desk_statements.proofs.InsertFacts.{insert_component}
+use Rattle.desk_history.specs.Writes.{written}
+use Rattle.desk_history.specs.declared.write.Write.TheVariants as writes
+use Rattle.desk_contents.specs.Values.{component_values}
+use Rattle.desk_tables.proofs.RowLemmas.{component_in}
+use Rattle.desk_tables.proofs.StepLemmas.{puts_in}
+use Rattle.desk_tables.proofs.entering.put_component.Goals as goal
+
+pub returns-in-Ok-clause-value : goal.returns-in-Ok-clause-value
+returns-in-Ok-clause-value g c clean inside =
+    let x = c.args.component.now in
+    puts_in 11 components INSERT_COMPONENT.now (values_of components) (component_values x) (component_values x) (written (writes.Component x))
+    (state g.S.Store c.args.tx.now.conn.now) (state g.S.Store c.insert.new.tx.conn.now) insert_component (component_in x) (λ t. refl)
+    (rw (c.params-to_sql.ensures, c.params-to_sql-2.ensures, c.as_str.ensures.value, c.value.ensures.value) at (c.in-Ok.ensures.value clean inside))

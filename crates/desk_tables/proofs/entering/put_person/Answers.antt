@@ -1,0 +1,19 @@
+use Rattle.std.proofs.Common.{refl}
+use Rattle.sqlite.specs.Held.{state}
+use Rattle.desk_statements.specs.Columns.{values_of}
+use Rattle.desk_statements.specs.Tables.{people}
+use Rattle.desk_statements.specs.declared.inserting.TheConstants.{INSERT_PERSON}
+use Rattle.desk_statements.proofs.InsertFacts.{insert_person}
+use Rattle.desk_history.specs.Writes.{written}
+use Rattle.desk_history.specs.declared.write.Write.TheVariants as writes
+use Rattle.desk_contents.specs.Values.{person_values}
+use Rattle.desk_tables.proofs.RowLemmas.{person_in}
+use Rattle.desk_tables.proofs.StepLemmas.{puts_in}
+use Rattle.desk_tables.proofs.entering.put_person.Goals as goal
+
+pub returns-in-Ok-clause-value : goal.returns-in-Ok-clause-value
+returns-in-Ok-clause-value g c clean inside =
+    let p = c.args.person.now in
+    puts_in 1 people INSERT_PERSON.now (values_of people) (person_values p) (person_values p) (written (writes.Person p))
+    (state g.S.Store c.args.tx.now.conn.now) (state g.S.Store c.insert.new.tx.conn.now) insert_person (person_in p) (λ t. refl)
+    (rw (c.params-to_sql.ensures, c.params-to_sql-2.ensures, c.params-to_sql-3.ensures, c.as_str.ensures.value, c.text.ensures, c.as_bytes.ensures.value) at (c.in-Ok.ensures.value clean inside))

@@ -1,0 +1,73 @@
+//! Rows that are changed.
+ghost use Rattle.std.specs.Prelude.{◌≡◌};
+ghost use Rattle.desk_history.specs.Writes.{written};
+ghost use Rattle.desk_history.specs.declared.write.Write.TheVariants as writes;
+ghost use Rattle.desk_tables.specs.Steps.{Keeps, Spares, Stays, Steps};
+
+use crate::WriteFault;
+use crate::stored::stored;
+use desk_sql::update;
+use desk_statements::{UPDATE_GENERATION, UPDATE_STAMP, UPDATE_STATE};
+use desk_texts::Outcome;
+use sbat::{Component, Stamp};
+use sqlite::{Alter, Transaction, params};
+
+/// Gives the request its state.
+pub(crate) fn set_state<S: Alter>(
+    tx: &mut Transaction<'_, S>,
+    outcome: &Outcome,
+) -> Result<(), WriteFault>
+    ensures same_reference { tx.new.conn.ghost_name ≡ tx.old.conn.ghost_name }
+    ensures value { Steps S.Store tx.old.conn.now tx.new.conn.now result
+        (written (writes.State outcome.now)) }
+    ensures inside { Stays S.Store tx.old.conn.now tx.new.conn.now result }
+    ensures kept { Keeps S.Store tx.old.conn.now tx.new.conn.now }
+    ensures survives { Spares S.Store tx.old.conn.now tx.new.conn.now }
+{
+    let number = stored(outcome.request.value())?;
+    match update(tx, UPDATE_STATE, params![&number, outcome.state.text()]) {
+        Ok(()) => Ok(()),
+        Err(error) => Err(WriteFault::from(error)),
+    }
+}
+
+/// Gives the row of the component's name its generation.
+pub(crate) fn set_generation<S: Alter>(
+    tx: &mut Transaction<'_, S>,
+    component: &Component,
+) -> Result<(), WriteFault>
+    ensures same_reference { tx.new.conn.ghost_name ≡ tx.old.conn.ghost_name }
+    ensures value { Steps S.Store tx.old.conn.now tx.new.conn.now result
+        (written (writes.Generation component.now)) }
+    ensures inside { Stays S.Store tx.old.conn.now tx.new.conn.now result }
+    ensures kept { Keeps S.Store tx.old.conn.now tx.new.conn.now }
+    ensures survives { Spares S.Store tx.old.conn.now tx.new.conn.now }
+{
+    match update(
+        tx,
+        UPDATE_GENERATION,
+        params![component.name.as_str(), component.generation.value()],
+    ) {
+        Ok(()) => Ok(()),
+        Err(error) => Err(WriteFault::from(error)),
+    }
+}
+
+/// Gives the level this stamp.
+pub(crate) fn set_stamp<S: Alter>(
+    tx: &mut Transaction<'_, S>,
+    stamp: Stamp,
+) -> Result<(), WriteFault>
+    ensures same_reference { tx.new.conn.ghost_name ≡ tx.old.conn.ghost_name }
+    ensures value { Steps S.Store tx.old.conn.now tx.new.conn.now result
+        (written (writes.Stamp stamp)) }
+    ensures inside { Stays S.Store tx.old.conn.now tx.new.conn.now result }
+    ensures kept { Keeps S.Store tx.old.conn.now tx.new.conn.now }
+    ensures survives { Spares S.Store tx.old.conn.now tx.new.conn.now }
+{
+    let number = stored(stamp.value())?;
+    match update(tx, UPDATE_STAMP, params![&number]) {
+        Ok(()) => Ok(()),
+        Err(error) => Err(WriteFault::from(error)),
+    }
+}

@@ -1,0 +1,17 @@
+//! Numbers as SQL holds them.
+ghost use Rattle.std.specs.Prelude.{◌≡◌, ◌<◌, IfOk, OnErr, pos};
+ghost use Rattle.sqlite.specs.declared.types.Value.TheVariants.{Int};
+
+use crate::WriteFault;
+use sqlite::types::Value;
+
+/// The number as an integer of SQL, which ends at 2^63 - 1: `Store` above it.
+pub(crate) fn stored(number: u64) -> Result<Value, WriteFault>
+    ensures value { IfOk result (λ value. value ≡ Int (pos number)) }
+    ensures only { OnErr result (9223372036854775807 < number) }
+{
+    match i64::try_from(number) {
+        Ok(number) => Ok(Value::Int(number)),
+        Err(_) => Err(WriteFault::Store),
+    }
+}
