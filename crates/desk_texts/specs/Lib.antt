@@ -10,5 +10,6 @@ pub mod Imports
 pub mod Items
 pub mod Raising
 pub mod ReplyTexts
+pub mod Shown
 pub mod Words
 pub mod Worked

@@ -1,0 +1,5 @@
+pub mod Members
+pub mod Replies
+pub mod Requests
+pub mod Values
+pub mod Verdicts

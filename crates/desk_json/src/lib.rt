@@ -1,0 +1,15 @@
+//! What the desk answers, in JSON (RFC 8259): replies, requests and verdicts, without a space between
+//! tokens, each object's keys in ascending order.
+#![tactic(auto)]
+
+mod in_json;
+mod laws;
+mod replies;
+mod requests;
+mod values;
+mod verdicts;
+
+pub use laws::each_verdict_is_said;
+pub use replies::reply_json;
+pub use requests::{request_json, requests_json};
+pub use verdicts::verdict_json;
