@@ -1,0 +1,4 @@
+pub mod CsvLemmas
+pub mod GatheringLemmas
+pub mod ReadingLemmas
+pub mod TbsLemmas

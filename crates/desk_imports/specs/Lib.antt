@@ -1,0 +1,7 @@
+pub mod Entries
+pub mod Faults
+pub mod FromCsv
+pub mod FromLists
+pub mod Gathering
+pub mod Items
+pub mod Records

@@ -1,0 +1,14 @@
+//! Imports of revocations: one command of a signature list, a CSV file or the text of an SBAT level.
+#![tactic(auto)]
+
+mod csv_rows;
+mod entries;
+mod fault;
+mod from_lists;
+mod gathering;
+mod item;
+mod laws;
+
+pub use fault::ImportFault;
+pub use from_lists::import_dbx;
+pub use laws::tbs_is_read;
