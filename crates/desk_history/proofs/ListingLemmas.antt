@@ -28,7 +28,7 @@ is_one-self : (kind : ListedKind) (digest : List ℕ) → is_one kind digest kin
 is_one-self kinds.Digest digest = bytes_eq-refl digest
 is_one-self kinds.Certificate digest = bytes_eq-refl digest
 
-same_entry : (a b : ListedKind) (d e : List ℕ) (x : Entry) → is_one a d b e ≡ true → is_entry a d x ≡ is_entry b e x
+pub same_entry : (a b : ListedKind) (d e : List ℕ) (x : Entry) → is_one a d b e ≡ true → is_entry a d x ≡ is_entry b e x
 same_entry a b d e x h =
     let both : (is_same_kind a b ≡ true) × (bytes_eq d e ≡ true) = and_parts (is_same_kind a b) (bytes_eq d e) h in
     let kind : a ≡ b = same_kind a b both.0 in

@@ -34,7 +34,7 @@ use Rattle.desk_history.proofs.EntryLemmas.{without_fewer}
 use Rattle.desk_history.proofs.RunLemmas.{Within, legal_parts}
 
 -- a measure of the tables that each write of a kind makes one more
-grows : (f : Tables → ℕ) (p : Write → Bool) → ((w : Write) (t : Tables) → f (written w t) ≡ one_if (p w) + f t) → (ws : List Write) (t : Tables) → f (all_written ws t) ≡ count_by p ws + f t
+pub grows : (f : Tables → ℕ) (p : Write → Bool) → ((w : Write) (t : Tables) → f (written w t) ≡ one_if (p w) + f t) → (ws : List Write) (t : Tables) → f (all_written ws t) ≡ count_by p ws + f t
 grows f p step [] t = omega arith
 grows f p step (w ∷ ws) t =
     let rest : f (all_written ws (written w t)) ≡ count_by p ws + f (written w t) = grows f p step ws (written w t) in
@@ -42,7 +42,7 @@ grows f p step (w ∷ ws) t =
     let more : count_by p (w ∷ ws) ≡ one_if (p w) + count_by p ws = count_more p w ws in
     omega arith
 
-people_step : (w : Write) (t : Tables) → length (written w t).people ≡ one_if (puts kept.People w) + length t.people
+pub people_step : (w : Write) (t : Tables) → length (written w t).people ≡ one_if (puts kept.People w) + length t.people
 people_step (writes.Person p) t = omega arith
 people_step (writes.Revoke l) t = by_kind l.kind
   where
@@ -51,7 +51,7 @@ people_step (writes.Revoke l) t = by_kind l.kind
     by_kind kinds.Certificate = omega arith
 people_step _ t = omega arith
 
-requests_step : (w : Write) (t : Tables) → length (written w t).requests ≡ one_if (puts kept.Requests w) + length t.requests
+pub requests_step : (w : Write) (t : Tables) → length (written w t).requests ≡ one_if (puts kept.Requests w) + length t.requests
 requests_step (writes.Request r) t = omega arith
 requests_step (writes.State o) t = omega (arith, length-map t.requests (set_state o.request o.state))
 requests_step (writes.Revoke l) t = by_kind l.kind
@@ -61,7 +61,7 @@ requests_step (writes.Revoke l) t = by_kind l.kind
     by_kind kinds.Certificate = omega arith
 requests_step _ t = omega arith
 
-digests_step : (w : Write) (t : Tables) → length (written w t).revoked_digests ≡ one_if (puts kept.RevokedDigests w) + length t.revoked_digests
+pub digests_step : (w : Write) (t : Tables) → length (written w t).revoked_digests ≡ one_if (puts kept.RevokedDigests w) + length t.revoked_digests
 digests_step (writes.Revoke l) t = by_kind l.kind
   where
     by_kind : (kind : ListedKind) → length (with_revoked kind l.digest t).revoked_digests ≡ one_if (is_same_kind kinds.Digest kind) + length t.revoked_digests
@@ -69,7 +69,7 @@ digests_step (writes.Revoke l) t = by_kind l.kind
     by_kind kinds.Certificate = omega arith
 digests_step _ t = omega arith
 
-certificates_step : (w : Write) (t : Tables) → length (written w t).revoked_certificates ≡ one_if (puts kept.RevokedCertificates w) + length t.revoked_certificates
+pub certificates_step : (w : Write) (t : Tables) → length (written w t).revoked_certificates ≡ one_if (puts kept.RevokedCertificates w) + length t.revoked_certificates
 certificates_step (writes.Revoke l) t = by_kind l.kind
   where
     by_kind : (kind : ListedKind) → length (with_revoked kind l.digest t).revoked_certificates ≡ one_if (is_same_kind kinds.Certificate kind) + length t.revoked_certificates
@@ -77,7 +77,7 @@ certificates_step (writes.Revoke l) t = by_kind l.kind
     by_kind kinds.Certificate = omega arith
 certificates_step _ t = omega arith
 
-components_step : (w : Write) (t : Tables) → length (written w t).components ≡ one_if (puts kept.Components w) + length t.components
+pub components_step : (w : Write) (t : Tables) → length (written w t).components ≡ one_if (puts kept.Components w) + length t.components
 components_step (writes.Component x) t = omega arith
 components_step (writes.Generation x) t = omega (arith, length-map t.components (set_generation x))
 components_step (writes.Revoke l) t = by_kind l.kind

@@ -12,4 +12,5 @@ mod view;
 pub use deciding::decide;
 pub use laws::whole_tables_show;
 pub use list_view::{ListView, verdict};
-pub use view::{Changes, Sizes, View};
+pub use room::count;
+pub use view::{Changes, Counted, Sizes, View};

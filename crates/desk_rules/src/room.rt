@@ -42,7 +42,7 @@ fn puts(table: Counted, write: &Write) -> bool
 }
 
 /// How many rows the writes put into the table.
-fn count(table: Counted, writes: &[Write]) -> usize
+pub fn count(table: Counted, writes: &[Write]) -> usize
     ensures { result ≡ count_by (spec.puts table) writes.now }
 {
     writes.iter().filter(|write| puts(table, write)).count()

@@ -1,0 +1,157 @@
+-- How sizes follow an accepted call.
+use Rattle.std.proofs.Common.{◌≡◌, ℕ, ◌+◌, ◌-◌, ◌<◌, ◌≤◌, Bool, true, ◌&&◌, List, ◌∷◌, length, Option, Some, None, refl, sym, ◌∙◌, ap, subst, arith}
+use Rattle.std.specs.Prelude.{IsTrue, count_by, is_some, nat_le, nat_lt}
+use Rattle.std.proofs.lemmas.Bool.{and_parts}
+use Rattle.std.proofs.lemmas.Bool.Decides.{nat_tests}
+use Rattle.std.proofs.lemmas.List.{length-map}
+use Rattle.desk_texts.specs.declared.command.Call.{Call}
+use Rattle.desk_texts.specs.declared.command.Command.{Command}
+use Rattle.desk_texts.specs.declared.command.Command.TheVariants as command
+use Rattle.desk_texts.specs.Callers.{caller_name}
+use Rattle.desk_texts.specs.declared.kind.ListedKind.TheVariants as kinds
+use Rattle.desk_history.specs.declared.write.Write.{Write}
+use Rattle.desk_history.specs.Calls.{History, distinct}
+use Rattle.desk_history.specs.Level.{generations, names}
+use Rattle.desk_history.specs.Limits.{most_calls, most_level_components, most_listed, most_people, most_requests, most_revoked_certificates, most_revoked_digests}
+use Rattle.desk_history.specs.Listing.{listed}
+use Rattle.desk_history.specs.People.{people}
+use Rattle.desk_history.specs.Replies.{minutes}
+use Rattle.desk_history.specs.Requests.{requests, state}
+use Rattle.desk_history.specs.Revocations.{revocations}
+use Rattle.desk_history.specs.Runs.{answer, is_accepted, is_legal}
+use Rattle.desk_history.specs.Tables.{Tables, level_row, request_row, tables}
+use Rattle.desk_history.specs.Writes.{all_written, written}
+use Rattle.desk_history.proofs.CountLemmas.{one_if}
+use Rattle.desk_history.proofs.RunLemmas.{IsNew, Within, accepted_parts, legal_parts}
+use Rattle.desk_rules.specs.declared.view.Counted.{Counted}
+use Rattle.desk_rules.specs.declared.view.Counted.TheVariants as counted
+use Rattle.desk_rules.specs.Room.{puts}
+use Rattle.desk_rules.specs.Shown.{rows_in}
+use Rattle.desk_rules.proofs.RoomLemmas.{certificates_step, components_step, digests_step, grows, minutes_length, people_step, requests_step}
+use Rattle.desk_sizes.specs.declared.kept.KeptSizes.{KeptSizes}
+use Rattle.desk_sizes.specs.Sizes.{AreRight, Follows, KnowsNoLess, known}
+use Rattle.desk_sizes.specs.Steps.{listed_after, more, one_less, sizes_after}
+use Rattle.desk_sizes.proofs.ListedLemmas.{Changed, listed_changes}
+
+-- a size after a command is that of a table with so many rows, and is known where the one before is
+record Goes (before after : Option ℕ) (rows : ℕ) : Type 0 where
+  right : (m : ℕ) → after ≡ Some m → m ≡ rows
+  kept : IsTrue (is_some before) → IsTrue (is_some after)
+
+-- rows were put in
+more_goes : (k : Option ℕ) (count rows later : ℕ) → ((n : ℕ) → k ≡ Some n → n ≡ rows) → count + rows ≡ later → later < 18446744073709551616 → Goes k (more k count) later
+more_goes None count rows later right grown small = record { right = λ m e. cc; kept = λ h. h }
+more_goes (Some n) count rows later right grown small =
+    let same : n ≡ rows = right n refl in
+    let sum : n + count ≡ later = omega (arith, same, grown) in
+    let fine : nat_lt (n + count) 18446744073709551616 ≡ true = grind (arith, nat_tests, sum, small) in
+    rw fine (record { right = λ m e. inner (n + count) m e ∙ sum; kept = λ h. h })
+  where
+    inner : (a b : ℕ) → Some a ≡ Some b → b ≡ a
+    inner a b e = cc
+
+-- one row was taken off
+less_goes : (k : Option ℕ) (rows later : ℕ) → ((n : ℕ) → k ≡ Some n → n ≡ rows) → rows ≡ later + 1 → Goes k (one_less k) later
+less_goes None rows later right fewer = record { right = λ m e. cc; kept = λ h. h }
+less_goes (Some n) rows later right fewer =
+    let same : n ≡ rows = right n refl in
+    let rest : n - 1 ≡ later = omega (arith, same, fewer) in
+    let fine : nat_lt 0 n ≡ true = grind (arith, nat_tests, same, fewer) in
+    rw fine (record { right = λ m e. inner (n - 1) m e ∙ rest; kept = λ h. h })
+  where
+    inner : (a b : ℕ) → Some a ≡ Some b → b ≡ a
+    inner a b e = cc
+
+-- the table stays
+same_goes : (k : Option ℕ) (rows later : ℕ) → ((n : ℕ) → k ≡ Some n → n ≡ rows) → later ≡ rows → Goes k k later
+same_goes k rows later right same = record { right = λ m e. right m e ∙ sym same; kept = λ h. h }
+
+-- the listed entries, by the command
+listed_goes : (k : Option ℕ) (given : Command) (rows later : ℕ) → ((n : ℕ) → k ≡ Some n → n ≡ rows) → Changed given rows later → later < 18446744073709551616 → Goes k (listed_after k given) later
+listed_goes k (command.ListCertificate c) rows later right changed small = more_goes k 1 rows later right (omega (arith, changed)) small
+listed_goes k (command.ListDigest d) rows later right changed small = more_goes k 1 rows later right (omega (arith, changed)) small
+listed_goes k (command.Unlist l) rows later right changed small = less_goes k rows later right changed
+listed_goes k (command.AddPerson _) rows later right changed small = same_goes k rows later right changed
+listed_goes k (command.Submit _) rows later right changed small = same_goes k rows later right changed
+listed_goes k (command.Review _) rows later right changed small = same_goes k rows later right changed
+listed_goes k (command.Withdraw _) rows later right changed small = same_goes k rows later right changed
+listed_goes k (command.Return _) rows later right changed small = same_goes k rows later right changed
+listed_goes k (command.RevokeDigest _) rows later right changed small = same_goes k rows later right changed
+listed_goes k (command.RevokeCertificate _) rows later right changed small = same_goes k rows later right changed
+listed_goes k (command.RaiseLevel _) rows later right changed small = same_goes k rows later right changed
+listed_goes k (command.ImportRevocations _) rows later right changed small = same_goes k rows later right changed
+
+-- the last of seven
+last : (a b d e f g h : Bool) → (a && b && d && e && f && g && h) ≡ true → h ≡ true
+last a b d e f g h all = (and_parts (a && b && d && e && f && g) h all).1
+
+below : (n most : ℕ) → nat_le n most ≡ true → most ≤ 1000000 → n < 18446744073709551616
+below n most h few = grind (arith, nat_tests, h, few)
+
+module _ (owner : List ℕ) (cs : History) (c : Call) (ws : List Write) (k : KeptSizes) (legal : is_legal (c ∷ cs) ≡ true)
+    (made : all_written ws (tables owner cs) ≡ tables owner (c ∷ cs)) (right : AreRight k (tables owner cs)) where
+  both : (is_accepted (answer cs c) ≡ true) × (is_legal cs ≡ true)
+  both = and_parts (is_accepted (answer cs c)) (is_legal cs) legal
+
+  new : IsNew cs c
+  new = accepted_parts cs c both.0
+
+  within : Within (c ∷ cs)
+  within = legal_parts (c ∷ cs) legal
+
+  counts : (f : Tables → ℕ) (p : Write → Bool) → ((w : Write) (t : Tables) → f (written w t) ≡ one_if (p w) + f t) → count_by p ws + f (tables owner cs) ≡ f (tables owner (c ∷ cs))
+  counts f p step = sym (grows f p step ws (tables owner cs)) ∙ ap f made
+
+  goes : (table : Counted) → Goes (known k table) (known (sizes_after k c.command ws) table) (rows_in (tables owner (c ∷ cs)) table)
+  goes counted.People =
+      more_goes k.people (count_by (puts counted.People) ws) (length (people cs)) (length (people (c ∷ cs))) (right.sizes counted.People)
+      (counts (λ t. length t.people) (puts counted.People) people_step) (below (length (people (c ∷ cs))) most_people within.people (omega arith))
+  goes counted.Requests = requests_go
+    where
+      small : rows_in (tables owner (c ∷ cs)) counted.Requests < 18446744073709551616
+      small = rw (length-map (requests (c ∷ cs)) (λ r. request_row (state (c ∷ cs) r.number) r)) (below (length (requests (c ∷ cs))) most_requests within.requests (omega arith))
+
+      requests_go : Goes k.requests (more k.requests (count_by (puts counted.Requests) ws)) (rows_in (tables owner (c ∷ cs)) counted.Requests)
+      requests_go =
+          more_goes k.requests (count_by (puts counted.Requests) ws) (rows_in (tables owner cs) counted.Requests) (rows_in (tables owner (c ∷ cs)) counted.Requests)
+          (right.sizes counted.Requests) (counts (λ t. length t.requests) (puts counted.Requests) requests_step) small
+  goes counted.Listed =
+      listed_goes k.listed c.command (length (listed cs)) (length (listed (c ∷ cs))) (right.sizes counted.Listed)
+      (listed_changes owner cs both.1 (caller_name c.caller) c.command new.own) (below (length (listed (c ∷ cs))) most_listed within.listed (omega arith))
+  goes counted.RevokedDigests =
+      more_goes k.revoked_digests (count_by (puts counted.RevokedDigests) ws) (length (distinct (revocations kinds.Digest cs))) (length (distinct (revocations kinds.Digest (c ∷ cs))))
+      (right.sizes counted.RevokedDigests) (counts (λ t. length t.revoked_digests) (puts counted.RevokedDigests) digests_step)
+      (below (length (distinct (revocations kinds.Digest (c ∷ cs)))) most_revoked_digests within.digests (omega arith))
+  goes counted.RevokedCertificates =
+      more_goes k.revoked_certificates (count_by (puts counted.RevokedCertificates) ws) (length (distinct (revocations kinds.Certificate cs))) (length (distinct (revocations kinds.Certificate (c ∷ cs))))
+      (right.sizes counted.RevokedCertificates) (counts (λ t. length t.revoked_certificates) (puts counted.RevokedCertificates) certificates_step)
+      (below (length (distinct (revocations kinds.Certificate (c ∷ cs)))) most_revoked_certificates within.certificates (omega arith))
+  goes counted.Components = components_go
+    where
+      small : rows_in (tables owner (c ∷ cs)) counted.Components < 18446744073709551616
+      small = rw (length-map (names (generations (c ∷ cs))) (level_row (generations (c ∷ cs)))) (below (length (names (generations (c ∷ cs)))) most_level_components within.components (omega arith))
+
+      components_go : Goes k.components (more k.components (count_by (puts counted.Components) ws)) (rows_in (tables owner (c ∷ cs)) counted.Components)
+      components_go =
+          more_goes k.components (count_by (puts counted.Components) ws) (rows_in (tables owner cs) counted.Components) (rows_in (tables owner (c ∷ cs)) counted.Components)
+          (right.sizes counted.Components) (counts (λ t. length t.components) (puts counted.Components) components_step) small
+
+  calls_go : Goes k.calls (more k.calls 1) (length (minutes (c ∷ cs)))
+  calls_go =
+      more_goes k.calls 1 (length (minutes cs)) (length (minutes (c ∷ cs))) right.calls (omega arith)
+      (rw (minutes_length (c ∷ cs)) (below (length (c ∷ cs)) most_calls few (omega arith)))
+    where
+      few : nat_le (length (c ∷ cs)) most_calls ≡ true
+      few = last (nat_le (length (people (c ∷ cs))) most_people) (nat_le (length (requests (c ∷ cs))) most_requests) (nat_le (length (listed (c ∷ cs))) most_listed)
+          (nat_le (length (distinct (revocations kinds.Digest (c ∷ cs)))) most_revoked_digests) (nat_le (length (distinct (revocations kinds.Certificate (c ∷ cs)))) most_revoked_certificates)
+          (nat_le (length (names (generations (c ∷ cs)))) most_level_components) (nat_le (length (c ∷ cs)) most_calls) new.within
+
+  pub follows_one : AreRight (sizes_after k c.command ws) (tables owner (c ∷ cs)) × KnowsNoLess k (sizes_after k c.command ws)
+  follows_one = (
+    record { calls = calls_go.right; sizes = λ table. (goes table).right },
+    record { calls = calls_go.kept; sizes = λ table. (goes table).kept },
+  )
+
+pub follows : (k : KeptSizes) (given : Command) (ws : List Write) → Follows k given ws (sizes_after k given ws)
+follows k given ws owner cs c legal same made right =
+    subst (λ g. AreRight (sizes_after k g ws) (tables owner (c ∷ cs)) × KnowsNoLess k (sizes_after k g ws)) same (follows_one owner cs c ws k legal made right)
