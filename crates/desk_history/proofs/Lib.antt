@@ -1,12 +1,17 @@
+pub mod CallerLemmas
 pub mod CountLemmas
 pub mod EntryLemmas
+pub mod FormedLemmas
 pub mod KeyLemmas
+pub mod LevelLemmas
 pub mod LifeLemmas
 pub mod ListLemmas
 pub mod ListingLemmas
 pub mod RefusalLemmas
 pub mod RequestLemmas
+pub mod RequestRowLemmas
 pub mod RowLemmas
 pub mod RunLemmas
+pub mod SeriesLemmas
 pub mod VerdictLemmas
 pub mod WriteLemmas

@@ -20,7 +20,7 @@ use Rattle.desk_history.proofs.ListLemmas.{bytes_eq-refl, same_text}
 use Rattle.desk_history.proofs.RunLemmas.{accepted_parts, by_next, goes_on-trans, next_goes_on, next_legal}
 
 -- what holds before an event and is kept by its call holds after the event
-turned : (P : History → Type 0) (cs : History) (c : Call) (fate : Fate) (later : History) → P cs → P (next cs c) → MayTurn cs c fate later → P later
+pub turned : (P : History → Type 0) (cs : History) (c : Call) (fate : Fate) (later : History) → P cs → P (next cs c) → MayTurn cs c fate later → P later
 turned P cs c (Answered reply) later same more t = subst P (sym t.1) more
 turned P cs c Refused later same more t = subst P (sym t) same
 turned P cs c Stopped later same more (inl e) = subst P (sym e) same
@@ -32,10 +32,10 @@ left_kept P each cs [] end h left = subst P (sym left) h
 left_kept P each cs (e ∷ events) end h left =
     left_kept P each left.0 events end (turned P cs e.call e.fate left.0 h (each cs e.call h) left.1) left.2
 
-left_legal : (cs : History) (events : List Event) (end : History) → is_legal cs ≡ true → MayLeave cs events end → is_legal end ≡ true
+pub left_legal : (cs : History) (events : List Event) (end : History) → is_legal cs ≡ true → MayLeave cs events end → is_legal end ≡ true
 left_legal cs events end h left = left_kept (λ h. is_legal h ≡ true) next_legal cs events end h left
 
-left_goes_on : (cs : History) (events : List Event) (end : History) → MayLeave cs events end → GoesOnFrom cs end
+pub left_goes_on : (cs : History) (events : List Event) (end : History) → MayLeave cs events end → GoesOnFrom cs end
 left_goes_on cs events end left =
     left_kept (GoesOnFrom cs) (λ h c g. goes_on-trans cs h (next h c) g (next_goes_on h c)) cs events end ([], refl) left
 
@@ -65,14 +65,14 @@ answers_have_histories lives cs ends c reply earlier later is =
 no_reply : {reply : Reply} {A : Type 0} → None ≡ Some reply → A
 no_reply h = cc
 
-record Told (m : Option Minute) (text : List ℕ) (given : Reply) : Type 0 where
-  found_minute : Minute
-  is_found : m ≡ Some found_minute
-  has_text : found_minute.text ≡ text
-  has_reply : found_minute.reply ≡ given
+pub record Told (m : Option Minute) (text : List ℕ) (given : Reply) : Type 0 where
+  pub found_minute : Minute
+  pub is_found : m ≡ Some found_minute
+  pub has_text : found_minute.text ≡ text
+  pub has_reply : found_minute.reply ≡ given
 
 -- an Ok that isn't an acceptance comes from the minutes
-told : (known : Bool) (m : Option Minute) (text : List ℕ) (refused : Option Refusal) (new given : Reply) →
+pub told : (known : Bool) (m : Option Minute) (text : List ℕ) (refused : Option Refusal) (new given : Reply) →
     is_accepted (if not known then IsRefused refusals.UnknownCaller else answer_known m text refused new) ≡ false →
     reply_in (if not known then IsRefused refusals.UnknownCaller else answer_known m text refused new) ≡ Some given → Told m text given
 told false m text refused new given a h = no_reply h
@@ -85,7 +85,7 @@ told true (Some m) text refused new given a h =
     ] refl h
 
 -- an acceptance gives the new reply
-accepted_reply : (known : Bool) (m : Option Minute) (text : List ℕ) (refused : Option Refusal) (new given : Reply) →
+pub accepted_reply : (known : Bool) (m : Option Minute) (text : List ℕ) (refused : Option Refusal) (new given : Reply) →
     is_accepted (if not known then IsRefused refusals.UnknownCaller else answer_known m text refused new) ≡ true →
     reply_in (if not known then IsRefused refusals.UnknownCaller else answer_known m text refused new) ≡ Some given → new ≡ given
 accepted_reply false m text refused new given a h = no_reply h

@@ -1,6 +1,8 @@
 pub mod Calls
 pub mod DecisionRefusals
 pub mod Forces
+pub mod FormLaws
+pub mod Formed
 pub mod Laws
 pub mod Level
 pub mod Limits

@@ -4,6 +4,7 @@
 
 mod answer;
 mod finding;
+mod form_laws;
 mod laws;
 mod limits;
 mod rows;
@@ -15,6 +16,10 @@ mod write;
 
 pub use answer::Answer;
 pub use finding::{Below, Verdict};
+pub use form_laws::{
+    all_rows_stand_once, answered_calls_stand, callers_are_told, level_has_no_sbat,
+    minutes_are_readable, minutes_differ, series_leave_histories,
+};
 pub use laws::{
     allows_exactly, answers_are_kept, answers_have_histories, keys_stand_once,
     legal_histories_are_runs, listed_rows_are_listed, rows_stand_once, runs_go_on,

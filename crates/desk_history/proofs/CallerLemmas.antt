@@ -1,0 +1,104 @@
+-- Nobody calls by the name `console` but the console.
+use Rattle.std.proofs.Common.{◌≡◌, ℕ, Bool, true, false, not, ◌&&◌, ◌||◌, List, [], ◌∷◌, Option, Some, None, refl, sym, ◌∙◌, ap}
+use Rattle.std.specs.Prelude.{if◌then◌else◌, bytes_eq, codes, find, is_some}
+use Rattle.std.specs.List.{list_any, list_all}
+use Rattle.std.proofs.lemmas.Bool.{and_parts}
+use Rattle.desk_bytes.specs.declared.refusal.Refusal.TheVariants as refusals
+use Rattle.desk_texts.specs.declared.caller.Caller.{Caller}
+use Rattle.desk_texts.specs.declared.caller.Caller.TheVariants.{Console, Person as Named}
+use Rattle.desk_texts.specs.declared.command.Call.{Call}
+use Rattle.desk_texts.specs.declared.command.Command.{Command}
+use Rattle.desk_texts.specs.declared.command.Command.TheVariants as command
+use Rattle.desk_texts.specs.declared.command.Person.{Person}
+use Rattle.desk_texts.specs.Callers.{caller_name, is_told_by_name}
+use Rattle.desk_texts.specs.CommandTexts.{text_of}
+use Rattle.desk_texts.proofs.FormLemmas.{joined}
+use Rattle.desk_history.specs.Calls.{History}
+use Rattle.desk_history.specs.FormLaws.{CallersAreTold}
+use Rattle.desk_history.specs.People.{has_name, has_token, people}
+use Rattle.desk_history.specs.Refusals.{is_known, is_one_of, own_refusal, refusal}
+use Rattle.desk_history.specs.Replies.{reply}
+use Rattle.desk_history.specs.Runs.{answer, answer_known, earlier, is_accepted, is_legal}
+use Rattle.desk_history.specs.declared.answer.Answer.{Answer}
+use Rattle.desk_history.specs.declared.answer.Answer.TheVariants.{Refused}
+use Rattle.desk_history.proofs.ListLemmas.{bytes_eq-refl, none_left, none_right, or_none, same_text}
+use Rattle.desk_history.proofs.RefusalLemmas.{unrefused}
+use Rattle.desk_history.proofs.RunLemmas.{IsNew, accepted_parts}
+
+abbrev console : List ℕ
+console = codes "console"
+
+flipped : (a b : List ℕ) → bytes_eq a b ≡ false → bytes_eq b a ≡ false
+flipped a b h =
+    elim (bytes_eq b a) as (λ t. bytes_eq b a ≡ t → t ≡ false) [
+      | true ↦ λ e. sym (bytes_eq-refl a) ∙ sym (ap (bytes_eq a) (same_text b a e)) ∙ h
+      | false ↦ λ e. refl
+    ] refl
+
+none_found : {X : Type 0} (p : X → Bool) (xs : List X) → list_any p xs ≡ false → find p xs ≡ None
+none_found p [] h = refl
+none_found p (x ∷ xs) h = rw (none_left (p x) (list_any p xs) h) (none_found p xs (none_right (p x) (list_any p xs) h))
+
+-- nobody is added under the name
+unnamed : (cs : History) (old : Call) (name : List ℕ) (given : Command) → own_refusal cs name given ≡ None → list_any (has_name console) (people cs) ≡ false
+    → list_any (has_name console) (people (record old { command = given } ∷ cs)) ≡ false
+unnamed cs old name (command.AddPerson p) own h =
+    let taken : (bytes_eq p.name console || list_any (has_name p.name) (people cs) || list_any (has_token p.token) (people cs)) ≡ false =
+    unrefused (bytes_eq p.name console || list_any (has_name p.name) (people cs) || list_any (has_token p.token) (people cs)) refusals.NameTaken own in
+    let named : (bytes_eq p.name console || list_any (has_name p.name) (people cs)) ≡ false =
+    none_left (bytes_eq p.name console || list_any (has_name p.name) (people cs)) (list_any (has_token p.token) (people cs)) taken in
+    let other : bytes_eq p.name console ≡ false = none_left (bytes_eq p.name console) (list_any (has_name p.name) (people cs)) named in
+    or_none (has_name console p) (list_any (has_name console) (people cs)) (flipped p.name console other) h
+unnamed cs old name _ own h = h
+
+nobody : (cs : History) → is_legal cs ≡ true → list_any (has_name console) (people cs) ≡ false
+nobody [] h = refl
+nobody (c ∷ cs) h =
+    let both : (is_accepted (answer cs c) ≡ true) × (is_legal cs ≡ true) = and_parts (is_accepted (answer cs c)) (is_legal cs) h in
+    let new : IsNew cs c = accepted_parts cs c both.0 in
+    unnamed cs c (caller_name c.caller) c.command new.own (nobody cs both.1)
+
+no_parts : {A : Type 0} → false ≡ true → A
+no_parts e = cc
+
+known_by : (known : Bool) (told : Answer) → is_accepted (if not known then Refused refusals.UnknownCaller else told) ≡ true → known ≡ true
+known_by true told h = refl
+known_by false told h = no_parts h
+
+accepted_known : (cs : History) (c : Call) → is_accepted (answer cs c) ≡ true → is_known cs c.caller ≡ true
+accepted_known cs c h = known_by (is_known cs c.caller) (answer_known (earlier cs c) (text_of c.command) (refusal cs c) (reply cs c)) h
+
+told_known : (ps : List Person) (caller : Caller) → list_any (has_name console) ps ≡ false → is_one_of ps caller ≡ true → is_told_by_name caller ≡ true
+told_known ps Console h k = refl
+told_known ps (Named name) h k =
+    elim (bytes_eq name console) as (λ b. bytes_eq name console ≡ b → not b ≡ true) [
+      | true ↦ λ e. sym (ap is_some (ap (λ n. find (has_name n) ps) (same_text name console e) ∙ none_found (has_name console) ps h)) ∙ k
+      | false ↦ λ e. refl
+    ] refl
+
+-- whoever is known to a legal history is told by the name
+pub known_told : (cs : History) (caller : Caller) → is_legal cs ≡ true → is_known cs caller ≡ true → is_told_by_name caller ≡ true
+known_told cs caller h k = told_known (people cs) caller (nobody cs h) k
+
+-- and so is whoever gave a call of it
+pub newest_told : (cs : History) (c : Call) → is_legal (c ∷ cs) ≡ true → is_told_by_name c.caller ≡ true
+newest_told cs c h =
+    let both : (is_accepted (answer cs c) ≡ true) × (is_legal cs ≡ true) = and_parts (is_accepted (answer cs c)) (is_legal cs) h in
+    known_told cs c.caller both.1 (accepted_known cs c both.0)
+
+pub callers_are_told : CallersAreTold
+callers_are_told [] h = refl
+callers_are_told (c ∷ cs) h =
+    joined (is_told_by_name c.caller) (list_all (λ a. is_told_by_name a.caller) cs) (newest_told cs c h)
+    (callers_are_told cs (and_parts (is_accepted (answer cs c)) (is_legal cs) h).1)
+
+unequal : (b : Bool) → not b ≡ true → b ≡ true → {A : Type 0} → A
+unequal true h k = no_parts h
+unequal false h k = no_parts k
+
+-- callers of one name who are told by it are one
+pub same_caller : (a b : Caller) → is_told_by_name a ≡ true → is_told_by_name b ≡ true → caller_name a ≡ caller_name b → a ≡ b
+same_caller Console Console h k e = refl
+same_caller Console (Named n) h k e = unequal (bytes_eq n console) k (ap (bytes_eq n) e ∙ bytes_eq-refl n)
+same_caller (Named n) Console h k e = unequal (bytes_eq n console) h (ap (bytes_eq n) (sym e) ∙ bytes_eq-refl n)
+same_caller (Named n) (Named m) h k e = ap Named e

@@ -1,0 +1,114 @@
+-- Minutes of calls in their forms.
+use Rattle.std.proofs.Common.{◌≡◌, ℕ, ◌+◌, ◌<◌, ◌≤◌, ◌-◌, ◌^◌, leb, Bool, true, false, not, ◌&&◌, cond, All, List, [], ◌∷◌, length, map, filter, refl, sym, ◌∙◌, ap, arith}
+use Rattle.std.specs.Prelude.{if◌then◌else◌, nat_le, reverse}
+use Rattle.std.specs.List.{Contains}
+use Rattle.std.proofs.lemmas.Bool.{and_parts}
+use Rattle.std.proofs.lemmas.Bool.Decides.{nat_tests}
+use Rattle.std.proofs.lemmas.List.{length-map, length-reverse}
+use Rattle.std.proofs.lemmas.List.Elements.{All-cons, All-contains, All-head, All-nil, All-tail}
+use Rattle.sbat.specs.declared.component.Component.{Component}
+use Rattle.desk_texts.specs.declared.command.Call.{Call}
+use Rattle.desk_texts.specs.declared.command.Command.{Command}
+use Rattle.desk_texts.specs.declared.command.Command.TheVariants as command
+use Rattle.desk_texts.specs.declared.kind.ListedKind.{ListedKind}
+use Rattle.desk_texts.specs.declared.kind.ListedKind.TheVariants as kinds
+use Rattle.desk_texts.specs.Commands.{IsCommand, IsCount, IsReply}
+use Rattle.desk_texts.specs.Formed.{IsCall, IsWithin}
+use Rattle.desk_texts.specs.Forms.{is_request_number}
+use Rattle.desk_texts.proofs.FormLemmas.{joined}
+use Rattle.desk_texts.proofs.ReplyLemmas.{reply_text_of-same}
+use Rattle.desk_history.specs.Calls.{History, distinct, is_among}
+use Rattle.desk_history.specs.Formed.{IsHistory, IsReadable}
+use Rattle.desk_history.specs.FormLaws.{MinutesAreReadable, MinutesDiffer}
+use Rattle.desk_history.specs.Level.{names, raises}
+use Rattle.desk_history.specs.Replies.{gained, minute, minutes, raised_count, reply, reply_to}
+use Rattle.desk_history.specs.Revocations.{revocations}
+use Rattle.desk_history.specs.Runs.{answer, is_accepted, is_legal}
+use Rattle.desk_history.specs.declared.rows.Minute.{Minute}
+use Rattle.desk_history.proofs.CallerLemmas.{newest_told, same_caller}
+use Rattle.desk_history.proofs.RunLemmas.{Within, legal_parts, legal_room}
+
+-- a desk's history before its newest call
+pub history_rest : (cs : History) (c : Call) → IsHistory (c ∷ cs) → IsHistory cs
+history_rest cs c h = record {
+  legal = (and_parts (is_accepted (answer cs c)) (is_legal cs) h.legal).1;
+  formed = All-tail IsCall c cs h.formed;
+}
+
+-- ---- numbers of an import's reply
+
+distinct_fewer : (ts : List (List ℕ)) → length (distinct ts) ≤ length ts
+distinct_fewer [] = omega arith
+distinct_fewer (t ∷ ts) =
+    let rest : length (distinct ts) ≤ length ts = distinct_fewer ts in
+    elim (is_among ts t) as (λ b. length (if b then distinct ts else t ∷ distinct ts) ≤ length (t ∷ ts)) [ true ↦ omega arith | false ↦ omega arith ]
+
+filter_fewer : {X : Type 0} (p : X → Bool) (xs : List X) → length (filter p xs) ≤ length xs
+filter_fewer p [] = omega arith
+filter_fewer p (x ∷ xs) =
+    let rest : length (filter p xs) ≤ length xs = filter_fewer p xs in
+    elim (p x) as (λ b. length (cond b (x ∷ filter p xs) (filter p xs)) ≤ length (x ∷ xs)) [ true ↦ omega arith | false ↦ omega arith ]
+
+raised_fewer : (cs : History) (xs : List Component) → length (names (filter (raises cs) (reverse xs))) ≤ length xs
+raised_fewer cs xs =
+    let kept = filter (raises cs) (reverse xs) in
+    let once : length (names kept) ≤ length (map (λ (x : Component). x.name) kept) = distinct_fewer (map (λ (x : Component). x.name) kept) in
+    let all : length (map (λ (x : Component). x.name) kept) ≡ length kept = length-map kept (λ (x : Component). x.name) in
+    let fewer : length kept ≤ length (reverse xs) = filter_fewer (raises cs) (reverse xs) in
+    let same : length (reverse xs) ≡ length xs = length-reverse xs in
+    omega arith
+
+gained_few : (m : ℕ) (kind : ListedKind) (cs : History) (c : Call) → m < 1000000 → nat_le (length (distinct (revocations kind (c ∷ cs)))) m ≡ true → IsCount (gained kind cs c)
+gained_few m kind cs c small h =
+    let most : length (distinct (revocations kind (c ∷ cs))) ≤ m = grind (arith, nat_tests, h) in
+    omega arith
+
+number_formed : (n : ℕ) → n ≤ 100000 → is_request_number (n + 1) ≡ true
+number_formed n h =
+    let low : leb 1 (n + 1) ≡ true = grind (arith, nat_tests) in
+    let high : leb (n + 1) 999999 ≡ true = grind (arith, nat_tests) in
+    joined (leb 1 (n + 1)) (leb (n + 1) 999999) low high
+
+-- the reply to a command in its forms, in a call with which the desk keeps within its limits
+reply_formed : (cs : History) (c : Call) (given : Command) → IsCommand given → IsWithin given → is_legal cs ≡ true → Within (c ∷ cs) → IsReply (reply_to cs c given)
+reply_formed cs c (command.AddPerson p) f w h within = f.0
+reply_formed cs c (command.Submit s) f w h within = number_formed _ (legal_room cs h)
+reply_formed cs c (command.Review b) f w h within = f.0
+reply_formed cs c (command.Withdraw number) f w h within = f
+reply_formed cs c (command.Return g) f w h within = f.0
+reply_formed cs c (command.ListCertificate certificate) f w h within = tt
+reply_formed cs c (command.ListDigest digest) f w h within = tt
+reply_formed cs c (command.Unlist listing) f w h within = tt
+reply_formed cs c (command.RevokeDigest digest) f w h within = tt
+reply_formed cs c (command.RevokeCertificate digest) f w h within = tt
+reply_formed cs c (command.RaiseLevel raise) f w h within = tt
+reply_formed cs c (command.ImportRevocations i) f w h within =
+    let entries = w.entries in
+    let raised = raised_fewer cs i.components in
+    let few : raised_count cs (command.ImportRevocations i) < 2 ^ 64 = omega arith in
+    let over : i.passed < 2 ^ 64 = omega arith in
+    (gained_few 100000 kinds.Digest cs c (omega arith) within.digests, gained_few 10000 kinds.Certificate cs c (omega arith) within.certificates, few, over)
+
+minute_readable : (cs : History) (c : Call) → IsHistory (c ∷ cs) → IsReadable (minute cs c)
+minute_readable cs c h =
+    let newest = All-head IsCall c cs h.formed in
+    record {
+      caller = newest.caller;
+      told = newest_told cs c h.legal;
+      key = newest.key;
+      reply = reply_formed cs c c.command newest.forms newest.limits (history_rest cs c h).legal (legal_parts (c ∷ cs) h.legal);
+    }
+
+pub minutes_are_readable : MinutesAreReadable
+minutes_are_readable [] h = All-nil IsReadable
+minutes_are_readable (c ∷ cs) h = All-cons IsReadable (minute cs c) (minutes cs) (minute_readable cs c h) (minutes_are_readable cs (history_rest cs c h))
+
+pub minutes_differ : MinutesDiffer
+minutes_differ cs h a b in_a in_b =
+    let all = minutes_are_readable cs h in
+    let first = All-contains IsReadable (minutes cs) a all in_a in
+    let second = All-contains IsReadable (minutes cs) b all in_b in
+    record {
+      callers = same_caller a.caller b.caller first.told second.told;
+      replies = reply_text_of-same a.reply b.reply first.reply second.reply;
+    }

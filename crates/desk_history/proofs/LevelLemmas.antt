@@ -1,0 +1,97 @@
+-- The level's table has no row of `sbat`.
+use Rattle.std.proofs.Common.{◌≡◌, ℕ, Bool, true, false, not, ◌&&◌, ◌||◌, All, List, [], ◌∷◌, ◌++◌, map, Option, Some, None, refl, sym, ◌∙◌, ap}
+use Rattle.std.specs.Prelude.{if◌then◌else◌, bytes_eq, nat_lt, reverse}
+use Rattle.std.specs.List.{list_all}
+use Rattle.std.proofs.lemmas.Bool.{and_parts}
+use Rattle.std.proofs.lemmas.List.{reverse-append}
+use Rattle.std.proofs.lemmas.List.Elements.{All-head}
+use Rattle.std.proofs.lemmas.List.Folds.{list_all-append}
+use Rattle.sbat.specs.Fields.{sbat}
+use Rattle.sbat.specs.declared.component.Component.{Component}
+use Rattle.desk_bytes.specs.declared.refusal.Refusal.{Refusal}
+use Rattle.desk_bytes.specs.declared.refusal.Refusal.TheVariants as refusals
+use Rattle.desk_texts.specs.declared.command.Call.{Call}
+use Rattle.desk_texts.specs.declared.command.Command.{Command}
+use Rattle.desk_texts.specs.declared.command.Command.TheVariants as command
+use Rattle.desk_texts.specs.Formed.{IsCall, IsWithin}
+use Rattle.desk_texts.specs.Raising.{names_no_sbat}
+use Rattle.desk_texts.specs.Callers.{caller_name}
+use Rattle.desk_texts.proofs.FormLemmas.{both, joined}
+use Rattle.desk_history.specs.Calls.{History, distinct, is_among}
+use Rattle.desk_history.specs.Formed.{IsHistory}
+use Rattle.desk_history.specs.FormLaws.{LevelHasNoSbat}
+use Rattle.desk_history.specs.Forces.{into_force}
+use Rattle.desk_history.specs.Level.{generations, greatest, is_above, is_sbat, names, stamp}
+use Rattle.desk_history.specs.Refusals.{own_refusal, refuse_if}
+use Rattle.desk_history.specs.Runs.{answer, is_accepted, is_legal}
+use Rattle.desk_history.specs.Tables.{level_row, level_rows}
+use Rattle.desk_history.proofs.FormedLemmas.{history_rest}
+use Rattle.desk_history.proofs.ListLemmas.{none_left}
+use Rattle.desk_history.proofs.RefusalLemmas.{no_refusal}
+use Rattle.desk_history.proofs.RunLemmas.{IsNew, accepted_parts}
+
+-- the name isn't `sbat`
+abbrev is_other : List ℕ → Bool
+is_other name = not (bytes_eq name sbat)
+
+others_reversed : (xs : List Component) → names_no_sbat xs ≡ true → names_no_sbat (reverse xs) ≡ true
+others_reversed [] h = refl
+others_reversed (x ∷ xs) h =
+    let parts = both (is_other x.name) (names_no_sbat xs) h in
+    ap names_no_sbat (reverse-append (x ∷ []) xs) ∙ (list_all-append (λ (c : Component). is_other c.name) (reverse xs) (x ∷ [])
+    ∙ joined (names_no_sbat (reverse xs)) (names_no_sbat (x ∷ [])) (others_reversed xs parts.1) (joined (is_other x.name) true parts.0 refl))
+
+raised_other : (same lower : Bool) (rest : Option Refusal) → (if same || lower then Some refusals.NotHigher else rest) ≡ None → not same ≡ true
+raised_other false lower rest h = refl
+raised_other true lower rest h = no_refusal h
+
+-- what an accepted call puts into force
+put_other : (cs : History) (name : List ℕ) (given : Command) → IsWithin given → own_refusal cs name given ≡ None → names_no_sbat (into_force cs given).components ≡ true
+put_other cs name (command.RaiseLevel r) w own =
+    joined (is_other r.component.name) true
+    (raised_other (is_sbat r.component.name) (not (is_above r.component.generation (greatest (generations cs) r.component.name)))
+    (refuse_if (not (nat_lt (stamp cs) r.stamp)) refusals.StampNotLater) own)
+    refl
+put_other cs name (command.ImportRevocations i) w own = others_reversed i.components w.no_sbat
+put_other cs name (command.AddPerson _) w own = refl
+put_other cs name (command.Submit _) w own = refl
+put_other cs name (command.Review _) w own = refl
+put_other cs name (command.Withdraw _) w own = refl
+put_other cs name (command.Return _) w own = refl
+put_other cs name (command.ListCertificate _) w own = refl
+put_other cs name (command.ListDigest _) w own = refl
+put_other cs name (command.Unlist _) w own = refl
+put_other cs name (command.RevokeDigest _) w own = refl
+put_other cs name (command.RevokeCertificate _) w own = refl
+
+others_named : (cs : History) → IsHistory cs → names_no_sbat (generations cs) ≡ true
+others_named [] h = refl
+others_named (c ∷ cs) h =
+    let accepted : (is_accepted (answer cs c) ≡ true) × (is_legal cs ≡ true) = and_parts (is_accepted (answer cs c)) (is_legal cs) h.legal in
+    let new : IsNew cs c = accepted_parts cs c accepted.0 in
+    let here = put_other cs (caller_name c.caller) c.command (All-head IsCall c cs h.formed).limits new.own in
+    list_all-append (λ (x : Component). is_other x.name) (into_force cs c.command).components (generations cs)
+    ∙ joined (names_no_sbat (into_force cs c.command).components) (names_no_sbat (generations cs)) here (others_named cs (history_rest cs c h))
+
+others_once : (ts : List (List ℕ)) → list_all is_other ts ≡ true → list_all is_other (distinct ts) ≡ true
+others_once [] h = refl
+others_once (t ∷ ts) h =
+    let parts = both (is_other t) (list_all is_other ts) h in
+    let rest = others_once ts parts.1 in
+    elim (is_among ts t) as (λ b. list_all is_other (if b then distinct ts else t ∷ distinct ts) ≡ true) [
+      | true ↦ rest
+      | false ↦ joined (is_other t) (list_all is_other (distinct ts)) parts.0 rest
+    ]
+
+others_mapped : (xs : List Component) → list_all is_other (map (λ (x : Component). x.name) xs) ≡ names_no_sbat xs
+others_mapped [] = refl
+others_mapped (x ∷ xs) = ap (λ b. is_other x.name && b) (others_mapped xs)
+
+others_rows : (named : List Component) (ts : List (List ℕ)) → names_no_sbat (map (level_row named) ts) ≡ list_all is_other ts
+others_rows named [] = refl
+others_rows named (t ∷ ts) = ap (λ b. is_other t && b) (others_rows named ts)
+
+pub level_has_no_sbat : LevelHasNoSbat
+level_has_no_sbat owner cs h =
+    let named = generations cs in
+    others_rows named (names named) ∙ others_once (map (λ (x : Component). x.name) named) (others_mapped named ∙ others_named cs h)

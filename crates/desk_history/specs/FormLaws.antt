@@ -1,0 +1,77 @@
+-- Laws of histories whose calls are in their forms.
+use Rattle.std.specs.Prelude.{◌≡◌, ℕ, ◌==◌, Bool, ◌&&◌, IsTrue, All, List, ◌++◌, ◌∷◌, bytes_eq}
+use Rattle.std.specs.List.{Contains, list_all}
+use Rattle.desk_texts.specs.Callers.{caller_name, is_told_by_name}
+use Rattle.desk_texts.specs.Formed.{IsCall}
+use Rattle.desk_texts.specs.Raising.{names_no_sbat}
+use Rattle.desk_texts.specs.ReplyTexts.{reply_text_of}
+use Rattle.desk_texts.specs.declared.command.Call.{Call}
+use Rattle.desk_texts.specs.declared.reply.Reply.{Reply}
+use Rattle.desk_history.specs.Calls.{History, are_apart}
+use Rattle.desk_history.specs.Formed.{IsHistory, IsReadable}
+use Rattle.desk_history.specs.Laws.{StandOnce}
+use Rattle.desk_history.specs.Lives.{Ends, Life, WasAnswered, events_of}
+use Rattle.desk_history.specs.Replies.{minutes, reply}
+use Rattle.desk_history.specs.Runs.{is_legal}
+use Rattle.desk_history.specs.Tables.{Tables, tables}
+use Rattle.desk_history.specs.declared.rows.Minute.{Minute}
+use Rattle.desk_history.specs.declared.rows.RequestCertificateRow.{RequestCertificateRow}
+use Rattle.desk_history.specs.declared.rows.RequestComponentRow.{RequestComponentRow}
+
+-- two rows of one certificate of one request
+abbrev pub is_certificate_key : RequestCertificateRow → RequestCertificateRow → Bool
+is_certificate_key a b = (a.request == b.request) && bytes_eq a.digest b.digest
+
+-- two rows of one place among the components of one request
+abbrev pub is_place_key : RequestComponentRow → RequestComponentRow → Bool
+is_place_key a b = (a.request == b.request) && (a.place == b.place)
+
+-- No two rows of any table have the same key.
+pub record AllStandOnce (t : Tables) : Type 0 where
+  pub others : StandOnce t
+  pub certificates : IsTrue (are_apart is_certificate_key t.request_certificates)
+  pub components : IsTrue (are_apart is_place_key t.request_components)
+
+-- in the tables of a desk's history no two rows have the same key
+abbrev pub AllRowsStandOnce : Type 0
+AllRowsStandOnce = (owner : List ℕ) (cs : History) → IsHistory cs → AllStandOnce (tables owner cs)
+
+-- the level's table never holds `sbat`
+abbrev pub LevelHasNoSbat : Type 0
+LevelHasNoSbat = (owner : List ℕ) (cs : History) → IsHistory cs → IsTrue (names_no_sbat (tables owner cs).components)
+
+-- nobody but the console calls by the name `console`
+abbrev pub CallersAreTold : Type 0
+CallersAreTold = (cs : History) → IsTrue (is_legal cs) → IsTrue (list_all (λ c. is_told_by_name c.caller) cs)
+
+-- each minute of a desk's history can be read back
+abbrev pub MinutesAreReadable : Type 0
+MinutesAreReadable = (cs : History) → IsHistory cs → All IsReadable (minutes cs)
+
+-- minutes of one caller's name are of one caller, and those of one reply's text have one reply
+pub record AreAlike (a b : Minute) : Type 0 where
+  pub callers : caller_name a.caller ≡ caller_name b.caller → a.caller ≡ b.caller
+  pub replies : reply_text_of a.reply ≡ reply_text_of b.reply → a.reply ≡ b.reply
+
+-- different callers of a desk's history have different names, and different replies different texts
+abbrev pub MinutesDiffer : Type 0
+MinutesDiffer =
+    (cs : History) → IsHistory cs → (a b : Minute) → Contains (minutes cs) a → Contains (minutes cs) b → AreAlike a b
+
+-- the call itself stands in the history, and was given this reply when it was accepted
+pub record Stands (cs : History) (c : Call) (given : Reply) : Type 0 where
+  pub later : List Call
+  pub before : History
+  pub is : cs ≡ later ++ c ∷ before
+  pub same : reply before c ≡ given
+
+-- what a series of lives may leave is a desk's history, where each of its calls was in its forms
+abbrev pub EndsAreHistories : Type 0
+EndsAreHistories =
+    (lives : List Life) (cs : History) → Ends lives cs → All (λ e. IsCall e.call) (events_of lives) → IsHistory cs
+
+-- and each call that was answered Ok stands in it with its reply
+abbrev pub AnsweredCallsStand : Type 0
+AnsweredCallsStand =
+    (lives : List Life) (cs : History) → Ends lives cs → All (λ e. IsCall e.call) (events_of lives)
+    → (c : Call) (reply : Reply) (at : History) → WasAnswered (events_of lives) cs c reply at → Stands cs c reply

@@ -1,0 +1,23 @@
+-- Histories that a desk may have, and minutes that can be read back.
+use Rattle.std.specs.Prelude.{◌≡◌, IsTrue, All, true}
+use Rattle.desk_texts.specs.Callers.{is_told_by_name}
+use Rattle.desk_texts.specs.Commands.{IsCaller, IsReply}
+use Rattle.desk_texts.specs.Formed.{IsCall}
+use Rattle.desk_texts.specs.Forms.{is_key}
+use Rattle.desk_history.specs.Calls.{History}
+use Rattle.desk_history.specs.declared.rows.Minute.{Minute}
+use Rattle.desk_history.specs.Runs.{is_legal}
+
+-- A desk's history: each call is in its forms and within its limits, and was accepted after those before it. What a desk
+-- shows is such a history.
+pub record IsHistory (cs : History) : Type 0 where
+  pub legal : IsTrue (is_legal cs)
+  pub formed : All IsCall cs
+
+-- the minute is told by the caller's name, the key and the reply's text: each of them is in its form, and stands for one
+-- caller, one key and one reply
+pub record IsReadable (m : Minute) : Type 0 where
+  pub caller : IsCaller m.caller
+  pub told : is_told_by_name m.caller ≡ true
+  pub key : is_key m.key ≡ true
+  pub reply : IsReply m.reply

@@ -1,0 +1,37 @@
+//! Laws of histories whose calls are in their forms: the clause of each function is one.
+ghost use Rattle.desk_history.specs.FormLaws as law;
+
+/// Nobody but the console calls by the name `console`.
+pub fn callers_are_told()
+    ensures { law.CallersAreTold }
+{}
+
+/// Each minute of a desk's history can be read back from the caller's name, the key and the reply's text.
+pub fn minutes_are_readable()
+    ensures { law.MinutesAreReadable }
+{}
+
+/// Different callers of a desk's history have different names, and different replies different texts.
+pub fn minutes_differ()
+    ensures { law.MinutesDiffer }
+{}
+
+/// In the tables of a desk's history no two rows have the same key, whatever the table.
+pub fn all_rows_stand_once()
+    ensures { law.AllRowsStandOnce }
+{}
+
+/// The level's table never holds `sbat`.
+pub fn level_has_no_sbat()
+    ensures { law.LevelHasNoSbat }
+{}
+
+/// What a series of lives may leave is a desk's history, where each of its calls was in its forms.
+pub fn series_leave_histories()
+    ensures { law.EndsAreHistories }
+{}
+
+/// Each call of such a series that was answered Ok stands itself in what the series leaves, with its reply.
+pub fn answered_calls_stand()
+    ensures { law.AnsweredCallsStand }
+{}
