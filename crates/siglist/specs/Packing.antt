@@ -1,5 +1,5 @@
 -- Lines of digests packed into one signature list.
-use Rattle.std.specs.Prelude.{◌≡◌, ℕ, ◌<◌, ◌≤◌, List, [], ◌∷◌, length, Option, Some, None, Result, Ok, Err}
+use Rattle.std.specs.Prelude.{◌≡◌, ℕ, ◌<◌, ◌≤◌, List, length, Option, Result, Ok, Err}
 use Rattle.std.specs.Io.KnownBytes.{Appends}
 use Rattle.desk_bytes.specs.Digests.{digest_of, IsArranged}
 use Rattle.desk_bytes.specs.Lines.{Numbered, named_in, parted}
