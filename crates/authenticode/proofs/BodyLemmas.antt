@@ -5,7 +5,8 @@ use Rattle.desk_bytes.specs.Elements.{IsElement, sequence}
 use Rattle.desk_bytes.specs.Parts.{Part, element_of}
 use Rattle.desk_bytes.proofs.ElementLemmas.{chosen, element_of-each, element_of-some, some_same}
 use Rattle.authenticode.specs.Bodies.{Begins, HoldsCertificates, HoldsSet}
-use Rattle.authenticode.specs.SignedData.{◌>>=◌, begins_with, certificate_set, certificates_of, first_own, integer, object_identifier, set, tagged, with_tag}
+use Rattle.desk_bytes.specs.Lines.{begins_with}
+use Rattle.authenticode.specs.SignedData.{◌>>=◌, certificate_set, certificates_of, first_own, integer, object_identifier, set, tagged, with_tag}
 
 bind-some : {A B : Type 0} (o : Option A) (f : A → Option B) (y : B) → (o >>= f) ≡ Some y → (x : A) × (o ≡ Some x) × (f x ≡ Some y)
 bind-some None f y h = absurd (cc)

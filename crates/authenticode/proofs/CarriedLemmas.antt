@@ -7,10 +7,10 @@ use Rattle.desk_bytes.specs.Parts.{Part, element_of}
 use Rattle.desk_bytes.proofs.ElementLemmas.{some_same, tbs_is_one}
 use Rattle.authenticode.specs.Carried.{GivesEntry, IsEntryFault, IsEntryOf}
 use Rattle.authenticode.specs.Certificates.{GivesCertificate, IsBodyOf, IsRowOf, IsTbsOf}
-use Rattle.authenticode.specs.Faults.{IsDerOnlyWhere}
+use Rattle.authenticode.specs.Steps.Adding.{IsDerOnlyWhere}
 use Rattle.authenticode.specs.SignedData.{certificates_of}
 use Rattle.authenticode.specs.Table.{body_at, has_no_entry, signed_data, type_at}
-use Rattle.authenticode.specs.Steps.{AddsStep}
+use Rattle.authenticode.specs.Steps.Adding.{AddsStep}
 use Rattle.authenticode.specs.declared.fault.CarriedFault.{CarriedFault}
 use Rattle.authenticode.specs.declared.fault.CarriedFault.TheVariants as fault
 use Rattle.authenticode.proofs.StepLemmas.{Collects, IsDetermined, Stops, Walks-end, Walks-same}

@@ -5,7 +5,7 @@ use Rattle.desk_bytes.specs.Digests.{IsArranged}
 use Rattle.desk_bytes.proofs.OrderLemmas.{IsArranged-one}
 use Rattle.sha2.specs.Sha256.{sha256}
 use Rattle.authenticode.specs.Carried.{Carries, GivesEntry, IsCarried, IsFirstFault, IsUnreadable, IsWalked, PassesLimit}
-use Rattle.authenticode.specs.Steps.{Walks}
+use Rattle.authenticode.specs.Walks.{Walks}
 use Rattle.authenticode.specs.Table.{has_no_entry, is_end}
 use Rattle.authenticode.specs.declared.fault.CarriedFault.{CarriedFault}
 use Rattle.authenticode.specs.declared.fault.CarriedFault.TheVariants as fault

@@ -3,7 +3,8 @@ use Rattle.std.proofs.Common.{◌≡◌, ℕ, zero, suc, List, [], ◌++◌, ref
 use Rattle.std.specs.Prelude.{map}
 use Rattle.std.proofs.lemmas.List.{map-append}
 use Rattle.sha2.specs.Sha256.{sha256}
-use Rattle.authenticode.specs.Steps.{AddsStep, Reaches, Stepping, Walks}
+use Rattle.authenticode.specs.Steps.Adding.{AddsStep}
+use Rattle.authenticode.specs.Walks.{Reaches, Stepping, Walks}
 
 -- ---- a walk that goes on
 

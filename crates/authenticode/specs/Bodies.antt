@@ -1,7 +1,8 @@
 -- The body of a signature as nested elements (RFC 5652), by what stands where.
 use Rattle.std.specs.Prelude.{◌≡◌, ◌⊎◌, ℕ, false, List, [], ◌++◌}
 use Rattle.desk_bytes.specs.Elements.{IsElement, sequence}
-use Rattle.authenticode.specs.SignedData.{begins_with, first_own, integer, object_identifier, set}
+use Rattle.desk_bytes.specs.Lines.{begins_with}
+use Rattle.authenticode.specs.SignedData.{first_own, integer, object_identifier, set}
 
 -- an element of this tag and content begins the bytes, and this follows it
 pub record Begins (tag : ℕ) (content rest b : List ℕ) : Type 0 where

@@ -1,9 +1,10 @@
 -- The certificates that an image carries in its certificate table.
 use Rattle.std.specs.Prelude.{◌≡◌, ◌≢◌, ◌⊎◌, ◌<◌, ◌≤◌, ⊤, ℕ, true, false, List, [], length, drop, map}
 use Rattle.desk_bytes.specs.Digests.{IsArranged}
+use Rattle.desk_bytes.specs.Limits.{most_certificates}
 use Rattle.sha2.specs.Sha256.{sha256}
 use Rattle.authenticode.specs.Certificates.{IsBodyOf}
-use Rattle.authenticode.specs.Steps.{Walks}
+use Rattle.authenticode.specs.Walks.{Walks}
 use Rattle.authenticode.specs.Table.{body_at, has_no_entry, is_end, next_at, signed_data, type_at}
 use Rattle.authenticode.specs.declared.fault.CarriedFault.{CarriedFault}
 use Rattle.authenticode.specs.declared.fault.CarriedFault.TheVariants as fault
@@ -44,10 +45,6 @@ pub record Carries (table : List ℕ) (digests : List (List ℕ)) : Type 0 where
   pub tbs : List (List ℕ)
   pub walked : IsWalked table tbs
   pub arranged : IsArranged (map sha256 tbs) digests
-
--- own: the most different certificates of an image
-abbrev pub most_certificates : ℕ
-most_certificates = 64
 
 -- the same within the limit
 abbrev pub IsCarried : List ℕ → List (List ℕ) → Type 0

@@ -3,7 +3,7 @@ use Rattle.std.specs.Prelude.{◌≡◌, ◌≢◌, ◌⊎◌, ℕ, List, [], �
 use Rattle.desk_bytes.specs.Elements.{IsCertificate, sequence}
 use Rattle.desk_bytes.specs.Parts.{Part, element_of}
 use Rattle.authenticode.specs.SignedData.{certificates_of}
-use Rattle.authenticode.specs.Steps.{Walks}
+use Rattle.authenticode.specs.Walks.{Walks}
 
 -- the TBSCertificate of a certificate, which is a SEQUENCE, and none of an element with another tag
 abbrev pub IsTbsOf : Part → List (List ℕ) → Type 0

@@ -6,3 +6,4 @@ pub mod Hashing
 pub mod SignedData
 pub mod Steps
 pub mod Table
+pub mod Walks

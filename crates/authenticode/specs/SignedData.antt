@@ -1,7 +1,8 @@
 -- SignedData (RFC 5652, section 5.1), as far as its certificates. Tags are those of X.690, section 8.
-use Rattle.std.specs.Prelude.{ℕ, ◌==◌, List, [], ◌∷◌, Bool, false, Option, Some, None, if◌then◌else◌}
+use Rattle.std.specs.Prelude.{ℕ, ◌==◌, List, [], Option, Some, None, if◌then◌else◌}
 use Rattle.desk_bytes.specs.Elements.{sequence}
 use Rattle.desk_bytes.specs.Parts.{Part, element_of}
+use Rattle.desk_bytes.specs.Lines.{begins_with}
 
 infixl 10 ◌>>=◌
 -- what a value is taken to, where there is one
@@ -32,11 +33,6 @@ with_tag tag p = if p.tag == tag then Some p else None
 -- the element at the front, which must have this tag
 unfoldable pub tagged : ℕ → List ℕ → Option Part
 tagged tag b = element_of b >>= with_tag tag
-
--- the list has b in front
-abbrev pub begins_with : ℕ → List ℕ → Bool
-begins_with b [] = false
-begins_with b (x ∷ xs) = x == b
 
 -- what the certificates of a SignedData hold (RFC 5652, 10.2.3), where [0] follows; otherwise there are none
 unfoldable pub certificate_set : List ℕ → Option (List ℕ)

@@ -2,15 +2,15 @@
 -- first, and places count from the front.
 use Rattle.std.specs.Prelude.{ℕ, ◌+◌, ◌*◌, ◌/◌, ◌==◌, ◌||◌, min, nat_lt, length, take, drop, List, Bool}
 use Rattle.std.specs.List.{list_all}
-use Rattle.std.specs.Int.{w16, w32, from_le_bytes}
+use Rattle.desk_bytes.specs.Numbers.{u16_at, u32_at}
 
 -- dwLength of the entry at the front: how many bytes it has, those of its header included
 abbrev pub length_at : List ℕ → ℕ
-length_at t = from_le_bytes w32 (take 4 t)
+length_at t = u32_at t 0
 
 -- wCertificateType, behind wRevision. own: wRevision isn't looked at
 abbrev pub type_at : List ℕ → ℕ
-type_at t = from_le_bytes w16 (take 2 (drop 6 t))
+type_at t = u16_at t 6
 
 -- WIN_CERT_TYPE_PKCS_SIGNED_DATA
 abbrev pub signed_data : ℕ

@@ -4,11 +4,8 @@ ghost use Rattle.authenticode.specs.Carried.{IsCarried, IsFirstFault};
 
 use crate::fault::CarriedFault;
 use crate::walk::push_table;
-use desk_bytes::{Digest, arrange};
+use desk_bytes::{Digest, MOST_CERTIFICATES, arrange};
 use std::alloc::Global;
-
-/// The most different certificates of an image.
-pub const MOST_CERTIFICATES: usize = 64;
 
 /// The SHA-256 of each TBSCertificate that the bytes of a certificate table hold, ascending, each once.
 /// Takes memory for 32 bytes a certificate, repeats included; the time is that of sorting them.
@@ -21,10 +18,7 @@ pub fn carried(alloc: Global, table: &[u8]) -> Result<Vec<Digest>, CarriedFault>
     ensures first { IfErr result (IsFirstFault table.now) }
 {
     let mut digests = Vec::new(alloc);
-    match push_table(&mut digests, table) {
-        Ok(()) => {}
-        Err(fault) => return Err(fault),
-    }
+    push_table(&mut digests, table)?;
     arrange(&mut digests);
     if digests.len() > MOST_CERTIFICATES {
         return Err(CarriedFault::TooLong);

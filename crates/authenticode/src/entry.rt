@@ -3,6 +3,8 @@ ghost use Rattle.std.specs.Prelude.{◌≡◌, ◌<◌, true, false, MatchOption
 ghost use Rattle.authenticode.specs.Table as spec;
 ghost use Rattle.authenticode.specs.Table.{body_at, has_no_entry, next_at, type_at};
 
+use desk_bytes::{u16_at, u32_at};
+
 /// WIN_CERT_TYPE_PKCS_SIGNED_DATA.
 pub(crate) const SIGNED_DATA: u16 = 2;
 
@@ -38,11 +40,11 @@ pub(crate) fn next_entry(table: &[u8]) -> Option<Entry<'_>>
     if table.len() < 8 {
         return None;
     }
-    let size = u32::from_le_bytes([table[0], table[1], table[2], table[3]]) as usize;
+    let size = u32_at(table, 0) as usize;
     if size < 8 || table.len() < size {
         return None;
     }
-    let kind = u16::from_le_bytes([table[6], table[7]]);
+    let kind = u16_at(table, 6);
     let next = table.len().min((size + 7) / 8 * 8);
     let (whole, _) = table.split_at(size);
     let (_, body) = whole.split_at(8);

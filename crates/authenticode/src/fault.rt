@@ -1,8 +1,8 @@
 //! Why a table has no carried certificates.
 ghost use Rattle.std.specs.Prelude.{◌≡◌};
-ghost use Rattle.authenticode.specs.Faults.{refusal_of};
+ghost use Rattle.authenticode.specs.Faults.{not_der, refusal_of};
 
-use desk_bytes::Refusal;
+use desk_bytes::{NotDer, Refusal};
 use thiserror::Error;
 
 /// What a certificate table was refused for.
@@ -20,6 +20,14 @@ pub enum CarriedFault {
     /// Memory was refused.
     #[error("no memory")]
     NoMemory,
+}
+
+impl From<NotDer> for CarriedFault {
+    ghost from_gives = { λ _ fault. fault ≡ not_der };
+
+    fn from(_: NotDer) -> CarriedFault {
+        CarriedFault::Der
+    }
 }
 
 impl CarriedFault {

@@ -1,9 +1,9 @@
 //! The certificates of one body.
 ghost use Rattle.std.specs.Prelude.{◌≡◌, ◌<◌, ℕ, List, length, IfErr, IfOk, OnOk};
 ghost use Rattle.sha2.specs.Sha256.{sha256};
-ghost use Rattle.authenticode.specs.Faults.{IsDerOnlyWhere};
+ghost use Rattle.authenticode.specs.Steps.Adding.{IsDerOnlyWhere};
 ghost use Rattle.authenticode.specs.Certificates.{GivesCertificate, IsBodyOf, IsRowOf};
-ghost use Rattle.authenticode.specs.Steps.{AddsStep, AddsAll};
+ghost use Rattle.authenticode.specs.Steps.Adding.{AddsStep, AddsAll};
 
 use crate::fault::CarriedFault;
 use crate::signed_data::{SEQUENCE, certificates};
@@ -27,13 +27,9 @@ fn push_first<'a>(digests: &mut Vec<Digest>, row: &'a [u8]) -> Result<&'a [u8], 
     ensures err { IfErr result (IsDerOnlyWhere ((own : List (List ℕ)) (rest : List ℕ)
         → GivesCertificate row.now own rest → ⊥)) }
 {
-    let Ok((found, rest)) = element(row) else {
-        return Err(CarriedFault::Der);
-    };
+    let (found, rest) = element(row)?;
     if found.tag == SEQUENCE {
-        let Ok(tbs) = tbs(found.whole) else {
-            return Err(CarriedFault::Der);
-        };
+        let tbs = tbs(found.whole)?;
         if digests.push(hash_of(tbs)).is_err() {
             return Err(CarriedFault::NoMemory);
         }
@@ -49,10 +45,7 @@ fn push_row(digests: &mut Vec<Digest>, row: &[u8]) -> Result<(), CarriedFault>
 {
     let mut left = row;
     while !left.is_empty() {
-        left = match push_first(digests, left) {
-            Ok(rest) => rest,
-            Err(fault) => return Err(fault),
-        };
+        left = push_first(digests, left)?;
     }
     Ok(())
 }

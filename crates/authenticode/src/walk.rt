@@ -1,7 +1,7 @@
 //! The walk over a certificate table.
 ghost use Rattle.std.specs.Prelude.{◌≡◌, ◌<◌, false, length, IfErr, IfOk, OnOk};
 ghost use Rattle.authenticode.specs.Carried.{GivesEntry, IsEntryFault, IsFirstFault, IsWalked};
-ghost use Rattle.authenticode.specs.Steps.{AddsAll, AddsStep};
+ghost use Rattle.authenticode.specs.Steps.Adding.{AddsAll, AddsStep};
 ghost use Rattle.authenticode.specs.Table as spec;
 
 use crate::entry::{SIGNED_DATA, is_end, next_entry};
@@ -22,10 +22,7 @@ fn push_entry<'a>(digests: &mut Vec<Digest>, table: &'a [u8]) -> Result<&'a [u8]
         return Err(CarriedFault::Table);
     };
     if entry.kind == SIGNED_DATA {
-        match push_body(digests, entry.body) {
-            Ok(()) => {}
-            Err(fault) => return Err(fault),
-        }
+        push_body(digests, entry.body)?;
     }
     Ok(entry.rest)
 }
@@ -38,10 +35,7 @@ pub(crate) fn push_table(digests: &mut Vec<Digest>, table: &[u8]) -> Result<(), 
 {
     let mut left = table;
     while !is_end(left) {
-        left = match push_entry(digests, left) {
-            Ok(rest) => rest,
-            Err(fault) => return Err(fault),
-        };
+        left = push_entry(digests, left)?;
     }
     Ok(())
 }

@@ -2,7 +2,9 @@ pub mod Digests
 pub mod Elements
 pub mod Guids
 pub mod Inputs
+pub mod Limits
 pub mod Lines
+pub mod Numbers
 pub mod Output
 pub mod Parts
 pub mod Refusals

@@ -1,5 +1,5 @@
 -- The lines of a text (shim's SBAT.md), each with its number.
-use Rattle.std.specs.Prelude.{ℕ, ◌+◌, ◌==◌, ◌&&◌, Bool, false, if◌then◌else◌, List, [], ◌∷◌}
+use Rattle.std.specs.Prelude.{ℕ, ◌+◌, ◌==◌, ◌&&◌, Bool, false, if◌then◌else◌, List, [], ◌∷◌, Option, Some, None, Result, Ok, Err}
 use Rattle.std.specs.List.{onto_first}
 use Rattle.desk_bytes.specs.declared.line.Line.{Line}
 
@@ -34,3 +34,18 @@ parted t = numbered_from 1 (lines_of t)
 -- what a borrowed line shows
 abbrev pub line_of : Line → Numbered
 line_of l = record { number = l.number; text = l.text.now }
+
+-- one more in front of what was read, where that was no wrong line
+abbrev pub put_first : {X : Type 0} → X → Result (List X) ℕ → Result (List X) ℕ
+put_first x (Ok xs) = Ok (x ∷ xs)
+put_first x (Err line) = Err line
+
+-- what the line with this number names, in front of what the rest names
+abbrev pub named_at : {X : Type 0} → ℕ → Option X → Result (List X) ℕ → Result (List X) ℕ
+named_at line None rest = Err line
+named_at line (Some x) rest = put_first x rest
+
+-- what lines name, in their order, or the number of the first line that names nothing
+abbrev pub named_in : {X : Type 0} → (List ℕ → Option X) → List Numbered → Result (List X) ℕ
+named_in name [] = Ok []
+named_in name (l ∷ ls) = named_at l.number (name l.text) (named_in name ls)

@@ -1,5 +1,5 @@
-//! What the crates of the desk share: the table of refusals, GUIDs, digests, DER elements, lines, input
-//! and output.
+//! What the crates of the desk share: the table of refusals, GUIDs, digests, DER elements, lines, numbers,
+//! limits, input and output.
 #![tactic(auto)]
 
 mod certificate;
@@ -10,7 +10,9 @@ mod guid;
 mod input;
 mod laws;
 mod length_form;
+mod limits;
 mod line;
+mod number;
 mod order;
 mod output;
 mod parting;
@@ -26,7 +28,9 @@ pub use laws::{
     arranged_is_one, digest_text_reads_back, element_is_one, element_is_read, guid_text_is_one,
     guid_texts_differ, refusal_numbers_differ, tbs_is_one,
 };
+pub use limits::{LONGEST_IMAGE, MOST_CERTIFICATES, MOST_COMPONENTS};
 pub use line::{Line, Parted};
+pub use number::{u16_at, u32_at};
 pub use order::arrange;
 pub use output::{WriteFailed, put};
 pub use parting::parted;

@@ -2,7 +2,8 @@
 use Rattle.std.proofs.Common.{◌≡◌, ◌+◌, ◌*◌, ◌^◌, sum_by, ◌≤◌, ◌<◌, ◌&&◌, ◌||◌, ℕ, Bool, true, false, if◌then◌else◌, not, List, [], ◌∷◌, length, nat_le, ◌==◌, Some, None, refl, sym, ap, ◌∙◌, arith}
 use Rattle.std.specs.List.{list_all}
 use Rattle.std.proofs.lemmas.Bool.{leb-true, eqb-true, and_parts}
-use Rattle.pe_image.specs.Checks.{AllHold, IsLaid, first_of, longest_file, section_checks}
+use Rattle.desk_bytes.specs.Limits.{longest_image}
+use Rattle.pe_image.specs.Checks.{AllHold, IsLaid, first_of, section_checks}
 use Rattle.pe_image.specs.Image.{optional_header_offset, number_of_sections, size_of_optional_header, magic, pe32_plus, fixed_size, size_of_headers, has_certificate_directory, certificate_directory_offset, table_offset, table_size, has_table, sections_begin, sections_end, sum_of_bytes_hashed, raw}
 use Rattle.pe_image.specs.Headers.{raw_of}
 use Rattle.pe_image.specs.Spans.{are_apart, in_order, follows, reach, size_of}
@@ -115,7 +116,7 @@ pub sections-reach : (f : List ℕ) (ss : List Span) (z : ℕ) → ss ≡ in_ord
 sections-reach f ss z is end = ap (reach z) is ∙ ap (λ n. reach n (in_order (raw f))) end ∙ reach-in_order (size_of_headers f) (raw f)
 
 -- so their size fits a u64
-pub sections-small : (f : List ℕ) (ss : List Span) (z : ℕ) → ss ≡ in_order (raw f) → z ≡ size_of_headers f → first_of (section_checks (raw f) (size_of_headers f) (length f)) ≡ None → z ≤ length f → length f ≤ longest_file → z + sum_by size_of ss < 2 ^ 64
+pub sections-small : (f : List ℕ) (ss : List Span) (z : ℕ) → ss ≡ in_order (raw f) → z ≡ size_of_headers f → first_of (section_checks (raw f) (size_of_headers f) (length f)) ≡ None → z ≤ length f → length f ≤ longest_image → z + sum_by size_of ss < 2 ^ 64
 sections-small f ss z is end none low short =
     let size = sections-size f ss z is end in
     let fit = sections-fit f none (omega arith) in

@@ -1,26 +1,38 @@
 -- Parts of a slice of a file, and the section table.
 use Rattle.std.proofs.Common.{◌≡◌, ◌+◌, ◌*◌, ◌-◌, ◌≤◌, ◌<◌, ◌++◌, ℕ, zero, suc, List, [], ◌∷◌, length, take, drop, slice_set, slice_range, refl, sym, ap, ◌∙◌, arith}
-use Rattle.std.specs.List.{slice_index}
-use Rattle.std.proofs.lemmas.List.{get_or-take, get_or-drop, take-take, take_more_set}
-use Rattle.pe_image.specs.Numbers.{u32_at}
+use Rattle.std.specs.Int.{w16, w32, from_le_bytes}
+use Rattle.std.proofs.lemmas.List.{drop-drop, drop-take, take-take, take_more_set}
+use Rattle.desk_bytes.specs.Numbers.{u16_at, u32_at}
 use Rattle.pe_image.specs.Headers.{header_at, headers_from}
 use Rattle.pe_image.specs.declared.header.Header.{Header}
 
--- a byte, a number and a beginning of a slice of the file
-pub index-within : (f : List ℕ) (at n i k : ℕ) → i ≡ at + k → k < n → slice_index (slice_range f at (at + n)) k ≡ slice_index f i
-index-within f at n i k is h =
-    let size : (at + n) - at ≡ n = omega arith in
-    ap (λ m. slice_index (take m (drop at f)) k) size ∙ get_or-take n (drop at f) k 0 h ∙ get_or-drop at f k 0 ∙ ap (λ m. slice_index f m) (sym is)
+-- a part of a slice of the file, and the numbers in it
+slice-part : (f : List ℕ) (at n k m : ℕ) → k + m ≤ n → take m (drop k (slice_range f at (at + n))) ≡ take m (drop (at + k) f)
+slice-part f at n k m h =
+    let all : (at + n) - at ≡ k + (n - k) = omega arith in
+    ap (λ w. take m (drop k (take w (drop at f)))) all ∙ ap (take m) (drop-take k (n - k) (drop at f)) ∙ take-take m (n - k) (drop k (drop at f)) (omega arith)
+    ∙ ap (take m) (drop-drop k at f)
+
+pub u16-within : (f : List ℕ) (at n k : ℕ) → k + 2 ≤ n → u16_at (slice_range f at (at + n)) k ≡ u16_at f (at + k)
+unfolding u16_at
+u16-within f at n k h = ap (from_le_bytes w16) (slice-part f at n k 2 h)
 
 pub u32-within : (f : List ℕ) (at n k : ℕ) → k + 4 ≤ n → u32_at (slice_range f at (at + n)) k ≡ u32_at f (at + k)
 unfolding u32_at
-u32-within f at n k h =
-    let a = index-within f at n (at + k) k refl (omega arith) in
-    let b = index-within f at n (at + k + 1) (k + 1) (omega arith) (omega arith) in
-    let c = index-within f at n (at + k + 2) (k + 2) (omega arith) (omega arith) in
-    let d = index-within f at n (at + k + 3) (k + 3) (omega arith) (omega arith) in
-    omega arith
+u32-within f at n k h = ap (from_le_bytes w32) (slice-part f at n k 4 h)
 
+-- a number that was read is the file's
+pub u16-read : (f bytes : List ℕ) (at n : ℕ) → bytes ≡ slice_range f at (at + 2) → n ≡ u16_at bytes 0 → n ≡ u16_at f at
+u16-read f bytes at n read is =
+    let here : at + 0 ≡ at = omega arith in
+    is ∙ ap (λ b. u16_at b 0) read ∙ u16-within f at 2 0 (omega arith) ∙ ap (u16_at f) here
+
+pub u32-read : (f bytes : List ℕ) (at n : ℕ) → bytes ≡ slice_range f at (at + 4) → n ≡ u32_at bytes 0 → n ≡ u32_at f at
+u32-read f bytes at n read is =
+    let here : at + 0 ≡ at = omega arith in
+    is ∙ ap (λ b. u32_at b 0) read ∙ u32-within f at 4 0 (omega arith) ∙ ap (u32_at f) here
+
+-- a beginning of a slice of the file
 pub slice-within : (f : List ℕ) (at n k : ℕ) → k ≤ n → take k (slice_range f at (at + n)) ≡ slice_range f at (at + k)
 slice-within f at n k h =
     let all : (at + n) - at ≡ n = omega arith in

@@ -1,7 +1,8 @@
 -- What holds of an image that is accepted. own: the order of the checks, and those that name no section.
 use Rattle.std.specs.Prelude.{◌≡◌, ◌⊎◌, ℕ, ◌+◌, ◌*◌, ◌==◌, ◌&&◌, ◌||◌, Bool, true, not, nat_le, if◌then◌else◌, List, [], ◌∷◌, ◌++◌, length, Option, Some, None}
 use Rattle.std.specs.List.{list_all}
-use Rattle.pe_image.specs.Numbers.{u16_at, u32_at}
+use Rattle.desk_bytes.specs.Limits.{longest_image}
+use Rattle.desk_bytes.specs.Numbers.{u16_at, u32_at}
 use Rattle.pe_image.specs.Sources.{HaveRisen}
 use Rattle.pe_image.specs.Image.{mz, pe, pe32, pe32_plus, pe_signature_offset, optional_header_offset, number_of_sections, size_of_optional_header, magic, fixed_size, size_of_headers, subsystem, has_certificate_directory, table_offset, table_size, has_table, sections_begin, sections_end, raw, headers}
 use Rattle.pe_image.specs.Sbat.{sbat_count, sbat_section, size_of_text}
@@ -10,10 +11,6 @@ use Rattle.pe_image.specs.declared.fault.LayoutFault.{LayoutFault}
 use Rattle.pe_image.specs.declared.fault.LayoutFault.TheVariants.{Short, NoMz, NoPe, Magic, NotEfi, Headers, Sections, Overlap, Table, TwoSbat, TooLong, Read}
 use Rattle.pe_image.specs.declared.header.Header.{Header}
 use Rattle.pe_image.specs.declared.span.Span.{Span}
-
--- own: no file is longer than 128 MiB
-abbrev pub longest_file : ℕ
-longest_file = 134217728
 
 -- own: no certificate table is longer than 1 MiB
 abbrev pub longest_table : ℕ
@@ -26,7 +23,7 @@ longest_text = 65536
 -- the headers up to the signature ("MS-DOS Stub", "Signature")
 abbrev pub start_checks : List ℕ → List (Bool × LayoutFault)
 start_checks f =
-    (nat_le (length f) longest_file, TooLong)
+    (nat_le (length f) longest_image, TooLong)
     ∷ (nat_le 64 (length f), Short)
     ∷ (u16_at f 0 == mz, NoMz)
     ∷ (nat_le (optional_header_offset f) (length f), Short)

@@ -3,7 +3,6 @@ pub mod Faults
 pub mod Hashed
 pub mod Headers
 pub mod Image
-pub mod Numbers
 pub mod Pieces
 pub mod Places
 pub mod Sbat

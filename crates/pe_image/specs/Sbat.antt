@@ -1,5 +1,5 @@
 -- The section `.sbat` and its text (shim's SBAT.md).
-use Rattle.std.specs.Prelude.{ℕ, ◌+◌, ◌==◌, Bool, nat_lt, if◌then◌else◌, List, [], ◌∷◌, find, count_by, min, Option, Some, None}
+use Rattle.std.specs.Prelude.{ℕ, ◌+◌, ◌==◌, Bool, nat_lt, if◌then◌else◌, List, [], ◌∷◌, ◌++◌, codes, find, count_by, min, Option, Some, None}
 use Rattle.std.specs.Str.{bytes_eq}
 use Rattle.pe_image.specs.declared.header.Header.{Header}
 use Rattle.pe_image.specs.Spans.{span}
@@ -7,7 +7,7 @@ use Rattle.pe_image.specs.declared.span.Span.{Span}
 
 -- whether a section has the name `.sbat`, 0, 0, 0
 abbrev pub is_sbat : Header → Bool
-is_sbat h = bytes_eq h.name (46 ∷ 115 ∷ 98 ∷ 97 ∷ 116 ∷ 0 ∷ 0 ∷ 0 ∷ [])
+is_sbat h = bytes_eq h.name (codes ".sbat" ++ 0 ∷ 0 ∷ 0 ∷ [])
 
 -- how many bytes of a section are text: VirtualSize of them at most, where it is given
 abbrev pub text_size : Header → ℕ

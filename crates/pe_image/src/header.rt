@@ -5,8 +5,8 @@ ghost use Rattle.pe_image.specs.Headers.{header_at};
 ghost use Rattle.pe_image.specs.Image.{headers, number_of_sections, sections_begin};
 
 use crate::field::SECTION_HEADER_SIZE;
-use crate::number::u32_in;
 use crate::source::{ReadFailed, Source};
+use desk_bytes::u32_at;
 
 /// What a section header says.
 #[derive(Clone, Copy, Debug)]
@@ -43,9 +43,9 @@ fn read_header<S: Source>(source: &mut S, at: u64) -> Result<Header, ReadFailed>
     name.copy_from_slice(&bytes[..8]);
     Ok(Header {
         name,
-        virtual_size: u32_in(&bytes, 8),
-        size_of_raw_data: u32_in(&bytes, 16),
-        pointer_to_raw_data: u32_in(&bytes, 20),
+        virtual_size: u32_at(&bytes, 8),
+        size_of_raw_data: u32_at(&bytes, 16),
+        pointer_to_raw_data: u32_at(&bytes, 20),
     })
 }
 

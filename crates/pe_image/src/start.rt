@@ -8,9 +8,7 @@ use crate::fault::LayoutFault;
 use crate::field::{DOS_HEADER_SIZE, OPTIONAL_HEADER, PE_SIGNATURE_OFFSET};
 use crate::number::{read_u16, read_u32};
 use crate::source::Source;
-
-/// The most bytes that an image may have.
-const LONGEST: u64 = 134_217_728;
+use desk_bytes::LONGEST_IMAGE;
 
 /// `MZ`, low byte first.
 const MZ: u16 = 0x5a4d;
@@ -29,7 +27,7 @@ pub(crate) fn read_start<S: Source>(source: &mut S) -> Result<u64, LayoutFault>
     ensures reads { OnlyReads S.content S.failures source.old source.new }
 {
     let length = source.len();
-    if LONGEST < length {
+    if LONGEST_IMAGE < length {
         return Err(LayoutFault::TooLong);
     }
     if length < DOS_HEADER_SIZE {

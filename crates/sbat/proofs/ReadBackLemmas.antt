@@ -14,17 +14,15 @@ use Rattle.std.proofs.lemmas.List.{take_all}
 use Rattle.std.proofs.lemmas.List.Folds.{list_all-append}
 use Rattle.std.proofs.lemmas.List.Sums.{AllPass-from_list_all, position_or_len_is}
 use Rattle.std.proofs.lemmas.Map.Text.{is_eq-slice_cmp}
-use Rattle.desk_bytes.specs.Lines.{lines_of, numbered_from}
+use Rattle.desk_bytes.specs.Lines.{lines_of, numbered_from, named_in}
 use Rattle.sbat.specs.Fields.{is_stamp, sbat}
 use Rattle.sbat.specs.Levels.{Generations, IsLevel, Stamped, begun, generations_in, greater, level_in, level_of, level_row, raised, stamp_in, stamp_on, with_rows}
-use Rattle.sbat.specs.Refusals.{IsLevelOf}
-use Rattle.sbat.specs.Rows.{rows_in}
+use Rattle.sbat.specs.Refusals.{IsLevelOf, most_names}
 use Rattle.sbat.specs.Texts.{before_zero, rows_of, without_mark}
 use Rattle.sbat.specs.Writing.{head_text, level_text, row_text, rows_text}
-use Rattle.sbat.specs.Refusals.{most_names}
 use Rattle.sbat.proofs.DigitLemmas.{both_parts, digits-decimal, first_part, second_part, stamp_of-decimal}
 use Rattle.sbat.proofs.GenerationLemmas.{names_differ, ties, ties_are_one}
-use Rattle.sbat.proofs.TextLemmas.{AreRight, IsGraphic, IsRight, fields_of-digits, graphic_both, graphic_digits, graphic_line, graphic_line_text, line_text, numbered_line, row_with, rows_in-text}
+use Rattle.sbat.proofs.TextLemmas.{AreRight, IsGraphic, IsRight, fields_of-digits, graphic_both, graphic_digits, graphic_line, graphic_line_text, line_text, numbered_line, row_with, named_in-text}
 
 -- no byte is zero
 abbrev AreSet : List ℕ → Type 0
@@ -86,8 +84,8 @@ rows_of-text stamp es h right =
 level_of-text : (stamp : ℕ) (es : List (List ℕ × ℕ)) → is_stamp stamp ≡ true → AreRight es → level_of (head_text stamp ++ rows_text es) ≡ Ok (record { stamp = stamp; generations = generations_in (map row_with es) })
 level_of-text stamp es h right =
     ap level_in (rows_of-text stamp es h right)
-    ∙ ap (λ s. begun 1 s (rows_in level_row (numbered_from 2 (lines_of (rows_text es))))) (stamp_on-head stamp h)
-    ∙ ap (with_rows stamp) (rows_in-text 2 es right)
+    ∙ ap (λ s. begun 1 s (named_in level_row (numbered_from 2 (lines_of (rows_text es))))) (stamp_on-head stamp h)
+    ∙ ap (with_rows stamp) (named_in-text 2 es right)
 
 -- names in order: what stands below all others is none of them
 less_is : (o : Ordering) → T (is_lt o) → is_eq o ≡ false

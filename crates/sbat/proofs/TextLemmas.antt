@@ -1,5 +1,5 @@
 -- The text of a level, read back.
-use Rattle.std.proofs.Common.{◌≡◌, ℕ, ◌+◌, ◌<◌, Bool, true, false, ◌&&◌, not, List, [], ◌∷◌, ◌++◌, length, get_or, map, Some, Ok, codes, decimal, refl, ap, ◌∙◌, append_assoc, length-append, arith}
+use Rattle.std.proofs.Common.{◌≡◌, ℕ, ◌+◌, ◌<◌, true, false, not, List, [], ◌∷◌, ◌++◌, length, get_or, map, Some, Ok, codes, decimal, refl, ap, ◌∙◌, append_assoc, length-append, arith}
 use Rattle.std.specs.Char.{is_ascii_digit, is_ascii_graphic}
 use Rattle.std.specs.List.{list_all}
 use Rattle.std.specs.Str.{bytes_eq}
@@ -8,11 +8,11 @@ use Rattle.std.proofs.lemmas.Grind.{common_steps}
 use Rattle.std.proofs.lemmas.List.Folds.{list_all-append}
 use Rattle.std.proofs.lemmas.List.Splits.{slice_split_at, slice_split_none}
 use Rattle.std.proofs.lemmas.List.Sums.{AllPass-from_list_all}
-use Rattle.desk_bytes.specs.Lines.{lines_of, numbered_from}
+use Rattle.desk_bytes.specs.Lines.{lines_of, numbered_from, named_at, named_in}
 use Rattle.desk_bytes.proofs.LineLemmas.{lines_of-lf}
 use Rattle.sbat.specs.Fields.{fields_of, is_comma, is_generation, is_name, is_name_byte, sbat}
 use Rattle.sbat.specs.Levels.{level_row}
-use Rattle.sbat.specs.Rows.{Row, row_at, rows_in}
+use Rattle.sbat.specs.Rows.{Row}
 use Rattle.sbat.specs.Writing.{rows_text}
 use Rattle.sbat.proofs.DigitLemmas.{AreDigits, both_parts, digits-decimal, first_part, generation_of-decimal, second_part}
 
@@ -110,13 +110,13 @@ line_length : (e : List ℕ × ℕ) → 0 < length (line_text e)
 line_length e = omega (arith, length-append (e.0 ++ codes ",") (decimal e.1), length-append e.0 (codes ","))
 
 -- the lines of entries are their rows
-pub rows_in-text : (n : ℕ) (es : List (List ℕ × ℕ)) → AreRight es → rows_in level_row (numbered_from n (lines_of (rows_text es))) ≡ Ok (map row_with es)
-rows_in-text n [] h = refl
-rows_in-text n (e ∷ es) h =
+pub named_in-text : (n : ℕ) (es : List (List ℕ × ℕ)) → AreRight es → named_in level_row (numbered_from n (lines_of (rows_text es))) ≡ Ok (map row_with es)
+named_in-text n [] h = refl
+named_in-text n (e ∷ es) h =
     let cut : rows_text (e ∷ es) ≡ line_text e ++ 10 ∷ rows_text es = append_assoc (line_text e) (codes "\n") (rows_text es) in
     let lines = ap lines_of cut ∙ graphic_line (line_text e) (rows_text es) (graphic_line_text e h.0) in
     let numbered = ap (numbered_from n) lines ∙ numbered_line n (line_text e) (lines_of (rows_text es)) (line_length e) in
-    let rest = rows_in-text (n + 1) es h.1 in
-    ap (rows_in level_row) numbered
-    ∙ ap (λ r. row_at n r (rows_in level_row (numbered_from (n + 1) (lines_of (rows_text es))))) (level_row-line e h.0)
-    ∙ ap (λ r. row_at n (Some (row_with e)) r) rest
+    let rest = named_in-text (n + 1) es h.1 in
+    ap (named_in level_row) numbered
+    ∙ ap (λ r. named_at n r (named_in level_row (numbered_from (n + 1) (lines_of (rows_text es))))) (level_row-line e h.0)
+    ∙ ap (λ r. named_at n (Some (row_with e)) r) rest

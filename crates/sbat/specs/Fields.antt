@@ -1,5 +1,5 @@
 -- The fields of a line (shim's SBAT.md), and what may stand in them.
-use Rattle.std.specs.Prelude.{ℕ, ◌+◌, ◌-◌, ◌*◌, ◌==◌, ◌&&◌, nat_lt, nat_le, not, length, fold, List, [], ◌∷◌, Bool, Option, Some, None, if◌then◌else◌}
+use Rattle.std.specs.Prelude.{ℕ, ◌+◌, ◌-◌, ◌*◌, ◌==◌, ◌&&◌, nat_lt, nat_le, not, length, fold, List, codes, Bool, Option, Some, None, if◌then◌else◌}
 use Rattle.std.specs.Char.{is_ascii_digit, is_ascii_graphic}
 use Rattle.std.specs.List.{list_all, slice_split}
 
@@ -48,4 +48,4 @@ stamp_of text =
 
 -- the name of SBAT itself, `sbat`
 abbrev pub sbat : List ℕ
-sbat = 115 ∷ 98 ∷ 97 ∷ 116 ∷ []
+sbat = codes "sbat"

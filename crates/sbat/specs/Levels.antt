@@ -6,9 +6,9 @@ use Rattle.std.specs.Cmp.Lexicographic.{slice_cmp}
 use Rattle.std.specs.Coded.{Coded, code_by, coded×, coded_ℕ, coded_list}
 use Rattle.std.specs.FinMap.{FinMap, code, empty, from_entries, get, insert}
 use Rattle.std.specs.Str.{bytes_eq}
-use Rattle.desk_bytes.specs.Lines.{Numbered}
+use Rattle.desk_bytes.specs.Lines.{Numbered, named_in}
 use Rattle.sbat.specs.Fields.{fields_of, generation_of, is_generation, is_name, is_stamp, sbat, stamp_of}
-use Rattle.sbat.specs.Rows.{Row, row_in, rows_in}
+use Rattle.sbat.specs.Rows.{Row, row_in}
 use Rattle.sbat.specs.Texts.{rows_of}
 
 -- generations by names, whose order is that of their bytes
@@ -77,7 +77,7 @@ begun line (Some stamp) rows = with_rows stamp rows
 -- the level of some lines, or the number of the first wrong one. own: without a line that number is 1
 abbrev pub level_in : List Numbered → Result Stamped ℕ
 level_in [] = Err 1
-level_in (l ∷ ls) = begun l.number (stamp_on l.text) (rows_in level_row ls)
+level_in (l ∷ ls) = begun l.number (stamp_on l.text) (named_in level_row ls)
 
 -- the level of a text, or the number of the first wrong line
 abbrev pub level_of : List ℕ → Result Stamped ℕ

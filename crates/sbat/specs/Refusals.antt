@@ -1,6 +1,7 @@
 -- What SBAT text is refused for.
 use Rattle.std.specs.Prelude.{◌≡◌, ℕ, ◌<◌, ◌≤◌, ⊤, length, List, Option, Some, None, Result, Ok, Err, IsOkAnd}
 use Rattle.std.specs.FinMap.{len}
+use Rattle.desk_bytes.specs.Limits.{most_components}
 use Rattle.desk_bytes.specs.declared.refusal.Refusal.{Refusal}
 use Rattle.desk_bytes.specs.declared.refusal.Refusal.TheVariants as refusal
 use Rattle.sbat.specs.Levels.{Stamped, level_of}
@@ -8,15 +9,11 @@ use Rattle.sbat.specs.Rows.{Row, components_of}
 use Rattle.sbat.specs.declared.fault.SbatFault.{SbatFault}
 use Rattle.sbat.specs.declared.fault.SbatFault.TheVariants as fault
 
--- own: the most components of an image
-abbrev pub most_components : ℕ
-most_components = 256
-
 -- own: the most names of a level
 abbrev pub most_names : ℕ
 most_names = 10000
 
--- its row in the table of refusals
+-- own: its row in the table of refusals
 abbrev pub refusal_of : SbatFault → Refusal
 refusal_of (fault.Row line) = refusal.SbatRow
 refusal_of fault.TooLong = refusal.TooLong

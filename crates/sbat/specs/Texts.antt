@@ -10,7 +10,7 @@ before_zero text = before_first (λ b. b == 0) text
 
 -- the mark of UTF-8 text, EF BB BF
 abbrev pub mark : List ℕ
-mark = 239 ∷ 187 ∷ 191 ∷ []
+mark = 0xef ∷ 0xbb ∷ 0xbf ∷ []
 
 -- own: the text without a mark at its beginning
 abbrev pub without_mark : List ℕ → List ℕ

@@ -1,16 +1,15 @@
 //! The components of an image.
 ghost use Rattle.std.specs.Prelude.{◌≡◌, ◌∷◌, ◌++◌, [], IfErr, IfOk, OnOk, if◌then◌else◌, length, nat_le};
-ghost use Rattle.sbat.specs.Refusals.{IsComponents, RefusesComponents, most_components};
+ghost use Rattle.desk_bytes.specs.Limits.{most_components};
+ghost use Rattle.sbat.specs.Refusals.{IsComponents, RefusesComponents};
 
 use crate::component::Component;
 use crate::fault::SbatFault;
 use crate::name::NameFault;
 use crate::row::read_image_row;
 use crate::text::rows;
+use desk_bytes::MOST_COMPONENTS;
 use std::alloc::{AllocError, Global};
-
-/// The most components of an image.
-pub const MOST_COMPONENTS: usize = 256;
 
 /// Adds a component where there are no more than the limit.
 fn keep(found: &mut Vec<Component>, component: Component) -> Result<(), AllocError>

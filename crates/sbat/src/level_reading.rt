@@ -5,7 +5,7 @@ ghost use Rattle.std.specs.Str.{bytes_eq};
 ghost use Rattle.sbat.specs.Fields.{sbat};
 ghost use Rattle.sbat.specs.Levels.{level_row, raised, stamp_on, with_rows};
 ghost use Rattle.sbat.specs.Refusals.{IsLevelOf, IsRead, IsRefused, PassesNames, RefusesLevel, most_names};
-ghost use Rattle.sbat.specs.Rows.{rows_in};
+ghost use Rattle.desk_bytes.specs.Lines.{named_in};
 
 use crate::component::Component;
 use crate::fault::SbatFault;
@@ -50,10 +50,10 @@ fn raise_within(level: &mut Level, component: &Component) -> Result<(), AllocErr
 
 /// The level of a stamp and the rows of lines.
 fn read_rows(alloc: Global, stamp: Stamp, lines: Parted<'_>) -> Result<Level, SbatFault>
-    ensures exact { IfOk result (IsRead (with_rows stamp (rows_in level_row lines.entry))) }
+    ensures exact { IfOk result (IsRead (with_rows stamp (named_in level_row lines.entry))) }
 
     ensures first { IfErr result
-        (IsRefused (with_rows stamp (rows_in level_row lines.entry)) PassesNames) }
+        (IsRefused (with_rows stamp (named_in level_row lines.entry)) PassesNames) }
 {
     let mut level = Level::new(alloc, stamp);
     for line in lines {

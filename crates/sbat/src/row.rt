@@ -24,10 +24,8 @@ fn read_row(alloc: Global, line: &[u8]) -> Result<Component, NameFault>
     let Some(generation) = Generation::parse(number) else {
         return Err(NameFault::Form);
     };
-    match ComponentName::parse(alloc, name) {
-        Ok(name) => Ok(Component { name, generation }),
-        Err(fault) => Err(fault),
-    }
+    let name = ComponentName::parse(alloc, name)?;
+    Ok(Component { name, generation })
 }
 
 /// The component of an image's line, or Form.
@@ -47,14 +45,9 @@ pub(crate) fn read_level_row(alloc: Global, line: &[u8]) -> Result<Component, Na
     ensures other { IfOk result (λ row. bytes_eq row.name sbat ≡ false) }
     ensures form { IsErrOf result NameFault.Form → level_row line.now ≡ None }
 {
-    match read_row(alloc, line) {
-        Ok(row) => {
-            if row.name.is_sbat() {
-                Err(NameFault::Form)
-            } else {
-                Ok(row)
-            }
-        }
-        Err(fault) => Err(fault),
+    let row = read_row(alloc, line)?;
+    if row.name.is_sbat() {
+        return Err(NameFault::Form);
     }
+    Ok(row)
 }

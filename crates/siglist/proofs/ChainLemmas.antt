@@ -6,7 +6,8 @@ use Rattle.std.proofs.lemmas.Slice.Eq.{bytes_eq-Decides}
 use Rattle.siglist.specs.Kinds.{kind_of, is_bare, suits, sha256_kind, x509_kind, x509_sha256_kind}
 use Rattle.siglist.specs.declared.kind.Kind.{Kind}
 use Rattle.siglist.specs.declared.kind.Kind.TheVariants as kind
-use Rattle.siglist.specs.Reading.{size_at, header_size_at, entry_size_at, entries_size_at, lack_at}
+use Rattle.siglist.specs.Heads.{size_at, header_size_at, entry_size_at}
+use Rattle.siglist.specs.Steps.Reading.{entries_size_at, lack_at}
 use Rattle.siglist.specs.ListsFaults.{LacksRoom}
 use Rattle.siglist.specs.declared.fault.Lack.{Lack}
 use Rattle.siglist.specs.declared.fault.Lack.TheVariants as lack

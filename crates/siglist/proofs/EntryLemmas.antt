@@ -4,7 +4,7 @@ use Rattle.std.specs.List.{flat_map, AllByRecursion}
 use Rattle.std.proofs.lemmas.List.{take_at, drop_at, length-take-le, length-drop, length-append}
 use Rattle.desk_bytes.proofs.OutputLemmas.{take-more}
 use Rattle.siglist.specs.SignatureLists.{Entry, IsEntryOf, entry_bytes}
-use Rattle.siglist.specs.Reading.{entries_of}
+use Rattle.siglist.specs.Steps.Reading.{entries_of}
 
 pub make_entry : List ℕ → List ℕ → Entry
 make_entry owner body = record { owner = owner; body = body }

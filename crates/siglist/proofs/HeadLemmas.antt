@@ -9,7 +9,9 @@ use Rattle.siglist.specs.Kinds.{kind_of, is_bare, suits}
 use Rattle.siglist.specs.declared.kind.Kind.{Kind}
 use Rattle.siglist.specs.declared.kind.Kind.TheVariants as kind
 use Rattle.siglist.specs.SignatureLists.{Entry, SignatureList, IsList, KeepsKind, entry_bytes, list_bytes, list_size}
-use Rattle.siglist.specs.Reading.{size_at, header_size_at, entry_size_at, entries_size_at, entries_of, front_of, list_with}
+use Rattle.desk_bytes.specs.Numbers.{u32_at}
+use Rattle.siglist.specs.Heads.{size_at, header_size_at, entry_size_at}
+use Rattle.siglist.specs.Steps.Reading.{entries_size_at, entries_of, front_of, list_with}
 use Rattle.siglist.proofs.ChainLemmas.{HasHead, WhichKind, which_kind}
 use Rattle.std.proofs.Math.Nat.{mul-mod_right, mul-div_cancel_left}
 use Rattle.siglist.proofs.EntryLemmas.{entries_length, entries_of-again}
@@ -109,7 +111,7 @@ read_parts b l rest h kind size header entry tail long is =
 
 -- a list that is spelt is read
 pub spelt_reads : (l : SignatureList) (rest : List ℕ) → IsList l → Reads (list_bytes l ++ rest) l rest
-unfolding list_with
+unfolding list_with u32_at
 spelt_reads l rest h =
     let b = list_bytes l ++ rest in
     let es = l.entries in

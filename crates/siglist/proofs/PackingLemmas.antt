@@ -1,27 +1,13 @@
 -- The digests of a text, line by line.
-use Rattle.std.proofs.Common.{◌≡◌, ℕ, ◌+◌, ◌*◌, ◌≤◌, eqb, cond, true, false, ◌&&◌, List, [], ◌∷◌, ◌++◌, length, Option, Some, None, Result, Ok, Err, IfSome, refl, sym, ap, subst, arith, append_assoc}
+use Rattle.std.proofs.Common.{◌≡◌, ℕ, ◌+◌, ◌*◌, ◌≤◌, eqb, cond, true, false, ◌&&◌, List, [], ◌∷◌, length, Option, Some, None, Result, Ok, Err, IfSome, refl, sym, ap, subst, arith}
 use Rattle.std.specs.List.{onto_first}
-use Rattle.desk_bytes.specs.Lines.{lines_of, numbered_from, begins_with, parted}
+use Rattle.desk_bytes.specs.Lines.{lines_of, numbered_from, begins_with, named_at, parted}
 use Rattle.desk_bytes.specs.Digests.{IsArranged, digest_of}
 use Rattle.desk_bytes.proofs.DigestLemmas.{digest_size}
 use Rattle.std.specs.Io.KnownBytes.{Appends}
 use Rattle.desk_bytes.specs.Output.{AppendsBeginning}
-use Rattle.siglist.specs.Packing.{IsPacked, IsPartlyPacked, Packs, digests_in, digest_at, packed, put_first}
-use Rattle.siglist.specs.Packing.{longest_text}
+use Rattle.siglist.specs.Packing.{IsPacked, IsPartlyPacked, Packs, digests_in, packed, longest_text}
 use Rattle.desk_bytes.proofs.OrderLemmas.{IsArranged-one}
-
--- what was read already, and then the rest
-abbrev pub put_before : {X : Type 0} → List X → Result (List X) ℕ → Result (List X) ℕ
-put_before xs (Ok ys) = Ok (xs ++ ys)
-put_before xs (Err n) = Err n
-
-pub put_before-nil : {X : Type 0} (r : Result (List X) ℕ) → put_before [] r ≡ r
-put_before-nil (Ok ys) = refl
-put_before-nil (Err n) = refl
-
-pub put_before-more : {X : Type 0} (xs : List X) (x : X) (r : Result (List X) ℕ) → put_before xs (put_first x r) ≡ put_before (xs ++ x ∷ []) r
-put_before-more xs x (Ok ys) = ap Ok (sym (append_assoc xs (x ∷ []) ys))
-put_before-more xs x (Err n) = refl
 
 -- how many bytes the lines have
 abbrev total : List (List ℕ) → ℕ
@@ -45,7 +31,7 @@ total_of_lines (b ∷ bs) =
       ]
     ]
 
-digest_at_ok : (n : ℕ) (o : Option (List ℕ)) (r : Result (List (List ℕ)) ℕ) (ds : List (List ℕ)) → digest_at n o r ≡ Ok ds
+digest_at_ok : (n : ℕ) (o : Option (List ℕ)) (r : Result (List (List ℕ)) ℕ) (ds : List (List ℕ)) → named_at n o r ≡ Ok ds
     → (d : List ℕ) × (rest : List (List ℕ)) × (o ≡ Some d) × (r ≡ Ok rest) × (ds ≡ d ∷ rest)
 digest_at_ok n None r ds h = cc
 digest_at_ok n (Some d) (Ok rest) ds h = (d, rest, refl, refl, cc)

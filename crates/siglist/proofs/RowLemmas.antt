@@ -5,7 +5,8 @@ use Rattle.std.proofs.lemmas.Bool.{cases_order}
 use Rattle.std.proofs.lemmas.List.{take_at, take_all, length-drop, length-append, length-take-le, take-append-drop}
 use Rattle.desk_bytes.proofs.OutputLemmas.{take-more}
 use Rattle.siglist.specs.SignatureLists.{SignatureList, IsList, IsRow, Spells, list_bytes, list_size, placed_from}
-use Rattle.siglist.specs.Reading.{size_at, lack_at, front_of, placed, row_of}
+use Rattle.siglist.specs.Heads.{size_at}
+use Rattle.siglist.specs.Steps.Reading.{lack_at, front_of, placed, row_of}
 use Rattle.siglist.specs.ListsFaults.{HasNoList, IsRefused, LacksRoom, Stops, fault_of}
 use Rattle.siglist.specs.declared.fault.ListsFault.{ListsFault}
 use Rattle.siglist.specs.declared.fault.ListsFault.TheVariants as fault

@@ -8,7 +8,9 @@ use Rattle.std.proofs.lemmas.Nat.{div-add-mod', le_bytes_4}
 use Rattle.std.proofs.lemmas.List.{drop-drop, length-take, length-take-le, length-drop, take-append-drop, get_or-take, get_or-drop, get_or_past}
 use Rattle.siglist.specs.Kinds.{kind_of, is_bare, suits, sha256_kind, x509_kind, x509_sha256_kind}
 use Rattle.siglist.specs.SignatureLists.{Entry, SignatureList, IsList, KeepsKind, entry_bytes, list_bytes, list_size}
-use Rattle.siglist.specs.Reading.{u32_at, size_at, header_size_at, entry_size_at, entries_size_at, entries_of, front_of, list_with}
+use Rattle.desk_bytes.specs.Numbers.{u32_at}
+use Rattle.siglist.specs.Heads.{size_at, header_size_at, entry_size_at}
+use Rattle.siglist.specs.Steps.Reading.{entries_size_at, entries_of, front_of, list_with}
 use Rattle.siglist.proofs.ChainLemmas.{HasHead}
 use Rattle.std.proofs.Math.Nat.{mul_comm}
 use Rattle.siglist.proofs.EntryLemmas.{entries_of-spelt}
@@ -46,6 +48,7 @@ four_bytes b n i h = ⊎_elim (λ near. let e = get_or-take 4 (drop n b) i 0 nea
 
 -- the number that stands at a place is spelt there
 u32_spelt : (b : List ℕ) (i : ℕ) → IsBytes b → i + 4 ≤ length b → (to_le_bytes w32 (u32_at b i) ≡ take 4 (drop i b)) × (u32_at b i < 2 ^ 32)
+unfolding u32_at
 u32_spelt b i h fits =
     let four = four_at b i fits in (
       le_bytes_4 (take 4 (drop i b)) (u32_at b i) four.1 (λ k. four_bytes b i k h) refl,

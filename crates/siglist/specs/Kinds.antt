@@ -24,6 +24,14 @@ kind_of b =
     else if bytes_eq b x509_sha256_kind then kind.X509Sha256
     else kind.Other b
 
+-- SignatureSize of a SHA256 list: the owner and a SHA-256 value
+abbrev pub sha256_size : ℕ
+sha256_size = 48
+
+-- SignatureSize of an X509_SHA256 list: the owner, a SHA-256 value and an EFI_TIME
+abbrev pub x509_sha256_size : ℕ
+x509_sha256_size = 64
+
 -- lists of this kind have no header
 abbrev pub is_bare : Kind → Bool
 is_bare kind.Sha256 = true
@@ -33,7 +41,7 @@ is_bare (kind.Other guid) = false
 
 -- an entry of this kind may have this size
 abbrev pub suits : Kind → ℕ → Bool
-suits kind.Sha256 n = n == 48
+suits kind.Sha256 n = n == sha256_size
 suits kind.X509 n = nat_le 17 n
-suits kind.X509Sha256 n = n == 64
+suits kind.X509Sha256 n = n == x509_sha256_size
 suits (kind.Other guid) n = true

@@ -1,8 +1,9 @@
 pub mod EntryViews
+pub mod Heads
 pub mod Kinds
 pub mod ListsFaults
-pub mod Packing
 pub mod PackFaults
-pub mod Reading
+pub mod Packing
 pub mod SignatureLists
+pub mod Steps
 pub mod Writing

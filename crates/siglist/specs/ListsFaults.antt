@@ -4,7 +4,7 @@ use Rattle.desk_bytes.specs.declared.refusal.Refusal.{Refusal}
 use Rattle.desk_bytes.specs.declared.refusal.Refusal.TheVariants as refusal
 use Rattle.siglist.specs.Kinds.{kind_of, is_bare}
 use Rattle.siglist.specs.SignatureLists.{SignatureList, IsList, Spells, list_bytes}
-use Rattle.siglist.specs.Reading.{size_at, header_size_at}
+use Rattle.siglist.specs.Heads.{size_at, header_size_at}
 use Rattle.siglist.specs.declared.fault.Lack.{Lack}
 use Rattle.siglist.specs.declared.fault.Lack.TheVariants as lack
 use Rattle.siglist.specs.declared.fault.ListsFault.{ListsFault}

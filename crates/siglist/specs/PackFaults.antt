@@ -28,3 +28,7 @@ abbrev pub fault_of : InputFault → PackFault
 fault_of input.TooLong = fault.TooLong
 fault_of input.Read = fault.Read
 fault_of input.NoMemory = fault.NoMemory
+
+-- a write that failed is the fault Write
+abbrev pub write_failed : PackFault
+write_failed = fault.Write

@@ -1,8 +1,8 @@
 -- Lines of digests packed into one signature list.
-use Rattle.std.specs.Prelude.{◌≡◌, ℕ, ◌<◌, ◌≤◌, List, [], ◌∷◌, length, Option, Some, None, Result, Ok, Err}
+use Rattle.std.specs.Prelude.{◌≡◌, ℕ, ◌<◌, ◌≤◌, List, length, Option, Result, Ok, Err}
 use Rattle.std.specs.Io.KnownBytes.{Appends}
 use Rattle.desk_bytes.specs.Digests.{digest_of, IsArranged}
-use Rattle.desk_bytes.specs.Lines.{Numbered, parted}
+use Rattle.desk_bytes.specs.Lines.{Numbered, named_in, parted}
 use Rattle.desk_bytes.specs.Output.{AppendsBeginning}
 use Rattle.siglist.specs.SignatureLists.{spelling}
 use Rattle.siglist.specs.Writing.{sha256_row}
@@ -11,20 +11,9 @@ use Rattle.siglist.specs.Writing.{sha256_row}
 abbrev pub longest_text : ℕ
 longest_text = 8388608
 
--- one more in front of what was read, where that was no wrong line
-abbrev pub put_first : {X : Type 0} → X → Result (List X) ℕ → Result (List X) ℕ
-put_first x (Ok xs) = Ok (x ∷ xs)
-put_first x (Err line) = Err line
-
--- what a line names, in front of what the rest names
-abbrev pub digest_at : ℕ → Option (List ℕ) → Result (List (List ℕ)) ℕ → Result (List (List ℕ)) ℕ
-digest_at line None rest = Err line
-digest_at line (Some d) rest = put_first d rest
-
 -- the digests that the lines name, in their order, or the number of the first line that names none
 abbrev pub digests_in : List Numbered → Result (List (List ℕ)) ℕ
-digests_in [] = Ok []
-digests_in (l ∷ ls) = digest_at l.number (digest_of l.text) (digests_in ls)
+digests_in lines = named_in digest_of lines
 
 -- the text is within the limit, and these are the digests of its lines, arranged
 pub record Packs (text : List ℕ) (ds : List (List ℕ)) : Type 0 where

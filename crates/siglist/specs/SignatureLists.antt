@@ -2,7 +2,7 @@
 use Rattle.std.specs.Prelude.{◌≡◌, ℕ, ◌+◌, ◌*◌, ◌^◌, ◌<◌, ◌≤◌, List, [], ◌∷◌, ◌++◌, length}
 use Rattle.std.specs.List.{flat_map, AllByRecursion}
 use Rattle.std.specs.Int.{w32, to_le_bytes}
-use Rattle.siglist.specs.Kinds.{sha256_kind, x509_kind, x509_sha256_kind}
+use Rattle.siglist.specs.Kinds.{sha256_kind, sha256_size, x509_kind, x509_sha256_kind, x509_sha256_size}
 
 -- EFI_SIGNATURE_DATA: who put the entry there (16 bytes), and what was put
 pub record Entry : Type 0 where
@@ -39,9 +39,9 @@ pub record IsEntryOf (entry_size : ℕ) (e : Entry) : Type 0 where
 
 -- the three kinds have no header, and entries of their own size
 pub record KeepsKind (l : SignatureList) : Type 0 where
-  pub sha256 : l.kind ≡ sha256_kind → (l.header ≡ []) × (l.entry_size ≡ 48)
+  pub sha256 : l.kind ≡ sha256_kind → (l.header ≡ []) × (l.entry_size ≡ sha256_size)
   pub x509 : l.kind ≡ x509_kind → (l.header ≡ []) × (17 ≤ l.entry_size)
-  pub x509_sha256 : l.kind ≡ x509_sha256_kind → (l.header ≡ []) × (l.entry_size ≡ 64)
+  pub x509_sha256 : l.kind ≡ x509_sha256_kind → (l.header ≡ []) × (l.entry_size ≡ x509_sha256_size)
 
 -- what has a spelling: each size fits its u32
 pub record IsList (l : SignatureList) : Type 0 where

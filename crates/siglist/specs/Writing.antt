@@ -1,6 +1,6 @@
 -- The rows of lists that the desk writes (UEFI 2.10, section 32.4.1).
 use Rattle.std.specs.Prelude.{ℕ, ◌+◌, List, [], ◌∷◌, ◌++◌, length, map, replicate}
-use Rattle.siglist.specs.Kinds.{sha256_kind, x509_kind, x509_sha256_kind}
+use Rattle.siglist.specs.Kinds.{sha256_kind, sha256_size, x509_kind, x509_sha256_kind, x509_sha256_size}
 use Rattle.siglist.specs.SignatureLists.{Entry, SignatureList}
 
 -- what this owner put there
@@ -23,7 +23,7 @@ bare_row kind entry_size (e ∷ es) = record {
 
 -- one SHA256 list of these digests in their order
 abbrev pub sha256_row : List ℕ → List (List ℕ) → List SignatureList
-sha256_row owner ds = bare_row sha256_kind 48 (map (entry_of owner) ds)
+sha256_row owner ds = bare_row sha256_kind sha256_size (map (entry_of owner) ds)
 
 -- a digest with these bytes behind it
 abbrev pub digest_entry : List ℕ → List ℕ → List ℕ → Entry
@@ -31,11 +31,11 @@ digest_entry owner after d = entry_of owner (d ++ after)
 
 -- one X509_SHA256 list of these digests in their order, each with its time
 abbrev pub x509_sha256_row : List ℕ → List (List ℕ) → List SignatureList
-x509_sha256_row owner ds = bare_row x509_sha256_kind 64 (map (digest_entry owner no_time) ds)
+x509_sha256_row owner ds = bare_row x509_sha256_kind x509_sha256_size (map (digest_entry owner no_time) ds)
 
 -- one list of these digests in their order, each with the same bytes behind it
 abbrev pub digest_row : List ℕ → List ℕ → List (List ℕ) → List ℕ → List SignatureList
-digest_row kind owner ds after = bare_row kind (48 + length after) (map (digest_entry owner after) ds)
+digest_row kind owner ds after = bare_row kind (sha256_size + length after) (map (digest_entry owner after) ds)
 
 -- one list of one entry
 abbrev pub one_row : List ℕ → List ℕ → List ℕ → List SignatureList

@@ -2,7 +2,7 @@
 ghost use Rattle.std.specs.Prelude.{◌≡◌, ◌+◌, ◌*◌, ◌∷◌, ◌≤◌, ℕ, suc, List, length, take};
 ghost use Rattle.std.specs.Iterator.{YieldsFirstBy, item_count};
 ghost use Rattle.siglist.specs.SignatureLists as spec;
-ghost use Rattle.siglist.specs.Reading.{entries_of};
+ghost use Rattle.siglist.specs.Steps.Reading.{entries_of};
 ghost use Rattle.siglist.specs.EntryViews.{seen_entry};
 
 use desk_bytes::Guid;

@@ -1,9 +1,9 @@
 //! What stops a pack, and what bytes are refused for that are no lists.
 ghost use Rattle.std.specs.Prelude.{◌≡◌};
 ghost use Rattle.siglist.specs.ListsFaults as lists;
-ghost use Rattle.siglist.specs.PackFaults.{fault_of, place_of, refusal_of};
+ghost use Rattle.siglist.specs.PackFaults.{fault_of, place_of, refusal_of, write_failed};
 
-use desk_bytes::{InputFault, Refusal};
+use desk_bytes::{InputFault, Refusal, WriteFailed};
 use thiserror::Error;
 
 /// Why a text was not packed.
@@ -35,6 +35,14 @@ impl From<InputFault> for PackFault {
             InputFault::Read => PackFault::Read,
             InputFault::NoMemory => PackFault::NoMemory,
         }
+    }
+}
+
+impl From<WriteFailed> for PackFault {
+    ghost from_gives = { λ _ fault. fault ≡ write_failed };
+
+    fn from(_: WriteFailed) -> PackFault {
+        PackFault::Write
     }
 }
 

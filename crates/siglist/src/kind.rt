@@ -19,6 +19,12 @@ pub(crate) const X509_SHA256: [u8; 16] = [
     0x92, 0xa4, 0xd2, 0x3b, 0xc0, 0x96, 0x79, 0x40, 0xb4, 0x20, 0xfc, 0xf9, 0x8e, 0xf1, 0x03, 0xed,
 ];
 
+/// SignatureSize of a SHA256 list: the owner and a SHA-256 value.
+pub(crate) const SHA256_SIZE: u32 = 48;
+
+/// SignatureSize of an X509_SHA256 list: the owner, a SHA-256 value and an EFI_TIME.
+const X509_SHA256_SIZE: u32 = 64;
+
 /// What the entries of a list are (UEFI 2.10, section 32.4.1).
 #[derive(Clone, Copy, Debug, PartialEq, Eq)]
 pub enum Kind {
@@ -65,9 +71,9 @@ impl Kind {
         ensures { result ≡ spec.suits self.now size }
     {
         match self {
-            Kind::Sha256 => size == 48,
+            Kind::Sha256 => size == SHA256_SIZE as usize,
             Kind::X509 => 17 <= size,
-            Kind::X509Sha256 => size == 64,
+            Kind::X509Sha256 => size == X509_SHA256_SIZE as usize,
             Kind::Other(_) => true,
         }
     }

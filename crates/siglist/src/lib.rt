@@ -7,8 +7,8 @@ mod head;
 mod kind;
 mod laws;
 mod list;
+mod lists_reading;
 mod packing;
-mod reading;
 mod row;
 mod writing;
 
@@ -17,7 +17,7 @@ pub use fault::{ListsFault, PackFault};
 pub use kind::Kind;
 pub use laws::{fault_is_one, packed_list_is_one, row_is_not_refused, row_is_one, row_is_spelt};
 pub use list::SignatureList;
+pub use lists_reading::lists;
 pub use packing::pack;
-pub use reading::lists;
 pub use row::Lists;
 pub use writing::{write_sha256, write_x509, write_x509_sha256};

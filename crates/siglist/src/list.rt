@@ -2,12 +2,12 @@
 ghost use Rattle.std.specs.Prelude.{◌≡◌, ◌+◌, ◌*◌, ◌<◌, ◌≤◌, None, length, drop};
 ghost use Rattle.siglist.specs.Kinds as kinds;
 ghost use Rattle.siglist.specs.SignatureLists.{Placed};
-ghost use Rattle.siglist.specs.Reading.{entries_of, front_of, lack_at, list_with, placed, size_at};
+ghost use Rattle.siglist.specs.Heads.{size_at};
+ghost use Rattle.siglist.specs.Steps.Reading.{entries_of, front_of, lack_at, list_with, placed};
 
 use crate::entry::{Entries, first_guid};
-use crate::head::u32_at;
 use crate::kind::{Kind, kind_of};
-use desk_bytes::Guid;
+use desk_bytes::{Guid, u32_at};
 use std::marker::Model;
 
 /// A signature list (UEFI 2.10, section 32.4.1, EFI_SIGNATURE_LIST), borrowed from the bytes that were
@@ -70,9 +70,9 @@ pub(crate) fn front(offset: u64, bytes: &[u8]) -> (SignatureList<'_>, &[u8])
     ensures list { result.0 ≡ placed offset (front_of bytes.now) }
     ensures rest { result.1.now ≡ drop (size_at bytes.now) bytes.now }
 {
-    let size = u32_at(bytes, 16);
-    let header_size = u32_at(bytes, 20);
-    let entry_size = u32_at(bytes, 24);
+    let size = u32_at(bytes, 16) as usize;
+    let header_size = u32_at(bytes, 20) as usize;
+    let entry_size = u32_at(bytes, 24) as usize;
     cut(offset, bytes, size, header_size, entry_size)
 }
 

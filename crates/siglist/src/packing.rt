@@ -78,8 +78,6 @@ pub fn pack<R: Read, W: Write>(
     let text = read_text(alloc, reader)?;
     let mut digests = read_digests(alloc, &text)?;
     arrange(&mut digests);
-    match write_sha256(owner, &digests, writer) {
-        Ok(()) => Ok(digests.len() as u64),
-        Err(_) => Err(PackFault::Write),
-    }
+    write_sha256(owner, &digests, writer)?;
+    Ok(digests.len() as u64)
 }

@@ -6,7 +6,7 @@ ghost use Rattle.desk_bytes.specs.Output.{AppendsBeginning};
 ghost use Rattle.siglist.specs.SignatureLists.{entry_bytes, spelling};
 ghost use Rattle.siglist.specs.Writing.{digest_row, entry_of, one_row, sha256_row, x509_row, x509_sha256_row};
 
-use crate::kind::{SHA256, X509, X509_SHA256};
+use crate::kind::{SHA256, SHA256_SIZE, X509, X509_SHA256};
 use desk_bytes::{Digest, Guid, WriteFailed, put};
 use std::io::Write;
 
@@ -68,7 +68,7 @@ fn put_digests<W: Write>(
     ensures err { OnErr result (AppendsBeginning (W.contents writer.old) (W.contents writer.new)
         (spelling (digest_row kind.now owner.now digests.now after.now))) }
 {
-    let entry_size = 48 + after.len() as u32;
+    let entry_size = SHA256_SIZE + after.len() as u32;
     put_head(kind, entry_size, digests.len() as u32, writer)?;
     for digest in digests {
         put_entry(owner, digest.as_bytes(), writer)?;

@@ -1,6 +1,6 @@
 -- What is known of an image before its sections are read.
 use Rattle.std.specs.Prelude.{◌≡◌, ◌<◌, ◌≤◌, ◌+◌, ◌*◌, ◌^◌, ℕ, List, length, IfSome}
-use Rattle.pe_image.specs.Checks.{longest_file}
+use Rattle.desk_bytes.specs.Limits.{longest_image}
 use Rattle.pe_image.specs.Image.{pe_signature_offset, fixed_size, sections_begin, number_of_sections, size_of_headers}
 use Rattle.pe_image.specs.Places.{certificate_directory_of}
 use Rattle.pe_image.specs.declared.front.Front.{Front}
@@ -12,7 +12,7 @@ pub record IsStart (f : List ℕ) (pe_signature : ℕ) : Type 0 where
   pub exact : pe_signature ≡ pe_signature_offset f
   pub small : pe_signature < 2 ^ 32
   pub within : pe_signature + 24 ≤ length f
-  pub short : length f ≤ longest_file
+  pub short : length f ≤ longest_image
 
 -- the size of the optional header without its data directories
 pub record IsFixedSize (f : List ℕ) (size : ℕ) : Type 0 where

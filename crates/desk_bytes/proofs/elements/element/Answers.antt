@@ -1,4 +1,3 @@
-use Rattle.std.proofs.Common.{◌≡◌}
 use Rattle.desk_bytes.specs.Parts.{part_of}
 use Rattle.desk_bytes.proofs.ElementLemmas.{element_of-some, element_of-none}
 use Rattle.desk_bytes.proofs.elements.element.Goals as goal

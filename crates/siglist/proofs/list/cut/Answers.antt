@@ -1,6 +1,6 @@
 use Rattle.std.proofs.Common.{◌+◌, ◌-◌, ◌/◌, take, drop, refl, ap, ◌∙◌}
 use Rattle.std.proofs.lemmas.List.{drop-drop}
-use Rattle.siglist.specs.Reading.{entries_of, list_with, placed}
+use Rattle.siglist.specs.Steps.Reading.{entries_of, list_with, placed}
 use Rattle.siglist.proofs.HeadLemmas.{same_list}
 use Rattle.siglist.proofs.list.cut.Goals as goal
 

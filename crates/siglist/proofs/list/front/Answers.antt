@@ -15,20 +15,20 @@ pub cut-requires-clause-room : goal.cut-requires-clause-room
 cut-requires-clause-room c =
     let h = lack_at-none c.args.bytes.now c.requires in
     let room = h.room in
-    let list = c.u32_at-size.ensures.value in
-    let header = c.u32_at-header_size.ensures.value in
+    let list = c.u32_at-size.ensures in
+    let header = c.u32_at-header_size.ensures in
     omega (arith, room, list, header)
 
 pub cut-requires-clause-fits : goal.cut-requires-clause-fits
 cut-requires-clause-fits c =
     let h = lack_at-none c.args.bytes.now c.requires in
     let fits = h.fits in
-    let list = c.u32_at-size.ensures.value in
+    let list = c.u32_at-size.ensures in
     omega (arith, fits, list)
 
 pub cut-requires-clause-least : goal.cut-requires-clause-least
 cut-requires-clause-least c =
     let h = lack_at-none c.args.bytes.now c.requires in
     let least = h.least in
-    let entry = c.u32_at-entry_size.ensures.value in
+    let entry = c.u32_at-entry_size.ensures in
     omega (arith, least, entry)

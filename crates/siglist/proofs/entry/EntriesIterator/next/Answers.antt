@@ -1,5 +1,5 @@
 use Rattle.std.proofs.Common.{◌≡◌, ◌-◌, suc, length, sym, ap, ◌∙◌, arith, rules}
-use Rattle.siglist.specs.Reading.{entries_of}
+use Rattle.siglist.specs.Steps.Reading.{entries_of}
 use Rattle.siglist.proofs.entry.EntriesIterator.next.Goals as goal
 
 pub returns-clause-steps : goal.returns-clause-steps

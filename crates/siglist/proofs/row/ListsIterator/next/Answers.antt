@@ -2,7 +2,8 @@ use Rattle.std.proofs.Common.{◌≡◌, ◌<◌, ◌≤◌, ◌-◌, ◌∷◌,
 use Rattle.std.proofs.lemmas.Bool.Decides.{nat_tests}
 use Rattle.std.proofs.lemmas.List.{length-drop}
 use Rattle.siglist.specs.SignatureLists.{IsRow, Placed, placed_from}
-use Rattle.siglist.specs.Reading.{front_of, placed, row_of, size_at}
+use Rattle.siglist.specs.Heads.{size_at}
+use Rattle.siglist.specs.Steps.Reading.{front_of, placed, row_of}
 use Rattle.siglist.proofs.RowLemmas.{IsRow-front, IsRow-rest, placed_from-front, row_of-none}
 use Rattle.siglist.proofs.row.ListsIterator.next.Goals as goal
 

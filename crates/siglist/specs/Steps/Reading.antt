@@ -1,26 +1,10 @@
 -- Lists read from the front of bytes (UEFI 2.10, section 32.4.1), apart from their spelling.
 use Rattle.std.specs.Prelude.{ℕ, zero, suc, ◌+◌, ◌-◌, ◌/◌, ◌%◌, ◌==◌, ◌&&◌, nat_lt, List, [], ◌∷◌, length, take, drop, Option, Some, None, if◌then◌else◌}
-use Rattle.std.specs.Int.{w32, from_le_bytes}
+use Rattle.siglist.specs.Heads.{size_at, header_size_at, entry_size_at}
 use Rattle.siglist.specs.Kinds.{kind_of, is_bare, suits}
 use Rattle.siglist.specs.SignatureLists.{Entry, Placed, SignatureList}
 use Rattle.siglist.specs.declared.fault.Lack.{Lack}
 use Rattle.siglist.specs.declared.fault.Lack.TheVariants as lack
-
--- the number that stands at a place, low byte first
-abbrev pub u32_at : List ℕ → ℕ → ℕ
-u32_at b i = from_le_bytes w32 (take 4 (drop i b))
-
--- SignatureListSize
-abbrev pub size_at : List ℕ → ℕ
-size_at b = u32_at b 16
-
--- SignatureHeaderSize
-abbrev pub header_size_at : List ℕ → ℕ
-header_size_at b = u32_at b 20
-
--- SignatureSize
-abbrev pub entry_size_at : List ℕ → ℕ
-entry_size_at b = u32_at b 24
 
 -- how many bytes the entries have
 abbrev pub entries_size_at : List ℕ → ℕ

@@ -1,10 +1,11 @@
 use Rattle.std.proofs.Common.{◌≡◌, ◌+◌, ◌≤◌, ◌∙◌, ℕ, List, length, drop, None, sym, ap, subst, arith}
 use Rattle.std.proofs.lemmas.List.{length-drop}
 use Rattle.siglist.specs.ListsFaults.{IsRefused}
-use Rattle.siglist.specs.Reading.{lack_at, size_at}
+use Rattle.siglist.specs.Heads.{size_at}
+use Rattle.siglist.specs.Steps.Reading.{lack_at}
 use Rattle.siglist.proofs.SpeltLemmas.{IsBytes}
 use Rattle.siglist.proofs.RowLemmas.{SpeltTo, SpeltTo-more, SpeltTo-all, SpeltTo-refused, front_size}
-use Rattle.siglist.proofs.reading.lists.Goals as goal
+use Rattle.siglist.proofs.lists_reading.lists.Goals as goal
 
 -- one list more
 more : (bytes rest : List ℕ) (at n : ℕ) → IsBytes bytes → at ≤ length bytes → SpeltTo bytes at → rest ≡ drop at bytes → lack_at rest ≡ None → n ≡ size_at rest
