@@ -4,6 +4,7 @@ pub mod Hashed
 pub mod Headers
 pub mod Image
 pub mod Numbers
+pub mod Passes
 pub mod Pieces
 pub mod Places
 pub mod Sbat
