@@ -23,31 +23,30 @@ pub block_read : (content file out block : List ℕ) (at size : ℕ) → content
 block_read content file out block at size same fits is =
     is ∙ ap (λ k. slice_range content at (at + k)) (length-take-le size block fits) ∙ ap (λ f. slice_range f at (at + size)) same
 
+-- what is shown of a block whose front was read
+pub block_front : (out block : List ℕ) (size : ℕ) → length out ≡ size → take size (out ++ drop size block) ≡ out
+block_front out block size wide = ap (λ k. take k (out ++ drop size block)) (sym wide) ∙ take-append_seam out (drop size block)
+
 -- the block behind what was fed already
 pub block_fed : (file out block : List ℕ) (from at size : ℕ) → out ≡ slice_range file at (at + size) → length out ≡ size
     → from ≤ at → at + size ≤ length file → slice_range file from at ++ take size (out ++ drop size block) ≡ slice_range file from (at + size)
 block_fed file out block from at size read wide after fits =
-    let front : take size (out ++ drop size block) ≡ out = ap (λ k. take k (out ++ drop size block)) (sym wide) ∙ take-append_seam out (drop size block) in
-    ap (λ l. slice_range file from at ++ l) (front ∙ read) ∙ slice_range-join file from at (at + size) after (omega arith) (omega arith)
+    ap (λ l. slice_range file from at ++ l) (block_front out block size wide ∙ read) ∙ slice_range-join file from at (at + size) after (omega arith) (omega arith)
 
 -- ---- ranges
 
--- the hasher holds what stands before the ranges that are left, and these lie within the file
-pub record Feeds (hasher : Sha256) (f : List ℕ) (left : List Span) : Type 0 where
+-- the hasher holds what stands before the ranges that are left, of a message that ends with these
+pub record Feeds (hasher : Sha256) (f : List ℕ) (left : List Span) (message : List ℕ) : Type 0 where
   pub fed : List ℕ
   pub held : Holds256 hasher fed
-  pub whole : fed ++ bytes_at f left ≡ hashed_bytes f
-  pub full : All (λ s. s.from < s.to) left
-  pub within : EndWithin (length f) left
+  pub whole : fed ++ bytes_at f left ≡ message
 
-pub Feeds-next : (hasher next : Sha256) (f : List ℕ) (s : Span) (rest : List Span) → Feeds hasher f (s ∷ rest)
-    → ((m : List ℕ) → Holds256 hasher m → Holds256 next (m ++ slice_range f s.from s.to)) → Feeds next f rest
-Feeds-next hasher next f s rest h more = record {
+pub Feeds-next : (hasher next : Sha256) (f : List ℕ) (s : Span) (rest : List Span) (message : List ℕ) → Feeds hasher f (s ∷ rest) message
+    → ((m : List ℕ) → Holds256 hasher m → Holds256 next (m ++ slice_range f s.from s.to)) → Feeds next f rest message
+Feeds-next hasher next f s rest message h more = record {
   fed = h.fed ++ slice_range f s.from s.to;
   held = more h.fed h.held;
   whole = append_assoc h.fed (slice_range f s.from s.to) (bytes_at f rest) ∙ h.whole;
-  full = All-tail (λ s. s.from < s.to) s rest h.full;
-  within = All-tail (λ s. s.to ≤ length f) s rest h.within;
 }
 
 -- ---- what is to be signed

@@ -3,3 +3,4 @@ pub mod CarriedLemmas
 pub mod HashingLemmas
 pub mod OutcomeLemmas
 pub mod StepLemmas
+pub mod SumsLemmas

@@ -1,20 +1,17 @@
 //! The digests of an image.
-ghost use Rattle.std.specs.Prelude.{◌≡◌, ◌+◌, ◌<◌, ◌≤◌, ◌++◌, ℕ, List, length, slice_range, IfOk, OnErr, OnOk};
+ghost use Rattle.std.specs.Prelude.{◌≡◌, ◌+◌, ◌<◌, ◌≤◌, ◌++◌, ℕ, List, All, length, slice_range, IfOk, OnErr, OnOk};
 ghost use Rattle.sha2.specs.Hashers.{Holds256};
-ghost use Rattle.sha2.specs.Sha256.{sha256};
 ghost use Rattle.pe_image.specs.Hashed.{hashed_bytes};
 ghost use Rattle.pe_image.specs.Places.{IsLayoutOf, places_of};
 ghost use Rattle.pe_image.specs.Sources.{HaveRisen, OnlyReads};
+ghost use Rattle.pe_image.specs.Spans.{EndWithin, bytes_at};
 ghost use Rattle.authenticode.specs.Hashing.{image_digest, padding_of, signed_bytes, signed_digest};
 
 use desk_bytes::Digest;
-use pe_image::{Layout, ReadFailed, Source, Span, ranges, table};
+use pe_image::{Layout, PIECE, Ranges, ReadFailed, Source, Span, ranges, table};
 use sha2::{Digest as Hasher, Sha256};
 
-/// How many bytes are read at once.
-const BLOCK: usize = 64;
-
-/// Adds the bytes of a span to the message of a hasher, a block at a time.
+/// Adds the bytes of a span to the message of a hasher, by the pieces in which they stand.
 fn feed<S: Source>(source: &mut S, span: Span, hasher: &mut Sha256) -> Result<(), ReadFailed>
     requires order { span.from ≤ span.to }
     requires within { span.to ≤ length (S.content source.old) }
@@ -25,19 +22,41 @@ fn feed<S: Source>(source: &mut S, span: Span, hasher: &mut Sha256) -> Result<()
 
     ensures reads { OnlyReads S.content S.failures source.old source.new }
 {
-    let mut block = [0; BLOCK];
+    let mut piece = [0; PIECE];
     let mut at = span.from;
     while at < span.to {
-        let size = (span.to - at).min(BLOCK as u64) as usize;
-        source.read_at(at, &mut block[..size])?;
-        hasher.update(&block[..size]);
+        let left = PIECE as u64 - at % PIECE as u64;
+        let size = (span.to - at).min(left) as usize;
+        source.read_at(at, &mut piece[..size])?;
+        hasher.update(&piece[..size]);
         at += size as u64;
     }
     Ok(())
 }
 
+/// Adds the bytes at ranges to the message of a hasher.
+pub(crate) fn feed_ranges<S: Source>(
+    source: &mut S,
+    ranges: Ranges,
+    hasher: &mut Sha256,
+) -> Result<(), ReadFailed>
+    requires full { All (λ s. s.from < s.to) ranges }
+    requires within { EndWithin (length (S.content source.old)) ranges }
+    ensures ok { OnOk result ((m : List ℕ) → Holds256 hasher.old m
+        → Holds256 hasher.new (m ++ bytes_at (S.content source.old) ranges)) }
+
+    ensures device { OnErr result (HaveRisen (S.failures source.old) (S.failures source.new)) }
+
+    ensures reads { OnlyReads S.content S.failures source.old source.new }
+{
+    for span in ranges {
+        feed(source, span, hasher)?;
+    }
+    Ok(())
+}
+
 /// A hasher of the bytes that are hashed.
-fn hash_ranges<S: Source>(source: &mut S, layout: &Layout) -> Result<Sha256, ReadFailed>
+fn hash_image<S: Source>(source: &mut S, layout: &Layout) -> Result<Sha256, ReadFailed>
     requires { IsLayoutOf (S.content source.old) layout.now }
     ensures ok { IfOk result (λ hasher. Holds256 hasher (hashed_bytes (S.content source.old))) }
 
@@ -46,9 +65,7 @@ fn hash_ranges<S: Source>(source: &mut S, layout: &Layout) -> Result<Sha256, Rea
     ensures reads { OnlyReads S.content S.failures source.old source.new }
 {
     let mut hasher = Sha256::new();
-    for span in ranges(layout) {
-        feed(source, span, &mut hasher)?;
-    }
+    feed_ranges(source, ranges(layout), &mut hasher)?;
     Ok(hasher)
 }
 
@@ -61,7 +78,7 @@ fn missing(length: u64) -> usize
 }
 
 /// Adds the zero bytes that a signature of the image covers, where it has no certificate table.
-fn pad(hasher: &mut Sha256, layout: &Layout, size: u64)
+pub(crate) fn pad(hasher: &mut Sha256, layout: &Layout, size: u64)
     ensures { (f : List ℕ) → layout.now ≡ places_of f → size ≡ length f
         → Holds256 hasher.old (hashed_bytes f) → Holds256 hasher.new (signed_bytes f) }
 {
@@ -70,57 +87,8 @@ fn pad(hasher: &mut Sha256, layout: &Layout, size: u64)
     }
 }
 
-/// The SHA-256 of all that a source holds. It reads the source once, in blocks, and takes no memory.
-pub fn file_digest<S: Source>(source: &mut S) -> Result<Digest, ReadFailed>
-    ensures exact { IfOk result (λ digest. digest ≡ sha256 (S.content source.old)) }
-
-    // A fault comes only where the source's count of failures rose or stood at its greatest.
-    ensures device { OnErr result (HaveRisen (S.failures source.old) (S.failures source.new)) }
-
-    ensures reads { OnlyReads S.content S.failures source.old source.new }
-{
-    let mut hasher = Sha256::new();
-    let length = source.len();
-    let whole = Span {
-        from: 0,
-        to: length,
-    };
-    feed(source, whole, &mut hasher)?;
-    Ok(Digest::from(hasher.finalize()))
-}
-
-/// The digest of an image, and the one that a signature of it holds.
-#[derive(Clone, Copy, Debug, PartialEq, Eq)]
-pub struct ImageDigests {
-    pub digest: Digest,
-    pub signing: Digest,
-}
-
-/// Both digests of an image, by reading each range once. The layout is that of the source. It takes no
-/// memory.
-pub fn digests<S: Source>(source: &mut S, layout: &Layout) -> Result<ImageDigests, ReadFailed>
-    requires { IsLayoutOf (S.content source.old) layout.now }
-    ensures digest { IfOk result (λ both. both.digest ≡ image_digest (S.content source.old)) }
-    ensures signing { IfOk result (λ both. both.signing ≡ signed_digest (S.content source.old)) }
-
-    // A fault comes only where the source's count of failures rose or stood at its greatest.
-    ensures device { OnErr result (HaveRisen (S.failures source.old) (S.failures source.new)) }
-
-    ensures reads { OnlyReads S.content S.failures source.old source.new }
-{
-    let plain = hash_ranges(source, layout)?;
-    let Ok(mut padded) = plain.clone() else {
-        unreachable!()
-    };
-    pad(&mut padded, layout, source.len());
-    Ok(ImageDigests {
-        digest: Digest::from(plain.finalize()),
-        signing: Digest::from(padded.finalize()),
-    })
-}
-
 /// The Authenticode SHA-256 digest of an image. The layout is that of the source. It reads each range
-/// once, in blocks, and takes no memory.
+/// once, by the pieces of 65,536 bytes in which it stands, and takes no memory.
 pub fn digest<S: Source>(source: &mut S, layout: &Layout) -> Result<Digest, ReadFailed>
     requires { IsLayoutOf (S.content source.old) layout.now }
     ensures exact { IfOk result (λ digest. digest ≡ image_digest (S.content source.old)) }
@@ -130,7 +98,7 @@ pub fn digest<S: Source>(source: &mut S, layout: &Layout) -> Result<Digest, Read
 
     ensures reads { OnlyReads S.content S.failures source.old source.new }
 {
-    let hasher = hash_ranges(source, layout)?;
+    let hasher = hash_image(source, layout)?;
     Ok(Digest::from(hasher.finalize()))
 }
 
@@ -146,5 +114,7 @@ pub fn signing_digest<S: Source>(source: &mut S, layout: &Layout) -> Result<Dige
 
     ensures reads { OnlyReads S.content S.failures source.old source.new }
 {
-    Ok(digests(source, layout)?.signing)
+    let mut hasher = hash_image(source, layout)?;
+    pad(&mut hasher, layout, source.len());
+    Ok(Digest::from(hasher.finalize()))
 }

@@ -1,16 +1,30 @@
-//! Files that are read whole.
+//! Files that are read to their end.
 use desk_bytes::{Refusal, read_all};
 use desk_lines::{Fault, MOST_BYTES};
+use pe_image::Pieces;
 use std::rt::Files;
 use std::{fs, io};
 
-/// All bytes of a file.
-pub fn read_file<R: Files + AllocGlobal>(rt: &R, path: &str) -> Result<Vec<u8>, Fault> {
+/// Opens a file.
+fn open<R: Files + AllocGlobal>(rt: &R, path: &str) -> Result<R::File, Fault> {
     match fs::open(rt, path) {
-        Ok(mut file) => Ok(read_all(rt.alloc(), &mut file, MOST_BYTES)?),
+        Ok(file) => Ok(file),
         Err(error) if error.kind() == io::ErrorKind::OutOfMemory => {
             Err(Fault::from(Refusal::NoMemory))
         }
         Err(_) => Err(Fault::from(Refusal::File)),
     }
+}
+
+/// All bytes of a file.
+pub fn read_file<R: Files + AllocGlobal>(rt: &R, path: &str) -> Result<Vec<u8>, Fault> {
+    let mut file = open(rt, path)?;
+    Ok(read_all(rt.alloc(), &mut file, MOST_BYTES)?)
+}
+
+/// An image's file, in pieces. Of a file that is too long for an image one byte more than `MOST_BYTES` is taken: its
+/// layout is refused for its length.
+pub fn read_image<R: Files + AllocGlobal>(rt: &R, path: &str) -> Result<Pieces, Fault> {
+    let mut file = open(rt, path)?;
+    Ok(Pieces::take(rt.alloc(), &mut file, MOST_BYTES as u64 + 1)?)
 }

@@ -1,11 +1,10 @@
 //! From what the words say to the work.
 use crate::fault::Stop;
-use crate::file::read_file;
+use crate::file::{read_file, read_image};
 use desk_bytes::{Guid, Refusal, WriteFailed};
 use desk_lines::{Fault, print_facts, print_fault, print_list, print_ranges};
 use desk_service::facts;
 use desk_words::Words;
-use pe_image::Bytes;
 use siglist::pack;
 use std::alloc::Global;
 use std::io::{BufWriter, Read, Write};
@@ -47,17 +46,17 @@ fn run_pack(rt: &HostRuntime, owner: &str) -> Result<(), Stop> {
 
 /// Prints the ranges of an image's file.
 fn run_ranges(rt: &HostRuntime, file: &str) -> Result<(), Stop> {
-    let bytes = read_file(rt, file)?;
+    let mut image = read_image(rt, file)?;
     let mut out = buffered(rt.alloc(), rt.stdout())?;
-    print_ranges(&mut Bytes(&bytes), &mut out)?;
+    print_ranges(&mut image, &mut out)?;
     flush(&mut out)?;
     Ok(())
 }
 
 /// Prints what the desk keeps of an image's file.
 fn run_facts(rt: &HostRuntime, file: &str) -> Result<(), Stop> {
-    let bytes = read_file(rt, file)?;
-    let found = facts(rt.alloc(), &mut Bytes(&bytes)).map_err(Fault::from)?;
+    let mut image = read_image(rt, file)?;
+    let found = facts(rt.alloc(), &mut image).map_err(Fault::from)?;
     let mut out = buffered(rt.alloc(), rt.stdout())?;
     print_facts(&found, &mut out).map_err(Fault::from)?;
     flush(&mut out)?;

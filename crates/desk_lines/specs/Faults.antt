@@ -7,7 +7,9 @@ use Rattle.desk_lines.specs.declared.fault.Fault.{Fault}
 use Rattle.desk_service.specs.Faults as facts
 use Rattle.desk_service.specs.declared.fault.FactsFault.{FactsFault}
 use Rattle.pe_image.specs.Faults as layout
+use Rattle.pe_image.specs.Pieces as pieces
 use Rattle.pe_image.specs.declared.fault.LayoutFault.{LayoutFault}
+use Rattle.pe_image.specs.declared.pieces.PiecesFault.{PiecesFault}
 use Rattle.siglist.specs.ListsFaults as lists
 use Rattle.siglist.specs.PackFaults as pack
 use Rattle.siglist.specs.declared.fault.ListsFault.{ListsFault}
@@ -36,3 +38,7 @@ of_facts fault = record { refusal = facts.refusal_of fault; place = facts.place_
 -- what an input that isn't read is told as
 abbrev pub of_input : InputFault → Fault
 of_input fault = row_of (input.refusal_of fault)
+
+-- what an input that isn't read into pieces is told as
+abbrev pub of_pieces : PiecesFault → Fault
+of_pieces fault = row_of (pieces.refusal_of fault)

@@ -1,11 +1,11 @@
 //! A row of the table of refusals, with its place.
 ghost use Rattle.std.specs.Prelude.{◌≡◌};
 ghost use Rattle.desk_bytes.specs.declared.refusal.Refusal.TheVariants.{Write};
-ghost use Rattle.desk_lines.specs.Faults.{of_facts, of_input, of_layout, of_lists, of_pack, row_of};
+ghost use Rattle.desk_lines.specs.Faults.{of_facts, of_input, of_layout, of_lists, of_pack, of_pieces, row_of};
 
 use desk_bytes::{InputFault, Refusal, WriteFailed};
 use desk_service::FactsFault;
-use pe_image::LayoutFault;
+use pe_image::{LayoutFault, PiecesFault};
 use siglist::{ListsFault, PackFault};
 
 /// A row of the table of refusals, with its place where it has one.
@@ -71,6 +71,14 @@ impl From<InputFault> for Fault {
     ghost from_gives = { λ fault row. row ≡ of_input fault };
 
     fn from(fault: InputFault) -> Fault {
+        Fault::from(fault.refusal())
+    }
+}
+
+impl From<PiecesFault> for Fault {
+    ghost from_gives = { λ fault row. row ≡ of_pieces fault };
+
+    fn from(fault: PiecesFault) -> Fault {
         Fault::from(fault.refusal())
     }
 }

@@ -9,7 +9,7 @@ ghost use Rattle.desk_service.specs.ImageFacts.{sbat_bytes, table_bytes};
 
 use crate::fault::FactsFault;
 use crate::part::{PartFault, read_part};
-use authenticode::{carried, digests, file_digest};
+use authenticode::{carried, sums};
 use desk_texts::{Carried, Components, Extent, Facts};
 use pe_image::{Layout, Source, gap, layout, sbat_range, table};
 use sbat::components;
@@ -70,8 +70,9 @@ fn read_components<S: Source>(
     Ok(components)
 }
 
-/// What the desk keeps of an image. It reads all of the source twice and the certificate table and the text
-/// of `.sbat` once more; it takes memory for these two and for what they hold.
+/// What the desk keeps of an image. It reads each piece of 65,536 bytes of the source once, with a gap the last range
+/// once more, and the headers, the certificate table and the text of `.sbat` besides; it takes memory for these two and
+/// for what they hold.
 ///
 /// Of several faults the layout's is answered first, then that of the certificates, then that of the
 /// components; Read, and Layout with Read, only where the source's count of failures rose or stood at its
@@ -91,10 +92,7 @@ pub fn facts<S: Source>(alloc: Global, source: &mut S) -> Result<Facts, FactsFau
     let Some(extent) = Extent::new(source.len(), gap(&layout)) else {
         unreachable!()
     };
-    let Ok(file) = file_digest(source) else {
-        return Err(FactsFault::Read);
-    };
-    let Ok(both) = digests(source, &layout) else {
+    let Ok(hashes) = sums(source, &layout) else {
         return Err(FactsFault::Read);
     };
     let carried = match read_carried(alloc, source, &layout) {
@@ -107,9 +105,9 @@ pub fn facts<S: Source>(alloc: Global, source: &mut S) -> Result<Facts, FactsFau
     };
     Ok(Facts {
         extent,
-        file,
-        digest: both.digest,
-        signing: both.signing,
+        file: hashes.file,
+        digest: hashes.digest,
+        signing: hashes.signing,
         carried,
         components,
     })

@@ -2,6 +2,7 @@ pub mod CheckLemmas
 pub mod HashedLemmas
 pub mod HeaderLemmas
 pub mod OrderLemmas
+pub mod PassesLemmas
 pub mod PiecesLemmas
 pub mod PlacesLemmas
 pub mod PlacingLemmas

@@ -3,6 +3,7 @@ pub mod Faults
 pub mod Hashed
 pub mod Headers
 pub mod Image
+pub mod Passes
 pub mod Pieces
 pub mod Places
 pub mod Sbat

@@ -3,7 +3,7 @@ ghost use Rattle.std.specs.Prelude.{◌≡◌, ◌+◌, ◌*◌, ◌<◌, ◌≤
 ghost use Rattle.std.specs.Io.KnownBytes.{Consumes, IsAtEnd};
 ghost use Rattle.std.specs.List.{flat_map};
 ghost use Rattle.pe_image.specs.Pieces.{refusal_of};
-ghost use Rattle.pe_image.specs.Sources.{HaveRisen};
+ghost use Rattle.pe_image.specs.Sources.{HaveRisen, OnlyReads};
 ghost use Rattle.pe_image.specs.declared.pieces.TheConstants.{PIECE};
 
 use crate::source::{ReadFailed, Source};
@@ -160,8 +160,7 @@ impl Source for Pieces {
         ensures device { OnErr result (HaveRisen 0 0) }
         ensures steady { OnOk result (◌≡◌ {A = ℕ} 0 0) }
 
-        ensures kept { 0 ≤ 0 }
-        ensures same { self.new ≡ self.old }
+        ensures reads { OnlyReads (λ bytes. bytes) (λ _. 0) self.old self.new }
     {
         let end = self.len();
         prove!(at <= end);

@@ -1,5 +1,5 @@
 //! The ranges of a file that are hashed.
-ghost use Rattle.std.specs.Prelude.{◌≡◌, ◌+◌, ◌<◌, ◌≤◌, ◌++◌, ◌∷◌, ℕ, List, [], length, take, drop};
+ghost use Rattle.std.specs.Prelude.{◌≡◌, ◌+◌, ◌-◌, ◌<◌, ◌≤◌, ◌++◌, ◌∷◌, ℕ, List, [], length, take, drop};
 ghost use Rattle.std.specs.Iterator.{YieldsFirst, item_count};
 ghost use Rattle.pe_image.specs.Spans.{nonempty};
 ghost use Rattle.pe_image.specs.declared.span.Span.{Span};
@@ -65,6 +65,36 @@ impl Ranges {
             spans,
             next: 0,
             end,
+        }
+    }
+
+    /// All but the last.
+    pub(crate) fn but_last(self) -> Self
+        ensures { result ≡ take (length self - 1) self }
+    {
+        Ranges {
+            end: self.end.saturating_sub(1).max(self.next),
+            ..self
+        }
+    }
+
+    /// The last alone.
+    pub(crate) fn last_only(self) -> Self
+        ensures { result ≡ drop (length self - 1) self }
+    {
+        Ranges {
+            next: self.end.saturating_sub(1).max(self.next),
+            ..self
+        }
+    }
+
+    /// None of them.
+    pub(crate) fn none(self) -> Self
+        ensures { result ≡ drop (length self) self }
+    {
+        Ranges {
+            next: self.end,
+            ..self
         }
     }
 }

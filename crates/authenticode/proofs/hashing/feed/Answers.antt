@@ -11,14 +11,14 @@ loop-at-preserved g c =
     let from = c.args.span.from in
     let size = c.min-size.result in
     let out = c.read_at.new.out in
-    let block = c.loop-at.block in
-    let read = block_read (g.S.Source.content c.loop-at.source) file out block at size c.loop-at.invariant.reads.same (omega arith) c.in_ok-read_at.ensures.ok in
+    let piece = c.loop-at.piece in
+    let read = block_read (g.S.Source.content c.loop-at.source) file out piece at size c.loop-at.invariant.reads.same (omega arith) c.in_ok-read_at.ensures.ok in
     let wide : length out ≡ size = search (rules, places) in
-    let fed = block_fed file out block from at size read wide (omega arith) (omega (arith, c.requires.within)) in
+    let fed = block_fed file out piece from at size read wide (omega arith) (omega (arith, c.requires.within)) in
     record {
       after = search rules;
       before = search rules;
-      block = search (rules, places);
+      piece = search (rules, places);
       reads = record { same = search rules; kept = search rules };
       fed = λ m held.
           subst (Holds256 c.update.new.self) (append_assoc m (slice_range file from at) _ ∙ ap (λ l. m ++ l) fed)
