@@ -19,8 +19,8 @@ with_facts x ms =
     put (codes "carried") (digests_data x.carried) ms))))))
 
 -- those of what became of it
-unfoldable pub with_standing : ShownRequest → Members → Members
-with_standing r ms =
+unfoldable pub with_state : ShownRequest → Members → Members
+with_state r ms =
     put (codes "votes") (votes_data r.votes) (
     put (codes "title") (string r.title) (
     put (codes "submitter") (string r.submitter) (

@@ -3,7 +3,7 @@ ghost use Rattle.std.specs.Prelude.{◌≡◌, IfOk, OnOk};
 ghost use Rattle.serde_json.specs.Data.{string};
 ghost use Rattle.serde_json.specs.Written.{compact_text};
 ghost use Rattle.serde_json.specs.View.{members_view, view};
-ghost use Rattle.desk_json.specs.Members.{with_facts, with_standing};
+ghost use Rattle.desk_json.specs.Members.{with_facts, with_state};
 ghost use Rattle.desk_json.specs.Requests as spec;
 
 use crate::in_json::{InJson, array_of};
@@ -63,14 +63,14 @@ fn put_facts(
 }
 
 /// Adds what is shown of what became of it.
-#[tactic(auto, unfolding(crate::specs::Members::with_standing))]
-fn put_standing(
+#[tactic(auto, unfolding(crate::specs::Members::with_state))]
+fn put_state(
     members: &mut Map<String, Value>,
     alloc: Global,
     request: &ShownRequest,
 ) -> Result<(), AllocError>
     ensures { OnOk result (members_view members.new.entries
-        ≡ with_standing request.now (members_view members.old.entries)) }
+        ≡ with_state request.now (members_view members.old.entries)) }
 {
     let number = Value::from(request.number.value());
     put(members, alloc, "number", number)?;
@@ -89,11 +89,11 @@ fn put_standing(
 impl InJson for ShownRequest {
     ghost as_data = { spec.request_data };
 
-    #[tactic(auto, unfolding(crate::specs::Members::with_facts, crate::specs::Members::with_standing))]
+    #[tactic(auto, unfolding(crate::specs::Members::with_facts, crate::specs::Members::with_state))]
     fn value(&self, alloc: Global) -> Result<Value, AllocError> {
         let mut members = Map::new(alloc);
         put_facts(&mut members, alloc, &self.facts)?;
-        put_standing(&mut members, alloc, self)?;
+        put_state(&mut members, alloc, self)?;
         Ok(Value::Object(members))
     }
 }

@@ -1,0 +1,3 @@
+pub mod Outages
+pub mod Refusals
+pub mod Responses

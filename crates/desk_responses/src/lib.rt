@@ -1,0 +1,17 @@
+//! The responses of the desk over HTTP/1.1, to the byte, and the status of each refusal.
+#![tactic(auto)]
+
+mod content;
+mod heads;
+mod outage;
+mod refused;
+mod refused_texts;
+mod responses;
+mod status;
+
+pub use content::Content;
+pub use outage::{Outage, outage_response};
+pub use refused::Refused;
+pub use refused_texts::refused_json;
+pub use responses::{refused_response, response};
+pub use status::Status;
