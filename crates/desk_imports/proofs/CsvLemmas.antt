@@ -1,6 +1,6 @@
 -- How a reader of CSV goes from record to record.
-use Rattle.std.proofs.Common.{◌≡◌, ℕ, zero, suc, ◌+◌, ◌<◌, ◌≤◌, cond, eqb, Bool, true, false, List, [], ◌∷◌, length, Option, Some, None, Result, Ok, Err, refl, sym, ap, subst, ◌∙◌, inl, arith}
-use Rattle.std.specs.Prelude.{IfOk, OnOk}
+use Rattle.std.proofs.Common.{◌≡◌, ℕ, zero, suc, ◌+◌, ◌<◌, ◌≤◌, cond, eqb, Bool, true, false, List, [], ◌∷◌, ◌++◌, append_assoc, append-nil, length, Option, Some, None, Result, Ok, Err, refl, sym, ap, subst, ◌∙◌, inl, arith}
+use Rattle.std.specs.Result.{IsOkAnd}
 use Rattle.csv.specs.Machine.{Read, after_end, ends_at_end, ends_with, field_after, fields_after, in_field, is_end, next_record, start_field, start_record, step}
 use Rattle.csv.specs.Reading.{ReadRecord, Reached, Ready, default_config, records_from, source_of, took_first}
 use Rattle.csv.specs.declared.parser.Action.{Action}
@@ -11,8 +11,26 @@ use Rattle.csv.specs.declared.parser.Terminator.TheVariants as term
 use Rattle.csv.specs.declared.reader.Reader.{Reader}
 use Rattle.csv.specs.declared.reader.Trim.TheVariants as trim
 use Rattle.csv.proofs.ReadFacts.{rows-end, rows-more}
-use Rattle.desk_imports.specs.FromCsv.{Record}
-use Rattle.desk_imports.specs.Records.{Leaves, Reads}
+use Rattle.desk_texts.specs.declared.command.Command.{Command}
+use Rattle.desk_imports.specs.FromCsv.{IsCsvImport, Record, is_header, item_at, items_from, items_in, put_first, record_item, records_of}
+use Rattle.desk_imports.specs.Gathering.{Gathering, Gathers}
+use Rattle.desk_imports.specs.Items.{IsCommandOf, IsTooMany}
+use Rattle.desk_imports.specs.Records.{GathersRecords, Leaves, PassesHeader, Reads}
+use Rattle.desk_imports.specs.declared.csv_rows.Next.TheVariants as next
+use Rattle.desk_imports.specs.declared.item.Item.{Item}
+
+-- entries in front of what was read
+abbrev pub put_before : List Item → Result (List Item) ℕ → Result (List Item) ℕ
+put_before done (Ok items) = Ok (done ++ items)
+put_before done (Err number) = Err number
+
+put_before-nil : (r : Result (List Item) ℕ) → put_before [] r ≡ r
+put_before-nil (Ok items) = refl
+put_before-nil (Err number) = refl
+
+put_before-more : (done : List Item) (i : Item) (r : Result (List Item) ℕ) → put_before done (put_first i r) ≡ put_before (done ++ i ∷ []) r
+put_before-more done i (Ok items) = ap Ok (sym (append_assoc done (i ∷ []) items))
+put_before-more done i (Err number) = refl
 
 -- where the action ends a record, the end of the text would end none after it
 abbrev Ends : State × Action → Type 0
@@ -103,10 +121,10 @@ unfolding records_from
 no_front zero s text e = refl
 no_front (suc most) s text e = rw e refl
 
--- what one read does
-reads : {R : Type 0} (rem : R → Option (List ℕ)) (old new : Reader R) (found : Bool) (f : Record) (rows : List Record) → Leaves rem old rows → new.first ≡ true → ReadRecord rem old new found f → Reads rem found f rows new
+-- a read that found a record
+reads : {R : Type 0} (rem : R → Option (List ℕ)) (old new : Reader R) (f : Record) (rows : List Record) → Leaves rem old rows → new.first ≡ true → ReadRecord rem old new true f → Reads rem next.Record f rows new
 unfolding Reached
-reads rem old new true f rows h first read =
+reads rem old new f rows h first read =
     let m = rows-more rem old new f default_config old.state h.text h.text [] h.config h.source (refl, refl) read in
     let p = m.2.0 in
     let is = m.2.1 in
@@ -128,10 +146,75 @@ reads rem old new true f rows h first read =
         are = ap (λ s. records_from default_config rest.most s p.2) ends.0;
       },
     )
-reads rem old new false f rows h first read = h.are ∙ no_front h.most old.state h.text (rows-end rem old new f default_config h.text h.config h.source read)
 
-pub read_one : {R E : Type 0} (rem : R → Option (List ℕ)) (old new : Reader R) (f : Record) (result : Result Bool E) → (old.trim ≡ trim.None → OnOk result (new.first ≡ true))
-    → IfOk result (λ found. old.trim ≡ trim.None → Ready old → ReadRecord rem old new found f)
-    → IfOk result (λ found. (rows : List Record) → Leaves rem old rows → Reads rem found f rows new)
-read_one rem old new f (Ok found) first read = λ rows h. reads rem old new found f rows h (first h.trim) (read h.trim h.ready)
-read_one rem old new f (Err e) first read = tt
+-- the same by the clauses of the read
+pub found_one : {R : Type 0} (rem : R → Option (List ℕ)) (old new : Reader R) (f : Record) → (old.trim ≡ trim.None → new.first ≡ true)
+    → (old.trim ≡ trim.None → Ready old → ReadRecord rem old new true f) → (rows : List Record) → Leaves rem old rows → Reads rem next.Record f rows new
+found_one rem old new f first read rows h = reads rem old new f rows h (first h.trim) (read h.trim h.ready)
+
+pub found_none : {R : Type 0} (rem : R → Option (List ℕ)) (old new : Reader R) (f : Record) → (old.trim ≡ trim.None → Ready old → ReadRecord rem old new false f)
+    → (rows : List Record) → Leaves rem old rows → rows ≡ []
+found_none rem old new f read rows h = h.are ∙ no_front h.most old.state h.text (rows-end rem old new f default_config h.text h.config h.source (read h.trim h.ready))
+
+-- of all records of a file, the entries so far, and the records that are left
+pub record Reading {R : Type 0} (rem : R → Option (List ℕ)) (all : List Record) (number : ℕ) (reader : Reader R) (now : Gathering) : Type 0 where
+  pub left : List Record
+  pub done : List Item
+  pub same : put_before done (items_from number left) ≡ items_in all
+  pub leaves : Leaves rem reader left
+  pub gathers : Gathers done now
+
+pub Reading-begins : {R : Type 0} (rem : R → Option (List ℕ)) (all : List Record) (reader : Reader R) (now : Gathering) → PassesHeader rem all reader → Gathers [] now → Reading rem all 1 reader now
+Reading-begins rem all reader now h gathers =
+    record { left = h.rest; done = []; same = put_before-nil (items_from 1 h.rest) ∙ sym h.same; leaves = h.leaves; gathers = gathers }
+
+pub Reading-next : {R : Type 0} (rem : R → Option (List ℕ)) (all : List Record) (n : ℕ) (old new : Reader R) (now after : Gathering) (f : Record) (i : Item) → Reading rem all n old now
+    → ((rows : List Record) → Leaves rem old rows → Reads rem next.Record f rows new) → record_item f ≡ Some i
+    → ((items : List Item) → Gathers items now → Gathers (items ++ i ∷ []) after) → Reading rem all (n + 1) new after
+Reading-next rem all n old new now after f i h read is more =
+    let r = read h.left h.leaves in record {
+      left = r.0;
+      done = h.done ++ i ∷ [];
+      same = sym (put_before-more h.done i (items_from (n + 1) r.0)) ∙ sym (ap (λ x. put_before h.done (item_at n x (items_from (n + 1) r.0))) is) ∙ sym (ap (λ rows. put_before h.done (items_from n rows)) r.1) ∙ h.same;
+      leaves = r.2;
+      gathers = more h.done h.gathers;
+    }
+
+-- the first record that is no entry
+pub Reading-wrong : {R : Type 0} (rem : R → Option (List ℕ)) (all : List Record) (n : ℕ) (old new : Reader R) (now : Gathering) (f : Record) → Reading rem all n old now
+    → ((rows : List Record) → Leaves rem old rows → Reads rem next.Record f rows new) → record_item f ≡ None → items_in all ≡ Err n
+Reading-wrong rem all n old new now f h read is =
+    let r = read h.left h.leaves in
+    sym h.same ∙ ap (λ rows. put_before h.done (items_from n rows)) r.1 ∙ ap (λ x. put_before h.done (item_at n x (items_from (n + 1) r.0))) is
+
+-- no record is left
+pub Reading-ends : {R : Type 0} (rem : R → Option (List ℕ)) (all : List Record) (n : ℕ) (old : Reader R) (now : Gathering) → Reading rem all n old now
+    → ((rows : List Record) → Leaves rem old rows → rows ≡ []) → GathersRecords all now
+Reading-ends rem all n old now h read = record {
+  items = h.done;
+  read = sym h.same ∙ ap (λ rows. put_before h.done (items_from n rows)) (read h.left h.leaves) ∙ ap Ok (append-nil h.done);
+  gathers = h.gathers;
+}
+
+-- no record at all, and a first one that is no header
+pub no_header : {R : Type 0} (rem : R → Option (List ℕ)) (old : Reader R) → ((rows : List Record) → Leaves rem old rows → rows ≡ [])
+    → (rows : List Record) → Leaves rem old rows → items_in rows ≡ Err 0
+no_header rem old read rows h = ap items_in (read rows h)
+
+pub wrong_header : {R : Type 0} (rem : R → Option (List ℕ)) (old new : Reader R) (f : Record) → ((rows : List Record) → Leaves rem old rows → Reads rem next.Record f rows new) → is_header f ≡ false
+    → (rows : List Record) → Leaves rem old rows → items_in rows ≡ Err 0
+wrong_header rem old new f read is rows h =
+    let r = read rows h in ap items_in r.1 ∙ ap (λ b. cond b (items_from 1 r.0) (Err 0)) is
+
+pub right_header : {R : Type 0} (rem : R → Option (List ℕ)) (old new : Reader R) (f : Record) → ((rows : List Record) → Leaves rem old rows → Reads rem next.Record f rows new) → is_header f ≡ true
+    → (rows : List Record) → Leaves rem old rows → PassesHeader rem rows new
+right_header rem old new f read is rows h =
+    let r = read rows h in record { rest = r.0; same = ap items_in r.1 ∙ ap (λ b. cond b (items_from 1 r.0) (Err 0)) is; leaves = r.2 }
+
+-- what was gathered, as the file's import
+pub IsCsvImport-given : (text : List ℕ) (stamp : Option ℕ) (g : Gathering) (command : Command) → GathersRecords (records_of text) g
+    → ((items : List Item) → Gathers items g → IsCommandOf stamp items command) → IsCsvImport text stamp command
+IsCsvImport-given text stamp g command h is = record { items = h.items; read = h.read; is = is h.items h.gathers }
+
+pub too_many : (rows : List Record) (g : Gathering) → GathersRecords rows g → ((items : List Item) → Gathers items g → IsTooMany items) → IsOkAnd (items_in rows) IsTooMany
+too_many rows g h many = subst (λ r. IsOkAnd r IsTooMany) (sym h.read) (many h.items h.gathers)

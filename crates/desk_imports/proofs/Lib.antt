@@ -1,4 +1,5 @@
 pub mod CsvLemmas
 pub mod GatheringLemmas
+pub mod RecordLemmas
 pub mod ReadingLemmas
 pub mod TbsLemmas

@@ -71,10 +71,15 @@ pub record IsCsvImport (text : List ℕ) (stamp : Option ℕ) (command : Command
   pub read : items_in (records_of text) ≡ Ok items
   pub is : IsCommandOf stamp items command
 
--- own: the file is refused for this; TooLong only where its records are all right
+-- own: what was read of a file, or the number of its first wrong record, is refused for this; TooLong only where no
+-- record is wrong
+abbrev pub IsRefused : Result (List Item) ℕ → ImportFault → Type 0
+IsRefused read (fault.Lists why) = ⊥
+IsRefused read (fault.Record number) = read ≡ Err number
+IsRefused read (fault.Line number) = ⊥
+IsRefused read fault.TooLong = IsOkAnd read IsTooMany
+IsRefused read fault.NoMemory = ⊤
+
+-- the file is refused for this
 abbrev pub RefusesCsv : List ℕ → ImportFault → Type 0
-RefusesCsv text (fault.Lists why) = ⊥
-RefusesCsv text (fault.Record number) = items_in (records_of text) ≡ Err number
-RefusesCsv text (fault.Line number) = ⊥
-RefusesCsv text fault.TooLong = IsOkAnd (items_in (records_of text)) IsTooMany
-RefusesCsv text fault.NoMemory = ⊤
+RefusesCsv text = IsRefused (items_in (records_of text))

@@ -1,11 +1,10 @@
 //! The records of a CSV file, one by one.
 ghost use Rattle.std.specs.Prelude.{◌≡◌, ◌∷◌, [], ℕ, List, IfOk, Some};
-ghost use Rattle.std.specs.Bool.{MatchBool};
 ghost use Rattle.csv.specs.Records.{fields_of};
 ghost use Rattle.desk_imports.specs.FromCsv.{Record, records_of};
 ghost use Rattle.desk_imports.specs.Records.{Leaves, Reads};
 
-use csv::{ByteRecord, Error, Reader, ReaderBuilder};
+use csv::{ByteRecord, Reader, ReaderBuilder};
 use std::alloc::Global;
 
 /// A reader at the first record of a text.
@@ -18,10 +17,24 @@ pub(crate) fn rows_of(alloc: Global, text: &[u8]) -> Reader<&[u8]>
         .from_reader(alloc, text)
 }
 
-/// Reads the next record into `row`, and says whether there was one.
-pub(crate) fn read_next(reader: &mut Reader<&[u8]>, row: &mut ByteRecord) -> Result<bool, Error>
-    ensures { IfOk result (λ found. (rows : List Record) → Leaves (λ s. Some s.now) reader.old rows
-        → Reads (λ s. Some s.now) found (fields_of row.new) rows reader.new) }
+/// What a read of the next record found.
+#[derive(Clone, Copy, Debug, PartialEq, Eq)]
+pub(crate) enum Next {
+    Record,
+    End,
+    NoMemory,
+}
+
+/// Reads the next record into `row`. A slice doesn't fail, so an error is want of memory.
+pub(crate) fn read_next(reader: &mut Reader<&[u8]>, row: &mut ByteRecord) -> Next
+    ensures { (rows : List Record) → Leaves (λ s. Some s.now) reader.old rows
+        → Reads (λ s. Some s.now) result (fields_of row.new) rows reader.new }
 {
-    reader.read_byte_record(row)
+    let Ok(found) = reader.read_byte_record(row) else {
+        return Next::NoMemory;
+    };
+    if found {
+        return Next::Record;
+    }
+    Next::End
 }

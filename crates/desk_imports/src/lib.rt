@@ -4,11 +4,14 @@
 mod csv_rows;
 mod entries;
 mod fault;
+mod from_csv;
 mod from_lists;
 mod gathering;
 mod item;
 mod laws;
+mod record;
 
 pub use fault::ImportFault;
+pub use from_csv::import_csv;
 pub use from_lists::import_dbx;
 pub use laws::tbs_is_read;
