@@ -40,7 +40,7 @@ pub record IsWalked (table : List ℕ) (tbs : List (List ℕ)) : Type 0 where
   pub walk : Walks GivesEntry table tbs left
   pub ended : is_end left ≡ true
 
--- what the table carries: the SHA-256 of each TBSCertificate, ascending, each once
+-- own: what the table carries: the SHA-256 of each TBSCertificate, ascending, each once
 pub record Carries (table : List ℕ) (digests : List (List ℕ)) : Type 0 where
   pub tbs : List (List ℕ)
   pub walked : IsWalked table tbs
@@ -64,7 +64,7 @@ pub record MeetsFault (table : List ℕ) (fault : CarriedFault) : Type 0 where
   pub goes_on : is_end left ≡ false
   pub refused : IsEntryFault left fault
 
--- the table is refused for this; NoMemory may come at any time
+-- own: the table is refused for the first fault of the walk; NoMemory may come at any time
 abbrev pub IsFirstFault : List ℕ → CarriedFault → Type 0
 IsFirstFault table fault.Table = MeetsFault table fault.Table
 IsFirstFault table fault.Der = MeetsFault table fault.Der

@@ -5,7 +5,8 @@ use Rattle.desk_bytes.specs.Parts.{Part, element_of}
 use Rattle.authenticode.specs.SignedData.{certificates_of}
 use Rattle.authenticode.specs.Walks.{Walks}
 
--- the TBSCertificate of a certificate, which is a SEQUENCE, and none of an element with another tag
+-- the TBSCertificate of a certificate, which is a SEQUENCE (RFC 5652, 10.2.2). own: an element with another tag
+-- gives none
 abbrev pub IsTbsOf : Part → List (List ℕ) → Type 0
 IsTbsOf p own =
     ((p.tag ≡ sequence) × (tbs : List ℕ) × IsCertificate p.whole tbs × (own ≡ tbs ∷ []))

@@ -7,7 +7,7 @@ use Rattle.std.specs.Cmp.Lexicographic.{slice_cmp}
 use Rattle.std.specs.Result.{result_ok}
 use Rattle.hex.specs.Hex.{decode_of}
 
--- the 32 bytes that 64 hexadecimal digits of either case spell, or nothing for any other text
+-- own: the 32 bytes that 64 hexadecimal digits of either case spell, or nothing for any other text
 abbrev pub digest_of : List ℕ → Option (List ℕ)
 digest_of text = if length text == 64 then result_ok (decode_of text) else None
 
@@ -15,7 +15,7 @@ digest_of text = if length text == 64 then result_ok (decode_of text) else None
 abbrev pub IsAscending : List (List ℕ) → Type 0
 IsAscending ds = IsStrictlySortedBy (slice_cmp nat_cmp) ds
 
--- the named digests, ascending, each once
+-- own: the named digests, ascending, each once
 pub record IsArranged (named ds : List (List ℕ)) : Type 0 where
   pub ascending : IsAscending ds
   pub all : (d : List ℕ) → Contains named d → Contains ds d

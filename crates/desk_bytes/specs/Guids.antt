@@ -16,7 +16,7 @@ swapped g = g
 abbrev pub group : List ℕ → ℕ → ℕ → List ℕ
 group g from to = slice_range (swapped g) from to
 
--- the text is that of the GUID g, in either case: five groups of digits with hyphens (45) between them
+-- the text is that of the GUID g: five groups of digits with hyphens (45) between them. own: in either case
 pub record IsGuidText (text g : List ℕ) : Type 0 where
   pub stored : length g ≡ 16
   pub size : length text ≡ 36
@@ -30,7 +30,7 @@ pub record IsGuidText (text g : List ℕ) : Type 0 where
   pub fourth : decode_of (slice_range text 19 23) ≡ Ok (group g 8 10)
   pub fifth : decode_of (slice_range text 24 36) ≡ Ok (group g 10 16)
 
--- the text of the GUID g in lower case
+-- the text of the GUID g. own: in lower case
 abbrev pub text_of : List ℕ → List ℕ
 text_of g =
     encode_lower (group g 0 4) ++ 45 ∷ (encode_lower (group g 4 6) ++ 45 ∷ (encode_lower (group g 6 8)

@@ -4,7 +4,7 @@ use Rattle.desk_bytes.specs.declared.input.InputFault.TheVariants as fault
 use Rattle.desk_bytes.specs.declared.refusal.Refusal.{Refusal}
 use Rattle.desk_bytes.specs.declared.refusal.Refusal.TheVariants as refusal
 
--- its row in the table of refusals
+-- own: its row in the table of refusals
 abbrev pub refusal_of : InputFault → Refusal
 refusal_of fault.TooLong = refusal.TooLong
 refusal_of fault.Read = refusal.Read

@@ -21,7 +21,7 @@ pub record Numbered : Type 0 where
   pub number : ℕ
   pub text : List ℕ
 
--- the lines with their numbers from n on: an empty line is counted and passed over
+-- own: the lines with their numbers from n on: an empty line is counted and passed over
 abbrev pub numbered_from : ℕ → List (List ℕ) → List Numbered
 numbered_from n [] = []
 numbered_from n ([] ∷ lines) = numbered_from (n + 1) lines
@@ -45,7 +45,7 @@ abbrev pub named_at : {X : Type 0} → ℕ → Option X → Result (List X) ℕ 
 named_at line None rest = Err line
 named_at line (Some x) rest = put_first x rest
 
--- what lines name, in their order, or the number of the first line that names nothing
+-- own: what lines name, in their order, or the number of the first line that names nothing
 abbrev pub named_in : {X : Type 0} → (List ℕ → Option X) → List Numbered → Result (List X) ℕ
 named_in name [] = Ok []
 named_in name (l ∷ ls) = named_at l.number (name l.text) (named_in name ls)

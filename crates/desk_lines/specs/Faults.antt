@@ -15,27 +15,27 @@ use Rattle.siglist.specs.PackFaults as pack
 use Rattle.siglist.specs.declared.fault.ListsFault.{ListsFault}
 use Rattle.siglist.specs.declared.fault.PackFault.{PackFault}
 
--- a row without a place
+-- own: a row without a place
 abbrev pub row_of : Refusal → Fault
 row_of refusal = record { refusal = refusal; place = None }
 
--- what a text that isn't packed is told as
+-- own: what a text that isn't packed is told as
 abbrev pub of_pack : PackFault → Fault
 of_pack fault = record { refusal = pack.refusal_of fault; place = pack.place_of fault }
 
--- what bytes that are no lists are told as
+-- own: what bytes that are no lists are told as
 abbrev pub of_lists : ListsFault → Fault
 of_lists fault = record { refusal = lists.refusal_of fault; place = Some (lists.place_of fault) }
 
--- what an image without a layout is told as
+-- own: what an image without a layout is told as
 abbrev pub of_layout : LayoutFault → Fault
 of_layout fault = row_of (layout.refusal_of fault)
 
--- what an image without facts is told as
+-- own: what an image without facts is told as
 abbrev pub of_facts : FactsFault → Fault
 of_facts fault = record { refusal = facts.refusal_of fault; place = facts.place_of fault }
 
--- what an input that isn't read is told as
+-- own: what an input that isn't read is told as
 abbrev pub of_input : InputFault → Fault
 of_input fault = row_of (input.refusal_of fault)
 

@@ -4,7 +4,7 @@ use Rattle.std.specs.List.{slice_index_or}
 use Rattle.clap.specs.Words.{App, Rule, Shape, Text, new_app, new_rule, with_subcommand}
 use Rattle.clap.specs.Simple.{new_shape, on_top}
 
--- the ids of a subcommand's words, by place
+-- own: the ids of a subcommand's words, by place
 abbrev pub ids : List Text
 ids = codes "first" ∷ codes "second" ∷ codes "third" ∷ codes "fourth" ∷ []
 

@@ -17,14 +17,14 @@ pub data Line : Type 0 where
   facts : Text → Line
   list : Text → Line
 
--- the name of its subcommand
+-- own: the name of its subcommand
 abbrev pub subcommand_name : Line → Text
 subcommand_name (pack owner) = codes "pack"
 subcommand_name (ranges file) = codes "ranges"
 subcommand_name (facts file) = codes "facts"
 subcommand_name (list file) = codes "list"
 
--- the words after it
+-- own: the words after it
 abbrev pub words_after : Line → List Text
 words_after (pack owner) = owner ∷ []
 words_after (ranges file) = file ∷ []

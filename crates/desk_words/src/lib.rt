@@ -3,7 +3,7 @@
 
 mod command;
 mod line;
-mod reading;
+mod words_reading;
 
 pub use line::{Words, WordsFault};
-pub use reading::words;
+pub use words_reading::words;

@@ -36,14 +36,15 @@ magic_checks f =
     (nat_le (optional_header_offset f + 2) (length f) && (magic f == pe32 || magic f == pe32_plus), Magic)
     ∷ []
 
--- the optional header has room for what it needs ("Optional Header")
+-- own: the optional header has room for what it needs ("Optional Header")
 abbrev pub size_checks : List ℕ → List (Bool × LayoutFault)
 size_checks f =
     (nat_le (fixed_size f) (size_of_optional_header f) && nat_le (sections_begin f) (length f), Headers)
     ∷ (not (has_certificate_directory f) || nat_le (fixed_size f + 40) (size_of_optional_header f), Headers)
     ∷ []
 
--- a subsystem of EFI ("Windows Subsystem"), and headers that have room for the section table
+-- a subsystem of EFI ("Windows Subsystem"). own: at most 96 sections, and headers that have room for the
+-- section table and lie within the file
 abbrev pub header_checks : List ℕ → List (Bool × LayoutFault)
 header_checks f =
     (nat_le 10 (subsystem f) && nat_le (subsystem f) 13, NotEfi)
@@ -98,7 +99,7 @@ AllHold (c ∷ cs) = (c.0 ≡ true) × AllHold cs
 abbrev pub IsLaid : List ℕ → Type 0
 IsLaid f = AllHold (checks f)
 
--- the fault of the first check that fails
+-- own: the fault of the first check that fails
 abbrev pub first_of : List (Bool × LayoutFault) → Option LayoutFault
 first_of [] = None
 first_of (c ∷ cs) = if c.0 then first_of cs else Some c.1

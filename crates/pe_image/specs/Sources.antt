@@ -1,7 +1,7 @@
 -- What a source tells of its content and of its failures.
 use Rattle.std.specs.Prelude.{◌≡◌, ◌⊎◌, ◌<◌, ◌≤◌, ℕ, List}
 
--- the greatest u64, at which a count of failures stays
+-- own: the greatest u64, at which a count of failures stays
 abbrev pub greatest_count : ℕ
 greatest_count = 18446744073709551615
 

@@ -19,7 +19,7 @@ refusal_of (fault.Row line) = refusal.SbatRow
 refusal_of fault.TooLong = refusal.TooLong
 refusal_of fault.NoMemory = refusal.NoMemory
 
--- its place: the number of the wrong line
+-- own: its place: the number of the wrong line
 abbrev pub place_of : SbatFault → Option ℕ
 place_of (fault.Row line) = Some line
 place_of fault.TooLong = None

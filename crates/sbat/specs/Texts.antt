@@ -4,7 +4,7 @@ use Rattle.std.specs.List.{before_first}
 use Rattle.std.specs.Str.{bytes_eq}
 use Rattle.desk_bytes.specs.Lines.{Numbered, parted}
 
--- the bytes before the first zero byte, or all where there is none
+-- own: the bytes before the first zero byte, or all where there is none
 abbrev pub before_zero : List ℕ → List ℕ
 before_zero text = before_first (λ b. b == 0) text
 

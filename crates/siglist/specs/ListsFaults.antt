@@ -21,8 +21,8 @@ pub record Stops (bytes : List ℕ) (offset : ℕ) : Type 0 where
   pub within : offset < length bytes
   pub none : HasNoList (drop offset bytes)
 
--- fewer than 28 bytes are left, the list's size is below 28 plus its header's, or beyond the end, or one of
--- the three kinds has a header
+-- own: fewer than 28 bytes are left, the list's size is below 28 plus its header's, or beyond the end, or one
+-- of the three kinds has a header
 abbrev pub LacksRoom : List ℕ → Type 0
 LacksRoom b = (length b < 28) ⊎ (size_at b < 28 + header_size_at b) ⊎ (length b < size_at b)
     ⊎ ((0 < header_size_at b) × (is_bare (kind_of (take 16 b)) ≡ true))
@@ -37,12 +37,12 @@ abbrev pub fault_of : Lack → ℕ → ListsFault
 fault_of lack.List offset = fault.List offset
 fault_of lack.EntrySize offset = fault.EntrySize offset
 
--- its row in the table of refusals
+-- own: its row in the table of refusals
 abbrev pub refusal_of : ListsFault → Refusal
 refusal_of (fault.List offset) = refusal.List
 refusal_of (fault.EntrySize offset) = refusal.EntrySize
 
--- the offset of the list that was refused
+-- own: its place: the offset of the list that was refused
 abbrev pub place_of : ListsFault → ℕ
 place_of (fault.List offset) = offset
 place_of (fault.EntrySize offset) = offset

@@ -7,7 +7,7 @@ use Rattle.desk_bytes.specs.declared.input.InputFault.TheVariants as input
 use Rattle.siglist.specs.declared.fault.PackFault.{PackFault}
 use Rattle.siglist.specs.declared.fault.PackFault.TheVariants as fault
 
--- its row in the table of refusals
+-- own: its row in the table of refusals
 abbrev pub refusal_of : PackFault → Refusal
 refusal_of fault.TooLong = refusal.TooLong
 refusal_of fault.Read = refusal.Read
@@ -15,7 +15,7 @@ refusal_of fault.Write = refusal.Write
 refusal_of (fault.Line line) = refusal.Line
 refusal_of fault.NoMemory = refusal.NoMemory
 
--- the number of the line that was refused
+-- own: its place: the number of the line that was refused
 abbrev pub place_of : PackFault → Option ℕ
 place_of fault.TooLong = None
 place_of fault.Read = None
@@ -23,12 +23,12 @@ place_of fault.Write = None
 place_of (fault.Line line) = Some line
 place_of fault.NoMemory = None
 
--- what a fault of the input is to `pack`
+-- own: what a fault of the input is to `pack`
 abbrev pub fault_of : InputFault → PackFault
 fault_of input.TooLong = fault.TooLong
 fault_of input.Read = fault.Read
 fault_of input.NoMemory = fault.NoMemory
 
--- a write that failed is the fault Write
+-- own: a write that failed is the fault Write
 abbrev pub write_failed : PackFault
 write_failed = fault.Write

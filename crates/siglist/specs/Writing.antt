@@ -11,7 +11,7 @@ entry_of owner body = record { owner = owner; body = body }
 abbrev pub no_time : List ℕ
 no_time = replicate 16 0
 
--- one list without a header, or no list where there is no entry
+-- own: all entries in one list without a header, or no list where there is no entry
 abbrev pub bare_row : List ℕ → ℕ → List Entry → List SignatureList
 bare_row kind entry_size [] = []
 bare_row kind entry_size (e ∷ es) = record {

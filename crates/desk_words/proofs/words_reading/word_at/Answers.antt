@@ -1,7 +1,7 @@
 use Rattle.std.proofs.Common.{◌∙◌, ap}
 use Rattle.clap.specs.Words.{Text, first_of, found_of, rows_of}
 use Rattle.clap.proofs.WalkLemmas.{first_value-rows}
-use Rattle.desk_words.proofs.reading.word_at.Goals as goal
+use Rattle.desk_words.proofs.words_reading.word_at.Goals as goal
 
 pub returns : goal.returns
 returns c =
