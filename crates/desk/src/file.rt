@@ -1,5 +1,5 @@
 //! Files that are read to their end.
-use desk_bytes::{Refusal, read_all};
+use desk_bytes::{LONGEST_IMAGE, Refusal, read_all};
 use desk_lines::{Fault, MOST_BYTES};
 use pe_image::Pieces;
 use std::rt::Files;
@@ -22,9 +22,9 @@ pub fn read_file<R: Files + AllocGlobal>(rt: &R, path: &str) -> Result<Vec<u8>, 
     Ok(read_all(rt.alloc(), &mut file, MOST_BYTES)?)
 }
 
-/// An image's file, in pieces. Of a file that is too long for an image one byte more than `MOST_BYTES` is taken: its
+/// An image's file, in pieces. Of a file that is too long for an image one byte more than `LONGEST_IMAGE` is taken: its
 /// layout is refused for its length.
 pub fn read_image<R: Files + AllocGlobal>(rt: &R, path: &str) -> Result<Pieces, Fault> {
     let mut file = open(rt, path)?;
-    Ok(Pieces::take(rt.alloc(), &mut file, MOST_BYTES as u64 + 1)?)
+    Ok(Pieces::take(rt.alloc(), &mut file, LONGEST_IMAGE + 1)?)
 }

@@ -4,6 +4,7 @@ mod digests;
 mod failing;
 mod layouts;
 mod lines;
+mod pieces;
 mod words;
 
 use std::alloc::{AllocError, Global};
@@ -32,6 +33,12 @@ const PE32_PLUS: &str = "84:f000 88:0b02 196:10000000 328:2e74657874 344:0002000
 /// The same of PE32.
 const PE32: &str = "84:e000 88:0b01 180:10000000 312:2e74657874 328:0002000000020000";
 
+/// The headers of PE32+ moved up by 65,382, so that CheckSum, of 11223344, stands from 65534 to 65538.
+const MOVED: &str = "60:a6ff0000 64:00000000 68:0000 70:0000 84:0000 88:0000 148:00000000 156:0000 \
+    196:00000000 328:0000000000 344:0000000000000000 65446:50450000 65450:6486 65452:0100 65466:f000 \
+    65470:0b02 65530:00020100 65534:11223344 65538:0a00 65578:10000000 65710:2e74657874 \
+    65726:0002000000020100";
+
 /// Bytes that stand in an image that tools sign.
 const SIGNABLE: &str = "86:2e02 92:00020000 104:00100000 120:0010000000020000 144:00200000 \
     152:11223344 336:00020000 340:00100000 364:20000060";
@@ -58,7 +65,8 @@ fn change(alloc: Global, image: &mut [u8], words: &str) -> Result<(), Fail> {
 }
 
 /// The image that the words describe: its length, `+` for PE32+ or `-` for PE32, and changes. With `*` it is
-/// one of PE32+ that tools sign, whose bytes from 512 on count up to 250 again and again.
+/// one of PE32+ that tools sign, whose bytes from 512 on count up to 250 again and again; with `^` the headers of PE32+
+/// stand further up.
 fn image(alloc: Global, words: &str) -> Result<Vec<u8>, Fail> {
     let (length, words) = words.split_once(' ').ok_or("no length")?;
     let (form, changes) = words.split_once(' ').unwrap_or((words, ""));
@@ -76,6 +84,9 @@ fn image(alloc: Global, words: &str) -> Result<Vec<u8>, Fail> {
         &mut bytes,
         if form == "-" { PE32 } else { PE32_PLUS },
     )?;
+    if form == "^" {
+        change(alloc, &mut bytes, MOVED)?;
+    }
     change(alloc, &mut bytes, changes)?;
     Ok(bytes)
 }

@@ -1,7 +1,10 @@
 //! Digests of images.
 use super::{Call, check, image};
-use authenticode::{digest, digests, file_digest, signing_digest};
-use pe_image::{Bytes, layout};
+use authenticode::{digest, signing_digest, sums};
+use desk_bytes::Digest;
+use desk_testing::Slow;
+use pe_image::{Pieces, Ranges, layout, ranges};
+use sha2::{Digest as Hasher, Sha256};
 use std::alloc::Global;
 use std::test::Fail;
 
@@ -28,18 +31,45 @@ aca69e4a6a15817340b124c38fb7d691e63c6e9819cd08c8246acec4c0c2e7db aca69e4a6a15817
 aca69e4a6a15817340b124c38fb7d691e63c6e9819cd08c8246acec4c0c2e7db aca69e4a6a15817340b124c38fb7d691e63c6e9819cd08c8246acec4c0c2e7db
 2560 * 70:0200 384:0002000000080000 = \
 718b280aedf43c161adb84c332229d2b4cbdb78dc3e1719d0fe38dc8f5c14352 718b280aedf43c161adb84c332229d2b4cbdb78dc3e1719d0fe38dc8f5c14352
+66560 ^ 66048:a1a2a3 66559:ff = \
+c5a06f0af3f971c08fbfcab7c2b2a3e903403255efa7ad422b1a754945d786f8 c5a06f0af3f971c08fbfcab7c2b2a3e903403255efa7ad422b1a754945d786f8
+140000 * 70:0200 384:409c0000a0860100 = \
+8bd47dfe50db36cc1ebc2c0938c79497ae979631408653e3afd48af8c9f58826 8bd47dfe50db36cc1ebc2c0938c79497ae979631408653e3afd48af8c9f58826
+131077 * 344:00fe0100 = \
+da352e5e8e09d6962501e4a7eb26b4207269ed2744576bb66658cbd963249c31 c917a7a9c52fd785fe356fca4ae8286b0bbbda04266aa9c7a6a2848795d02c86
 ";
 
-/// The digest of an image and that to be signed, where both calls agree.
+/// The SHA-256 of the bytes at an image's ranges, joined.
+fn digest_joined(alloc: Global, bytes: &[u8], spans: Ranges) -> Result<Digest, Fail> {
+    let mut joined = Vec::new(alloc);
+    for span in spans {
+        let part = bytes.get(span.from as usize..span.to as usize);
+        joined.extend_from_slice(part.ok_or("a range past the end")?)?;
+    }
+    Ok(Digest::from(Sha256::digest(&joined)))
+}
+
+/// The digest of an image in pieces and that to be signed, where the calls agree with one another and with hashes of
+/// whole lists.
 pub fn of_digests(alloc: Global, input: &str) -> Result<String, Fail> {
     let bytes = image(alloc, input)?;
-    let mut source = Bytes(&bytes);
+    let mut reader = Slow {
+        rest: &bytes,
+        most: 50_000,
+        calls: 0,
+        fails_at: 0,
+    };
+    let mut source = Pieces::take(alloc, &mut reader, u64::MAX)?;
     let places = layout(&mut source)?;
-    let both = digests(&mut source, &places)?;
+    let found = sums(&mut source, &places)?;
     let hashed = digest(&mut source, &places)?;
     let signed = signing_digest(&mut source, &places)?;
-    if both.digest != hashed || both.signing != signed {
+    if found.digest != hashed || found.signing != signed {
         return Ok(String::from_str(alloc, "two calls differ")?);
+    }
+    let whole = Digest::from(Sha256::digest(&bytes));
+    if found.file != whole || hashed != digest_joined(alloc, &bytes, ranges(&places))? {
+        return Ok(String::from_str(alloc, "a hash of a whole list differs")?);
     }
     Ok(format!(in alloc; "{hashed} {signed}")?)
 }
@@ -47,15 +77,4 @@ pub fn of_digests(alloc: Global, input: &str) -> Result<String, Fail> {
 #[test]
 fn gives_the_digests_of_images(rt: HostRuntime) -> Result<(), Fail> {
     check(&rt, rt.alloc(), Call::Digests, DIGESTS)
-}
-
-/// FIPS 180-2, appendix B.
-const MILLION: &str = "cdc76e5c9914fb9281a1c7e284d73e67f1809a48a497200e046d39ccc7112cd0";
-
-#[test]
-fn gives_the_digest_of_a_file(rt: HostRuntime) -> Result<(), Fail> {
-    let long = vec![in rt.alloc(); b'a'; 1_000_000]?;
-    let found = file_digest(&mut Bytes(&long))?;
-    assert!(rt; found.text().as_slice() == MILLION.as_bytes());
-    Ok(())
 }

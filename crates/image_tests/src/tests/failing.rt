@@ -3,10 +3,11 @@ ghost use Rattle.std.specs.Prelude.{ℕ, List, ◌≡◌, ◌+◌, ◌≤◌, le
 ghost use Rattle.pe_image.specs.Sources.{HaveRisen};
 
 use super::{TABLE, image};
+use authenticode::sums;
 use desk_bytes::Refusal;
 use desk_lines::{Fault, print_ranges};
 use desk_service::facts;
-use pe_image::{LayoutFault, ReadFailed, Source, layout};
+use pe_image::{Bytes, LayoutFault, ReadFailed, Source, layout};
 use std::test::Fail;
 
 /// A source that fails once so many reads were made, and then always.
@@ -59,12 +60,35 @@ fn tells_of_each_read_that_fails(rt: HostRuntime) -> Result<(), Fail> {
             failures: 0,
         };
         let Err(fault) = facts(rt.alloc(), &mut source) else {
-            assert!(rt; source.failures() == 0 && left > 50);
+            assert!(rt; source.failures() == 0 && left > 10);
             return Ok(());
         };
         assert!(rt; fault.refusal() == Refusal::Read && source.failures() == 1);
     }
     assert!(rt; false, "200 reads are enough");
+    Ok(())
+}
+
+/// Images with the reads that hashing them takes: two pieces; three of a file whose last range is read again, from 41024 on,
+/// which are three more.
+const READS: [(&str, u64); 2] = [("66560 ^", 2), ("140000 * 70:0200 384:409c0000a0860100", 6)];
+
+#[test]
+fn hashes_an_image_by_one_read_of_a_piece(rt: HostRuntime) -> Result<(), Fail> {
+    for (words, reads) in READS {
+        let bytes = image(rt.alloc(), words)?;
+        let places = layout(&mut Bytes(&bytes))?;
+        for left in 0..10 {
+            let mut source = Failing {
+                bytes: &bytes,
+                left,
+                failures: 0,
+            };
+            let hashed = sums(&mut source, &places).is_ok();
+            assert!(rt; hashed == (left >= reads) && source.left == left.saturating_sub(reads));
+            assert!(rt; hashed == (source.failures() == 0));
+        }
+    }
     Ok(())
 }
 

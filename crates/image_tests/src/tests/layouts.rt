@@ -7,7 +7,7 @@ use std::test::Fail;
 
 /// What is printed of an image's ranges: as it is, of EFI's last subsystem; PE32; its second section first;
 /// with four and five directories; followed by bytes; with a table, padded and not; with a gap; with a table
-/// that has an offset and no size. Then images that are refused.
+/// that has an offset and no size; with CheckSum across a border of pieces. Then images that are refused.
 const RANGES: &str = "\
 1024 + = 0-152;156-232;240-512;512-1024;gap 0;
 1024 + 156:0d = 0-152;156-232;240-512;512-1024;gap 0;
@@ -20,6 +20,7 @@ const RANGES: &str = "\
 1077 + 232:0504000030000000 = 0-152;156-232;240-512;512-1024;1024-1029;gap 0;
 2560 + 70:02 384:0002000000080000 = 0-152;156-232;240-512;512-1024;2048-2560;1536-2560;gap 1024;
 1024 + 232:ffffffff00000000 = 0-152;156-232;240-512;512-1024;gap 0;
+66560 ^ = 0-65534;65538-65614;65622-66048;66048-66560;gap 0;
 63 + = refused 1 Short;
 1024 + 0:4d5b = refused 2 NoMz;
 1024 + 60:ffffffff = refused 1 Short;

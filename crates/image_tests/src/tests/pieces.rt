@@ -1,0 +1,49 @@
+//! Sources in pieces.
+use super::image;
+use desk_testing::Slow;
+use pe_image::{Pieces, PiecesFault, Source};
+use std::test::Fail;
+
+/// What is read of 140,000 bytes: all of them, as many as three pieces have, the bytes of a border, and none.
+const MOST: [u64; 5] = [u64::MAX, 140_000, 131_072, 65_537, 0];
+
+#[test]
+fn takes_as_many_bytes_as_are_asked_for(rt: HostRuntime) -> Result<(), Fail> {
+    let bytes = image(rt.alloc(), "140000 *")?;
+    for most in MOST {
+        let mut reader = Slow {
+            rest: &bytes,
+            most: 50_000,
+            calls: 0,
+            fails_at: 0,
+        };
+        let mut pieces = Pieces::take(rt.alloc(), &mut reader, most)?;
+        let (given, left) = bytes.split_at(most.min(bytes.len() as u64) as usize);
+        assert!(rt; reader.rest == left);
+        assert!(rt; pieces.len() == given.len() as u64);
+        let mut copy = vec![in rt.alloc(); 0; given.len()]?;
+        pieces.read_at(0, &mut copy)?;
+        assert!(rt; copy.as_slice() == given);
+    }
+    Ok(())
+}
+
+#[test]
+fn tells_of_each_read_of_a_reader_that_fails(rt: HostRuntime) {
+    let bytes = [7; 70_000];
+    for fails_at in 1..8 {
+        let mut reader = Slow {
+            rest: &bytes,
+            most: 30_000,
+            calls: 0,
+            fails_at,
+        };
+        let fault = Pieces::take(rt.alloc(), &mut reader, 100_000).err();
+        let wanted = if fails_at < 6 {
+            Some(PiecesFault::Read)
+        } else {
+            None
+        };
+        assert!(rt; fault == wanted);
+    }
+}
