@@ -1,0 +1,38 @@
+-- Rows as a SELECT of whole rows shows them.
+use Rattle.std.specs.Prelude.{pos, [], ◌∷◌}
+use Rattle.sqlite.specs.declared.types.Value.TheVariants.{Int, Text, Blob}
+use Rattle.sqlite.specs.Order.{Row}
+use Rattle.desk_texts.specs.Callers.{caller_name}
+use Rattle.desk_texts.specs.ReplyTexts.{reply_text_of}
+use Rattle.desk_texts.specs.Words.{state_text}
+use Rattle.desk_history.specs.declared.rows.Minute.{Minute}
+use Rattle.desk_history.specs.declared.rows.RequestRow.{RequestRow}
+use Rattle.desk_history.specs.declared.rows.ReturnRow.{ReturnRow}
+use Rattle.desk_history.specs.Tables.{DeskRow}
+use Rattle.desk_reads.specs.declared.desk_row.DeskRow.{DeskRow as ReadDeskRow}
+
+-- own: the columns of the desk's row: id, mark, version, owner, stamp
+abbrev pub desk_columns : DeskRow → Row
+desk_columns d = Int (pos d.id) ∷ Text d.mark ∷ Int (pos d.version) ∷ Blob d.owner ∷ Int (pos d.stamp) ∷ []
+
+-- the desk's row that was read, as the tables have it
+abbrev pub desk_row : ReadDeskRow → DeskRow
+desk_row d = record { id = d.id; mark = d.mark; version = d.version; owner = d.owner; stamp = d.stamp }
+
+-- a row of the tables, as a read gives it
+abbrev pub read_row : DeskRow → ReadDeskRow
+read_row d = record { id = d.id; mark = d.mark; version = d.version; owner = d.owner; stamp = d.stamp }
+
+-- own: the columns of a minute: number, the caller's name, key, text, the reply's text
+abbrev pub call_columns : Minute → Row
+call_columns m = Int (pos m.number) ∷ Text (caller_name m.caller) ∷ Text m.key ∷ Text m.text ∷ Text (reply_text_of m.reply) ∷ []
+
+-- own: the columns of a request: number, submitter, title, length, gap, file, digest, signing, state
+abbrev pub request_columns : RequestRow → Row
+request_columns r =
+    Int (pos r.number) ∷ Text r.submitter ∷ Text r.title ∷ Int (pos r.length) ∷ Int (pos r.gap) ∷ Blob r.file ∷ Blob r.digest
+    ∷ Blob r.signing ∷ Text (state_text r.state) ∷ []
+
+-- own: the columns of a returned file: request, signer, length, file, digest
+abbrev pub return_columns : ReturnRow → Row
+return_columns r = Int (pos r.request) ∷ Text r.signer ∷ Int (pos r.length) ∷ Blob r.file ∷ Blob r.digest ∷ []

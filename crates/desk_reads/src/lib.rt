@@ -1,0 +1,27 @@
+//! Rows out of the twelve tables of a desk, inside a transaction.
+#![tactic(auto)]
+
+mod columns;
+mod counts;
+mod desk_row;
+mod fault;
+mod from_row;
+mod list_rows;
+mod lists;
+mod own;
+mod people;
+mod reading;
+mod request_rows;
+mod requests;
+
+pub use counts::{
+    count_calls, count_components, count_listed, count_people, count_requests,
+    count_revoked_certificates, count_revoked_digests,
+};
+pub use desk_row::{DeskRow, Mark};
+pub use fault::ReadFault;
+pub use from_row::FromRow;
+pub use lists::{component_named, entry_of, revoked_certificate, revoked_digest};
+pub use own::own_row;
+pub use people::{person_named, person_of_token};
+pub use requests::{certificates_of, components_of, request_numbered, return_of, votes_of};
