@@ -2,7 +2,8 @@
 ghost use Rattle.std.specs.Prelude.{◌≡◌};
 ghost use Rattle.desk_history.specs.Writes.{written};
 ghost use Rattle.desk_history.specs.declared.write.Write.TheVariants as writes;
-ghost use Rattle.desk_tables.specs.Steps.{Begins, Keeps, Spares, Stays, Steps};
+ghost use Rattle.desk_sql.specs.States.{Keeps, Spares, StaysInside};
+ghost use Rattle.desk_tables.specs.Steps.{Begins, Steps};
 
 use crate::WriteFault;
 use crate::stored::stored;
@@ -28,18 +29,16 @@ const FIRST_STAMP: u32 = 2021030218;
 pub fn put_desk<S: Alter>(tx: &mut Transaction<'_, S>, owner: &Guid) -> Result<(), WriteFault>
     ensures same_reference { tx.new.conn.ghost_name ≡ tx.old.conn.ghost_name }
     ensures value { Begins S.Store tx.old.conn.now tx.new.conn.now result owner.now }
-    ensures inside { Stays S.Store tx.old.conn.now tx.new.conn.now result }
+    ensures inside { StaysInside S.Store tx.old.conn.now tx.new.conn.now result }
     ensures kept { Keeps S.Store tx.old.conn.now tx.new.conn.now }
     ensures survives { Spares S.Store tx.old.conn.now tx.new.conn.now }
 {
-    match insert(
+    insert(
         tx,
         INSERT_DESK,
         params![1u32, MARK, VERSION, owner.as_bytes(), FIRST_STAMP],
-    ) {
-        Ok(()) => Ok(()),
-        Err(error) => Err(WriteFault::from(error)),
-    }
+    )?;
+    Ok(())
 }
 
 /// Puts in a person.
@@ -50,11 +49,11 @@ pub(crate) fn put_person<S: Alter>(
     ensures same_reference { tx.new.conn.ghost_name ≡ tx.old.conn.ghost_name }
     ensures value { Steps S.Store tx.old.conn.now tx.new.conn.now result
         (written (writes.Person person.now)) }
-    ensures inside { Stays S.Store tx.old.conn.now tx.new.conn.now result }
+    ensures inside { StaysInside S.Store tx.old.conn.now tx.new.conn.now result }
     ensures kept { Keeps S.Store tx.old.conn.now tx.new.conn.now }
     ensures survives { Spares S.Store tx.old.conn.now tx.new.conn.now }
 {
-    match insert(
+    insert(
         tx,
         INSERT_PERSON,
         params![
@@ -62,10 +61,8 @@ pub(crate) fn put_person<S: Alter>(
             person.role.text(),
             person.token.as_bytes()
         ],
-    ) {
-        Ok(()) => Ok(()),
-        Err(error) => Err(WriteFault::from(error)),
-    }
+    )?;
+    Ok(())
 }
 
 /// Puts in an accepted call, with the caller's name and the reply's text. Takes memory for that text.
@@ -77,7 +74,7 @@ pub(crate) fn put_call<S: Alter>(
     ensures same_reference { tx.new.conn.ghost_name ≡ tx.old.conn.ghost_name }
     ensures value { Steps S.Store tx.old.conn.now tx.new.conn.now result
         (written (writes.Call minute.now)) }
-    ensures inside { Stays S.Store tx.old.conn.now tx.new.conn.now result }
+    ensures inside { StaysInside S.Store tx.old.conn.now tx.new.conn.now result }
     ensures kept { Keeps S.Store tx.old.conn.now tx.new.conn.now }
     ensures survives { Spares S.Store tx.old.conn.now tx.new.conn.now }
 {
@@ -85,7 +82,7 @@ pub(crate) fn put_call<S: Alter>(
     let Ok(reply) = reply_text(alloc, &minute.reply) else {
         return Err(WriteFault::NoMemory);
     };
-    match insert(
+    insert(
         tx,
         INSERT_CALL,
         params![
@@ -95,10 +92,8 @@ pub(crate) fn put_call<S: Alter>(
             minute.text.as_str(),
             reply.as_str()
         ],
-    ) {
-        Ok(()) => Ok(()),
-        Err(error) => Err(WriteFault::from(error)),
-    }
+    )?;
+    Ok(())
 }
 
 /// Puts in a component of the level.
@@ -109,16 +104,14 @@ pub(crate) fn put_component<S: Alter>(
     ensures same_reference { tx.new.conn.ghost_name ≡ tx.old.conn.ghost_name }
     ensures value { Steps S.Store tx.old.conn.now tx.new.conn.now result
         (written (writes.Component component.now)) }
-    ensures inside { Stays S.Store tx.old.conn.now tx.new.conn.now result }
+    ensures inside { StaysInside S.Store tx.old.conn.now tx.new.conn.now result }
     ensures kept { Keeps S.Store tx.old.conn.now tx.new.conn.now }
     ensures survives { Spares S.Store tx.old.conn.now tx.new.conn.now }
 {
-    match insert(
+    insert(
         tx,
         INSERT_COMPONENT,
         params![component.name.as_str(), component.generation.value()],
-    ) {
-        Ok(()) => Ok(()),
-        Err(error) => Err(WriteFault::from(error)),
-    }
+    )?;
+    Ok(())
 }

@@ -3,7 +3,8 @@ ghost use Rattle.std.specs.Prelude.{◌≡◌};
 ghost use Rattle.desk_history.specs.declared.write.Write.TheVariants as writes;
 ghost use Rattle.desk_texts.specs.declared.kind.ListedKind.TheVariants as kinds;
 ghost use Rattle.desk_history.specs.Writes.{with_revoked, written};
-ghost use Rattle.desk_tables.specs.Steps.{Keeps, Spares, Stays, Steps};
+ghost use Rattle.desk_sql.specs.States.{Keeps, Spares, StaysInside};
+ghost use Rattle.desk_tables.specs.Steps.{Steps};
 
 use crate::WriteFault;
 use desk_bytes::Digest;
@@ -23,11 +24,11 @@ pub(crate) fn put_entry<S: Alter>(
     ensures same_reference { tx.new.conn.ghost_name ≡ tx.old.conn.ghost_name }
     ensures value { Steps S.Store tx.old.conn.now tx.new.conn.now result
         (written (writes.List entry.now)) }
-    ensures inside { Stays S.Store tx.old.conn.now tx.new.conn.now result }
+    ensures inside { StaysInside S.Store tx.old.conn.now tx.new.conn.now result }
     ensures kept { Keeps S.Store tx.old.conn.now tx.new.conn.now }
     ensures survives { Spares S.Store tx.old.conn.now tx.new.conn.now }
 {
-    match insert(
+    insert(
         tx,
         INSERT_LISTED,
         params![
@@ -35,10 +36,8 @@ pub(crate) fn put_entry<S: Alter>(
             entry.digest.as_bytes(),
             entry.body.as_slice()
         ],
-    ) {
-        Ok(()) => Ok(()),
-        Err(error) => Err(WriteFault::from(error)),
-    }
+    )?;
+    Ok(())
 }
 
 /// Takes out the listed entry of a kind and digest.
@@ -49,18 +48,16 @@ pub(crate) fn unlist<S: Alter>(
     ensures same_reference { tx.new.conn.ghost_name ≡ tx.old.conn.ghost_name }
     ensures value { Steps S.Store tx.old.conn.now tx.new.conn.now result
         (written (writes.Unlist listing.now)) }
-    ensures inside { Stays S.Store tx.old.conn.now tx.new.conn.now result }
+    ensures inside { StaysInside S.Store tx.old.conn.now tx.new.conn.now result }
     ensures kept { Keeps S.Store tx.old.conn.now tx.new.conn.now }
     ensures survives { Spares S.Store tx.old.conn.now tx.new.conn.now }
 {
-    match delete(
+    delete(
         tx,
         DELETE_LISTED,
         params![listing.kind.text(), listing.digest.as_bytes()],
-    ) {
-        Ok(()) => Ok(()),
-        Err(error) => Err(WriteFault::from(error)),
-    }
+    )?;
+    Ok(())
 }
 
 /// Puts in a revoked digest of an image.
@@ -68,14 +65,12 @@ fn revoke_digest<S: Alter>(tx: &mut Transaction<'_, S>, digest: &Digest) -> Resu
     ensures same_reference { tx.new.conn.ghost_name ≡ tx.old.conn.ghost_name }
     ensures value { Steps S.Store tx.old.conn.now tx.new.conn.now result
         (with_revoked kinds.Digest digest.now) }
-    ensures inside { Stays S.Store tx.old.conn.now tx.new.conn.now result }
+    ensures inside { StaysInside S.Store tx.old.conn.now tx.new.conn.now result }
     ensures kept { Keeps S.Store tx.old.conn.now tx.new.conn.now }
     ensures survives { Spares S.Store tx.old.conn.now tx.new.conn.now }
 {
-    match insert(tx, INSERT_REVOKED_DIGEST, params![digest.as_bytes()]) {
-        Ok(()) => Ok(()),
-        Err(error) => Err(WriteFault::from(error)),
-    }
+    insert(tx, INSERT_REVOKED_DIGEST, params![digest.as_bytes()])?;
+    Ok(())
 }
 
 /// Puts in a revoked certificate, by its digest.
@@ -86,14 +81,12 @@ fn revoke_certificate<S: Alter>(
     ensures same_reference { tx.new.conn.ghost_name ≡ tx.old.conn.ghost_name }
     ensures value { Steps S.Store tx.old.conn.now tx.new.conn.now result
         (with_revoked kinds.Certificate digest.now) }
-    ensures inside { Stays S.Store tx.old.conn.now tx.new.conn.now result }
+    ensures inside { StaysInside S.Store tx.old.conn.now tx.new.conn.now result }
     ensures kept { Keeps S.Store tx.old.conn.now tx.new.conn.now }
     ensures survives { Spares S.Store tx.old.conn.now tx.new.conn.now }
 {
-    match insert(tx, INSERT_REVOKED_CERTIFICATE, params![digest.as_bytes()]) {
-        Ok(()) => Ok(()),
-        Err(error) => Err(WriteFault::from(error)),
-    }
+    insert(tx, INSERT_REVOKED_CERTIFICATE, params![digest.as_bytes()])?;
+    Ok(())
 }
 
 /// Puts in what is revoked.
@@ -104,7 +97,7 @@ pub(crate) fn revoke<S: Alter>(
     ensures same_reference { tx.new.conn.ghost_name ≡ tx.old.conn.ghost_name }
     ensures value { Steps S.Store tx.old.conn.now tx.new.conn.now result
         (written (writes.Revoke listing.now)) }
-    ensures inside { Stays S.Store tx.old.conn.now tx.new.conn.now result }
+    ensures inside { StaysInside S.Store tx.old.conn.now tx.new.conn.now result }
     ensures kept { Keeps S.Store tx.old.conn.now tx.new.conn.now }
     ensures survives { Spares S.Store tx.old.conn.now tx.new.conn.now }
 {

@@ -2,7 +2,8 @@
 ghost use Rattle.std.specs.Prelude.{◌≡◌};
 ghost use Rattle.desk_history.specs.Writes.{written};
 ghost use Rattle.desk_history.specs.declared.write.Write.TheVariants as writes;
-ghost use Rattle.desk_tables.specs.Steps.{Keeps, Spares, Stays, Steps};
+ghost use Rattle.desk_sql.specs.States.{Keeps, Spares, StaysInside};
+ghost use Rattle.desk_tables.specs.Steps.{Steps};
 
 use crate::WriteFault;
 use crate::stored::stored;
@@ -22,14 +23,14 @@ pub(crate) fn put_request<S: Alter>(
     ensures same_reference { tx.new.conn.ghost_name ≡ tx.old.conn.ghost_name }
     ensures value { Steps S.Store tx.old.conn.now tx.new.conn.now result
         (written (writes.Request request.now)) }
-    ensures inside { Stays S.Store tx.old.conn.now tx.new.conn.now result }
+    ensures inside { StaysInside S.Store tx.old.conn.now tx.new.conn.now result }
     ensures kept { Keeps S.Store tx.old.conn.now tx.new.conn.now }
     ensures survives { Spares S.Store tx.old.conn.now tx.new.conn.now }
 {
     let number = stored(request.number.value())?;
     let length = stored(request.length)?;
     let gap = stored(request.gap)?;
-    match insert(
+    insert(
         tx,
         INSERT_REQUEST,
         params![
@@ -43,10 +44,8 @@ pub(crate) fn put_request<S: Alter>(
             request.signing.as_bytes(),
             request.state.text()
         ],
-    ) {
-        Ok(()) => Ok(()),
-        Err(error) => Err(WriteFault::from(error)),
-    }
+    )?;
+    Ok(())
 }
 
 /// Puts in a certificate of a request's image.
@@ -57,19 +56,17 @@ pub(crate) fn put_request_certificate<S: Alter>(
     ensures same_reference { tx.new.conn.ghost_name ≡ tx.old.conn.ghost_name }
     ensures value { Steps S.Store tx.old.conn.now tx.new.conn.now result
         (written (writes.RequestCertificate certificate.now)) }
-    ensures inside { Stays S.Store tx.old.conn.now tx.new.conn.now result }
+    ensures inside { StaysInside S.Store tx.old.conn.now tx.new.conn.now result }
     ensures kept { Keeps S.Store tx.old.conn.now tx.new.conn.now }
     ensures survives { Spares S.Store tx.old.conn.now tx.new.conn.now }
 {
     let request = stored(certificate.request.value())?;
-    match insert(
+    insert(
         tx,
         INSERT_REQUEST_CERTIFICATE,
         params![&request, certificate.digest.as_bytes()],
-    ) {
-        Ok(()) => Ok(()),
-        Err(error) => Err(WriteFault::from(error)),
-    }
+    )?;
+    Ok(())
 }
 
 /// Puts in a component of a request's image.
@@ -80,13 +77,13 @@ pub(crate) fn put_request_component<S: Alter>(
     ensures same_reference { tx.new.conn.ghost_name ≡ tx.old.conn.ghost_name }
     ensures value { Steps S.Store tx.old.conn.now tx.new.conn.now result
         (written (writes.RequestComponent component.now)) }
-    ensures inside { Stays S.Store tx.old.conn.now tx.new.conn.now result }
+    ensures inside { StaysInside S.Store tx.old.conn.now tx.new.conn.now result }
     ensures kept { Keeps S.Store tx.old.conn.now tx.new.conn.now }
     ensures survives { Spares S.Store tx.old.conn.now tx.new.conn.now }
 {
     let request = stored(component.request.value())?;
     let place = stored(component.place)?;
-    match insert(
+    insert(
         tx,
         INSERT_REQUEST_COMPONENT,
         params![
@@ -95,10 +92,8 @@ pub(crate) fn put_request_component<S: Alter>(
             component.name.as_str(),
             component.generation.value()
         ],
-    ) {
-        Ok(()) => Ok(()),
-        Err(error) => Err(WriteFault::from(error)),
-    }
+    )?;
+    Ok(())
 }
 
 /// Puts in a vote.
@@ -109,12 +104,12 @@ pub(crate) fn put_vote<S: Alter>(
     ensures same_reference { tx.new.conn.ghost_name ≡ tx.old.conn.ghost_name }
     ensures value { Steps S.Store tx.old.conn.now tx.new.conn.now result
         (written (writes.Vote vote.now)) }
-    ensures inside { Stays S.Store tx.old.conn.now tx.new.conn.now result }
+    ensures inside { StaysInside S.Store tx.old.conn.now tx.new.conn.now result }
     ensures kept { Keeps S.Store tx.old.conn.now tx.new.conn.now }
     ensures survives { Spares S.Store tx.old.conn.now tx.new.conn.now }
 {
     let request = stored(vote.request.value())?;
-    match insert(
+    insert(
         tx,
         INSERT_VOTE,
         params![
@@ -123,10 +118,8 @@ pub(crate) fn put_vote<S: Alter>(
             vote.vote.text(),
             vote.note.as_str()
         ],
-    ) {
-        Ok(()) => Ok(()),
-        Err(error) => Err(WriteFault::from(error)),
-    }
+    )?;
+    Ok(())
 }
 
 /// Puts in a returned file.
@@ -137,13 +130,13 @@ pub(crate) fn put_return<S: Alter>(
     ensures same_reference { tx.new.conn.ghost_name ≡ tx.old.conn.ghost_name }
     ensures value { Steps S.Store tx.old.conn.now tx.new.conn.now result
         (written (writes.Return returned.now)) }
-    ensures inside { Stays S.Store tx.old.conn.now tx.new.conn.now result }
+    ensures inside { StaysInside S.Store tx.old.conn.now tx.new.conn.now result }
     ensures kept { Keeps S.Store tx.old.conn.now tx.new.conn.now }
     ensures survives { Spares S.Store tx.old.conn.now tx.new.conn.now }
 {
     let request = stored(returned.request.value())?;
     let length = stored(returned.length)?;
-    match insert(
+    insert(
         tx,
         INSERT_RETURN,
         params![
@@ -153,8 +146,6 @@ pub(crate) fn put_return<S: Alter>(
             returned.file.as_bytes(),
             returned.digest.as_bytes()
         ],
-    ) {
-        Ok(()) => Ok(()),
-        Err(error) => Err(WriteFault::from(error)),
-    }
+    )?;
+    Ok(())
 }

@@ -2,7 +2,8 @@
 ghost use Rattle.std.specs.Prelude.{◌≡◌};
 ghost use Rattle.desk_history.specs.Writes.{written};
 ghost use Rattle.desk_history.specs.declared.write.Write.TheVariants as writes;
-ghost use Rattle.desk_tables.specs.Steps.{Keeps, Spares, Stays, Steps};
+ghost use Rattle.desk_sql.specs.States.{Keeps, Spares, StaysInside};
+ghost use Rattle.desk_tables.specs.Steps.{Steps};
 
 use crate::WriteFault;
 use crate::stored::stored;
@@ -20,15 +21,13 @@ pub(crate) fn set_state<S: Alter>(
     ensures same_reference { tx.new.conn.ghost_name ≡ tx.old.conn.ghost_name }
     ensures value { Steps S.Store tx.old.conn.now tx.new.conn.now result
         (written (writes.State outcome.now)) }
-    ensures inside { Stays S.Store tx.old.conn.now tx.new.conn.now result }
+    ensures inside { StaysInside S.Store tx.old.conn.now tx.new.conn.now result }
     ensures kept { Keeps S.Store tx.old.conn.now tx.new.conn.now }
     ensures survives { Spares S.Store tx.old.conn.now tx.new.conn.now }
 {
     let number = stored(outcome.request.value())?;
-    match update(tx, UPDATE_STATE, params![&number, outcome.state.text()]) {
-        Ok(()) => Ok(()),
-        Err(error) => Err(WriteFault::from(error)),
-    }
+    update(tx, UPDATE_STATE, params![&number, outcome.state.text()])?;
+    Ok(())
 }
 
 /// Gives the row of the component's name its generation.
@@ -39,18 +38,16 @@ pub(crate) fn set_generation<S: Alter>(
     ensures same_reference { tx.new.conn.ghost_name ≡ tx.old.conn.ghost_name }
     ensures value { Steps S.Store tx.old.conn.now tx.new.conn.now result
         (written (writes.Generation component.now)) }
-    ensures inside { Stays S.Store tx.old.conn.now tx.new.conn.now result }
+    ensures inside { StaysInside S.Store tx.old.conn.now tx.new.conn.now result }
     ensures kept { Keeps S.Store tx.old.conn.now tx.new.conn.now }
     ensures survives { Spares S.Store tx.old.conn.now tx.new.conn.now }
 {
-    match update(
+    update(
         tx,
         UPDATE_GENERATION,
         params![component.name.as_str(), component.generation.value()],
-    ) {
-        Ok(()) => Ok(()),
-        Err(error) => Err(WriteFault::from(error)),
-    }
+    )?;
+    Ok(())
 }
 
 /// Gives the level this stamp.
@@ -61,13 +58,11 @@ pub(crate) fn set_stamp<S: Alter>(
     ensures same_reference { tx.new.conn.ghost_name ≡ tx.old.conn.ghost_name }
     ensures value { Steps S.Store tx.old.conn.now tx.new.conn.now result
         (written (writes.Stamp stamp)) }
-    ensures inside { Stays S.Store tx.old.conn.now tx.new.conn.now result }
+    ensures inside { StaysInside S.Store tx.old.conn.now tx.new.conn.now result }
     ensures kept { Keeps S.Store tx.old.conn.now tx.new.conn.now }
     ensures survives { Spares S.Store tx.old.conn.now tx.new.conn.now }
 {
     let number = stored(stamp.value())?;
-    match update(tx, UPDATE_STAMP, params![&number]) {
-        Ok(()) => Ok(()),
-        Err(error) => Err(WriteFault::from(error)),
-    }
+    update(tx, UPDATE_STAMP, params![&number])?;
+    Ok(())
 }

@@ -1,7 +1,8 @@
 //! The writes of a decision, one and all.
 ghost use Rattle.std.specs.Prelude.{◌≡◌};
 ghost use Rattle.desk_history.specs.Writes.{all_written, written};
-ghost use Rattle.desk_tables.specs.Steps.{Keeps, Spares, Stays, Steps};
+ghost use Rattle.desk_sql.specs.States.{Keeps, Spares, StaysInside};
+ghost use Rattle.desk_tables.specs.Steps.{Steps};
 
 use crate::WriteFault;
 use crate::entering::{put_call, put_component, put_person};
@@ -23,7 +24,7 @@ pub fn write<S: Alter>(
     ensures same_reference { tx.new.conn.ghost_name ≡ tx.old.conn.ghost_name }
     ensures value { Steps S.Store tx.old.conn.now tx.new.conn.now result
         (written row.now) }
-    ensures inside { Stays S.Store tx.old.conn.now tx.new.conn.now result }
+    ensures inside { StaysInside S.Store tx.old.conn.now tx.new.conn.now result }
     ensures kept { Keeps S.Store tx.old.conn.now tx.new.conn.now }
     ensures survives { Spares S.Store tx.old.conn.now tx.new.conn.now }
 {

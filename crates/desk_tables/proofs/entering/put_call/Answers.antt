@@ -11,9 +11,9 @@ use Rattle.desk_tables.proofs.RowLemmas.{call_in, call_params}
 use Rattle.desk_tables.proofs.StepLemmas.{puts_in}
 use Rattle.desk_tables.proofs.entering.put_call.Goals as goal
 
-pub returns-in-Ok-insert-clause-value : goal.returns-in-Ok-insert-clause-value
-returns-in-Ok-insert-clause-value g c clean inside =
+pub returns-clause-value : goal.returns-clause-value
+returns-clause-value g c clean inside =
     let m = c.args.minute.now in
     puts_in 2 calls INSERT_CALL.now (values_of calls) (call_params m) (call_values m) (written (writes.Call m))
     (state g.S.Store c.args.tx.now.conn.now) (state g.S.Store c.insert.new.tx.conn.now) insert_call (call_in m) (λ t. refl)
-    (rw (c.params-to_sql.ensures, c.params-to_sql-2.ensures, c.params-to_sql-3.ensures, c.params-to_sql-4.ensures, c.params-to_sql-5.ensures, c.in_ok-number.ensures.value, c.name.ensures, c.as_str.ensures.value, c.as_str-2.ensures, c.as_str-3.ensures.value, c.in-Ok.ensures) at (c.in-Ok-insert.ensures.value clean inside))
+    (rw (c.params-to_sql.ensures, c.params-to_sql-2.ensures, c.params-to_sql-3.ensures, c.params-to_sql-4.ensures, c.params-to_sql-5.ensures, c.in_ok-number.ensures.value, c.name.ensures, c.as_str.ensures.value, c.as_str-2.ensures, c.as_str-3.ensures.value, c.in-Ok.ensures) at (c.in_ok-insert.ensures.value clean inside))

@@ -11,9 +11,9 @@ use Rattle.desk_tables.proofs.RowLemmas.{component_in}
 use Rattle.desk_tables.proofs.StepLemmas.{puts_in}
 use Rattle.desk_tables.proofs.entering.put_component.Goals as goal
 
-pub returns-in-Ok-clause-value : goal.returns-in-Ok-clause-value
-returns-in-Ok-clause-value g c clean inside =
+pub returns-clause-value : goal.returns-clause-value
+returns-clause-value g c clean inside =
     let x = c.args.component.now in
     puts_in 11 components INSERT_COMPONENT.now (values_of components) (component_values x) (component_values x) (written (writes.Component x))
     (state g.S.Store c.args.tx.now.conn.now) (state g.S.Store c.insert.new.tx.conn.now) insert_component (component_in x) (λ t. refl)
-    (rw (c.params-to_sql.ensures, c.params-to_sql-2.ensures, c.as_str.ensures.value, c.value.ensures.value) at (c.in-Ok.ensures.value clean inside))
+    (rw (c.params-to_sql.ensures, c.params-to_sql-2.ensures, c.as_str.ensures.value, c.value.ensures.value) at (c.in_ok-insert.ensures.value clean inside))

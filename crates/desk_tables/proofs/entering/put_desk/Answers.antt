@@ -12,12 +12,12 @@ use Rattle.desk_contents.specs.Values.{desk_values}
 use Rattle.desk_tables.proofs.RowLemmas.{desk_in}
 use Rattle.desk_tables.proofs.entering.put_desk.Goals as goal
 
-pub returns-in-Ok-clause-value : goal.returns-in-Ok-clause-value
-returns-in-Ok-clause-value g c clean inside =
+pub returns-clause-value : goal.returns-clause-value
+returns-clause-value g c clean inside =
     let owner = c.args.owner.now in
     let row = desk_values (tables owner []).desk in
     turns desk_schema (λ (_ : ⊤). no_rows desk_schema.tables) (λ _. contents (tables owner [])) (change_at 0 (λ rows. row ∷ rows))
     (state g.S.Store c.args.tx.now.conn.now) (state g.S.Store c.insert.new.tx.conn.now)
-    (rw (c.params-to_sql.ensures, c.params-to_sql-2.ensures, c.params-to_sql-3.ensures, c.params-to_sql-4.ensures, c.params-to_sql-5.ensures, c.as_bytes.ensures.value) at (c.in-Ok.ensures.value clean inside)
+    (rw (c.params-to_sql.ensures, c.params-to_sql-2.ensures, c.params-to_sql-3.ensures, c.params-to_sql-4.ensures, c.params-to_sql-5.ensures, c.as_bytes.ensures.value) at (c.in_ok-insert.ensures.value clean inside)
     desk_schema 0 desk (values_of desk) row insert_desk (desk_in owner))
     (λ _. refl)

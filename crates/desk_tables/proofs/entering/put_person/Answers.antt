@@ -11,9 +11,9 @@ use Rattle.desk_tables.proofs.RowLemmas.{person_in}
 use Rattle.desk_tables.proofs.StepLemmas.{puts_in}
 use Rattle.desk_tables.proofs.entering.put_person.Goals as goal
 
-pub returns-in-Ok-clause-value : goal.returns-in-Ok-clause-value
-returns-in-Ok-clause-value g c clean inside =
+pub returns-clause-value : goal.returns-clause-value
+returns-clause-value g c clean inside =
     let p = c.args.person.now in
     puts_in 1 people INSERT_PERSON.now (values_of people) (person_values p) (person_values p) (written (writes.Person p))
     (state g.S.Store c.args.tx.now.conn.now) (state g.S.Store c.insert.new.tx.conn.now) insert_person (person_in p) (λ t. refl)
-    (rw (c.params-to_sql.ensures, c.params-to_sql-2.ensures, c.params-to_sql-3.ensures, c.as_str.ensures.value, c.text.ensures, c.as_bytes.ensures.value) at (c.in-Ok.ensures.value clean inside))
+    (rw (c.params-to_sql.ensures, c.params-to_sql-2.ensures, c.params-to_sql-3.ensures, c.as_str.ensures.value, c.text.ensures, c.as_bytes.ensures.value) at (c.in_ok-insert.ensures.value clean inside))

@@ -11,9 +11,9 @@ use Rattle.desk_tables.proofs.RowLemmas.{entry_in}
 use Rattle.desk_tables.proofs.StepLemmas.{puts_in}
 use Rattle.desk_tables.proofs.listing.put_entry.Goals as goal
 
-pub returns-in-Ok-clause-value : goal.returns-in-Ok-clause-value
-returns-in-Ok-clause-value g c clean inside =
+pub returns-clause-value : goal.returns-clause-value
+returns-clause-value g c clean inside =
     let e = c.args.entry.now in
     puts_in 8 listed INSERT_LISTED.now (values_of listed) (entry_values e) (entry_values e) (written (writes.List e))
     (state g.S.Store c.args.tx.now.conn.now) (state g.S.Store c.insert.new.tx.conn.now) insert_listed (entry_in e) (λ t. refl)
-    (rw (c.params-to_sql.ensures, c.params-to_sql-2.ensures, c.params-to_sql-3.ensures, c.text.ensures, c.as_bytes.ensures.value, c.as_slice.ensures) at (c.in-Ok.ensures.value clean inside))
+    (rw (c.params-to_sql.ensures, c.params-to_sql-2.ensures, c.params-to_sql-3.ensures, c.text.ensures, c.as_bytes.ensures.value, c.as_slice.ensures) at (c.in_ok-insert.ensures.value clean inside))

@@ -11,9 +11,9 @@ use Rattle.desk_tables.proofs.RowLemmas.{revoked_certificate_in}
 use Rattle.desk_tables.proofs.StepLemmas.{puts_in}
 use Rattle.desk_tables.proofs.listing.revoke_certificate.Goals as goal
 
-pub returns-in-Ok-clause-value : goal.returns-in-Ok-clause-value
-returns-in-Ok-clause-value g c clean inside =
+pub returns-clause-value : goal.returns-clause-value
+returns-clause-value g c clean inside =
     let d = c.args.digest.now in
     puts_in 10 revoked_certificates INSERT_REVOKED_CERTIFICATE.now (values_of revoked_certificates) (digest_values d) (digest_values d) (with_revoked kinds.Certificate d)
     (state g.S.Store c.args.tx.now.conn.now) (state g.S.Store c.insert.new.tx.conn.now) insert_revoked_certificate (revoked_certificate_in d) (λ t. refl)
-    (rw (c.params-to_sql.ensures, c.as_bytes.ensures.value) at (c.in-Ok.ensures.value clean inside))
+    (rw (c.params-to_sql.ensures, c.as_bytes.ensures.value) at (c.in_ok-insert.ensures.value clean inside))

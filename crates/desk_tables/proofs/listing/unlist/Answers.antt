@@ -13,10 +13,10 @@ use Rattle.desk_tables.proofs.ChangeLemmas.{is_it, listing_params}
 use Rattle.desk_tables.proofs.StepLemmas.{takes_out}
 use Rattle.desk_tables.proofs.listing.unlist.Goals as goal
 
-pub returns-in-Ok-clause-value : goal.returns-in-Ok-clause-value
-returns-in-Ok-clause-value g c clean inside =
+pub returns-clause-value : goal.returns-clause-value
+returns-clause-value g c clean inside =
     let l = c.args.listing.now in
     takes_out 8 listed DELETE_LISTED.now (equals listed 0 0 ∷ equals listed 1 1 ∷ []) (listing_params l) entry_values (λ (t : Tables). t.listed) (λ t. refl)
     (is_entry l.kind l.digest) (is_it l) (written (writes.Unlist l)) (state g.S.Store c.args.tx.now.conn.now) (state g.S.Store c.delete.new.tx.conn.now)
     delete_listed (λ t. refl)
-    (rw (c.params-to_sql.ensures, c.params-to_sql-2.ensures, c.text.ensures, c.as_bytes.ensures.value) at (c.in-Ok.ensures.value clean inside))
+    (rw (c.params-to_sql.ensures, c.params-to_sql-2.ensures, c.text.ensures, c.as_bytes.ensures.value) at (c.in_ok-delete.ensures.value clean inside))

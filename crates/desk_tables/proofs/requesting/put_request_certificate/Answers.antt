@@ -11,9 +11,9 @@ use Rattle.desk_tables.proofs.RowLemmas.{request_certificate_in}
 use Rattle.desk_tables.proofs.StepLemmas.{puts_in}
 use Rattle.desk_tables.proofs.requesting.put_request_certificate.Goals as goal
 
-pub returns-in-Ok-clause-value : goal.returns-in-Ok-clause-value
-returns-in-Ok-clause-value g c clean inside =
+pub returns-clause-value : goal.returns-clause-value
+returns-clause-value g c clean inside =
     let r = c.args.certificate.now in
     puts_in 4 request_certificates INSERT_REQUEST_CERTIFICATE.now (values_of request_certificates) (request_certificate_values r) (request_certificate_values r) (written (writes.RequestCertificate r))
     (state g.S.Store c.args.tx.now.conn.now) (state g.S.Store c.insert.new.tx.conn.now) insert_request_certificate (request_certificate_in r) (λ t. refl)
-    (rw (c.params-to_sql.ensures, c.params-to_sql-2.ensures, c.in_ok-request.ensures.value, c.value.ensures.value, c.as_bytes.ensures.value) at (c.in-Ok.ensures.value clean inside))
+    (rw (c.params-to_sql.ensures, c.params-to_sql-2.ensures, c.in_ok-request.ensures.value, c.value.ensures.value, c.as_bytes.ensures.value) at (c.in_ok-insert.ensures.value clean inside))

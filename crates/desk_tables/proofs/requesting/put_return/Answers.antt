@@ -11,9 +11,9 @@ use Rattle.desk_tables.proofs.RowLemmas.{return_in, return_params}
 use Rattle.desk_tables.proofs.StepLemmas.{puts_in}
 use Rattle.desk_tables.proofs.requesting.put_return.Goals as goal
 
-pub returns-in-Ok-clause-value : goal.returns-in-Ok-clause-value
-returns-in-Ok-clause-value g c clean inside =
+pub returns-clause-value : goal.returns-clause-value
+returns-clause-value g c clean inside =
     let r = c.args.returned.now in
     puts_in 7 returns INSERT_RETURN.now (values_of returns) (return_params r) (return_values r) (written (writes.Return r))
     (state g.S.Store c.args.tx.now.conn.now) (state g.S.Store c.insert.new.tx.conn.now) insert_return (return_in r) (λ t. refl)
-    (rw (c.params-to_sql.ensures, c.params-to_sql-2.ensures, c.params-to_sql-3.ensures, c.params-to_sql-4.ensures, c.params-to_sql-5.ensures, c.in_ok-request.ensures.value, c.in_ok-length.ensures.value, c.value.ensures.value, c.as_str.ensures.value, c.as_bytes.ensures.value, c.as_bytes-2.ensures.value) at (c.in-Ok.ensures.value clean inside))
+    (rw (c.params-to_sql.ensures, c.params-to_sql-2.ensures, c.params-to_sql-3.ensures, c.params-to_sql-4.ensures, c.params-to_sql-5.ensures, c.in_ok-request.ensures.value, c.in_ok-length.ensures.value, c.value.ensures.value, c.as_str.ensures.value, c.as_bytes.ensures.value, c.as_bytes-2.ensures.value) at (c.in_ok-insert.ensures.value clean inside))

@@ -11,9 +11,9 @@ use Rattle.desk_tables.proofs.RowLemmas.{vote_in}
 use Rattle.desk_tables.proofs.StepLemmas.{puts_in}
 use Rattle.desk_tables.proofs.requesting.put_vote.Goals as goal
 
-pub returns-in-Ok-clause-value : goal.returns-in-Ok-clause-value
-returns-in-Ok-clause-value g c clean inside =
+pub returns-clause-value : goal.returns-clause-value
+returns-clause-value g c clean inside =
     let v = c.args.vote.now in
     puts_in 6 votes INSERT_VOTE.now (values_of votes) (vote_values v) (vote_values v) (written (writes.Vote v))
     (state g.S.Store c.args.tx.now.conn.now) (state g.S.Store c.insert.new.tx.conn.now) insert_vote (vote_in v) (λ t. refl)
-    (rw (c.params-to_sql.ensures, c.params-to_sql-2.ensures, c.params-to_sql-3.ensures, c.params-to_sql-4.ensures, c.in_ok-request.ensures.value, c.value.ensures.value, c.as_str.ensures.value, c.text.ensures, c.as_str-2.ensures.value) at (c.in-Ok.ensures.value clean inside))
+    (rw (c.params-to_sql.ensures, c.params-to_sql-2.ensures, c.params-to_sql-3.ensures, c.params-to_sql-4.ensures, c.in_ok-request.ensures.value, c.value.ensures.value, c.as_str.ensures.value, c.text.ensures, c.as_str-2.ensures.value) at (c.in_ok-insert.ensures.value clean inside))

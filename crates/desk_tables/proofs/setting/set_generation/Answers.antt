@@ -12,10 +12,10 @@ use Rattle.desk_tables.proofs.ChangeLemmas.{gets_generation, has_name}
 use Rattle.desk_tables.proofs.StepLemmas.{sets}
 use Rattle.desk_tables.proofs.setting.set_generation.Goals as goal
 
-pub returns-in-Ok-clause-value : goal.returns-in-Ok-clause-value
-returns-in-Ok-clause-value g c clean inside =
+pub returns-clause-value : goal.returns-clause-value
+returns-clause-value g c clean inside =
     let y = c.args.component.now in
     sets 11 components UPDATE_GENERATION.now (equals components 0 0 ∷ []) (component_values y) component_values (λ (t : Tables). t.components) (λ t. refl)
     (is_named y.name) (has_name y) (written (writes.Generation y)) (state g.S.Store c.args.tx.now.conn.now) (state g.S.Store c.update.new.tx.conn.now)
     (set_to components 1 1) (λ x. record x { generation = y.generation }) update_generation (gets_generation y) (λ t. refl)
-    (rw (c.params-to_sql.ensures, c.params-to_sql-2.ensures, c.as_str.ensures.value, c.value.ensures.value) at (c.in-Ok.ensures.value clean inside))
+    (rw (c.params-to_sql.ensures, c.params-to_sql-2.ensures, c.as_str.ensures.value, c.value.ensures.value) at (c.in_ok-update.ensures.value clean inside))

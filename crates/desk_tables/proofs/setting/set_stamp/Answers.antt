@@ -13,10 +13,10 @@ use Rattle.desk_tables.proofs.ChangeLemmas.{gets_stamp}
 use Rattle.desk_tables.proofs.StepLemmas.{sets}
 use Rattle.desk_tables.proofs.setting.set_stamp.Goals as goal
 
-pub returns-in-Ok-clause-value : goal.returns-in-Ok-clause-value
-returns-in-Ok-clause-value g c clean inside =
+pub returns-clause-value : goal.returns-clause-value
+returns-clause-value g c clean inside =
     let s = c.args.stamp in
     sets 0 desk UPDATE_STAMP.now [] (Int (pos s) ∷ []) desk_values (λ (t : Tables). t.desk ∷ []) (λ t. refl)
     (λ _. true) (λ x. refl) (written (writes.Stamp s)) (state g.S.Store c.args.tx.now.conn.now) (state g.S.Store c.update.new.tx.conn.now)
     (set_to desk 4 0) (λ x. record x { stamp = s }) update_stamp (gets_stamp s) (λ t. refl)
-    (rw (c.params-to_sql.ensures, c.in_ok-number.ensures.value, c.value.ensures.value) at (c.in-Ok.ensures.value clean inside))
+    (rw (c.params-to_sql.ensures, c.in_ok-number.ensures.value, c.value.ensures.value) at (c.in_ok-update.ensures.value clean inside))

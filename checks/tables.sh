@@ -1,0 +1,107 @@
+#!/bin/sh
+# Writes a day of a desk into a file by desk_tables, and lets sqlite3's own shell read it: its integrity check, the columns
+# and keys of each table, and every row. Not part of the gate: it needs sqlite3. The program is built in a room of its own
+# ($TABLES_ROOM, kept between runs).
+set -eu
+root=$(CDPATH='' cd -- "$(dirname -- "$(readlink -f -- "$0")")/.." && pwd -P)
+room=${TABLES_ROOM:-${TMPDIR:-/tmp}/desk_tables_room}
+mkdir -p "$room/crates"
+below="desk_bytes sbat desk_texts desk_history desk_sql desk_statements desk_contents desk_tables tables_tests"
+: > "$room/crates.txt"
+for crate in $below; do
+    rm -rf "$room/crates/$crate"
+    cp -a "$root/crates/$crate" "$room/crates/$crate"
+    grep "^$crate:" "$root/crates.txt" >> "$room/crates.txt"
+done
+mkdir -p "$room/crates/write_day/src"
+cp "$root/checks/tables/main.rt.txt" "$room/crates/write_day/src/main.rt"
+echo 'write_day: tables_tests desk_tables desk_statements desk_history desk_bytes sqlite' >> "$room/crates.txt"
+(cd "$room/crates/write_day" && rt run > "$room/build.log" 2>&1) || true
+program="$room/crates/write_day/out/write_day"
+test -x "$program" || { tail -20 "$room/build.log" >&2; exit 1; }
+rm -f "$room/desk.db" "$room/desk.db-wal"
+"$program" "$room/desk.db"
+
+cat > "$room/wanted" << 'TEXT'
+ok
+desk|id|INTEGER|1|1
+desk|mark|TEXT|1|0
+desk|version|INTEGER|1|0
+desk|owner|BLOB|1|0
+desk|stamp|INTEGER|1|0
+people|name|TEXT|1|1
+people|role|TEXT|1|0
+people|token|BLOB|1|0
+calls|no|INTEGER|1|1
+calls|caller|TEXT|1|0
+calls|key|TEXT|1|0
+calls|text|TEXT|1|0
+calls|reply|TEXT|1|0
+requests|no|INTEGER|1|1
+requests|submitter|TEXT|1|0
+requests|title|TEXT|1|0
+requests|length|INTEGER|1|0
+requests|gap|INTEGER|1|0
+requests|file|BLOB|1|0
+requests|digest|BLOB|1|0
+requests|signing|BLOB|1|0
+requests|state|TEXT|1|0
+request_certificates|request|INTEGER|1|1
+request_certificates|digest|BLOB|1|2
+request_components|request|INTEGER|1|1
+request_components|place|INTEGER|1|2
+request_components|name|TEXT|1|0
+request_components|generation|INTEGER|1|0
+votes|request|INTEGER|1|1
+votes|reviewer|TEXT|1|2
+votes|vote|TEXT|1|0
+votes|note|TEXT|1|0
+returns|request|INTEGER|1|1
+returns|signer|TEXT|1|0
+returns|length|INTEGER|1|0
+returns|file|BLOB|1|0
+returns|digest|BLOB|1|0
+listed|kind|TEXT|1|1
+listed|digest|BLOB|1|2
+listed|body|BLOB|1|0
+revoked_digests|digest|BLOB|1|1
+revoked_certificates|digest|BLOB|1|1
+components|name|TEXT|1|1
+components|generation|INTEGER|1|0
+people|token
+calls|caller,key
+strict 12 of 12
+desk|1|'boot-desk'|1|X'33221100554477668899aabbccddeeff'|2024010100
+people|'ann'|'submitter'|X'0101010101010101010101010101010101010101010101010101010101010101'
+calls|1|'console'|'k1'|'add-person'|'added ann'
+calls|2|'ann'|'k1'|'withdraw 2'|'withdrawn 2'
+requests|1|'ann'|'shim 15.8'|1024|8|X'0a0a0a0a0a0a0a0a0a0a0a0a0a0a0a0a0a0a0a0a0a0a0a0a0a0a0a0a0a0a0a0a'|X'0b0b0b0b0b0b0b0b0b0b0b0b0b0b0b0b0b0b0b0b0b0b0b0b0b0b0b0b0b0b0b0b'|X'0c0c0c0c0c0c0c0c0c0c0c0c0c0c0c0c0c0c0c0c0c0c0c0c0c0c0c0c0c0c0c0c'|'signed'
+requests|2|'ann'|'shim 15.8'|1024|8|X'0a0a0a0a0a0a0a0a0a0a0a0a0a0a0a0a0a0a0a0a0a0a0a0a0a0a0a0a0a0a0a0a'|X'0b0b0b0b0b0b0b0b0b0b0b0b0b0b0b0b0b0b0b0b0b0b0b0b0b0b0b0b0b0b0b0b'|X'0c0c0c0c0c0c0c0c0c0c0c0c0c0c0c0c0c0c0c0c0c0c0c0c0c0c0c0c0c0c0c0c'|'open'
+request_certificates|1|X'1414141414141414141414141414141414141414141414141414141414141414'
+request_components|1|0|'grub'|3
+votes|1|'rita'|'yes'|'looked'
+returns|1|'sid'|2048|X'0d0d0d0d0d0d0d0d0d0d0d0d0d0d0d0d0d0d0d0d0d0d0d0d0d0d0d0d0d0d0d0d'|X'0c0c0c0c0c0c0c0c0c0c0c0c0c0c0c0c0c0c0c0c0c0c0c0c0c0c0c0c0c0c0c0c'
+listed|'certificate'|X'1616161616161616161616161616161616161616161616161616161616161616'|X'3003020101'
+revoked_digests|X'1f1f1f1f1f1f1f1f1f1f1f1f1f1f1f1f1f1f1f1f1f1f1f1f1f1f1f1f1f1f1f1f'
+revoked_certificates|X'2020202020202020202020202020202020202020202020202020202020202020'
+components|'grub'|4
+components|'shim'|2
+TEXT
+
+tables='desk people calls requests request_certificates request_components votes returns listed revoked_digests revoked_certificates components'
+ask() { sqlite3 "$room/desk.db" "$1"; }
+{
+    ask 'PRAGMA integrity_check'
+    for table in $tables; do
+        ask "SELECT '$table', name, type, \"notnull\", pk FROM pragma_table_info('$table')"
+    done
+    for table in $tables; do
+        ask "SELECT '$table', group_concat(c.name) FROM pragma_index_list('$table') i, pragma_index_info(i.name) c WHERE i.origin = 'u' GROUP BY i.name"
+    done
+    ask "SELECT 'strict ' || sum(strict) || ' of ' || count(*) FROM pragma_table_list WHERE schema = 'main' AND name NOT LIKE 'sqlite_%'"
+    for table in $tables; do
+        sqlite3 -cmd '.mode quote' -cmd '.separator |' "$room/desk.db" "SELECT * FROM $table" | sed "s/^/$table|/"
+    done
+} > "$room/found"
+diff "$room/wanted" "$room/found"
+echo 'tables.sh: sqlite3 reads the tables, their keys and their rows as they were written'
