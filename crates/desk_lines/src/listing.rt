@@ -1,6 +1,6 @@
 //! What the subcommands print.
 use crate::fault::Fault;
-use desk_bytes::{Refusal, WriteFailed};
+use desk_bytes::{LONGEST_IMAGE, Refusal, WriteFailed};
 use desk_texts::Facts;
 use pe_image::{Source, gap, layout, ranges};
 use siglist::{Kind, lists};
@@ -8,7 +8,7 @@ use std::alloc::Global;
 use std::io::Write;
 
 /// The most bytes of an image's file, and of a file of signature lists.
-pub const MOST_BYTES: usize = 134_217_728;
+pub const MOST_BYTES: usize = LONGEST_IMAGE as usize;
 
 /// Writes a line `FROM-TO` for each range of the image that Authenticode hashes, half-open, in their order,
 /// and then `gap N`. Nothing is written of an image that is refused.

@@ -1,5 +1,6 @@
 -- own: what each path and method is for.
 use Rattle.std.specs.Prelude.{ℕ, List, codes, bytes_eq, Bool, true, false, if◌then◌else◌, Option, Some, None, is_none}
+use Rattle.desk_bytes.specs.Limits.{longest_image}
 use Rattle.desk_requests.specs.declared.path.Path.{Path}
 use Rattle.desk_requests.specs.declared.path.Path.TheVariants as path
 use Rattle.desk_requests.specs.declared.route.Route.{Route}
@@ -65,7 +66,7 @@ is_read _ = false
 
 -- own: the most bytes of a body; more where it is an image
 abbrev pub limit_of : Route → ℕ
-limit_of route.Submit = 134217728
-limit_of route.Return = 134217728
-limit_of route.Verdict = 134217728
+limit_of route.Submit = longest_image
+limit_of route.Return = longest_image
+limit_of route.Verdict = longest_image
 limit_of _ = 4194304

@@ -1,14 +1,12 @@
 //! The fields that count.
-ghost use Rattle.std.specs.Prelude.{◌≡◌, ◌≤◌, length, true};
-ghost use Rattle.std.specs.Char.{is_ascii_digit};
-ghost use Rattle.std.specs.List.{list_all};
-ghost use Rattle.sbat.specs.Fields.{decimal_of};
+ghost use Rattle.std.specs.Prelude.{◌≡◌};
 ghost use Rattle.desk_heads.specs.Fields.{occurrence, shown};
 ghost use Rattle.desk_requests.specs.Lengths.{length_in, length_of};
 ghost use Rattle.desk_requests.specs.Fields.{GivesFields, GivesLength, GivesValue, fields_of, value_of};
 
 use crate::WantedFault;
 use desk_heads::{Given, Head};
+use sbat::{are_digits, decimal};
 
 /// The values of the fields that count, each there once at most.
 #[derive(Clone, Copy)]
@@ -18,26 +16,6 @@ pub(crate) struct Fields<'b> {
     pub(crate) key: Option<&'b [u8]>,
     pub(crate) title: Option<&'b [u8]>,
     pub(crate) stamp: Option<&'b [u8]>,
-}
-
-/// Whether each byte is a decimal digit.
-fn are_digits(text: &[u8]) -> bool
-    ensures { result ≡ list_all is_ascii_digit text.now }
-{
-    text.iter().all(|byte| byte.is_ascii_digit())
-}
-
-/// The number that at most ten digits spell.
-fn decimal(digits: &[u8]) -> u64
-    requires few { length digits.now ≤ 10 }
-    requires digits { list_all is_ascii_digit digits.now ≡ true }
-    ensures { result ≡ decimal_of digits.now }
-{
-    let mut number = 0;
-    for digit in digits {
-        number = 10 * number + u64::from(*digit - b'0');
-    }
-    number
 }
 
 /// The number that 1 to 10 decimal digits spell, zeros leading or not.

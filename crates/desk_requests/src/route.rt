@@ -3,6 +3,7 @@ ghost use Rattle.std.specs.Prelude.{◌≡◌};
 ghost use Rattle.desk_requests.specs.Routes as spec;
 
 use crate::Path;
+use desk_bytes::LONGEST_IMAGE;
 
 /// What a request is for: a path with one of its methods.
 #[derive(Clone, Copy, Debug, PartialEq, Eq)]
@@ -71,12 +72,12 @@ impl Methods {
 }
 
 impl Route {
-    /// The most bytes of a body: 134,217,728 where it is an image, else 4,194,304.
+    /// The most bytes of a body: `LONGEST_IMAGE` where it is an image, else 4,194,304.
     pub(crate) fn limit(self) -> u64
         ensures { result ≡ spec.limit_of self }
     {
         match self {
-            Route::Submit | Route::Return | Route::Verdict => 134_217_728,
+            Route::Submit | Route::Return | Route::Verdict => LONGEST_IMAGE,
             Route::Requests
             | Route::Request
             | Route::Review

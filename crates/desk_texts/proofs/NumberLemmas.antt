@@ -48,6 +48,17 @@ pub record IsRead (text : List ℕ) (n : ℕ) : Type 0 where
   pub same : text ≡ decimal n
   pub form : is_request_number n ≡ true
 
+-- a decimal text has digits alone, and few
+pub is_decimal-digits : (text : List ℕ) → is_decimal text ≡ true → list_all is_ascii_digit text ≡ true
+is_decimal-digits text h = (both (leb 1 (length text) && leb (length text) 6 && not (eqb (get_or text 0 0) 48)) (list_all is_ascii_digit text) h).1
+
+pub is_decimal-few : (text : List ℕ) → is_decimal text ≡ true → length text ≤ 10
+is_decimal-few text h =
+    let front = both (leb 1 (length text) && leb (length text) 6 && not (eqb (get_or text 0 0) 48)) (list_all is_ascii_digit text) h in
+    let sized = both (leb 1 (length text) && leb (length text) 6) (not (eqb (get_or text 0 0) 48)) front.0 in
+    let few = (both (leb 1 (length text)) (leb (length text) 6) sized.0).1 in
+    grind (arith, nat_tests)
+
 -- a decimal text of 1 to 6 digits is that of the number that it spells
 pub decimal_of-read : (text : List ℕ) → is_decimal text ≡ true → IsRead text (decimal_of text)
 decimal_of-read text h =

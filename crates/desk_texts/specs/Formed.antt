@@ -1,9 +1,10 @@
 -- A call in its forms and within its limits: what holds of each call that a program can have.
 use Rattle.std.specs.Prelude.{◌≡◌, ◌≤◌, length, true}
 use Rattle.desk_bytes.specs.Digests.{IsAscending}
+use Rattle.desk_bytes.specs.Limits.{longest_image, most_certificates, most_components}
 use Rattle.desk_texts.specs.Certificates.{is_certificate_size}
 use Rattle.desk_texts.specs.Commands.{IsCaller, IsCommand}
-use Rattle.desk_texts.specs.Forms.{is_key, longest_image, most_carried, most_imported, most_named}
+use Rattle.desk_texts.specs.Forms.{is_key, most_imported}
 use Rattle.desk_texts.specs.Imports.{Imported, named_count}
 use Rattle.desk_texts.specs.Raising.{names_no_sbat}
 use Rattle.desk_texts.specs.declared.command.Call.{Call}
@@ -16,8 +17,8 @@ pub record AreFactsWithin (facts : Facts) : Type 0 where
   pub gap : facts.extent.gap ≤ facts.extent.length
   pub file : facts.extent.length ≤ longest_image
   pub ascending : IsAscending facts.carried
-  pub carried : length facts.carried ≤ most_carried
-  pub components : length facts.components ≤ most_named
+  pub carried : length facts.carried ≤ most_certificates
+  pub components : length facts.components ≤ most_components
 
 -- own: how many entries an import has, with those that it passes over; `sbat` is none of them
 pub record IsImportWithin (named : Imported) : Type 0 where

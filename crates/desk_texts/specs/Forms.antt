@@ -49,15 +49,3 @@ is_space byte = byte == 32
 -- own: one import has at most 10,000 entries
 abbrev pub most_imported : ℕ
 most_imported = 10000
-
--- own: an image's file has at most 134,217,728 bytes
-abbrev pub longest_image : ℕ
-longest_image = 134217728
-
--- own: an image carries at most 64 certificates
-abbrev pub most_carried : ℕ
-most_carried = 64
-
--- own: an image names at most 256 components
-abbrev pub most_named : ℕ
-most_named = 256

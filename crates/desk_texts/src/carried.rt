@@ -2,17 +2,13 @@
 ghost use Rattle.std.specs.Prelude.{◌≡◌, ◌<◌, ◌≤◌, ℕ, List, length, MatchOption};
 ghost use Rattle.desk_bytes.specs.Digests.{IsArranged, IsAscending};
 ghost use Rattle.desk_texts.specs.Carrying.{HasMore};
-ghost use Rattle.desk_texts.specs.Forms.{most_carried};
-ghost use Rattle.desk_texts.specs.declared.carried.TheConstants.{MOST_CARRIED};
+ghost use Rattle.desk_bytes.specs.Limits.{most_certificates};
 
-use desk_bytes::{Digest, arrange};
+use desk_bytes::{Digest, MOST_CERTIFICATES, arrange};
 use std::alloc::AllocError;
 use std::marker::Model;
 
-/// The most certificates that an image carries.
-pub const MOST_CARRIED: usize = 64;
-
-/// The SHA-256 of each TBSCertificate that an image carries: ascending, each once, at most `MOST_CARRIED`. A
+/// The SHA-256 of each TBSCertificate that an image carries: ascending, each once, at most `MOST_CERTIFICATES`. A
 /// contract sees the list of them.
 #[derive(Debug, Drop)]
 pub struct Carried {
@@ -25,20 +21,20 @@ impl Model for Carried {
     ghost view = { λ c. c.digests.items };
 
     ghost invariant = { λ c.
-        IsAscending c.digests.items × (length c.digests.items ≤ MOST_CARRIED) };
+        IsAscending c.digests.items × (length c.digests.items ≤ most_certificates) };
 }
 
 impl Carried {
     /// Digests that ascend already, each once, within the limit.
     pub fn of(digests: Vec<Digest>) -> Carried
         requires ascending { IsAscending digests.items }
-        requires few { length digests.items ≤ MOST_CARRIED }
+        requires few { length digests.items ≤ most_certificates }
         ensures { result ≡ digests.items }
     {
         Carried { digests }
     }
 
-    /// The digests, ascending, each once, or `None` where more than `MOST_CARRIED` are different. The time is
+    /// The digests, ascending, each once, or `None` where more than `MOST_CERTIFICATES` are different. The time is
     /// that of sorting.
     pub fn new(digests: Vec<Digest>) -> Option<Carried>
         ensures { MatchOption result (HasMore digests.items)
@@ -46,7 +42,7 @@ impl Carried {
     {
         let mut digests = digests;
         arrange(&mut digests);
-        if MOST_CARRIED < digests.len() {
+        if MOST_CERTIFICATES < digests.len() {
             return None;
         }
         Some(Carried::of(digests))
@@ -56,7 +52,7 @@ impl Carried {
     pub fn as_slice(&self) -> &[Digest]
         ensures value { result.now ≡ self.now }
         ensures ascending { IsAscending self.now }
-        ensures few { length self.now ≤ most_carried }
+        ensures few { length self.now ≤ most_certificates }
     {
         &self.digests
     }

@@ -1,15 +1,12 @@
 //! The components that an image names.
 ghost use Rattle.std.specs.Prelude.{◌≡◌, ◌<◌, ◌≤◌, List, length, MatchOption};
-ghost use Rattle.desk_texts.specs.Forms.{most_named};
-ghost use Rattle.desk_texts.specs.declared.components.TheConstants.{MOST_COMPONENTS};
+ghost use Rattle.desk_bytes.specs.Limits.{most_components};
 
 use crate::copying::copies;
+use desk_bytes::MOST_COMPONENTS;
 use sbat::Component;
 use std::alloc::AllocError;
 use std::marker::Model;
-
-/// The most components of an image.
-pub const MOST_COMPONENTS: usize = 256;
 
 /// The SBAT components of an image, in the image's order, at most `MOST_COMPONENTS`; a name may come twice. A
 /// contract sees the list of them.
@@ -20,20 +17,20 @@ pub struct Components {
 
 impl Model for Components {
     ghost use Rattle.std.specs.Prelude.{◌≤◌, List, length};
-    ghost use Rattle.desk_texts.specs.declared.components.TheConstants.{MOST_COMPONENTS};
+    ghost use Rattle.desk_bytes.specs.Limits.{most_components};
     ghost use Rattle.sbat.specs.declared.component.Component.{Component};
 
     ghost Value = { List Component };
 
     ghost view = { λ c. c.items.items };
 
-    ghost invariant = { λ c. length c.items.items ≤ MOST_COMPONENTS };
+    ghost invariant = { λ c. length c.items.items ≤ most_components };
 }
 
 impl Components {
     /// The components, or `None` where there are more than `MOST_COMPONENTS`.
     pub fn new(items: Vec<Component>) -> Option<Components>
-        ensures { MatchOption result (MOST_COMPONENTS < length items.items)
+        ensures { MatchOption result (most_components < length items.items)
             (λ components. components ≡ items.items) }
     {
         if MOST_COMPONENTS < items.len() {
@@ -45,7 +42,7 @@ impl Components {
     /// The components.
     pub fn as_slice(&self) -> &[Component]
         ensures value { result.now ≡ self.now }
-        ensures few { length self.now ≤ most_named }
+        ensures few { length self.now ≤ most_components }
     {
         &self.items
     }

@@ -1,12 +1,10 @@
 //! How long an image's file is.
 ghost use Rattle.std.specs.Prelude.{◌≡◌, ◌⊎◌, ◌<◌, ◌≤◌, MatchOption};
 ghost use Rattle.desk_texts.specs.Extents.{Lengths};
-ghost use Rattle.desk_texts.specs.declared.extent.TheConstants.{LONGEST_IMAGE};
+ghost use Rattle.desk_bytes.specs.Limits.{longest_image};
 
+use desk_bytes::LONGEST_IMAGE;
 use std::marker::Model;
-
-/// The most bytes of an image's file.
-pub const LONGEST_IMAGE: u64 = 134_217_728;
 
 /// How many bytes an image's file has, at most `LONGEST_IMAGE`, and how many of them before the sections' end
 /// stand in no header and in no section.
@@ -21,7 +19,7 @@ impl Model for Extent {
 
     ghost view = { λ e. record { length = e.length; gap = e.gap } };
 
-    ghost invariant = { λ e. (e.gap ≤ e.length) × (e.length ≤ LONGEST_IMAGE) };
+    ghost invariant = { λ e. (e.gap ≤ e.length) × (e.length ≤ longest_image) };
 
     ghost inverse = { λ lengths. record { length = lengths.length; gap = lengths.gap } };
 }
@@ -29,7 +27,7 @@ impl Model for Extent {
 impl Extent {
     /// Both numbers, or `None` where the gap is longer than the file or the file than `LONGEST_IMAGE`.
     pub fn new(length: u64, gap: u64) -> Option<Extent>
-        ensures { MatchOption result ((length < gap) ⊎ (LONGEST_IMAGE < length))
+        ensures { MatchOption result ((length < gap) ⊎ (longest_image < length))
             (λ extent. extent ≡ record { length = length; gap = gap }) }
     {
         if length < gap {
@@ -44,7 +42,7 @@ impl Extent {
     /// How many bytes the file has.
     pub fn length(self) -> u64
         ensures value { result ≡ self.length }
-        ensures limit { result ≤ LONGEST_IMAGE }
+        ensures limit { result ≤ longest_image }
     {
         self.length
     }

@@ -35,13 +35,13 @@ mod vote;
 mod words;
 
 pub use caller::Caller;
-pub use carried::{Carried, MOST_CARRIED};
+pub use carried::Carried;
 pub use certificate::{Certificate, LONGEST_CERTIFICATE};
 pub use command::{Ballot, Call, Command, Listing, Person, Raise, ReturnedFile, Submission};
 pub use command_texts::command_text;
-pub use components::{Components, MOST_COMPONENTS};
+pub use components::Components;
 pub use digests::Digests;
-pub use extent::{Extent, LONGEST_IMAGE};
+pub use extent::Extent;
 pub use facts::Facts;
 pub use fault::TextFault;
 pub use form_keeping::{calls_are_formed, commands_are_formed, replies_are_formed};

@@ -1,9 +1,9 @@
 //! Numbers of requests.
 ghost use Rattle.std.specs.Prelude.{◌≡◌, ◌≤◌, ℕ, List, IfSome, IfNone, MatchOption, false, decimal, length, true};
-ghost use Rattle.sbat.specs.Fields.{decimal_of};
-ghost use Rattle.desk_texts.specs.Forms.{is_decimal, is_request_number};
+ghost use Rattle.desk_texts.specs.Forms.{is_request_number};
 
 use crate::forms;
+use sbat::decimal;
 use std::marker::Model;
 
 /// A request's number: 1 to 999,999. A contract sees the number.
@@ -20,18 +20,6 @@ impl Model for RequestNumber {
     ghost invariant = { λ n. is_request_number n.number ≡ true };
 
     ghost inverse = { λ number. record { number = number } };
-}
-
-/// The number that at most six decimal digits spell.
-fn number_of(text: &[u8]) -> u64
-    requires { is_decimal text.now ≡ true }
-    ensures { result ≡ decimal_of text.now }
-{
-    let mut number = 0;
-    for digit in text {
-        number = 10 * number + u64::from(*digit - b'0');
-    }
-    number
 }
 
 impl RequestNumber {
@@ -63,6 +51,6 @@ impl RequestNumber {
         if !forms::is_decimal(text) {
             return None;
         }
-        RequestNumber::new(number_of(text))
+        RequestNumber::new(decimal(text))
     }
 }

@@ -4,15 +4,15 @@ ghost use Rattle.std.specs.Char.{is_ascii_digit};
 ghost use Rattle.std.specs.List.{list_all};
 ghost use Rattle.sbat.specs.Fields as spec;
 
-/// Whether all bytes are digits.
-pub(crate) fn are_digits(text: &[u8]) -> bool
+/// Whether all bytes are decimal digits. Takes no memory.
+pub fn are_digits(text: &[u8]) -> bool
     ensures { result ≡ list_all is_ascii_digit text.now }
 {
     text.iter().all(|b| b.is_ascii_digit())
 }
 
-/// The number that at most ten digits spell.
-pub(crate) fn decimal(digits: &[u8]) -> u64
+/// The number that at most ten decimal digits spell, zeros leading or not. Takes no memory.
+pub fn decimal(digits: &[u8]) -> u64
     requires few { length digits.now ≤ 10 }
     requires digits { list_all is_ascii_digit digits.now ≡ true }
     ensures { result ≡ spec.decimal_of digits.now }

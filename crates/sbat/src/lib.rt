@@ -17,6 +17,7 @@ mod stamp;
 mod text;
 
 pub use component::Component;
+pub use digits::{are_digits, decimal};
 pub use fault::SbatFault;
 pub use generation::Generation;
 pub use image::components;

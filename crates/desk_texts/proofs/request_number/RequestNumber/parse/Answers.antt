@@ -1,7 +1,7 @@
 use Rattle.std.proofs.Common.{sym, ap, ◌∙◌}
 use Rattle.sbat.specs.Fields.{decimal_of}
 use Rattle.desk_texts.specs.Forms.{is_decimal}
-use Rattle.desk_texts.proofs.NumberLemmas.{some_false, is_decimal-decimal, decimal_of-read, read_found, read_only}
+use Rattle.desk_texts.proofs.NumberLemmas.{is_decimal-digits, is_decimal-few, some_false, is_decimal-decimal, decimal_of-read, read_found, read_only}
 use Rattle.desk_texts.proofs.request_number.RequestNumber.parse.Goals as goal
 
 pub returns-then-not-is_decimal-clause-only : goal.returns-then-not-is_decimal-clause-only
@@ -12,10 +12,16 @@ pub returns-clause-found : goal.returns-clause-found
 returns-clause-found c =
     let text = c.args.text.now in
     let read = decimal_of-read text (sym c.is_decimal.ensures ∙ c.if-not-is_decimal.false) in
-    read_found c.new.result text (decimal_of text) c.number_of.result c.number_of.ensures read c.new.ensures
+    read_found c.new.result text (decimal_of text) c.decimal.result c.decimal.ensures read c.new.ensures
 
 pub returns-clause-only : goal.returns-clause-only
 returns-clause-only c =
     let text = c.args.text.now in
     let read = decimal_of-read text (sym c.is_decimal.ensures ∙ c.if-not-is_decimal.false) in
-    read_only c.new.result text (decimal_of text) c.number_of.result _ c.number_of.ensures read c.new.ensures
+    read_only c.new.result text (decimal_of text) c.decimal.result _ c.decimal.ensures read c.new.ensures
+
+pub decimal-requires-clause-few : goal.decimal-requires-clause-few
+decimal-requires-clause-few c = is_decimal-few c.args.text.now (sym c.is_decimal.ensures ∙ c.if-not-is_decimal.false)
+
+pub decimal-requires-clause-digits : goal.decimal-requires-clause-digits
+decimal-requires-clause-digits c = is_decimal-digits c.args.text.now (sym c.is_decimal.ensures ∙ c.if-not-is_decimal.false)
