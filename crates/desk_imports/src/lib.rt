@@ -16,4 +16,4 @@ pub use fault::ImportFault;
 pub use from_csv::import_csv;
 pub use from_level::import_level;
 pub use from_lists::import_dbx;
-pub use laws::tbs_is_read;
+pub use laws::{import_is_one, tbs_is_read};
