@@ -11,26 +11,15 @@ use Rattle.csv.specs.declared.parser.Terminator.TheVariants as term
 use Rattle.csv.specs.declared.reader.Reader.{Reader}
 use Rattle.csv.specs.declared.reader.Trim.TheVariants as trim
 use Rattle.csv.proofs.ReadFacts.{rows-end, rows-more}
+use Rattle.desk_bytes.specs.Lines.{named_at}
+use Rattle.desk_bytes.proofs.NamedLemmas.{put_before, put_before-more, put_before-nil}
 use Rattle.desk_texts.specs.declared.command.Command.{Command}
-use Rattle.desk_imports.specs.FromCsv.{IsCsvImport, Record, is_header, item_at, items_from, items_in, put_first, record_item, records_of}
+use Rattle.desk_imports.specs.FromCsv.{IsCsvImport, Record, is_header, items_from, items_in, record_item, records_of}
 use Rattle.desk_imports.specs.Gathering.{Gathering, Gathers}
 use Rattle.desk_imports.specs.Items.{IsCommandOf, IsTooMany}
 use Rattle.desk_imports.specs.Records.{GathersRecords, Leaves, PassesHeader, Reads}
 use Rattle.desk_imports.specs.declared.csv_rows.Next.TheVariants as next
 use Rattle.desk_imports.specs.declared.item.Item.{Item}
-
--- entries in front of what was read
-abbrev pub put_before : List Item → Result (List Item) ℕ → Result (List Item) ℕ
-put_before done (Ok items) = Ok (done ++ items)
-put_before done (Err number) = Err number
-
-put_before-nil : (r : Result (List Item) ℕ) → put_before [] r ≡ r
-put_before-nil (Ok items) = refl
-put_before-nil (Err number) = refl
-
-put_before-more : (done : List Item) (i : Item) (r : Result (List Item) ℕ) → put_before done (put_first i r) ≡ put_before (done ++ i ∷ []) r
-put_before-more done i (Ok items) = ap Ok (sym (append_assoc done (i ∷ []) items))
-put_before-more done i (Err number) = refl
 
 -- where the action ends a record, the end of the text would end none after it
 abbrev Ends : State × Action → Type 0
@@ -175,7 +164,7 @@ Reading-next rem all n old new now after f i h read is more =
     let r = read h.left h.leaves in record {
       left = r.0;
       done = h.done ++ i ∷ [];
-      same = sym (put_before-more h.done i (items_from (n + 1) r.0)) ∙ sym (ap (λ x. put_before h.done (item_at n x (items_from (n + 1) r.0))) is) ∙ sym (ap (λ rows. put_before h.done (items_from n rows)) r.1) ∙ h.same;
+      same = sym (put_before-more h.done i (items_from (n + 1) r.0)) ∙ sym (ap (λ x. put_before h.done (named_at n x (items_from (n + 1) r.0))) is) ∙ sym (ap (λ rows. put_before h.done (items_from n rows)) r.1) ∙ h.same;
       leaves = r.2;
       gathers = more h.done h.gathers;
     }
@@ -185,7 +174,7 @@ pub Reading-wrong : {R : Type 0} (rem : R → Option (List ℕ)) (all : List Rec
     → ((rows : List Record) → Leaves rem old rows → Reads rem next.Record f rows new) → record_item f ≡ None → items_in all ≡ Err n
 Reading-wrong rem all n old new now f h read is =
     let r = read h.left h.leaves in
-    sym h.same ∙ ap (λ rows. put_before h.done (items_from n rows)) r.1 ∙ ap (λ x. put_before h.done (item_at n x (items_from (n + 1) r.0))) is
+    sym h.same ∙ ap (λ rows. put_before h.done (items_from n rows)) r.1 ∙ ap (λ x. put_before h.done (named_at n x (items_from (n + 1) r.0))) is
 
 -- no record is left
 pub Reading-ends : {R : Type 0} (rem : R → Option (List ℕ)) (all : List Record) (n : ℕ) (old : Reader R) (now : Gathering) → Reading rem all n old now

@@ -3,6 +3,7 @@ use Rattle.std.specs.Prelude.{◌≡◌, ℕ, ◌+◌, ◌==◌, ⊤, length, co
 use Rattle.std.specs.Str.{bytes_eq}
 use Rattle.csv.specs.Reading.{default_config, records, strip_bom}
 use Rattle.desk_bytes.specs.Digests.{digest_of}
+use Rattle.desk_bytes.specs.Lines.{named_at}
 use Rattle.sbat.specs.Levels.{unless_sbat}
 use Rattle.sbat.specs.Rows.{row_in}
 use Rattle.desk_texts.specs.declared.command.Command.{Command}
@@ -45,20 +46,10 @@ abbrev pub record_item : Record → Option Item
 record_item (kind ∷ value ∷ generation ∷ []) = fields_item kind value generation
 record_item _ = None
 
--- one entry more in front of what was read, where that was no wrong record
-abbrev pub put_first : Item → Result (List Item) ℕ → Result (List Item) ℕ
-put_first i (Ok items) = Ok (i ∷ items)
-put_first i (Err number) = Err number
-
--- what a record is, in front of what the rest are
-abbrev pub item_at : ℕ → Option Item → Result (List Item) ℕ → Result (List Item) ℕ
-item_at number None rest = Err number
-item_at number (Some i) rest = put_first i rest
-
 -- the entries that records are, numbered from n, or the number of the first record that is none
 abbrev pub items_from : ℕ → List Record → Result (List Item) ℕ
 items_from n [] = Ok []
-items_from n (r ∷ rs) = item_at n (record_item r) (items_from (n + 1) rs)
+items_from n (r ∷ rs) = named_at n (record_item r) (items_from (n + 1) rs)
 
 -- own: the entries of a file behind its header; the header is record 0, and has to be there
 abbrev pub items_in : List Record → Result (List Item) ℕ

@@ -1,6 +1,7 @@
 pub mod Entries
 pub mod Faults
 pub mod FromCsv
+pub mod FromLevel
 pub mod FromLists
 pub mod Gathering
 pub mod Items

@@ -5,6 +5,7 @@ mod csv_rows;
 mod entries;
 mod fault;
 mod from_csv;
+mod from_level;
 mod from_lists;
 mod gathering;
 mod item;
@@ -13,5 +14,6 @@ mod record;
 
 pub use fault::ImportFault;
 pub use from_csv::import_csv;
+pub use from_level::import_level;
 pub use from_lists::import_dbx;
-pub use laws::tbs_is_read;
+pub use laws::{import_is_one, tbs_is_read};

@@ -147,18 +147,22 @@ is_other : (b : Bool) (m : Generations) (q : List ℕ) (n : ℕ) → ties q sbat
 is_other true m q n t none e = absurd (some_is_not_none n (get m q) (ap (get m) (ties_are_one q sbat t) ∙ none) e)
 is_other false m q n t none e = refl
 
-pub reads_back : (l : Stamped) → IsLevel l → len l.generations ≤ most_names → IsLevelOf (level_text l) l
-reads_back l h few =
-    let es = entries l.generations in
-    let sorted = entries_sorted l.generations in
-    let right : AreRight es = are_right es sorted (λ q n f.
+-- the entries of a level
+pub entries_right : (l : Stamped) → IsLevel l → AreRight (entries l.generations)
+entries_right l h =
+    are_right (entries l.generations) (entries_sorted l.generations) (λ q n f.
     let e = get-entries l.generations q ∙ f in
     record {
       name = h.named q n e;
       generation = h.counted q n e;
       other = sym (is_eq-slice_cmp q sbat) ∙ is_other (ties q sbat) l.generations q n refl h.others e;
-    }) in (
+    })
+
+pub reads_back : (l : Stamped) → IsLevel l → len l.generations ≤ most_names → IsLevelOf (level_text l) l
+reads_back l h few =
+    let es = entries l.generations in
+    let right = entries_right l h in (
       level_of-text l.stamp es h.stamped right
-          ∙ ap (λ m. Ok (record { stamp = l.stamp; generations = m })) (generations_in-entries es sorted ∙ from_entries-entries l.generations),
+          ∙ ap (λ m. Ok (record { stamp = l.stamp; generations = m })) (generations_in-entries es (entries_sorted l.generations) ∙ from_entries-entries l.generations),
       few,
     )

@@ -1,0 +1,5 @@
+//! What imports answer. Tests alone.
+#![tactic(auto)]
+
+#[cfg(test)]
+mod tests;
