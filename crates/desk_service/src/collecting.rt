@@ -95,14 +95,8 @@ pub fn facts<S: Source>(alloc: Global, source: &mut S) -> Result<Facts, FactsFau
     let Ok(hashes) = sums(source, &layout) else {
         return Err(FactsFault::Read);
     };
-    let carried = match read_carried(alloc, source, &layout) {
-        Ok(carried) => carried,
-        Err(fault) => return Err(fault),
-    };
-    let components = match read_components(alloc, source, &layout) {
-        Ok(components) => components,
-        Err(fault) => return Err(fault),
-    };
+    let carried = read_carried(alloc, source, &layout)?;
+    let components = read_components(alloc, source, &layout)?;
     Ok(Facts {
         extent,
         file: hashes.file,
