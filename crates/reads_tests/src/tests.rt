@@ -1,7 +1,7 @@
 //! Each read once, of a row that stands there and of none, and rows that aren't the desk's.
 use desk_bytes::Digest;
 use desk_reads::{
-    ReadFault, certificates_of, component_named, components_of, count_calls, count_components,
+    ReadFault, call_of, certificates_of, component_named, components_of, count_calls, count_components,
     count_listed, count_people, count_requests, count_revoked_certificates, count_revoked_digests,
     entry_of, own_row, person_named, person_of_token, request_numbered, return_of,
     revoked_certificate, revoked_digest, votes_of,
@@ -13,7 +13,7 @@ use desk_statements::{
     INSERT_REVOKED_CERTIFICATE, INSERT_REVOKED_DIGEST, INSERT_VOTE, UPDATE_GENERATION,
     UPDATE_STAMP, UPDATE_STATE, make,
 };
-use desk_texts::{ListedKind, RequestNumber};
+use desk_texts::{Key, ListedKind, RequestNumber};
 use sbat::ComponentName;
 use sqlite::types::ValueRef;
 use sqlite::{Connection, Error, MemStore, Transaction, params};
@@ -126,6 +126,11 @@ fn rows_are_read_back(rt: HostRuntime) -> Result<(), Fail> {
     );
     let none = keyed(alloc, &mut tx, &name, &two, second);
     assert!(rt; none == [1, 0, 0, 0, 0, 0, 1, 1], "what has it not isn't");
+    let key = Key::parse(alloc, b"k1")?;
+    let call = digit(call_of(alloc, &mut tx, "console", &key));
+    assert!(rt; call == 1, "a call of the console");
+    let call = digit(call_of(alloc, &mut tx, "ann", &key));
+    assert!(rt; call == 0, "ann has used no key");
     let votes = votes_of(alloc, &mut tx, first)?;
     assert!(rt; votes.len() == 2, "two votes");
     assert!(rt;
@@ -172,6 +177,14 @@ fn wrong_rows_are_told(rt: HostRuntime) -> Result<(), Fail> {
     );
     let bob = digit(person_named(alloc, &mut tx, "bob"));
     assert!(rt; bob == 7, "a role");
+    insert(
+        &mut tx,
+        INSERT_CALL,
+        params![2u32, "ann", "k1", "withdraw 1", "gone 1"],
+    )?;
+    let key = Key::parse(alloc, b"k1")?;
+    let call = digit(call_of(alloc, &mut tx, "ann", &key));
+    assert!(rt; call == 7, "a reply");
     let own = own_row(alloc, &mut tx);
     assert!(rt;
         matches!(own, Err(ReadFault::Row)),
