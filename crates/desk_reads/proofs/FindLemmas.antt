@@ -1,6 +1,8 @@
 -- From the answer of a query to the rows of the desk's tables.
 use Rattle.std.proofs.Common.{◌≡◌, ℕ, List, [], ◌∷◌, ◌++◌, map, filter, length, slice_get, Bool, true, min, ◌<◌, Option, Some, None, refl, sym, ap, subst, ◌∙◌, arith}
 use Rattle.std.specs.List.Sorted.{IsPermutation}
+use Rattle.std.specs.List.{All}
+use Rattle.std.proofs.lemmas.List.Elements.{All-head}
 use Rattle.std.proofs.lemmas.List.Sorted.{IsPermutation-sym, length_permutation}
 use Rattle.sqlite.proofs.Callers.{one_permutation}
 use Rattle.sqlite.specs.Order.{Row}
@@ -74,3 +76,15 @@ tells_count at table text names means item part has old new n f =
 pub only_row : {X : Type 0} (x y : X) (found : Option X) → found ≡ Some y → x ∷ [] ≡ listed found → x ≡ y
 only_row x y None is same = absurd cc
 only_row x y (Some z) is same = let one : x ≡ z = cc in let two : z ≡ y = cc in one ∙ two
+
+-- ---- calls, which are told by texts
+
+-- the texts of calls are those of no call or of one, so that call is read back
+pub one_told : {X Y : Type 0} (texts : X → Y) (P : X → Type 0) (xs : List X) → All P xs → (y : Y) → map texts xs ≡ y ∷ [] → (read : X) → ((x : X) → P x → y ≡ texts x → read ≡ x) → xs ≡ read ∷ []
+one_told texts P [] all y is read told = absurd cc
+one_told texts P (x ∷ []) all y is read told = let e : y ≡ texts x = cc in ap (λ z. z ∷ []) (sym (told x (All-head P x [] all) e))
+one_told texts P (x ∷ z ∷ xs) all y is read told = absurd cc
+
+pub none_told : {X Y : Type 0} (texts : X → Y) (xs : List X) → map texts xs ≡ [] → xs ≡ []
+none_told texts [] is = refl
+none_told texts (x ∷ xs) is = absurd cc

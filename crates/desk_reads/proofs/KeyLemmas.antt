@@ -1,6 +1,7 @@
 -- Which rows have a key, and what a SELECT shows of them.
-use Rattle.std.proofs.Common.{◌≡◌, ℕ, pos, List, [], ◌∷◌, ◌==◌, bytes_eq, refl, ◌∙◌}
-use Rattle.sqlite.specs.declared.types.Value.TheVariants.{Int, Text, Blob}
+use Rattle.std.proofs.Common.{◌≡◌, ℕ, pos, List, [], ◌∷◌, ◌==◌, ◌&&◌, bytes_eq, refl, ◌∙◌}
+use Rattle.sqlite.specs.declared.types.Value.TheVariants.{Null, Int, Text, Blob}
+use Rattle.sqlite.specs.Order.{Row}
 use Rattle.desk_sql.specs.Effects.{passes}
 use Rattle.desk_sql.proofs.ValueLemmas.{text_is, blob_is, int_is, only, both}
 use Rattle.desk_statements.specs.Columns.{equals}
@@ -21,6 +22,11 @@ use Rattle.desk_history.specs.Listing.{is_entry}
 use Rattle.desk_history.specs.People.{has_name, has_token}
 use Rattle.desk_history.specs.Writes.{is_named}
 use Rattle.desk_contents.specs.Values as values
+use Rattle.desk_reads.specs.declared.call_texts.CallTexts.{CallTexts}
+
+-- a call's row, by its texts
+abbrev pub call_row : CallTexts → Row
+call_row c = Int (pos c.number) ∷ Null ∷ Text c.caller ∷ Text c.key ∷ Text c.text ∷ Text c.reply ∷ []
 
 -- ---- people
 
@@ -70,3 +76,9 @@ is_revoked_certificate digest x = only _ _ (blob_is x digest)
 
 pub is_of_name : (name : List ℕ) (x : Component) → passes tables.components (equals tables.components 0 0 ∷ []) (Text name ∷ []) (values.component_values x) ≡ is_named name x
 is_of_name name x = only _ _ (text_is x.name name)
+
+-- ---- calls
+
+pub is_call : (caller key : List ℕ) (x : CallTexts)
+    → passes tables.calls (equals tables.calls 1 0 ∷ equals tables.calls 2 1 ∷ []) (Text caller ∷ Text key ∷ []) (call_row x) ≡ (bytes_eq caller x.caller && bytes_eq key x.key)
+is_call caller key x = both _ _ _ _ (text_is x.caller caller) (text_is x.key key)

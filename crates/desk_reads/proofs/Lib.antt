@@ -2,3 +2,4 @@ pub mod RowLemmas
 pub mod ValueLemmas
 pub mod FindLemmas
 pub mod KeyLemmas
+pub mod CallLemmas

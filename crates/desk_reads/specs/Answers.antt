@@ -2,10 +2,7 @@
 use Rattle.std.specs.Prelude.{pos, [], ◌∷◌}
 use Rattle.sqlite.specs.declared.types.Value.TheVariants.{Int, Text, Blob}
 use Rattle.sqlite.specs.Order.{Row}
-use Rattle.desk_texts.specs.Callers.{caller_name}
-use Rattle.desk_texts.specs.ReplyTexts.{reply_text_of}
 use Rattle.desk_texts.specs.Words.{state_text}
-use Rattle.desk_history.specs.declared.rows.Minute.{Minute}
 use Rattle.desk_history.specs.declared.rows.RequestRow.{RequestRow}
 use Rattle.desk_history.specs.declared.rows.ReturnRow.{ReturnRow}
 use Rattle.desk_history.specs.Tables.{DeskRow}
@@ -22,10 +19,6 @@ desk_row d = record { id = d.id; mark = d.mark; version = d.version; owner = d.o
 -- a row of the tables, as a read gives it
 abbrev pub read_row : DeskRow → ReadDeskRow
 read_row d = record { id = d.id; mark = d.mark; version = d.version; owner = d.owner; stamp = d.stamp }
-
--- own: the columns of a minute: number, the caller's name, key, text, the reply's text
-abbrev pub call_columns : Minute → Row
-call_columns m = Int (pos m.number) ∷ Text (caller_name m.caller) ∷ Text m.key ∷ Text m.text ∷ Text (reply_text_of m.reply) ∷ []
 
 -- own: the columns of a request: number, submitter, title, length, gap, file, digest, signing, state
 abbrev pub request_columns : RequestRow → Row

@@ -1,6 +1,8 @@
 //! Rows out of the twelve tables of a desk, inside a transaction.
 #![tactic(auto)]
 
+mod call_texts;
+mod calls;
 mod columns;
 mod counts;
 mod desk_row;
@@ -14,6 +16,7 @@ mod reading;
 mod request_rows;
 mod requests;
 
+pub use calls::call_of;
 pub use counts::{
     count_calls, count_components, count_listed, count_people, count_requests,
     count_revoked_certificates, count_revoked_digests,
