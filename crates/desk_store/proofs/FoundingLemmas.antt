@@ -1,0 +1,49 @@
+-- From the making of a desk to what the connection shows after it.
+use Rattle.std.proofs.Common.{◌≡◌, ℕ, List, [], refl, sym, ap, subst, ◌∙◌, arith, IsTrue, true, false}
+use Rattle.std.specs.Prelude.{⊤}
+use Rattle.sqlite.specs.Store as store
+use Rattle.sqlite.specs.Effect.{Database}
+use Rattle.sqlite.specs.Held.{Held, state}
+use Rattle.sqlite.specs.State as states
+use Rattle.sqlite.specs.State.{State, HasCleanDisk, KeepsCommit, Survives}
+use Rattle.sqlite.proofs.StateLemmas.{survives_then}
+use Rattle.sqlite.proofs.Callers.{survives_begin}
+use Rattle.desk_sql.specs.Contents.{Holds, no_rows}
+use Rattle.desk_sql.specs.States.{Makes, Sees, Turns}
+use Rattle.desk_sql.proofs.TableLemmas.{made_holds}
+use Rattle.desk_statements.specs.Tables.{desk_schema, no_schema}
+use Rattle.desk_store.specs.Histories.{HoldsHistory, ShowsHistory, rows_of}
+use Rattle.desk_store.specs.Steps.{Founds}
+
+pub founds : (first mid new : State) (owner : List ℕ) → Makes first mid no_schema desk_schema
+    → Turns desk_schema (λ (_ : ⊤). no_rows desk_schema.tables) (λ _. rows_of owner []) mid new → Founds first new owner
+founds first mid new owner made put = record {
+  is_open = λ o. put.is_open (made.is_open o);
+  inside = put.inside;
+  kept = record { was_open = λ o. made.kept.was_open (put.kept.was_open o); committed = λ o. put.kept.committed o ∙ made.kept.committed (put.kept.was_open o) };
+  value = λ free. put.value tt (record { inside = made.inside; holds = made_holds desk_schema mid.now (made.value (record { listed = free; empty = tt })) });
+}
+
+module _ {S : Type 0} (g : store.Ghosts S) (old last end : Held S) (owner : List ℕ) where
+  abbrev begun : State
+  begun = state g (record old { in_transaction = true })
+
+  pub founded_left : Survives begun (state g last) (λ _. ⊥) → (HasCleanDisk (state g last) → Founds begun (state g last) owner)
+      → Survives (state g last) (state g end) (λ db. db ≡ (state g last).now.trees)
+      → Survives (state g old) (state g end) (λ db. (state g old).now.schema ≡ no_schema → HoldsHistory db owner [])
+  founded_left s did e = survives_then (state g old) (state g last) (state g end) (λ _. ⊥) (λ db. db ≡ (state g last).now.trees) (λ db. (state g old).now.schema ≡ no_schema → HoldsHistory db owner [])
+      (λ _ db none. absurd none)
+      (λ clean db is free. let late : HasCleanDisk (state g last) = omega (arith, e.clean, clean) in
+      subst (λ d. HoldsHistory d owner []) (sym is) ((did late).value free).holds.rows)
+      (survives_begin g old (state g last) (λ _. ⊥) s) e
+
+  pub founded_shown : HasCleanDisk (state g last) → (HasCleanDisk (state g last) → Founds begun (state g last) owner)
+      → states.Shows (state g last) (state g end) (state g last).now (state g last).now false
+      → IsTrue (state g end).is_open × ((state g old).now.schema ≡ no_schema → ShowsHistory (state g end) owner [])
+  founded_shown late did done = (
+    done.is_open,
+    λ free. record {
+      outside = done.mode;
+      holds = λ _ _. (subst (λ (d : Database). Holds desk_schema d (rows_of owner [])) (sym done.now_is) ((did late).value free).holds, done.now_is ∙ sym done.committed_is);
+    },
+  )

@@ -1,0 +1,3 @@
+mod FoundingLemmas
+mod SizeLemmas
+mod OpeningLemmas

@@ -1,0 +1,101 @@
+-- From the answer of the query for the desk's row to the tables of a history.
+use Rattle.std.proofs.Common.{◌≡◌, ◌≢◌, inl, inr, ℕ, List, [], ◌∷◌, refl, sym, ap, subst, ◌∙◌, arith, IsTrue, true, length, Result, Ok, Err, Some, None}
+use Rattle.sqlite.proofs.Callers.{one_permutation}
+use Rattle.sqlite.specs.declared.error.Error.{Error}
+use Rattle.sqlite.specs.declared.error.Error.TheVariants.{SqlInputError}
+use Rattle.std.specs.Prelude.{MatchResult}
+use Rattle.sqlite.specs.Store as store
+use Rattle.sqlite.specs.Effect.{Database}
+use Rattle.sqlite.specs.Held.{Held, state}
+use Rattle.sqlite.specs.Given.{IsPlain}
+use Rattle.sqlite.specs.Listing.{understood}
+use Rattle.sqlite.specs.Order.{Row}
+use Rattle.sqlite.specs.State.{State, HasCleanDisk, IsNotRun, IsRolledBack, IsUnchanged, KeepsCommit, Survives, store_error}
+use Rattle.sqlite_trees.specs.declared.error.StoreError.{StoreError}
+use Rattle.sqlite_trees.specs.declared.error.StoreError.TheVariants.{OutOfMemory, Io, Corrupt, Full, Broken, Unstorable}
+use Rattle.sqlite_resolve.specs.declared.error.CompileError.{CompileError}
+use Rattle.desk_sql.specs.Contents.{Holds}
+use Rattle.desk_sql.specs.Effects.{Selects}
+use Rattle.desk_bytes.specs.declared.refusal.Refusal.{Refusal}
+use Rattle.desk_sql.specs.States.{Leaves, Sees}
+use Rattle.sqlite.specs.Tree.{Trees}
+use Rattle.desk_statements.specs.Columns.{by_first, columns_after, names_of}
+use Rattle.desk_statements.specs.Tables.{desk, desk_schema}
+use Rattle.desk_statements.specs.declared.selecting.TheConstants.{SELECT_DESK}
+use Rattle.desk_statements.proofs.SelectFacts.{select_desk}
+use Rattle.desk_history.specs.Calls.{History}
+use Rattle.desk_history.specs.Level.{stamp}
+use Rattle.desk_history.specs.Tables.{tables}
+use Rattle.desk_contents.specs.Values.{desk_values}
+use Rattle.desk_store.specs.Histories.{ShowsHistory, rows_of}
+use Rattle.desk_store.specs.Rows.{desk_columns}
+use Rattle.desk_store.specs.Steps.{IsFailure, RefusesText, TellsOf}
+
+pub unchanged_keeps : (old new : State) → IsUnchanged old new → KeepsCommit old new
+unchanged_keeps old new same = record { was_open = λ _. same.0.was_open; committed = λ _. same.0.committed_is }
+
+pub not_run_keeps : (old new : State) (sql : List ℕ) (params : Row) (e : Error) → IsNotRun old new sql params e → KeepsCommit old new
+unfolding IsNotRun
+not_run_keeps old new sql params e (inl h) = unchanged_keeps old new h.1
+not_run_keeps old new sql params e (inr h) = record { was_open = λ o. h.3.was_open o; committed = λ o. (h.3.undone o).1 }
+
+no_text : (cause : StoreError) (fault : CompileError) → store_error cause ≡ SqlInputError fault → ⊥
+no_text OutOfMemory fault is = cc
+no_text Io fault is = cc
+no_text Corrupt fault is = cc
+no_text Full fault is = cc
+no_text Broken fault is = cc
+no_text Unstorable fault is = cc
+
+-- where the text isn't understood, the tables aren't a desk's
+pub no_tables : (old new : State) (e : Error) → IsNotRun old new SELECT_DESK.now [] e → RefusesText e → IsTrue old.is_open × (old.now.schema ≢ desk_schema)
+unfolding IsNotRun
+no_tables old new e (inl (inl (fault, bad, is), same)) text =
+    (same.0.was_open, λ listed. subst IsPlain bad (subst (λ s. IsPlain (understood s SELECT_DESK.now)) (sym listed) select_desk.plain))
+no_tables old new e (inl (inr (c, is, inl (long, many)), same)) text = absurd (let a = sym many ∙ text.1 in cc)
+no_tables old new e (inl (inr (c, is, inr (inl (few, count))), same)) text = absurd (let a = sym count ∙ text.1 in cc)
+no_tables old new e (inl (inr (c, is, inr (inr (formats, clock))), same)) text = absurd (let a = sym clock ∙ text.1 in cc)
+no_tables old new e (inr h) text = absurd (no_text h.0 text.0 (sym h.1 ∙ text.1))
+
+-- the only row of the answer is the desk's
+pub one_row : (old mid new : State) (rows : List Row) → IsUnchanged old mid → Selects SELECT_DESK.now [] mid new rows
+    → (owner : List ℕ) (cs : History) → Sees desk_schema old (rows_of owner cs) → rows ≡ desk_columns owner 1 (stamp cs) ∷ []
+one_row old mid new rows same selects owner cs sees =
+    let still : Sees desk_schema mid (rows_of owner cs) = record {
+      inside = same.0.mode ∙ sees.inside;
+      holds = subst (λ (d : Database). Holds desk_schema d (rows_of owner cs)) (sym same.0.now_is) sees.holds;
+    } in
+    let it = (selects desk_schema 0 desk [] (by_first 1 desk) (columns_after 1 desk) (names_of desk) select_desk).1
+    (rows_of owner cs) (desk_values (tables owner cs).desk ∷ []) still refl in
+    one_permutation (desk_columns owner 1 (stamp cs)) rows it.same
+
+module _ {S : Type 0} (g : store.Ghosts S) (old last end : Held S) (owner : List ℕ) (cs : History) where
+  abbrev begun : State
+  begun = state g (record old { in_transaction = true })
+
+  -- what is told inside a transaction, of what the connection shows before it
+  pub told_before : (result : Result ℕ Refusal) → HasCleanDisk (state g old) → TellsOf begun result → length owner ≡ 16 → ShowsHistory (state g old) owner cs
+      → MatchResult result (λ version. version ≡ 1) IsFailure
+  told_before (Ok version) clean told long shows = told.1 owner cs long (record { inside = refl; holds = (shows.holds clean told.0).0 })
+  told_before (Err refusal) clean (inl failed) long shows = failed
+  told_before (Err refusal) clean (inr told) long shows = absurd (told.1.1 owner cs long (record { inside = refl; holds = (shows.holds clean told.1.0).0 }))
+
+  -- a transaction that is rolled back leaves what the connection shows
+  pub undone : HasCleanDisk (state g old) → KeepsCommit begun (state g last) → IsRolledBack (state g last) (state g end)
+      → ShowsHistory (state g old) owner cs → ShowsHistory (state g end) owner cs
+  undone clean kept rolled shows = record {
+    outside = rolled.autocommit;
+    holds = λ _ live.
+        let mid = rolled.was_open live in
+        let gone = rolled.undone live in
+        let was = shows.holds clean (kept.was_open mid) in
+        let now : (state g end).now ≡ (state g old).now = gone.0 ∙ kept.committed mid ∙ sym was.1 in
+        (subst (λ (d : Database). Holds desk_schema d (rows_of owner cs)) (sym now) was.0, gone.0 ∙ sym gone.1);
+  }
+
+-- a stop leaves what it left before
+pub still_leaves : (P : Trees → Type 0) (old new : State) → Survives old new (λ _. ⊥) → Leaves old P → Leaves new P
+still_leaves P old new spared left clean db may = elim (spared.crash clean db may) [
+  | inl was ↦ left (omega (arith, spared.clean, clean)) db was
+  | inr none ↦ absurd none
+]

@@ -1,0 +1,11 @@
+-- Sizes of tables that aren't known.
+use Rattle.std.proofs.Common.{◌≡◌, None, Some, sym, ◌∙◌}
+use Rattle.desk_history.specs.Tables.{Tables}
+use Rattle.desk_sizes.specs.declared.kept.KeptSizes.{KeptSizes}
+use Rattle.desk_sizes.specs.Sizes.{AreRight, IsUnknown}
+
+pub unknown_are_right : (k : KeptSizes) (t : Tables) → IsUnknown k → AreRight k t
+unknown_are_right k t unknown = record {
+  calls = λ n is. absurd (let none = sym unknown.calls ∙ is in cc);
+  sizes = λ table n is. absurd (let none = sym (unknown.sizes table) ∙ is in cc);
+}

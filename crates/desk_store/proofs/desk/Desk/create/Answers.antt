@@ -1,0 +1,21 @@
+use Rattle.std.proofs.Common.{◌≡◌, [], rules, refl}
+use Rattle.sqlite.specs.Held.{state}
+use Rattle.desk_history.specs.Tables.{tables}
+use Rattle.desk_statements.specs.Tables.{desk_schema, no_schema}
+use Rattle.desk_store.specs.Histories.{rows_of}
+use Rattle.desk_store.proofs.SizeLemmas.{unknown_are_right}
+use Rattle.desk_store.proofs.desk.Desk.create.Goals as goal
+
+pub returns-in-Ok-clause-ok : goal.returns-in-Ok-clause-ok
+returns-in-Ok-clause-ok g c clean =
+    let owner = c.args.owner.now in
+    let free : (state g.S.Store c.args.conn).now.schema ≡ no_schema = search rules in
+    let made = c.in-Ok.ensures.ok clean in
+    let shows = made.1 free in
+    record {
+      usable = refl;
+      legal = refl;
+      shows = shows;
+      sizes = unknown_are_right c.unknown.result (tables owner []) c.unknown.ensures;
+      left = c.stop_leaves_what_is_shown.ensures desk_schema (rows_of owner []) shows made.0;
+    }

@@ -1,0 +1,16 @@
+use Rattle.std.proofs.Common.{refl, arith}
+use Rattle.sqlite.specs.Held.{state}
+use Rattle.desk_history.specs.Tables.{tables}
+use Rattle.desk_store.specs.Histories.{HoldsHistory}
+use Rattle.desk_store.proofs.OpeningLemmas.{still_leaves}
+use Rattle.desk_store.proofs.SizeLemmas.{unknown_are_right}
+use Rattle.desk_store.proofs.desk.Desk.open.Goals as goal
+
+pub returns-else-version-ne-VERSION-clause-ok : goal.returns-else-version-ne-VERSION-clause-ok
+returns-else-version-ne-VERSION-clause-ok g c clean owner cs legal shows left = record {
+  usable = refl;
+  legal = legal;
+  shows = c.read_version.ensures.shown clean owner cs shows;
+  sizes = unknown_are_right c.unknown.result (tables owner cs) c.unknown.ensures;
+  left = still_leaves (λ db. HoldsHistory db owner cs) (state g.S.Store c.args.conn) (state g.S.Store c.read_version.new.conn) c.read_version.ensures.survives left;
+}

@@ -1,0 +1,40 @@
+use Rattle.std.proofs.Common.{◌≡◌, inl, inr, Some, None, refl, sym, ◌∙◌, arith}
+use Rattle.sqlite.specs.Held.{state}
+use Rattle.sqlite.specs.State.{HasCleanDisk, IsUnchanged}
+use Rattle.desk_history.specs.Level.{stamp}
+use Rattle.desk_store.proofs.OpeningLemmas.{one_row}
+use Rattle.desk_store.proofs.opening.version_of.Goals as goal
+
+pub returns-in-Some-clause-told : goal.returns-in-Some-clause-told
+returns-in-Some-clause-told g c clean inside =
+    let old = state g.S.Store c.args.tx.now.conn.now in
+    let mid = state g.S.Store c.ask_columns.new.tx.conn.now in
+    let new = state g.S.Store c.select.new.tx.conn.now in
+    let late : HasCleanDisk mid = omega (arith, c.in-Ok-select.ensures.survives.clean, clean) in
+    let same : IsUnchanged old mid = c.in-Ok.ensures.same late in (
+      same.0.was_open,
+      λ owner cs long sees.
+          let rows = one_row old mid new c.in-Ok-select.rows.items same (c.in-Ok-select.ensures.value clean (same.0.mode ∙ inside)) owner cs sees in
+          let told : c.version_in.result ≡ Some 1 = c.version_in.ensures owner 1 (stamp cs) long (c.deref.ensures.value ∙ rows) in
+          let is : Some c.in-Some.version ≡ Some 1 = sym c.in-Some.is ∙ told in
+          cc,
+    )
+
+pub returns-in-Ok-select-clause-told : goal.returns-in-Ok-select-clause-told
+returns-in-Ok-select-clause-told g c clean inside =
+    let old = state g.S.Store c.args.tx.now.conn.now in
+    let mid = state g.S.Store c.ask_columns.new.tx.conn.now in
+    let new = state g.S.Store c.select.new.tx.conn.now in
+    let late : HasCleanDisk mid = omega (arith, c.in-Ok-select.ensures.survives.clean, clean) in
+    let same : IsUnchanged old mid = c.in-Ok.ensures.same late in
+    inr (
+      refl,
+      (
+        same.0.was_open,
+        λ owner cs long sees.
+            let rows = one_row old mid new c.in-Ok-select.rows.items same (c.in-Ok-select.ensures.value clean (same.0.mode ∙ inside)) owner cs sees in
+            let told : c.version_in.result ≡ Some 1 = c.version_in.ensures owner 1 (stamp cs) long (c.deref.ensures.value ∙ rows) in
+            let none = c.in-None.is in
+            cc,
+      ),
+    )

@@ -1,0 +1,26 @@
+-- Histories whose tables a store holds.
+use Rattle.std.specs.Prelude.{ℕ, List}
+use Rattle.sqlite.specs.State.{State}
+use Rattle.sqlite.specs.Tree.{Trees}
+use Rattle.desk_history.specs.Calls.{History}
+use Rattle.desk_history.specs.Tables.{tables}
+use Rattle.desk_contents.specs.Contents.{contents}
+use Rattle.desk_sql.specs.Contents.{Contents, HoldRows}
+use Rattle.desk_sql.specs.States.{Leaves, Shows}
+use Rattle.desk_statements.specs.Tables.{desk_schema}
+
+-- the rows of the tables of a desk with this owner and history
+abbrev pub rows_of : List ℕ → History → Contents
+rows_of owner cs = contents (tables owner cs)
+
+-- the trees hold them
+abbrev pub HoldsHistory : Trees → List ℕ → History → Type 0
+HoldsHistory db owner cs = HoldRows db desk_schema.tables (rows_of owner cs)
+
+-- the connection shows them, and no other table
+abbrev pub ShowsHistory : State → List ℕ → History → Type 0
+ShowsHistory s owner cs = Shows desk_schema s (rows_of owner cs)
+
+-- a stop leaves them
+abbrev pub LeavesHistory : State → List ℕ → History → Type 0
+LeavesHistory s owner cs = Leaves s (λ db. HoldsHistory db owner cs)

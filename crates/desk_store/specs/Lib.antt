@@ -1,0 +1,4 @@
+pub mod Histories
+pub mod Desks
+pub mod Rows
+pub mod Steps

@@ -1,0 +1,43 @@
+-- What the steps of a transaction promise, of a connection before and after them.
+use Rattle.std.specs.Prelude.{◌≡◌, ◌≢◌, ◌⊎◌, ℕ, length, List, [], IsTrue, Result, MatchResult}
+use Rattle.sqlite.specs.State.{State, KeepsCommit}
+use Rattle.sqlite.specs.declared.error.Error.{Error}
+use Rattle.sqlite.specs.declared.error.Error.TheVariants.{SqlInputError}
+use Rattle.sqlite_resolve.specs.declared.error.CompileError.{CompileError}
+use Rattle.desk_bytes.specs.declared.refusal.Refusal.{Refusal}
+use Rattle.desk_bytes.specs.declared.refusal.Refusal.TheVariants as refusals
+use Rattle.desk_history.specs.Calls.{History}
+use Rattle.desk_sql.specs.States.{Sees}
+use Rattle.desk_statements.specs.Tables.{desk_schema, no_schema}
+use Rattle.desk_store.specs.Histories.{rows_of}
+
+-- the refusal names a device
+abbrev pub IsFailure : Refusal → Type 0
+IsFailure refusal = (refusal ≡ refusals.NoMemory) ⊎ (refusal ≡ refusals.Store)
+
+-- in a store without tables the desk's are made, with the rows of a desk without calls; nothing is committed
+pub record Founds (old new : State) (owner : List ℕ) : Type 0 where
+  pub is_open : IsTrue old.is_open → IsTrue new.is_open
+  pub inside : IsTrue new.in_transaction
+  pub kept : KeepsCommit old new
+  pub value : old.now.schema ≡ no_schema → Sees desk_schema new (rows_of owner [])
+
+-- the error is that of a text
+abbrev pub RefusesText : Error → Type 0
+RefusesText e = (fault : CompileError) × (e ≡ SqlInputError fault)
+
+-- a device failed, or the open store hasn't the desk's tables
+abbrev pub RefusesColumns : State → Refusal → Type 0
+RefusesColumns s refusal = IsFailure refusal ⊎ ((refusal ≡ refusals.NotADesk) × IsTrue s.is_open × (s.now.schema ≢ desk_schema))
+
+-- a device failed, or there is no desk
+abbrev pub IsReadRefusal : Refusal → Type 0
+IsReadRefusal refusal = (refusal ≡ refusals.NotADesk) ⊎ IsFailure refusal
+
+-- the store is open, and this is told of each history whose tables it holds
+abbrev pub TellsAll : State → Type 0 → Type 0
+TellsAll s told = IsTrue s.is_open × ((owner : List ℕ) (cs : History) → length owner ≡ 16 → Sees desk_schema s (rows_of owner cs) → told)
+
+-- the version is that of these tables, or a device failed, or the tables are no desk's
+abbrev pub TellsOf : State → Result ℕ Refusal → Type 0
+TellsOf s result = MatchResult result (λ version. TellsAll s (version ≡ 1)) (λ refusal. IsFailure refusal ⊎ ((refusal ≡ refusals.NotADesk) × TellsAll s ⊥))

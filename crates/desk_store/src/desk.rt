@@ -1,0 +1,120 @@
+//! Desks: made, opened, and given back.
+ghost use Rattle.std.specs.Prelude.{◌≡◌, ◌≢◌, ◌⊎◌, ℕ, List, [], length, false};
+ghost use Rattle.std.specs.Prelude.{IfErr, IfOk, IsTrue, OnOk};
+ghost use Rattle.sqlite.specs.Held.{state};
+ghost use Rattle.sqlite.specs.State.{HasCleanDisk, Survives};
+ghost use Rattle.desk_history.specs.Calls.{History};
+ghost use Rattle.desk_history.specs.Runs.{is_legal};
+ghost use Rattle.desk_statements.specs.Tables.{no_schema};
+ghost use Rattle.desk_tables.specs.Steps.{Spares};
+ghost use Rattle.desk_store.specs.Desks.{ShowsDesk};
+ghost use Rattle.desk_store.specs.Histories.{HoldsHistory, LeavesHistory, ShowsHistory};
+ghost use Rattle.desk_store.specs.Steps.{IsFailure, IsReadRefusal};
+
+use crate::founding::{found_at_once, has_no_tables};
+use crate::opening::{VERSION, read_version};
+use desk_bytes::{Guid, Refusal};
+use desk_sizes::KeptSizes;
+use desk_sql::stop_leaves_what_is_shown;
+use sqlite::{Alter, Connection};
+use std::alloc::Global;
+
+/// A desk in a store. It keeps the connection, and how many rows its tables have, as far as it
+/// has counted them.
+#[derive(Drop)]
+pub struct Desk<S: Alter> {
+    alloc: Global,
+    conn: Connection<S>,
+    sizes: KeptSizes,
+    needs_reopening: bool,
+}
+
+impl<S: Alter + Drop> Desk<S> {
+    /// Makes a desk without calls, in one transaction: its twelve tables, and its own row with the
+    /// owner of every entry that it exports. The connection has to be in no transaction
+    /// (`is_autocommit`); a refusal hands it back. Takes memory.
+    ///
+    /// `Exists`: the store has a table, an index or a view already. `NoMemory`: memory was refused,
+    /// and nothing was committed. `Store`: the store failed, and committed nothing or all of it.
+    pub fn create(
+        alloc: Global,
+        mut conn: Connection<S>,
+        owner: &Guid,
+    ) -> Result<Desk<S>, (Refusal, Connection<S>)>
+        requires outside { conn.in_transaction ≡ false }
+        ensures ok { IfOk result (λ desk. HasCleanDisk (state S.Store desk.conn)
+            → ShowsDesk S.Store desk owner.now []) }
+        ensures free { OnOk result ((state S.Store conn).now.schema ≡ no_schema) }
+        ensures taken { IfErr result (λ e. e.0 ≡ Refusal.Exists
+            → ((state S.Store conn).now.schema ≢ no_schema) × (e.1 ≡ conn)) }
+        ensures refused { IfErr result (λ e. e.0 ≢ Refusal.Store → Spares S.Store conn e.1) }
+        ensures stopped { IfOk result (λ desk.
+            Survives (state S.Store conn) (state S.Store desk.conn) (λ db. HoldsHistory db owner.now [])) }
+        ensures failed { IfErr result (λ e. Survives (state S.Store conn) (state S.Store e.1)
+            (λ db. HoldsHistory db owner.now [])) }
+        ensures outside { IfErr result (λ e. e.1.in_transaction ≡ false) }
+        ensures named { IfErr result (λ e. (e.0 ≡ Refusal.Exists) ⊎ IsFailure e.0) }
+    {
+        if !has_no_tables(&conn) {
+            return Err((Refusal::Exists, conn));
+        }
+        match found_at_once(&mut conn, owner) {
+            Ok(()) => {
+                stop_leaves_what_is_shown(&conn);
+                Ok(Desk {
+                    alloc,
+                    conn,
+                    sizes: KeptSizes::unknown(),
+                    needs_reopening: false,
+                })
+            }
+            Err(refusal) => Err((refusal, conn)),
+        }
+    }
+
+    /// Opens the desk that the store holds. It looks at the desk's own row and at no other, and
+    /// commits nothing. The connection has to be in no transaction (`is_autocommit`); a refusal
+    /// hands it back. Takes memory for that row.
+    ///
+    /// `NotADesk`: the store has no row that reads as a desk's. `Version`: it has one, of a version
+    /// that this program doesn't know. `NoMemory`: memory was refused. `Store`: the store failed.
+    pub fn open(alloc: Global, mut conn: Connection<S>) -> Result<Desk<S>, (Refusal, Connection<S>)>
+        requires outside { conn.in_transaction ≡ false }
+        ensures ok { IfOk result (λ desk. HasCleanDisk (state S.Store desk.conn)
+            → (owner : List ℕ) (cs : History) → IsTrue (is_legal cs)
+            → ShowsHistory (state S.Store conn) owner cs
+            → LeavesHistory (state S.Store conn) owner cs
+            → ShowsDesk S.Store desk owner cs) }
+        ensures known { IfErr result (λ e. HasCleanDisk (state S.Store e.1)
+            → (owner : List ℕ) (cs : History) → length owner ≡ 16
+            → ShowsHistory (state S.Store conn) owner cs
+            → IsFailure e.0 × ShowsHistory (state S.Store e.1) owner cs) }
+        ensures spares { IfOk result (λ desk. Spares S.Store conn desk.conn) }
+        ensures spared { IfErr result (λ e. Spares S.Store conn e.1) }
+        ensures outside { IfErr result (λ e. e.1.in_transaction ≡ false) }
+        ensures named { IfErr result (λ e. (e.0 ≡ Refusal.Version) ⊎ IsReadRefusal e.0) }
+    {
+        match read_version(&mut conn) {
+            Ok(version) => {
+                if version != VERSION {
+                    return Err((Refusal::Version, conn));
+                }
+                Ok(Desk {
+                    alloc,
+                    conn,
+                    sizes: KeptSizes::unknown(),
+                    needs_reopening: false,
+                })
+            }
+            Err(refusal) => Err((refusal, conn)),
+        }
+    }
+
+    /// Gives the connection back, in whatever state it is.
+    pub fn release(self) -> Connection<S>
+        ensures { result ≡ self.conn }
+    {
+        let Desk { conn, .. } = self;
+        conn
+    }
+}

@@ -1,0 +1,62 @@
+//! Making a desk: its twelve tables and its own row, in one transaction.
+ghost use Rattle.std.specs.Prelude.{◌≡◌, ◌≢◌, [], false, IfErr, IsTrue, OnOk};
+ghost use Rattle.sqlite.specs.Held.{state};
+ghost use Rattle.sqlite.specs.State.{HasCleanDisk, Survives};
+ghost use Rattle.desk_statements.specs.Tables.{no_schema};
+ghost use Rattle.desk_tables.specs.Steps.{Keeps, Spares, Stays};
+ghost use Rattle.desk_store.specs.Histories.{HoldsHistory, ShowsHistory};
+ghost use Rattle.desk_store.specs.Steps.{Founds, IsFailure};
+
+use desk_bytes::{Guid, Refusal};
+use desk_statements::make;
+use desk_tables::{WriteFault, put_desk};
+use sqlite::{Alter, Connection, Transaction};
+
+/// Whether the store has no table, index or view.
+pub(crate) fn has_no_tables<S: Alter>(conn: &Connection<S>) -> bool
+    ensures free { IsTrue result → (state S.Store conn.now).now.schema ≡ no_schema }
+    ensures taken { result ≡ false → (state S.Store conn.now).now.schema ≢ no_schema }
+{
+    let schema = conn.schema();
+    schema.tables.is_empty() && schema.indexes.is_empty() && schema.views.is_empty()
+}
+
+/// Makes the tables, and puts in the desk's row.
+fn found<S: Alter>(tx: &mut Transaction<'_, S>, owner: &Guid) -> Result<(), WriteFault>
+    ensures same_reference { tx.new.conn.ghost_name ≡ tx.old.conn.ghost_name }
+    ensures value { HasCleanDisk (state S.Store tx.new.conn.now)
+        → IsTrue (state S.Store tx.old.conn.now).in_transaction
+        → OnOk result (Founds (state S.Store tx.old.conn.now) (state S.Store tx.new.conn.now)
+        owner.now) }
+    ensures inside { Stays S.Store tx.old.conn.now tx.new.conn.now result }
+    ensures kept { Keeps S.Store tx.old.conn.now tx.new.conn.now }
+    ensures survives { Spares S.Store tx.old.conn.now tx.new.conn.now }
+{
+    make(tx)?;
+    put_desk(tx, owner)?;
+    Ok(())
+}
+
+/// Makes the desk in one transaction, whose commit is the last call. `NoMemory`: nothing was
+/// committed. `Store`: nothing was, or all of it.
+pub(crate) fn found_at_once<S: Alter>(conn: &mut Connection<S>, owner: &Guid) -> Result<(), Refusal>
+    requires outside { conn.old.in_transaction ≡ false }
+    ensures outside { conn.new.in_transaction ≡ false }
+    ensures ok { HasCleanDisk (state S.Store conn.new) → OnOk result
+        (IsTrue (state S.Store conn.new).is_open
+        × ((state S.Store conn.old).now.schema ≡ no_schema
+        → ShowsHistory (state S.Store conn.new) owner.now [])) }
+    ensures unwritten { IfErr result (λ e. e ≢ Refusal.Store → Spares S.Store conn.old conn.new) }
+    ensures survives { Survives (state S.Store conn.old) (state S.Store conn.new)
+        (λ db. (state S.Store conn.old).now.schema ≡ no_schema → HoldsHistory db owner.now []) }
+    ensures failed { IfErr result IsFailure }
+{
+    let mut tx = conn.transaction();
+    match found(&mut tx, owner) {
+        Ok(()) => match tx.commit() {
+            Ok(()) => Ok(()),
+            Err(_) => Err(Refusal::Store),
+        },
+        Err(fault) => Err(fault.refusal()),
+    }
+}

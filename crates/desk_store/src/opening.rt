@@ -1,0 +1,147 @@
+//! What the row of the table `desk` tells of the desk.
+ghost use Rattle.std.specs.Prelude.{◌≡◌, ◌<◌, ℕ, List, false, length, pos, IfErr, IsTrue, MatchResult, OnOk, Some, ◌∷◌, [], codes};
+ghost use Rattle.sqlite.specs.Held.{state};
+ghost use Rattle.sqlite.specs.State.{HasCleanDisk, IsUnchanged};
+ghost use Rattle.sqlite.specs.declared.types.Value.TheVariants.{Blob, Int, Text};
+ghost use Rattle.sqlite_value.specs.Order.{column};
+ghost use Rattle.desk_history.specs.Calls.{History};
+ghost use Rattle.desk_tables.specs.Steps.{Keeps, Spares};
+ghost use Rattle.desk_store.specs.Histories.{ShowsHistory};
+ghost use Rattle.desk_store.specs.Rows.{desk_columns};
+ghost use Rattle.desk_store.specs.Steps.{IsFailure, IsReadRefusal, RefusesColumns, RefusesText, TellsOf};
+
+use desk_bytes::Refusal;
+use desk_sql::select;
+use desk_statements::SELECT_DESK;
+use desk_tables::WriteFault;
+use sqlite::types::ValueRef;
+use sqlite::{Alter, Connection, Error, Row, Transaction};
+
+/// The mark by which the file of a desk is known.
+const MARK: &str = "boot-desk";
+
+/// The version of the tables that this program knows.
+pub(crate) const VERSION: u64 = 1;
+
+/// The natural number in a column.
+fn number_at(row: &Row, at: usize) -> Option<u64>
+    ensures { (n : ℕ) → at < length row.now → column row.now at ≡ Int (pos n) → result ≡ Some n }
+{
+    match row.get_ref(at) {
+        Ok(ValueRef::Int(number)) => match u64::try_from(number) {
+            Ok(number) => Some(number),
+            Err(_) => None,
+        },
+        _ => None,
+    }
+}
+
+/// Whether a column has the mark.
+fn has_mark(row: &Row, at: usize) -> bool
+    ensures { at < length row.now → column row.now at ≡ Text (codes "boot-desk") → IsTrue result }
+{
+    match row.get_ref(at) {
+        Ok(ValueRef::Text(text)) => text == MARK.as_bytes(),
+        _ => false,
+    }
+}
+
+/// Whether a column has the bytes of a GUID.
+fn has_guid(row: &Row, at: usize) -> bool
+    ensures { (guid : List ℕ) → at < length row.now → column row.now at ≡ Blob guid → length guid ≡ 16 → IsTrue result }
+{
+    match row.get_ref(at) {
+        Ok(ValueRef::Blob(bytes)) => bytes.len() == 16,
+        _ => false,
+    }
+}
+
+/// The version in a row that reads as a desk's: the id 1, the mark, a version, an owner of 16 bytes, a stamp.
+fn version_in(rows: &[Row]) -> Option<u64>
+    ensures { (owner : List ℕ) (version : ℕ) (stamp : ℕ) → length owner ≡ 16 → rows.now ≡ desk_columns owner version stamp ∷ [] → result ≡ Some version }
+{
+    let [row] = rows else {
+        return None;
+    };
+    let id = number_at(row, 0)?;
+    let version = number_at(row, 2)?;
+    let _stamp = number_at(row, 4)?;
+    if id == 1 && has_mark(row, 1) && has_guid(row, 3) {
+        Some(version)
+    } else {
+        None
+    }
+}
+
+/// Whether the store's tables don't have what a text names.
+fn refuses_text(error: &Error) -> bool
+    ensures { IsTrue result → RefusesText error.now }
+{
+    match error {
+        Error::SqlInputError(_) => true,
+        _ => false,
+    }
+}
+
+/// Whether the desk's row can be asked for. `NotADesk`: the store hasn't its table with these columns.
+fn ask_columns<S: Alter>(tx: &mut Transaction<'_, S>) -> Result<(), Refusal>
+    ensures same_reference { tx.new.conn.ghost_name ≡ tx.old.conn.ghost_name }
+    ensures same { HasCleanDisk (state S.Store tx.new.conn.now)
+        → OnOk result (IsUnchanged (state S.Store tx.old.conn.now) (state S.Store tx.new.conn.now)) }
+    ensures refused { HasCleanDisk (state S.Store tx.new.conn.now)
+        → IfErr result (RefusesColumns (state S.Store tx.old.conn.now)) }
+    ensures named { IfErr result IsReadRefusal }
+    ensures kept { Keeps S.Store tx.old.conn.now tx.new.conn.now }
+    ensures survives { Spares S.Store tx.old.conn.now tx.new.conn.now }
+{
+    let error = match tx.prepare(SELECT_DESK) {
+        Ok(_) => return Ok(()),
+        Err(error) => error,
+    };
+    if refuses_text(&error) {
+        return Err(Refusal::NotADesk);
+    }
+    Err(WriteFault::from(error).refusal())
+}
+
+/// The version of the desk, by its row. `NotADesk`: no such row reads as a desk's.
+fn version_of<S: Alter>(tx: &mut Transaction<'_, S>) -> Result<u64, Refusal>
+    ensures same_reference { tx.new.conn.ghost_name ≡ tx.old.conn.ghost_name }
+    ensures told { HasCleanDisk (state S.Store tx.new.conn.now)
+        → IsTrue (state S.Store tx.old.conn.now).in_transaction
+        → TellsOf (state S.Store tx.old.conn.now) result }
+    ensures named { IfErr result IsReadRefusal }
+    ensures kept { Keeps S.Store tx.old.conn.now tx.new.conn.now }
+    ensures survives { Spares S.Store tx.old.conn.now tx.new.conn.now }
+{
+    match ask_columns(tx) {
+        Ok(()) => {}
+        Err(refusal) => return Err(refusal),
+    }
+    match select(tx, SELECT_DESK, &[]) {
+        Ok(rows) => match version_in(&rows) {
+            Some(version) => Ok(version),
+            None => Err(Refusal::NotADesk),
+        },
+        Err(error) => Err(WriteFault::from(error).refusal()),
+    }
+}
+
+/// The same, outside a transaction. It commits nothing.
+pub(crate) fn read_version<S: Alter>(conn: &mut Connection<S>) -> Result<u64, Refusal>
+    requires outside { conn.old.in_transaction ≡ false }
+    ensures outside { conn.new.in_transaction ≡ false }
+    ensures told { HasCleanDisk (state S.Store conn.new) → (owner : List ℕ) (cs : History)
+        → length owner ≡ 16 → ShowsHistory (state S.Store conn.old) owner cs
+        → MatchResult result (λ version. version ≡ 1) IsFailure }
+    ensures shown { HasCleanDisk (state S.Store conn.new) → (owner : List ℕ) (cs : History)
+        → ShowsHistory (state S.Store conn.old) owner cs
+        → ShowsHistory (state S.Store conn.new) owner cs }
+    ensures named { IfErr result IsReadRefusal }
+    ensures survives { Spares S.Store conn.old conn.new }
+{
+    let mut tx = conn.transaction();
+    let read = version_of(&mut tx);
+    tx.rollback();
+    read
+}
