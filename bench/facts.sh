@@ -1,8 +1,8 @@
 #!/bin/sh
-# Measures `desk facts` on a PE32+ image of 120 MiB with three sections, against openssl, sha256sum and (where
-# installed) pesign on the same file: the least processor time of 7 rounds each, the ratio of `facts` to it, its ratio to two runs of openssl,
-# which is the least that two hashes cost here, and the peak memory of each. `facts` reads the file once and makes two
-# hashes of it, one of the whole and one as Authenticode does. Fails where `facts` takes more memory than the file and
+# Measures `desk facts` on a PE32+ image of 120 MiB with three sections, against openssl, sha256sum and (where installed)
+# pesign on the same file: the least processor time of 7 rounds each, the ratio of `facts` to it, its own ratio to two
+# runs of openssl, which is the least that two hashes cost here, and its peak memory. `facts` reads the file once and makes
+# two hashes of it, one of the whole and one as Authenticode does. Fails where `facts` takes more memory than the file and
 # 8 MiB. Not part of the gate.
 set -eu
 root=$(CDPATH='' cd -- "$(dirname -- "$(readlink -f -- "$0")")/.." && pwd -P)
