@@ -63,8 +63,9 @@ fn hash_pieces<S: Source>(source: &mut S, layout: &Layout) -> Result<Running, Re
     Ok(Running { file, ranges })
 }
 
-/// The SHA-256 of a file, its Authenticode digest and the digest that a signature of it holds. The layout is that of
-/// the source. It reads each piece of 65,536 bytes once, and with a gap the last range once more; it takes no memory.
+/// The SHA-256 of a file, its Authenticode digest and the digest that a signature of it holds. The
+/// layout is that of the source. It reads each piece of 65,536 bytes once, and with a gap the last
+/// range once more; it takes no memory.
 pub fn sums<S: Source>(source: &mut S, layout: &Layout) -> Result<Sums, ReadFailed>
     requires { IsLayoutOf (S.content source.old) layout.now }
     ensures file { IfOk result (λ sums. sums.file ≡ sha256 (S.content source.old)) }

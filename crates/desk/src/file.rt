@@ -22,8 +22,8 @@ pub fn read_file<R: Files + AllocGlobal>(rt: &R, path: &str) -> Result<Vec<u8>, 
     Ok(read_all(rt.alloc(), &mut file, MOST_BYTES)?)
 }
 
-/// An image's file, in pieces. Of a file that is too long for an image one byte more than `LONGEST_IMAGE` is taken: its
-/// layout is refused for its length.
+/// An image's file, in pieces. Of a file that is too long for an image one byte more than
+/// `LONGEST_IMAGE` is taken: its layout is refused for its length.
 pub fn read_image<R: Files + AllocGlobal>(rt: &R, path: &str) -> Result<Pieces, Fault> {
     let mut file = open(rt, path)?;
     Ok(Pieces::take(rt.alloc(), &mut file, LONGEST_IMAGE + 1)?)

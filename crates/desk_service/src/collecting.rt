@@ -70,9 +70,9 @@ fn read_components<S: Source>(
     Ok(components)
 }
 
-/// What the desk keeps of an image. It reads each piece of 65,536 bytes of the source once, with a gap the last range
-/// once more, and the headers, the certificate table and the text of `.sbat` besides; it takes memory for these two and
-/// for what they hold.
+/// What the desk keeps of an image. It reads each piece of 65,536 bytes of the source once, with a
+/// gap the last range once more, and the headers, the certificate table and the text of `.sbat`
+/// besides; it takes memory for the table and the text and for what they hold.
 ///
 /// Of several faults the layout's is answered first, then that of the certificates, then that of the
 /// components; Read, and Layout with Read, only where the source's count of failures rose or stood at its

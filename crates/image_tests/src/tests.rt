@@ -65,8 +65,8 @@ fn change(alloc: Global, image: &mut [u8], words: &str) -> Result<(), Fail> {
 }
 
 /// The image that the words describe: its length, `+` for PE32+ or `-` for PE32, and changes. With `*` it is
-/// one of PE32+ that tools sign, whose bytes from 512 on count up to 250 again and again; with `^` the headers of PE32+
-/// stand further up.
+/// one of PE32+ that tools sign, whose bytes from 512 on count up to 250 again and again; with `^` the
+/// headers of PE32+ stand further up.
 fn image(alloc: Global, words: &str) -> Result<Vec<u8>, Fail> {
     let (length, words) = words.split_once(' ').ok_or("no length")?;
     let (form, changes) = words.split_once(' ').unwrap_or((words, ""));

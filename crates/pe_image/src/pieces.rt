@@ -39,8 +39,8 @@ impl PiecesFault {
     }
 }
 
-/// Bytes in memory, in vectors of 65,536 bytes and a last one of fewer. A contract sees the list of all
-/// bytes.
+/// Bytes in memory, in vectors of 65,536 bytes and a last one of fewer. A contract sees the list of
+/// all bytes.
 #[derive(Drop)]
 pub struct Pieces {
     full: Vec<Vec<u8>>,
@@ -95,8 +95,9 @@ fn read_piece<R: Read>(alloc: Global, reader: &mut R, most: usize) -> Result<Vec
 }
 
 impl Pieces {
-    /// Reads until `most` bytes came or the input ended, and asks for no byte more. An interrupted read is a
-    /// fault: none is tried again. Takes memory for what it reads, in pieces of 65,536 bytes.
+    /// Reads until `most` bytes came or the input ended, and asks for no byte more. An interrupted
+    /// read is a fault: none is tried again. Takes memory for what it reads, in pieces of 65,536
+    /// bytes.
     pub fn take<R: Read>(alloc: Global, reader: &mut R, most: u64) -> Result<Pieces, PiecesFault>
         ensures whole { IfOk result (λ bytes.
             Consumes (R.remaining reader.old) (R.remaining reader.new) bytes) }

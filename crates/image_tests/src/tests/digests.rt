@@ -49,8 +49,8 @@ fn digest_joined(alloc: Global, bytes: &[u8], spans: Ranges) -> Result<Digest, F
     Ok(Digest::from(Sha256::digest(&joined)))
 }
 
-/// The digest of an image in pieces and that to be signed, where the calls agree with one another and with hashes of
-/// whole lists.
+/// The digest of an image in pieces and that to be signed, where the calls agree with one another
+/// and with hashes of whole lists.
 pub fn of_digests(alloc: Global, input: &str) -> Result<String, Fail> {
     let bytes = image(alloc, input)?;
     let mut reader = Slow {

@@ -69,8 +69,8 @@ fn tells_of_each_read_that_fails(rt: HostRuntime) -> Result<(), Fail> {
     Ok(())
 }
 
-/// Images with the reads that hashing them takes: two pieces; three of a file whose last range is read again, from 41024 on,
-/// which are three more.
+/// Images with the reads that hashing them takes: two pieces; three of a file whose last range is
+/// read again, from 41024 on, which are three more.
 const READS: [(&str, u64); 2] = [("66560 ^", 2), ("140000 * 70:0200 384:409c0000a0860100", 6)];
 
 #[test]
