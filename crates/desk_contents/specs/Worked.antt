@@ -5,7 +5,7 @@ use Rattle.sqlite.specs.Order.{Row}
 use Rattle.desk_texts.specs.declared.command.Command.TheVariants as command
 use Rattle.desk_texts.specs.declared.vote.Vote.TheVariants.{Yes}
 use Rattle.desk_sql.specs.Contents.{Contents}
-use Rattle.desk_history.specs.Calls.{History}
+use Rattle.desk_history.specs.Calls.{History, item}
 use Rattle.desk_history.specs.Tables.{tables}
 use Rattle.desk_history.specs.Worked.{by, digest, give_back, grub, image, people_added, raise, submit, vote}
 use Rattle.desk_contents.specs.Contents.{contents}
@@ -22,15 +22,15 @@ certificate = 0x30 ∷ 0x03 ∷ 0x02 ∷ 0x01 ∷ 0x01 ∷ []
 -- revoked, and the level rises: the newest call first
 abbrev pub history : History
 history =
-    by (codes "olga") (codes "olga-5") (raise (codes "grub") 4 2024010100)
-    ∷ by (codes "olga") (codes "olga-4") (command.RevokeCertificate (digest 0x20))
-    ∷ by (codes "olga") (codes "olga-3") (command.RevokeDigest (digest 0x1f))
-    ∷ by (codes "olga") (codes "olga-2") (command.ListDigest (digest 0x16))
-    ∷ by (codes "sid") (codes "sid-1") (give_back 1 (image 0x0d 0x0c 0x0c (digest 0x14 ∷ []) []))
-    ∷ by (codes "olga") (codes "olga-1") (command.ListCertificate (record { tbs = digest 0x14; body = certificate }))
-    ∷ by (codes "raul") (codes "raul-1") (vote 1 Yes)
-    ∷ by (codes "rita") (codes "rita-1") (vote 1 Yes)
-    ∷ by (codes "ann") (codes "ann-1") (submit (image 0x0a 0x0b 0x0c (digest 0x14 ∷ []) (grub 3 ∷ [])))
+    item (by (codes "olga") (codes "olga-5") (raise (codes "grub") 4 2024010100))
+    ∷ item (by (codes "olga") (codes "olga-4") (command.RevokeCertificate (digest 0x20)))
+    ∷ item (by (codes "olga") (codes "olga-3") (command.RevokeDigest (digest 0x1f)))
+    ∷ item (by (codes "olga") (codes "olga-2") (command.ListDigest (digest 0x16)))
+    ∷ item (by (codes "sid") (codes "sid-1") (give_back 1 (image 0x0d 0x0c 0x0c (digest 0x14 ∷ []) [])))
+    ∷ item (by (codes "olga") (codes "olga-1") (command.ListCertificate (record { tbs = digest 0x14; body = certificate })))
+    ∷ item (by (codes "raul") (codes "raul-1") (vote 1 Yes))
+    ∷ item (by (codes "rita") (codes "rita-1") (vote 1 Yes))
+    ∷ item (by (codes "ann") (codes "ann-1") (submit (image 0x0a 0x0b 0x0c (digest 0x14 ∷ []) (grub 3 ∷ []))))
     ∷ people_added
 
 -- the text, so many times

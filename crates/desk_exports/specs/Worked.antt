@@ -2,7 +2,7 @@
 use Rattle.std.specs.Prelude.{◌≡◌, ℕ, List, [], ◌∷◌, codes, None}
 use Rattle.desk_texts.specs.declared.command.Command.TheVariants as command
 use Rattle.desk_texts.specs.declared.role.Role.TheVariants as roles
-use Rattle.desk_history.specs.Calls.{History}
+use Rattle.desk_history.specs.Calls.{History, item}
 use Rattle.desk_history.specs.Worked.{by, digest, imported, people_added, person, raise}
 use Rattle.desk_history.specs.Worked.Imports.{listed_history}
 use Rattle.desk_history.specs.Worked.Levels as levels
@@ -22,7 +22,7 @@ ExportsNothing =
 -- the certificate of seven bytes is listed
 abbrev one_listed : History
 one_listed =
-    by (codes "olga") (codes "olga-1") (command.ListCertificate (record { tbs = digest 12; body = 0x30 ∷ 0x05 ∷ 0x30 ∷ 0x03 ∷ 0x02 ∷ 0x01 ∷ 0x01 ∷ [] }))
+    item (by (codes "olga") (codes "olga-1") (command.ListCertificate (record { tbs = digest 12; body = 0x30 ∷ 0x05 ∷ 0x30 ∷ 0x03 ∷ 0x02 ∷ 0x01 ∷ 0x01 ∷ [] })))
     ∷ people_added
 
 -- the bytes of db: one X509 list of 51 bytes
@@ -36,8 +36,8 @@ ExportsImport = dbx owner listed_history ≡ 0x26 ∷ 0x16 ∷ 0xc4 ∷ 0xc1 ∷
 -- digests that were revoked in another order, and one of them twice
 abbrev unordered : History
 unordered =
-    by (codes "olga") (codes "olga-2") (imported None 0 (digest 170 ∷ digest 187 ∷ digest 170 ∷ []) [] [])
-    ∷ by (codes "olga") (codes "olga-1") (command.RevokeDigest (digest 204))
+    item (by (codes "olga") (codes "olga-2") (imported None 0 (digest 170 ∷ digest 187 ∷ digest 170 ∷ []) [] []))
+    ∷ item (by (codes "olga") (codes "olga-1") (command.RevokeDigest (digest 204)))
     ∷ people_added
 
 -- stand in dbx in ascending order, each once
@@ -48,16 +48,16 @@ ExportsInOrder = dbx owner unordered ≡ 0x26 ∷ 0x16 ∷ 0xc4 ∷ 0xc1 ∷ 0x4
 abbrev pub ExportsLevels : Type 0
 ExportsLevels =
     (level levels.history ≡ codes "sbat,1,2024010100\ngrub,3\n")
-    × (level (by (codes "olga") (codes "olga-6") (raise (codes "a") 12 2024010101) ∷ levels.history) ≡ codes "sbat,1,2024010101\na,12\ngrub,3\n")
+    × (level (item (by (codes "olga") (codes "olga-6") (raise (codes "a") 12 2024010101)) ∷ levels.history) ≡ codes "sbat,1,2024010101\na,12\ngrub,3\n")
 
 -- the minutes of two calls
 abbrev pub ExportsMinutes : Type 0
 ExportsMinutes =
-    minutes_text (by (codes "ann") (codes "k1") (command.Withdraw 1) ∷ record (person (codes "ann") roles.Submitter 1) { key = codes "p" } ∷ [])
+    minutes_text (item (by (codes "ann") (codes "k1") (command.Withdraw 1)) ∷ item (record (person (codes "ann") roles.Submitter 1) { key = codes "p" }) ∷ [])
     ≡ codes "1\tconsole\tp\tadd-person ann submitter 0101010101010101010101010101010101010101010101010101010101010101\tadded ann\n2\tann\tk1\twithdraw 1\twithdrawn 1\n"
 
 -- reports: of a desk with one person, and after a signed file came back
 abbrev pub ExportsReports : Type 0
 ExportsReports =
-    (report (person (codes "ann") roles.Submitter 1 ∷ []) ≡ codes "people                           1\nrequests                         0\nopen                             0\napproved                         0\nrejected                         0\nwithdrawn                        0\nsigned                           0\nlisted digests                   0\nlisted certificates              0\nrevoked digests                  0\nrevoked certificates             0\nlevel components                 0\ncommands                         1\nstamp                   2021030218\n")
+    (report (item (person (codes "ann") roles.Submitter 1) ∷ []) ≡ codes "people                           1\nrequests                         0\nopen                             0\napproved                         0\nrejected                         0\nwithdrawn                        0\nsigned                           0\nlisted digests                   0\nlisted certificates              0\nrevoked digests                  0\nrevoked certificates             0\nlevel components                 0\ncommands                         1\nstamp                   2021030218\n")
     × (report returns.after_return ≡ codes "people                           6\nrequests                         2\nopen                             0\napproved                         0\nrejected                         1\nwithdrawn                        0\nsigned                           1\nlisted digests                   0\nlisted certificates              1\nrevoked digests                  0\nrevoked certificates             0\nlevel components                 0\ncommands                        13\nstamp                   2021030218\n")

@@ -13,7 +13,7 @@ use Rattle.desk_texts.specs.declared.command.Person.{Person}
 use Rattle.desk_texts.specs.Callers.{caller_name, is_told_by_name}
 use Rattle.desk_texts.specs.CommandTexts.{text_of}
 use Rattle.desk_texts.proofs.FormLemmas.{joined}
-use Rattle.desk_history.specs.Calls.{History}
+use Rattle.desk_history.specs.Calls.{History, item}
 use Rattle.desk_history.specs.FormLaws.{CallersAreTold}
 use Rattle.desk_history.specs.People.{has_name, has_token, people}
 use Rattle.desk_history.specs.Refusals.{is_known, is_one_of, own_refusal, refusal}
@@ -41,7 +41,7 @@ none_found p (x ∷ xs) h = rw (none_left (p x) (list_any p xs) h) (none_found p
 
 -- nobody is added under the name
 unnamed : (cs : History) (old : Call) (name : List ℕ) (given : Command) → own_refusal cs name given ≡ None → list_any (has_name console) (people cs) ≡ false
-    → list_any (has_name console) (people (record old { command = given } ∷ cs)) ≡ false
+    → list_any (has_name console) (people (item (record old { command = given }) ∷ cs)) ≡ false
 unnamed cs old name (command.AddPerson p) own h =
     let taken : (bytes_eq p.name console || list_any (has_name p.name) (people cs) || list_any (has_token p.token) (people cs)) ≡ false =
     unrefused (bytes_eq p.name console || list_any (has_name p.name) (people cs) || list_any (has_token p.token) (people cs)) refusals.NameTaken own in
@@ -53,10 +53,10 @@ unnamed cs old name _ own h = h
 
 nobody : (cs : History) → is_legal cs ≡ true → list_any (has_name console) (people cs) ≡ false
 nobody [] h = refl
-nobody (c ∷ cs) h =
-    let both : (is_accepted (answer cs c) ≡ true) × (is_legal cs ≡ true) = and_parts (is_accepted (answer cs c)) (is_legal cs) h in
-    let new : IsNew cs c = accepted_parts cs c both.0 in
-    unnamed cs c (caller_name c.caller) c.command new.own (nobody cs both.1)
+nobody (i ∷ cs) h =
+    let both : (is_accepted (answer cs i.call) ≡ true) × (is_legal cs ≡ true) = and_parts (is_accepted (answer cs i.call)) (is_legal cs) h in
+    let new : IsNew cs i.call = accepted_parts cs i.call both.0 in
+    unnamed cs i.call (caller_name i.call.caller) i.call.command new.own (nobody cs both.1)
 
 no_parts : {A : Type 0} → false ≡ true → A
 no_parts e = cc
@@ -81,16 +81,16 @@ pub known_told : (cs : History) (caller : Caller) → is_legal cs ≡ true → i
 known_told cs caller h k = told_known (people cs) caller (nobody cs h) k
 
 -- and so is whoever gave a call of it
-pub newest_told : (cs : History) (c : Call) → is_legal (c ∷ cs) ≡ true → is_told_by_name c.caller ≡ true
+pub newest_told : (cs : History) (c : Call) → is_legal (item c ∷ cs) ≡ true → is_told_by_name c.caller ≡ true
 newest_told cs c h =
     let both : (is_accepted (answer cs c) ≡ true) × (is_legal cs ≡ true) = and_parts (is_accepted (answer cs c)) (is_legal cs) h in
     known_told cs c.caller both.1 (accepted_known cs c both.0)
 
 pub callers_are_told : CallersAreTold
 callers_are_told [] h = refl
-callers_are_told (c ∷ cs) h =
-    joined (is_told_by_name c.caller) (list_all (λ a. is_told_by_name a.caller) cs) (newest_told cs c h)
-    (callers_are_told cs (and_parts (is_accepted (answer cs c)) (is_legal cs) h).1)
+callers_are_told (i ∷ cs) h =
+    joined (is_told_by_name i.call.caller) (list_all (λ a. is_told_by_name a.call.caller) cs) (newest_told cs i.call h)
+    (callers_are_told cs (and_parts (is_accepted (answer cs i.call)) (is_legal cs) h).1)
 
 unequal : (b : Bool) → not b ≡ true → b ≡ true → {A : Type 0} → A
 unequal true h k = no_parts h

@@ -17,8 +17,8 @@ use Rattle.desk_texts.specs.Formed.{IsCall, IsWithin}
 use Rattle.desk_texts.specs.Forms.{is_request_number}
 use Rattle.desk_texts.proofs.FormLemmas.{joined}
 use Rattle.desk_texts.proofs.ReplyLemmas.{reply_text_of-same}
-use Rattle.desk_history.specs.Calls.{History, distinct, is_among}
-use Rattle.desk_history.specs.Formed.{IsHistory, IsReadable}
+use Rattle.desk_history.specs.Calls.{History, distinct, is_among, item}
+use Rattle.desk_history.specs.Formed.{IsHistory, IsItem, IsReadable}
 use Rattle.desk_history.specs.FormLaws.{MinutesAreReadable, MinutesDiffer}
 use Rattle.desk_history.specs.Level.{names, raises}
 use Rattle.desk_history.specs.Replies.{gained, minute, minutes, raised_count, reply, reply_to}
@@ -29,10 +29,10 @@ use Rattle.desk_history.proofs.CallerLemmas.{newest_told, same_caller}
 use Rattle.desk_history.proofs.RunLemmas.{Within, legal_parts, legal_room}
 
 -- a desk's history before its newest call
-pub history_rest : (cs : History) (c : Call) → IsHistory (c ∷ cs) → IsHistory cs
+pub history_rest : (cs : History) (c : Call) → IsHistory (item c ∷ cs) → IsHistory cs
 history_rest cs c h = record {
   legal = (and_parts (is_accepted (answer cs c)) (is_legal cs) h.legal).1;
-  formed = All-tail IsCall c cs h.formed;
+  formed = All-tail IsItem (item c) cs h.formed;
 }
 
 -- ---- numbers of an import's reply
@@ -58,9 +58,9 @@ raised_fewer cs xs =
     let same : length (reverse xs) ≡ length xs = length-reverse xs in
     omega arith
 
-gained_few : (m : ℕ) (kind : ListedKind) (cs : History) (c : Call) → m < 1000000 → nat_le (length (distinct (revocations kind (c ∷ cs)))) m ≡ true → IsCount (gained kind cs c)
+gained_few : (m : ℕ) (kind : ListedKind) (cs : History) (c : Call) → m < 1000000 → nat_le (length (distinct (revocations kind (item c ∷ cs)))) m ≡ true → IsCount (gained kind cs c)
 gained_few m kind cs c small h =
-    let most : length (distinct (revocations kind (c ∷ cs))) ≤ m = grind (arith, nat_tests, h) in
+    let most : length (distinct (revocations kind (item c ∷ cs))) ≤ m = grind (arith, nat_tests, h) in
     omega arith
 
 number_formed : (n : ℕ) → n ≤ 100000 → is_request_number (n + 1) ≡ true
@@ -70,7 +70,7 @@ number_formed n h =
     joined (leb 1 (n + 1)) (leb (n + 1) 999999) low high
 
 -- the reply to a command in its forms, in a call with which the desk keeps within its limits
-reply_formed : (cs : History) (c : Call) (given : Command) → IsCommand given → IsWithin given → is_legal cs ≡ true → Within (c ∷ cs) → IsReply (reply_to cs c given)
+reply_formed : (cs : History) (c : Call) (given : Command) → IsCommand given → IsWithin given → is_legal cs ≡ true → Within (item c ∷ cs) → IsReply (reply_to cs c given)
 reply_formed cs c (command.AddPerson p) f w h within = f.0
 reply_formed cs c (command.Submit s) f w h within = number_formed _ (legal_room cs h)
 reply_formed cs c (command.Review b) f w h within = f.0
@@ -89,19 +89,19 @@ reply_formed cs c (command.ImportRevocations i) f w h within =
     let over : i.passed < 2 ^ 64 = omega arith in
     (gained_few 100000 kinds.Digest cs c (omega arith) within.digests, gained_few 10000 kinds.Certificate cs c (omega arith) within.certificates, few, over)
 
-minute_readable : (cs : History) (c : Call) → IsHistory (c ∷ cs) → IsReadable (minute cs c)
+minute_readable : (cs : History) (c : Call) → IsHistory (item c ∷ cs) → IsReadable (minute cs c)
 minute_readable cs c h =
-    let newest = All-head IsCall c cs h.formed in
+    let newest = All-head IsItem (item c) cs h.formed in
     record {
       caller = newest.caller;
       told = newest_told cs c h.legal;
       key = newest.key;
-      reply = reply_formed cs c c.command newest.forms newest.limits (history_rest cs c h).legal (legal_parts (c ∷ cs) h.legal);
+      reply = reply_formed cs c c.command newest.forms newest.limits (history_rest cs c h).legal (legal_parts (item c ∷ cs) h.legal);
     }
 
 pub minutes_are_readable : MinutesAreReadable
 minutes_are_readable [] h = All-nil IsReadable
-minutes_are_readable (c ∷ cs) h = All-cons IsReadable (minute cs c) (minutes cs) (minute_readable cs c h) (minutes_are_readable cs (history_rest cs c h))
+minutes_are_readable (i ∷ cs) h = All-cons IsReadable (minute cs i.call) (minutes cs) (minute_readable cs i.call h) (minutes_are_readable cs (history_rest cs i.call h))
 
 pub minutes_differ : MinutesDiffer
 minutes_differ cs h a b in_a in_b =

@@ -18,7 +18,7 @@ use Rattle.desk_texts.specs.Raising.{names_no_sbat}
 use Rattle.desk_texts.specs.Callers.{caller_name}
 use Rattle.desk_texts.proofs.FormLemmas.{both, joined}
 use Rattle.desk_history.specs.Calls.{History, distinct, is_among}
-use Rattle.desk_history.specs.Formed.{IsHistory}
+use Rattle.desk_history.specs.Formed.{IsHistory, IsItem}
 use Rattle.desk_history.specs.FormLaws.{LevelHasNoSbat}
 use Rattle.desk_history.specs.Forces.{into_force}
 use Rattle.desk_history.specs.Level.{generations, greatest, is_above, is_sbat, names, stamp}
@@ -66,12 +66,12 @@ put_other cs name (command.RevokeCertificate _) w own = refl
 
 others_named : (cs : History) → IsHistory cs → names_no_sbat (generations cs) ≡ true
 others_named [] h = refl
-others_named (c ∷ cs) h =
-    let accepted : (is_accepted (answer cs c) ≡ true) × (is_legal cs ≡ true) = and_parts (is_accepted (answer cs c)) (is_legal cs) h.legal in
-    let new : IsNew cs c = accepted_parts cs c accepted.0 in
-    let here = put_other cs (caller_name c.caller) c.command (All-head IsCall c cs h.formed).limits new.own in
-    list_all-append (λ (x : Component). is_other x.name) (into_force cs c.command).components (generations cs)
-    ∙ joined (names_no_sbat (into_force cs c.command).components) (names_no_sbat (generations cs)) here (others_named cs (history_rest cs c h))
+others_named (i ∷ cs) h =
+    let accepted : (is_accepted (answer cs i.call) ≡ true) × (is_legal cs ≡ true) = and_parts (is_accepted (answer cs i.call)) (is_legal cs) h.legal in
+    let new : IsNew cs i.call = accepted_parts cs i.call accepted.0 in
+    let here = put_other cs (caller_name i.call.caller) i.call.command (All-head IsItem i cs h.formed).limits new.own in
+    list_all-append (λ (x : Component). is_other x.name) (into_force cs i.call.command).components (generations cs)
+    ∙ joined (names_no_sbat (into_force cs i.call.command).components) (names_no_sbat (generations cs)) here (others_named cs (history_rest cs i.call h))
 
 others_once : (ts : List (List ℕ)) → list_all is_other ts ≡ true → list_all is_other (distinct ts) ≡ true
 others_once [] h = refl

@@ -7,7 +7,7 @@ use Rattle.desk_bytes.specs.declared.refusal.Refusal.TheVariants as refusals
 use Rattle.desk_texts.specs.declared.command.Call.{Call}
 use Rattle.desk_texts.specs.declared.reply.Reply.{Reply}
 use Rattle.desk_texts.specs.Callers.{caller_name}
-use Rattle.desk_history.specs.Calls.{GoesOnFrom, History}
+use Rattle.desk_history.specs.Calls.{GoesOnFrom, History, item}
 use Rattle.desk_texts.specs.CommandTexts.{text_of}
 use Rattle.desk_history.specs.declared.rows.Minute.{Minute}
 use Rattle.desk_history.specs.Replies.{minute, minutes, reply}
@@ -102,7 +102,7 @@ own_key cs c = rw (bytes_eq-refl (caller_name c.caller), bytes_eq-refl c.key) re
 
 held_at : (cs : History) (c : Call) (given : Reply) → reply_in (answer cs c) ≡ Some given → Holds (next cs c) c given
 held_at cs c given h =
-    elim (is_accepted (answer cs c)) as (λ b. is_accepted (answer cs c) ≡ b → Holds (if b then c ∷ cs else cs) c given) [
+    elim (is_accepted (answer cs c)) as (λ b. is_accepted (answer cs c) ≡ b → Holds (if b then item c ∷ cs else cs) c given) [
       | true ↦ λ e. record {
         minute = minute cs c;
         found = rw (own_key cs c) refl;

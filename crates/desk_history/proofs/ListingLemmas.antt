@@ -8,7 +8,7 @@ use Rattle.desk_texts.specs.declared.command.Command.{Command}
 use Rattle.desk_texts.specs.declared.command.Command.TheVariants as command
 use Rattle.desk_texts.specs.declared.kind.ListedKind.{ListedKind}
 use Rattle.desk_texts.specs.declared.kind.ListedKind.TheVariants as kinds
-use Rattle.desk_history.specs.Calls.{History, are_apart, is_same_kind}
+use Rattle.desk_history.specs.Calls.{History, are_apart, is_same_kind, item, Item}
 use Rattle.desk_history.specs.declared.rows.Entry.{Entry}
 use Rattle.desk_history.specs.Listing.{has_entry, is_about, is_entry, is_listed, listed, lists, relisted, without}
 use Rattle.desk_history.specs.Laws.{ListsListed}
@@ -83,21 +83,21 @@ put_on kind other digest d body rows c rest on h =
     ] refl
 
 -- the test of the last call about an entry, by whether this is one
-chosen : (b : Bool) (c : Call) (found : List Call) (p : Call → Bool) → option_map_or (λ (x : Call). lists x.command) (if b then Some c else find p found) false ≡ (if b then lists c.command else option_map_or (λ (x : Call). lists x.command) (find p found) false)
+chosen : (b : Bool) (c : Call) (found : History) (p : Item → Bool) → option_map_or (λ (x : Item). lists x.call.command) (if b then Some (item c) else find p found) false ≡ (if b then lists c.command else option_map_or (λ (x : Item). lists x.call.command) (find p found) false)
 chosen true c found p = refl
 chosen false c found p = refl
 
 one_call : (kind : ListedKind) (cs : History) (digest : List ℕ) → has_entry kind digest (listed cs) ≡ is_listed kind cs digest → (old : Call) (given : Command) →
-    has_entry kind digest (relisted given (listed cs)) ≡ is_listed kind (record old { command = given } ∷ cs) digest
+    has_entry kind digest (relisted given (listed cs)) ≡ is_listed kind (item (record old { command = given }) ∷ cs) digest
 one_call kind cs digest h old (command.ListDigest d) =
     put_on kind kinds.Digest digest d [] (listed cs) (record old { command = command.ListDigest d }) (is_listed kind cs digest) refl h
-    ∙ sym (chosen (is_one kind digest kinds.Digest d) (record old { command = command.ListDigest d }) cs (λ (x : Call). is_about kind digest x.command))
+    ∙ sym (chosen (is_one kind digest kinds.Digest d) (record old { command = command.ListDigest d }) cs (λ (x : Item). is_about kind digest x.call.command))
 one_call kind cs digest h old (command.ListCertificate c) =
     put_on kind kinds.Certificate digest c.tbs c.body (listed cs) (record old { command = command.ListCertificate c }) (is_listed kind cs digest) refl h
-    ∙ sym (chosen (is_one kind digest kinds.Certificate c.tbs) (record old { command = command.ListCertificate c }) cs (λ (x : Call). is_about kind digest x.command))
+    ∙ sym (chosen (is_one kind digest kinds.Certificate c.tbs) (record old { command = command.ListCertificate c }) cs (λ (x : Item). is_about kind digest x.call.command))
 one_call kind cs digest h old (command.Unlist l) =
     taken_off kind l.kind digest l.digest (listed cs) (record old { command = command.Unlist l }) (is_listed kind cs digest) refl h
-    ∙ sym (chosen (is_one kind digest l.kind l.digest) (record old { command = command.Unlist l }) cs (λ (x : Call). is_about kind digest x.command))
+    ∙ sym (chosen (is_one kind digest l.kind l.digest) (record old { command = command.Unlist l }) cs (λ (x : Item). is_about kind digest x.call.command))
 one_call kind cs digest h old (command.AddPerson _) = h
 one_call kind cs digest h old (command.Submit _) = h
 one_call kind cs digest h old (command.Review _) = h
@@ -110,7 +110,7 @@ one_call kind cs digest h old (command.ImportRevocations _) = h
 
 pub listed_rows_are_listed : ListsListed
 listed_rows_are_listed [] kind digest = refl
-listed_rows_are_listed (c ∷ cs) kind digest = one_call kind cs digest (listed_rows_are_listed cs kind digest) c c.command
+listed_rows_are_listed (i ∷ cs) kind digest = one_call kind cs digest (listed_rows_are_listed cs kind digest) i.call i.call.command
 
 -- no entry stands twice
 
@@ -162,4 +162,4 @@ one_apart rows h (command.ImportRevocations _) = h
 
 pub listed_apart : (cs : History) → apart (listed cs) ≡ true
 listed_apart [] = refl
-listed_apart (c ∷ cs) = one_apart (listed cs) (listed_apart cs) c.command
+listed_apart (i ∷ cs) = one_apart (listed cs) (listed_apart cs) i.call.command

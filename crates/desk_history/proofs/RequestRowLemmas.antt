@@ -17,8 +17,8 @@ use Rattle.desk_texts.specs.declared.command.Call.{Call}
 use Rattle.desk_texts.specs.declared.command.Command.{Command}
 use Rattle.desk_texts.specs.declared.command.Command.TheVariants as command
 use Rattle.desk_texts.specs.Formed.{IsCall, IsWithin}
-use Rattle.desk_history.specs.Calls.{History, are_apart}
-use Rattle.desk_history.specs.Formed.{IsHistory}
+use Rattle.desk_history.specs.Calls.{History, are_apart, item}
+use Rattle.desk_history.specs.Formed.{IsHistory, IsItem}
 use Rattle.desk_history.specs.FormLaws.{AllRowsStandOnce, is_certificate_key, is_place_key}
 use Rattle.desk_history.specs.Requests.{Request, Submitted, numbered, requests, submitted}
 use Rattle.desk_history.specs.Tables.{certificate_rows, component_rows, placed_from}
@@ -164,7 +164,7 @@ ascending_apart k (d ∷ ds) h = apart-more is_certificate_key (row_of k d) (map
 abbrev HasApart : Request → Type 0
 HasApart r = are_apart is_certificate_key (certificate_rows r) ≡ true
 
-one_request : (cs : History) (old : Call) (given : Command) → IsWithin given → All HasApart (requests cs) → All HasApart (requests (record old { command = given } ∷ cs))
+one_request : (cs : History) (old : Call) (given : Command) → IsWithin given → All HasApart (requests cs) → All HasApart (requests (item (record old { command = given }) ∷ cs))
 one_request cs old (command.Submit s) w h = All-cons HasApart _ (requests cs) (ascending_apart (length (submitted cs) + 1) s.facts.carried w.ascending) h
 one_request cs old (command.AddPerson _) w h = h
 one_request cs old (command.Review _) w h = h
@@ -178,9 +178,9 @@ one_request cs old (command.RevokeCertificate _) w h = h
 one_request cs old (command.RaiseLevel _) w h = h
 one_request cs old (command.ImportRevocations _) w h = h
 
-requests_apart : (cs : History) → All IsCall cs → All HasApart (requests cs)
+requests_apart : (cs : History) → All IsItem cs → All HasApart (requests cs)
 requests_apart [] h = All-nil HasApart
-requests_apart (c ∷ cs) h = one_request cs c c.command (All-head IsCall c cs h).limits (requests_apart cs (All-tail IsCall c cs h))
+requests_apart (i ∷ cs) h = one_request cs i.call i.call.command (All-head IsItem i cs h).limits (requests_apart cs (All-tail IsItem i cs h))
 
 pub all_rows_stand_once : AllRowsStandOnce
 all_rows_stand_once owner cs h = record {

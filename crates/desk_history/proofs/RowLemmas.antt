@@ -14,7 +14,7 @@ use Rattle.desk_texts.specs.declared.kind.ListedKind.TheVariants as kinds
 use Rattle.desk_texts.specs.declared.state.State.{State}
 use Rattle.desk_texts.specs.declared.state.State.TheVariants as states
 use Rattle.desk_texts.specs.Callers.{caller_name}
-use Rattle.desk_history.specs.Calls.{History, are_apart}
+use Rattle.desk_history.specs.Calls.{History, are_apart, item}
 use Rattle.desk_history.specs.Level.{generations, names}
 use Rattle.desk_history.specs.People.{has_name, has_token, people}
 use Rattle.desk_history.specs.Replies.{minute, minutes}
@@ -39,13 +39,13 @@ use Rattle.desk_history.proofs.RunLemmas.{IsNew, accepted_parts}
 
 any_number : (n : ℕ) (cs : History) → length cs < n → list_any (λ (b : Minute). n == b.number) (minutes cs) ≡ false
 any_number n [] h = refl
-any_number n (c ∷ cs) h =
+any_number n (i ∷ cs) h =
     or_none (n == length cs + 1) (list_any (λ (b : Minute). n == b.number) (minutes cs)) (number_above n (length cs + 1) (omega arith)) (any_number n cs (omega arith))
 
 numbers_apart : (cs : History) → are_apart (λ (a b : Minute). a.number == b.number) (minutes cs) ≡ true
 numbers_apart [] = refl
-numbers_apart (c ∷ cs) =
-    apart-more (λ (a b : Minute). a.number == b.number) (minute cs c) (minutes cs) (any_number (length cs + 1) cs (omega arith)) (numbers_apart cs)
+numbers_apart (i ∷ cs) =
+    apart-more (λ (a b : Minute). a.number == b.number) (minute cs i.call) (minutes cs) (any_number (length cs + 1) cs (omega arith)) (numbers_apart cs)
 
 -- numbers of requests, as those of calls
 
@@ -65,7 +65,7 @@ requests_apart at (s ∷ ss) =
 -- people
 
 one_name : (cs : History) (old : Call) (name : List ℕ) (given : Command) → own_refusal cs name given ≡ None → are_apart (λ (a b : Person). bytes_eq a.name b.name) (people cs) ≡ true →
-    are_apart (λ (a b : Person). bytes_eq a.name b.name) (people (record old { command = given } ∷ cs)) ≡ true
+    are_apart (λ (a b : Person). bytes_eq a.name b.name) (people (item (record old { command = given }) ∷ cs)) ≡ true
 one_name cs old name (command.AddPerson p) own h =
     let taken : (bytes_eq p.name (codes "console") || list_any (has_name p.name) (people cs) || list_any (has_token p.token) (people cs)) ≡ false =
     unrefused (bytes_eq p.name (codes "console") || list_any (has_name p.name) (people cs) || list_any (has_token p.token) (people cs)) refusals.NameTaken own in
@@ -75,7 +75,7 @@ one_name cs old name (command.AddPerson p) own h =
 one_name cs old name _ own h = h
 
 one_token : (cs : History) (old : Call) (name : List ℕ) (given : Command) → own_refusal cs name given ≡ None → are_apart (λ (a b : Person). bytes_eq a.token b.token) (people cs) ≡ true →
-    are_apart (λ (a b : Person). bytes_eq a.token b.token) (people (record old { command = given } ∷ cs)) ≡ true
+    are_apart (λ (a b : Person). bytes_eq a.token b.token) (people (item (record old { command = given }) ∷ cs)) ≡ true
 one_token cs old name (command.AddPerson p) own h =
     let taken : (bytes_eq p.name (codes "console") || list_any (has_name p.name) (people cs) || list_any (has_token p.token) (people cs)) ≡ false =
     unrefused (bytes_eq p.name (codes "console") || list_any (has_name p.name) (people cs) || list_any (has_token p.token) (people cs)) refusals.NameTaken own in
@@ -102,7 +102,7 @@ votes_first (Some r) states.Open vs name h =
 votes_first (Some r) _ vs name h = no_refusal h
 
 one_vote : (cs : History) (old : Call) (given : Command) → own_refusal cs (caller_name old.caller) given ≡ None → are_apart is_vote_key (votes cs) ≡ true →
-    are_apart is_vote_key (votes (record old { command = given } ∷ cs)) ≡ true
+    are_apart is_vote_key (votes (item (record old { command = given }) ∷ cs)) ≡ true
 one_vote cs old (command.Review b) own h =
     let v : VoteRow = record { request = b.request; reviewer = caller_name old.caller; vote = b.vote; note = b.note } in
     apart-more is_vote_key v (votes cs) (sym (any_vote v (votes cs)) ∙ votes_first (request cs b.request) (state cs b.request) (votes_on (votes cs) b.request) (caller_name old.caller) own) h
@@ -120,7 +120,7 @@ unsigned None true is_taken vs x barred listed h = no_refusal h
 unsigned (Some r) true is_taken vs x barred listed h = no_refusal h
 
 one_return : (cs : History) (old : Call) (given : Command) → own_refusal cs (caller_name old.caller) given ≡ None → are_apart (λ (a b : ReturnRow). a.request == b.request) (map return_row (returns cs)) ≡ true →
-    are_apart (λ (a b : ReturnRow). a.request == b.request) (map return_row (returns (record old { command = given } ∷ cs))) ≡ true
+    are_apart (λ (a b : ReturnRow). a.request == b.request) (map return_row (returns (item (record old { command = given }) ∷ cs))) ≡ true
 one_return cs old (command.Return g) own h =
     let r : Returned = record { request = g.request; signer = caller_name old.caller; facts = g.facts } in
     let first : is_returned cs g.request ≡ false = unsigned (request cs g.request) (is_returned cs g.request) (is_withdrawn cs g.request) (votes_on (votes cs) g.request) g.facts (is_barred cs g.facts) (stands_in_db cs g.facts) own in
@@ -137,15 +137,15 @@ record Rows (cs : History) : Type 0 where
 
 rows : (cs : History) → is_legal cs ≡ true → Rows cs
 rows [] h = record { by_name = refl; by_token = refl; by_vote = refl; by_return = refl }
-rows (c ∷ cs) h =
-    let both : (is_accepted (answer cs c) ≡ true) × (is_legal cs ≡ true) = and_parts (is_accepted (answer cs c)) (is_legal cs) h in
-    let new : IsNew cs c = accepted_parts cs c both.0 in
+rows (i ∷ cs) h =
+    let both : (is_accepted (answer cs i.call) ≡ true) × (is_legal cs ≡ true) = and_parts (is_accepted (answer cs i.call)) (is_legal cs) h in
+    let new : IsNew cs i.call = accepted_parts cs i.call both.0 in
     let before : Rows cs = rows cs both.1 in
     record {
-      by_name = one_name cs c (caller_name c.caller) c.command new.own before.by_name;
-      by_token = one_token cs c (caller_name c.caller) c.command new.own before.by_token;
-      by_vote = one_vote cs c c.command new.own before.by_vote;
-      by_return = one_return cs c c.command new.own before.by_return;
+      by_name = one_name cs i.call (caller_name i.call.caller) i.call.command new.own before.by_name;
+      by_token = one_token cs i.call (caller_name i.call.caller) i.call.command new.own before.by_token;
+      by_vote = one_vote cs i.call i.call.command new.own before.by_vote;
+      by_return = one_return cs i.call i.call.command new.own before.by_return;
     }
 
 -- components

@@ -9,7 +9,7 @@ use Rattle.desk_bytes.specs.declared.refusal.Refusal.TheVariants as refusals
 use Rattle.desk_texts.specs.declared.command.Call.{Call}
 use Rattle.desk_texts.specs.declared.reply.Reply.{Reply}
 use Rattle.desk_texts.specs.Callers.{caller_name}
-use Rattle.desk_history.specs.Calls.{GoesOnFrom, History, distinct}
+use Rattle.desk_history.specs.Calls.{GoesOnFrom, History, distinct, item}
 use Rattle.desk_texts.specs.CommandTexts.{text_of}
 use Rattle.desk_history.specs.declared.rows.Minute.{Minute}
 use Rattle.desk_history.specs.Replies.{reply}
@@ -29,7 +29,7 @@ use Rattle.desk_history.specs.Runs.{answer, answer_known, earlier, is_accepted, 
 pub record IsNew (cs : History) (c : Call) : Type 0 where
   pub fresh : earlier cs c ≡ None
   pub own : own_refusal cs (caller_name c.caller) c.command ≡ None
-  pub within : is_within (c ∷ cs) ≡ true
+  pub within : is_within (item c ∷ cs) ≡ true
 
 record Parts (m : Option Minute) (own : Option Refusal) (within : Bool) : Type 0 where
   is_fresh : m ≡ None
@@ -51,17 +51,17 @@ parts true None text true None true reply h = record { is_fresh = refl; is_right
 
 pub accepted_parts : (cs : History) (c : Call) → is_accepted (answer cs c) ≡ true → IsNew cs c
 accepted_parts cs c h =
-    let p : Parts (earlier cs c) (own_refusal cs (caller_name c.caller) c.command) (is_within (c ∷ cs)) =
-    parts (is_known cs c.caller) (earlier cs c) (text_of c.command) (may_give cs c.caller c.command) (own_refusal cs (caller_name c.caller) c.command) (is_within (c ∷ cs)) (reply cs c) h in
+    let p : Parts (earlier cs c) (own_refusal cs (caller_name c.caller) c.command) (is_within (item c ∷ cs)) =
+    parts (is_known cs c.caller) (earlier cs c) (text_of c.command) (may_give cs c.caller c.command) (own_refusal cs (caller_name c.caller) c.command) (is_within (item c ∷ cs)) (reply cs c) h in
     record { fresh = p.is_fresh; own = p.is_right; within = p.has_room }
 
 -- the history after a call is the one before it, or the call was accepted
-pub by_next : (P : History → Type 0) (cs : History) (c : Call) → P cs → (is_accepted (answer cs c) ≡ true → P (c ∷ cs)) → P (next cs c)
+pub by_next : (P : History → Type 0) (cs : History) (c : Call) → P cs → (is_accepted (answer cs c) ≡ true → P (item c ∷ cs)) → P (next cs c)
 by_next P cs c same more =
-    elim (is_accepted (answer cs c)) as (λ b. is_accepted (answer cs c) ≡ b → P (if b then c ∷ cs else cs)) [ true ↦ more | false ↦ λ _. same ] refl
+    elim (is_accepted (answer cs c)) as (λ b. is_accepted (answer cs c) ≡ b → P (if b then item c ∷ cs else cs)) [ true ↦ more | false ↦ λ _. same ] refl
 
 pub next_goes_on : (cs : History) (c : Call) → GoesOnFrom cs (next cs c)
-next_goes_on cs c = by_next (GoesOnFrom cs) cs c ([], refl) (λ _. (c ∷ [], refl))
+next_goes_on cs c = by_next (GoesOnFrom cs) cs c ([], refl) (λ _. (item c ∷ [], refl))
 
 pub next_legal : (cs : History) (c : Call) → is_legal cs ≡ true → is_legal (next cs c) ≡ true
 next_legal cs c h = by_next (λ later. is_legal later ≡ true) cs c h (λ e. rw e h)
@@ -86,11 +86,11 @@ run_legal cs (c ∷ calls) h = run_legal (next cs c) calls (next_legal cs c h)
 
 legal_run : (cs : History) → is_legal cs ≡ true → (calls : List Call) × (cs ≡ run [] calls)
 legal_run [] h = ([], refl)
-legal_run (c ∷ cs) h =
-    let both : (is_accepted (answer cs c) ≡ true) × (is_legal cs ≡ true) = and_parts (is_accepted (answer cs c)) (is_legal cs) h in
+legal_run (i ∷ cs) h =
+    let both : (is_accepted (answer cs i.call) ≡ true) × (is_legal cs ≡ true) = and_parts (is_accepted (answer cs i.call)) (is_legal cs) h in
     let before : (calls : List Call) × (cs ≡ run [] calls) = legal_run cs both.1 in
-    let step : next cs c ≡ c ∷ cs = rw both.0 refl in
-    (before.0 ++ c ∷ [], sym (run-append [] before.0 (c ∷ []) ∙ ap (λ h. next h c) (sym before.1) ∙ step))
+    let step : next cs i.call ≡ i ∷ cs = rw both.0 refl in
+    (before.0 ++ i.call ∷ [], sym (run-append [] before.0 (i.call ∷ []) ∙ ap (λ h. next h i.call) (sym before.1) ∙ step))
 
 pub legal_histories_are_runs : LegalIsRun
 legal_histories_are_runs cs = (legal_run cs, λ r. subst (λ h. is_legal h ≡ true) (sym r.1) (run_legal [] r.0 refl))
@@ -98,7 +98,7 @@ legal_histories_are_runs cs = (legal_run cs, λ r. subst (λ h. is_legal h ≡ t
 -- a legal history keeps within what a desk may hold
 legal_within : (cs : History) → is_legal cs ≡ true → is_within cs ≡ true
 legal_within [] h = refl
-legal_within (c ∷ cs) h = (accepted_parts cs c (and_parts (is_accepted (answer cs c)) (is_legal cs) h).0).within
+legal_within (i ∷ cs) h = (accepted_parts cs i.call (and_parts (is_accepted (answer cs i.call)) (is_legal cs) h).0).within
 
 -- a history keeps within each limit
 pub record Within (cs : History) : Type 0 where
@@ -140,6 +140,6 @@ pub legal_room : (cs : History) → is_legal cs ≡ true → length (requests cs
 legal_room cs h = let within : nat_le (length (requests cs)) 100000 ≡ true = (legal_parts cs h).requests in grind (arith, nat_tests, within)
 
 -- those before the newest of a legal history are legal
-pub legal_rest : (cs : History) (c : Call) (rest : History) → cs ≡ c ∷ rest → is_legal cs ≡ true → is_legal rest ≡ true
+pub legal_rest : (cs : History) (c : Call) (rest : History) → cs ≡ item c ∷ rest → is_legal cs ≡ true → is_legal rest ≡ true
 legal_rest cs c rest is h =
     (and_parts (is_accepted (answer rest c)) (is_legal rest) (subst (λ l. is_legal l ≡ true) is h)).1

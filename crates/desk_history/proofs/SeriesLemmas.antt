@@ -14,8 +14,8 @@ use Rattle.desk_texts.specs.Callers.{caller_name, is_told_by_name}
 use Rattle.desk_texts.specs.CommandTexts.{text_of}
 use Rattle.desk_texts.specs.Formed.{IsCall}
 use Rattle.desk_texts.proofs.ReadingLemmas.{text_of-same}
-use Rattle.desk_history.specs.Calls.{GoesOnFrom, History, has_same_key}
-use Rattle.desk_history.specs.Formed.{IsHistory}
+use Rattle.desk_history.specs.Calls.{GoesOnFrom, History, has_same_key, item}
+use Rattle.desk_history.specs.Formed.{IsHistory, IsItem}
 use Rattle.desk_history.specs.FormLaws.{AnsweredCallsStand, EndsAreHistories, Stands}
 use Rattle.desk_history.specs.Lives.{Answered, Event, Fate, MayLeave, MayTurn, events_of}
 use Rattle.desk_history.specs.Refusals.{is_known, refusal}
@@ -32,17 +32,17 @@ use Rattle.desk_history.proofs.RunLemmas.{by_next}
 abbrev IsFormed : Event → Type 0
 IsFormed e = IsCall e.call
 
-left_formed : (cs : History) (events : List Event) (end : History) → All IsCall cs → All IsFormed events → MayLeave cs events end → All IsCall end
-left_formed cs [] end h all left = subst (All IsCall) (sym left) h
+left_formed : (cs : History) (events : List Event) (end : History) → All IsItem cs → All IsFormed events → MayLeave cs events end → All IsItem end
+left_formed cs [] end h all left = subst (All IsItem) (sym left) h
 left_formed cs (e ∷ events) end h all left =
-    let more : All IsCall (e.call ∷ cs) = All-cons IsCall e.call cs (All-head IsFormed e events all) h in
-    let after : All IsCall left.0 = turned (All IsCall) cs e.call e.fate left.0 h (by_next (All IsCall) cs e.call h (λ _. more)) left.1 in
+    let more : All IsItem (item e.call ∷ cs) = All-cons IsItem (item e.call) cs (All-head IsFormed e events all) h in
+    let after : All IsItem left.0 = turned (All IsItem) cs e.call e.fate left.0 h (by_next (All IsItem) cs e.call h (λ _. more)) left.1 in
     left_formed left.0 events end after (All-tail IsFormed e events all) left.2
 
 pub ends_are_histories : EndsAreHistories
 ends_are_histories lives cs ends formed = record {
   legal = series_are_legal lives cs ends;
-  formed = left_formed [] (events_of lives) cs (All-nil IsCall) formed ends.1;
+  formed = left_formed [] (events_of lives) cs (All-nil IsItem) formed ends.1;
 }
 
 -- ---- parts of a list
@@ -62,10 +62,10 @@ test_back p xs ys h = (and_parts (list_all p xs) (list_all p ys) (sym (list_all-
 
 -- the call whose minute has the key
 record Called (cs : History) (c : Call) (m : Minute) : Type 0 where
-  after : List Call
+  after : History
   old : Call
   before : History
-  is : cs ≡ after ++ old ∷ before
+  is : cs ≡ after ++ item old ∷ before
   minute_is : m ≡ minute before old
   same_key : has_same_key c old ≡ true
 
@@ -77,11 +77,11 @@ some_is a b e = cc
 
 called : (cs : History) (c : Call) (m : Minute) → earlier cs c ≡ Some m → Called cs c m
 called [] c m h = no_some m h
-called (a ∷ cs) c m h =
-    elim (has_same_key c a) as (λ b. has_same_key c a ≡ b → (if b then Some (minute cs a) else earlier cs c) ≡ Some m → Called (a ∷ cs) c m) [
-      | true ↦ λ same e. record { after = []; old = a; before = cs; is = refl; minute_is = some_is (minute cs a) m e; same_key = same }
+called (i ∷ cs) c m h =
+    elim (has_same_key c i.call) as (λ b. has_same_key c i.call ≡ b → (if b then Some (minute cs i.call) else earlier cs c) ≡ Some m → Called (i ∷ cs) c m) [
+      | true ↦ λ same e. record { after = []; old = i.call; before = cs; is = refl; minute_is = some_is (minute cs i.call) m e; same_key = same }
       | false ↦ λ _ e. (let below = called cs c m e in
-          record { after = a ∷ below.after; old = below.old; before = below.before; is = ap (λ l. a ∷ l) below.is; minute_is = below.minute_is; same_key = below.same_key })
+          record { after = i ∷ below.after; old = below.old; before = below.before; is = ap (λ l. i ∷ l) below.is; minute_is = below.minute_is; same_key = below.same_key })
     ] refl h
 
 no_reply : {given : Reply} {A : Type 0} → None ≡ Some given → A
@@ -103,7 +103,7 @@ same_call a b h k l = call_same a.caller b.caller a.key b.key a.command b.comman
 -- a call that is answered Ok stands in the history after it
 stands_at : (cs : History) (c : Call) (given : Reply) → IsHistory cs → IsCall c → reply_in (answer cs c) ≡ Some given → Stands (next cs c) c given
 stands_at cs c given h formed ok =
-    elim (is_accepted (answer cs c)) as (λ b. is_accepted (answer cs c) ≡ b → Stands (if b then c ∷ cs else cs) c given) [
+    elim (is_accepted (answer cs c)) as (λ b. is_accepted (answer cs c) ≡ b → Stands (if b then item c ∷ cs else cs) c given) [
       | true ↦ λ e. record {
         later = [];
         before = cs;
@@ -115,9 +115,9 @@ stands_at cs c given h formed ok =
           let keys = and_parts (bytes_eq (caller_name c.caller) (caller_name found.old.caller)) (bytes_eq c.key found.old.key) found.same_key in
           let known = known_by (is_known cs c.caller) (answer_known (earlier cs c) (text_of c.command) (refusal cs c) (reply cs c)) given ok in
           let mine = known_told cs c.caller h.legal known in
-          let all = test_back (λ a. is_told_by_name a.caller) found.after (found.old ∷ found.before) (ap (list_all (λ a. is_told_by_name a.caller)) (sym found.is) ∙ callers_are_told cs h.legal) in
-          let theirs = (and_parts (is_told_by_name found.old.caller) (list_all (λ a. is_told_by_name a.caller) found.before) all).0 in
-          let forms = All-head IsCall found.old found.before (all_back IsCall found.after (found.old ∷ found.before) (subst (All IsCall) found.is h.formed)) in
+          let all = test_back (λ a. is_told_by_name a.call.caller) found.after (item found.old ∷ found.before) (ap (list_all (λ a. is_told_by_name a.call.caller)) (sym found.is) ∙ callers_are_told cs h.legal) in
+          let theirs = (and_parts (is_told_by_name found.old.caller) (list_all (λ a. is_told_by_name a.call.caller) found.before) all).0 in
+          let forms = All-head IsItem (item found.old) found.before (all_back IsItem found.after (item found.old ∷ found.before) (subst (All IsItem) found.is h.formed)) in
           let text : text_of c.command ≡ text_of found.old.command = sym t.has_text ∙ ap (λ m. m.text) found.minute_is in
           let same : found.old ≡ c =
           same_call found.old c (sym (same_caller c.caller found.old.caller mine theirs (same_text (caller_name c.caller) (caller_name found.old.caller) keys.0)))
@@ -125,7 +125,7 @@ stands_at cs c given h formed ok =
           record {
             later = found.after;
             before = found.before;
-            is = found.is ∙ ap (λ a. found.after ++ a ∷ found.before) same;
+            is = found.is ∙ ap (λ a. found.after ++ item a ∷ found.before) same;
             same = ap (reply found.before) (sym same) ∙ sym (ap (λ m. m.reply) found.minute_is) ∙ t.has_reply;
           })
     ] refl
@@ -135,7 +135,7 @@ stands_on : (at cs : History) (c : Call) (given : Reply) → GoesOnFrom at cs �
 stands_on at cs c given on there = record {
   later = on.0 ++ there.later;
   before = there.before;
-  is = on.1 ∙ ap (λ h. on.0 ++ h) there.is ∙ sym (append_assoc on.0 there.later (c ∷ there.before));
+  is = on.1 ∙ ap (λ h. on.0 ++ h) there.is ∙ sym (append_assoc on.0 there.later (item c ∷ there.before));
   same = there.same;
 }
 
@@ -147,7 +147,7 @@ answered_calls_stand lives cs ends formed c given at was =
     let front = all_front IsFormed was.earlier (event ∷ was.later) parts in
     let history : IsHistory was.before = record {
       legal = left_legal [] was.earlier was.before refl was.reached;
-      formed = left_formed [] was.earlier was.before (All-nil IsCall) front was.reached;
+      formed = left_formed [] was.earlier was.before (All-nil IsItem) front was.reached;
     } in
     let there : Stands at c given = subst (λ h. Stands h c given) (sym was.answered.1) (stands_at was.before c given history mine was.answered.0) in
     stands_on at cs c given (left_goes_on at was.later cs was.left) there

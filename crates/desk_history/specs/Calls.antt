@@ -6,13 +6,21 @@ use Rattle.desk_texts.specs.declared.command.Call.{Call}
 use Rattle.desk_texts.specs.declared.kind.ListedKind.{ListedKind}
 use Rattle.desk_texts.specs.declared.kind.ListedKind.TheVariants as kinds
 
+-- What a history has of each accepted call.
+pub record Item : Type 0 where
+  pub call : Call
+
+-- the item of a call
+abbrev pub item : Call → Item
+item c = record { call = c }
+
 -- The calls that were accepted, the newest first.
 abbrev pub History : Type 0
-History = List Call
+History = List Item
 
 -- the later history goes on from the earlier, which is its beginning
 abbrev pub GoesOnFrom : History → History → Type 0
-GoesOnFrom earlier later = (new : List Call) × (later ≡ new ++ earlier)
+GoesOnFrom earlier later = (new : List Item) × (later ≡ new ++ earlier)
 
 -- own: keys are each caller's own, so calls repeat one another only where both the caller and the key are the same
 abbrev pub has_same_key : Call → Call → Bool
@@ -23,6 +31,10 @@ abbrev pub is_same_kind : ListedKind → ListedKind → Bool
 is_same_kind kinds.Digest kinds.Digest = true
 is_same_kind kinds.Certificate kinds.Certificate = true
 is_same_kind _ _ = false
+
+-- items of calls that repeat one another
+abbrev pub is_same_item : Item → Item → Bool
+is_same_item a b = has_same_key a.call b.call
 
 -- the text is one of these
 abbrev pub is_among : List (List ℕ) → List ℕ → Bool

@@ -7,7 +7,7 @@ use Rattle.desk_texts.specs.Raising.{names_no_sbat}
 use Rattle.desk_texts.specs.ReplyTexts.{reply_text_of}
 use Rattle.desk_texts.specs.declared.command.Call.{Call}
 use Rattle.desk_texts.specs.declared.reply.Reply.{Reply}
-use Rattle.desk_history.specs.Calls.{History, are_apart}
+use Rattle.desk_history.specs.Calls.{History, are_apart, item}
 use Rattle.desk_history.specs.Formed.{IsHistory, IsReadable}
 use Rattle.desk_history.specs.Laws.{StandOnce}
 use Rattle.desk_history.specs.Lives.{Ends, Life, WasAnswered, events_of}
@@ -42,7 +42,7 @@ LevelHasNoSbat = (owner : List ℕ) (cs : History) → IsHistory cs → IsTrue (
 
 -- nobody but the console calls by the name `console`
 abbrev pub CallersAreTold : Type 0
-CallersAreTold = (cs : History) → IsTrue (is_legal cs) → IsTrue (list_all (λ c. is_told_by_name c.caller) cs)
+CallersAreTold = (cs : History) → IsTrue (is_legal cs) → IsTrue (list_all (λ i. is_told_by_name i.call.caller) cs)
 
 -- each minute of a desk's history can be read back
 abbrev pub MinutesAreReadable : Type 0
@@ -60,9 +60,9 @@ MinutesDiffer =
 
 -- the call itself stands in the history, and was given this reply when it was accepted
 pub record Stands (cs : History) (c : Call) (given : Reply) : Type 0 where
-  pub later : List Call
+  pub later : History
   pub before : History
-  pub is : cs ≡ later ++ c ∷ before
+  pub is : cs ≡ later ++ item c ∷ before
   pub same : reply before c ≡ given
 
 -- what a series of lives may leave is a desk's history, where each of its calls was in its forms

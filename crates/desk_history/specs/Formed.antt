@@ -4,15 +4,19 @@ use Rattle.desk_texts.specs.Callers.{is_told_by_name}
 use Rattle.desk_texts.specs.Commands.{IsCaller, IsReply}
 use Rattle.desk_texts.specs.Formed.{IsCall}
 use Rattle.desk_texts.specs.Forms.{is_key}
-use Rattle.desk_history.specs.Calls.{History}
+use Rattle.desk_history.specs.Calls.{History, Item}
 use Rattle.desk_history.specs.declared.rows.Minute.{Minute}
 use Rattle.desk_history.specs.Runs.{is_legal}
+
+-- the item's call is in its forms and within its limits
+abbrev pub IsItem : Item → Type 0
+IsItem i = IsCall i.call
 
 -- A desk's history: each call is in its forms and within its limits, and was accepted after those before it. What a desk
 -- shows is such a history.
 pub record IsHistory (cs : History) : Type 0 where
   pub legal : IsTrue (is_legal cs)
-  pub formed : All IsCall cs
+  pub formed : All IsItem cs
 
 -- the minute is told by the caller's name, the key and the reply's text: each of them is in its form, and stands for one
 -- caller, one key and one reply

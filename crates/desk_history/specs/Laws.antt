@@ -6,7 +6,7 @@ use Rattle.desk_texts.specs.declared.facts.Facts.{Facts}
 use Rattle.desk_texts.specs.declared.kind.ListedKind.{ListedKind}
 use Rattle.desk_texts.specs.declared.command.Person.{Person}
 use Rattle.desk_texts.specs.declared.reply.Reply.{Reply}
-use Rattle.desk_history.specs.Calls.{GoesOnFrom, History, are_apart, has_same_key}
+use Rattle.desk_history.specs.Calls.{GoesOnFrom, History, are_apart, is_same_item}
 use Rattle.desk_history.specs.declared.rows.Entry.{Entry}
 use Rattle.desk_history.specs.Listing.{has_entry, is_entry, is_listed, listed}
 use Rattle.desk_history.specs.declared.rows.VoteRow.{VoteRow}
@@ -71,7 +71,7 @@ RowsStandOnce = (owner : List ℕ) (cs : History) → IsTrue (is_legal cs) → S
 
 -- in a legal history each key of a caller stands once
 abbrev pub KeysStandOnce : Type 0
-KeysStandOnce = (cs : History) → IsTrue (is_legal cs) → IsTrue (are_apart has_same_key cs)
+KeysStandOnce = (cs : History) → IsTrue (is_legal cs) → IsTrue (are_apart is_same_item cs)
 
 -- what a series of lives may leave is legal
 abbrev pub EndsAreLegal : Type 0

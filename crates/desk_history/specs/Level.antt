@@ -10,7 +10,7 @@ use Rattle.desk_history.specs.Forces.{into_force}
 -- the components whose generation some call names, each as often as it is named
 abbrev pub generations : History → List Component
 generations [] = []
-generations (c ∷ cs) = (into_force cs c.command).components ++ generations cs
+generations (i ∷ cs) = (into_force cs i.call.command).components ++ generations cs
 
 -- the greater of a number and one that may be missing
 abbrev pub greater_of : ℕ → Option ℕ → ℕ
@@ -51,4 +51,5 @@ raises_some cs command = list_any (raises cs) (into_force cs command).components
 -- the level's stamp: that of the last call that raised a generation. own: before any it is that of shim's first level
 abbrev pub stamp : History → ℕ
 stamp [] = 2021030218
-stamp (c ∷ cs) = if raises_some cs c.command then unwrap_or (into_force cs c.command).stamp (stamp cs) else stamp cs
+stamp (i ∷ cs) =
+    if raises_some cs i.call.command then unwrap_or (into_force cs i.call.command).stamp (stamp cs) else stamp cs

@@ -45,7 +45,7 @@ lists (command.ImportRevocations _) = false
 
 -- the last call about the entry lists it
 abbrev pub is_listed : ListedKind → History → List ℕ → Bool
-is_listed kind cs digest = option_map_or (λ c. lists c.command) (find (λ c. is_about kind digest c.command) cs) false
+is_listed kind cs digest = option_map_or (λ i. lists i.call.command) (find (λ i. is_about kind digest i.call.command) cs) false
 
 -- an entry of this kind and digest is there
 abbrev pub has_entry : ListedKind → List ℕ → List Entry → Bool
@@ -75,4 +75,4 @@ relisted (command.ImportRevocations _) entries = entries
 -- the listed entries, with the bodies that the last calls about them gave
 abbrev pub listed : History → List Entry
 listed [] = []
-listed (c ∷ cs) = relisted c.command (listed cs)
+listed (i ∷ cs) = relisted i.call.command (listed cs)

@@ -22,7 +22,7 @@ added_by (command.ImportRevocations _) = None
 
 -- those who were added, the newest first
 abbrev pub people : History → List Person
-people cs = filter_map (λ c. added_by c.command) cs
+people cs = filter_map (λ i. added_by i.call.command) cs
 
 -- the person has this name
 abbrev pub has_name : List ℕ → Person → Bool

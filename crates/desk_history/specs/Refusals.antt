@@ -16,7 +16,7 @@ use Rattle.desk_texts.specs.declared.command.Raise.{Raise}
 use Rattle.desk_texts.specs.declared.state.State.{State}
 use Rattle.desk_texts.specs.declared.state.State.TheVariants as states
 use Rattle.desk_texts.specs.Callers.{caller_name}
-use Rattle.desk_history.specs.Calls.{History}
+use Rattle.desk_history.specs.Calls.{History, item}
 use Rattle.desk_history.specs.Level.{generations, greatest, is_above, is_sbat, raises_some, stamp}
 use Rattle.desk_history.specs.Listing.{is_listed}
 use Rattle.desk_history.specs.People.{has_name, has_token, people}
@@ -134,4 +134,4 @@ own_refusal cs name (command.ImportRevocations i) =
 abbrev pub refusal : History → Call → Option Refusal
 refusal cs c =
     if not (may_give cs c.caller c.command) then Some refusals.NotYourRole
-    else option_or (own_refusal cs (caller_name c.caller) c.command) (refuse_if (not (is_within (c ∷ cs))) refusals.Full)
+    else option_or (own_refusal cs (caller_name c.caller) c.command) (refuse_if (not (is_within (item c ∷ cs))) refusals.Full)

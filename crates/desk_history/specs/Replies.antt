@@ -8,7 +8,7 @@ use Rattle.desk_texts.specs.declared.kind.ListedKind.TheVariants as kinds
 use Rattle.desk_texts.specs.declared.reply.Reply.{Reply}
 use Rattle.desk_texts.specs.declared.reply.Reply.TheVariants as replies
 use Rattle.desk_history.specs.declared.rows.Minute.{Minute}
-use Rattle.desk_history.specs.Calls.{History, distinct}
+use Rattle.desk_history.specs.Calls.{History, distinct, item}
 use Rattle.desk_history.specs.Forces.{into_force}
 use Rattle.desk_history.specs.Level.{names, raises}
 use Rattle.desk_history.specs.Requests.{requests, state}
@@ -17,7 +17,7 @@ use Rattle.desk_texts.specs.CommandTexts.{text_of}
 
 -- how many different digests of this kind are revoked after the call and weren't before
 abbrev pub gained : ListedKind → History → Call → ℕ
-gained kind cs c = length (distinct (revocations kind (c ∷ cs))) - length (distinct (revocations kind cs))
+gained kind cs c = length (distinct (revocations kind (item c ∷ cs))) - length (distinct (revocations kind cs))
 
 -- how many different names have their generations raised by a command
 abbrev pub raised_count : History → Command → ℕ
@@ -27,7 +27,7 @@ raised_count cs command = length (names (filter (raises cs) (into_force cs comma
 abbrev pub reply_to : History → Call → Command → Reply
 reply_to cs c (command.AddPerson person) = replies.Added person.name
 reply_to cs c (command.Submit submission) = replies.Submitted (length (requests cs) + 1)
-reply_to cs c (command.Review b) = replies.Reviewed (record { request = b.request; state = state (c ∷ cs) b.request })
+reply_to cs c (command.Review b) = replies.Reviewed (record { request = b.request; state = state (item c ∷ cs) b.request })
 reply_to cs c (command.Withdraw number) = replies.Withdrawn number
 reply_to cs c (command.Return h) = replies.Returned h.request
 reply_to cs c (command.ListCertificate certificate) = replies.Listed
@@ -60,4 +60,4 @@ minute cs c = record {
 -- the minutes, the newest first
 abbrev pub minutes : History → List Minute
 minutes [] = []
-minutes (c ∷ cs) = minute cs c ∷ minutes cs
+minutes (i ∷ cs) = minute cs i.call ∷ minutes cs

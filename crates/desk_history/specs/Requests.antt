@@ -51,7 +51,7 @@ pub record Submitted : Type 0 where
 
 -- the Submit calls, the newest first
 abbrev pub submitted : History → List Submitted
-submitted cs = filter_map (λ c. option_map (λ s. record { submitter = caller_name c.caller; submission = s }) (submission_of c.command)) cs
+submitted cs = filter_map (λ i. option_map (λ s. record { submitter = caller_name i.call.caller; submission = s }) (submission_of i.call.command)) cs
 
 -- numbered from 1 in the order of their calls, so the newest has the greatest number
 abbrev pub numbered : List Submitted → List Request
@@ -90,7 +90,7 @@ vote_of reviewer (command.ImportRevocations _) = None
 
 -- the Reviews
 abbrev pub votes : History → List VoteRow
-votes cs = filter_map (λ c. vote_of (caller_name c.caller) c.command) cs
+votes cs = filter_map (λ i. vote_of (caller_name i.call.caller) i.call.command) cs
 
 -- the votes on a request
 abbrev pub votes_on : List VoteRow → ℕ → List VoteRow
@@ -121,7 +121,7 @@ withdraws k (command.ImportRevocations _) = false
 
 -- some call withdraws the request
 abbrev pub is_withdrawn : History → ℕ → Bool
-is_withdrawn cs k = list_any (λ c. withdraws k c.command) cs
+is_withdrawn cs k = list_any (λ i. withdraws k i.call.command) cs
 
 -- what was returned for a request
 pub record Returned : Type 0 where
@@ -146,7 +146,7 @@ return_of signer (command.ImportRevocations _) = None
 
 -- the Returns
 abbrev pub returns : History → List Returned
-returns cs = filter_map (λ c. return_of (caller_name c.caller) c.command) cs
+returns cs = filter_map (λ i. return_of (caller_name i.call.caller) i.call.command) cs
 
 -- some call returns the request's signed file
 abbrev pub is_returned : History → ℕ → Bool

@@ -5,7 +5,7 @@ use Rattle.desk_bytes.specs.declared.refusal.Refusal.TheVariants as refusals
 use Rattle.desk_texts.specs.declared.command.Call.{Call}
 use Rattle.desk_texts.specs.declared.reply.Reply.{Reply}
 use Rattle.desk_texts.specs.Callers.{caller_name}
-use Rattle.desk_history.specs.Calls.{History}
+use Rattle.desk_history.specs.Calls.{History, item}
 use Rattle.desk_history.specs.declared.rows.Minute.{Minute}
 use Rattle.desk_history.specs.Replies.{minutes, reply}
 use Rattle.desk_texts.specs.CommandTexts.{text_of}
@@ -54,7 +54,7 @@ reply_in (Refused refusal) = None
 
 -- the history after a call: a repeated and a refused one leave no trace
 abbrev pub next : History → Call → History
-next cs c = if is_accepted (answer cs c) then c ∷ cs else cs
+next cs c = if is_accepted (answer cs c) then item c ∷ cs else cs
 
 -- the history after calls, the first of them first
 abbrev pub run : History → List Call → History
@@ -69,4 +69,4 @@ answers cs (c ∷ calls) = answer cs c ∷ answers (next cs c) calls
 -- each call was accepted after those before it
 abbrev pub is_legal : History → Bool
 is_legal [] = true
-is_legal (c ∷ cs) = is_accepted (answer cs c) && is_legal cs
+is_legal (i ∷ cs) = is_accepted (answer cs i.call) && is_legal cs

@@ -14,7 +14,7 @@ use Rattle.desk_texts.specs.declared.role.Role.{Role}
 use Rattle.desk_texts.specs.declared.role.Role.TheVariants as roles
 use Rattle.desk_texts.specs.declared.state.State.{State}
 use Rattle.desk_texts.specs.declared.vote.Vote.{Vote}
-use Rattle.desk_history.specs.Calls.{History}
+use Rattle.desk_history.specs.Calls.{History, item}
 use Rattle.desk_history.specs.declared.answer.Answer.{Answer}
 use Rattle.desk_history.specs.declared.answer.Answer.TheVariants.{Accepted, Refused}
 pub mod Imports
@@ -78,12 +78,12 @@ with_people steps =
 -- the history of the calls that added them, the newest first
 abbrev pub people_added : History
 people_added =
-    person (codes "olga") roles.Officer 6
-    ∷ person (codes "sid") roles.Signer 5
-    ∷ person (codes "rosa") roles.Reviewer 4
-    ∷ person (codes "raul") roles.Reviewer 3
-    ∷ person (codes "rita") roles.Reviewer 2
-    ∷ person (codes "ann") roles.Submitter 1
+    item (person (codes "olga") roles.Officer 6)
+    ∷ item (person (codes "sid") roles.Signer 5)
+    ∷ item (person (codes "rosa") roles.Reviewer 4)
+    ∷ item (person (codes "raul") roles.Reviewer 3)
+    ∷ item (person (codes "rita") roles.Reviewer 2)
+    ∷ item (person (codes "ann") roles.Submitter 1)
     ∷ []
 
 -- the facts of an image of 1,024 bytes: the byte of its file's SHA-256, of its digest and of the digest that a

@@ -11,7 +11,7 @@ use Rattle.desk_texts.specs.declared.command.Person.{Person}
 use Rattle.desk_history.specs.declared.rows.Minute.{Minute}
 use Rattle.desk_history.specs.declared.write.Write.TheVariants as writes
 use Rattle.desk_texts.specs.Callers.{caller_name}
-use Rattle.desk_history.specs.Calls.{History}
+use Rattle.desk_history.specs.Calls.{History, item}
 use Rattle.desk_texts.specs.CommandTexts.{text_of}
 use Rattle.desk_history.specs.People.{has_name, people}
 use Rattle.desk_history.specs.Replies.{minute, minutes, reply}
@@ -61,8 +61,8 @@ module _ (v : View) (owner : List ℕ) (cs : History) (caller : Caller) (key : L
   unknown h = inl (by_known false h)
 
   -- the history after the call, by the answer
-  next_by : (a : Answer) → answer cs (called caller key command) ≡ a → tables owner (next cs (called caller key command)) ≡ tables owner (if is_accepted a then called caller key command ∷ cs else cs)
-  next_by a is = ap (λ b. tables owner (if is_accepted b then called caller key command ∷ cs else cs)) is
+  next_by : (a : Answer) → answer cs (called caller key command) ≡ a → tables owner (next cs (called caller key command)) ≡ tables owner (if is_accepted a then item (called caller key command) ∷ cs else cs)
+  next_by a is = ap (λ b. tables owner (if is_accepted b then item (called caller key command) ∷ cs else cs)) is
 
   module _ (is_one : is_one_of v.people.items caller ≡ true) where
     by_key : (o : Option Minute) → find (has_key (caller_name caller) key) v.calls.items ≡ o →
@@ -84,11 +84,11 @@ module _ (v : View) (owner : List ℕ) (cs : History) (caller : Caller) (key : L
     module _ (fresh : find (has_key (caller_name caller) key) v.calls.items ≡ None) where
       by_role : (b : Bool) → is_theirs v.people.items caller command ≡ b →
           answer cs (called caller key command) ≡ answer_new_key (if not b then Some refusals.NotYourRole
-          else option_or (own_refusal cs (caller_name caller) command) (refuse_if (not (is_within (called caller key command ∷ cs))) refusals.Full)) (reply cs (called caller key command))
+          else option_or (own_refusal cs (caller_name caller) command) (refuse_if (not (is_within (item (called caller key command) ∷ cs))) refusals.Full)) (reply cs (called caller key command))
       by_role b h =
           by_key None fresh
           ∙ ap (λ t. answer_new_key (if not t then Some refusals.NotYourRole
-          else option_or (own_refusal cs (caller_name caller) command) (refuse_if (not (is_within (called caller key command ∷ cs))) refusals.Full)) (reply cs (called caller key command))) (sym theirs ∙ h)
+          else option_or (own_refusal cs (caller_name caller) command) (refuse_if (not (is_within (item (called caller key command) ∷ cs))) refusals.Full)) (reply cs (called caller key command))) (sym theirs ∙ h)
 
       -- a command that isn't the caller's
       pub not_theirs : is_theirs v.people.items caller command ≡ false → RefusesCall refusals.NotYourRole cs (called caller key command)
@@ -96,10 +96,10 @@ module _ (v : View) (owner : List ℕ) (cs : History) (caller : Caller) (key : L
 
       module _ (is_theirs : is_theirs v.people.items caller command ≡ true) where
         by_own : (o : Option Refusal) → own_refusal cs (caller_name caller) command ≡ o →
-            answer cs (called caller key command) ≡ answer_new_key (option_or o (refuse_if (not (is_within (called caller key command ∷ cs))) refusals.Full)) (reply cs (called caller key command))
+            answer cs (called caller key command) ≡ answer_new_key (option_or o (refuse_if (not (is_within (item (called caller key command) ∷ cs))) refusals.Full)) (reply cs (called caller key command))
         by_own o own =
             by_role true is_theirs
-            ∙ ap (λ p. answer_new_key (option_or p (refuse_if (not (is_within (called caller key command ∷ cs))) refusals.Full)) (reply cs (called caller key command))) own
+            ∙ ap (λ p. answer_new_key (option_or p (refuse_if (not (is_within (item (called caller key command) ∷ cs))) refusals.Full)) (reply cs (called caller key command))) own
 
         -- a command that its own conditions refuse
         refused : (r : Refusal) → RefusesOwn r cs (called caller key command) → RefusesCall r cs (called caller key command)
@@ -112,7 +112,7 @@ module _ (v : View) (owner : List ℕ) (cs : History) (caller : Caller) (key : L
             subst (λ out. MatchResult out (λ changes. Answers changes owner cs (called caller key command)) (λ r. RefusesCall r cs (called caller key command))) (sym is) (refused r own)
 
         module _ (legal : is_legal cs ≡ true) (own : Changes) (makes : IsCommandStep own owner cs (called caller key command)) where
-          room : has_room v.sizes own.writes.items ≡ is_within (called caller key command ∷ cs)
+          room : has_room v.sizes own.writes.items ≡ is_within (item (called caller key command) ∷ cs)
           room = room_is v.sizes owner cs (called caller key command) own.writes.items shown.count shown.sizes legal makes.made makes.listed
 
           by_room : (b : Bool) → has_room v.sizes own.writes.items ≡ b →
@@ -144,7 +144,7 @@ module _ (v : View) (owner : List ℕ) (cs : History) (caller : Caller) (key : L
                     ap (λ ws. all_written ws (tables owner cs)) told.2
                     ∙ (written-append own.writes.items (writes.Call (row text) ∷ []) (tables owner cs)
                     ∙ (ap (λ t. written (writes.Call (row text)) t) makes.made
-                    ∙ (ap (λ m. record (tables owner (called caller key command ∷ cs)) { calls = m ∷ minutes cs }) (row_is text is)
+                    ∙ (ap (λ m. record (tables owner (item (called caller key command) ∷ cs)) { calls = m ∷ minutes cs }) (row_is text is)
                     ∙ sym (next_by (Accepted (reply cs (called caller key command))) said))));
               }
           joins text is (Err r) (inl full) = inl (by_room false full.0 ∙ ap Refused (sym full.1))

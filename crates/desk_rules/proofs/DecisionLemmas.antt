@@ -19,7 +19,7 @@ use Rattle.desk_history.specs.declared.rows.Entry.{Entry}
 use Rattle.desk_history.specs.declared.write.Write.{Write}
 use Rattle.desk_history.specs.declared.write.Write.TheVariants as writes
 use Rattle.desk_texts.specs.Callers.{caller_name}
-use Rattle.desk_history.specs.Calls.{History, is_among, distinct}
+use Rattle.desk_history.specs.Calls.{History, is_among, distinct, item}
 use Rattle.desk_history.specs.Listing.{has_entry, is_entry, is_listed, listed, without}
 use Rattle.desk_history.specs.People.{has_name, has_token, people}
 use Rattle.desk_history.specs.Replies.{minutes, reply}
@@ -43,7 +43,7 @@ use Rattle.desk_rules.proofs.StandingLemmas.{bars_so, lists_so}
 -- a decision by a refusal, a reply and writes
 pub decided : (owner : List ℕ) (cs : History) (c : Call) (result : Result Changes Refusal) (refusal : Option Refusal) (given : Reply) (ws : List Write) → Decided result refusal given ws →
     refusal ≡ own_refusal cs (caller_name c.caller) c.command → (refusal ≡ None → given ≡ reply cs c) →
-    (refusal ≡ None → all_written ws (tables owner cs) ≡ record (tables owner (c ∷ cs)) { calls = minutes cs }) → IsRoomed ws cs c →
+    (refusal ≡ None → all_written ws (tables owner cs) ≡ record (tables owner (item c ∷ cs)) { calls = minutes cs }) → IsRoomed ws cs c →
     MatchResult result (λ changes. IsCommandStep changes owner cs c) (λ r. RefusesOwn r cs c)
 decided owner cs c (Ok changes) refusal given ws told own replied made roomed = record {
   accepted = sym own ∙ told.0;

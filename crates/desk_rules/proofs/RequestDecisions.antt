@@ -22,7 +22,7 @@ use Rattle.desk_texts.specs.declared.vote.Vote.{Vote}
 use Rattle.desk_texts.specs.declared.vote.Vote.TheVariants as vote
 use Rattle.desk_history.specs.declared.write.Write.TheVariants as writes
 use Rattle.desk_texts.specs.Callers.{caller_name}
-use Rattle.desk_history.specs.Calls.{History}
+use Rattle.desk_history.specs.Calls.{History, item}
 use Rattle.desk_history.specs.Requests.{Request, has_number, is_returned, is_vote_of, is_withdrawn, is_yes, request, requests, returns, state, state_by, state_by_votes, votes, votes_on}
 use Rattle.desk_history.specs.Tables.{request_row, return_row, tables}
 use Rattle.desk_history.specs.Writes.{set_state}
@@ -157,7 +157,7 @@ module _ (v : View) (caller : Caller) (b : Ballot) (owner : List ℕ) (cs : Hist
       ap (λ t. state_with b.vote t (count_by is_yes (votes_on v.votes.items b.request))) some_no
       ∙ ap (λ n. state_with b.vote (list_any (λ (w : VoteRow). not (is_yes w)) (votes_on (votes cs) b.request)) n) counted
 
-  state_new : review_refusal_in v b.request (caller_name caller) ≡ None → state (called caller key (command.Review b) ∷ cs) b.request ≡ state_after v b
+  state_new : review_refusal_in v b.request (caller_name caller) ≡ None → state (item (called caller key (command.Review b)) ∷ cs) b.request ≡ state_after v b
   state_new none =
       let is_open : state cs b.request ≡ states.Open = open_review (request cs b.request) (state cs b.request) (votes_on (votes cs) b.request) (caller_name caller) (sym review_seen ∙ none) in
       let free : (is_returned cs b.request ≡ false) × (is_withdrawn cs b.request ≡ false) = open_parts (is_returned cs b.request) (is_withdrawn cs b.request) (votes_on (votes cs) b.request) is_open in
@@ -177,7 +177,7 @@ module _ (v : View) (caller : Caller) (b : Ballot) (owner : List ℕ) (cs : Hist
       review_seen
       (λ none. ap (λ s. replies.Reviewed (record { request = b.request; state = s })) (sym (state_new none)))
       (λ none. ap (λ rows. record (tables owner cs) { votes = w ∷ votes cs; requests = rows })
-      (set_states b.request (state_after v b) (state cs) (state (c ∷ cs)) (state_new none)
+      (set_states b.request (state_after v b) (state cs) (state (item c ∷ cs)) (state_new none)
       (λ n e. ap (λ t. state_by (is_returned cs n) (is_withdrawn cs n) (cond t (w ∷ votes_on (votes cs) n) (votes_on (votes cs) n))) (other_number b.request n e))
       (requests cs)))
       (inl refl)
@@ -191,7 +191,7 @@ module _ (v : View) (caller : Caller) (k : ℕ) (owner : List ℕ) (cs : History
       (seen_row v owner cs (called caller key (command.Withdraw k)) shown k (shown.request k refl))
       ∙ withdraw_of (request cs k) (state cs k) (caller_name caller)
 
-  withdrawn_new : withdraw_refusal_in v k (caller_name caller) ≡ None → state (called caller key (command.Withdraw k) ∷ cs) k ≡ states.Withdrawn
+  withdrawn_new : withdraw_refusal_in v k (caller_name caller) ≡ None → state (item (called caller key (command.Withdraw k)) ∷ cs) k ≡ states.Withdrawn
   withdrawn_new none =
       let free : is_returned cs k ≡ false = unsigned (request cs k) (is_returned cs k) (is_withdrawn cs k) (votes_on (votes cs) k) (caller_name caller) (sym withdraw_seen ∙ none) in
       ap (λ t. state_by t ((k == k) || is_withdrawn cs k) (votes_on (votes cs) k)) free
@@ -206,7 +206,7 @@ module _ (v : View) (caller : Caller) (k : ℕ) (owner : List ℕ) (cs : History
       withdraw_seen
       (λ none. refl)
       (λ none. ap (λ rows. record (tables owner cs) { requests = rows })
-      (set_states k states.Withdrawn (state cs) (state (c ∷ cs)) (withdrawn_new none)
+      (set_states k states.Withdrawn (state cs) (state (item c ∷ cs)) (withdrawn_new none)
       (λ n e. ap (λ t. state_by (is_returned cs n) (t || is_withdrawn cs n) (votes_on (votes cs) n)) (other_number k n e))
       (requests cs)))
       (inl refl)
@@ -233,7 +233,7 @@ module _ (v : View) (caller : Caller) (h : ReturnedFile) (owner : List ℕ) (cs 
       return_seen
       (λ none. refl)
       (λ none. ap (λ rows. record (tables owner cs) { returns = returned_file_row (caller_name caller) h ∷ map return_row (returns cs); requests = rows })
-      (set_states h.request states.Signed (state cs) (state (c ∷ cs))
+      (set_states h.request states.Signed (state cs) (state (item c ∷ cs))
       (ap (λ t. state_by (t || is_returned cs h.request) (is_withdrawn cs h.request) (votes_on (votes cs) h.request)) (own_number h.request))
       (λ n e. ap (λ t. state_by (t || is_returned cs n) (is_withdrawn cs n) (votes_on (votes cs) n)) (other_number h.request n e))
       (requests cs)))

@@ -22,7 +22,7 @@ use Rattle.desk_texts.specs.declared.state.State.TheVariants as states
 use Rattle.desk_history.specs.declared.write.Write.{Write}
 use Rattle.desk_history.specs.declared.write.Write.TheVariants as writes
 use Rattle.desk_texts.specs.Callers.{caller_name}
-use Rattle.desk_history.specs.Calls.{History}
+use Rattle.desk_history.specs.Calls.{History, item}
 use Rattle.desk_history.specs.Requests.{Request, Submitted, has_number, is_returned, is_withdrawn, numbered, request, requests, state, state_by, submitted, votes, votes_on}
 use Rattle.desk_history.specs.Tables.{Tables, certificate_rows, component_rows, request_row, tables}
 use Rattle.desk_history.specs.Writes.{all_written}
@@ -94,7 +94,7 @@ missing_return None s x barred listed e h = no_refusal h
 missing_return (Some r) s x barred listed e h = cc
 
 untouched_more : (cs : History) (k : ℕ) → length (submitted cs) < k → Untouched cs k → (old : Call) (given : Command) → own_refusal cs (caller_name old.caller) given ≡ None →
-    Untouched (record old { command = given } ∷ cs) k
+    Untouched (item (record old { command = given }) ∷ cs) k
 untouched_more cs k lt h old (command.Review b) own = record {
   unsigned = h.unsigned;
   kept = h.kept;
@@ -123,17 +123,17 @@ untouched_more cs k lt h old (command.Return g) own = record {
 }
 untouched_more cs k lt h old _ own = record { unsigned = h.unsigned; kept = h.kept; unvoted = h.unvoted }
 
-fewer : (cs : History) (k : ℕ) (old : Call) (given : Command) → length (submitted (record old { command = given } ∷ cs)) < k → length (submitted cs) < k
+fewer : (cs : History) (k : ℕ) (old : Call) (given : Command) → length (submitted (item (record old { command = given }) ∷ cs)) < k → length (submitted cs) < k
 fewer cs k old (command.Submit s) h = omega arith
 fewer cs k old _ h = h
 
 untouched : (cs : History) (k : ℕ) → is_legal cs ≡ true → length (submitted cs) < k → Untouched cs k
 untouched [] k legal lt = record { unsigned = refl; kept = refl; unvoted = refl }
-untouched (c ∷ cs) k legal lt =
-    let both : (is_accepted (answer cs c) ≡ true) × (is_legal cs ≡ true) = and_parts (is_accepted (answer cs c)) (is_legal cs) legal in
-    let new : IsNew cs c = accepted_parts cs c both.0 in
-    let less : length (submitted cs) < k = fewer cs k c c.command lt in
-    untouched_more cs k less (untouched cs k both.1 less) c c.command new.own
+untouched (i ∷ cs) k legal lt =
+    let both : (is_accepted (answer cs i.call) ≡ true) × (is_legal cs ≡ true) = and_parts (is_accepted (answer cs i.call)) (is_legal cs) legal in
+    let new : IsNew cs i.call = accepted_parts cs i.call both.0 in
+    let less : length (submitted cs) < k = fewer cs k i.call i.call.command lt in
+    untouched_more cs k less (untouched cs k both.1 less) i.call i.call.command new.own
 
 -- a request that isn't there yet will be open
 fresh_state : (cs : History) (k : ℕ) → is_legal cs ≡ true → length (submitted cs) < k → state cs k ≡ states.Open
@@ -143,7 +143,7 @@ fresh_state cs k legal lt =
     ∙ (ap (λ t. state_by false t (votes_on (votes cs) k)) h.kept ∙ ap (λ vs. state_by false false vs) h.unvoted)
 
 module _ (v : View) (caller : Caller) (s : Submission) (owner : List ℕ) (cs : History) (key : List ℕ) (legal : is_legal cs ≡ true) (shown : Shows v (tables owner cs) (called caller key (command.Submit s))) where
-  made_at : all_written (submission_writes (length (submitted cs) + 1) caller s) (tables owner cs) ≡ record (tables owner (called caller key (command.Submit s) ∷ cs)) { calls = (tables owner cs).calls }
+  made_at : all_written (submission_writes (length (submitted cs) + 1) caller s) (tables owner cs) ≡ record (tables owner (item (called caller key (command.Submit s)) ∷ cs)) { calls = (tables owner cs).calls }
   made_at =
       let r : Request = request_of (length (submitted cs) + 1) caller s in
       let t : Tables = record (tables owner cs) { requests = request_row states.Open r ∷ (tables owner cs).requests } in

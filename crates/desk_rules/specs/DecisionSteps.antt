@@ -25,7 +25,7 @@ use Rattle.desk_texts.specs.declared.vote.Vote.TheVariants as votes
 use Rattle.desk_history.specs.declared.write.Write.{Write}
 use Rattle.desk_history.specs.declared.write.Write.TheVariants as writes
 use Rattle.desk_texts.specs.Callers.{caller_name}
-use Rattle.desk_history.specs.Calls.{History}
+use Rattle.desk_history.specs.Calls.{History, item}
 use Rattle.desk_history.specs.Replies.{minutes, reply}
 use Rattle.desk_history.specs.Requests.{is_vote_of, is_yes, votes_on}
 use Rattle.desk_history.specs.Tables.{certificate_rows, component_rows, request_row, return_row, tables}
@@ -47,7 +47,7 @@ use Rattle.desk_rules.specs.Views.{seen_standing}
 pub record IsCommandStep (changes : Changes) (owner : List ℕ) (cs : History) (c : Call) : Type 0 where
   pub accepted : own_refusal cs (caller_name c.caller) c.command ≡ None
   pub replied : changes.reply ≡ reply cs c
-  pub made : all_written changes.writes.items (tables owner cs) ≡ record (tables owner (c ∷ cs)) { calls = minutes cs }
+  pub made : all_written changes.writes.items (tables owner cs) ≡ record (tables owner (item c ∷ cs)) { calls = minutes cs }
   pub listed : IsRoomed changes.writes.items cs c
 
 -- the command's own conditions refuse it so, or memory ran out

@@ -6,7 +6,7 @@ use Rattle.desk_history.specs.declared.write.Write.{Write}
 use Rattle.desk_history.specs.declared.write.Write.TheVariants as writes
 use Rattle.desk_texts.specs.declared.kind.ListedKind.{ListedKind}
 use Rattle.desk_texts.specs.declared.kind.ListedKind.TheVariants as kinds
-use Rattle.desk_history.specs.Calls.{History, is_same_kind}
+use Rattle.desk_history.specs.Calls.{History, is_same_kind, item}
 use Rattle.desk_history.specs.Listing.{listed}
 use Rattle.desk_history.specs.Limits.{most_calls, most_level_components, most_listed, most_people, most_requests, most_revoked_certificates, most_revoked_digests}
 use Rattle.desk_rules.specs.declared.view.Counted.{Counted}
@@ -50,4 +50,4 @@ has_room s ws =
 
 -- the writes take no entry off, or they list none and no more is listed after the call
 abbrev pub IsRoomed : List Write → History → Call → Type 0
-IsRoomed ws cs c = (list_any takes_off ws ≡ false) ⊎ ((count_by (puts counted.Listed) ws ≡ 0) × (length (listed (c ∷ cs)) ≤ length (listed cs)))
+IsRoomed ws cs c = (list_any takes_off ws ≡ false) ⊎ ((count_by (puts counted.Listed) ws ≡ 0) × (length (listed (item c ∷ cs)) ≤ length (listed cs)))

@@ -10,7 +10,7 @@ use Rattle.desk_texts.specs.declared.command.Command.TheVariants as command
 use Rattle.desk_texts.specs.Callers.{caller_name}
 use Rattle.desk_texts.specs.declared.kind.ListedKind.TheVariants as kinds
 use Rattle.desk_history.specs.declared.write.Write.{Write}
-use Rattle.desk_history.specs.Calls.{History, distinct}
+use Rattle.desk_history.specs.Calls.{History, distinct, item}
 use Rattle.desk_history.specs.Level.{generations, names}
 use Rattle.desk_history.specs.Limits.{most_calls, most_level_components, most_listed, most_people, most_requests, most_revoked_certificates, most_revoked_digests}
 use Rattle.desk_history.specs.Listing.{listed}
@@ -88,65 +88,65 @@ last a b d e f g h all = (and_parts (a && b && d && e && f && g) h all).1
 below : (n most : ℕ) → nat_le n most ≡ true → most ≤ 1000000 → n < 18446744073709551616
 below n most h few = grind (arith, nat_tests, h, few)
 
-module _ (owner : List ℕ) (cs : History) (c : Call) (ws : List Write) (k : KeptSizes) (legal : is_legal (c ∷ cs) ≡ true)
-    (made : all_written ws (tables owner cs) ≡ tables owner (c ∷ cs)) (right : AreRight k (tables owner cs)) where
+module _ (owner : List ℕ) (cs : History) (c : Call) (ws : List Write) (k : KeptSizes) (legal : is_legal (item c ∷ cs) ≡ true)
+    (made : all_written ws (tables owner cs) ≡ tables owner (item c ∷ cs)) (right : AreRight k (tables owner cs)) where
   both : (is_accepted (answer cs c) ≡ true) × (is_legal cs ≡ true)
   both = and_parts (is_accepted (answer cs c)) (is_legal cs) legal
 
   new : IsNew cs c
   new = accepted_parts cs c both.0
 
-  within : Within (c ∷ cs)
-  within = legal_parts (c ∷ cs) legal
+  within : Within (item c ∷ cs)
+  within = legal_parts (item c ∷ cs) legal
 
-  counts : (f : Tables → ℕ) (p : Write → Bool) → ((w : Write) (t : Tables) → f (written w t) ≡ one_if (p w) + f t) → count_by p ws + f (tables owner cs) ≡ f (tables owner (c ∷ cs))
+  counts : (f : Tables → ℕ) (p : Write → Bool) → ((w : Write) (t : Tables) → f (written w t) ≡ one_if (p w) + f t) → count_by p ws + f (tables owner cs) ≡ f (tables owner (item c ∷ cs))
   counts f p step = sym (grows f p step ws (tables owner cs)) ∙ ap f made
 
-  goes : (table : Counted) → Goes (known k table) (known (sizes_after k c.command ws) table) (rows_in (tables owner (c ∷ cs)) table)
+  goes : (table : Counted) → Goes (known k table) (known (sizes_after k c.command ws) table) (rows_in (tables owner (item c ∷ cs)) table)
   goes counted.People =
-      more_goes k.people (count_by (puts counted.People) ws) (length (people cs)) (length (people (c ∷ cs))) (right.sizes counted.People)
-      (counts (λ t. length t.people) (puts counted.People) people_step) (below (length (people (c ∷ cs))) most_people within.people (omega arith))
+      more_goes k.people (count_by (puts counted.People) ws) (length (people cs)) (length (people (item c ∷ cs))) (right.sizes counted.People)
+      (counts (λ t. length t.people) (puts counted.People) people_step) (below (length (people (item c ∷ cs))) most_people within.people (omega arith))
   goes counted.Requests = requests_go
     where
-      small : rows_in (tables owner (c ∷ cs)) counted.Requests < 18446744073709551616
-      small = rw (length-map (requests (c ∷ cs)) (λ r. request_row (state (c ∷ cs) r.number) r)) (below (length (requests (c ∷ cs))) most_requests within.requests (omega arith))
+      small : rows_in (tables owner (item c ∷ cs)) counted.Requests < 18446744073709551616
+      small = rw (length-map (requests (item c ∷ cs)) (λ r. request_row (state (item c ∷ cs) r.number) r)) (below (length (requests (item c ∷ cs))) most_requests within.requests (omega arith))
 
-      requests_go : Goes k.requests (more k.requests (count_by (puts counted.Requests) ws)) (rows_in (tables owner (c ∷ cs)) counted.Requests)
+      requests_go : Goes k.requests (more k.requests (count_by (puts counted.Requests) ws)) (rows_in (tables owner (item c ∷ cs)) counted.Requests)
       requests_go =
-          more_goes k.requests (count_by (puts counted.Requests) ws) (rows_in (tables owner cs) counted.Requests) (rows_in (tables owner (c ∷ cs)) counted.Requests)
+          more_goes k.requests (count_by (puts counted.Requests) ws) (rows_in (tables owner cs) counted.Requests) (rows_in (tables owner (item c ∷ cs)) counted.Requests)
           (right.sizes counted.Requests) (counts (λ t. length t.requests) (puts counted.Requests) requests_step) small
   goes counted.Listed =
-      listed_goes k.listed c.command (length (listed cs)) (length (listed (c ∷ cs))) (right.sizes counted.Listed)
-      (listed_changes owner cs both.1 (caller_name c.caller) c.command new.own) (below (length (listed (c ∷ cs))) most_listed within.listed (omega arith))
+      listed_goes k.listed c.command (length (listed cs)) (length (listed (item c ∷ cs))) (right.sizes counted.Listed)
+      (listed_changes owner cs both.1 (caller_name c.caller) c.command new.own) (below (length (listed (item c ∷ cs))) most_listed within.listed (omega arith))
   goes counted.RevokedDigests =
-      more_goes k.revoked_digests (count_by (puts counted.RevokedDigests) ws) (length (distinct (revocations kinds.Digest cs))) (length (distinct (revocations kinds.Digest (c ∷ cs))))
+      more_goes k.revoked_digests (count_by (puts counted.RevokedDigests) ws) (length (distinct (revocations kinds.Digest cs))) (length (distinct (revocations kinds.Digest (item c ∷ cs))))
       (right.sizes counted.RevokedDigests) (counts (λ t. length t.revoked_digests) (puts counted.RevokedDigests) digests_step)
-      (below (length (distinct (revocations kinds.Digest (c ∷ cs)))) most_revoked_digests within.digests (omega arith))
+      (below (length (distinct (revocations kinds.Digest (item c ∷ cs)))) most_revoked_digests within.digests (omega arith))
   goes counted.RevokedCertificates =
-      more_goes k.revoked_certificates (count_by (puts counted.RevokedCertificates) ws) (length (distinct (revocations kinds.Certificate cs))) (length (distinct (revocations kinds.Certificate (c ∷ cs))))
+      more_goes k.revoked_certificates (count_by (puts counted.RevokedCertificates) ws) (length (distinct (revocations kinds.Certificate cs))) (length (distinct (revocations kinds.Certificate (item c ∷ cs))))
       (right.sizes counted.RevokedCertificates) (counts (λ t. length t.revoked_certificates) (puts counted.RevokedCertificates) certificates_step)
-      (below (length (distinct (revocations kinds.Certificate (c ∷ cs)))) most_revoked_certificates within.certificates (omega arith))
+      (below (length (distinct (revocations kinds.Certificate (item c ∷ cs)))) most_revoked_certificates within.certificates (omega arith))
   goes counted.Components = components_go
     where
-      small : rows_in (tables owner (c ∷ cs)) counted.Components < 18446744073709551616
-      small = rw (length-map (names (generations (c ∷ cs))) (level_row (generations (c ∷ cs)))) (below (length (names (generations (c ∷ cs)))) most_level_components within.components (omega arith))
+      small : rows_in (tables owner (item c ∷ cs)) counted.Components < 18446744073709551616
+      small = rw (length-map (names (generations (item c ∷ cs))) (level_row (generations (item c ∷ cs)))) (below (length (names (generations (item c ∷ cs)))) most_level_components within.components (omega arith))
 
-      components_go : Goes k.components (more k.components (count_by (puts counted.Components) ws)) (rows_in (tables owner (c ∷ cs)) counted.Components)
+      components_go : Goes k.components (more k.components (count_by (puts counted.Components) ws)) (rows_in (tables owner (item c ∷ cs)) counted.Components)
       components_go =
-          more_goes k.components (count_by (puts counted.Components) ws) (rows_in (tables owner cs) counted.Components) (rows_in (tables owner (c ∷ cs)) counted.Components)
+          more_goes k.components (count_by (puts counted.Components) ws) (rows_in (tables owner cs) counted.Components) (rows_in (tables owner (item c ∷ cs)) counted.Components)
           (right.sizes counted.Components) (counts (λ t. length t.components) (puts counted.Components) components_step) small
 
-  calls_go : Goes k.calls (more k.calls 1) (length (minutes (c ∷ cs)))
+  calls_go : Goes k.calls (more k.calls 1) (length (minutes (item c ∷ cs)))
   calls_go =
-      more_goes k.calls 1 (length (minutes cs)) (length (minutes (c ∷ cs))) right.calls (omega arith)
-      (rw (minutes_length (c ∷ cs)) (below (length (c ∷ cs)) most_calls few (omega arith)))
+      more_goes k.calls 1 (length (minutes cs)) (length (minutes (item c ∷ cs))) right.calls (omega arith)
+      (rw (minutes_length (item c ∷ cs)) (below (length (item c ∷ cs)) most_calls few (omega arith)))
     where
-      few : nat_le (length (c ∷ cs)) most_calls ≡ true
-      few = last (nat_le (length (people (c ∷ cs))) most_people) (nat_le (length (requests (c ∷ cs))) most_requests) (nat_le (length (listed (c ∷ cs))) most_listed)
-          (nat_le (length (distinct (revocations kinds.Digest (c ∷ cs)))) most_revoked_digests) (nat_le (length (distinct (revocations kinds.Certificate (c ∷ cs)))) most_revoked_certificates)
-          (nat_le (length (names (generations (c ∷ cs)))) most_level_components) (nat_le (length (c ∷ cs)) most_calls) new.within
+      few : nat_le (length (item c ∷ cs)) most_calls ≡ true
+      few = last (nat_le (length (people (item c ∷ cs))) most_people) (nat_le (length (requests (item c ∷ cs))) most_requests) (nat_le (length (listed (item c ∷ cs))) most_listed)
+          (nat_le (length (distinct (revocations kinds.Digest (item c ∷ cs)))) most_revoked_digests) (nat_le (length (distinct (revocations kinds.Certificate (item c ∷ cs)))) most_revoked_certificates)
+          (nat_le (length (names (generations (item c ∷ cs)))) most_level_components) (nat_le (length (item c ∷ cs)) most_calls) new.within
 
-  pub follows_one : AreRight (sizes_after k c.command ws) (tables owner (c ∷ cs)) × KnowsNoLess k (sizes_after k c.command ws)
+  pub follows_one : AreRight (sizes_after k c.command ws) (tables owner (item c ∷ cs)) × KnowsNoLess k (sizes_after k c.command ws)
   follows_one = (
     record { calls = calls_go.right; sizes = λ table. (goes table).right },
     record { calls = calls_go.kept; sizes = λ table. (goes table).kept },
@@ -154,4 +154,4 @@ module _ (owner : List ℕ) (cs : History) (c : Call) (ws : List Write) (k : Kep
 
 pub follows : (k : KeptSizes) (given : Command) (ws : List Write) → Follows k given ws (sizes_after k given ws)
 follows k given ws owner cs c legal same made right =
-    subst (λ g. AreRight (sizes_after k g ws) (tables owner (c ∷ cs)) × KnowsNoLess k (sizes_after k g ws)) same (follows_one owner cs c ws k legal made right)
+    subst (λ g. AreRight (sizes_after k g ws) (tables owner (item c ∷ cs)) × KnowsNoLess k (sizes_after k g ws)) same (follows_one owner cs c ws k legal made right)

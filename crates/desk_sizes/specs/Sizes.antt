@@ -3,7 +3,7 @@ use Rattle.std.specs.Prelude.{◌≡◌, ℕ, not, List, ◌∷◌, length, Opti
 use Rattle.desk_texts.specs.declared.command.Call.{Call}
 use Rattle.desk_texts.specs.declared.command.Command.{Command}
 use Rattle.desk_history.specs.declared.write.Write.{Write}
-use Rattle.desk_history.specs.Calls.{History}
+use Rattle.desk_history.specs.Calls.{History, item}
 use Rattle.desk_history.specs.Runs.{is_legal}
 use Rattle.desk_history.specs.Tables.{Tables, tables}
 use Rattle.desk_history.specs.Writes.{all_written}
@@ -50,9 +50,9 @@ pub record KnowsNoLess (before after : KeptSizes) : Type 0 where
 -- make these tables: they are right there, and none is lost.
 abbrev pub Follows : KeptSizes → Command → List Write → KeptSizes → Type 0
 Follows before command ws after =
-    (owner : List ℕ) (cs : History) (c : Call) → IsTrue (is_legal (c ∷ cs)) → c.command ≡ command
-    → all_written ws (tables owner cs) ≡ tables owner (c ∷ cs)
-    → AreRight before (tables owner cs) → AreRight after (tables owner (c ∷ cs)) × KnowsNoLess before after
+    (owner : List ℕ) (cs : History) (c : Call) → IsTrue (is_legal (item c ∷ cs)) → c.command ≡ command
+    → all_written ws (tables owner cs) ≡ tables owner (item c ∷ cs)
+    → AreRight before (tables owner cs) → AreRight after (tables owner (item c ∷ cs)) × KnowsNoLess before after
 
 -- the sizes that a command needs are known
 pub record AreEnough (k : KeptSizes) (command : Command) : Type 0 where

@@ -1,7 +1,7 @@
 -- Revocations are imported.
 use Rattle.std.specs.Prelude.{◌≡◌, List, [], ◌∷◌, codes, Some, None}
 use Rattle.desk_bytes.specs.declared.refusal.Refusal.TheVariants as refusals
-use Rattle.desk_history.specs.Calls.{History}
+use Rattle.desk_history.specs.Calls.{History, item}
 use Rattle.desk_history.specs.Level.{level, stamp}
 use Rattle.desk_history.specs.Runs.{answers, run}
 use Rattle.desk_history.specs.Tables.{tables}
@@ -37,11 +37,11 @@ tabled_steps = with_people (
 
 -- the calls that were accepted of the first
 abbrev pub listed_history : History
-listed_history = by (codes "olga") (codes "olga-2") lists ∷ by (codes "olga") (codes "olga-1") lists ∷ people_added
+listed_history = item (by (codes "olga") (codes "olga-2") lists) ∷ item (by (codes "olga") (codes "olga-1") lists) ∷ people_added
 
 -- and of the second
 abbrev pub tabled_history : History
-tabled_history = by (codes "olga") (codes "olga-3") unstamped ∷ by (codes "olga") (codes "olga-2") table ∷ people_added
+tabled_history = item (by (codes "olga") (codes "olga-3") unstamped) ∷ item (by (codes "olga") (codes "olga-2") table) ∷ people_added
 
 -- each call is answered so
 abbrev pub AnswersImports : Type 0

@@ -5,7 +5,7 @@ use Rattle.desk_texts.specs.declared.command.Command.TheVariants as command
 use Rattle.desk_texts.specs.declared.caller.Caller.TheVariants as callers
 use Rattle.desk_texts.specs.declared.reply.Reply.TheVariants as replies
 use Rattle.desk_texts.specs.declared.role.Role.TheVariants as roles
-use Rattle.desk_history.specs.Calls.{History}
+use Rattle.desk_history.specs.Calls.{History, item}
 use Rattle.desk_history.specs.Requests.{requests}
 use Rattle.desk_history.specs.Runs.{answers, run}
 use Rattle.desk_history.specs.declared.answer.Answer.TheVariants.{Repeated}
@@ -30,9 +30,9 @@ steps = with_people (
 -- the calls that were accepted, the newest first
 abbrev pub history : History
 history =
-    by (codes "ann") (codes "k2") (command.Withdraw 1)
-    ∷ by (codes "rita") (codes "k1") (submit a)
-    ∷ by (codes "ann") (codes "k1") (submit a)
+    item (by (codes "ann") (codes "k2") (command.Withdraw 1))
+    ∷ item (by (codes "rita") (codes "k1") (submit a))
+    ∷ item (by (codes "ann") (codes "k1") (submit a))
     ∷ people_added
 
 -- each call is answered so

@@ -4,7 +4,7 @@ use Rattle.desk_bytes.specs.declared.refusal.Refusal.TheVariants as refusals
 use Rattle.desk_texts.specs.declared.command.Command.TheVariants as command
 use Rattle.desk_texts.specs.declared.facts.Facts.{Facts}
 use Rattle.desk_texts.specs.declared.reply.Reply.TheVariants as replies
-use Rattle.desk_history.specs.Calls.{History}
+use Rattle.desk_history.specs.Calls.{History, item}
 use Rattle.desk_history.specs.Level.{level, stamp}
 use Rattle.desk_history.specs.Runs.{answers, run}
 use Rattle.desk_history.specs.Tables.{tables}
@@ -30,8 +30,8 @@ steps = with_people (
 -- the calls that were accepted, the newest first
 abbrev pub history : History
 history =
-    by (codes "olga") (codes "olga-5") (command.ListDigest (digest 22))
-    ∷ by (codes "olga") (codes "olga-1") (raise (codes "grub") 3 2024010100)
+    item (by (codes "olga") (codes "olga-5") (command.ListDigest (digest 22)))
+    ∷ item (by (codes "olga") (codes "olga-1") (raise (codes "grub") 3 2024010100))
     ∷ people_added
 
 -- each call is answered so

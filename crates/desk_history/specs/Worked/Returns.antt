@@ -8,7 +8,7 @@ use Rattle.desk_texts.specs.declared.kind.ListedKind.TheVariants as kinds
 use Rattle.desk_texts.specs.declared.reply.Reply.TheVariants as replies
 use Rattle.desk_texts.specs.declared.state.State.TheVariants as states
 use Rattle.desk_texts.specs.declared.vote.Vote.TheVariants.{Yes}
-use Rattle.desk_history.specs.Calls.{History}
+use Rattle.desk_history.specs.Calls.{History, item}
 use Rattle.desk_history.specs.Requests.{state}
 use Rattle.desk_history.specs.Runs.{answers, run}
 use Rattle.desk_history.specs.Tables.{Tables, tables}
@@ -64,17 +64,17 @@ revoked =
 -- the history after the return
 abbrev pub after_return : History
 after_return =
-    by (codes "sid") (codes "sid-3") (give_back 1 signed)
-    ∷ by (codes "olga") (codes "olga-1") list_c
+    item (by (codes "sid") (codes "sid-3") (give_back 1 signed))
+    ∷ item (by (codes "olga") (codes "olga-1") list_c)
     ∷ reviews.history
 
 -- after the revocation
 abbrev pub after_revocation : History
-after_revocation = by (codes "olga") (codes "olga-3") (command.RevokeCertificate c) ∷ after_return
+after_revocation = item (by (codes "olga") (codes "olga-3") (command.RevokeCertificate c)) ∷ after_return
 
 -- after C was taken off
 abbrev pub after_unlisting : History
-after_unlisting = by (codes "olga") (codes "olga-5") unlist_c ∷ after_revocation
+after_unlisting = item (by (codes "olga") (codes "olga-5") unlist_c) ∷ after_revocation
 
 -- each call is answered so
 abbrev pub AnswersReturns : Type 0

@@ -5,7 +5,7 @@ use Rattle.desk_texts.specs.declared.facts.Facts.{Facts}
 use Rattle.desk_texts.specs.declared.reply.Reply.TheVariants as replies
 use Rattle.desk_texts.specs.declared.state.State.TheVariants as states
 use Rattle.desk_texts.specs.declared.vote.Vote.TheVariants.{No, Yes}
-use Rattle.desk_history.specs.Calls.{History}
+use Rattle.desk_history.specs.Calls.{History, item}
 use Rattle.desk_history.specs.Runs.{answers, run}
 use Rattle.desk_history.specs.Tables.{Tables, tables}
 use Rattle.desk_history.specs.Worked.{Step, accepted, answers_of, by, calls_of, image, people_added, refused, reviewed, submit, vote, with_people}
@@ -33,11 +33,11 @@ steps = with_people (
 -- the calls that were accepted, the newest first
 abbrev pub history : History
 history =
-    by (codes "rosa") (codes "rosa-2") (vote 2 No)
-    ∷ by (codes "rita") (codes "rita-3") (submit a)
-    ∷ by (codes "raul") (codes "raul-1") (vote 1 Yes)
-    ∷ by (codes "rita") (codes "rita-1") (vote 1 Yes)
-    ∷ by (codes "ann") (codes "ann-1") (submit a)
+    item (by (codes "rosa") (codes "rosa-2") (vote 2 No))
+    ∷ item (by (codes "rita") (codes "rita-3") (submit a))
+    ∷ item (by (codes "raul") (codes "raul-1") (vote 1 Yes))
+    ∷ item (by (codes "rita") (codes "rita-1") (vote 1 Yes))
+    ∷ item (by (codes "ann") (codes "ann-1") (submit a))
     ∷ people_added
 
 -- the tables after the day
