@@ -1,7 +1,6 @@
 -- Minutes of calls in their forms.
-use Rattle.std.proofs.Common.{◌≡◌, ℕ, ◌+◌, ◌<◌, ◌≤◌, ◌-◌, ◌^◌, leb, Bool, true, false, not, ◌&&◌, cond, All, List, [], ◌∷◌, length, map, filter, refl, sym, ◌∙◌, ap, arith}
+use Rattle.std.proofs.Common.{◌≡◌, ℕ, ◌+◌, ◌<◌, ◌≤◌, ◌^◌, leb, Bool, true, false, cond, List, [], ◌∷◌, length, map, filter, arith}
 use Rattle.std.specs.Prelude.{if◌then◌else◌, nat_le, reverse}
-use Rattle.std.specs.List.{Contains}
 use Rattle.std.proofs.lemmas.Bool.{and_parts}
 use Rattle.std.proofs.lemmas.Bool.Decides.{nat_tests}
 use Rattle.std.proofs.lemmas.List.{length-map, length-reverse}
@@ -13,7 +12,7 @@ use Rattle.desk_texts.specs.declared.command.Command.TheVariants as command
 use Rattle.desk_texts.specs.declared.kind.ListedKind.{ListedKind}
 use Rattle.desk_texts.specs.declared.kind.ListedKind.TheVariants as kinds
 use Rattle.desk_texts.specs.Commands.{IsCommand, IsCount, IsReply}
-use Rattle.desk_texts.specs.Formed.{IsCall, IsWithin}
+use Rattle.desk_texts.specs.Formed.{IsWithin}
 use Rattle.desk_texts.specs.Forms.{is_request_number}
 use Rattle.desk_texts.proofs.FormLemmas.{joined}
 use Rattle.desk_texts.proofs.ReplyLemmas.{reply_text_of-same}
@@ -21,10 +20,9 @@ use Rattle.desk_history.specs.Calls.{History, distinct, is_among, item}
 use Rattle.desk_history.specs.Formed.{IsHistory, IsItem, IsReadable}
 use Rattle.desk_history.specs.FormLaws.{MinutesAreReadable, MinutesDiffer}
 use Rattle.desk_history.specs.Level.{names, raises}
-use Rattle.desk_history.specs.Replies.{gained, minute, minutes, raised_count, reply, reply_to}
+use Rattle.desk_history.specs.Replies.{gained, minute, minutes, raised_count, reply_to}
 use Rattle.desk_history.specs.Revocations.{revocations}
 use Rattle.desk_history.specs.Runs.{answer, is_accepted, is_legal}
-use Rattle.desk_history.specs.declared.rows.Minute.{Minute}
 use Rattle.desk_history.proofs.CallerLemmas.{newest_told, same_caller}
 use Rattle.desk_history.proofs.RunLemmas.{Within, legal_parts, legal_room}
 

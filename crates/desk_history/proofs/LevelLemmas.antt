@@ -1,5 +1,5 @@
 -- The level's table has no row of `sbat`.
-use Rattle.std.proofs.Common.{◌≡◌, ℕ, Bool, true, false, not, ◌&&◌, ◌||◌, All, List, [], ◌∷◌, ◌++◌, map, Option, Some, None, refl, sym, ◌∙◌, ap}
+use Rattle.std.proofs.Common.{◌≡◌, ℕ, Bool, true, false, not, ◌&&◌, ◌||◌, List, [], ◌∷◌, map, Option, Some, None, refl, ◌∙◌, ap}
 use Rattle.std.specs.Prelude.{if◌then◌else◌, bytes_eq, nat_lt, reverse}
 use Rattle.std.specs.List.{list_all}
 use Rattle.std.proofs.lemmas.Bool.{and_parts}
@@ -10,10 +10,9 @@ use Rattle.sbat.specs.Fields.{sbat}
 use Rattle.sbat.specs.declared.component.Component.{Component}
 use Rattle.desk_bytes.specs.declared.refusal.Refusal.{Refusal}
 use Rattle.desk_bytes.specs.declared.refusal.Refusal.TheVariants as refusals
-use Rattle.desk_texts.specs.declared.command.Call.{Call}
 use Rattle.desk_texts.specs.declared.command.Command.{Command}
 use Rattle.desk_texts.specs.declared.command.Command.TheVariants as command
-use Rattle.desk_texts.specs.Formed.{IsCall, IsWithin}
+use Rattle.desk_texts.specs.Formed.{IsWithin}
 use Rattle.desk_texts.specs.Raising.{names_no_sbat}
 use Rattle.desk_texts.specs.Callers.{caller_name}
 use Rattle.desk_texts.proofs.FormLemmas.{both, joined}
@@ -24,9 +23,8 @@ use Rattle.desk_history.specs.Forces.{into_force}
 use Rattle.desk_history.specs.Level.{generations, greatest, is_above, is_sbat, names, stamp}
 use Rattle.desk_history.specs.Refusals.{own_refusal, refuse_if}
 use Rattle.desk_history.specs.Runs.{answer, is_accepted, is_legal}
-use Rattle.desk_history.specs.Tables.{level_row, level_rows}
+use Rattle.desk_history.specs.Tables.{level_row}
 use Rattle.desk_history.proofs.FormedLemmas.{history_rest}
-use Rattle.desk_history.proofs.ListLemmas.{none_left}
 use Rattle.desk_history.proofs.RefusalLemmas.{no_refusal}
 use Rattle.desk_history.proofs.RunLemmas.{IsNew, accepted_parts}
 

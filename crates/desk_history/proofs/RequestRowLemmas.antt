@@ -1,5 +1,5 @@
 -- The rows of requests' certificates and components.
-use Rattle.std.proofs.Common.{◌≡◌, ℕ, ◌+◌, ◌<◌, eqb, Bool, true, false, not, ◌&&◌, ◌||◌, All, List, [], ◌∷◌, ◌++◌, length, map, refl, sym, ◌∙◌, ap, arith}
+use Rattle.std.proofs.Common.{◌≡◌, ℕ, ◌+◌, ◌<◌, Bool, true, false, not, ◌&&◌, All, List, [], ◌∷◌, ◌++◌, length, map, refl, sym, ◌∙◌, ap, arith}
 use Rattle.std.specs.Prelude.{◌==◌, bytes_eq, flat_map}
 use Rattle.std.specs.List.{AllByRecursion, list_any}
 use Rattle.std.specs.List.Sorted.{IsStrictlySortedBy}
@@ -16,15 +16,15 @@ use Rattle.desk_bytes.specs.Digests.{IsAscending}
 use Rattle.desk_texts.specs.declared.command.Call.{Call}
 use Rattle.desk_texts.specs.declared.command.Command.{Command}
 use Rattle.desk_texts.specs.declared.command.Command.TheVariants as command
-use Rattle.desk_texts.specs.Formed.{IsCall, IsWithin}
+use Rattle.desk_texts.specs.Formed.{IsWithin}
 use Rattle.desk_history.specs.Calls.{History, are_apart, item}
-use Rattle.desk_history.specs.Formed.{IsHistory, IsItem}
+use Rattle.desk_history.specs.Formed.{IsItem}
 use Rattle.desk_history.specs.FormLaws.{AllRowsStandOnce, is_certificate_key, is_place_key}
 use Rattle.desk_history.specs.Requests.{Request, Submitted, numbered, requests, submitted}
 use Rattle.desk_history.specs.Tables.{certificate_rows, component_rows, placed_from}
 use Rattle.desk_history.specs.declared.rows.RequestCertificateRow.{RequestCertificateRow}
 use Rattle.desk_history.specs.declared.rows.RequestComponentRow.{RequestComponentRow}
-use Rattle.desk_history.proofs.ListLemmas.{apart-more, number_above, number_is, or_none}
+use Rattle.desk_history.proofs.ListLemmas.{apart-more, number_is, or_none}
 use Rattle.desk_history.proofs.RowLemmas.{rows_stand_once}
 
 unlike : (b : Bool) → not b ≡ true → b ≡ false

@@ -1,6 +1,6 @@
 -- Series of lives in which each call was in its forms.
-use Rattle.std.proofs.Common.{◌≡◌, ℕ, Bool, true, false, not, ◌&&◌, All, List, [], ◌∷◌, ◌++◌, Option, Some, None, refl, sym, ◌∙◌, ap, subst, append_assoc}
-use Rattle.std.specs.Prelude.{if◌then◌else◌, bytes_eq, find}
+use Rattle.std.proofs.Common.{◌≡◌, ℕ, Bool, true, false, not, All, List, [], ◌∷◌, ◌++◌, Some, None, refl, sym, ◌∙◌, ap, subst, append_assoc}
+use Rattle.std.specs.Prelude.{if◌then◌else◌, bytes_eq}
 use Rattle.std.specs.List.{list_all}
 use Rattle.std.proofs.lemmas.Bool.{and_parts}
 use Rattle.std.proofs.lemmas.List.Elements.{All-cons, All-head, All-nil, All-tail}
@@ -17,15 +17,15 @@ use Rattle.desk_texts.proofs.ReadingLemmas.{text_of-same}
 use Rattle.desk_history.specs.Calls.{GoesOnFrom, History, has_same_key, item}
 use Rattle.desk_history.specs.Formed.{IsHistory, IsItem}
 use Rattle.desk_history.specs.FormLaws.{AnsweredCallsStand, EndsAreHistories, Stands}
-use Rattle.desk_history.specs.Lives.{Answered, Event, Fate, MayLeave, MayTurn, events_of}
+use Rattle.desk_history.specs.Lives.{Answered, Event, MayLeave, events_of}
 use Rattle.desk_history.specs.Refusals.{is_known, refusal}
-use Rattle.desk_history.specs.Replies.{minute, minutes, reply}
-use Rattle.desk_history.specs.Runs.{answer, answer_known, earlier, has_key, is_accepted, is_legal, next, reply_in}
+use Rattle.desk_history.specs.Replies.{minute, reply}
+use Rattle.desk_history.specs.Runs.{answer, answer_known, earlier, is_accepted, next, reply_in}
 use Rattle.desk_history.specs.declared.answer.Answer.{Answer}
 use Rattle.desk_history.specs.declared.answer.Answer.TheVariants.{Refused as IsRefused}
 use Rattle.desk_history.specs.declared.rows.Minute.{Minute}
 use Rattle.desk_history.proofs.CallerLemmas.{callers_are_told, known_told, same_caller}
-use Rattle.desk_history.proofs.LifeLemmas.{Told, accepted_reply, left_goes_on, left_legal, series_are_legal, told, turned}
+use Rattle.desk_history.proofs.LifeLemmas.{accepted_reply, left_goes_on, left_legal, series_are_legal, told, turned}
 use Rattle.desk_history.proofs.ListLemmas.{same_text}
 use Rattle.desk_history.proofs.RunLemmas.{by_next}
 
