@@ -1,8 +1,8 @@
 -- How a reader of CSV goes from record to record.
-use Rattle.std.proofs.Common.{◌≡◌, ℕ, zero, suc, ◌+◌, ◌<◌, ◌≤◌, cond, eqb, Bool, true, false, List, [], ◌∷◌, ◌++◌, append_assoc, append-nil, length, Option, Some, None, Result, Ok, Err, refl, sym, ap, subst, ◌∙◌, inl, arith}
+use Rattle.std.proofs.Common.{◌≡◌, ℕ, zero, suc, ◌+◌, ◌<◌, ◌≤◌, cond, eqb, Bool, true, false, List, [], ◌∷◌, ◌++◌, append-nil, length, Option, Some, None, Ok, Err, refl, sym, ap, subst, ◌∙◌, inl, arith}
 use Rattle.std.specs.Result.{IsOkAnd}
 use Rattle.csv.specs.Machine.{Read, after_end, ends_at_end, ends_with, field_after, fields_after, in_field, is_end, next_record, start_field, start_record, step}
-use Rattle.csv.specs.Reading.{ReadRecord, Reached, Ready, default_config, records_from, source_of, took_first}
+use Rattle.csv.specs.Reading.{ReadRecord, Reached, Ready, default_config, records_from}
 use Rattle.csv.specs.declared.parser.Action.{Action}
 use Rattle.csv.specs.declared.parser.Action.TheVariants as act
 use Rattle.csv.specs.declared.parser.State.{State}
@@ -175,6 +175,11 @@ pub Reading-wrong : {R : Type 0} (rem : R → Option (List ℕ)) (all : List Rec
 Reading-wrong rem all n old new now f h read is =
     let r = read h.left h.leaves in
     sym h.same ∙ ap (λ rows. put_before h.done (items_from n rows)) r.1 ∙ ap (λ x. put_before h.done (named_at n x (items_from (n + 1) r.0))) is
+
+-- the same of whatever records there were at first
+pub Reading-wrong-all : {R : Type 0} (rem : R → Option (List ℕ)) (n : ℕ) (first old new : Reader R) (now : Gathering) (f : Record) → ((rows : List Record) → Leaves rem first rows → Reading rem rows n old now)
+    → ((rows : List Record) → Leaves rem old rows → Reads rem next.Record f rows new) → record_item f ≡ None → (rows : List Record) → Leaves rem first rows → items_in rows ≡ Err n
+Reading-wrong-all rem n first old new now f all read is rows h = Reading-wrong rem rows n old new now f (all rows h) read is
 
 -- no record is left
 pub Reading-ends : {R : Type 0} (rem : R → Option (List ℕ)) (all : List Record) (n : ℕ) (old : Reader R) (now : Gathering) → Reading rem all n old now

@@ -1,13 +1,13 @@
 -- Entries gathered one by one.
-use Rattle.std.proofs.Common.{◌≡◌, ℕ, ◌+◌, ◌<◌, ◌≤◌, List, [], ◌∷◌, ◌++◌, length, map, None, refl, sym, ap, subst, ◌∙◌, append_assoc, append-nil, arith}
+use Rattle.std.proofs.Common.{◌≡◌, ℕ, ◌<◌, ◌≤◌, List, [], ◌∷◌, length, None, refl, sym, subst, arith}
 use Rattle.std.specs.Prelude.{count_by}
-use Rattle.std.specs.List.{AllByRecursion, flat_map}
+use Rattle.std.specs.List.{flat_map}
 use Rattle.std.proofs.lemmas.Grind.{common_steps}
 use Rattle.sbat.specs.declared.component.Component.{Component}
 use Rattle.desk_texts.specs.Forms.{most_imported}
 use Rattle.desk_texts.specs.Imports.{named_count}
 use Rattle.desk_imports.specs.Gathering.{Gathering, Gathers}
-use Rattle.desk_imports.specs.Items.{certificate_in, component_in, digest_in, is_passed, named_by}
+use Rattle.desk_imports.specs.Items.{certificate_in, component_in, digest_in, is_passed}
 use Rattle.desk_imports.specs.declared.item.Item.{Item}
 use Rattle.desk_imports.specs.declared.item.Item.TheVariants as item
 

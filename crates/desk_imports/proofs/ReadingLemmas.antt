@@ -1,8 +1,7 @@
 -- Entries read one after another, and gathered.
-use Rattle.std.proofs.Common.{◌≡◌, ℕ, ◌+◌, List, [], ◌∷◌, ◌++◌, length, map, take, Some, None, Result, Ok, Err, OnOk, refl, sym, ap, subst, ◌∙◌, append_assoc, append-nil, arith}
+use Rattle.std.proofs.Common.{◌≡◌, ℕ, ◌+◌, List, [], ◌∷◌, ◌++◌, map, refl, sym, ap, subst, ◌∙◌, append_assoc, append-nil, arith}
 use Rattle.std.specs.List.{AllByRecursion, flat_map}
-use Rattle.std.proofs.lemmas.Bool.Decides.{nat_tests}
-use Rattle.siglist.specs.Kinds.{kind_of, sha256_kind, x509_sha256_kind}
+use Rattle.siglist.specs.Kinds.{kind_of}
 use Rattle.siglist.specs.SignatureLists.{Entry, IsEntryOf, IsList, Placed, SignatureList, Spells, SpellsPlaced, list_size, placed_from}
 use Rattle.siglist.specs.declared.kind.Kind.{Kind}
 use Rattle.siglist.specs.declared.kind.Kind.TheVariants as kind

@@ -1,5 +1,5 @@
 -- Records of three fields.
-use Rattle.std.proofs.Common.{◌≡◌, ℕ, ◌<◌, List, [], ◌∷◌, length, Some, refl, ap, arith}
+use Rattle.std.proofs.Common.{◌≡◌, ℕ, List, [], ◌∷◌, length, Some, refl, arith}
 use Rattle.csv.specs.Records.{field_at}
 
 some_same : {A : Type 0} (x y : A) → Some x ≡ Some y → x ≡ y

@@ -1,5 +1,5 @@
 -- What a CSV file imports (RFC 4180).
-use Rattle.std.specs.Prelude.{◌≡◌, ℕ, ◌+◌, ◌==◌, ⊤, length, codes, List, [], ◌∷◌, Bool, false, Option, Some, None, Result, Ok, Err, IsOkAnd, option_map, if◌then◌else◌, ◌&&◌}
+use Rattle.std.specs.Prelude.{◌≡◌, ℕ, ◌+◌, ◌==◌, ⊤, length, codes, List, [], ◌∷◌, Bool, false, Option, None, Result, Ok, Err, IsOkAnd, option_map, if◌then◌else◌, ◌&&◌}
 use Rattle.std.specs.Str.{bytes_eq}
 use Rattle.csv.specs.Reading.{default_config, records, strip_bom}
 use Rattle.desk_bytes.specs.Digests.{digest_of}

@@ -1,5 +1,5 @@
 -- What the text of an SBAT level imports (shim's SBAT.md).
-use Rattle.std.specs.Prelude.{◌≡◌, ℕ, map, ⊤, List, Some}
+use Rattle.std.specs.Prelude.{ℕ, map, ⊤, List, Some}
 use Rattle.std.specs.FinMap.{entries}
 use Rattle.sbat.specs.Levels.{Stamped}
 use Rattle.sbat.specs.Refusals.{IsLevelOf, RefusesLevel}

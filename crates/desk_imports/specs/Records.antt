@@ -1,8 +1,7 @@
 -- The records that a reader of CSV has left.
-use Rattle.std.specs.Prelude.{◌≡◌, ℕ, ◌<◌, length, false, List, [], ◌∷◌, Option, Some, Result, Ok, ⊤}
+use Rattle.std.specs.Prelude.{◌≡◌, ℕ, ◌<◌, length, false, List, [], ◌∷◌, Option, Some, Ok, ⊤}
 use Rattle.csv.specs.Machine.{ends_at_end}
 use Rattle.csv.specs.Reading.{Ready, default_config, records_from, source_of}
-use Rattle.csv.specs.Records.{fields_of}
 use Rattle.csv.specs.declared.reader.Reader.{Reader}
 use Rattle.csv.specs.declared.reader.Trim.TheVariants as trim
 use Rattle.desk_imports.specs.FromCsv.{Record, items_from, items_in}

@@ -29,7 +29,8 @@ fn hash_of(bytes: &[u8]) -> Digest
     Digest::from(Sha256::digest(bytes))
 }
 
-/// The SHA-256 of the TBSCertificate of the certificate that the bytes are, or nothing of other bytes.
+/// The SHA-256 of the TBSCertificate of the certificate that the bytes are, or nothing of other
+/// bytes.
 fn certificate_item(bytes: &[u8]) -> Item
     ensures { result ≡ items.certificate_item (items.tbs_of bytes.now) }
 {

@@ -63,17 +63,18 @@ fn gather(alloc: Global, reader: &mut Reader<&[u8]>) -> Result<Gathered, ImportF
     Err(ImportFault::NoMemory)
 }
 
-/// The import of a CSV file, which is one command with this stamp or none. The file is read with the defaults of the
-/// crate `csv`: commas, double quotes, any of CR, LF and CRLF at a line's end; empty lines are no records, and a mark
-/// EF BB BF at its beginning is dropped.
+/// The import of a CSV file, which is one command with this stamp or none. The file is read with
+/// the defaults of the crate `csv`: commas, double quotes, any of CR, LF and CRLF at a line's end;
+/// empty lines are no records, and a mark EF BB BF at its beginning is dropped.
 ///
-/// Its header is `kind,value,generation`. Each record has three fields: `sha256` or `x509_sha256`, 64 hexadecimal
-/// digits of either case and no generation revoke a digest of an image or the certificate with that SHA-256 of its
-/// TBSCertificate; `sbat`, a component's name other than `sbat` and a generation raise a level. The file is read record
-/// by record; takes memory for 10,001 entries at most, and for the longest record.
+/// Its header is `kind,value,generation`. Each record has three fields: `sha256` or `x509_sha256`,
+/// 64 hexadecimal digits of either case and no generation revoke a digest of an image or the
+/// certificate with that SHA-256 of its TBSCertificate; `sbat`, a component's name other than
+/// `sbat` and a generation raise a level. The file is read record by record; takes memory for
+/// 10,001 entries at most, and for the longest record.
 ///
-/// The first wrong record is answered as Record with its number; the header, which has to be there, is 0. TooLong, for
-/// more than 10,000 entries, comes only where no record is wrong.
+/// The first wrong record is answered as Record with its number; the header, which has to be there,
+/// is 0. TooLong, for more than 10,000 entries, comes only where no record is wrong.
 pub fn import_csv(alloc: Global, text: &[u8], stamp: Option<Stamp>) -> Result<Command, ImportFault>
     ensures exact { IfOk result (IsCsvImport text.now stamp) }
 

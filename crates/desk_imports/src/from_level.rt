@@ -40,12 +40,13 @@ fn gather(alloc: Global, level: &Level) -> Option<Gathered>
     Some(gathered)
 }
 
-/// The import of the text of an SBAT level (shim's SBAT.md), which is one command with the level's stamp. It names the
-/// level's names ascending by their bytes, each once with its greatest generation. The text is read as
-/// `sbat::read_level` reads it. Takes memory for 10,001 names at most, twice.
+/// The import of the text of an SBAT level (shim's SBAT.md), which is one command with the level's
+/// stamp. It names the level's names ascending by their bytes, each once with its greatest
+/// generation. The text is read as `sbat::read_level` reads it. Takes memory for 10,001 names at
+/// most, twice.
 ///
-/// The first wrong line is answered as Line with its number, line 1 where there is none at all. TooLong, for more than
-/// 10,000 different names, comes only where no line is wrong.
+/// The first wrong line is answered as Line with its number, line 1 where there is none at all.
+/// TooLong, for more than 10,000 different names, comes only where no line is wrong.
 pub fn import_level(alloc: Global, text: &[u8]) -> Result<Command, ImportFault>
     ensures exact { IfOk result (IsLevelImport text.now) }
 

@@ -13,7 +13,8 @@ use sbat::{Component, Stamp};
 use std::alloc::{AllocError, Global};
 use std::marker::Model;
 
-/// The entries of an import, one more than the limit at most. A contract sees their count and what they name.
+/// The entries of an import, one more than the limit at most. A contract sees their count and what
+/// they name.
 #[derive(Debug, Drop)]
 pub(crate) struct Gathered {
     count: usize,
@@ -78,7 +79,8 @@ impl Gathered {
         Ok(())
     }
 
-    /// The command that names all entries, or `None` where they are more than the limit. Takes no memory.
+    /// The command that names all entries, or `None` where they are more than the limit. Takes no
+    /// memory.
     pub(crate) fn into_command(self, stamp: Option<Stamp>) -> Option<Command>
         ensures { (items : List Item) → Gathers items self
             → MatchOption result (IsTooMany items) (IsCommandOf stamp items) }

@@ -6,7 +6,8 @@ ghost use Rattle.desk_imports.specs.FromCsv.{IsCsvImport};
 ghost use Rattle.desk_imports.specs.FromLevel.{IsLevelImport};
 ghost use Rattle.desk_imports.specs.FromLists.{IsDbxImport, tbs_of};
 
-/// What `tbs_of` reads of bytes is the TBSCertificate of the certificate that they are, and it reads that of each.
+/// What `tbs_of` reads of bytes is the TBSCertificate of the certificate that they are, and it
+/// reads that of each.
 pub fn tbs_is_read()
     ensures found { (b t : List ℕ) → tbs_of b ≡ Some t → IsCertificate b t }
     ensures each { (b t : List ℕ) → IsCertificate b t → tbs_of b ≡ Some t }

@@ -1,4 +1,5 @@
-//! Imports of revocations: one command of a signature list, a CSV file or the text of an SBAT level.
+//! Imports of revocations: one command of a signature list, a CSV file or the text of an SBAT
+//! level.
 #![tactic(auto)]
 
 mod csv_rows;

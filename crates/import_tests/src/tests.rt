@@ -15,9 +15,10 @@ enum Call {
     Level,
 }
 
-/// What stands for a character of an input: `A`, `B` and `U` are digests, `U` that of `A` with digits of either case;
-/// `G` a type of no kind and an owner; `S`, `X` and `D` the types of SHA-256, X.509 and X.509 with SHA-256; `#` is the
-/// header of a CSV file, `|` a line feed, `^` a carriage return, `~` the mark EF BB BF.
+/// What stands for a character of an input: `A`, `B` and `U` are digests, `U` that of `A` with
+/// digits of either case; `G` a type of no kind and an owner; `S`, `X` and `D` the types of
+/// SHA-256, X.509 and X.509 with SHA-256; `#` is the header of a CSV file, `|` a line feed, `^` a
+/// carriage return, `~` the mark EF BB BF.
 fn meaning(letter: u8) -> Option<(&'static str, usize)> {
     match letter {
         b'A' => Some(("a", 64)),
@@ -202,7 +203,8 @@ fn counted(alloc: Global, answer: Result<Command, ImportFault>) -> Result<String
     }
 }
 
-/// A list of that many digests and a list of that many entries of no kind, of all but the last bytes.
+/// A list of that many digests and a list of that many entries of no kind, of all but the last
+/// bytes.
 fn counted_lists(alloc: Global, count: u16, others: u16, cut: usize) -> Result<String, Fail> {
     let mut bytes = spelt(alloc, &expanded(alloc, "S")?)?;
     bytes.extend_from_slice(&(28 + 48 * u32::from(count)).to_le_bytes())?;

@@ -1,4 +1,4 @@
-use Rattle.std.proofs.Common.{◌∙◌, ◌+◌, length, refl, ap, inr, sym, arith}
+use Rattle.std.proofs.Common.{◌∙◌, ◌+◌, length, ap, inr, sym, arith}
 use Rattle.csv.specs.Machine.{ends_at_end}
 use Rattle.csv.specs.Reading.{default_config, records_from, strip_bom}
 use Rattle.desk_imports.proofs.csv_rows.rows_of.Goals as goal

@@ -1,4 +1,4 @@
-use Rattle.std.proofs.Common.{rules, sym, ◌∙◌}
+use Rattle.std.proofs.Common.{sym, ◌∙◌}
 use Rattle.desk_imports.proofs.CsvLemmas.{no_header, right_header, wrong_header}
 use Rattle.desk_imports.proofs.from_csv.read_header.Goals as goal
 

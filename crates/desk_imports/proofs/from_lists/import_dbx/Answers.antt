@@ -1,5 +1,5 @@
 use Rattle.std.proofs.Common.{rules}
-use Rattle.desk_imports.proofs.ReadingLemmas.{Reading-begins, Reading-ends, Reading-list, Reading-next}
+use Rattle.desk_imports.proofs.ReadingLemmas.{Reading-begins, Reading-next}
 use Rattle.desk_imports.proofs.from_lists.import_dbx.Goals as goal
 
 pub loop-list-init : goal.loop-list-init

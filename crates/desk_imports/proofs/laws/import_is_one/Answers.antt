@@ -1,4 +1,4 @@
-use Rattle.std.proofs.Common.{◌≡◌, ◌∙◌, ℕ, List, None, Some, Result, Ok, ap, sym}
+use Rattle.std.proofs.Common.{◌≡◌, ◌∙◌, None, Some, Result, Ok, ap, sym}
 use Rattle.siglist.proofs.RowLemmas.{row_is_one}
 use Rattle.sbat.specs.Levels.{Stamped}
 use Rattle.desk_imports.specs.FromLevel.{level_items}
