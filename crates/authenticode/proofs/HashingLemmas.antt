@@ -1,16 +1,15 @@
 -- Ranges of a source that are hashed one after another.
 use Rattle.std.proofs.Common.{◌≡◌, ℕ, ◌+◌, ◌<◌, ◌≤◌, Bool, true, false, cond, List, ◌∷◌, ◌++◌, slice_range, length, take, drop, Option, Some, None, refl, sym, ap, ◌∙◌, subst, append_assoc, arith}
-use Rattle.std.specs.Prelude.{All, not, replicate}
+use Rattle.std.specs.Prelude.{not, replicate}
 use Rattle.std.specs.Option.{is_some}
 use Rattle.std.proofs.Math.Seq.{take-append_seam}
 use Rattle.std.proofs.lemmas.List.{length-take-le, take-replicate}
-use Rattle.std.proofs.lemmas.List.Elements.{All-tail}
 use Rattle.sha2.specs.Hashers.{Holds256}
 use Rattle.sha2.specs.declared.Sha256.{Sha256}
 use Rattle.pe_image.specs.Hashed.{hashed_bytes}
 use Rattle.pe_image.specs.Image.{has_table, table_offset, table_size}
 use Rattle.pe_image.specs.Places.{Places, places_of}
-use Rattle.pe_image.specs.Spans.{EndWithin, bytes_at, span}
+use Rattle.pe_image.specs.Spans.{bytes_at, span}
 use Rattle.pe_image.specs.declared.span.Span.{Span}
 use Rattle.pe_image.proofs.SpanLemmas.{slice_range-join}
 use Rattle.authenticode.specs.Hashing.{padding_of, signed_bytes}

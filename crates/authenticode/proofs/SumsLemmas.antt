@@ -1,6 +1,5 @@
 -- What a pass over a file meets of spans that stand in order.
 use Rattle.std.proofs.Common.{◌≡◌, ◌+◌, ◌-◌, ◌<◌, ◌≤◌, ◌++◌, ℕ, List, [], ◌∷◌, length, take, drop, max, min, slice_range, refl, sym, ap, ◌∙◌, append_assoc, append-nil, subst, inl, inr, arith}
-use Rattle.std.specs.Prelude.{All}
 use Rattle.std.proofs.lemmas.Bool.{cases_lt}
 use Rattle.std.proofs.lemmas.List.{drop-drop, drop-take, take-take}
 use Rattle.std.proofs.lemmas.List.Elements.{All-tail}

@@ -1,4 +1,4 @@
-use Rattle.std.proofs.Common.{◌≡◌, ◌+◌, ◌≤◌, ◌++◌, ◌∙◌, ap, refl, length, slice_range, take, sym, subst, arith, rules}
+use Rattle.std.proofs.Common.{◌≡◌, ◌+◌, ◌≤◌, ◌++◌, ◌∙◌, ap, refl, length, slice_range, sym, subst, arith, rules}
 use Rattle.std.proofs.lemmas.List.{places}
 use Rattle.sha2.specs.Hashers.{Holds256}
 use Rattle.pe_image.specs.Passes.{first_pass_of}
