@@ -1,9 +1,9 @@
 -- From the answer of the query for the desk's row to the tables of a history.
-use Rattle.std.proofs.Common.{◌≡◌, ◌≢◌, inl, inr, ℕ, List, [], ◌∷◌, refl, sym, ap, subst, ◌∙◌, arith, IsTrue, true, length, Result, Ok, Err, Some, None}
+use Rattle.std.proofs.Common.{◌≡◌, ◌≢◌, inl, inr, ℕ, List, [], ◌∷◌, refl, sym, ap, subst, ◌∙◌, arith, IsTrue, true, length, Result, Ok, Err, Some, None, slice_get}
 use Rattle.sqlite.proofs.Callers.{one_permutation}
 use Rattle.sqlite.specs.declared.error.Error.{Error}
 use Rattle.sqlite.specs.declared.error.Error.TheVariants.{SqlInputError}
-use Rattle.std.specs.Prelude.{MatchResult}
+use Rattle.std.specs.Prelude.{IfOk, MatchResult}
 use Rattle.sqlite.specs.Store as store
 use Rattle.sqlite.specs.Effect.{Database}
 use Rattle.sqlite.specs.Held.{Held, state}
@@ -14,8 +14,8 @@ use Rattle.sqlite.specs.State.{State, HasCleanDisk, IsNotRun, IsRolledBack, IsUn
 use Rattle.sqlite_trees.specs.declared.error.StoreError.{StoreError}
 use Rattle.sqlite_trees.specs.declared.error.StoreError.TheVariants.{OutOfMemory, Io, Corrupt, Full, Broken, Unstorable}
 use Rattle.sqlite_resolve.specs.declared.error.CompileError.{CompileError}
-use Rattle.desk_sql.specs.Contents.{Holds}
-use Rattle.desk_sql.specs.Effects.{Selects}
+use Rattle.desk_sql.specs.Contents.{Contents, Holds}
+use Rattle.desk_sql.specs.Effects.{IsSelected, Selects}
 use Rattle.desk_bytes.specs.declared.refusal.Refusal.{Refusal}
 use Rattle.desk_sql.specs.States.{Leaves, Sees}
 use Rattle.sqlite.specs.Tree.{Trees}
@@ -29,7 +29,7 @@ use Rattle.desk_history.specs.Tables.{tables}
 use Rattle.desk_contents.specs.Values.{desk_values}
 use Rattle.desk_store.specs.Histories.{ShowsHistory, rows_of}
 use Rattle.desk_store.specs.Rows.{desk_columns}
-use Rattle.desk_store.specs.Steps.{IsFailure, RefusesText, TellsOf}
+use Rattle.desk_store.specs.Steps.{AreShownAs, IsFailure, ReadsInside, RefusesText, TellsOf}
 
 pub unchanged_keeps : (old new : State) → IsUnchanged old new → KeepsCommit old new
 unchanged_keeps old new same = record { was_open = λ _. same.0.was_open; committed = λ _. same.0.committed_is }
@@ -57,16 +57,18 @@ no_tables old new e (inl (inr (c, is, inr (inl (few, count))), same)) text = abs
 no_tables old new e (inl (inr (c, is, inr (inr (formats, clock))), same)) text = absurd (let a = sym clock ∙ text.1 in cc)
 no_tables old new e (inr h) text = absurd (no_text h.0 text.0 (sym h.1 ∙ text.1))
 
+-- what the query shows of the rows of the table
+pub selected : (old mid new : State) (answer : List Row) → IsUnchanged old mid → Selects SELECT_DESK.now [] mid new answer
+    → (c : Contents) (rows : List Row) → Sees desk_schema old c → slice_get c 0 ≡ Some rows → IsSelected desk [] (by_first 1 desk) (columns_after 1 desk) [] rows answer
+selected old mid new answer same selects c rows sees has =
+    (selects desk_schema 0 desk [] (by_first 1 desk) (columns_after 1 desk) (names_of desk) select_desk).1 c rows
+    (record { inside = same.0.mode ∙ sees.inside; holds = subst (λ (d : Database). Holds desk_schema d c) (sym same.0.now_is) sees.holds }) has
+
 -- the only row of the answer is the desk's
 pub one_row : (old mid new : State) (rows : List Row) → IsUnchanged old mid → Selects SELECT_DESK.now [] mid new rows
     → (owner : List ℕ) (cs : History) → Sees desk_schema old (rows_of owner cs) → rows ≡ desk_columns owner 1 (stamp cs) ∷ []
 one_row old mid new rows same selects owner cs sees =
-    let still : Sees desk_schema mid (rows_of owner cs) = record {
-      inside = same.0.mode ∙ sees.inside;
-      holds = subst (λ (d : Database). Holds desk_schema d (rows_of owner cs)) (sym same.0.now_is) sees.holds;
-    } in
-    let it = (selects desk_schema 0 desk [] (by_first 1 desk) (columns_after 1 desk) (names_of desk) select_desk).1
-    (rows_of owner cs) (desk_values (tables owner cs).desk ∷ []) still refl in
+    let it = selected old mid new rows same selects (rows_of owner cs) (desk_values (tables owner cs).desk ∷ []) sees refl in
     one_permutation (desk_columns owner 1 (stamp cs)) rows it.same
 
 module _ {S : Type 0} (g : store.Ghosts S) (old last end : Held S) (owner : List ℕ) (cs : History) where
@@ -79,6 +81,10 @@ module _ {S : Type 0} (g : store.Ghosts S) (old last end : Held S) (owner : List
   told_before (Ok version) clean told long shows = told.1 owner cs long (record { inside = refl; holds = (shows.holds clean told.0).0 })
   told_before (Err refusal) clean (inl failed) long shows = failed
   told_before (Err refusal) clean (inr told) long shows = absurd (told.1.1 owner cs long (record { inside = refl; holds = (shows.holds clean told.1.0).0 }))
+
+  pub read_before : (result : Result ℕ Refusal) → HasCleanDisk (state g old) → TellsOf begun result → ReadsInside begun result → IfOk result (AreShownAs (state g old))
+  read_before (Ok version) clean told reads = λ c rows shows has. reads c rows (record { inside = refl; holds = (shows.holds clean told.0).0 }) has
+  read_before (Err refusal) clean told reads = tt
 
   -- a transaction that is rolled back leaves what the connection shows
   pub undone : HasCleanDisk (state g old) → KeepsCommit begun (state g last) → IsRolledBack (state g last) (state g end)

@@ -1,5 +1,6 @@
 -- What the steps of a transaction promise, of a connection before and after them.
-use Rattle.std.specs.Prelude.{◌≡◌, ◌≢◌, ◌⊎◌, ℕ, length, List, [], IsTrue, Result, MatchResult}
+use Rattle.std.specs.Prelude.{◌≡◌, ◌≢◌, ◌⊎◌, ℕ, length, List, [], slice_get, Some, IfOk, IsTrue, Result, MatchResult}
+use Rattle.sqlite.specs.Order.{Row}
 use Rattle.sqlite.specs.State.{State, KeepsCommit}
 use Rattle.sqlite.specs.declared.error.Error.{Error}
 use Rattle.sqlite.specs.declared.error.Error.TheVariants.{SqlInputError}
@@ -7,9 +8,11 @@ use Rattle.sqlite_resolve.specs.declared.error.CompileError.{CompileError}
 use Rattle.desk_bytes.specs.declared.refusal.Refusal.{Refusal}
 use Rattle.desk_bytes.specs.declared.refusal.Refusal.TheVariants as refusals
 use Rattle.desk_history.specs.Calls.{History}
-use Rattle.desk_sql.specs.States.{Sees}
+use Rattle.desk_sql.specs.Contents.{Contents}
+use Rattle.desk_sql.specs.States.{Sees, Shows}
 use Rattle.desk_statements.specs.Tables.{desk_schema, no_schema}
 use Rattle.desk_store.specs.Histories.{rows_of}
+use Rattle.desk_store.specs.Rows.{AreOf}
 
 -- the refusal names a device
 abbrev pub IsFailure : Refusal → Type 0
@@ -41,3 +44,12 @@ TellsAll s told = IsTrue s.is_open × ((owner : List ℕ) (cs : History) → len
 -- the version is that of these tables, or a device failed, or the tables are no desk's
 abbrev pub TellsOf : State → Result ℕ Refusal → Type 0
 TellsOf s result = MatchResult result (λ version. TellsAll s (version ≡ 1)) (λ refusal. IsFailure refusal ⊎ ((refusal ≡ refusals.NotADesk) × TellsAll s ⊥))
+
+-- inside a transaction: the rows of the table `desk` read as those of a desk of this version
+abbrev pub ReadsInside : State → Result ℕ Refusal → Type 0
+ReadsInside s result =
+    IfOk result (λ version. (c : Contents) (rows : List Row) → Sees desk_schema s c → slice_get c 0 ≡ Some rows → AreOf rows version)
+
+-- the same outside
+abbrev pub AreShownAs : State → ℕ → Type 0
+AreShownAs s version = (c : Contents) (rows : List Row) → Shows desk_schema s c → slice_get c 0 ≡ Some rows → AreOf rows version

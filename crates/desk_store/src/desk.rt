@@ -9,7 +9,7 @@ ghost use Rattle.desk_statements.specs.Tables.{no_schema};
 ghost use Rattle.desk_tables.specs.Steps.{Spares};
 ghost use Rattle.desk_store.specs.Desks.{ShowsDesk};
 ghost use Rattle.desk_store.specs.Histories.{HoldsHistory, LeavesHistory, ShowsHistory};
-ghost use Rattle.desk_store.specs.Steps.{IsFailure, IsReadRefusal};
+ghost use Rattle.desk_store.specs.Steps.{AreShownAs, IsFailure, IsReadRefusal};
 
 use crate::founding::{found_at_once, has_no_tables};
 use crate::opening::{VERSION, read_version};
@@ -85,6 +85,10 @@ impl<S: Alter + Drop> Desk<S> {
             → ShowsHistory (state S.Store conn) owner cs
             → LeavesHistory (state S.Store conn) owner cs
             → ShowsDesk S.Store desk owner cs) }
+        ensures read { IfOk result (λ desk. HasCleanDisk (state S.Store desk.conn)
+            → AreShownAs (state S.Store conn) 1) }
+        ensures other { IfErr result (λ e. HasCleanDisk (state S.Store e.1) → e.0 ≡ Refusal.Version
+            → (version : ℕ) × (version ≢ 1) × AreShownAs (state S.Store conn) version) }
         ensures known { IfErr result (λ e. HasCleanDisk (state S.Store e.1)
             → (owner : List ℕ) (cs : History) → length owner ≡ 16
             → ShowsHistory (state S.Store conn) owner cs

@@ -1,5 +1,6 @@
 //! What the row of the table `desk` tells of the desk.
-ghost use Rattle.std.specs.Prelude.{◌≡◌, ◌<◌, ℕ, List, false, length, pos, IfErr, IsTrue, MatchResult, OnOk, Some, ◌∷◌, [], codes};
+ghost use Rattle.std.specs.Prelude.{◌≡◌, ◌<◌, ℕ, List, [], ◌∷◌, false, codes, length, pos, Some};
+ghost use Rattle.std.specs.Prelude.{IfErr, IfOk, IfSome, IsTrue, MatchResult, OnOk};
 ghost use Rattle.sqlite.specs.Held.{state};
 ghost use Rattle.sqlite.specs.State.{HasCleanDisk, IsUnchanged};
 ghost use Rattle.sqlite.specs.declared.types.Value.TheVariants.{Blob, Int, Text};
@@ -7,8 +8,9 @@ ghost use Rattle.sqlite_value.specs.Order.{column};
 ghost use Rattle.desk_history.specs.Calls.{History};
 ghost use Rattle.desk_tables.specs.Steps.{Keeps, Spares};
 ghost use Rattle.desk_store.specs.Histories.{ShowsHistory};
-ghost use Rattle.desk_store.specs.Rows.{desk_columns};
-ghost use Rattle.desk_store.specs.Steps.{IsFailure, IsReadRefusal, RefusesColumns, RefusesText, TellsOf};
+ghost use Rattle.desk_store.specs.Rows.{IsGuid, ReadsAs};
+ghost use Rattle.desk_store.specs.Steps.{AreShownAs, IsFailure, IsReadRefusal, ReadsInside};
+ghost use Rattle.desk_store.specs.Steps.{RefusesColumns, RefusesText, TellsOf};
 
 use desk_bytes::Refusal;
 use desk_sql::select;
@@ -25,7 +27,9 @@ pub(crate) const VERSION: u64 = 1;
 
 /// The natural number in a column.
 fn number_at(row: &Row, at: usize) -> Option<u64>
-    ensures { (n : ℕ) → at < length row.now → column row.now at ≡ Int (pos n) → result ≡ Some n }
+    ensures found { (n : ℕ) → at < length row.now → column row.now at ≡ Int (pos n)
+        → result ≡ Some n }
+    ensures read { IfSome result (λ n. column row.now at ≡ Int (pos n)) }
 {
     match row.get_ref(at) {
         Ok(ValueRef::Int(number)) => match u64::try_from(number) {
@@ -38,7 +42,9 @@ fn number_at(row: &Row, at: usize) -> Option<u64>
 
 /// Whether a column has the mark.
 fn has_mark(row: &Row, at: usize) -> bool
-    ensures { at < length row.now → column row.now at ≡ Text (codes "boot-desk") → IsTrue result }
+    ensures found { at < length row.now → column row.now at ≡ Text (codes "boot-desk")
+        → IsTrue result }
+    ensures read { IsTrue result → column row.now at ≡ Text (codes "boot-desk") }
 {
     match row.get_ref(at) {
         Ok(ValueRef::Text(text)) => text == MARK.as_bytes(),
@@ -48,7 +54,9 @@ fn has_mark(row: &Row, at: usize) -> bool
 
 /// Whether a column has the bytes of a GUID.
 fn has_guid(row: &Row, at: usize) -> bool
-    ensures { (guid : List ℕ) → at < length row.now → column row.now at ≡ Blob guid → length guid ≡ 16 → IsTrue result }
+    ensures found { (guid : List ℕ) → at < length row.now → column row.now at ≡ Blob guid
+        → length guid ≡ 16 → IsTrue result }
+    ensures read { IsTrue result → IsGuid (column row.now at) }
 {
     match row.get_ref(at) {
         Ok(ValueRef::Blob(bytes)) => bytes.len() == 16,
@@ -56,13 +64,18 @@ fn has_guid(row: &Row, at: usize) -> bool
     }
 }
 
-/// The version in a row that reads as a desk's: the id 1, the mark, a version, an owner of 16 bytes, a stamp.
+/// The version in the only row, if it reads as a desk's: the id 1, the mark, a version, an owner
+/// of 16 bytes, a stamp.
 fn version_in(rows: &[Row]) -> Option<u64>
-    ensures { (owner : List ℕ) (version : ℕ) (stamp : ℕ) → length owner ≡ 16 → rows.now ≡ desk_columns owner version stamp ∷ [] → result ≡ Some version }
+    ensures found { (version : ℕ) → ReadsAs rows.now version → result ≡ Some version }
+    ensures read { IfSome result (ReadsAs rows.now) }
 {
     let [row] = rows else {
         return None;
     };
+    if row.column_count() != 5 {
+        return None;
+    }
     let id = number_at(row, 0)?;
     let version = number_at(row, 2)?;
     let _stamp = number_at(row, 4)?;
@@ -83,11 +96,13 @@ fn refuses_text(error: &Error) -> bool
     }
 }
 
-/// Whether the desk's row can be asked for. `NotADesk`: the store hasn't its table with these columns.
+/// Whether the desk's row can be asked for. `NotADesk`: the store hasn't its table with these
+/// columns.
 fn ask_columns<S: Alter>(tx: &mut Transaction<'_, S>) -> Result<(), Refusal>
     ensures same_reference { tx.new.conn.ghost_name ≡ tx.old.conn.ghost_name }
     ensures same { HasCleanDisk (state S.Store tx.new.conn.now)
-        → OnOk result (IsUnchanged (state S.Store tx.old.conn.now) (state S.Store tx.new.conn.now)) }
+        → OnOk result (IsUnchanged (state S.Store tx.old.conn.now)
+        (state S.Store tx.new.conn.now)) }
     ensures refused { HasCleanDisk (state S.Store tx.new.conn.now)
         → IfErr result (RefusesColumns (state S.Store tx.old.conn.now)) }
     ensures named { IfErr result IsReadRefusal }
@@ -110,6 +125,9 @@ fn version_of<S: Alter>(tx: &mut Transaction<'_, S>) -> Result<u64, Refusal>
     ensures told { HasCleanDisk (state S.Store tx.new.conn.now)
         → IsTrue (state S.Store tx.old.conn.now).in_transaction
         → TellsOf (state S.Store tx.old.conn.now) result }
+    ensures read { HasCleanDisk (state S.Store tx.new.conn.now)
+        → IsTrue (state S.Store tx.old.conn.now).in_transaction
+        → ReadsInside (state S.Store tx.old.conn.now) result }
     ensures named { IfErr result IsReadRefusal }
     ensures kept { Keeps S.Store tx.old.conn.now tx.new.conn.now }
     ensures survives { Spares S.Store tx.old.conn.now tx.new.conn.now }
@@ -137,6 +155,8 @@ pub(crate) fn read_version<S: Alter>(conn: &mut Connection<S>) -> Result<u64, Re
     ensures shown { HasCleanDisk (state S.Store conn.new) → (owner : List ℕ) (cs : History)
         → ShowsHistory (state S.Store conn.old) owner cs
         → ShowsHistory (state S.Store conn.new) owner cs }
+    ensures read { HasCleanDisk (state S.Store conn.new)
+        → IfOk result (AreShownAs (state S.Store conn.old)) }
     ensures named { IfErr result IsReadRefusal }
     ensures survives { Spares S.Store conn.old conn.new }
 {

@@ -1,11 +1,11 @@
-use Rattle.std.proofs.Common.{◌≡◌, ◌∙◌, rules, true, refl, subst, arith, ℕ, List, length}
-use Rattle.std.specs.Prelude.{MatchResult}
+use Rattle.std.proofs.Common.{◌≡◌, ◌∙◌, rules, true, refl, subst, arith, ℕ, List, [], length}
+use Rattle.std.specs.Prelude.{IfOk, MatchResult}
 use Rattle.sqlite.specs.Held.{Held, state}
 use Rattle.sqlite.specs.State.{HasCleanDisk, KeepsCommit, Survives}
 use Rattle.desk_history.specs.Calls.{History}
 use Rattle.desk_store.specs.Histories.{ShowsHistory}
-use Rattle.desk_store.specs.Steps.{IsFailure, TellsOf}
-use Rattle.desk_store.proofs.OpeningLemmas.{told_before, undone}
+use Rattle.desk_store.specs.Steps.{AreShownAs, IsFailure, ReadsInside, TellsOf}
+use Rattle.desk_store.proofs.OpeningLemmas.{read_before, told_before, undone}
 use Rattle.desk_store.proofs.opening.read_version.Goals as goal
 
 pub returns-clause-told : goal.returns-clause-told
@@ -37,3 +37,19 @@ returns-clause-shown g c =
     same (λ clean owner cs shows.
     let late : HasCleanDisk (state g.S.Store last) = omega (arith, c.rollback.ensures.survives.clean, clean) in
     undone g.S.Store old last end owner cs (omega (arith, spared.clean, late)) (kept late) (c.rollback.ensures.undone clean) shows)
+
+pub returns-clause-read : goal.returns-clause-read
+returns-clause-read g c =
+    let old = c.args.conn.now in
+    let begun = state g.S.Store (record old { in_transaction = true }) in
+    let last = c.version_of-read.new.tx.conn.now in
+    let end = c.rollback.new.self.0 in
+    let did = c.version_of-read.ensures in
+    let spared : Survives begun (state g.S.Store last) (λ _. ⊥) = rw c.transaction-tx.ensures.begun at did.survives in
+    let told : HasCleanDisk (state g.S.Store last) → TellsOf begun c.version_of-read.result = λ clean. (rw c.transaction-tx.ensures.begun at (did.told clean)) refl in
+    let read : HasCleanDisk (state g.S.Store last) → ReadsInside begun c.version_of-read.result = λ clean. (rw c.transaction-tx.ensures.begun at (did.read clean)) refl in
+    let same : end ≡ c.conn-1.given.0 = search rules in
+    subst (λ (x : Held _). HasCleanDisk (state g.S.Store x) → IfOk c.version_of-read.result (AreShownAs (state g.S.Store old)))
+    same (λ clean.
+    let late : HasCleanDisk (state g.S.Store last) = omega (arith, c.rollback.ensures.survives.clean, clean) in
+    read_before g.S.Store old last end [] [] c.version_of-read.result (omega (arith, spared.clean, late)) (told late) (read late))

@@ -1,8 +1,9 @@
-use Rattle.std.proofs.Common.{◌≡◌, inl, inr, Some, None, refl, sym, ◌∙◌, arith}
+use Rattle.std.proofs.Common.{◌≡◌, inl, inr, Some, None, refl, sym, subst, ◌∙◌, arith}
 use Rattle.sqlite.specs.Held.{state}
 use Rattle.sqlite.specs.State.{HasCleanDisk, IsUnchanged}
 use Rattle.desk_history.specs.Level.{stamp}
-use Rattle.desk_store.proofs.OpeningLemmas.{one_row}
+use Rattle.desk_store.proofs.OpeningLemmas.{one_row, selected}
+use Rattle.desk_store.specs.Rows.{ReadsAs}
 use Rattle.desk_store.proofs.opening.version_of.Goals as goal
 
 pub returns-in-Some-clause-told : goal.returns-in-Some-clause-told
@@ -15,7 +16,7 @@ returns-in-Some-clause-told g c clean inside =
       same.0.was_open,
       λ owner cs long sees.
           let rows = one_row old mid new c.in-Ok-select.rows.items same (c.in-Ok-select.ensures.value clean (same.0.mode ∙ inside)) owner cs sees in
-          let told : c.version_in.result ≡ Some 1 = c.version_in.ensures owner 1 (stamp cs) long (c.deref.ensures.value ∙ rows) in
+          let told : c.version_in.result ≡ Some 1 = c.version_in.ensures.found 1 (owner, stamp cs, long, c.deref.ensures.value ∙ rows) in
           let is : Some c.in-Some.version ≡ Some 1 = sym c.in-Some.is ∙ told in
           cc,
     )
@@ -33,8 +34,21 @@ returns-in-Ok-select-clause-told g c clean inside =
         same.0.was_open,
         λ owner cs long sees.
             let rows = one_row old mid new c.in-Ok-select.rows.items same (c.in-Ok-select.ensures.value clean (same.0.mode ∙ inside)) owner cs sees in
-            let told : c.version_in.result ≡ Some 1 = c.version_in.ensures owner 1 (stamp cs) long (c.deref.ensures.value ∙ rows) in
+            let told : c.version_in.result ≡ Some 1 = c.version_in.ensures.found 1 (owner, stamp cs, long, c.deref.ensures.value ∙ rows) in
             let none = c.in-None.is in
             cc,
       ),
+    )
+
+pub returns-in-Some-clause-read : goal.returns-in-Some-clause-read
+returns-in-Some-clause-read g c clean inside contents rows sees has =
+    let old = state g.S.Store c.args.tx.now.conn.now in
+    let mid = state g.S.Store c.ask_columns.new.tx.conn.now in
+    let new = state g.S.Store c.select.new.tx.conn.now in
+    let answer = c.in-Ok-select.rows.items in
+    let late : HasCleanDisk mid = omega (arith, c.in-Ok-select.ensures.survives.clean, clean) in
+    let same : IsUnchanged old mid = c.in-Ok.ensures.same late in (
+      answer,
+      selected old mid new answer same (c.in-Ok-select.ensures.value clean (same.0.mode ∙ inside)) contents rows sees has,
+      subst (λ l. ReadsAs l c.in-Some.version) c.deref.ensures.value c.in-Some.ensures.read,
     )

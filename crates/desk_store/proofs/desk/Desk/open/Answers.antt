@@ -1,7 +1,8 @@
-use Rattle.std.proofs.Common.{refl, arith}
+use Rattle.std.proofs.Common.{◌≡◌, rules, refl, subst}
 use Rattle.sqlite.specs.Held.{state}
 use Rattle.desk_history.specs.Tables.{tables}
 use Rattle.desk_store.specs.Histories.{HoldsHistory}
+use Rattle.desk_store.specs.Rows.{AreOf}
 use Rattle.desk_store.proofs.OpeningLemmas.{still_leaves}
 use Rattle.desk_store.proofs.SizeLemmas.{unknown_are_right}
 use Rattle.desk_store.proofs.desk.Desk.open.Goals as goal
@@ -14,3 +15,8 @@ returns-else-version-ne-VERSION-clause-ok g c clean owner cs legal shows left = 
   sizes = unknown_are_right c.unknown.result (tables owner cs) c.unknown.ensures;
   left = still_leaves (λ db. HoldsHistory db owner cs) (state g.S.Store c.args.conn) (state g.S.Store c.read_version.new.conn) c.read_version.ensures.survives left;
 }
+
+pub returns-else-version-ne-VERSION-clause-read : goal.returns-else-version-ne-VERSION-clause-read
+returns-else-version-ne-VERSION-clause-read g c clean contents rows shows has =
+    let one : c.in-Ok.version ≡ 1 = search rules in
+    subst (AreOf rows) one (c.in-Ok.ensures.read clean contents rows shows has)

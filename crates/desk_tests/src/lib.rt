@@ -1,0 +1,5 @@
+//! Tests of desks over a store in memory.
+#![tactic(auto)]
+
+#[cfg(test)]
+mod tests;
