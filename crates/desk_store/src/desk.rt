@@ -1,12 +1,12 @@
 //! Desks: made, opened, and given back.
 ghost use Rattle.std.specs.Prelude.{◌≡◌, ◌≢◌, ◌⊎◌, ℕ, List, [], length, false};
-ghost use Rattle.std.specs.Prelude.{IfErr, IfOk, IsTrue, OnOk};
+ghost use Rattle.std.specs.Prelude.{IfErr, IfOk, OnOk};
 ghost use Rattle.sqlite.specs.Held.{state};
 ghost use Rattle.sqlite.specs.State.{HasCleanDisk, Survives};
 ghost use Rattle.desk_history.specs.Calls.{History};
-ghost use Rattle.desk_history.specs.Runs.{is_legal};
+ghost use Rattle.desk_history.specs.Formed.{IsHistory};
 ghost use Rattle.desk_statements.specs.Tables.{no_schema};
-ghost use Rattle.desk_tables.specs.Steps.{Spares};
+ghost use Rattle.desk_sql.specs.States.{Spares};
 ghost use Rattle.desk_store.specs.Desks.{ShowsDesk};
 ghost use Rattle.desk_store.specs.Histories.{HoldsHistory, LeavesHistory, ShowsHistory};
 ghost use Rattle.desk_store.specs.Steps.{AreShownAs, IsFailure, IsReadRefusal};
@@ -81,7 +81,7 @@ impl<S: Alter + Drop> Desk<S> {
     pub fn open(alloc: Global, mut conn: Connection<S>) -> Result<Desk<S>, (Refusal, Connection<S>)>
         requires outside { conn.in_transaction ≡ false }
         ensures ok { IfOk result (λ desk. HasCleanDisk (state S.Store desk.conn)
-            → (owner : List ℕ) (cs : History) → IsTrue (is_legal cs)
+            → (owner : List ℕ) (cs : History) → IsHistory cs
             → ShowsHistory (state S.Store conn) owner cs
             → LeavesHistory (state S.Store conn) owner cs
             → ShowsDesk S.Store desk owner cs) }

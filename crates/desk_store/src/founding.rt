@@ -3,7 +3,7 @@ ghost use Rattle.std.specs.Prelude.{◌≡◌, ◌≢◌, [], false, IfErr, IsTr
 ghost use Rattle.sqlite.specs.Held.{state};
 ghost use Rattle.sqlite.specs.State.{HasCleanDisk, Survives};
 ghost use Rattle.desk_statements.specs.Tables.{no_schema};
-ghost use Rattle.desk_tables.specs.Steps.{Keeps, Spares, Stays};
+ghost use Rattle.desk_sql.specs.States.{Keeps, Spares, StaysInside};
 ghost use Rattle.desk_store.specs.Histories.{HoldsHistory, ShowsHistory};
 ghost use Rattle.desk_store.specs.Steps.{Founds, IsFailure};
 
@@ -28,7 +28,7 @@ fn found<S: Alter>(tx: &mut Transaction<'_, S>, owner: &Guid) -> Result<(), Writ
         → IsTrue (state S.Store tx.old.conn.now).in_transaction
         → OnOk result (Founds (state S.Store tx.old.conn.now) (state S.Store tx.new.conn.now)
         owner.now) }
-    ensures inside { Stays S.Store tx.old.conn.now tx.new.conn.now result }
+    ensures inside { StaysInside S.Store tx.old.conn.now tx.new.conn.now result }
     ensures kept { Keeps S.Store tx.old.conn.now tx.new.conn.now }
     ensures survives { Spares S.Store tx.old.conn.now tx.new.conn.now }
 {

@@ -6,7 +6,7 @@ ghost use Rattle.sqlite.specs.State.{HasCleanDisk, IsUnchanged};
 ghost use Rattle.sqlite.specs.declared.types.Value.TheVariants.{Blob, Int, Text};
 ghost use Rattle.sqlite_value.specs.Order.{column};
 ghost use Rattle.desk_history.specs.Calls.{History};
-ghost use Rattle.desk_tables.specs.Steps.{Keeps, Spares};
+ghost use Rattle.desk_sql.specs.States.{Keeps, Spares};
 ghost use Rattle.desk_store.specs.Histories.{ShowsHistory};
 ghost use Rattle.desk_store.specs.Rows.{IsGuid, ReadsAs};
 ghost use Rattle.desk_store.specs.Steps.{AreShownAs, IsFailure, IsReadRefusal, ReadsInside};

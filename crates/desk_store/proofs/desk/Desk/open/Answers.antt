@@ -8,9 +8,9 @@ use Rattle.desk_store.proofs.SizeLemmas.{unknown_are_right}
 use Rattle.desk_store.proofs.desk.Desk.open.Goals as goal
 
 pub returns-else-version-ne-VERSION-clause-ok : goal.returns-else-version-ne-VERSION-clause-ok
-returns-else-version-ne-VERSION-clause-ok g c clean owner cs legal shows left = record {
+returns-else-version-ne-VERSION-clause-ok g c clean owner cs history shows left = record {
   usable = refl;
-  legal = legal;
+  history = history;
   shows = c.read_version.ensures.shown clean owner cs shows;
   sizes = unknown_are_right c.unknown.result (tables owner cs) c.unknown.ensures;
   left = still_leaves (λ db. HoldsHistory db owner cs) (state g.S.Store c.args.conn) (state g.S.Store c.read_version.new.conn) c.read_version.ensures.survives left;
