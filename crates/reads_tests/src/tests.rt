@@ -1,10 +1,10 @@
 //! Each read once, of a row that stands there and of none, and rows that aren't the desk's.
 use desk_bytes::Digest;
 use desk_reads::{
-    ReadFault, call_of, certificates_of, component_named, components_of, count_calls, count_components,
-    count_listed, count_people, count_requests, count_revoked_certificates, count_revoked_digests,
-    entry_of, own_row, person_named, person_of_token, request_numbered, return_of,
-    revoked_certificate, revoked_digest, votes_of,
+    ReadFault, call_of, certificates_of, component_named, components_of, count_calls,
+    count_components, count_listed, count_people, count_requests, count_revoked_certificates,
+    count_revoked_digests, entry_of, own_row, person_named, person_of_token, request_numbered,
+    return_of, revoked_certificate, revoked_digest, votes_of,
 };
 use desk_sql::{insert, update};
 use desk_statements::{

@@ -1,7 +1,7 @@
 use Rattle.std.proofs.Common.{◌≡◌, [], rules, refl}
 use Rattle.sqlite.specs.Held.{state}
 use Rattle.std.proofs.lemmas.List.Elements.{All-nil}
-use Rattle.desk_texts.specs.Formed.{IsCall}
+use Rattle.desk_history.specs.Formed.{IsItem}
 use Rattle.desk_history.specs.Tables.{tables}
 use Rattle.desk_statements.specs.Tables.{desk_schema, no_schema}
 use Rattle.desk_store.specs.Histories.{rows_of}
@@ -16,7 +16,7 @@ returns-in-Ok-clause-ok g c clean =
     let shows = made.1 free in
     record {
       usable = refl;
-      history = record { legal = refl; formed = All-nil IsCall };
+      history = record { legal = refl; formed = All-nil IsItem };
       shows = shows;
       sizes = unknown_are_right c.unknown.result (tables owner []) c.unknown.ensures;
       left = c.stop_leaves_what_is_shown.ensures desk_schema (rows_of owner []) shows made.0;
