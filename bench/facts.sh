@@ -1,10 +1,12 @@
 #!/bin/sh
-# Measures `desk facts` on a PE32+ image of 120 MiB with three sections, against openssl, sha256sum and (where installed)
-# pesign on the same file: the least processor time of 7 rounds each, the ratio of `facts` to it, its own ratio to two
-# runs of openssl, which is the least that two hashes cost here, and its peak memory. `facts` reads the file once and makes
-# two hashes of it, one of the whole and one as Authenticode does. Fails where `facts` takes more memory than the file and
-# 8 MiB. Not part of the gate.
+# bench/facts.sh [PROGRAM]: measures `desk facts` on a PE32+ image of 120 MiB with three sections, against openssl, sha256sum
+# and (where installed) pesign on the same file: the least processor time of 7 rounds each, the ratio of `facts` to it, its
+# own ratio to two runs of openssl, which is the least that two hashes cost here, and its peak memory. `facts` reads the file
+# once and makes two hashes of it, one of the whole and one as Authenticode does. Where PROGRAM is given, another build of
+# `desk`, its `facts` is measured in the same rounds. Fails where `facts` takes more memory than the file and 8 MiB. Not part
+# of the gate.
 set -eu
+other=${1:-}
 root=$(CDPATH='' cd -- "$(dirname -- "$(readlink -f -- "$0")")/.." && pwd -P)
 "$root/desk" --version > /dev/null
 program=$root/crates/desk/out/desk
@@ -40,20 +42,21 @@ with open(sys.argv[1], "wb") as file:
     file.write(image)
 PYTHON
 # A process of its own: the memory that is told of a child holds that of the process that began it.
-python3 - "$program" "$room/image.efi" << 'PYTHON'
+python3 - "$program" "$room/image.efi" "$other" << 'PYTHON'
 import os
 import shutil
 import subprocess
 import sys
 
-program, path = sys.argv[1:]
+program, path, other = sys.argv[1:]
 rivals = [
     ("desk facts", [program, "facts", path]),
+    ("facts of PROGRAM", [other, "facts", path]),
     ("openssl dgst -sha256", ["openssl", "dgst", "-sha256", path]),
     ("sha256sum", ["sha256sum", path]),
     ("pesign -h", ["pesign", "-h", "-d", "sha256", "-i", path]),
 ]
-rivals = [(name, words) for name, words in rivals if shutil.which(words[0])]
+rivals = [(name, words) for name, words in rivals if words[0] and shutil.which(words[0])]
 least = {}
 peak = {}
 for _ in range(7):
