@@ -1,5 +1,5 @@
 //! Levels written.
-ghost use Rattle.std.specs.Prelude.{OnErr, OnOk, decimal};
+ghost use Rattle.std.specs.Prelude.{OnErr, OnOk};
 ghost use Rattle.std.specs.Io.KnownBytes.{Appends};
 ghost use Rattle.desk_bytes.specs.Output.{AppendsBeginning};
 ghost use Rattle.sbat.specs.Writing.{head_text, level_text, row_text};
@@ -7,20 +7,8 @@ ghost use Rattle.sbat.specs.Writing.{head_text, level_text, row_text};
 use crate::generation::Generation;
 use crate::level::Level;
 use crate::stamp::Stamp;
-use desk_bytes::{WriteFailed, put};
-use itoa::Buffer;
+use desk_bytes::{WriteFailed, put, put_decimal};
 use std::io::Write;
-
-/// Writes a number in decimal digits.
-fn put_number<W: Write>(number: u64, writer: &mut W) -> Result<(), WriteFailed>
-    ensures ok { OnOk result (Appends (W.contents writer.old) (W.contents writer.new)
-        (decimal number)) }
-    ensures err { OnErr result (AppendsBeginning (W.contents writer.old) (W.contents writer.new)
-        (decimal number)) }
-{
-    let mut digits = Buffer::new();
-    put(digits.format(number).as_bytes(), writer)
-}
 
 /// Writes the first line of a level.
 fn put_head<W: Write>(stamp: Stamp, writer: &mut W) -> Result<(), WriteFailed>
@@ -30,7 +18,7 @@ fn put_head<W: Write>(stamp: Stamp, writer: &mut W) -> Result<(), WriteFailed>
         (head_text stamp)) }
 {
     put(b"sbat,1,", writer)?;
-    put_number(stamp.value(), writer)?;
+    put_decimal(stamp.value(), writer)?;
     put(b"\n", writer)
 }
 
@@ -43,7 +31,7 @@ fn put_row<W: Write>(name: &str, generation: Generation, writer: &mut W) -> Resu
 {
     put(name.as_bytes(), writer)?;
     put(b",", writer)?;
-    put_number(u64::from(generation.value()), writer)?;
+    put_decimal(u64::from(generation.value()), writer)?;
     put(b"\n", writer)
 }
 
