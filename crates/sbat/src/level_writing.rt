@@ -6,12 +6,13 @@ ghost use Rattle.sbat.specs.Writing.{head_text, level_text, row_text};
 
 use crate::generation::Generation;
 use crate::level::Level;
+use crate::name::ComponentName;
 use crate::stamp::Stamp;
 use desk_bytes::{WriteFailed, put, put_decimal};
 use std::io::Write;
 
-/// Writes the first line of a level.
-fn put_head<W: Write>(stamp: Stamp, writer: &mut W) -> Result<(), WriteFailed>
+/// Writes the first line of a level: `sbat,1,` and the stamp. Takes no memory.
+pub fn level_head<W: Write>(stamp: Stamp, writer: &mut W) -> Result<(), WriteFailed>
     ensures ok { OnOk result (Appends (W.contents writer.old) (W.contents writer.new)
         (head_text stamp)) }
     ensures err { OnErr result (AppendsBeginning (W.contents writer.old) (W.contents writer.new)
@@ -35,6 +36,20 @@ fn put_row<W: Write>(name: &str, generation: Generation, writer: &mut W) -> Resu
     put(b"\n", writer)
 }
 
+/// Writes the line of one name: the name, a comma and its generation without leading zeros. Takes no memory.
+pub fn level_row<W: Write>(
+    name: &ComponentName,
+    generation: Generation,
+    writer: &mut W,
+) -> Result<(), WriteFailed>
+    ensures ok { OnOk result (Appends (W.contents writer.old) (W.contents writer.new)
+        (row_text name.now generation)) }
+    ensures err { OnErr result (AppendsBeginning (W.contents writer.old) (W.contents writer.new)
+        (row_text name.now generation)) }
+{
+    put_row(name.as_str(), generation, writer)
+}
+
 /// Writes the text of a level: `sbat,1,` and the stamp, then each name, a comma and its generation without
 /// leading zeros, ascending by the names' bytes. LF ends each line. Takes no memory.
 pub fn write_level<W: Write>(level: &Level, writer: &mut W) -> Result<(), WriteFailed>
@@ -43,7 +58,7 @@ pub fn write_level<W: Write>(level: &Level, writer: &mut W) -> Result<(), WriteF
     ensures err { OnErr result (AppendsBeginning (W.contents writer.old) (W.contents writer.new)
         (level_text level.now)) }
 {
-    put_head(level.stamp(), writer)?;
+    level_head(level.stamp(), writer)?;
     for (name, generation) in level.iter() {
         put_row(name, generation, writer)?;
     }

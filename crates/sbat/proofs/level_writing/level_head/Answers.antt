@@ -1,7 +1,7 @@
 use Rattle.std.proofs.Common.{◌++◌, codes, decimal}
 use Rattle.std.proofs.KnownBytes.{Appends-trans}
 use Rattle.desk_bytes.proofs.OutputLemmas.{AppendsBeginning-after, AppendsBeginning-before, OnErr-after, OnErr-fact}
-use Rattle.sbat.proofs.level_writing.put_head.Goals as goal
+use Rattle.sbat.proofs.level_writing.level_head.Goals as goal
 
 pub returns-in_err-put-clause-err : goal.returns-in_err-put-clause-err
 returns-in_err-put-clause-err g c =
