@@ -45,11 +45,13 @@ db_lists owner cs =
 abbrev pub db : List ℕ → History → List ℕ
 db owner cs = spelling (db_lists owner cs)
 
--- the text of the level: its stamp, and a line for each name beside `sbat`, ascending
+-- the level's components beside `sbat`, ascending by their names
+abbrev pub level_components : History → List Component
+level_components cs = ascending_by (λ (x : Component). x.name) (level_rows (generations cs))
+
+-- the text of the level: its stamp, and a line for each of these components
 abbrev pub level : History → List ℕ
-level cs =
-    head_text (stamp cs)
-    ++ rows_text (map (λ x. (x.name, x.generation)) (ascending_by (λ (x : Component). x.name) (level_rows (generations cs))))
+level cs = head_text (stamp cs) ++ rows_text (map (λ x. (x.name, x.generation)) (level_components cs))
 
 -- own: a line of the minutes: number, caller, key, text and reply, parted by tabs
 abbrev pub minute_line : Minute → List ℕ

@@ -4,4 +4,4 @@
 
 mod laws;
 
-pub use laws::exports_are_written;
+pub use laws::{exports_are_their_parts, exports_are_written};

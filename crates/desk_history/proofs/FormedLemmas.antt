@@ -13,7 +13,7 @@ use Rattle.desk_texts.specs.declared.kind.ListedKind.{ListedKind}
 use Rattle.desk_texts.specs.declared.kind.ListedKind.TheVariants as kinds
 use Rattle.desk_texts.specs.Commands.{IsCommand, IsCount, IsReply}
 use Rattle.desk_texts.specs.Formed.{IsWithin}
-use Rattle.desk_texts.specs.Forms.{is_request_number}
+use Rattle.desk_texts.specs.Forms.{greatest_number, is_request_number}
 use Rattle.desk_texts.proofs.FormLemmas.{joined}
 use Rattle.desk_texts.proofs.ReplyLemmas.{reply_text_of-same}
 use Rattle.desk_history.specs.Calls.{History, distinct, is_among, item}
@@ -64,8 +64,8 @@ gained_few m kind cs c small h =
 number_formed : (n : ℕ) → n ≤ 100000 → is_request_number (n + 1) ≡ true
 number_formed n h =
     let low : leb 1 (n + 1) ≡ true = grind (arith, nat_tests) in
-    let high : leb (n + 1) 999999 ≡ true = grind (arith, nat_tests) in
-    joined (leb 1 (n + 1)) (leb (n + 1) 999999) low high
+    let high : leb (n + 1) greatest_number ≡ true = grind (arith, nat_tests) in
+    joined (leb 1 (n + 1)) (leb (n + 1) greatest_number) low high
 
 -- the reply to a command in its forms, in a call with which the desk keeps within its limits
 reply_formed : (cs : History) (c : Call) (given : Command) → IsCommand given → IsWithin given → is_legal cs ≡ true → Within (item c ∷ cs) → IsReply (reply_to cs c given)

@@ -6,20 +6,8 @@ ghost use Rattle.desk_bytes.specs.Refusals.{name_of, number_of};
 ghost use Rattle.desk_lines.specs.FaultLines.{fault_line, place_text, word_of};
 ghost use Rattle.desk_lines.specs.Statuses.{status_of};
 
-use desk_bytes::{Refusal, WriteFailed, put};
-use itoa::Buffer;
+use desk_bytes::{Refusal, WriteFailed, put, put_decimal};
 use std::io::Write;
-
-/// Writes a number in decimal digits.
-fn put_number<W: Write>(number: u64, writer: &mut W) -> Result<(), WriteFailed>
-    ensures ok { OnOk result (Appends (W.contents writer.old) (W.contents writer.new)
-        (decimal number)) }
-    ensures err { OnErr result (AppendsBeginning (W.contents writer.old) (W.contents writer.new)
-        (decimal number)) }
-{
-    let mut digits = Buffer::new();
-    put(digits.format(number).as_bytes(), writer)
-}
 
 /// Writes the first word.
 fn put_word<W: Write>(refusal: Refusal, writer: &mut W) -> Result<(), WriteFailed>
@@ -43,7 +31,7 @@ fn put_front<W: Write>(refusal: Refusal, writer: &mut W) -> Result<(), WriteFail
         (word_of refusal ++ decimal (number_of refusal))) }
 {
     put_word(refusal, writer)?;
-    put_number(u64::from(refusal.number()), writer)
+    put_decimal(u64::from(refusal.number()), writer)
 }
 
 /// Writes the name, behind a space.
@@ -68,7 +56,7 @@ fn put_place<W: Write>(place: Option<u64>, writer: &mut W) -> Result<(), WriteFa
         return Ok(());
     };
     put(b" at ", writer)?;
-    put_number(place, writer)
+    put_decimal(place, writer)
 }
 
 /// Writes the place and the end of the line.

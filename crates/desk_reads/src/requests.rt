@@ -30,8 +30,8 @@ pub fn request_numbered<S: Alter>(
     ensures kept { Keeps S.Store tx.old.conn.now tx.new.conn.now }
     ensures survives { Spares S.Store tx.old.conn.now tx.new.conn.now }
 {
-    let key = key_of(request);
-    let row = row_of(alloc, tx, SELECT_REQUEST, params![&key])?;
+    let no = key_of(request);
+    let row = row_of(alloc, tx, SELECT_REQUEST, params![&no])?;
     Ok(row)
 }
 

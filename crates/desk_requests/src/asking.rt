@@ -5,7 +5,7 @@ ghost use Rattle.desk_requests.specs.Wanted as want;
 ghost use Rattle.desk_requests.specs.declared.fault.AskedFault.TheVariants.{BadField, NoSuchRequest};
 
 use crate::{Asked, AskedFault, Route, Wanted};
-use desk_texts::{Key, RequestNumber, TextFault, Title};
+use desk_texts::{GREATEST_NUMBER, Key, RequestNumber, TextFault, Title};
 use sbat::Stamp;
 use std::alloc::Global;
 
@@ -65,7 +65,7 @@ fn number(wanted: &Wanted<'_>) -> Result<RequestNumber, AskedFault>
     let Some(number) = RequestNumber::parse(wanted.number) else {
         return Err(AskedFault::NoSuchRequest);
     };
-    prove!(number.value() <= 999_999);
+    prove!(number.value() <= GREATEST_NUMBER);
     Ok(number)
 }
 

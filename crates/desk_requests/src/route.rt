@@ -5,6 +5,9 @@ ghost use Rattle.desk_requests.specs.Routes as spec;
 use crate::Path;
 use desk_bytes::LONGEST_IMAGE;
 
+/// The most bytes of a body that is no image: 4 MiB.
+const LONGEST_BODY: u64 = 4_194_304;
+
 /// What a request is for: a path with one of its methods.
 #[derive(Clone, Copy, Debug, PartialEq, Eq)]
 pub enum Route {
@@ -72,7 +75,7 @@ impl Methods {
 }
 
 impl Route {
-    /// The most bytes of a body: `LONGEST_IMAGE` where it is an image, else 4,194,304.
+    /// The most bytes of a body: `LONGEST_IMAGE` where it is an image, else `LONGEST_BODY`.
     pub(crate) fn limit(self) -> u64
         ensures { result ≡ spec.limit_of self }
     {
@@ -94,7 +97,7 @@ impl Route {
             | Route::Dbx
             | Route::Db
             | Route::Level
-            | Route::Report => 4_194_304,
+            | Route::Report => LONGEST_BODY,
         }
     }
 

@@ -217,49 +217,14 @@ impl Refused {
     pub fn place(self) -> Option<u64>
         ensures { result ≡ spec.place_of self }
     {
-        match self {
-            Refused::SbatRow(place)
-            | Refused::List(place)
-            | Refused::EntrySize(place)
-            | Refused::CsvRow(place) => Some(place),
-            Refused::Short
-            | Refused::NoMz
-            | Refused::NoPe
-            | Refused::Magic
-            | Refused::NotEfi
-            | Refused::Headers
-            | Refused::Sections
-            | Refused::Overlap
-            | Refused::Table
-            | Refused::Der
-            | Refused::TwoSbat
-            | Refused::TooLong
-            | Refused::UnknownCaller
-            | Refused::NotYourRole
-            | Refused::KeyReused
-            | Refused::NoSuchRequest
-            | Refused::WrongState
-            | Refused::OwnRequest
-            | Refused::AlreadyReviewed
-            | Refused::DigestDiffers
-            | Refused::Revoked
-            | Refused::NotListed
-            | Refused::AlreadyRevoked
-            | Refused::NotHigher
-            | Refused::StampNotLater
-            | Refused::AlreadyListed
-            | Refused::NotThere
-            | Refused::NameTaken
-            | Refused::Full
-            | Refused::BadHead
-            | Refused::BadField
-            | Refused::BadBody
-            | Refused::NoRoute
-            | Refused::BadMethod(_)
-            | Refused::LengthNeeded
-            | Refused::TooLarge
-            | Refused::NotSupported
-            | Refused::Unavailable(_) => None,
+        if let Refused::SbatRow(place)
+        | Refused::List(place)
+        | Refused::EntrySize(place)
+        | Refused::CsvRow(place) = self
+        {
+            Some(place)
+        } else {
+            None
         }
     }
 

@@ -22,6 +22,7 @@ use Rattle.desk_texts.specs.declared.state.State.TheVariants as states
 use Rattle.desk_history.specs.declared.write.Write.{Write}
 use Rattle.desk_history.specs.declared.write.Write.TheVariants as writes
 use Rattle.desk_texts.specs.Callers.{caller_name}
+use Rattle.desk_texts.specs.Forms.{greatest_number}
 use Rattle.desk_history.specs.Calls.{History, item}
 use Rattle.desk_history.specs.Requests.{Request, Submitted, has_number, is_returned, is_withdrawn, numbered, request, requests, state, state_by, submitted, votes, votes_on}
 use Rattle.desk_history.specs.Tables.{Tables, certificate_rows, component_rows, request_row, tables}
@@ -177,12 +178,12 @@ module _ (v : View) (caller : Caller) (s : Submission) (owner : List ℕ) (cs : 
       ∙ none_taken (λ row. writes.RequestComponent row) (λ row. refl) (reverse (component_rows r)))))
 
 -- a desk that a legal history stands for has numbers left
-pub has_numbers : (v : View) (caller : Caller) (s : Submission) (owner : List ℕ) (cs : History) (key : List ℕ) → is_legal cs ≡ true → Shows v (tables owner cs) (called caller key (command.Submit s)) → (999999 ≤ v.sizes.requests) → {A : Type 0} → A
+pub has_numbers : (v : View) (caller : Caller) (s : Submission) (owner : List ℕ) (cs : History) (key : List ℕ) → is_legal cs ≡ true → Shows v (tables owner cs) (called caller key (command.Submit s)) → (greatest_number ≤ v.sizes.requests) → {A : Type 0} → A
 has_numbers v caller s owner cs key legal shown full =
     let number : v.sizes.requests ≡ length (requests cs) = shown.sizes counted.Requests refl ∙ length-map (requests cs) (λ r. request_row (state cs r.number) r) in
     absurd (no_more v.sizes.requests (length (requests cs)) number full (legal_room cs legal))
   where
-    no_more : (n m : ℕ) → n ≡ m → 999999 ≤ n → m ≤ 100000 → ⊥
+    no_more : (n m : ℕ) → n ≡ m → greatest_number ≤ n → m ≤ 100000 → ⊥
     no_more n m is h k = omega arith
 
 pub count_seen : (v : View) (caller : Caller) (s : Submission) (owner : List ℕ) (cs : History) (key : List ℕ) → Shows v (tables owner cs) (called caller key (command.Submit s)) → v.sizes.requests ≡ length (requests cs)

@@ -9,12 +9,13 @@ mod submissions;
 ghost use Rattle.std.specs.Prelude.{◌≡◌, ◌≤◌, ◌+◌, [], ◌∷◌, ◌++◌, IfErr, IsTrue, MatchOption, OnOk};
 ghost use Rattle.desk_history.specs.DecisionRefusals.{may_answer};
 ghost use Rattle.desk_rules.specs.DecisionSteps.{DecidesOwn, Gives};
+ghost use Rattle.desk_texts.specs.Forms.{greatest_number};
 ghost use Rattle.desk_texts.specs.declared.command.Command.TheVariants.{Submit};
 
 use crate::view::{Changes, View};
 use desk_bytes::Refusal;
 use desk_history::Write;
-use desk_texts::{Caller, Command, ListedKind, Reply, RequestNumber, Submission};
+use desk_texts::{Caller, Command, GREATEST_NUMBER, ListedKind, Reply, RequestNumber, Submission};
 use imports::import;
 use level::raise_level;
 use lists::{list_certificate, list_digest, revoke, unlist};
@@ -52,9 +53,9 @@ fn two(alloc: Global, reply: Reply, first: Write, second: Write) -> Result<Chang
 
 /// The number after so many requests, if there is one.
 fn number_after(requests: u64) -> Option<RequestNumber>
-    ensures { MatchOption result (999999 ≤ requests) (λ number. number ≡ requests + 1) }
+    ensures { MatchOption result (greatest_number ≤ requests) (λ number. number ≡ requests + 1) }
 {
-    if 999_999 <= requests {
+    if GREATEST_NUMBER <= requests {
         return None;
     }
     RequestNumber::new(requests + 1)

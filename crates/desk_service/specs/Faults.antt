@@ -5,6 +5,8 @@ use Rattle.desk_bytes.specs.declared.refusal.Refusal.TheVariants as refusal
 use Rattle.pe_image.specs.Faults as layout
 use Rattle.authenticode.specs.Faults as carried
 use Rattle.sbat.specs.Refusals as sbat
+use Rattle.desk_service.specs.declared.part.PartFault.{PartFault}
+use Rattle.desk_service.specs.declared.part.PartFault.TheVariants as part
 use Rattle.desk_service.specs.declared.fault.FactsFault.{FactsFault}
 use Rattle.desk_service.specs.declared.fault.FactsFault.TheVariants.{Carried, Components, Layout, NoMemory, Read}
 
@@ -15,6 +17,15 @@ refusal_of Read = refusal.Read
 refusal_of (Carried fault) = carried.refusal_of fault
 refusal_of (Components fault) = sbat.refusal_of fault
 refusal_of NoMemory = refusal.NoMemory
+
+-- own: a read behind the headers that failed is the fault Read
+abbrev pub read_failed : FactsFault
+read_failed = Read
+
+-- own: what a fault of a part is to an image
+abbrev pub of_part : PartFault → FactsFault
+of_part part.Read = Read
+of_part part.NoMemory = NoMemory
 
 -- own: the line of SBAT text
 abbrev pub place_of : FactsFault → Option ℕ

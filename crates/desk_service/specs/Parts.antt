@@ -10,6 +10,10 @@ abbrev pub part_of : List ℕ → Option Span → List ℕ
 part_of f None = []
 part_of f (Some p) = slice_range f p.from p.to
 
+-- own: a read that failed is the fault Read
+abbrev pub read_failed : PartFault
+read_failed = fault.Read
+
 -- a part isn't read for this, of which the counts of failures before and after tell
 abbrev pub IsPartFault : ℕ → ℕ → PartFault → Type 0
 IsPartFault before after fault.Read = HaveRisen before after

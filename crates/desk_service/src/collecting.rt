@@ -8,7 +8,7 @@ ghost use Rattle.desk_service.specs.ImageFacts.{HasCarried, IsFactsOf, IsFirstFa
 ghost use Rattle.desk_service.specs.ImageFacts.{sbat_bytes, table_bytes};
 
 use crate::fault::FactsFault;
-use crate::part::{PartFault, read_part};
+use crate::part::read_part;
 use authenticode::{carried, sums};
 use desk_texts::{Carried, Components, Extent, Facts};
 use pe_image::{Layout, Source, gap, layout, sbat_range, table};
@@ -29,15 +29,9 @@ fn read_carried<S: Source>(
 
     ensures reads { OnlyReads S.content S.failures source.old source.new }
 {
-    let bytes = match read_part(alloc, source, table(layout)) {
-        Ok(bytes) => bytes,
-        Err(PartFault::Read) => return Err(FactsFault::Read),
-        Err(PartFault::NoMemory) => return Err(FactsFault::NoMemory),
-    };
-    match carried(alloc, &bytes) {
-        Ok(digests) => Ok(Carried::of(digests)),
-        Err(fault) => Err(FactsFault::Carried(fault)),
-    }
+    let bytes = read_part(alloc, source, table(layout))?;
+    let digests = carried(alloc, &bytes)?;
+    Ok(Carried::of(digests))
 }
 
 /// The components of an image with this layout, whose certificates are right.
@@ -55,15 +49,8 @@ fn read_components<S: Source>(
 
     ensures reads { OnlyReads S.content S.failures source.old source.new }
 {
-    let text = match read_part(alloc, source, sbat_range(layout)) {
-        Ok(text) => text,
-        Err(PartFault::Read) => return Err(FactsFault::Read),
-        Err(PartFault::NoMemory) => return Err(FactsFault::NoMemory),
-    };
-    let found = match components(alloc, &text) {
-        Ok(found) => found,
-        Err(fault) => return Err(FactsFault::Components(fault)),
-    };
+    let text = read_part(alloc, source, sbat_range(layout))?;
+    let found = components(alloc, &text)?;
     let Some(components) = Components::new(found) else {
         unreachable!()
     };
@@ -85,16 +72,11 @@ pub fn facts<S: Source>(alloc: Global, source: &mut S) -> Result<Facts, FactsFau
 
     ensures reads { OnlyReads S.content S.failures source.old source.new }
 {
-    let layout = match layout(source) {
-        Ok(layout) => layout,
-        Err(fault) => return Err(FactsFault::Layout(fault)),
-    };
+    let layout = layout(source)?;
     let Some(extent) = Extent::new(source.len(), gap(&layout)) else {
         unreachable!()
     };
-    let Ok(hashes) = sums(source, &layout) else {
-        return Err(FactsFault::Read);
-    };
+    let hashes = sums(source, &layout)?;
     let carried = read_carried(alloc, source, &layout)?;
     let components = read_components(alloc, source, &layout)?;
     Ok(Facts {

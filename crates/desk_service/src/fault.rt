@@ -1,10 +1,12 @@
 //! Why an image has no facts.
 ghost use Rattle.std.specs.Prelude.{◌≡◌};
-ghost use Rattle.desk_service.specs.Faults.{place_of, refusal_of};
+ghost use Rattle.desk_service.specs.Faults.{of_part, place_of, read_failed, refusal_of};
+ghost use Rattle.desk_service.specs.declared.fault.FactsFault.TheVariants as fact;
 
+use crate::part::PartFault;
 use authenticode::CarriedFault;
 use desk_bytes::Refusal;
-use pe_image::LayoutFault;
+use pe_image::{LayoutFault, ReadFailed};
 use sbat::SbatFault;
 use thiserror::Error;
 
@@ -26,6 +28,49 @@ pub enum FactsFault {
     /// Memory was refused.
     #[error("no memory")]
     NoMemory,
+}
+
+impl From<LayoutFault> for FactsFault {
+    ghost from_gives = { λ layout fault. fault ≡ fact.Layout layout };
+
+    fn from(fault: LayoutFault) -> FactsFault {
+        FactsFault::Layout(fault)
+    }
+}
+
+impl From<ReadFailed> for FactsFault {
+    ghost from_gives = { λ _ fault. fault ≡ read_failed };
+
+    fn from(_: ReadFailed) -> FactsFault {
+        FactsFault::Read
+    }
+}
+
+impl From<PartFault> for FactsFault {
+    ghost from_gives = { λ part fault. fault ≡ of_part part };
+
+    fn from(fault: PartFault) -> FactsFault {
+        match fault {
+            PartFault::Read => FactsFault::Read,
+            PartFault::NoMemory => FactsFault::NoMemory,
+        }
+    }
+}
+
+impl From<CarriedFault> for FactsFault {
+    ghost from_gives = { λ carried fault. fault ≡ fact.Carried carried };
+
+    fn from(fault: CarriedFault) -> FactsFault {
+        FactsFault::Carried(fault)
+    }
+}
+
+impl From<SbatFault> for FactsFault {
+    ghost from_gives = { λ sbat fault. fault ≡ fact.Components sbat };
+
+    fn from(fault: SbatFault) -> FactsFault {
+        FactsFault::Components(fault)
+    }
 }
 
 impl FactsFault {

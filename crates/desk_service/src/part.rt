@@ -2,9 +2,9 @@
 ghost use Rattle.std.specs.Prelude.{◌≡◌, ◌≤◌, ℕ, List, length, IfOk, IfErr, IfSome};
 ghost use Rattle.pe_image.specs.Sources.{OnlyReads};
 ghost use Rattle.pe_image.specs.Spans.{IsWithin};
-ghost use Rattle.desk_service.specs.Parts.{IsPartFault, part_of};
+ghost use Rattle.desk_service.specs.Parts.{IsPartFault, part_of, read_failed};
 
-use pe_image::{Source, Span};
+use pe_image::{ReadFailed, Source, Span};
 use std::alloc::Global;
 
 /// Why a part isn't in memory.
@@ -12,6 +12,14 @@ use std::alloc::Global;
 pub enum PartFault {
     Read,
     NoMemory,
+}
+
+impl From<ReadFailed> for PartFault {
+    ghost from_gives = { λ _ fault. fault ≡ read_failed };
+
+    fn from(_: ReadFailed) -> PartFault {
+        PartFault::Read
+    }
 }
 
 /// The bytes of a span, none where there is no span.
@@ -34,8 +42,6 @@ pub fn read_part<S: Source>(
     let Ok(mut bytes) = vec![in alloc; 0u8; size] else {
         return Err(PartFault::NoMemory);
     };
-    let Ok(()) = source.read_at(span.from, &mut bytes) else {
-        return Err(PartFault::Read);
-    };
+    source.read_at(span.from, &mut bytes)?;
     Ok(bytes)
 }

@@ -1,8 +1,8 @@
 //! The twelve tables, and the function that makes them.
 ghost use Rattle.std.specs.Prelude.{◌≡◌, IsTrue, OnOk};
 ghost use Rattle.sqlite.specs.Held.{state};
-ghost use Rattle.sqlite.specs.State.{HasCleanDisk, KeepsCommit, Survives};
-ghost use Rattle.desk_sql.specs.States.{Makes};
+ghost use Rattle.sqlite.specs.State.{HasCleanDisk};
+ghost use Rattle.desk_sql.specs.States.{Keeps, Makes, Spares};
 ghost use Rattle.desk_statements.specs.Tables.{desk_schema, no_schema};
 
 use desk_sql::create_tables;
@@ -31,11 +31,8 @@ pub fn make<S: Alter>(tx: &mut Transaction<'_, S>) -> Result<(), Error>
         → IsTrue (state S.Store tx.old.conn.now).in_transaction
         → OnOk result (Makes (state S.Store tx.old.conn.now)
         (state S.Store tx.new.conn.now) no_schema desk_schema) }
-    ensures kept { HasCleanDisk (state S.Store tx.new.conn.now)
-        → IsTrue (state S.Store tx.old.conn.now).in_transaction
-        → KeepsCommit (state S.Store tx.old.conn.now) (state S.Store tx.new.conn.now) }
-    ensures survives { Survives (state S.Store tx.old.conn.now) (state S.Store tx.new.conn.now)
-        (λ _. ⊥) }
+    ensures kept { Keeps S.Store tx.old.conn.now tx.new.conn.now }
+    ensures survives { Spares S.Store tx.old.conn.now tx.new.conn.now }
 {
     match create_tables(tx, &CREATE_TABLES) {
         Ok(()) => Ok(()),

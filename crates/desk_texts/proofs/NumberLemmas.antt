@@ -6,7 +6,7 @@ use Rattle.std.proofs.lemmas.Bool.Decides.{nat_tests}
 use Rattle.std.proofs.lemmas.Fmt.{decimal_digit, decimal_nonempty, length-decimal-le, first_decimal, digits_decimal, decimal-digits_value}
 use Rattle.std.proofs.lemmas.Str.Parse.{IsNumeralModel, numerals_by_fold, digits_value_short}
 use Rattle.sbat.specs.Fields.{decimal_of}
-use Rattle.desk_texts.specs.Forms.{is_decimal, is_request_number}
+use Rattle.desk_texts.specs.Forms.{greatest_number, is_decimal, is_request_number}
 use Rattle.desk_texts.proofs.FormLemmas.{both, joined}
 
 pub some_false : (b : Bool) → b ≡ true → b ≡ false → ⊥
@@ -21,9 +21,9 @@ number_after n text = fold (λ m b. 10 * m + (b - 48)) n text
 pub own : IsNumeralModel are_digits decimal_of
 own = numerals_by_fold are_digits (search rules) number_after (search rules)
 
-pub number_size : (n : ℕ) → is_request_number n ≡ true → (1 ≤ n) × (n ≤ 999999)
+pub number_size : (n : ℕ) → is_request_number n ≡ true → (1 ≤ n) × (n ≤ greatest_number)
 number_size n h =
-    let parts = both (leb 1 n) (leb n 999999) h in
+    let parts = both (leb 1 n) (leb n greatest_number) h in
     let low = parts.0 in
     let high = parts.1 in
     (grind (arith, nat_tests), grind (arith, nat_tests))
@@ -75,10 +75,10 @@ decimal_of-read text h =
     let same = decimal-digits_value own text front.1 some alone (omega arith) in
     let positive = nonzero text (decimal_of text) (sym same) first in
     let above : leb 1 (decimal_of text) ≡ true = grind (arith, nat_tests) in
-    let below : leb (decimal_of text) 999999 ≡ true = grind (arith, nat_tests) in
+    let below : leb (decimal_of text) greatest_number ≡ true = grind (arith, nat_tests) in
     record {
       same = sym same;
-      form = joined (leb 1 (decimal_of text)) (leb (decimal_of text) 999999) above below;
+      form = joined (leb 1 (decimal_of text)) (leb (decimal_of text) greatest_number) above below;
     }
 
 -- a number that was made of what was read is the one whose text this is

@@ -11,31 +11,55 @@ is_between low high byte = nat_le low byte && nat_le byte high
 abbrev pub is_name_byte : ℕ → Bool
 is_name_byte byte = is_ascii_lowercase byte || is_ascii_digit byte || (byte == 45)
 
+-- own: the most bytes of a person's name
+abbrev pub longest_name : ℕ
+longest_name = 32
+
+-- own: the most bytes of a key
+abbrev pub longest_key : ℕ
+longest_key = 64
+
+-- own: the most bytes of a title
+abbrev pub longest_title : ℕ
+longest_title = 120
+
+-- own: the most bytes of a note
+abbrev pub longest_note : ℕ
+longest_note = 200
+
+-- own: the greatest number of a request
+abbrev pub greatest_number : ℕ
+greatest_number = 999999
+
+-- own: the most digits of a request's number
+abbrev pub most_digits : ℕ
+most_digits = 6
+
 -- own: a person's name is 1 to 32 letters in lower case, digits and hyphens, the first a letter
 abbrev pub is_person_name : List ℕ → Bool
 is_person_name text =
-    nat_le 1 (length text) && nat_le (length text) 32 && is_ascii_lowercase (slice_index text 0) && list_all is_name_byte text
+    nat_le 1 (length text) && nat_le (length text) longest_name && is_ascii_lowercase (slice_index text 0) && list_all is_name_byte text
 
 -- own: a key is 1 to 64 visible characters of ASCII
 abbrev pub is_key : List ℕ → Bool
-is_key text = nat_le 1 (length text) && nat_le (length text) 64 && list_all (is_between 33 126) text
+is_key text = nat_le 1 (length text) && nat_le (length text) longest_key && list_all (is_between 33 126) text
 
 -- own: a title is 1 to 120 characters of ASCII, visible or spaces
 abbrev pub is_title : List ℕ → Bool
-is_title text = nat_le 1 (length text) && nat_le (length text) 120 && list_all (is_between 32 126) text
+is_title text = nat_le 1 (length text) && nat_le (length text) longest_title && list_all (is_between 32 126) text
 
 -- own: a note is at most 200 characters of ASCII, visible or spaces
 abbrev pub is_note : List ℕ → Bool
-is_note text = nat_le (length text) 200 && list_all (is_between 32 126) text
+is_note text = nat_le (length text) longest_note && list_all (is_between 32 126) text
 
 -- own: request numbers are 1 to 999,999
 abbrev pub is_request_number : ℕ → Bool
-is_request_number number = is_between 1 999999 number
+is_request_number number = is_between 1 greatest_number number
 
 -- the decimal text of a number of 1 to 6 digits, without leading zeros
 abbrev pub is_decimal : List ℕ → Bool
 is_decimal text =
-    nat_le 1 (length text) && nat_le (length text) 6 && not (slice_index text 0 == 48) && list_all is_ascii_digit text
+    nat_le 1 (length text) && nat_le (length text) most_digits && not (slice_index text 0 == 48) && list_all is_ascii_digit text
 
 -- the decimal text of a number, without leading zeros
 abbrev pub is_numeral : List ℕ → Bool

@@ -1,5 +1,5 @@
 //! The forms of the desk's texts.
-ghost use Rattle.std.specs.Prelude.{◌≡◌, ◌≤◌, ◌∷◌, ◌++◌, IfNone, IfSome, MatchResult, length, not, position, string_bytes, true};
+ghost use Rattle.std.specs.Prelude.{◌≡◌, ◌≤◌, ◌∷◌, ◌++◌, IfNone, IfSome, MatchResult, false, length, not, position, string_bytes, true};
 ghost use Rattle.std.specs.Char.{is_ascii_digit};
 ghost use Rattle.std.specs.List.{list_all};
 ghost use Rattle.desk_texts.specs.Forms as spec;
@@ -7,6 +7,21 @@ ghost use Rattle.desk_texts.specs.Forms as spec;
 use crate::TextFault;
 use std::alloc::Global;
 use std::str;
+
+/// The most bytes of a person's name.
+const LONGEST_NAME: usize = 32;
+
+/// The most bytes of a key.
+const LONGEST_KEY: usize = 64;
+
+/// The most bytes of a title.
+const LONGEST_TITLE: usize = 120;
+
+/// The most bytes of a note.
+const LONGEST_NOTE: usize = 200;
+
+/// The most digits of a request's number.
+const MOST_DIGITS: usize = 6;
 
 /// Whether each byte stands from `low` to `high`, both included.
 fn are_between(text: &[u8], low: u8, high: u8) -> bool
@@ -40,7 +55,7 @@ fn are_digits(text: &[u8]) -> bool
 pub(crate) fn is_person_name(text: &[u8]) -> bool
     ensures { result ≡ spec.is_person_name text.now }
 {
-    if text.is_empty() || 32 < text.len() || !text[0].is_ascii_lowercase() {
+    if text.is_empty() || LONGEST_NAME < text.len() || !text[0].is_ascii_lowercase() {
         return false;
     }
     are_name_bytes(text)
@@ -50,7 +65,7 @@ pub(crate) fn is_person_name(text: &[u8]) -> bool
 pub(crate) fn is_key(text: &[u8]) -> bool
     ensures { result ≡ spec.is_key text.now }
 {
-    if text.is_empty() || 64 < text.len() {
+    if text.is_empty() || LONGEST_KEY < text.len() {
         return false;
     }
     are_between(text, 0x21, 0x7E)
@@ -60,7 +75,7 @@ pub(crate) fn is_key(text: &[u8]) -> bool
 pub(crate) fn is_title(text: &[u8]) -> bool
     ensures { result ≡ spec.is_title text.now }
 {
-    if text.is_empty() || 120 < text.len() {
+    if text.is_empty() || LONGEST_TITLE < text.len() {
         return false;
     }
     are_between(text, 0x20, 0x7E)
@@ -70,7 +85,7 @@ pub(crate) fn is_title(text: &[u8]) -> bool
 pub(crate) fn is_note(text: &[u8]) -> bool
     ensures { result ≡ spec.is_note text.now }
 {
-    if 200 < text.len() {
+    if LONGEST_NOTE < text.len() {
         return false;
     }
     are_between(text, 0x20, 0x7E)
@@ -80,7 +95,7 @@ pub(crate) fn is_note(text: &[u8]) -> bool
 pub(crate) fn is_decimal(text: &[u8]) -> bool
     ensures { result ≡ spec.is_decimal text.now }
 {
-    if text.is_empty() || 6 < text.len() || text[0] == b'0' {
+    if text.is_empty() || MOST_DIGITS < text.len() || text[0] == b'0' {
         return false;
     }
     are_digits(text)
@@ -117,7 +132,7 @@ pub(crate) fn parted_at_space(text: &[u8]) -> Option<(&[u8], &[u8])>
 }
 
 /// The text, held. Takes memory for it.
-pub(crate) fn held(alloc: Global, text: &[u8]) -> Result<String, TextFault>
+fn held(alloc: Global, text: &[u8]) -> Result<String, TextFault>
     requires { list_all (spec.is_between 32 126) text.now ≡ true }
     ensures { MatchResult result (λ held. string_bytes held ≡ text.now)
         (λ fault. fault ≡ TextFault.NoMemory) }
@@ -125,5 +140,19 @@ pub(crate) fn held(alloc: Global, text: &[u8]) -> Result<String, TextFault>
     match str::from_utf8(text) {
         Ok(text) => String::from_str(alloc, text).map_err(|_| TextFault::NoMemory),
         Err(_) => unreachable!(),
+    }
+}
+
+/// The text, held, where it has its form. Takes memory for it.
+pub(crate) fn held_in_form(alloc: Global, has_form: bool, text: &[u8]) -> Result<String, TextFault>
+    requires { has_form ≡ true → list_all (spec.is_between 32 126) text.now ≡ true }
+    ensures found { has_form ≡ true → MatchResult result (λ held. string_bytes held ≡ text.now)
+        (λ fault. fault ≡ TextFault.NoMemory) }
+    ensures only { has_form ≡ false → result ≡ Err TextFault.Form }
+{
+    if has_form {
+        held(alloc, text)
+    } else {
+        Err(TextFault::Form)
     }
 }

@@ -29,10 +29,7 @@ impl Key {
             → MatchResult result (λ key. key ≡ text.now) (λ fault. fault ≡ TextFault.NoMemory) }
         ensures only { is_key text.now ≡ false → result ≡ Err TextFault.Form }
     {
-        if !forms::is_key(text) {
-            return Err(TextFault::Form);
-        }
-        let text = forms::held(alloc, text)?;
+        let text = forms::held_in_form(alloc, forms::is_key(text), text)?;
         Ok(Key { text })
     }
 

@@ -54,7 +54,7 @@ pub use note::Note;
 pub use person_name::PersonName;
 pub use reply::{Counts, Outcome, Reply};
 pub use reply_texts::reply_text;
-pub use request_number::RequestNumber;
+pub use request_number::{GREATEST_NUMBER, RequestNumber};
 pub use role::Role;
 pub use shown::{ShownRequest, ShownReturn, ShownVote, ShownVotes};
 pub use state::State;

@@ -27,10 +27,7 @@ impl Note {
             → MatchResult result (λ note. note ≡ text.now) (λ fault. fault ≡ TextFault.NoMemory) }
         ensures only { is_note text.now ≡ false → result ≡ Err TextFault.Form }
     {
-        if !forms::is_note(text) {
-            return Err(TextFault::Form);
-        }
-        let text = forms::held(alloc, text)?;
+        let text = forms::held_in_form(alloc, forms::is_note(text), text)?;
         Ok(Note { text })
     }
 

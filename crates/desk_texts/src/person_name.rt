@@ -29,10 +29,7 @@ impl PersonName {
             → MatchResult result (λ name. name ≡ text.now) (λ fault. fault ≡ TextFault.NoMemory) }
         ensures only { is_person_name text.now ≡ false → result ≡ Err TextFault.Form }
     {
-        if !forms::is_person_name(text) {
-            return Err(TextFault::Form);
-        }
-        let text = forms::held(alloc, text)?;
+        let text = forms::held_in_form(alloc, forms::is_person_name(text), text)?;
         Ok(PersonName { text })
     }
 

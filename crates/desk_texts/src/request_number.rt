@@ -6,7 +6,10 @@ use crate::forms;
 use sbat::decimal;
 use std::marker::Model;
 
-/// A request's number: 1 to 999,999. A contract sees the number.
+/// The greatest number of a request.
+pub const GREATEST_NUMBER: u64 = 999_999;
+
+/// A request's number: 1 to `GREATEST_NUMBER`. A contract sees the number.
 #[derive(Clone, Copy, Debug, PartialEq, Eq, PartialOrd, Ord)]
 pub struct RequestNumber {
     number: u64,
@@ -23,12 +26,12 @@ impl Model for RequestNumber {
 }
 
 impl RequestNumber {
-    /// The number, or `None` where it is 0 or above 999,999. Takes no memory.
+    /// The number, or `None` where it is 0 or above `GREATEST_NUMBER`. Takes no memory.
     pub fn new(number: u64) -> Option<RequestNumber>
         ensures { MatchOption result (is_request_number number ≡ false)
             (λ request. (request ≡ number) × (is_request_number number ≡ true)) }
     {
-        if number < 1 || 999_999 < number {
+        if number < 1 || GREATEST_NUMBER < number {
             return None;
         }
         Some(RequestNumber { number })

@@ -27,10 +27,7 @@ impl Title {
             → MatchResult result (λ title. title ≡ text.now) (λ fault. fault ≡ TextFault.NoMemory) }
         ensures only { is_title text.now ≡ false → result ≡ Err TextFault.Form }
     {
-        if !forms::is_title(text) {
-            return Err(TextFault::Form);
-        }
-        let text = forms::held(alloc, text)?;
+        let text = forms::held_in_form(alloc, forms::is_title(text), text)?;
         Ok(Title { text })
     }
 

@@ -4,7 +4,7 @@ use Rattle.std.specs.List.{list_all}
 use Rattle.desk_bytes.specs.Limits.{longest_image}
 use Rattle.desk_bytes.specs.Numbers.{u16_at, u32_at}
 use Rattle.pe_image.specs.Sources.{HaveRisen}
-use Rattle.pe_image.specs.Image.{mz, pe, pe32, pe32_plus, pe_signature_offset, optional_header_offset, number_of_sections, size_of_optional_header, magic, fixed_size, size_of_headers, subsystem, has_certificate_directory, table_offset, table_size, has_table, sections_begin, sections_end, raw, headers}
+use Rattle.pe_image.specs.Image.{mz, dos_header_size, pe, pe32, pe32_plus, pe_signature_offset, optional_header_offset, number_of_sections, size_of_optional_header, magic, fixed_size, size_of_headers, subsystem, has_certificate_directory, table_offset, table_size, has_table, sections_begin, sections_end, raw, headers}
 use Rattle.pe_image.specs.Sbat.{sbat_count, sbat_section, size_of_text}
 use Rattle.pe_image.specs.Spans.{are_apart}
 use Rattle.pe_image.specs.declared.fault.LayoutFault.{LayoutFault}
@@ -24,7 +24,7 @@ longest_text = 65536
 abbrev pub start_checks : List ℕ → List (Bool × LayoutFault)
 start_checks f =
     (nat_le (length f) longest_image, TooLong)
-    ∷ (nat_le 64 (length f), Short)
+    ∷ (nat_le dos_header_size (length f), Short)
     ∷ (u16_at f 0 == mz, NoMz)
     ∷ (nat_le (optional_header_offset f) (length f), Short)
     ∷ (u32_at f (pe_signature_offset f) == pe, NoPe)

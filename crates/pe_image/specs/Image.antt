@@ -10,6 +10,10 @@ use Rattle.pe_image.specs.declared.span.Span.{Span}
 abbrev pub mz : ℕ
 mz = 0x5a4d
 
+-- the size of the MS-DOS header ("MS-DOS Stub")
+abbrev pub dos_header_size : ℕ
+dos_header_size = 64
+
 -- `PE`, 0, 0 ("Signature"), as the u32 that it is
 abbrev pub pe : ℕ
 pe = 0x4550

@@ -1,6 +1,7 @@
 -- The lines of a level, written one by one.
-use Rattle.std.proofs.Common.{◌≡◌, ℕ, List, [], ◌∷◌, ◌++◌, Option, sym, ap, subst, ◌∙◌, append_assoc}
+use Rattle.std.proofs.Common.{◌≡◌, ℕ, List, [], ◌∷◌, ◌++◌, Option, refl, sym, ap, subst, ◌∙◌, append_assoc}
 use Rattle.std.specs.FinMap.{entries}
+use Rattle.std.specs.List.{flat_map}
 use Rattle.std.specs.Io.KnownBytes.{Appends}
 use Rattle.std.proofs.KnownBytes.{Appends-trans}
 use Rattle.std.proofs.lemmas.List.{append-nil}
@@ -45,3 +46,8 @@ Written-stops old new more level name generation left es h goes line =
 pub Written-ends : (old new : Option (List ℕ)) (level : Stamped) (left : List (List ℕ × ℕ)) → Written old new level left → left ≡ [] → Appends old new (level_text level)
 Written-ends old new level left h goes =
     subst (Appends old new) (sym (append-nil h.out) ∙ ap (λ es. h.out ++ rows_text es) (sym goes) ∙ h.whole) h.written
+
+-- the lines of some names are the line of each
+pub rows_text-lines : (es : List (List ℕ × ℕ)) → rows_text es ≡ flat_map (λ e. row_text e.0 e.1) es
+rows_text-lines [] = refl
+rows_text-lines (e ∷ es) = ap (λ l. row_text e.0 e.1 ++ l) (rows_text-lines es)

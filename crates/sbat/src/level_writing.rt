@@ -1,36 +1,25 @@
 //! Levels written.
-ghost use Rattle.std.specs.Prelude.{OnErr, OnOk, decimal};
+ghost use Rattle.std.specs.Prelude.{OnErr, OnOk};
 ghost use Rattle.std.specs.Io.KnownBytes.{Appends};
 ghost use Rattle.desk_bytes.specs.Output.{AppendsBeginning};
 ghost use Rattle.sbat.specs.Writing.{head_text, level_text, row_text};
 
 use crate::generation::Generation;
 use crate::level::Level;
+use crate::name::ComponentName;
 use crate::stamp::Stamp;
-use desk_bytes::{WriteFailed, put};
-use itoa::Buffer;
+use desk_bytes::{WriteFailed, put, put_decimal};
 use std::io::Write;
 
-/// Writes a number in decimal digits.
-fn put_number<W: Write>(number: u64, writer: &mut W) -> Result<(), WriteFailed>
-    ensures ok { OnOk result (Appends (W.contents writer.old) (W.contents writer.new)
-        (decimal number)) }
-    ensures err { OnErr result (AppendsBeginning (W.contents writer.old) (W.contents writer.new)
-        (decimal number)) }
-{
-    let mut digits = Buffer::new();
-    put(digits.format(number).as_bytes(), writer)
-}
-
-/// Writes the first line of a level.
-fn put_head<W: Write>(stamp: Stamp, writer: &mut W) -> Result<(), WriteFailed>
+/// Writes the first line of a level: `sbat,1,` and the stamp. Takes no memory.
+pub fn level_head<W: Write>(stamp: Stamp, writer: &mut W) -> Result<(), WriteFailed>
     ensures ok { OnOk result (Appends (W.contents writer.old) (W.contents writer.new)
         (head_text stamp)) }
     ensures err { OnErr result (AppendsBeginning (W.contents writer.old) (W.contents writer.new)
         (head_text stamp)) }
 {
     put(b"sbat,1,", writer)?;
-    put_number(stamp.value(), writer)?;
+    put_decimal(stamp.value(), writer)?;
     put(b"\n", writer)
 }
 
@@ -43,8 +32,22 @@ fn put_row<W: Write>(name: &str, generation: Generation, writer: &mut W) -> Resu
 {
     put(name.as_bytes(), writer)?;
     put(b",", writer)?;
-    put_number(u64::from(generation.value()), writer)?;
+    put_decimal(u64::from(generation.value()), writer)?;
     put(b"\n", writer)
+}
+
+/// Writes the line of one name: the name, a comma and its generation without leading zeros. Takes no memory.
+pub fn level_row<W: Write>(
+    name: &ComponentName,
+    generation: Generation,
+    writer: &mut W,
+) -> Result<(), WriteFailed>
+    ensures ok { OnOk result (Appends (W.contents writer.old) (W.contents writer.new)
+        (row_text name.now generation)) }
+    ensures err { OnErr result (AppendsBeginning (W.contents writer.old) (W.contents writer.new)
+        (row_text name.now generation)) }
+{
+    put_row(name.as_str(), generation, writer)
 }
 
 /// Writes the text of a level: `sbat,1,` and the stamp, then each name, a comma and its generation without
@@ -55,7 +58,7 @@ pub fn write_level<W: Write>(level: &Level, writer: &mut W) -> Result<(), WriteF
     ensures err { OnErr result (AppendsBeginning (W.contents writer.old) (W.contents writer.new)
         (level_text level.now)) }
 {
-    put_head(level.stamp(), writer)?;
+    level_head(level.stamp(), writer)?;
     for (name, generation) in level.iter() {
         put_row(name, generation, writer)?;
     }

@@ -8,13 +8,9 @@ use Rattle.std.specs.Io.KnownBytes.{Appends}
 use Rattle.std.proofs.KnownBytes.{Appends-trans}
 use Rattle.desk_bytes.specs.Output.{AppendsBeginning}
 use Rattle.desk_bytes.proofs.OutputLemmas.{OnErr-after}
-use Rattle.siglist.specs.Kinds.{sha256_kind, x509_kind, x509_sha256_kind}
+use Rattle.siglist.specs.Kinds.{sha256_kind, sha256_size, x509_kind, x509_sha256_kind, x509_sha256_size}
 use Rattle.siglist.specs.SignatureLists.{Entry, IsEntryOf, KeepsKind, Spells, entry_bytes, spelling}
-use Rattle.siglist.specs.Writing.{bare_row, digest_entry, digest_row, entry_of, no_time, one_row, sha256_row, x509_row, x509_sha256_row}
-
--- the 28 bytes before n entries of one size
-abbrev pub bare_head : List ℕ → ℕ → ℕ → List ℕ
-bare_head kind size n = kind ++ to_le_bytes w32 (28 + size * n) ++ to_le_bytes w32 0 ++ to_le_bytes w32 size
+use Rattle.siglist.specs.Writing.{bare_head, bare_row, digest_entry, digest_row, entry_of, no_time, one_row, sha256_parts, sha256_row, x509_row, x509_sha256_parts, x509_sha256_row}
 
 row_shape : (head es : List ℕ) → (head ++ [] ++ es) ++ [] ≡ head ++ es
 row_shape head es = append-nil ((head ++ []) ++ es) ∙ ap (λ h. h ++ es) (append-nil head)
@@ -162,3 +158,26 @@ pub x509_spells : (owner certificate : List ℕ) → length owner ≡ 16 → 1 �
 x509_spells owner certificate o some few =
     bare_row_spells x509_kind (16 + length certificate) (entry_of owner certificate ∷ []) refl (omega arith) (omega arith) (omega arith)
     (record { owner = o; size = refl }, tt) (keeps_x509 (16 + length certificate) (entry_of owner certificate ∷ []) (omega arith))
+
+flat_map-map : (f : List ℕ → Entry) (ds : List (List ℕ)) → flat_map entry_bytes (map f ds) ≡ flat_map (λ d. entry_bytes (f d)) ds
+flat_map-map f [] = refl
+flat_map-map f (d ∷ ds) = ap (λ l. entry_bytes (f d) ++ l) (flat_map-map f ds)
+
+-- a list of some digests is its head and then its entries
+row_parts : (kind : List ℕ) (size : ℕ) (f : List ℕ → Entry) (d : List ℕ) (ds : List (List ℕ))
+    → spelling (bare_row kind size (map f (d ∷ ds))) ≡ bare_head kind size (length (d ∷ ds)) ++ flat_map (λ x. entry_bytes (f x)) (d ∷ ds)
+row_parts kind size f d ds =
+    row_text kind size (map f (d ∷ ds)) (omega arith)
+    ∙ ap₂ (λ n l. bare_head kind size n ++ l) (length-map (d ∷ ds) f) (flat_map-map f (d ∷ ds))
+
+pub sha256_row-parts : (owner : List ℕ) (ds : List (List ℕ)) → spelling (sha256_row owner ds) ≡ sha256_parts owner ds
+sha256_row-parts owner [] = refl
+sha256_row-parts owner (d ∷ ds) = row_parts sha256_kind sha256_size (entry_of owner) d ds
+
+pub x509_sha256_row-parts : (owner : List ℕ) (ds : List (List ℕ)) → spelling (x509_sha256_row owner ds) ≡ x509_sha256_parts owner ds
+x509_sha256_row-parts owner [] = refl
+x509_sha256_row-parts owner (d ∷ ds) = row_parts x509_sha256_kind x509_sha256_size (digest_entry owner no_time) d ds
+
+-- the same of bytes that are equal
+pub OnErr-spelt : {T E : Type 0} (r : Result T E) (a b : Option (List ℕ)) {bs cs : List ℕ} → bs ≡ cs → OnErr r (AppendsBeginning a b bs) → OnErr r (AppendsBeginning a b cs)
+OnErr-spelt r a b e h = subst (λ l. OnErr r (AppendsBeginning a b l)) e h

@@ -1,7 +1,13 @@
 -- The rows of lists that the desk writes (UEFI 2.10, section 32.4.1).
-use Rattle.std.specs.Prelude.{ℕ, ◌+◌, List, [], ◌∷◌, ◌++◌, length, map, replicate}
+use Rattle.std.specs.Prelude.{ℕ, ◌+◌, ◌*◌, List, [], ◌∷◌, ◌++◌, length, map, replicate}
+use Rattle.std.specs.Int.{w32, to_le_bytes}
+use Rattle.std.specs.List.{flat_map}
 use Rattle.siglist.specs.Kinds.{sha256_kind, sha256_size, x509_kind, x509_sha256_kind, x509_sha256_size}
-use Rattle.siglist.specs.SignatureLists.{Entry, SignatureList}
+use Rattle.siglist.specs.SignatureLists.{Entry, SignatureList, entry_bytes}
+
+-- own: the most digests of a list that is written
+abbrev pub most_digests : ℕ
+most_digests = 1000000
 
 -- what this owner put there
 abbrev pub entry_of : List ℕ → List ℕ → Entry
@@ -44,3 +50,35 @@ one_row kind owner body = bare_row kind (16 + length body) (entry_of owner body 
 -- one X509 list of this certificate
 abbrev pub x509_row : List ℕ → List ℕ → List SignatureList
 x509_row owner certificate = one_row x509_kind owner certificate
+
+-- The head of a list without a header, of so many entries of one size: SignatureType, SignatureListSize,
+-- SignatureHeaderSize and SignatureSize
+abbrev pub bare_head : List ℕ → ℕ → ℕ → List ℕ
+bare_head kind entry_size count =
+    kind ++ to_le_bytes w32 (28 + entry_size * count) ++ to_le_bytes w32 0 ++ to_le_bytes w32 entry_size
+
+-- the head of a SHA256 list of so many digests
+abbrev pub sha256_head_bytes : ℕ → List ℕ
+sha256_head_bytes count = bare_head sha256_kind sha256_size count
+
+-- the entry of a digest in a SHA256 list: its owner, the digest
+abbrev pub sha256_entry_bytes : List ℕ → List ℕ → List ℕ
+sha256_entry_bytes owner d = entry_bytes (entry_of owner d)
+
+-- the head of an X509_SHA256 list of so many digests
+abbrev pub x509_sha256_head_bytes : ℕ → List ℕ
+x509_sha256_head_bytes count = bare_head x509_sha256_kind x509_sha256_size count
+
+-- the entry of a digest in an X509_SHA256 list: its owner, the digest, its time
+abbrev pub x509_sha256_entry_bytes : List ℕ → List ℕ → List ℕ
+x509_sha256_entry_bytes owner d = entry_bytes (digest_entry owner no_time d)
+
+-- a SHA256 list in its parts: the head and then each entry, or nothing where there is no digest
+abbrev pub sha256_parts : List ℕ → List (List ℕ) → List ℕ
+sha256_parts owner [] = []
+sha256_parts owner (d ∷ ds) = sha256_head_bytes (length (d ∷ ds)) ++ flat_map (sha256_entry_bytes owner) (d ∷ ds)
+
+-- an X509_SHA256 list in its parts
+abbrev pub x509_sha256_parts : List ℕ → List (List ℕ) → List ℕ
+x509_sha256_parts owner [] = []
+x509_sha256_parts owner (d ∷ ds) = x509_sha256_head_bytes (length (d ∷ ds)) ++ flat_map (x509_sha256_entry_bytes owner) (d ∷ ds)

@@ -23,7 +23,7 @@ pub(crate) const X509_SHA256: [u8; 16] = [
 pub(crate) const SHA256_SIZE: u32 = 48;
 
 /// SignatureSize of an X509_SHA256 list: the owner, a SHA-256 value and an EFI_TIME.
-const X509_SHA256_SIZE: u32 = 64;
+pub(crate) const X509_SHA256_SIZE: u32 = 64;
 
 /// What the entries of a list are (UEFI 2.10, section 32.4.1).
 #[derive(Clone, Copy, Debug, PartialEq, Eq)]

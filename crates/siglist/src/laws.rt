@@ -4,7 +4,7 @@ ghost use Rattle.std.specs.List.{AllByRecursion};
 ghost use Rattle.siglist.specs.ListsFaults.{IsRefused};
 ghost use Rattle.siglist.specs.Packing.{Packs};
 ghost use Rattle.siglist.specs.SignatureLists.{SignatureList, Spells, spelling};
-ghost use Rattle.siglist.specs.Writing.{sha256_row, x509_row, x509_sha256_row};
+ghost use Rattle.siglist.specs.Writing.{most_digests, sha256_parts, sha256_row, x509_row, x509_sha256_parts, x509_sha256_row};
 ghost use Rattle.siglist.specs.declared.fault.ListsFault.{ListsFault};
 
 /// No bytes spell two rows of lists.
@@ -28,14 +28,22 @@ pub fn fault_is_one()
 /// it is what is written.
 pub fn row_is_spelt()
     ensures sha256 { (owner : List ℕ) (ds : List (List ℕ)) → length owner ≡ 16
-        → AllByRecursion (λ d. length d ≡ 32) ds → length ds ≤ 1000000
+        → AllByRecursion (λ d. length d ≡ 32) ds → length ds ≤ most_digests
         → Spells (sha256_row owner ds) (spelling (sha256_row owner ds)) }
     ensures x509_sha256 { (owner : List ℕ) (ds : List (List ℕ)) → length owner ≡ 16
-        → AllByRecursion (λ d. length d ≡ 32) ds → length ds ≤ 1000000
+        → AllByRecursion (λ d. length d ≡ 32) ds → length ds ≤ most_digests
         → Spells (x509_sha256_row owner ds) (spelling (x509_sha256_row owner ds)) }
     ensures x509 { (owner certificate : List ℕ) → length owner ≡ 16
         → 1 ≤ length certificate → length certificate ≤ 65536
         → Spells (x509_row owner certificate) (spelling (x509_row owner certificate)) }
+{}
+
+/// A head and then each of its entries, in their order, are the spelling of the list; so no digest is no byte.
+pub fn list_is_its_parts()
+    ensures sha256 { (owner : List ℕ) (ds : List (List ℕ))
+        → spelling (sha256_row owner ds) ≡ sha256_parts owner ds }
+    ensures x509_sha256 { (owner : List ℕ) (ds : List (List ℕ))
+        → spelling (x509_sha256_row owner ds) ≡ x509_sha256_parts owner ds }
 {}
 
 /// A text packs into one list alone.

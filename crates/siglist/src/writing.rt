@@ -1,10 +1,10 @@
 //! Lists written.
-ghost use Rattle.std.specs.Prelude.{◌≡◌, ◌+◌, ◌*◌, ◌<◌, ◌≤◌, ◌^◌, ◌++◌, length, OnOk, OnErr};
+ghost use Rattle.std.specs.Prelude.{◌≡◌, ◌+◌, ◌*◌, ◌<◌, ◌≤◌, ◌^◌, length, OnOk, OnErr};
 ghost use Rattle.std.specs.Int.{w32, to_le_bytes};
 ghost use Rattle.std.specs.Io.KnownBytes.{Appends};
 ghost use Rattle.desk_bytes.specs.Output.{AppendsBeginning};
 ghost use Rattle.siglist.specs.SignatureLists.{entry_bytes, spelling};
-ghost use Rattle.siglist.specs.Writing.{digest_row, entry_of, one_row, sha256_row, x509_row, x509_sha256_row};
+ghost use Rattle.siglist.specs.Writing.{bare_head, digest_row, entry_of, most_digests, one_row, sha256_row, x509_row, x509_sha256_row};
 
 use crate::kind::{SHA256, SHA256_SIZE, X509, X509_SHA256};
 use desk_bytes::{Digest, Guid, WriteFailed, put};
@@ -21,7 +21,7 @@ fn put_u32<W: Write>(number: u32, writer: &mut W) -> Result<(), WriteFailed>
 }
 
 /// Writes the head of a list that has no header.
-fn put_head<W: Write>(
+pub(crate) fn put_head<W: Write>(
     kind: &[u8; 16],
     entry_size: u32,
     count: u32,
@@ -29,11 +29,9 @@ fn put_head<W: Write>(
 ) -> Result<(), WriteFailed>
     requires { 28 + entry_size * count < 2 ^ 32 }
     ensures ok { OnOk result (Appends (W.contents writer.old) (W.contents writer.new)
-        (kind.now ++ to_le_bytes w32 (28 + entry_size * count) ++ to_le_bytes w32 0
-        ++ to_le_bytes w32 entry_size)) }
+        (bare_head kind.now entry_size count)) }
     ensures err { OnErr result (AppendsBeginning (W.contents writer.old) (W.contents writer.new)
-        (kind.now ++ to_le_bytes w32 (28 + entry_size * count) ++ to_le_bytes w32 0
-        ++ to_le_bytes w32 entry_size)) }
+        (bare_head kind.now entry_size count)) }
 {
     put(kind, writer)?;
     put_u32(28 + entry_size * count, writer)?;
@@ -42,7 +40,11 @@ fn put_head<W: Write>(
 }
 
 /// Writes one entry.
-fn put_entry<W: Write>(owner: &[u8], body: &[u8], writer: &mut W) -> Result<(), WriteFailed>
+pub(crate) fn put_entry<W: Write>(
+    owner: &[u8],
+    body: &[u8],
+    writer: &mut W,
+) -> Result<(), WriteFailed>
     ensures ok { OnOk result (Appends (W.contents writer.old) (W.contents writer.new)
         (entry_bytes (entry_of owner.now body.now))) }
     ensures err { OnErr result (AppendsBeginning (W.contents writer.old) (W.contents writer.new)
@@ -61,7 +63,7 @@ fn put_digests<W: Write>(
     writer: &mut W,
 ) -> Result<(), WriteFailed>
     requires some { 0 < length digests.now }
-    requires few { length digests.now ≤ 1000000 }
+    requires few { length digests.now ≤ most_digests }
     requires short { length after.now ≤ 16 }
     ensures ok { OnOk result (Appends (W.contents writer.old) (W.contents writer.new)
         (spelling (digest_row kind.now owner.now digests.now after.now))) }
@@ -101,7 +103,7 @@ pub fn write_sha256<W: Write>(
     digests: &[Digest],
     writer: &mut W,
 ) -> Result<(), WriteFailed>
-    requires few { length digests.now ≤ 1000000 }
+    requires few { length digests.now ≤ most_digests }
     ensures ok { OnOk result (Appends (W.contents writer.old) (W.contents writer.new)
         (spelling (sha256_row owner.now digests.now))) }
     ensures err { OnErr result (AppendsBeginning (W.contents writer.old) (W.contents writer.new)
@@ -122,7 +124,7 @@ pub fn write_x509_sha256<W: Write>(
     digests: &[Digest],
     writer: &mut W,
 ) -> Result<(), WriteFailed>
-    requires few { length digests.now ≤ 1000000 }
+    requires few { length digests.now ≤ most_digests }
     ensures ok { OnOk result (Appends (W.contents writer.old) (W.contents writer.new)
         (spelling (x509_sha256_row owner.now digests.now))) }
     ensures err { OnErr result (AppendsBeginning (W.contents writer.old) (W.contents writer.new)

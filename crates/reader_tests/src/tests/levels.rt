@@ -1,7 +1,10 @@
 //! SBAT levels, read and written.
 use super::{Call, check, refused, unbarred};
 use desk_testing::Narrow;
-use sbat::{Component, ComponentName, Generation, Level, Stamp, read_level, write_level};
+use sbat::{
+    Component, ComponentName, Generation, Level, Stamp, level_head, level_row, read_level,
+    write_level,
+};
 use std::alloc::Global;
 use std::io::ErrorKind;
 use std::str;
@@ -122,5 +125,17 @@ fn writes_a_beginning_before_each_failed_write(rt: HostRuntime) -> Result<(), Fa
         assert!(rt; writer.taken.len() < text.len());
     }
     assert!(rt; false, "100 writes are enough");
+    Ok(())
+}
+
+#[test]
+fn writes_levels_line_by_line(rt: HostRuntime) -> Result<(), Fail> {
+    let stamp = Stamp::parse(b"2024010100").ok_or("a stamp")?;
+    let generation = Generation::parse(b"4294967295").ok_or("a generation")?;
+    let name = ComponentName::parse(rt.alloc(), b"grub")?;
+    let mut text = Vec::new(rt.alloc());
+    level_head(stamp, &mut text)?;
+    level_row(&name, generation, &mut text)?;
+    assert!(rt; text.as_slice() == b"sbat,1,2024010100\ngrub,4294967295\n".as_slice());
     Ok(())
 }

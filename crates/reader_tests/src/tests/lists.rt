@@ -2,7 +2,10 @@
 use super::{Call, check, refused};
 use desk_bytes::{Digest, Guid};
 use desk_testing::Narrow;
-use siglist::{Kind, lists, write_sha256, write_x509, write_x509_sha256};
+use siglist::{
+    Kind, lists, sha256_entry, sha256_head, write_sha256, write_x509, write_x509_sha256,
+    x509_sha256_entry, x509_sha256_head,
+};
 use std::alloc::Global;
 use std::io::ErrorKind;
 use std::test::Fail;
@@ -187,5 +190,21 @@ fn writes_lists_up_to_a_failed_write(rt: HostRuntime) -> Result<(), Fail> {
         assert!(rt; writer.taken.len() < want.len());
     }
     assert!(rt; false, "200 writes are enough");
+    Ok(())
+}
+
+#[test]
+fn writes_lists_part_by_part(rt: HostRuntime) -> Result<(), Fail> {
+    let want = hex::decode(rt.alloc(), WRITTEN)?;
+    let owner = Guid::parse(OWNER)?;
+    let (first, second) = (Digest::from([2; 32]), Digest::from([1; 32]));
+    let mut taken = Vec::new(rt.alloc());
+    sha256_head(2, &mut taken)?;
+    sha256_entry(&owner, &first, &mut taken)?;
+    sha256_entry(&owner, &second, &mut taken)?;
+    x509_sha256_head(2, &mut taken)?;
+    x509_sha256_entry(&owner, &first, &mut taken)?;
+    x509_sha256_entry(&owner, &second, &mut taken)?;
+    assert!(rt; taken.len() == 280 && want.starts_with(&taken));
     Ok(())
 }

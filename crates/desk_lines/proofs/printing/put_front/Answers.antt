@@ -11,5 +11,5 @@ returns-in_err-put_word-clause-err g c = OnErr-fact _ _ (AppendsBeginning-before
 pub returns-clause-err : goal.returns-clause-err
 returns-clause-err g c =
     let same : c.from.result ≡ number_of c.args.refusal = omega (arith, c.number.ensures, c.from.ensures) in
-    let number = OnErr-same _ _ _ _ _ (ap decimal same) c.put_number.ensures.err in
+    let number = OnErr-same _ _ _ _ _ (ap decimal same) c.put_decimal.ensures.err in
     OnErr-after _ _ _ _ (word_of c.args.refusal) (decimal (number_of c.args.refusal)) c.in_ok-put_word.ensures.ok number

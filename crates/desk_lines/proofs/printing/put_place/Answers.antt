@@ -8,4 +8,4 @@ returns-in_err-put-clause-err g c =
 
 pub returns-clause-err : goal.returns-clause-err
 returns-clause-err g c =
-    rw c.in-Some.is (OnErr-after _ _ _ _ (codes " at ") (decimal c.in-Some.place) c.in_ok-put.ensures.ok c.put_number.ensures.err)
+    rw c.in-Some.is (OnErr-after _ _ _ _ (codes " at ") (decimal c.in-Some.place) c.in_ok-put.ensures.ok c.put_decimal.ensures.err)

@@ -17,4 +17,4 @@ returns-clause-value g c clean inside =
     tells_row 3 tables.requests SELECT_REQUEST.now (equals tables.requests 0 0 ∷ []) 0 (columns_of tables.requests) (names_of tables.requests) facts.select_request values.request_values request_columns (λ (t : Tables). t.requests) (λ t. refl)
     (Int (pos c.args.request) ∷ []) (λ x. refl) (λ r. c.args.request == r.number) (is_request c.args.request)
     (state g.S.Store c.args.tx.now.conn.now) (state g.S.Store c.row_of.new.tx.conn.now) c.in_ok-row.row
-    (rw (c.params-to_sql.ensures, c.key_of-key.ensures) at (c.in_ok-row.ensures.value clean inside))
+    (rw (c.params-to_sql.ensures, c.key_of-no.ensures) at (c.in_ok-row.ensures.value clean inside))

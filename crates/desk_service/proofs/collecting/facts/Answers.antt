@@ -5,7 +5,7 @@ use Rattle.desk_service.proofs.collecting.facts.Goals as goal
 -- nothing that is read changes the content, so each part speaks of the same file
 pub returns-clause-exact : goal.returns-clause-exact
 returns-clause-exact g c =
-    let gap = gap_placed _ _ c.in-Ok.ensures.exact.places in
+    let gap = gap_placed _ _ c.in_ok-layout.ensures.exact.places in
     record {
       laid = search rules;
       length = search rules;

@@ -21,14 +21,14 @@ returns-in_err-put-2-clause-err g c =
     let two = AppendsBeginning-after _ _ _ name (codes ",") (rw c.as_bytes.ensures.value at c.in_ok-put.ensures.ok) c.in_err-put-2.ensures.err in
     OnErr-fact _ _ (AppendsBeginning-before _ _ (comma ++ digits) (codes "\n") (AppendsBeginning-before _ _ comma digits two))
 
-pub returns-in_err-put_number-clause-err : goal.returns-in_err-put_number-clause-err
-returns-in_err-put_number-clause-err g c =
+pub returns-in_err-put_decimal-clause-err : goal.returns-in_err-put_decimal-clause-err
+returns-in_err-put_decimal-clause-err g c =
     let name = c.args.name.now in
     let comma = name ++ codes "," in
     let digits = decimal c.args.generation in
     let two = Appends-trans _ _ _ name (codes ",") (rw c.as_bytes.ensures.value at c.in_ok-put.ensures.ok) c.in_ok-put-2.ensures.ok in
     let same : c.from.result ≡ c.args.generation = omega arith in
-    let three = AppendsBeginning-after _ _ _ comma digits two (subst (AppendsBeginning _ _) (ap decimal same) c.in_err-put_number.ensures.err) in
+    let three = AppendsBeginning-after _ _ _ comma digits two (subst (AppendsBeginning _ _) (ap decimal same) c.in_err-put_decimal.ensures.err) in
     OnErr-fact _ _ (AppendsBeginning-before _ _ (comma ++ digits) (codes "\n") three)
 
 pub returns-clause-err : goal.returns-clause-err
@@ -38,5 +38,5 @@ returns-clause-err g c =
     let digits = decimal c.args.generation in
     let two = Appends-trans _ _ _ name (codes ",") (rw c.as_bytes.ensures.value at c.in_ok-put.ensures.ok) c.in_ok-put-2.ensures.ok in
     let same : c.from.result ≡ c.args.generation = omega arith in
-    let three = Appends-trans _ _ _ comma digits two (subst (Appends _ _) (ap decimal same) c.in_ok-put_number.ensures.ok) in
+    let three = Appends-trans _ _ _ comma digits two (subst (Appends _ _) (ap decimal same) c.in_ok-put_decimal.ensures.ok) in
     OnErr-after _ _ _ _ (comma ++ digits) (codes "\n") three c.put-3.ensures.err

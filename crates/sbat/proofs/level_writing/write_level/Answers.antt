@@ -4,11 +4,11 @@ use Rattle.sbat.specs.Writing.{head_text, rows_text}
 use Rattle.sbat.proofs.WritingLemmas.{Written-next, Written-stops}
 use Rattle.sbat.proofs.level_writing.write_level.Goals as goal
 
-pub returns-in_err-put_head-clause-err : goal.returns-in_err-put_head-clause-err
-returns-in_err-put_head-clause-err g c =
+pub returns-in_err-level_head-clause-err : goal.returns-in_err-level_head-clause-err
+returns-in_err-level_head-clause-err g c =
     let level = c.args.level.now in
     OnErr-fact _ _ (AppendsBeginning-before _ _ (head_text level.stamp) (rows_text (entries level.generations))
-    (rw c.stamp.ensures at c.in_err-put_head.ensures.err))
+    (rw c.stamp.ensures at c.in_err-level_head.ensures.err))
 
 pub returns-in_err-put_row-clause-err : goal.returns-in_err-put_row-clause-err
 returns-in_err-put_row-clause-err g c =
