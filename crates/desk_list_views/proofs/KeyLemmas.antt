@@ -26,7 +26,8 @@ same_kind kinds.Digest kinds.Certificate h = absurd cc
 same_kind kinds.Certificate kinds.Digest h = absurd cc
 same_kind kinds.Certificate kinds.Certificate h = refl
 
-pub only_digest : (digest : List ℕ) (xs : List (List ℕ)) (x : List ℕ) → filter (bytes_eq digest) xs ≡ x ∷ [] → filter (bytes_eq digest) xs ≡ digest ∷ []
+pub only_digest : (digest : List ℕ) (xs : List (List ℕ)) (x : List ℕ) → filter (bytes_eq digest) xs ≡ x ∷ []
+    → filter (bytes_eq digest) xs ≡ digest ∷ []
 only_digest digest xs x h = h ∙ ap (λ y. y ∷ []) (sym (same_text digest x (passes (bytes_eq digest) xs x h)))
 
 abbrev listing : ListedKind → List ℕ → Listing
@@ -35,11 +36,15 @@ listing kind digest = record { kind = kind; digest = digest }
 abbrev named : List ℕ → ℕ → Component
 named name generation = record { name = name; generation = generation }
 
-pub only_listing : (kind : ListedKind) (digest : List ℕ) (xs : List Entry) (x : Entry) → filter (is_entry kind digest) xs ≡ x ∷ [] → map key_of (filter (is_entry kind digest) xs) ≡ record { kind = kind; digest = digest } ∷ []
+pub only_listing : (kind : ListedKind) (digest : List ℕ) (xs : List Entry) (x : Entry)
+    → filter (is_entry kind digest) xs ≡ x ∷ []
+    → map key_of (filter (is_entry kind digest) xs) ≡ record { kind = kind; digest = digest } ∷ []
 only_listing kind digest xs x h =
-    let parts : (is_same_kind kind x.kind ≡ true) × (bytes_eq digest x.digest ≡ true) = and_parts (is_same_kind kind x.kind) (bytes_eq digest x.digest) (passes (is_entry kind digest) xs x h) in
+    let parts : (is_same_kind kind x.kind ≡ true) × (bytes_eq digest x.digest ≡ true) = and_parts (is_same_kind kind x.kind)
+    (bytes_eq digest x.digest) (passes (is_entry kind digest) xs x h) in
     ap (map key_of) h ∙ ap (λ k. listing k x.digest ∷ []) (sym (same_kind kind x.kind parts.0))
     ∙ ap (λ d. listing kind d ∷ []) (sym (same_text digest x.digest parts.1))
 
-pub only_component : (name : List ℕ) (xs : List Component) (x : Component) → filter (is_named name) xs ≡ x ∷ [] → filter (is_named name) xs ≡ record { name = name; generation = x.generation } ∷ []
+pub only_component : (name : List ℕ) (xs : List Component) (x : Component) → filter (is_named name) xs ≡ x ∷ []
+    → filter (is_named name) xs ≡ record { name = name; generation = x.generation } ∷ []
 only_component name xs x h = h ∙ ap (λ n. named n x.generation ∷ []) (sym (same_text name x.name (passes (is_named name) xs x h)))

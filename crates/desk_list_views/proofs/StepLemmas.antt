@@ -9,7 +9,8 @@ use Rattle.desk_sql.proofs.StopLemmas.{changes_then, turns_none}
 use Rattle.desk_reads.specs.Reads.{Tells}
 
 -- what two reads tell is told of the same tables
-pub tells_then : (first mid new : State) (P Q : Tables → Type 0) → Tells P first mid → Tells Q mid new → Tells (λ t. P t × Q t) first new
+pub tells_then : (first mid new : State) (P Q : Tables → Type 0) → Tells P first mid → Tells Q mid new
+    → Tells (λ t. P t × Q t) first new
 tells_then first mid new P Q a b = record {
   kept = changes_then desk_schema contents first mid new (λ t. t) (λ t. t) a.kept b.kept;
   tells = λ t sees. (a.tells t sees, b.tells t (a.kept.value t sees));

@@ -21,7 +21,12 @@ entry_keys d = record { digests = d.images.now; certificates = d.certificates.no
 
 -- the keys that are asked for: of what is listed, of what is revoked, and the names of components
 abbrev pub asked : Digests → Digests → List Component → Keys
-asked listed revoked components = record { listed = entry_keys listed; revoked = entry_keys revoked; names = map (λ x. x.name) components }
+asked listed revoked components = record {
+  listed = entry_keys listed;
+  revoked = entry_keys revoked;
+  names = map
+      (λ x. x.name) components;
+}
 
 -- the key of this kind in what is listed, and no other key
 abbrev pub listed_keys : ListedKind → List ℕ → Keys
@@ -33,7 +38,11 @@ revoked_keys kind digest = record no_keys { revoked = one_key kind digest }
 
 -- all that an import names
 abbrev pub import_keys : Imported → Keys
-import_keys i = record no_keys { revoked = record { digests = i.digests; certificates = i.certificates }; names = map (λ x. x.name) i.components }
+import_keys i = record no_keys {
+  revoked = record { digests = i.digests; certificates = i.certificates };
+  names = map
+      (λ x. x.name) i.components;
+}
 
 -- all that these facts name, but for what is listed
 abbrev pub submission_keys : Facts → Keys

@@ -26,5 +26,6 @@ loop-component-preserved g c =
           let stood = before.2 late inside in
           gathers_next levels_of keys c.loop-component.component-index key start was is c.in_ok-row.row first mid new c.loop-component-test.true c.component-item.is c.in_ok-put.ensures stood (did.value clean stood.kept.inside),
       puts_next (λ x. IsTrue (is_among (map (λ y. y.name) keys) x.name)) start was is c.in_ok-row.row c.in_ok-put.ensures
-          (is_name_found (map (λ y. y.name) keys) key.name (is_name keys c.loop-component.component-index key c.loop-component-test.true c.component-item.is) c.in_ok-row.row did.only) before.3,
+          (is_name_found (map (λ y. y.name) keys) key.name
+          (is_name keys c.loop-component.component-index key c.loop-component-test.true c.component-item.is) c.in_ok-row.row did.only) before.3,
     )

@@ -11,5 +11,6 @@ invariant-loop-component g l =
     let first = state g.S.Store l.fn.tx.conn.now in
     let now = state g.S.Store l.tx.conn.now in
     (l.tx.conn.ghost_name ≡ l.fn.tx.conn.ghost_name) × Survives first now (λ _. ⊥)
-    × (HasCleanDisk now → IsTrue first.in_transaction → Tells (Gathers levels_of (take l.component-index l.named) l.fn.rows.items l.rows.items) first now)
+    × (HasCleanDisk now → IsTrue first.in_transaction
+    → Tells (Gathers levels_of (take l.component-index l.named) l.fn.rows.items l.rows.items) first now)
     × PutsOnly (λ x. IsTrue (is_among (map (λ y. y.name) l.named) x.name)) l.fn.rows.items l.rows.items

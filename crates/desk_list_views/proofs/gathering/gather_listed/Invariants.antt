@@ -11,5 +11,6 @@ invariant-loop-digest g l =
     let first = state g.S.Store l.fn.tx.conn.now in
     let now = state g.S.Store l.tx.conn.now in
     (l.tx.conn.ghost_name ≡ l.fn.tx.conn.ghost_name) × Survives first now (λ _. ⊥)
-    × (HasCleanDisk now → IsTrue first.in_transaction → Tells (Gathers (listings_of l.fn.kind) (take l.digest-index l.digests) l.fn.rows.items l.rows.items) first now)
+    × (HasCleanDisk now → IsTrue first.in_transaction
+    → Tells (Gathers (listings_of l.fn.kind) (take l.digest-index l.digests) l.fn.rows.items l.rows.items) first now)
     × PutsOnly (λ x. (x.kind ≡ l.fn.kind) × IsTrue (is_among l.digests x.digest)) l.fn.rows.items l.rows.items

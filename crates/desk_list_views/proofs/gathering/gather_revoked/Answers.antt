@@ -26,5 +26,6 @@ loop-digest-preserved g c =
           let stood = before.2 late inside in
           gathers_next (revocations_of c.args.kind) keys c.loop-digest.digest-index key start was is c.in_ok-row.row first mid new c.loop-digest-test.true c.digest-item.is c.in_ok-put.ensures stood (did.value clean stood.kept.inside),
       puts_next (λ x. IsTrue (is_among keys x)) start was is c.in_ok-row.row c.in_ok-put.ensures
-          (is_key_found keys key (is_key keys c.loop-digest.digest-index key c.loop-digest-test.true c.digest-item.is) c.in_ok-row.row did.only) before.3,
+          (is_key_found keys key
+          (is_key keys c.loop-digest.digest-index key c.loop-digest-test.true c.digest-item.is) c.in_ok-row.row did.only) before.3,
     )

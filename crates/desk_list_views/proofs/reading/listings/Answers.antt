@@ -21,9 +21,11 @@ returns-clause-value g c clean inside =
     let late : HasCleanDisk mid = omega (arith, two.survives.clean, clean) in
     let a = one.value late inside in
     let b = two.value clean a.kept.inside in
-    tells_so first new (λ t. Gathers (listings_of kinds.Digest) k.digests start was t × Gathers (listings_of kinds.Certificate) k.certificates was rows t) (ShowsListed rows k)
+    tells_so first new (λ t. Gathers (listings_of kinds.Digest) k.digests start was t × Gathers
+    (listings_of kinds.Certificate) k.certificates was rows t) (ShowsListed rows k)
     (λ t h. gathered_listed k start was rows c.new-rows.ensures.items t h.0 h.1)
-    (tells_then first mid new (Gathers (listings_of kinds.Digest) k.digests start was) (Gathers (listings_of kinds.Certificate) k.certificates was rows) a b)
+    (tells_then first mid new (Gathers (listings_of kinds.Digest) k.digests start was)
+    (Gathers (listings_of kinds.Certificate) k.certificates was rows) a b)
 
 pub returns-clause-only : goal.returns-clause-only
 returns-clause-only g c =
