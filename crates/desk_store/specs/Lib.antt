@@ -2,3 +2,4 @@ pub mod Histories
 pub mod Desks
 pub mod Rows
 pub mod Steps
+pub mod Acts

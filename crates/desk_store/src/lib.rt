@@ -1,7 +1,9 @@
 //! A desk in a store of SQLite.
 #![tactic(auto)]
 
+mod acting;
 mod desk;
+mod forms;
 mod founding;
 mod opening;
 
