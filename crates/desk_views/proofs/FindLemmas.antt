@@ -1,5 +1,5 @@
 -- Rows of a table by a key that stands there once at most: what some of the table's rows find.
-use Rattle.std.proofs.Common.{◌≡◌, ◌⊎◌, inl, inr, ℕ, ◌≤◌, Bool, true, false, List, [], ◌∷◌, ◌++◌, length, filter, find, Option, Some, None, refl, sym, ap, subst, ◌∙◌, arith}
+use Rattle.std.proofs.Common.{◌≡◌, ◌⊎◌, inl, inr, ◌≤◌, Bool, true, false, List, [], ◌∷◌, ◌++◌, length, filter, find, Option, Some, None, refl, sym, ap, subst, ◌∙◌, arith}
 use Rattle.desk_reads.specs.Reads.{listed}
 
 abbrev pub IsAmong : {X : Type 0} → X → List X → Type 0

@@ -1,5 +1,5 @@
 -- From what reads by keys gave to what a call's rows show, and hold.
-use Rattle.std.proofs.Common.{◌≡◌, ℕ, ◌==◌, Bool, true, false, ◌||◌, List, [], ◌∷◌, ◌++◌, filter, find, map, bytes_eq, Option, Some, None, IsTrue, All, refl, sym, ap, subst, ◌∙◌, arith}
+use Rattle.std.proofs.Common.{◌≡◌, ℕ, ◌==◌, Bool, true, false, ◌||◌, List, [], ◌∷◌, ◌++◌, filter, find, bytes_eq, Option, Some, None, IsTrue, All, refl, sym, ap, subst, ◌∙◌, arith}
 use Rattle.std.specs.List.{list_any}
 use Rattle.std.specs.List.Sorted.{IsPermutation}
 use Rattle.std.proofs.lemmas.Bool.Decides.{nat_tests}
@@ -17,7 +17,7 @@ use Rattle.desk_rules.specs.Shown.{is_request_row, people_named, tokens_named}
 use Rattle.desk_reads.specs.Reads.{listed}
 use Rattle.desk_views.specs.Named.{is_named_person}
 use Rattle.desk_views.specs.Steps.{ShowsPeople, ShowsRequest, ShowsVotes}
-use Rattle.desk_views.proofs.FindLemmas.{AreAmong, IsAmong, after, all_among, are_of_table, before, finds}
+use Rattle.desk_views.proofs.FindLemmas.{AreAmong, after, all_among, are_of_table, before, finds}
 
 -- ---- the keys of people
 
@@ -104,6 +104,10 @@ module _ (t : Tables) (caller : List ℕ) (c : Command) (own : Option Person) (r
         names = for_one has_name rows t.people (people_named c) p.name keys.0 (subst (λ l. find (has_name p.name) l ≡ find (has_name p.name) t.people) (sym is) by_name);
         tokens = for_one has_token rows t.people (tokens_named c) p.token keys.1 (subst (λ l. find (has_token p.token) l ≡ find (has_token p.token) t.people) (sym is) by_token);
       }
+
+-- rows that were put to others, three times
+pub put_thrice : {X : Type 0} (none one two three a b d : List X) → none ≡ [] → one ≡ none ++ a → two ≡ one ++ b → three ≡ two ++ d → three ≡ (a ++ b) ++ d
+put_thrice none one two three a b d e f g h = h ∙ ap (λ l. l ++ d) (g ∙ ap (λ l. l ++ b) (f ∙ ap (λ l. l ++ a) e))
 
 -- ---- no other people
 

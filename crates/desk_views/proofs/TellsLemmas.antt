@@ -1,5 +1,5 @@
 -- What reads tell, one after another.
-use Rattle.std.proofs.Common.{◌≡◌, IsTrue}
+use Rattle.std.proofs.Common.{IsTrue}
 use Rattle.sqlite.specs.State.{State}
 use Rattle.desk_history.specs.Tables.{Tables}
 use Rattle.desk_contents.specs.Contents.{contents}

@@ -1,5 +1,5 @@
 -- What the reads of a view tell, part by part: no reader has to believe these words.
-use Rattle.std.specs.Prelude.{◌≡◌, ℕ, ◌==◌, Bool, List, Option, Some, find, not, bytes_eq, All, IsPermutation, IsTrue, is_some}
+use Rattle.std.specs.Prelude.{◌≡◌, ℕ, List, Option, Some, find, not, bytes_eq, All, IsPermutation, IsTrue, is_some}
 use Rattle.std.specs.List.{list_any}
 use Rattle.desk_texts.specs.Callers.{caller_name}
 use Rattle.desk_texts.specs.declared.command.Call.{Call}

@@ -133,21 +133,22 @@ fn calls_of<S: Alter>(
     Ok(calls)
 }
 
-/// The request of the number, if there is a number.
+/// The request that the command names.
 fn requests_of<S: Alter>(
     alloc: Global,
     tx: &mut Transaction<'_, S>,
-    number: Option<RequestNumber>,
+    command: &Command,
 ) -> Result<Vec<RequestRow>, ReadFault>
     ensures same_reference { tx.new.conn.ghost_name ≡ tx.old.conn.ghost_name }
     ensures value { DoesInside S.Store tx.old.conn.now tx.new.conn.now result
-        (λ rows. Tells (λ t. ShowsRequest rows.items t number)) }
-    ensures only { IfOk result (λ rows. All (λ r. number ≡ Some r.number) rows.items) }
+        (λ rows. Tells (λ t. ShowsRequest rows.items t (spec.request_named command.now))) }
+    ensures only { IfOk result (λ rows.
+        All (λ r. spec.request_named command.now ≡ Some r.number) rows.items) }
     ensures kept { Keeps S.Store tx.old.conn.now tx.new.conn.now }
     ensures survives { Spares S.Store tx.old.conn.now tx.new.conn.now }
 {
     let mut rows = Vec::new(alloc);
-    let Some(number) = number else {
+    let Some(number) = request_of(command) else {
         return Ok(rows);
     };
     let row = keyed::request(alloc, tx, number)?;
@@ -155,20 +156,21 @@ fn requests_of<S: Alter>(
     Ok(rows)
 }
 
-/// The votes on the request of the number, if there is a number.
+/// The votes on the request that the command names.
 fn votes_of<S: Alter>(
     alloc: Global,
     tx: &mut Transaction<'_, S>,
-    number: Option<RequestNumber>,
+    command: &Command,
 ) -> Result<Vec<VoteRow>, ReadFault>
     ensures same_reference { tx.new.conn.ghost_name ≡ tx.old.conn.ghost_name }
     ensures value { DoesInside S.Store tx.old.conn.now tx.new.conn.now result
-        (λ rows. Tells (λ t. ShowsVotes rows.items t number)) }
-    ensures only { IfOk result (λ rows. All (λ v. number ≡ Some v.request) rows.items) }
+        (λ rows. Tells (λ t. ShowsVotes rows.items t (spec.request_named command.now))) }
+    ensures only { IfOk result (λ rows.
+        All (λ v. spec.request_named command.now ≡ Some v.request) rows.items) }
     ensures kept { Keeps S.Store tx.old.conn.now tx.new.conn.now }
     ensures survives { Spares S.Store tx.old.conn.now tx.new.conn.now }
 {
-    let Some(number) = number else {
+    let Some(number) = request_of(command) else {
         return Ok(Vec::new(alloc));
     };
     let rows = keyed::votes(alloc, tx, number)?;
@@ -194,9 +196,8 @@ pub(crate) fn rows_of_call<S: Alter>(
 {
     let people = people_of(alloc, tx, caller, command)?;
     let calls = calls_of(alloc, tx, caller, key)?;
-    let number = request_of(command);
-    let requests = requests_of(alloc, tx, number)?;
-    let votes = votes_of(alloc, tx, number)?;
+    let requests = requests_of(alloc, tx, command)?;
+    let votes = votes_of(alloc, tx, command)?;
     Ok(CallRows {
         people,
         calls,

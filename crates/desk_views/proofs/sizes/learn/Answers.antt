@@ -1,4 +1,4 @@
-use Rattle.std.proofs.Common.{rules, ◌≡◌, arith}
+use Rattle.std.proofs.Common.{arith}
 use Rattle.sqlite.specs.Held.{state}
 use Rattle.sqlite.specs.State.{HasCleanDisk}
 use Rattle.desk_sizes.specs.Sizes.{AreRight}
@@ -18,8 +18,8 @@ returns-clause-value g c clean inside =
     let was = c.in_ok-known.known in
     let is = c.in_ok-all.all in
     tells_so first new (λ t. (AreRight start t → AreRight was t) × (AreRight was t → AreRight is t)) (λ t. AreRight start t → AreRight is t)
-      (λ t both right. both.1 (both.0 right))
-      (tells_then first mid new (λ t. AreRight start t → AreRight was t) (λ t. AreRight was t → AreRight is t) calls all)
+    (λ t both right. both.1 (both.0 right))
+    (tells_then first mid new (λ t. AreRight start t → AreRight was t) (λ t. AreRight was t → AreRight is t) calls all)
 
 pub returns-clause-learnt : goal.returns-clause-learnt
 returns-clause-learnt g c = learns_all c.args.command.now c.args.sizes c.in_ok-known.known c.in_ok-all.all c.in_ok-known.ensures.learnt c.in_ok-all.ensures.learnt

@@ -1,4 +1,4 @@
-use Rattle.std.proofs.Common.{rules, ◌≡◌, ◌∙◌, refl, sym, subst, arith, get_or}
+use Rattle.std.proofs.Common.{rules, ◌∙◌, refl, sym, subst, arith, get_or}
 use Rattle.std.proofs.lemmas.List.{get_or_default, take_all}
 use Rattle.sqlite.specs.Held.{state}
 use Rattle.sqlite.specs.State.{HasCleanDisk}
@@ -12,10 +12,12 @@ use Rattle.desk_views.proofs.sizes.learn_each.Goals as goal
 
 pub loop-table-init : goal.loop-table-init
 loop-table-init g c =
-    let sizes = c.args.sizes in
-    (refl, search rules,
-     λ clean inside. tells_none (state g.S.Store c.args.tx.now.conn.now) (λ t. AreRight sizes t → AreRight sizes t) inside (λ t right. right),
-     learns_none c.args.command.now sizes)
+    let sizes = c.args.sizes in (
+      refl,
+      search rules,
+      λ clean inside. tells_none (state g.S.Store c.args.tx.now.conn.now) (λ t. AreRight sizes t → AreRight sizes t) inside (λ t right. right),
+      learns_none c.args.command.now sizes,
+    )
 
 pub loop-table-preserved : goal.loop-table-preserved
 loop-table-preserved g c =
@@ -26,19 +28,20 @@ loop-table-preserved g c =
     let did = c.in_ok-known.ensures in
     let start = c.args.sizes in
     let was = c.loop-table.known in
-    let is = c.in_ok-known.known in
-    (did.same_reference ∙ inv.0,
-     survives_then first mid new (λ _. ⊥) (λ _. ⊥) (λ _. ⊥) (λ _ _ none. none) (λ _ _ none. none) inv.1 did.survives,
-     λ clean inside.
-       let late : HasCleanDisk mid = omega (arith, did.survives.clean, clean) in
-       let stood = inv.2 late inside in
-       tells_so first new (λ t. (AreRight start t → AreRight was t) × (AreRight was t → AreRight is t)) (λ t. AreRight start t → AreRight is t)
-         (λ t both right. both.1 (both.0 right))
-         (tells_then first mid new (λ t. AreRight start t → AreRight was t) (λ t. AreRight was t → AreRight is t) stood (did.value clean stood.kept.inside)),
-     let tables = c.args.tables.now in
-     let at = c.loop-table.table-index in
-     let item = get_or tables at counted.People in
-     learns_next c.args.command.now tables at item start was is c.loop-table-test.true (sym (get_or_default tables at item counted.People c.loop-table-test.true)) inv.3 did.learnt)
+    let is = c.in_ok-known.known in (
+      did.same_reference ∙ inv.0,
+      survives_then first mid new (λ _. ⊥) (λ _. ⊥) (λ _. ⊥) (λ _ _ none. none) (λ _ _ none. none) inv.1 did.survives,
+      λ clean inside.
+          let late : HasCleanDisk mid = omega (arith, did.survives.clean, clean) in
+          let stood = inv.2 late inside in
+          tells_so first new (λ t. (AreRight start t → AreRight was t) × (AreRight was t → AreRight is t)) (λ t. AreRight start t → AreRight is t)
+          (λ t both right. both.1 (both.0 right))
+          (tells_then first mid new (λ t. AreRight start t → AreRight was t) (λ t. AreRight was t → AreRight is t) stood (did.value clean stood.kept.inside)),
+      let tables = c.args.tables.now in
+          let at = c.loop-table.table-index in
+          let item = get_or tables at counted.People in
+          learns_next c.args.command.now tables at item start was is c.loop-table-test.true (sym (get_or_default tables at item counted.People c.loop-table-test.true)) inv.3 did.learnt,
+    )
 
 pub returns-clause-learnt : goal.returns-clause-learnt
 returns-clause-learnt g c =

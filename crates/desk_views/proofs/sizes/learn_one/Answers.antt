@@ -12,9 +12,9 @@ returns-clause-value g c clean inside =
     let after = c.with_size.result in
     let counted = c.in_ok-counted.counted in
     tells_so (state g.S.Store c.args.tx.now.conn.now) (state g.S.Store c.count_of.new.tx.conn.now)
-      (λ t. counted ≡ rows_in t c.args.table) (λ t. AreRight before t → AreRight after t)
-      (λ t is right. right_size before after t counted c.args.table is c.with_size.ensures.told c.with_size.ensures.kept right)
-      (c.in_ok-counted.ensures.value clean inside)
+    (λ t. counted ≡ rows_in t c.args.table) (λ t. AreRight before t → AreRight after t)
+    (λ t is right. right_size before after t counted c.args.table is c.with_size.ensures.told c.with_size.ensures.kept right)
+    (c.in_ok-counted.ensures.value clean inside)
 
 pub returns-clause-learnt : goal.returns-clause-learnt
 returns-clause-learnt g c =
