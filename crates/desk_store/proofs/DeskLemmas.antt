@@ -19,6 +19,18 @@ use Rattle.desk_store.specs.declared.desk.Desk.{Desk}
 use Rattle.desk_store.proofs.ActingLemmas.{next_history, next_same}
 use Rattle.desk_store.proofs.OpeningLemmas.{still_leaves}
 
+-- a read that keeps the sizes
+pub reads_shown : {S : Type 0} (g : store.Ghosts S) (old new : Desk S) → Survives (state g old.conn) (state g new.conn) (λ _. ⊥) → new.needs_reopening ≡ false
+    → ((owner : List ℕ) (cs : History) → ShowsHistory (state g old.conn) owner cs → ShowsHistory (state g new.conn) owner cs) → new.sizes ≡ old.sizes
+    → (owner : List ℕ) (cs : History) → ShowsDesk g old owner cs → ShowsDesk g new owner cs
+reads_shown g old new s usable same sizes owner cs was = record {
+  usable = usable;
+  history = was.history;
+  shows = same owner cs was.shows;
+  sizes = rw sizes was.sizes;
+  left = still_leaves (λ db. HoldsHistory db owner cs) (state g old.conn) (state g new.conn) s was.left;
+}
+
 module _ {S : Type 0} (g : store.Ghosts S) (old new : Desk S) (c : Call) where
   -- what the desk shows before the call
   abbrev pub past : (owner : List ℕ) (cs : History) → ShowsDesk g old owner cs → Past old.sizes

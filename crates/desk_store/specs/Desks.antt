@@ -39,6 +39,14 @@ module _ {S : Type 0} (g : Ghosts S) (old new : Desk S) where
       refusal ≢ refusals.Store → (owner : List ℕ) (cs : History) → ShowsDesk g old owner cs
       → (refusal ≢ refusals.NoMemory → answer cs c ≡ Refused refusal) × ShowsDesk g new owner cs
 
+  -- The desk shows the same history.
+  abbrev pub KeepsDesk : Type 0
+  KeepsDesk = (owner : List ℕ) (cs : History) → ShowsDesk g old owner cs → ShowsDesk g new owner cs
+
+  -- The rows show each history that the desk shows.
+  abbrev pub Views : (List ℕ → History → Type 0) → Type 0
+  Views shown = (owner : List ℕ) (cs : History) → ShowsDesk g old owner cs → shown owner cs
+
   -- A stop after the call, whatever it gave, leaves the history before the call or the one after it.
   abbrev pub MayStop : Call → Type 0
   MayStop c =

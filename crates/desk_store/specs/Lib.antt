@@ -3,3 +3,4 @@ pub mod Desks
 pub mod Rows
 pub mod Steps
 pub mod Acts
+pub mod Reads

@@ -7,9 +7,14 @@ ghost use Rattle.desk_history.specs.Calls.{History};
 ghost use Rattle.desk_history.specs.Formed.{IsHistory};
 ghost use Rattle.desk_statements.specs.Tables.{no_schema};
 ghost use Rattle.desk_sql.specs.States.{Spares};
+ghost use Rattle.desk_history.specs.Tables.{tables};
+ghost use Rattle.desk_list_views.specs.Lists.{HoldsNoOther};
 ghost use Rattle.desk_rules.specs.Decisions.{called};
-ghost use Rattle.desk_store.specs.Desks.{CommitsOnlyAccepted, IsCallRefusal, MayStop};
-ghost use Rattle.desk_store.specs.Desks.{Refuses, Replies, ShowsDesk};
+ghost use Rattle.desk_rules.specs.Shown.{Shows};
+ghost use Rattle.desk_rules.specs.Views.{ShowsLists, keys_of};
+ghost use Rattle.desk_views.specs.Named.{HoldsNoRowBeyond};
+ghost use Rattle.desk_store.specs.Desks.{CommitsOnlyAccepted, IsCallRefusal, KeepsDesk, MayStop};
+ghost use Rattle.desk_store.specs.Desks.{Refuses, Replies, ShowsDesk, Views};
 ghost use Rattle.desk_store.specs.Histories.{HoldsHistory, LeavesHistory, ShowsHistory};
 ghost use Rattle.desk_store.specs.Steps.{AreShownAs, IsFailure, IsReadRefusal};
 
@@ -17,10 +22,12 @@ use crate::acting::{run, told};
 use crate::forms::call_is_formed;
 use crate::founding::{found_at_once, has_no_tables};
 use crate::opening::{VERSION, read_version};
+use crate::reading::{read_lists, read_view};
 use desk_bytes::{Guid, Refusal};
+use desk_rules::{ListView, View};
 use desk_sizes::KeptSizes;
 use desk_sql::stop_leaves_what_is_shown;
-use desk_texts::{Caller, Command, Key, Reply};
+use desk_texts::{Caller, Command, Facts, Key, Reply};
 use sqlite::{Alter, Connection};
 use std::alloc::Global;
 
@@ -153,6 +160,66 @@ impl<S: Alter + Drop> Desk<S> {
                     Err(refusal) => Err(refusal),
                 }
             }
+            Err(refusal) => {
+                self.needs_reopening = refusal == Refusal::Store;
+                Err(refusal)
+            }
+        }
+    }
+
+    /// The rows that a decision on the call needs, and no other. Nothing is changed. Takes memory.
+    ///
+    /// `NoMemory`: memory was refused. `Store`: the store failed, or isn't as a desk left it.
+    pub fn view(&mut self, caller: &Caller, key: &Key, command: &Command) -> Result<View, Refusal>
+        ensures shown { HasCleanDisk (state S.Store self.new.conn) → IfOk result (λ v.
+            Views S.Store self.old self.new (λ owner cs.
+            Shows v (tables owner cs) (called caller.now key.now command.now))) }
+        ensures only { IfOk result (λ v. HoldsNoRowBeyond v
+            (called caller.now key.now command.now)) }
+        ensures same { HasCleanDisk (state S.Store self.new.conn) → result ≢ Err Refusal.Store
+            → KeepsDesk S.Store self.old self.new }
+        ensures spares { Spares S.Store self.old.conn self.new.conn }
+        ensures poisons { IsErrOf result Refusal.Store → self.new.needs_reopening ≡ true }
+        ensures closed { self.old.needs_reopening ≡ true
+            → (result ≡ Err Refusal.Reopen) × (self.new ≡ self.old) }
+        ensures named { self.old.needs_reopening ≡ false → IfErr result IsFailure }
+    {
+        if self.needs_reopening {
+            return Err(Refusal::Reopen);
+        }
+        match read_view(self.alloc, &mut self.conn, self.sizes, caller, key, command) {
+            Ok(viewed) => {
+                self.sizes = viewed.sizes;
+                Ok(viewed.view)
+            }
+            Err(failure) => {
+                self.needs_reopening = failure == Refusal::Store;
+                Err(failure)
+            }
+        }
+    }
+
+    /// The rows that a verdict on the image needs, and no other. Nothing is changed. Takes memory.
+    ///
+    /// `NoMemory`: memory was refused. `Store`: the store failed, or isn't as a desk left it.
+    pub fn list_view(&mut self, facts: &Facts) -> Result<ListView, Refusal>
+        ensures shown { HasCleanDisk (state S.Store self.new.conn) → IfOk result (λ v.
+            Views S.Store self.old self.new (λ owner cs.
+            ShowsLists v (tables owner cs) (keys_of facts.now))) }
+        ensures only { IfOk result (λ v. HoldsNoOther v (keys_of facts.now)) }
+        ensures same { HasCleanDisk (state S.Store self.new.conn) → result ≢ Err Refusal.Store
+            → KeepsDesk S.Store self.old self.new }
+        ensures spares { Spares S.Store self.old.conn self.new.conn }
+        ensures poisons { IsErrOf result Refusal.Store → self.new.needs_reopening ≡ true }
+        ensures closed { self.old.needs_reopening ≡ true
+            → (result ≡ Err Refusal.Reopen) × (self.new ≡ self.old) }
+        ensures named { self.old.needs_reopening ≡ false → IfErr result IsFailure }
+    {
+        if self.needs_reopening {
+            return Err(Refusal::Reopen);
+        }
+        match read_lists(self.alloc, &mut self.conn, facts) {
+            Ok(view) => Ok(view),
             Err(failure) => {
                 self.needs_reopening = failure == Refusal::Store;
                 Err(failure)

@@ -6,5 +6,6 @@ mod desk;
 mod forms;
 mod founding;
 mod opening;
+mod reading;
 
 pub use desk::Desk;
