@@ -1,10 +1,9 @@
 -- From what a view shows and a decision says to what a call does inside its transaction.
-use Rattle.std.proofs.Common.{◌≡◌, ◌≢◌, inl, inr, ℕ, List, [], ◌∷◌, length, All, refl, sym, ap, subst, ◌∙◌, arith, IsTrue, true, false, Bool}
+use Rattle.std.proofs.Common.{◌≡◌, ◌≢◌, inl, inr, ℕ, List, [], ◌∷◌, length, All, refl, sym, ap, subst, ◌∙◌, arith, IsTrue, true, false}
 use Rattle.std.proofs.lemmas.List.Elements.{All-cons}
 use Rattle.sqlite.specs.State.{State}
 use Rattle.desk_texts.specs.Formed.{IsCall}
 use Rattle.desk_texts.specs.declared.command.Call.{Call}
-use Rattle.desk_texts.specs.declared.reply.Reply.{Reply}
 use Rattle.desk_contents.specs.Contents.{contents}
 use Rattle.desk_history.specs.Calls.{History, item}
 use Rattle.desk_history.specs.Formed.{IsHistory, IsItem}
@@ -13,8 +12,7 @@ use Rattle.desk_history.specs.Runs.{answer, is_accepted, is_legal, next}
 use Rattle.desk_history.specs.Tables.{Tables, tables}
 use Rattle.desk_history.specs.Writes.{all_written}
 use Rattle.desk_history.specs.declared.answer.Answer.{Answer}
-use Rattle.desk_history.specs.declared.answer.Answer.TheVariants.{Accepted, Refused, Repeated}
-use Rattle.desk_history.specs.declared.write.Write.{Write}
+use Rattle.desk_history.specs.declared.answer.Answer.TheVariants.{Accepted, Repeated}
 use Rattle.desk_history.proofs.RunLemmas.{by_next, next_legal}
 use Rattle.desk_rules.specs.Decisions as rules
 use Rattle.desk_rules.specs.Shown.{Shows}
@@ -22,11 +20,10 @@ use Rattle.desk_rules.specs.declared.view.Changes.{Changes as Decided}
 use Rattle.desk_rules.specs.declared.view.View.{View}
 use Rattle.desk_sizes.specs.Sizes.{AreRight, Follows}
 use Rattle.desk_sizes.specs.declared.kept.KeptSizes.{KeptSizes}
-use Rattle.desk_sql.specs.States.{Changes, Sees, Turns}
+use Rattle.desk_sql.specs.States.{Changes, Sees}
 use Rattle.desk_statements.specs.Tables.{desk_schema}
-use Rattle.desk_store.specs.Acts.{Acts, Answers}
-use Rattle.desk_store.specs.Histories.{Past, after, before, rows_of}
-use Rattle.desk_store.specs.declared.acting.Acted.{Acted}
+use Rattle.desk_store.specs.Acts.{Acts}
+use Rattle.desk_store.specs.Histories.{Past, before, rows_of}
 
 no_items : {X : Type 0} (xs : List X) → length xs ≡ 0 → xs ≡ []
 no_items [] h = refl

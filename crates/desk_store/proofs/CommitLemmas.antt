@@ -1,5 +1,5 @@
 -- From what a call does inside its transaction to what the connection shows after it, and what a stop leaves.
-use Rattle.std.proofs.Common.{◌≡◌, ◌⊎◌, inl, inr, ℕ, List, true, false, refl, sym, ap, subst, ◌∙◌, arith, IsTrue}
+use Rattle.std.proofs.Common.{◌≡◌, inl, inr, ℕ, List, true, false, refl, sym, ap, subst, ◌∙◌, arith, IsTrue}
 use Rattle.sqlite.specs.Store as store
 use Rattle.sqlite.specs.declared.error.Error.{Error}
 use Rattle.sqlite.specs.Tree.{Trees}
@@ -12,10 +12,9 @@ use Rattle.sqlite.proofs.StateLemmas.{survives_then}
 use Rattle.sqlite.proofs.Callers.{survives_begin}
 use Rattle.desk_texts.specs.declared.command.Call.{Call}
 use Rattle.desk_history.specs.Calls.{History}
-use Rattle.desk_history.specs.Runs.{answer, is_accepted, next}
+use Rattle.desk_history.specs.Runs.{is_accepted}
 use Rattle.desk_sizes.specs.declared.kept.KeptSizes.{KeptSizes}
 use Rattle.desk_sql.specs.Contents.{HoldRows, Holds}
-use Rattle.desk_sql.specs.States.{Sees}
 use Rattle.desk_sql.proofs.StopLemmas.{holds_all, shows_all}
 use Rattle.desk_statements.specs.Tables.{desk_schema}
 use Rattle.desk_store.specs.Acts.{Acts, Answers, LeavesNext, Runs}

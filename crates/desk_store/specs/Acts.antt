@@ -1,5 +1,5 @@
 -- What a call does to the tables: inside its transaction, and by it as a whole.
-use Rattle.std.specs.Prelude.{◌≡◌, Bool, true, IsTrue}
+use Rattle.std.specs.Prelude.{◌≡◌, true, IsTrue}
 use Rattle.sqlite.specs.State.{State}
 use Rattle.sqlite.specs.Tree.{Trees}
 use Rattle.desk_texts.specs.declared.command.Call.{Call}

@@ -1,11 +1,9 @@
-use Rattle.std.proofs.Common.{◌≡◌, ◌≢◌, ◌∙◌, true, false, rules, refl, sym, ap, subst, arith, ℕ, List, IsTrue, not}
+use Rattle.std.proofs.Common.{◌≡◌, ◌∙◌, true, false, rules, refl, sym, subst, arith, IsTrue}
 use Rattle.sqlite.specs.Held.{Held, state}
 use Rattle.sqlite.specs.State.{HasCleanDisk, IsRolledBack, KeepsCommit, Survives}
 use Rattle.desk_rules.specs.Decisions.{called}
-use Rattle.desk_history.specs.Calls.{History}
 use Rattle.desk_history.specs.Runs.{is_accepted}
 use Rattle.desk_store.specs.Acts.{Acts, LeavesNext, Runs}
-use Rattle.desk_store.specs.Histories.{ShowsHistory}
 use Rattle.sqlite.specs.Steps.{FailsToCommit}
 use Rattle.desk_store.proofs.CommitLemmas.{and_then, answered, committed, leaves_more, leaves_next, open_spares, rolled_back, through, unchanged_shows, undone_shows}
 use Rattle.desk_store.proofs.acting.run.Goals as goal

@@ -1,4 +1,4 @@
-use Rattle.std.proofs.Common.{◌≡◌, ◌≢◌, Err, false, rules, refl, ap}
+use Rattle.std.proofs.Common.{◌≡◌, ◌≢◌, Err, false, rules, ap}
 use Rattle.desk_bytes.specs.declared.refusal.Refusal.TheVariants as refusals
 use Rattle.desk_rules.specs.Decisions.{called}
 use Rattle.desk_store.specs.declared.desk.Desk.{Desk}
