@@ -1,5 +1,5 @@
 -- From the making of a desk to what the connection shows after it.
-use Rattle.std.proofs.Common.{◌≡◌, ℕ, List, [], refl, sym, ap, subst, ◌∙◌, arith, IsTrue, true, false}
+use Rattle.std.proofs.Common.{◌≡◌, ℕ, List, [], sym, subst, ◌∙◌, arith, IsTrue, true, false}
 use Rattle.std.specs.Prelude.{⊤}
 use Rattle.sqlite.specs.Store as store
 use Rattle.sqlite.specs.Effect.{Database}
@@ -9,7 +9,7 @@ use Rattle.sqlite.specs.State.{State, HasCleanDisk, KeepsCommit, Survives}
 use Rattle.sqlite.proofs.StateLemmas.{survives_then}
 use Rattle.sqlite.proofs.Callers.{survives_begin}
 use Rattle.desk_sql.specs.Contents.{Holds, no_rows}
-use Rattle.desk_sql.specs.States.{Makes, Sees, Turns}
+use Rattle.desk_sql.specs.States.{Makes, Turns}
 use Rattle.desk_sql.proofs.TableLemmas.{made_holds}
 use Rattle.desk_statements.specs.Tables.{desk_schema, no_schema}
 use Rattle.desk_store.specs.Histories.{HoldsHistory, ShowsHistory, rows_of}

@@ -1,3 +1,6 @@
 mod FoundingLemmas
 mod SizeLemmas
 mod OpeningLemmas
+mod ActingLemmas
+mod CommitLemmas
+mod DeskLemmas

@@ -1,5 +1,5 @@
 -- Sizes of tables that aren't known.
-use Rattle.std.proofs.Common.{◌≡◌, None, Some, sym, ◌∙◌}
+use Rattle.std.proofs.Common.{sym, ◌∙◌}
 use Rattle.desk_history.specs.Tables.{Tables}
 use Rattle.desk_sizes.specs.declared.kept.KeptSizes.{KeptSizes}
 use Rattle.desk_sizes.specs.Sizes.{AreRight, IsUnknown}

@@ -1,13 +1,21 @@
 -- What a desk shows, and what a stop leaves of it.
-use Rattle.std.specs.Prelude.{◌≡◌, ℕ, List, false}
+use Rattle.std.specs.Prelude.{◌≡◌, ◌≢◌, ◌⊎◌, ℕ, List, Some, false, IsTrue}
 use Rattle.sqlite.specs.Store.{Ghosts}
 use Rattle.sqlite.specs.Held.{state}
+use Rattle.desk_bytes.specs.declared.refusal.Refusal.{Refusal}
+use Rattle.desk_bytes.specs.declared.refusal.Refusal.TheVariants as refusals
+use Rattle.desk_texts.specs.declared.command.Call.{Call}
+use Rattle.desk_texts.specs.declared.reply.Reply.{Reply}
 use Rattle.desk_history.specs.Calls.{History}
+use Rattle.desk_history.specs.DecisionRefusals.{may_answer}
 use Rattle.desk_history.specs.Formed.{IsHistory}
+use Rattle.desk_history.specs.Runs.{answer, is_accepted, next, reply_in}
 use Rattle.desk_history.specs.Tables.{tables}
+use Rattle.desk_history.specs.declared.answer.Answer.TheVariants.{Refused}
 use Rattle.desk_sizes.specs.Sizes.{AreRight}
+use Rattle.desk_sql.specs.States.{Leaves, Spares}
 use Rattle.desk_store.specs.declared.desk.Desk.{Desk}
-use Rattle.desk_store.specs.Histories.{LeavesHistory, ShowsHistory}
+use Rattle.desk_store.specs.Histories.{HoldsLeft, LeavesHistory, ShowsHistory}
 
 -- The desk answers for a history: it is one that a desk may have, the connection shows its tables, what the
 -- desk keeps of their sizes is right, and a stop leaves them.
@@ -17,3 +25,40 @@ pub record ShowsDesk {S : Type 0} (g : Ghosts S) (desk : Desk S) (owner : List �
   pub shows : ShowsHistory (state g desk.conn) owner cs
   pub sizes : AreRight desk.sizes (tables owner cs)
   pub left : LeavesHistory (state g desk.conn) owner cs
+
+module _ {S : Type 0} (g : Ghosts S) (old new : Desk S) where
+  -- Ok: the reply is the answer to the call, and the desk shows the history after it.
+  abbrev pub Replies : Call → Reply → Type 0
+  Replies c reply =
+      (owner : List ℕ) (cs : History) → ShowsDesk g old owner cs
+      → (reply_in (answer cs c) ≡ Some reply) × ShowsDesk g new owner (next cs c)
+
+  -- A refusal but `Store`: the desk shows the same history, and but for `NoMemory` the call's answer is this refusal.
+  abbrev pub Refuses : Call → Refusal → Type 0
+  Refuses c refusal =
+      refusal ≢ refusals.Store → (owner : List ℕ) (cs : History) → ShowsDesk g old owner cs
+      → (refusal ≢ refusals.NoMemory → answer cs c ≡ Refused refusal) × ShowsDesk g new owner cs
+
+  -- The desk shows the same history.
+  abbrev pub KeepsDesk : Type 0
+  KeepsDesk = (owner : List ℕ) (cs : History) → ShowsDesk g old owner cs → ShowsDesk g new owner cs
+
+  -- The rows show each history that the desk shows.
+  abbrev pub Views : (List ℕ → History → Type 0) → Type 0
+  Views shown = (owner : List ℕ) (cs : History) → ShowsDesk g old owner cs → shown owner cs
+
+  -- A stop after the call, whatever it gave, leaves the history before the call or the one after it.
+  abbrev pub MayStop : Call → Type 0
+  MayStop c =
+      (owner : List ℕ) (cs : History) → ShowsDesk g old owner cs
+      → Leaves (state g new.conn) (λ db. HoldsLeft db owner cs c)
+
+  -- A repeated call and a refused one commit nothing.
+  abbrev pub CommitsOnlyAccepted : Call → Type 0
+  CommitsOnlyAccepted c =
+      (owner : List ℕ) (cs : History) → ShowsDesk g old owner cs → is_accepted (answer cs c) ≡ false
+      → Spares g old.conn new.conn
+
+-- the refusals that a call may be given: those of a decision, `NoMemory` among them, and the store's
+abbrev pub IsCallRefusal : Refusal → Type 0
+IsCallRefusal refusal = IsTrue (may_answer refusal) ⊎ (refusal ≡ refusals.Store)

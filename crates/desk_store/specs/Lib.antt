@@ -2,3 +2,5 @@ pub mod Histories
 pub mod Desks
 pub mod Rows
 pub mod Steps
+pub mod Acts
+pub mod Reads

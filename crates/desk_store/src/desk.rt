@@ -1,21 +1,33 @@
 //! Desks: made, opened, and given back.
-ghost use Rattle.std.specs.Prelude.{◌≡◌, ◌≢◌, ◌⊎◌, ℕ, List, [], length, false};
-ghost use Rattle.std.specs.Prelude.{IfErr, IfOk, OnOk};
+ghost use Rattle.std.specs.Prelude.{◌≡◌, ◌≢◌, ◌⊎◌, ℕ, List, [], length, Err, false, true};
+ghost use Rattle.std.specs.Prelude.{IfErr, IfOk, IsErrOf, OnOk};
 ghost use Rattle.sqlite.specs.Held.{state};
 ghost use Rattle.sqlite.specs.State.{HasCleanDisk, Survives};
 ghost use Rattle.desk_history.specs.Calls.{History};
 ghost use Rattle.desk_history.specs.Formed.{IsHistory};
 ghost use Rattle.desk_statements.specs.Tables.{no_schema};
 ghost use Rattle.desk_sql.specs.States.{Spares};
-ghost use Rattle.desk_store.specs.Desks.{ShowsDesk};
+ghost use Rattle.desk_history.specs.Tables.{tables};
+ghost use Rattle.desk_list_views.specs.Lists.{HoldsNoOther};
+ghost use Rattle.desk_rules.specs.Decisions.{called};
+ghost use Rattle.desk_rules.specs.Shown.{Shows};
+ghost use Rattle.desk_rules.specs.Views.{ShowsLists, keys_of};
+ghost use Rattle.desk_views.specs.Named.{HoldsNoRowBeyond};
+ghost use Rattle.desk_store.specs.Desks.{CommitsOnlyAccepted, IsCallRefusal, KeepsDesk, MayStop};
+ghost use Rattle.desk_store.specs.Desks.{Refuses, Replies, ShowsDesk, Views};
 ghost use Rattle.desk_store.specs.Histories.{HoldsHistory, LeavesHistory, ShowsHistory};
 ghost use Rattle.desk_store.specs.Steps.{AreShownAs, IsFailure, IsReadRefusal};
 
+use crate::acting::{run, told};
+use crate::forms::call_is_formed;
 use crate::founding::{found_at_once, has_no_tables};
 use crate::opening::{VERSION, read_version};
+use crate::reading::{read_lists, read_view};
 use desk_bytes::{Guid, Refusal};
+use desk_rules::{ListView, View};
 use desk_sizes::KeptSizes;
 use desk_sql::stop_leaves_what_is_shown;
+use desk_texts::{Caller, Command, Facts, Key, Reply};
 use sqlite::{Alter, Connection};
 use std::alloc::Global;
 
@@ -111,6 +123,107 @@ impl<S: Alter + Drop> Desk<S> {
                 })
             }
             Err(refusal) => Err((refusal, conn)),
+        }
+    }
+
+    /// Answers the call, in one transaction whose commit is the last step: an accepted call's
+    /// rows and its minute with the reply are kept before it answers. A repeated key gives the
+    /// reply that it was given before. Takes memory.
+    ///
+    /// A refusal by the rules changes nothing. `NoMemory`: memory was refused, and nothing was
+    /// kept. `Store`: the store failed, or isn't as a desk left it; the call was kept or it wasn't,
+    /// and each later call answers `Reopen` and does nothing.
+    pub fn apply(&mut self, caller: &Caller, key: &Key, command: &Command) -> Result<Reply, Refusal>
+        ensures ok { HasCleanDisk (state S.Store self.new.conn) → IfOk result
+            (Replies S.Store self.old self.new (called caller.now key.now command.now)) }
+        ensures refused { HasCleanDisk (state S.Store self.new.conn) → IfErr result
+            (Refuses S.Store self.old self.new (called caller.now key.now command.now)) }
+        ensures stopped { MayStop S.Store self.old self.new
+            (called caller.now key.now command.now) }
+        ensures spares { CommitsOnlyAccepted S.Store self.old self.new
+            (called caller.now key.now command.now) }
+        ensures poisons { IsErrOf result Refusal.Store → self.new.needs_reopening ≡ true }
+        ensures closed { self.old.needs_reopening ≡ true
+            → (result ≡ Err Refusal.Reopen) × (self.new ≡ self.old) }
+        ensures named { self.old.needs_reopening ≡ false → IfErr result IsCallRefusal }
+    {
+        if self.needs_reopening {
+            return Err(Refusal::Reopen);
+        }
+        call_is_formed(caller, key, command);
+        match run(self.alloc, &mut self.conn, self.sizes, caller, key, command) {
+            Ok(acted) => {
+                stop_leaves_what_is_shown(&self.conn);
+                self.sizes = acted.sizes;
+                match told(acted.answer) {
+                    Ok(reply) => Ok(reply),
+                    Err(refusal) => Err(refusal),
+                }
+            }
+            Err(refusal) => {
+                self.needs_reopening = refusal == Refusal::Store;
+                Err(refusal)
+            }
+        }
+    }
+
+    /// The rows that a decision on the call needs, and no other. Nothing is changed. Takes memory.
+    ///
+    /// `NoMemory`: memory was refused. `Store`: the store failed, or isn't as a desk left it.
+    pub fn view(&mut self, caller: &Caller, key: &Key, command: &Command) -> Result<View, Refusal>
+        ensures shown { HasCleanDisk (state S.Store self.new.conn) → IfOk result (λ v.
+            Views S.Store self.old self.new (λ owner cs.
+            Shows v (tables owner cs) (called caller.now key.now command.now))) }
+        ensures only { IfOk result (λ v. HoldsNoRowBeyond v
+            (called caller.now key.now command.now)) }
+        ensures same { HasCleanDisk (state S.Store self.new.conn) → result ≢ Err Refusal.Store
+            → KeepsDesk S.Store self.old self.new }
+        ensures spares { Spares S.Store self.old.conn self.new.conn }
+        ensures poisons { IsErrOf result Refusal.Store → self.new.needs_reopening ≡ true }
+        ensures closed { self.old.needs_reopening ≡ true
+            → (result ≡ Err Refusal.Reopen) × (self.new ≡ self.old) }
+        ensures named { self.old.needs_reopening ≡ false → IfErr result IsFailure }
+    {
+        if self.needs_reopening {
+            return Err(Refusal::Reopen);
+        }
+        match read_view(self.alloc, &mut self.conn, self.sizes, caller, key, command) {
+            Ok(viewed) => {
+                self.sizes = viewed.sizes;
+                Ok(viewed.view)
+            }
+            Err(failure) => {
+                self.needs_reopening = failure == Refusal::Store;
+                Err(failure)
+            }
+        }
+    }
+
+    /// The rows that a verdict on the image needs, and no other. Nothing is changed. Takes memory.
+    ///
+    /// `NoMemory`: memory was refused. `Store`: the store failed, or isn't as a desk left it.
+    pub fn list_view(&mut self, facts: &Facts) -> Result<ListView, Refusal>
+        ensures shown { HasCleanDisk (state S.Store self.new.conn) → IfOk result (λ v.
+            Views S.Store self.old self.new (λ owner cs.
+            ShowsLists v (tables owner cs) (keys_of facts.now))) }
+        ensures only { IfOk result (λ v. HoldsNoOther v (keys_of facts.now)) }
+        ensures same { HasCleanDisk (state S.Store self.new.conn) → result ≢ Err Refusal.Store
+            → KeepsDesk S.Store self.old self.new }
+        ensures spares { Spares S.Store self.old.conn self.new.conn }
+        ensures poisons { IsErrOf result Refusal.Store → self.new.needs_reopening ≡ true }
+        ensures closed { self.old.needs_reopening ≡ true
+            → (result ≡ Err Refusal.Reopen) × (self.new ≡ self.old) }
+        ensures named { self.old.needs_reopening ≡ false → IfErr result IsFailure }
+    {
+        if self.needs_reopening {
+            return Err(Refusal::Reopen);
+        }
+        match read_lists(self.alloc, &mut self.conn, facts) {
+            Ok(view) => Ok(view),
+            Err(failure) => {
+                self.needs_reopening = failure == Refusal::Store;
+                Err(failure)
+            }
         }
     }
 

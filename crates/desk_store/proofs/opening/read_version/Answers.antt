@@ -1,4 +1,4 @@
-use Rattle.std.proofs.Common.{◌≡◌, ◌∙◌, rules, true, refl, subst, arith, ℕ, List, [], length}
+use Rattle.std.proofs.Common.{◌≡◌, rules, true, refl, subst, arith, ℕ, List, [], length}
 use Rattle.std.specs.Prelude.{IfOk, MatchResult}
 use Rattle.sqlite.specs.Held.{Held, state}
 use Rattle.sqlite.specs.State.{HasCleanDisk, KeepsCommit, Survives}

@@ -1,0 +1,117 @@
+-- From what a view shows and a decision says to what a call does inside its transaction.
+use Rattle.std.proofs.Common.{◌≡◌, ◌≢◌, inl, inr, ℕ, List, [], ◌∷◌, length, All, refl, sym, ap, subst, ◌∙◌, arith, IsTrue, true, false}
+use Rattle.std.proofs.lemmas.List.Elements.{All-cons}
+use Rattle.sqlite.specs.State.{State}
+use Rattle.desk_texts.specs.Formed.{IsCall}
+use Rattle.desk_texts.specs.declared.command.Call.{Call}
+use Rattle.desk_contents.specs.Contents.{contents}
+use Rattle.desk_history.specs.Calls.{History, item}
+use Rattle.desk_history.specs.Formed.{IsHistory, IsItem}
+use Rattle.desk_history.specs.Replies.{minutes}
+use Rattle.desk_history.specs.Runs.{answer, is_accepted, is_legal, next}
+use Rattle.desk_history.specs.Tables.{Tables, tables}
+use Rattle.desk_history.specs.Writes.{all_written}
+use Rattle.desk_history.specs.declared.answer.Answer.{Answer}
+use Rattle.desk_history.specs.declared.answer.Answer.TheVariants.{Accepted, Repeated}
+use Rattle.desk_history.proofs.RunLemmas.{by_next, next_legal}
+use Rattle.desk_rules.specs.Decisions as rules
+use Rattle.desk_rules.specs.Shown.{Shows}
+use Rattle.desk_rules.specs.declared.view.Changes.{Changes as Decided}
+use Rattle.desk_rules.specs.declared.view.View.{View}
+use Rattle.desk_sizes.specs.Sizes.{AreRight, Follows}
+use Rattle.desk_sizes.specs.declared.kept.KeptSizes.{KeptSizes}
+use Rattle.desk_sql.specs.States.{Changes, Sees}
+use Rattle.desk_statements.specs.Tables.{desk_schema}
+use Rattle.desk_store.specs.Acts.{Acts}
+use Rattle.desk_store.specs.Histories.{Past, before, rows_of}
+
+no_items : {X : Type 0} (xs : List X) → length xs ≡ 0 → xs ≡ []
+no_items [] h = refl
+no_items (x ∷ xs) h = absurd (omega (arith, h))
+
+-- a call that isn't accepted leaves no trace
+pub next_same : (cs : History) (c : Call) → is_accepted (answer cs c) ≡ false → next cs c ≡ cs
+next_same cs c out = rw out refl
+
+-- an accepted one joins the history
+pub next_joined : (cs : History) (c : Call) → is_accepted (answer cs c) ≡ true → next cs c ≡ item c ∷ cs
+next_joined cs c in_ = rw in_ refl
+
+-- the history after a call is a desk's
+pub next_history : (cs : History) (c : Call) → IsHistory cs → IsCall c → IsHistory (next cs c)
+next_history cs c history formed = record {
+  legal = next_legal cs c history.legal;
+  formed = by_next (All IsItem) cs c history.formed (λ _. All-cons IsItem (item c) cs formed history.formed);
+}
+
+-- what is right of the tables before a call that isn't accepted is right after it
+module _ (sizes : KeptSizes) (c : Call) where
+  -- what a view shows
+  pub record Viewed (v : View) (counted : KeptSizes) (first read : State) : Type 0 where
+    pub is_open : IsTrue read.is_open
+    pub changed : Changes desk_schema contents first read (λ t. t)
+    pub shown : (owner : List ℕ) (cs : History) → IsHistory cs → Sees desk_schema first (contents (tables owner cs)) → AreRight sizes (tables owner cs)
+        → Shows v (tables owner cs) c × AreRight counted (tables owner cs)
+
+  -- a call that isn't accepted
+  pub acts_not : (v : View) (counted : KeptSizes) (first read : State) (given : Answer) → Viewed v counted first read → is_accepted given ≡ false
+      → ((owner : List ℕ) (cs : History) → IsTrue (is_legal cs) → Shows v (tables owner cs) c → answer cs c ≡ given)
+      → Acts sizes c (record { answer = given; sizes = counted }) first read
+  acts_not v counted first read given viewed out told =
+      let exact : (p : Past sizes) → Sees desk_schema first (before sizes p) → answer p.calls c ≡ given =
+      λ p sees. told p.owner p.calls p.history.legal (viewed.shown p.owner p.calls p.history sees p.right).0 in
+      let same : (p : Past sizes) → Sees desk_schema first (before sizes p) → next p.calls c ≡ p.calls =
+      λ p sees. next_same p.calls c (ap is_accepted (exact p sees) ∙ out) in
+      record {
+        turned = record {
+          is_open = viewed.changed.is_open;
+          inside = viewed.changed.inside;
+          kept = viewed.changed.kept;
+          value = λ p sees. subst (λ (cs : History). Sees desk_schema read (rows_of p.owner cs)) (sym (same p sees)) (viewed.changed.value (tables p.owner p.calls) sees);
+        };
+        answered = λ p sees. record {
+          exact = exact p sees;
+          right = subst (λ (cs : History). AreRight counted (tables p.owner cs)) (sym (same p sees)) (viewed.shown p.owner p.calls p.history sees p.right).1;
+        };
+      }
+
+  -- what a decision tells of the answer, where it writes nothing
+  pub repeats : (d : Decided) (owner : List ℕ) (cs : History) → length d.writes.items ≡ 0 → rules.Answers d owner cs c → answer cs c ≡ Repeated d.reply
+  repeats d owner cs none told = elim told.told [
+    | inl accepted ↦ absurd (let joined = next_joined cs c (ap is_accepted accepted) in
+        let same : tables owner cs ≡ tables owner (item c ∷ cs) = sym (ap (λ ws. all_written ws (tables owner cs)) (no_items d.writes.items none)) ∙ told.made ∙ ap (tables owner) joined in
+        let long : length (minutes cs) ≡ length (minutes (item c ∷ cs)) = ap (λ (t : Tables). length t.calls) same in
+        omega (arith, long))
+    | inr repeated ↦ repeated.0
+  ]
+
+  -- an accepted call, once its rows are written
+  pub acts_accepted : (v : View) (counted later : KeptSizes) (first read last : State) (d : Decided) → Viewed v counted first read
+      → length d.writes.items ≢ 0 → ((owner : List ℕ) (cs : History) → IsTrue (is_legal cs) → Shows v (tables owner cs) c → rules.Answers d owner cs c)
+      → Changes desk_schema contents read last (all_written d.writes.items) → Follows counted c.command d.writes.items later
+      → Acts sizes c (record { answer = Accepted d.reply; sizes = later }) first last
+  acts_accepted v counted later first read last d viewed some told wrote follows =
+      let said : (p : Past sizes) → Sees desk_schema first (before sizes p) → rules.Answers d p.owner p.calls c =
+      λ p sees. told p.owner p.calls p.history.legal (viewed.shown p.owner p.calls p.history sees p.right).0 in
+      let exact : (p : Past sizes) → Sees desk_schema first (before sizes p) → answer p.calls c ≡ Accepted d.reply =
+      λ p sees. elim (said p sees).told [ inl accepted ↦ accepted | inr repeated ↦ absurd (some (ap length repeated.1)) ] in
+      record {
+        turned = record {
+          is_open = λ o. wrote.is_open (viewed.changed.is_open o);
+          inside = wrote.inside;
+          kept = record {
+            was_open = λ o. viewed.changed.kept.was_open (wrote.kept.was_open o);
+            committed = λ o. wrote.kept.committed o ∙ viewed.changed.kept.committed (wrote.kept.was_open o);
+          };
+          value = λ p sees. subst (λ (t : Tables). Sees desk_schema last (contents t)) (said p sees).made (wrote.value (tables p.owner p.calls) (viewed.changed.value (tables p.owner p.calls) sees));
+        };
+        answered = λ p sees. (let yes_ : is_accepted (answer p.calls c) ≡ true = ap is_accepted (exact p sees) in
+            let joined = next_joined p.calls c yes_ in
+            let legal : IsTrue (is_legal (item c ∷ p.calls)) = rw yes_ p.history.legal in
+            let made : all_written d.writes.items (tables p.owner p.calls) ≡ tables p.owner (item c ∷ p.calls) = (said p sees).made ∙ ap (tables p.owner) joined in
+            record {
+              exact = exact p sees;
+              right = subst (λ (cs : History). AreRight later (tables p.owner cs)) (sym joined)
+                  (follows p.owner p.calls c legal refl made (viewed.shown p.owner p.calls p.history sees p.right).1).0;
+            });
+      }

@@ -1,0 +1,82 @@
+use Rattle.std.proofs.Common.{◌≡◌, ◌∙◌, false, inl, inr, rules, refl, ap, subst}
+use Rattle.desk_history.specs.Calls.{History}
+use Rattle.desk_history.specs.Runs.{is_accepted, reply_in}
+use Rattle.desk_rules.specs.Decisions.{called}
+use Rattle.desk_statements.specs.Tables.{desk_schema}
+use Rattle.desk_store.specs.Desks.{ShowsDesk}
+use Rattle.desk_store.specs.Histories.{rows_of}
+use Rattle.desk_store.specs.declared.desk.Desk.{Desk}
+use Rattle.desk_store.proofs.ActingLemmas.{next_same}
+use Rattle.desk_store.proofs.DeskLemmas.{goes_on, spares, stays_shown, stopped}
+use Rattle.desk_store.proofs.desk.Desk.apply.Goals as goal
+
+pub returns-in-Ok-told-clause-ok : goal.returns-in-Ok-told-clause-ok
+returns-in-Ok-told-clause-ok g c clean owner cs was =
+    let old = c.args.self.now in
+    let call = called c.args.caller.now c.args.key.now c.args.command.now in
+    let new : Desk _ = record c.args.self.now { conn = c.run.new.conn; sizes = c.in-Ok.acted.sizes } in
+    let it = goes_on g.S.Store old new call c.in-Ok.acted (c.in-Ok.ensures.ok clean) c.in-Ok.ensures.survives
+    (λ o h shows live. c.stop_leaves_what_is_shown.ensures desk_schema (rows_of o h) shows live) c.call_is_formed.ensures refl refl owner cs was in
+    (ap reply_in it.0 ∙ c.in-Ok-told.ensures.ok, it.1)
+
+pub returns-in-Err-told-clause-refused : goal.returns-in-Err-told-clause-refused
+returns-in-Err-told-clause-refused g c clean no_store owner cs was =
+    let old = c.args.self.now in
+    let call = called c.args.caller.now c.args.key.now c.args.command.now in
+    let new : Desk _ = record c.args.self.now { conn = c.run.new.conn; sizes = c.in-Ok.acted.sizes } in
+    let it = goes_on g.S.Store old new call c.in-Ok.acted (c.in-Ok.ensures.ok clean) c.in-Ok.ensures.survives
+    (λ o h shows live. c.stop_leaves_what_is_shown.ensures desk_schema (rows_of o h) shows live) c.call_is_formed.ensures refl refl owner cs was in
+    let exact = it.0 ∙ c.in-Err-told.ensures.err in
+    (λ _. exact, subst (λ (h : History). ShowsDesk g.S.Store new owner h) (next_same cs call (ap is_accepted exact)) it.1)
+
+pub returns-in-Err-clause-refused : goal.returns-in-Err-clause-refused
+returns-in-Err-clause-refused g c clean no_store owner cs was =
+    let old = c.args.self.now in
+    let call = called c.args.caller.now c.args.key.now c.args.command.now in
+    let new : Desk _ = record c.args.self.now { conn = c.run.new.conn; needs_reopening = c.eq-self.result } in
+    let usable : c.eq-self.result ≡ false = (let e = c.eq-self.ensures in search (rules, e, no_store)) in (
+      λ no_memory. elim c.in-Err.ensures.failed [ inl memory ↦ absurd (no_memory memory) | inr store ↦ absurd (no_store store) ],
+      stays_shown g.S.Store old new call (c.in-Err.ensures.unwritten no_store) usable (c.in-Err.ensures.err clean no_store) (λ p _. p.right) owner cs was,
+    )
+
+pub returns-in-Ok-told-clause-stopped : goal.returns-in-Ok-told-clause-stopped
+returns-in-Ok-told-clause-stopped g c =
+    let old = c.args.self.now in
+    let call = called c.args.caller.now c.args.key.now c.args.command.now in
+    let new : Desk _ = record c.args.self.now { conn = c.run.new.conn; sizes = c.in-Ok.acted.sizes } in
+    stopped g.S.Store old new call c.in-Ok.ensures.survives
+
+pub returns-in-Ok-told-clause-spares : goal.returns-in-Ok-told-clause-spares
+returns-in-Ok-told-clause-spares g c =
+    let old = c.args.self.now in
+    let call = called c.args.caller.now c.args.key.now c.args.command.now in
+    let new : Desk _ = record c.args.self.now { conn = c.run.new.conn; sizes = c.in-Ok.acted.sizes } in
+    spares g.S.Store old new call c.in-Ok.ensures.survives
+
+pub returns-in-Err-told-clause-stopped : goal.returns-in-Err-told-clause-stopped
+returns-in-Err-told-clause-stopped g c =
+    let old = c.args.self.now in
+    let call = called c.args.caller.now c.args.key.now c.args.command.now in
+    let new : Desk _ = record c.args.self.now { conn = c.run.new.conn; sizes = c.in-Ok.acted.sizes } in
+    stopped g.S.Store old new call c.in-Ok.ensures.survives
+
+pub returns-in-Err-told-clause-spares : goal.returns-in-Err-told-clause-spares
+returns-in-Err-told-clause-spares g c =
+    let old = c.args.self.now in
+    let call = called c.args.caller.now c.args.key.now c.args.command.now in
+    let new : Desk _ = record c.args.self.now { conn = c.run.new.conn; sizes = c.in-Ok.acted.sizes } in
+    spares g.S.Store old new call c.in-Ok.ensures.survives
+
+pub returns-in-Err-clause-stopped : goal.returns-in-Err-clause-stopped
+returns-in-Err-clause-stopped g c =
+    let old = c.args.self.now in
+    let call = called c.args.caller.now c.args.key.now c.args.command.now in
+    let new : Desk _ = record c.args.self.now { conn = c.run.new.conn; needs_reopening = c.eq-self.result } in
+    stopped g.S.Store old new call c.in-Err.ensures.survives
+
+pub returns-in-Err-clause-spares : goal.returns-in-Err-clause-spares
+returns-in-Err-clause-spares g c =
+    let old = c.args.self.now in
+    let call = called c.args.caller.now c.args.key.now c.args.command.now in
+    let new : Desk _ = record c.args.self.now { conn = c.run.new.conn; needs_reopening = c.eq-self.result } in
+    spares g.S.Store old new call c.in-Err.ensures.survives

@@ -1,0 +1,44 @@
+-- What a call does to the tables: inside its transaction, and by it as a whole.
+use Rattle.std.specs.Prelude.{◌≡◌, true, IsTrue}
+use Rattle.sqlite.specs.State.{State}
+use Rattle.sqlite.specs.Tree.{Trees}
+use Rattle.desk_texts.specs.declared.command.Call.{Call}
+use Rattle.desk_history.specs.DecisionRefusals.{may_answer}
+use Rattle.desk_history.specs.Runs.{answer, is_accepted, next}
+use Rattle.desk_history.specs.Tables.{tables}
+use Rattle.desk_history.specs.declared.answer.Answer.{Answer}
+use Rattle.desk_history.specs.declared.answer.Answer.TheVariants.{Accepted, Refused, Repeated}
+use Rattle.desk_sizes.specs.Sizes.{AreRight}
+use Rattle.desk_sizes.specs.declared.kept.KeptSizes.{KeptSizes}
+use Rattle.desk_sql.specs.States.{Sees, Turns}
+use Rattle.desk_statements.specs.Tables.{desk_schema}
+use Rattle.desk_store.specs.Histories.{HoldsHistory, Past, ShowsHistory, after, before}
+use Rattle.desk_store.specs.declared.acting.Acted.{Acted}
+
+-- the answer is that to the call after this history, and the sizes are right of the next one's tables
+pub record Answers {sizes : KeptSizes} (c : Call) (acted : Acted) (p : Past sizes) : Type 0 where
+  pub exact : answer p.calls c ≡ acted.answer
+  pub right : AreRight acted.sizes (tables p.owner (next p.calls c))
+
+-- inside a transaction the tables are turned into those of the next history, and the call is answered
+pub record Acts (sizes : KeptSizes) (c : Call) (acted : Acted) (old new : State) : Type 0 where
+  pub turned : Turns desk_schema (before sizes) (after sizes c) old new
+  pub answered : (p : Past sizes) → Sees desk_schema old (before sizes p) → Answers c acted p
+
+-- the same for the connection outside, which is open after an accepted call
+pub record Runs (sizes : KeptSizes) (c : Call) (acted : Acted) (old new : State) : Type 0 where
+  pub is_open : is_accepted acted.answer ≡ true → IsTrue new.is_open
+  pub answered : (p : Past sizes) → ShowsHistory old p.owner p.calls → Answers c acted p
+  pub shown : (p : Past sizes) → ShowsHistory old p.owner p.calls → ShowsHistory new p.owner (next p.calls c)
+
+-- only an accepted call leaves anything else, which is the next history's tables
+abbrev pub LeavesNext : State → KeptSizes → Call → Trees → Type 0
+LeavesNext old sizes c db =
+    (p : Past sizes) → ShowsHistory old p.owner p.calls
+    → (is_accepted (answer p.calls c) ≡ true) × HoldsHistory db p.owner (next p.calls c)
+
+-- a refusal that answers the call is one that a decision may give
+abbrev pub IsNamed : Answer → Type 0
+IsNamed (Accepted _) = Unit {0}
+IsNamed (Repeated _) = Unit {0}
+IsNamed (Refused refusal) = IsTrue (may_answer refusal)

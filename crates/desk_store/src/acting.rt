@@ -1,0 +1,162 @@
+//! One call, in one transaction.
+ghost use Rattle.std.specs.Prelude.{◌≡◌, ◌≢◌, ℕ, List, Some, IfErr, IfOk};
+ghost use Rattle.sqlite.specs.Held.{state};
+ghost use Rattle.sqlite.specs.State.{HasCleanDisk, IsUnchanged, Survives};
+ghost use Rattle.desk_history.specs.Calls.{History};
+ghost use Rattle.desk_history.specs.Runs as runs;
+ghost use Rattle.desk_rules.specs.Decisions.{called};
+ghost use Rattle.desk_sql.specs.States.{DoesInside, Keeps, Spares, StaysInside};
+ghost use Rattle.desk_store.specs.Acts.{Acts, IsNamed, LeavesNext, Runs};
+ghost use Rattle.desk_store.specs.Histories.{ShowsHistory};
+ghost use Rattle.desk_store.specs.Steps.{IsFailure};
+
+use desk_bytes::Refusal;
+use desk_history::Answer;
+use desk_rules::decide;
+use desk_sizes::KeptSizes;
+use desk_statements::SELECT_DESK;
+use desk_tables::write_all;
+use desk_texts::{Caller, Command, Key, Reply};
+use desk_views::view;
+use sqlite::{Alter, Connection, Error, ErrorCode, Transaction};
+use std::alloc::Global;
+
+/// What became of a call: its answer, and how many rows the tables have after it, as far as that
+/// is known.
+#[derive(Drop)]
+pub(crate) struct Acted {
+    pub(crate) answer: Answer,
+    pub(crate) sizes: KeptSizes,
+}
+
+/// Whether the call was accepted, and so has rows to commit.
+fn is_accepted(answer: &Answer) -> bool
+    ensures { result ≡ runs.is_accepted answer.now }
+{
+    match answer {
+        Answer::Accepted(_) => true,
+        Answer::Repeated(_) => false,
+        Answer::Refused(_) => false,
+    }
+}
+
+/// The reply, or the refusal.
+pub(crate) fn told(answer: Answer) -> Result<Reply, Refusal>
+    ensures ok { IfOk result (λ reply. runs.reply_in answer ≡ Some reply) }
+    ensures err { IfErr result (λ refusal. answer ≡ Answer.Refused refusal) }
+{
+    match answer {
+        Answer::Accepted(reply) => Ok(reply),
+        Answer::Repeated(reply) => Ok(reply),
+        Answer::Refused(refusal) => Err(refusal),
+    }
+}
+
+/// What the call does inside its transaction: it is answered by the rows that it needs, and an
+/// accepted call's rows are written, its own with them.
+fn act<S: Alter>(
+    alloc: Global,
+    tx: &mut Transaction<'_, S>,
+    sizes: KeptSizes,
+    caller: &Caller,
+    key: &Key,
+    command: &Command,
+) -> Result<Acted, Refusal>
+    ensures same_reference { tx.new.conn.ghost_name ≡ tx.old.conn.ghost_name }
+    ensures value { DoesInside S.Store tx.old.conn.now tx.new.conn.now result
+        (Acts sizes (called caller.now key.now command.now)) }
+    ensures inside { StaysInside S.Store tx.old.conn.now tx.new.conn.now result }
+    ensures named { IfOk result (λ acted. IsNamed acted.answer) }
+    ensures failed { IfErr result IsFailure }
+    ensures kept { Keeps S.Store tx.old.conn.now tx.new.conn.now }
+    ensures survives { Spares S.Store tx.old.conn.now tx.new.conn.now }
+{
+    let mut sizes = sizes;
+    let view = match view(alloc, tx, &mut sizes, caller, key, command) {
+        Ok(view) => view,
+        Err(failure) => return Err(failure),
+    };
+    let changes = match decide(alloc, &view, caller, key, command) {
+        Ok(changes) => changes,
+        Err(refusal) => {
+            if refusal == Refusal::NoMemory {
+                return Err(refusal);
+            }
+            return Ok(Acted {
+                answer: Answer::Refused(refusal),
+                sizes,
+            });
+        }
+    };
+    if changes.writes.is_empty() {
+        return Ok(Acted {
+            answer: Answer::Repeated(changes.reply),
+            sizes,
+        });
+    }
+    match write_all(alloc, tx, &changes.writes) {
+        Ok(()) => Ok(Acted {
+            answer: Answer::Accepted(changes.reply),
+            sizes: sizes.after(command, &changes.writes),
+        }),
+        Err(fault) => Err(fault.refusal()),
+    }
+}
+
+/// What a call is refused whose commit failed. `NoMemory`: the store wanted memory and is open
+/// still, so nothing was committed. It asks the store for nothing but that it is open.
+fn failed_commit<S: Alter>(conn: &mut Connection<S>, error: &Error) -> Refusal
+    ensures open { HasCleanDisk (state S.Store conn.new) → result ≢ Refusal.Store
+        → IsUnchanged (state S.Store conn.old) (state S.Store conn.new) }
+    ensures failed { IsFailure result }
+    ensures survives { Spares S.Store conn.old conn.new }
+{
+    match error {
+        Error::SqliteFailure(ErrorCode::OutOfMemory) => match conn.prepare(SELECT_DESK) {
+            Ok(_) => Refusal::NoMemory,
+            Err(_) => Refusal::Store,
+        },
+        _ => Refusal::Store,
+    }
+}
+
+/// Does the call in one transaction. Only an accepted call is committed, as the last step.
+///
+/// `NoMemory`: nothing was committed. `Store`: nothing was, or all of the call.
+pub(crate) fn run<S: Alter>(
+    alloc: Global,
+    conn: &mut Connection<S>,
+    sizes: KeptSizes,
+    caller: &Caller,
+    key: &Key,
+    command: &Command,
+) -> Result<Acted, Refusal>
+    ensures ok { HasCleanDisk (state S.Store conn.new) → IfOk result (λ acted.
+        Runs sizes (called caller.now key.now command.now) acted
+        (state S.Store conn.old) (state S.Store conn.new)) }
+    ensures err { HasCleanDisk (state S.Store conn.new) → IfErr result (λ e. e ≢ Refusal.Store
+        → (owner : List ℕ) (cs : History) → ShowsHistory (state S.Store conn.old) owner cs
+        → ShowsHistory (state S.Store conn.new) owner cs) }
+    ensures named { IfOk result (λ acted. IsNamed acted.answer) }
+    ensures failed { IfErr result IsFailure }
+    ensures unwritten { IfErr result (λ e. e ≢ Refusal.Store → Spares S.Store conn.old conn.new) }
+    ensures survives { Survives (state S.Store conn.old) (state S.Store conn.new)
+        (LeavesNext (state S.Store conn.old) sizes (called caller.now key.now command.now)) }
+{
+    if !conn.is_autocommit() {
+        return Err(Refusal::Store);
+    }
+    let mut tx = conn.transaction();
+    let acted = match act(alloc, &mut tx, sizes, caller, key, command) {
+        Ok(acted) => acted,
+        Err(failure) => return Err(failure),
+    };
+    if is_accepted(&acted.answer) {
+        return match tx.commit() {
+            Ok(()) => Ok(acted),
+            Err(error) => Err(failed_commit(conn, &error)),
+        };
+    }
+    tx.rollback();
+    Ok(acted)
+}

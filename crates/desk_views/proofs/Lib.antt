@@ -1,0 +1,4 @@
+mod FindLemmas
+mod LearningLemmas
+mod NamedLemmas
+mod TellsLemmas

@@ -1,0 +1,8 @@
+-- Which refusals a read may give.
+use Rattle.std.specs.Prelude.{◌≡◌, ◌⊎◌}
+use Rattle.desk_bytes.specs.declared.refusal.Refusal.{Refusal}
+use Rattle.desk_bytes.specs.declared.refusal.Refusal.TheVariants as refusals
+
+-- the refusal names a device
+abbrev pub IsFailure : Refusal → Type 0
+IsFailure refusal = (refusal ≡ refusals.NoMemory) ⊎ (refusal ≡ refusals.Store)

@@ -1,0 +1,4 @@
+pub mod Failures
+pub mod Learning
+pub mod Named
+pub mod Steps
