@@ -2,6 +2,11 @@
 //! statements inside a transaction.
 #![tactic(auto)]
 
+mod finding;
+mod gathering;
+mod keys;
+mod naming;
+mod reading;
 mod viewing;
 
 pub use viewing::{list_view, lists_named};

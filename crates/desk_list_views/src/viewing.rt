@@ -6,11 +6,15 @@ ghost use Rattle.desk_rules.specs.Shown.{keys_named};
 ghost use Rattle.desk_rules.specs.Views.{ShowsLists, keys_of};
 ghost use Rattle.desk_sql.specs.States.{DoesInside, Keeps, Spares, StaysInside};
 
+use crate::keys::Digests;
+use crate::naming::{import_view, listed_view, revoked_view, submission_view};
+use crate::reading::rows_of;
 use desk_reads::ReadFault;
 use desk_rules::ListView;
-use desk_texts::{Command, Facts};
+use desk_texts::{Command, Facts, ListedKind};
 use sqlite::{Alter, Transaction};
 use std::alloc::Global;
+use std::slice;
 
 /// The rows of the lists that an image's facts name: the listed entry of its digest and those of the certificates that
 /// it carries, the revocations of its two digests and of these certificates, and the level's components that it names.
@@ -28,7 +32,17 @@ pub fn list_view<S: Alter>(
     ensures kept { Keeps S.Store tx.old.conn.now tx.new.conn.now }
     ensures survives { Spares S.Store tx.old.conn.now tx.new.conn.now }
 {
-    Err(ReadFault::NoMemory)
+    let digests = [facts.digest, facts.signing];
+    let carried = facts.carried.as_slice();
+    let listed = Digests {
+        images: slice::from_ref(&facts.digest),
+        certificates: carried,
+    };
+    let revoked = Digests {
+        images: &digests,
+        certificates: carried,
+    };
+    rows_of(alloc, tx, listed, revoked, facts.components.as_slice())
 }
 
 /// The rows of the lists that the command's keys name. Takes memory for them. Costs one keyed statement for each key.
@@ -45,5 +59,25 @@ pub fn lists_named<S: Alter>(
     ensures kept { Keeps S.Store tx.old.conn.now tx.new.conn.now }
     ensures survives { Spares S.Store tx.old.conn.now tx.new.conn.now }
 {
-    Err(ReadFault::NoMemory)
+    match command {
+        Command::AddPerson(_) | Command::Review(_) | Command::Withdraw(_) => {
+            rows_of(alloc, tx, Digests::none(), Digests::none(), &[])
+        }
+        Command::Submit(submission) => submission_view(alloc, tx, &submission.facts),
+        Command::Return(returned) => list_view(alloc, tx, &returned.facts),
+        Command::ListCertificate(certificate) => {
+            listed_view(alloc, tx, ListedKind::Certificate, certificate.tbs())
+        }
+        Command::ListDigest(digest) => listed_view(alloc, tx, ListedKind::Digest, *digest),
+        Command::Unlist(listing) => listed_view(alloc, tx, listing.kind, listing.digest),
+        Command::RevokeDigest(digest) => revoked_view(alloc, tx, ListedKind::Digest, *digest),
+        Command::RevokeCertificate(digest) => {
+            revoked_view(alloc, tx, ListedKind::Certificate, *digest)
+        }
+        Command::RaiseLevel(raise) => {
+            let named = slice::from_ref(&raise.component);
+            rows_of(alloc, tx, Digests::none(), Digests::none(), named)
+        }
+        Command::ImportRevocations(import) => import_view(alloc, tx, import),
+    }
 }

@@ -1,0 +1,5 @@
+mod FindLemmas
+mod GatherLemmas
+mod KeyLemmas
+mod ShownLemmas
+mod StepLemmas
