@@ -48,7 +48,8 @@ pub record HoldsNamed (n : CallRows) (c : Call) : Type 0 where
   pub requests : All (λ r. request_named c.command ≡ Some r.number) n.requests.items
   pub votes : All (λ r. request_named c.command ≡ Some r.request) n.votes.items
 
--- of these tables the sizes that the command needs are known; those that were known, and those that it doesn't need, are as they were
+-- of these tables the sizes that the command needs are known; those that were known, and those that it doesn't need, are as they
+-- were
 pub record LearnsOf (tables : List Counted) (command : Command) (before after : KeptSizes) : Type 0 where
   pub calls : before.calls ≡ after.calls
   pub enough : All (λ table. IsTrue (may_put command table) → IsTrue (is_some (known after table))) tables

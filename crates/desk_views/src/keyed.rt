@@ -48,7 +48,8 @@ pub(crate) fn holder<S: Alter>(
     ensures same_reference { tx.new.conn.ghost_name ≡ tx.old.conn.ghost_name }
     ensures value { DoesInside S.Store tx.old.conn.now tx.new.conn.now result
         (λ person. Tells (λ t. filter (has_token token.now) t.people ≡ listed person)) }
-    ensures only { IfOk result (λ person. All (λ p. IsTrue (has_token token.now p)) (listed person)) }
+    ensures only { IfOk result (λ person. All (λ p. IsTrue (has_token token.now p))
+        (listed person)) }
     ensures inside { StaysInside S.Store tx.old.conn.now tx.new.conn.now result }
     ensures kept { Keeps S.Store tx.old.conn.now tx.new.conn.now }
     ensures survives { Spares S.Store tx.old.conn.now tx.new.conn.now }

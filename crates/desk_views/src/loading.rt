@@ -9,7 +9,8 @@ ghost use Rattle.desk_rules.specs.Shown as spec;
 ghost use Rattle.desk_sql.specs.States.{DoesInside, Keeps, Spares, StaysInside};
 ghost use Rattle.desk_texts.specs.Callers.{caller_name};
 ghost use Rattle.desk_views.specs.Named.{is_named_person};
-ghost use Rattle.desk_views.specs.Steps.{HoldsNamed, ShowsNamed, ShowsPeople, ShowsRequest, ShowsVotes};
+ghost use Rattle.desk_views.specs.Steps.{HoldsNamed, ShowsNamed, ShowsPeople};
+ghost use Rattle.desk_views.specs.Steps.{ShowsRequest, ShowsVotes};
 
 use crate::keyed;
 use desk_history::{Minute, RequestRow, VoteRow};
@@ -80,7 +81,8 @@ fn request_of(command: &Command) -> Option<RequestNumber>
     }
 }
 
-/// The people whom the call names: who calls, and who has the name or the token of a person whom the command adds.
+/// The people whom the call names: who calls, and who has the name or the token of a person whom
+/// the command adds.
 fn people_of<S: Alter>(
     alloc: Global,
     tx: &mut Transaction<'_, S>,

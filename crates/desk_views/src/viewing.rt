@@ -69,8 +69,8 @@ fn see<S: Alter>(
     Ok(Seen { view, sizes: known })
 }
 
-/// The rows and sizes by which the tables are shown for the call. Sizes that the command may need and that
-/// aren't known are counted, and known from then on. Takes memory for the rows.
+/// The rows and sizes by which the tables are shown for the call. Sizes that the command needs and
+/// that aren't known are counted, and known from then on. Takes memory for the rows.
 ///
 /// `Store`: the store failed, or a row that the call names isn't one that the desk writes.
 pub fn view<S: Alter>(
