@@ -1,11 +1,51 @@
 //! Desks made, given back and opened again, and stores that hold none.
-use desk_bytes::{Guid, Refusal};
+use desk_bytes::{Digest, Guid, Refusal};
+use desk_rules::verdict;
 use desk_store::Desk;
+use desk_texts::{
+    Ballot, Caller, Carried, Certificate, Command, Components, Digests, Extent, Facts, Import,
+    ImportedComponents, Key, ListedKind, Listing, Note, Person, PersonName, Raise, Reply,
+    RequestNumber, ReturnedFile, Role, Submission, Title, Vote, reply_text,
+};
+use sbat::{Component, ComponentName, Generation, Stamp};
 use sqlite::{Connection, MemStore, params};
 use std::alloc::Global;
+use std::process::Abort;
+use std::str::SplitWhitespace;
 use std::test::Fail;
 
+mod commands;
+mod days;
+
 type Memory = Connection<MemStore>;
+
+/// A digest of this byte alone.
+fn digest(byte: u8) -> Digest {
+    Digest::from([byte; 32])
+}
+
+/// A desk without calls.
+fn new_desk(alloc: Global) -> Result<Desk<MemStore>, Fail> {
+    let conn = Connection::open_in_memory(alloc)?;
+    if !conn.is_autocommit() {
+        return Err("a new connection")?;
+    }
+    match Desk::create(alloc, conn, &Guid::from([7; 16])) {
+        Ok(desk) => Ok(desk),
+        Err((refusal, _)) => Err(refusal.name())?,
+    }
+}
+
+/// The desk that the connection's store holds.
+fn desk_of(alloc: Global, conn: Memory) -> Result<Desk<MemStore>, Fail> {
+    if !conn.is_autocommit() {
+        return Err("a desk's connection")?;
+    }
+    match Desk::open(alloc, conn) {
+        Ok(desk) => Ok(desk),
+        Err((refusal, _)) => Err(refusal.name())?,
+    }
+}
 
 /// What `create` refuses the store for, and the connection.
 fn made(alloc: Global, conn: Memory) -> (Option<Refusal>, Memory) {
