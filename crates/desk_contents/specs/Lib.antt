@@ -2,3 +2,4 @@ pub mod Values
 pub mod Contents
 pub mod Columns
 pub mod Worked
+pub mod Histories

@@ -2,3 +2,4 @@ pub mod Faults
 pub mod Answers
 pub mod Reads
 pub mod CallColumns
+pub mod Failures

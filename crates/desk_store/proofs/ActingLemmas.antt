@@ -23,7 +23,8 @@ use Rattle.desk_sizes.specs.declared.kept.KeptSizes.{KeptSizes}
 use Rattle.desk_sql.specs.States.{Changes, Sees}
 use Rattle.desk_statements.specs.Tables.{desk_schema}
 use Rattle.desk_store.specs.Acts.{Acts}
-use Rattle.desk_store.specs.Histories.{Past, before, rows_of}
+use Rattle.desk_contents.specs.Histories.{rows_of}
+use Rattle.desk_store.specs.Pasts.{Past, before}
 
 no_items : {X : Type 0} (xs : List X) → length xs ≡ 0 → xs ≡ []
 no_items [] h = refl

@@ -18,7 +18,8 @@ use Rattle.desk_sql.specs.Contents.{HoldRows, Holds}
 use Rattle.desk_sql.proofs.StopLemmas.{holds_all, shows_all}
 use Rattle.desk_statements.specs.Tables.{desk_schema}
 use Rattle.desk_store.specs.Acts.{Acts, Answers, LeavesNext, Runs}
-use Rattle.desk_store.specs.Histories.{Past, ShowsHistory, after, before, rows_of}
+use Rattle.desk_contents.specs.Histories.{ShowsHistory, rows_of}
+use Rattle.desk_store.specs.Pasts.{Past, after, before}
 use Rattle.desk_store.specs.declared.acting.Acted.{Acted}
 use Rattle.desk_store.proofs.ActingLemmas.{next_same}
 use Rattle.desk_store.proofs.OpeningLemmas.{undone}

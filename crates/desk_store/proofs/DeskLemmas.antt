@@ -12,7 +12,8 @@ use Rattle.desk_sizes.specs.Sizes.{AreRight}
 use Rattle.desk_sql.specs.States.{Leaves}
 use Rattle.desk_store.specs.Acts.{LeavesNext, Runs}
 use Rattle.desk_store.specs.Desks.{ShowsDesk}
-use Rattle.desk_store.specs.Histories.{HoldsHistory, HoldsLeft, LeavesHistory, Past, ShowsHistory}
+use Rattle.desk_contents.specs.Histories.{HoldsHistory, HoldsLeft, LeavesHistory, ShowsHistory}
+use Rattle.desk_store.specs.Pasts.{Past}
 use Rattle.desk_store.specs.declared.acting.Acted.{Acted}
 use Rattle.desk_store.specs.declared.desk.Desk.{Desk}
 use Rattle.desk_store.proofs.ActingLemmas.{next_history, next_same}

@@ -12,7 +12,7 @@ use Rattle.desk_sql.specs.Contents.{Holds, no_rows}
 use Rattle.desk_sql.specs.States.{Makes, Turns}
 use Rattle.desk_sql.proofs.TableLemmas.{made_holds}
 use Rattle.desk_statements.specs.Tables.{desk_schema, no_schema}
-use Rattle.desk_store.specs.Histories.{HoldsHistory, ShowsHistory, rows_of}
+use Rattle.desk_contents.specs.Histories.{HoldsHistory, ShowsHistory, rows_of}
 use Rattle.desk_store.specs.Steps.{Founds}
 
 pub founds : (first mid new : State) (owner : List ℕ) → Makes first mid no_schema desk_schema

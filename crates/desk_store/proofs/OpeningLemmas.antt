@@ -27,9 +27,10 @@ use Rattle.desk_history.specs.Calls.{History}
 use Rattle.desk_history.specs.Level.{stamp}
 use Rattle.desk_history.specs.Tables.{tables}
 use Rattle.desk_contents.specs.Values.{desk_values}
-use Rattle.desk_store.specs.Histories.{ShowsHistory, rows_of}
+use Rattle.desk_contents.specs.Histories.{ShowsHistory, rows_of}
 use Rattle.desk_store.specs.Rows.{desk_columns}
-use Rattle.desk_store.specs.Steps.{AreShownAs, IsFailure, ReadsInside, RefusesText, TellsOf}
+use Rattle.desk_reads.specs.Failures.{IsFailure}
+use Rattle.desk_store.specs.Steps.{AreShownAs, ReadsInside, RefusesText, TellsOf}
 
 pub unchanged_keeps : (old new : State) → IsUnchanged old new → KeepsCommit old new
 unchanged_keeps old new same = record { was_open = λ _. same.0.was_open; committed = λ _. same.0.committed_is }

@@ -12,7 +12,8 @@ use Rattle.desk_sizes.specs.Sizes.{AreRight}
 use Rattle.desk_sizes.specs.declared.kept.KeptSizes.{KeptSizes}
 use Rattle.desk_sql.specs.States.{Sees, Turns}
 use Rattle.desk_statements.specs.Tables.{desk_schema}
-use Rattle.desk_store.specs.Histories.{HoldsHistory, Past, ShowsHistory, after, before}
+use Rattle.desk_contents.specs.Histories.{HoldsHistory, ShowsHistory}
+use Rattle.desk_store.specs.Pasts.{Past, after, before}
 use Rattle.desk_store.specs.declared.acting.Acted.{Acted}
 
 -- the answer is that to the call after this history, and the sizes are right of the next one's tables

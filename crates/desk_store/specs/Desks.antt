@@ -15,7 +15,7 @@ use Rattle.desk_history.specs.declared.answer.Answer.TheVariants.{Refused}
 use Rattle.desk_sizes.specs.Sizes.{AreRight}
 use Rattle.desk_sql.specs.States.{Leaves, Spares}
 use Rattle.desk_store.specs.declared.desk.Desk.{Desk}
-use Rattle.desk_store.specs.Histories.{HoldsLeft, LeavesHistory, ShowsHistory}
+use Rattle.desk_contents.specs.Histories.{HoldsLeft, LeavesHistory, ShowsHistory}
 
 -- The desk answers for a history: it is one that a desk may have, the connection shows its tables, what the
 -- desk keeps of their sizes is right, and a stop leaves them.

@@ -1,4 +1,4 @@
-pub mod Histories
+pub mod Pasts
 pub mod Desks
 pub mod Rows
 pub mod Steps

@@ -10,7 +10,8 @@ use Rattle.desk_rules.specs.Views.{ShowsLists, keys_of}
 use Rattle.desk_rules.specs.declared.list_view.ListView.{ListView}
 use Rattle.desk_sizes.specs.Sizes.{AreRight}
 use Rattle.desk_sizes.specs.declared.kept.KeptSizes.{KeptSizes}
-use Rattle.desk_store.specs.Histories.{Past, ShowsHistory}
+use Rattle.desk_contents.specs.Histories.{ShowsHistory}
+use Rattle.desk_store.specs.Pasts.{Past}
 use Rattle.desk_store.specs.declared.reading.Viewed.{Viewed}
 
 -- the view shows the history's tables for the call, and the sizes are right of them

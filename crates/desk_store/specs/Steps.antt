@@ -8,15 +8,12 @@ use Rattle.sqlite_resolve.specs.declared.error.CompileError.{CompileError}
 use Rattle.desk_bytes.specs.declared.refusal.Refusal.{Refusal}
 use Rattle.desk_bytes.specs.declared.refusal.Refusal.TheVariants as refusals
 use Rattle.desk_history.specs.Calls.{History}
+use Rattle.desk_reads.specs.Failures.{IsFailure}
 use Rattle.desk_sql.specs.Contents.{Contents}
 use Rattle.desk_sql.specs.States.{Sees, Shows}
 use Rattle.desk_statements.specs.Tables.{desk_schema, no_schema}
-use Rattle.desk_store.specs.Histories.{rows_of}
+use Rattle.desk_contents.specs.Histories.{rows_of}
 use Rattle.desk_store.specs.Rows.{AreOf}
-
--- the refusal names a device
-abbrev pub IsFailure : Refusal → Type 0
-IsFailure refusal = (refusal ≡ refusals.NoMemory) ⊎ (refusal ≡ refusals.Store)
 
 -- in a store without tables the desk's are made, with the rows of a desk without calls; nothing is committed
 pub record Founds (old new : State) (owner : List ℕ) : Type 0 where

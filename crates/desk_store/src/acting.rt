@@ -7,8 +7,8 @@ ghost use Rattle.desk_history.specs.Runs as runs;
 ghost use Rattle.desk_rules.specs.Decisions.{called};
 ghost use Rattle.desk_sql.specs.States.{DoesInside, Keeps, Spares, StaysInside};
 ghost use Rattle.desk_store.specs.Acts.{Acts, IsNamed, LeavesNext, Runs};
-ghost use Rattle.desk_store.specs.Histories.{ShowsHistory};
-ghost use Rattle.desk_store.specs.Steps.{IsFailure};
+ghost use Rattle.desk_contents.specs.Histories.{ShowsHistory};
+ghost use Rattle.desk_reads.specs.Failures.{IsFailure};
 
 use desk_bytes::Refusal;
 use desk_history::Answer;

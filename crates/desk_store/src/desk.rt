@@ -15,8 +15,9 @@ ghost use Rattle.desk_rules.specs.Views.{ShowsLists, keys_of};
 ghost use Rattle.desk_views.specs.Named.{HoldsNoRowBeyond};
 ghost use Rattle.desk_store.specs.Desks.{CommitsOnlyAccepted, IsCallRefusal, KeepsDesk, MayStop};
 ghost use Rattle.desk_store.specs.Desks.{Refuses, Replies, ShowsDesk, Views};
-ghost use Rattle.desk_store.specs.Histories.{HoldsHistory, LeavesHistory, ShowsHistory};
-ghost use Rattle.desk_store.specs.Steps.{AreShownAs, IsFailure, IsReadRefusal};
+ghost use Rattle.desk_contents.specs.Histories.{HoldsHistory, LeavesHistory, ShowsHistory};
+ghost use Rattle.desk_reads.specs.Failures.{IsFailure};
+ghost use Rattle.desk_store.specs.Steps.{AreShownAs, IsReadRefusal};
 
 use crate::acting::{run, told};
 use crate::forms::call_is_formed;
@@ -35,10 +36,10 @@ use std::alloc::Global;
 /// has counted them.
 #[derive(Drop)]
 pub struct Desk<S: Alter> {
-    alloc: Global,
-    conn: Connection<S>,
-    sizes: KeptSizes,
-    needs_reopening: bool,
+    pub(crate) alloc: Global,
+    pub(crate) conn: Connection<S>,
+    pub(crate) sizes: KeptSizes,
+    pub(crate) needs_reopening: bool,
 }
 
 impl<S: Alter + Drop> Desk<S> {

@@ -4,8 +4,9 @@ ghost use Rattle.sqlite.specs.Held.{state};
 ghost use Rattle.sqlite.specs.State.{HasCleanDisk, Survives};
 ghost use Rattle.desk_statements.specs.Tables.{no_schema};
 ghost use Rattle.desk_sql.specs.States.{Keeps, Spares, StaysInside};
-ghost use Rattle.desk_store.specs.Histories.{HoldsHistory, ShowsHistory};
-ghost use Rattle.desk_store.specs.Steps.{Founds, IsFailure};
+ghost use Rattle.desk_contents.specs.Histories.{HoldsHistory, ShowsHistory};
+ghost use Rattle.desk_reads.specs.Failures.{IsFailure};
+ghost use Rattle.desk_store.specs.Steps.{Founds};
 
 use desk_bytes::{Guid, Refusal};
 use desk_statements::make;

@@ -7,9 +7,10 @@ ghost use Rattle.sqlite.specs.declared.types.Value.TheVariants.{Blob, Int, Text}
 ghost use Rattle.sqlite_value.specs.Order.{column};
 ghost use Rattle.desk_history.specs.Calls.{History};
 ghost use Rattle.desk_sql.specs.States.{Keeps, Spares};
-ghost use Rattle.desk_store.specs.Histories.{ShowsHistory};
+ghost use Rattle.desk_contents.specs.Histories.{ShowsHistory};
 ghost use Rattle.desk_store.specs.Rows.{IsGuid, ReadsAs};
-ghost use Rattle.desk_store.specs.Steps.{AreShownAs, IsFailure, IsReadRefusal, ReadsInside};
+ghost use Rattle.desk_reads.specs.Failures.{IsFailure};
+ghost use Rattle.desk_store.specs.Steps.{AreShownAs, IsReadRefusal, ReadsInside};
 ghost use Rattle.desk_store.specs.Steps.{RefusesColumns, RefusesText, TellsOf};
 
 use desk_bytes::Refusal;

@@ -8,8 +8,8 @@ ghost use Rattle.desk_sql.specs.States.{Spares};
 ghost use Rattle.desk_list_views.specs.Lists.{HoldsNoOther};
 ghost use Rattle.desk_rules.specs.Views.{keys_of};
 ghost use Rattle.desk_store.specs.Reads.{ViewsCall, ViewsImage};
-ghost use Rattle.desk_store.specs.Histories.{ShowsHistory};
-ghost use Rattle.desk_store.specs.Steps.{IsFailure};
+ghost use Rattle.desk_contents.specs.Histories.{ShowsHistory};
+ghost use Rattle.desk_reads.specs.Failures.{IsFailure};
 ghost use Rattle.desk_views.specs.Named.{HoldsNoRowBeyond};
 
 use desk_bytes::Refusal;

@@ -1,4 +1,3 @@
-pub mod Failures
 pub mod Learning
 pub mod Named
 pub mod Steps

@@ -10,7 +10,7 @@ ghost use Rattle.desk_rules.specs.Shown.{Shows};
 ghost use Rattle.desk_sizes.specs.Sizes.{AreRight};
 ghost use Rattle.desk_sql.specs.States.{Changes, DoesInside, Keeps, Sees, Spares, StaysInside};
 ghost use Rattle.desk_statements.specs.Tables.{desk_schema};
-ghost use Rattle.desk_views.specs.Failures.{IsFailure};
+ghost use Rattle.desk_reads.specs.Failures.{IsFailure};
 ghost use Rattle.desk_views.specs.Named.{HoldsNoRowBeyond};
 ghost use Rattle.desk_views.specs.Learning.{Learns};
 

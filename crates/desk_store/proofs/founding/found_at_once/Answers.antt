@@ -2,7 +2,7 @@ use Rattle.std.proofs.Common.{◌≡◌, [], rules, true, refl, subst, arith, Is
 use Rattle.sqlite.specs.Held.{Held, state}
 use Rattle.sqlite.specs.State.{HasCleanDisk, Survives}
 use Rattle.desk_statements.specs.Tables.{no_schema}
-use Rattle.desk_store.specs.Histories.{HoldsHistory, ShowsHistory}
+use Rattle.desk_contents.specs.Histories.{HoldsHistory, ShowsHistory}
 use Rattle.desk_store.specs.Steps.{Founds}
 use Rattle.desk_store.proofs.FoundingLemmas.{founded_left, founded_shown}
 use Rattle.desk_store.proofs.founding.found_at_once.Goals as goal

@@ -3,8 +3,9 @@ use Rattle.std.specs.Prelude.{IfOk, MatchResult}
 use Rattle.sqlite.specs.Held.{Held, state}
 use Rattle.sqlite.specs.State.{HasCleanDisk, KeepsCommit, Survives}
 use Rattle.desk_history.specs.Calls.{History}
-use Rattle.desk_store.specs.Histories.{ShowsHistory}
-use Rattle.desk_store.specs.Steps.{AreShownAs, IsFailure, ReadsInside, TellsOf}
+use Rattle.desk_contents.specs.Histories.{ShowsHistory}
+use Rattle.desk_reads.specs.Failures.{IsFailure}
+use Rattle.desk_store.specs.Steps.{AreShownAs, ReadsInside, TellsOf}
 use Rattle.desk_store.proofs.OpeningLemmas.{read_before, told_before, undone}
 use Rattle.desk_store.proofs.opening.read_version.Goals as goal
 

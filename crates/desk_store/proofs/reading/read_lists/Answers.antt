@@ -2,7 +2,7 @@ use Rattle.std.proofs.Common.{◌≡◌, true, rules, refl, subst, arith, ℕ, L
 use Rattle.sqlite.specs.Held.{Held, state}
 use Rattle.sqlite.specs.State.{HasCleanDisk, KeepsCommit, Survives}
 use Rattle.desk_history.specs.Calls.{History}
-use Rattle.desk_store.specs.Histories.{ShowsHistory}
+use Rattle.desk_contents.specs.Histories.{ShowsHistory}
 use Rattle.desk_history.specs.Tables.{tables}
 use Rattle.desk_reads.specs.Reads.{Tells}
 use Rattle.desk_rules.specs.Views.{ShowsLists, keys_of}

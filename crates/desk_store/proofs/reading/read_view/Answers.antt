@@ -2,7 +2,7 @@ use Rattle.std.proofs.Common.{◌≡◌, true, rules, refl, subst, arith, ℕ, L
 use Rattle.sqlite.specs.Held.{Held, state}
 use Rattle.sqlite.specs.State.{HasCleanDisk, KeepsCommit, Survives}
 use Rattle.desk_history.specs.Calls.{History}
-use Rattle.desk_store.specs.Histories.{ShowsHistory}
+use Rattle.desk_contents.specs.Histories.{ShowsHistory}
 use Rattle.desk_store.proofs.OpeningLemmas.{undone}
 use Rattle.desk_store.proofs.reading.read_view.Goals as goal
 

@@ -4,7 +4,7 @@ use Rattle.desk_history.specs.Runs.{is_accepted, reply_in}
 use Rattle.desk_rules.specs.Decisions.{called}
 use Rattle.desk_statements.specs.Tables.{desk_schema}
 use Rattle.desk_store.specs.Desks.{ShowsDesk}
-use Rattle.desk_store.specs.Histories.{rows_of}
+use Rattle.desk_contents.specs.Histories.{rows_of}
 use Rattle.desk_store.specs.declared.desk.Desk.{Desk}
 use Rattle.desk_store.proofs.ActingLemmas.{next_same}
 use Rattle.desk_store.proofs.DeskLemmas.{goes_on, spares, stays_shown, stopped}

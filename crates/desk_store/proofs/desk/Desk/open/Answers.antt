@@ -1,7 +1,7 @@
 use Rattle.std.proofs.Common.{◌≡◌, rules, refl, subst}
 use Rattle.sqlite.specs.Held.{state}
 use Rattle.desk_history.specs.Tables.{tables}
-use Rattle.desk_store.specs.Histories.{HoldsHistory}
+use Rattle.desk_contents.specs.Histories.{HoldsHistory}
 use Rattle.desk_store.specs.Rows.{AreOf}
 use Rattle.desk_store.proofs.OpeningLemmas.{still_leaves}
 use Rattle.desk_store.proofs.SizeLemmas.{unknown_are_right}

@@ -1,15 +1,11 @@
 -- Histories whose tables a store holds.
 use Rattle.std.specs.Prelude.{ℕ, List}
 use Rattle.desk_texts.specs.declared.command.Call.{Call}
-use Rattle.desk_history.specs.Formed.{IsHistory}
+use Rattle.desk_history.specs.Calls.{History}
 use Rattle.desk_history.specs.Lives.{IsLeft}
-use Rattle.desk_history.specs.Runs.{next}
-use Rattle.desk_sizes.specs.Sizes.{AreRight}
-use Rattle.desk_sizes.specs.declared.kept.KeptSizes.{KeptSizes}
+use Rattle.desk_history.specs.Tables.{tables}
 use Rattle.sqlite.specs.State.{State}
 use Rattle.sqlite.specs.Tree.{Trees}
-use Rattle.desk_history.specs.Calls.{History}
-use Rattle.desk_history.specs.Tables.{tables}
 use Rattle.desk_contents.specs.Contents.{contents}
 use Rattle.desk_sql.specs.Contents.{Contents, HoldRows}
 use Rattle.desk_sql.specs.States.{Leaves, Shows}
@@ -34,19 +30,3 @@ LeavesHistory s owner cs = Leaves s (λ db. HoldsHistory db owner cs)
 -- they hold the history before the call or the one after it
 abbrev pub HoldsLeft : Trees → List ℕ → History → Call → Type 0
 HoldsLeft db owner cs c = (later : History) × IsLeft cs c later × HoldsHistory db owner later
-
--- A history that the tables may stand for, with the desk's owner: a desk may have it, and what is known of its tables'
--- sizes is right.
-pub record Past (sizes : KeptSizes) : Type 0 where
-  pub owner : List ℕ
-  pub calls : History
-  pub history : IsHistory calls
-  pub right : AreRight sizes (tables owner calls)
-
--- its rows
-abbrev pub before : (sizes : KeptSizes) → Past sizes → Contents
-before sizes p = rows_of p.owner p.calls
-
--- the rows of the history after a call
-abbrev pub after : (sizes : KeptSizes) → Call → Past sizes → Contents
-after sizes c p = rows_of p.owner (next p.calls c)
