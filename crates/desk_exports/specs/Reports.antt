@@ -1,5 +1,5 @@
 -- own: what a desk counts, as a text.
-use Rattle.std.specs.Prelude.{ℕ, ◌-◌, Bool, true, false, List, ◌++◌, codes, count_by, decimal, length, replicate}
+use Rattle.std.specs.Prelude.{ℕ, ◌-◌, List, ◌++◌, codes, count_by, decimal, length, replicate}
 use Rattle.desk_texts.specs.declared.kind.ListedKind.{ListedKind}
 use Rattle.desk_texts.specs.declared.kind.ListedKind.TheVariants as kinds
 use Rattle.desk_texts.specs.declared.state.State.{State}
@@ -8,17 +8,8 @@ use Rattle.desk_history.specs.Calls.{History, distinct, is_same_kind}
 use Rattle.desk_history.specs.Level.{generations, names, stamp}
 use Rattle.desk_history.specs.Listing.{listed}
 use Rattle.desk_history.specs.People.{people}
-use Rattle.desk_history.specs.Requests.{requests, state}
+use Rattle.desk_history.specs.Requests.{is_state, requests, state}
 use Rattle.desk_history.specs.Revocations.{revocations}
-
--- both are the same state
-abbrev pub is_state : State → State → Bool
-is_state states.Open states.Open = true
-is_state states.Approved states.Approved = true
-is_state states.Rejected states.Rejected = true
-is_state states.Withdrawn states.Withdrawn = true
-is_state states.Signed states.Signed = true
-is_state _ _ = false
 
 -- how many requests are in this state
 abbrev pub count_in : State → History → ℕ

@@ -166,3 +166,12 @@ state_by is_signed is_taken vs =
 -- the state of a request
 abbrev pub state : History → ℕ → State
 state cs k = state_by (is_returned cs k) (is_withdrawn cs k) (votes_on (votes cs) k)
+
+-- both are the same state
+abbrev pub is_state : State → State → Bool
+is_state states.Open states.Open = true
+is_state states.Approved states.Approved = true
+is_state states.Rejected states.Rejected = true
+is_state states.Withdrawn states.Withdrawn = true
+is_state states.Signed states.Signed = true
+is_state _ _ = false

@@ -1,8 +1,9 @@
 -- From the answer of a query to the rows of the desk's tables.
-use Rattle.std.proofs.Common.{◌≡◌, ℕ, List, [], ◌∷◌, ◌++◌, map, filter, length, slice_get, Bool, true, min, ◌<◌, Option, Some, None, refl, sym, ap, subst, ◌∙◌, arith}
+use Rattle.std.proofs.Common.{◌≡◌, ℕ, List, [], ◌∷◌, ◌++◌, map, filter, count_by, length, slice_get, Bool, true, min, ◌<◌, Option, Some, None, refl, sym, ap, subst, ◌∙◌, arith}
 use Rattle.std.specs.List.Sorted.{IsPermutation}
 use Rattle.std.specs.List.{All}
 use Rattle.std.proofs.lemmas.List.Elements.{All-head}
+use Rattle.std.proofs.lemmas.List.Sums.{length-filter}
 use Rattle.std.proofs.lemmas.List.Sorted.{IsPermutation-sym, length_permutation}
 use Rattle.sqlite.proofs.Callers.{one_permutation}
 use Rattle.sqlite.specs.Order.{Row}
@@ -58,18 +59,27 @@ every (x ∷ xs) = ap (λ l. x ∷ l) (every xs)
 below : (n a most : ℕ) → n ≡ min a most → n < most → n ≡ a
 below n a most is low = grind (arith)
 
--- how many rows the table has
-pub tells_count : {X : Type 0} (at : ℕ) (table : Table) (text : List ℕ) (names : List (List ℕ)) → CountsRows desk_schema at table text [] names
+-- how many rows of the table meet the condition
+pub tells_count_of : {X : Type 0} (at : ℕ) (table : Table) (text : List ℕ) (terms : List Term) (names : List (List ℕ)) → CountsRows desk_schema at table text terms names
     → (item : X → Row) (part : Tables → List X) → ((t : Tables) → slice_get (contents t) at ≡ Some (map item (part t)))
-    → (old new : State) (n : ℕ) → IsCounted text n old new → Tells (λ t. n ≡ length (part t)) old new
-tells_count at table text names means item part has old new n f =
-    let it = f.counts desk_schema at table [] names means in
+    → (params : Row) (p : X → Bool) → ((x : X) → passes table terms params (item x) ≡ p x)
+    → (old new : State) (n : ℕ) → IsCounted text params n old new → Tells (λ t. n ≡ count_by p (part t)) old new
+tells_count_of at table text terms names means item part has params p tested old new n f =
+    let it = f.counts desk_schema at table terms names means in
     record {
       kept = turns desk_schema contents contents (λ c. c) old new it.0 (λ t. refl);
       tells = λ t sees.
-          let all = passed table [] [] item (λ _. true) (λ x. refl) (part t) ∙ ap length (every (part t)) in
-          below n (length (part t)) 9223372036854775807 (it.1 (contents t) (map item (part t)) sees (has t) ∙ ap counted all) f.below;
+          let all = passed table terms params item p tested (part t) ∙ length-filter p (part t) in
+          below n (count_by p (part t)) 9223372036854775807 (it.1 (contents t) (map item (part t)) sees (has t) ∙ ap counted all) f.below;
     }
+
+-- how many rows the table has
+pub tells_count : {X : Type 0} (at : ℕ) (table : Table) (text : List ℕ) (names : List (List ℕ)) → CountsRows desk_schema at table text [] names
+    → (item : X → Row) (part : Tables → List X) → ((t : Tables) → slice_get (contents t) at ≡ Some (map item (part t)))
+    → (old new : State) (n : ℕ) → IsCounted text [] n old new → Tells (λ t. n ≡ length (part t)) old new
+tells_count at table text names means item part has old new n f =
+    let it = tells_count_of at table text [] names means item part has [] (λ _. true) (λ x. refl) old new n f in
+    record { kept = it.kept; tells = λ t sees. it.tells t sees ∙ sym (length-filter (λ _. true) (part t)) ∙ ap length (every (part t)) }
 
 -- ---- a table of one row
 

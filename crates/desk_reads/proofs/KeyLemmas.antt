@@ -10,7 +10,9 @@ use Rattle.sbat.specs.declared.component.Component.{Component}
 use Rattle.desk_texts.specs.declared.command.Person.{Person}
 use Rattle.desk_texts.specs.declared.kind.ListedKind.{ListedKind}
 use Rattle.desk_texts.specs.declared.kind.ListedKind.TheVariants.{Digest, Certificate}
-use Rattle.desk_texts.specs.Words.{kind_text}
+use Rattle.desk_texts.specs.declared.state.State.{State}
+use Rattle.desk_texts.specs.declared.state.State.TheVariants as states
+use Rattle.desk_texts.specs.Words.{kind_text, state_text}
 use Rattle.desk_history.specs.declared.rows.Entry.{Entry}
 use Rattle.desk_history.specs.declared.rows.RequestCertificateRow.{RequestCertificateRow}
 use Rattle.desk_history.specs.declared.rows.RequestComponentRow.{RequestComponentRow}
@@ -19,6 +21,7 @@ use Rattle.desk_history.specs.declared.rows.ReturnRow.{ReturnRow}
 use Rattle.desk_history.specs.declared.rows.VoteRow.{VoteRow}
 use Rattle.desk_history.specs.Calls.{is_same_kind}
 use Rattle.desk_history.specs.Listing.{is_entry}
+use Rattle.desk_history.specs.Requests.{is_state}
 use Rattle.desk_history.specs.People.{has_name, has_token}
 use Rattle.desk_history.specs.Writes.{is_named}
 use Rattle.desk_contents.specs.Values as values
@@ -55,6 +58,18 @@ is_vote k x = only _ _ (int_is x.request k)
 pub is_return : (k : ℕ) (x : ReturnRow) → passes tables.returns (equals tables.returns 0 0 ∷ []) (Int (pos k) ∷ []) (values.return_values x) ≡ (k == x.request)
 is_return k x = only _ _ (int_is x.request k)
 
+states_differ : (s t : State) → bytes_eq (state_text s) (state_text t) ≡ is_state s t
+states_differ s t = elim s [
+  | states.Open ↦ elim t [ states.Open ↦ refl | states.Approved ↦ refl | states.Rejected ↦ refl | states.Withdrawn ↦ refl | states.Signed ↦ refl ]
+  | states.Approved ↦ elim t [ states.Open ↦ refl | states.Approved ↦ refl | states.Rejected ↦ refl | states.Withdrawn ↦ refl | states.Signed ↦ refl ]
+  | states.Rejected ↦ elim t [ states.Open ↦ refl | states.Approved ↦ refl | states.Rejected ↦ refl | states.Withdrawn ↦ refl | states.Signed ↦ refl ]
+  | states.Withdrawn ↦ elim t [ states.Open ↦ refl | states.Approved ↦ refl | states.Rejected ↦ refl | states.Withdrawn ↦ refl | states.Signed ↦ refl ]
+  | states.Signed ↦ elim t [ states.Open ↦ refl | states.Approved ↦ refl | states.Rejected ↦ refl | states.Withdrawn ↦ refl | states.Signed ↦ refl ]
+]
+
+pub is_in : (s : State) (x : RequestRow) → passes tables.requests (equals tables.requests 8 0 ∷ []) (Text (state_text s) ∷ []) (values.request_values x) ≡ is_state s x.state
+is_in s x = only _ _ (text_is (state_text x.state) (state_text s) ∙ states_differ s x.state)
+
 -- ---- lists
 
 kinds_differ : (k l : ListedKind) → bytes_eq (kind_text k) (kind_text l) ≡ is_same_kind k l
@@ -66,6 +81,9 @@ kinds_differ Certificate Certificate = refl
 pub is_it : (kind : ListedKind) (digest : List ℕ) (x : Entry)
     → passes tables.listed (equals tables.listed 0 0 ∷ equals tables.listed 1 1 ∷ []) (Text (kind_text kind) ∷ Blob digest ∷ []) (values.entry_values x) ≡ is_entry kind digest x
 is_it kind digest x = both _ _ _ _ (text_is (kind_text x.kind) (kind_text kind) ∙ kinds_differ kind x.kind) (blob_is x.digest digest)
+
+pub is_of_kind : (kind : ListedKind) (x : Entry) → passes tables.listed (equals tables.listed 0 0 ∷ []) (Text (kind_text kind) ∷ []) (values.entry_values x) ≡ is_same_kind kind x.kind
+is_of_kind kind x = only _ _ (text_is (kind_text x.kind) (kind_text kind) ∙ kinds_differ kind x.kind)
 
 pub is_digest : (digest x : List ℕ) → passes tables.revoked_digests (equals tables.revoked_digests 0 0 ∷ []) (Blob digest ∷ []) (values.digest_values x) ≡ bytes_eq digest x
 is_digest digest x = only _ _ (blob_is x digest)

@@ -3,3 +3,4 @@ pub mod ValueLemmas
 pub mod FindLemmas
 pub mod KeyLemmas
 pub mod CallLemmas
+pub mod TellsLemmas

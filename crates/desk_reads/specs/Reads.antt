@@ -39,6 +39,6 @@ pub record AreFound {T : Type 0} (shown : T → Row) (table : Table) (ordered : 
   pub sorted : IsSorted (λ x y. by_keys (by_first ordered table) (shown x) (shown y)) values
 
 -- the number that a count answers, where it is below the greatest integer of SQL, at which counts stop
-pub record IsCounted (text : List ℕ) (n : ℕ) (old new : State) : Type 0 where
-  pub counts : Counts text [] old new n
+pub record IsCounted (text : List ℕ) (params : Row) (n : ℕ) (old new : State) : Type 0 where
+  pub counts : Counts text params old new n
   pub below : n < 9223372036854775807

@@ -18,8 +18,8 @@ mod requests;
 
 pub use calls::call_of;
 pub use counts::{
-    count_calls, count_components, count_listed, count_people, count_requests,
-    count_revoked_certificates, count_revoked_digests,
+    count_calls, count_components, count_listed, count_listed_of, count_people, count_requests,
+    count_requests_in, count_revoked_certificates, count_revoked_digests,
 };
 pub use desk_row::{DeskRow, Mark};
 pub use fault::ReadFault;

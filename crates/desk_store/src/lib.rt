@@ -2,6 +2,8 @@
 #![tactic(auto)]
 
 mod acting;
+mod answers;
+mod asking;
 mod desk;
 mod forms;
 mod founding;
@@ -9,3 +11,4 @@ mod opening;
 mod reading;
 
 pub use desk::Desk;
+pub use desk_counts::{Counts, KindCounts, ListCounts, RequestCounts};

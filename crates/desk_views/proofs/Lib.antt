@@ -1,4 +1,3 @@
 mod FindLemmas
 mod LearningLemmas
 mod NamedLemmas
-mod TellsLemmas

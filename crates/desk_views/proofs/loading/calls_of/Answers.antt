@@ -5,7 +5,7 @@ use Rattle.desk_history.specs.Formed.{IsReadable}
 use Rattle.desk_history.specs.Runs.{has_key}
 use Rattle.desk_reads.specs.Reads.{Tells, listed}
 use Rattle.desk_views.proofs.NamedLemmas.{finds_alone}
-use Rattle.desk_views.proofs.TellsLemmas.{tells_so}
+use Rattle.desk_reads.proofs.TellsLemmas.{tells_so}
 use Rattle.desk_views.proofs.loading.calls_of.Goals as goal
 
 pub returns-clause-value : goal.returns-clause-value

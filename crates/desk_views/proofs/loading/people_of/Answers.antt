@@ -9,7 +9,7 @@ use Rattle.desk_statements.specs.Tables.{desk_schema}
 use Rattle.desk_reads.specs.Reads.{Tells, listed}
 use Rattle.desk_views.specs.Steps.{ShowsPeople}
 use Rattle.desk_views.proofs.NamedLemmas.{people_asked, put_thrice, shows_caller, shows_people}
-use Rattle.desk_views.proofs.TellsLemmas.{tells_so}
+use Rattle.desk_reads.proofs.TellsLemmas.{tells_so}
 use Rattle.desk_views.proofs.loading.people_of.Goals as goal
 
 pub returns-in_default-clause-value : goal.returns-in_default-clause-value

@@ -4,7 +4,7 @@ use Rattle.desk_reads.specs.Reads.{Tells, listed}
 use Rattle.desk_rules.specs.Shown.{is_request_row, request_named}
 use Rattle.desk_views.specs.Steps.{ShowsRequest}
 use Rattle.desk_views.proofs.NamedLemmas.{one_request}
-use Rattle.desk_views.proofs.TellsLemmas.{tells_so}
+use Rattle.desk_reads.proofs.TellsLemmas.{tells_so}
 use Rattle.desk_views.proofs.loading.requests_of.Goals as goal
 
 pub returns-clause-value : goal.returns-clause-value

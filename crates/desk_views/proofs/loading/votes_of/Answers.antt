@@ -6,7 +6,7 @@ use Rattle.desk_rules.specs.Shown.{request_named}
 use Rattle.desk_statements.specs.Tables as tables
 use Rattle.desk_views.specs.Steps.{ShowsVotes}
 use Rattle.desk_views.proofs.NamedLemmas.{votes_shown}
-use Rattle.desk_views.proofs.TellsLemmas.{tells_so}
+use Rattle.desk_reads.proofs.TellsLemmas.{tells_so}
 use Rattle.desk_views.proofs.loading.votes_of.Goals as goal
 
 pub returns-clause-value : goal.returns-clause-value

@@ -3,7 +3,7 @@ use Rattle.sqlite.specs.Held.{state}
 use Rattle.sqlite.specs.State.{HasCleanDisk}
 use Rattle.desk_sizes.specs.Sizes.{AreRight}
 use Rattle.desk_views.proofs.LearningLemmas.{learns_all}
-use Rattle.desk_views.proofs.TellsLemmas.{tells_so, tells_then}
+use Rattle.desk_reads.proofs.TellsLemmas.{tells_so, tells_then}
 use Rattle.desk_views.proofs.sizes.learn.Goals as goal
 
 pub returns-clause-value : goal.returns-clause-value

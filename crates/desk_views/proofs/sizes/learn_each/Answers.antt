@@ -7,7 +7,7 @@ use Rattle.desk_rules.specs.declared.view.Counted.TheVariants as counted
 use Rattle.desk_sizes.specs.Sizes.{AreRight}
 use Rattle.desk_views.specs.Steps.{LearnsOf}
 use Rattle.desk_views.proofs.LearningLemmas.{learns_next, learns_none}
-use Rattle.desk_views.proofs.TellsLemmas.{tells_none, tells_so, tells_then}
+use Rattle.desk_reads.proofs.TellsLemmas.{tells_none, tells_so, tells_then}
 use Rattle.desk_views.proofs.sizes.learn_each.Goals as goal
 
 pub loop-table-init : goal.loop-table-init

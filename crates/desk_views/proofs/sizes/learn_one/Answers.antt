@@ -3,7 +3,7 @@ use Rattle.sqlite.specs.Held.{state}
 use Rattle.desk_rules.specs.Shown.{rows_in}
 use Rattle.desk_sizes.specs.Sizes.{AreRight}
 use Rattle.desk_views.proofs.LearningLemmas.{is_lacking, learns_size, right_size}
-use Rattle.desk_views.proofs.TellsLemmas.{tells_so}
+use Rattle.desk_reads.proofs.TellsLemmas.{tells_so}
 use Rattle.desk_views.proofs.sizes.learn_one.Goals as goal
 
 pub returns-clause-value : goal.returns-clause-value

@@ -1,0 +1,22 @@
+use Rattle.std.proofs.Common.{arith}
+use Rattle.sqlite.specs.Held.{state}
+use Rattle.sqlite.specs.State.{HasCleanDisk}
+use Rattle.desk_contents.specs.Contents.{contents}
+use Rattle.desk_sql.proofs.StopLemmas.{changes_then}
+use Rattle.desk_statements.specs.Tables.{desk_schema}
+use Rattle.desk_counts.proofs.counting.count_entries.Goals as goal
+
+pub returns-clause-value : goal.returns-clause-value
+returns-clause-value g c clean inside =
+    let s0 = state g.S.Store c.args.tx.now.conn.now in
+    let s1 = state g.S.Store c.count_listed_of.new.tx.conn.now in
+    let s2 = state g.S.Store c.count_listed_of-2.new.tx.conn.now in
+    let c1 : HasCleanDisk s1 = omega (arith, c.in_ok-certificates.ensures.survives.clean, clean) in
+    let a = c.in_ok-digests.ensures.value c1 inside in
+    let b = c.in_ok-certificates.ensures.value clean a.kept.inside in
+    record {
+      kept = changes_then desk_schema contents s0 s1 s2 (λ t. t) (λ t. t) a.kept b.kept;
+      tells = λ t sees.
+          let sees1 = a.kept.value t sees in
+          record { digests = a.tells t sees; certificates = b.tells t sees1 };
+    }
