@@ -1,0 +1,8 @@
+//! The report of a desk: what it counts, as fourteen lines of text.
+#![tactic(auto)]
+
+mod laws;
+mod report;
+
+pub use laws::report_is_the_history;
+pub use report::report;
