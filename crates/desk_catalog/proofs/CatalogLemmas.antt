@@ -1,6 +1,6 @@
 -- Rows of `sqlite_schema` stand for one table or one index each.
-use Rattle.std.proofs.Common.{◌≡◌, ◌+◌, ◌⊎◌, inl, inr, ◌<◌, ◌^◌, ℕ, pos, Bool, true, false, List, [], ◌∷◌, ◌++◌, Ok, Some, codes, slice_get, length, refl, sym, ap, ap₂, subst, ◌∙◌, arith}
-use Rattle.std.specs.List.{AllByRecursion, AllZip}
+use Rattle.std.proofs.Common.{◌≡◌, ◌+◌, ◌<◌, ◌^◌, ℕ, pos, Bool, true, false, List, [], ◌∷◌, ◌++◌, Ok, Some, codes, slice_get, length, refl, sym, ap, ap₂, subst, ◌∙◌, arith}
+use Rattle.std.specs.List.{AllZip}
 use Rattle.std.specs.Fmt.{decimal}
 use Rattle.std.proofs.lemmas.Fmt.{decimal_injective}
 use Rattle.std.proofs.lemmas.List.{append_cancel_left}
@@ -13,6 +13,7 @@ use Rattle.sqlite_resolve.specs.Compile.{index_defined_by, table_defined_by}
 use Rattle.sqlite_schema.specs.Names.{same_name}
 use Rattle.sqlite_schema.specs.declared.schema.Index.{Index}
 use Rattle.sqlite_schema.specs.declared.schema.Table.{Table}
+use Rattle.sqlite_catalog.proofs.StepLemmas.{named_once, same_itself}
 use Rattle.sqlite_catalog.specs.Listing.{IsDefined, IsIndexRow, IsTableRow, automatic}
 
 -- a row id that is a tree's number and one stands for one tree
@@ -37,23 +38,6 @@ same_tables [] (s ∷ ss) ts a b = absurd a
 same_tables (row ∷ rows) [] ts a b = absurd a
 same_tables (row ∷ rows) (s ∷ ss) [] a b = absurd b
 same_tables (row ∷ rows) (s ∷ ss) (t ∷ ts) a b = ap₂ (λ x xs. x ∷ xs) (same_table row s t a.0 b.0) (same_tables rows ss ts a.1 b.1)
-
--- ---- tables by their names
-
-same_itself : (name : List ℕ) → same_name name name ≡ true
-same_itself name = ?
-
-apart : (s : Table) (ts : List Table) (t : Table) → AllByRecursion (λ (x : Table). same_name s.name x.name ≡ false) ts → Has ts t → s.name ≡ t.name → ⊥
-apart s [] t all has is = has
-apart s (x ∷ ts) t all (inl e) is = let n : s.name ≡ x.name = is ∙ ap (λ (y : Table). y.name) e in let k = same_itself s.name in let f = subst (λ m. same_name s.name m ≡ false) (sym n) all.0 in cc
-apart s (x ∷ ts) t all (inr more) is = apart s ts t all.1 more is
-
-pub one_of_name : (ts : List Table) (s t : Table) → IsAscending (λ a b. same_name a.name b.name ≡ false) ts → Has ts s → Has ts t → s.name ≡ t.name → s ≡ t
-one_of_name [] s t named a b is = absurd a
-one_of_name (x ∷ ts) s t named (inl a) (inl b) is = a ∙ sym b
-one_of_name (x ∷ ts) s t named (inl a) (inr b) is = absurd (apart x ts t named.0 b (sym (ap (λ (y : Table). y.name) a) ∙ is))
-one_of_name (x ∷ ts) s t named (inr a) (inl b) is = absurd (apart x ts s named.0 a (sym (ap (λ (y : Table). y.name) b) ∙ sym is))
-one_of_name (x ∷ ts) s t named (inr a) (inr b) is = one_of_name ts s t named.1 a b is
 
 -- ---- indexes
 
@@ -86,7 +70,7 @@ same_definition table i j (Blob x) name tree a b = absurd a
 pub same_index : (tables : List Table) (row : Row) (i j : Index) → IsAscending (λ s t. same_name s.name t.name ≡ false) tables → IsIndexRow tables row i → IsIndexRow tables row j → i ≡ j
 same_index tables row i j named a b =
     let owner : a.table.name ≡ b.table.name = one_text (column row 3) a.table.name b.table.name a.described.owner_is b.described.owner_is in
-    let table : a.table ≡ b.table = one_of_name tables a.table b.table named a.listed b.listed owner in
+    let table : a.table ≡ b.table = named_once tables a.table b.table named a.listed b.listed (subst (λ n. same_name a.table.name n ≡ true) owner (same_itself a.table.name)) in
     let name : i.name ≡ j.name = one_text (column row 2) i.name j.name a.described.name_is b.described.name_is in
     let tree : i.tree ≡ j.tree = one_tree (rowid row) i.tree j.tree a.described.id b.described.id in
     same_definition a.table i j (column row 4) name tree a.defined (subst (λ (t : Table). IsDefined t j (column row 4)) (sym table) b.defined)
