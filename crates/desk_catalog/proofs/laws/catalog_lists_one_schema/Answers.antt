@@ -1,7 +1,6 @@
-use Rattle.std.proofs.Common.{◌≡◌, ◌∙◌, List, [], filter, refl, sym, ap, ap₂, subst}
+use Rattle.std.proofs.Common.{◌≡◌, ◌∙◌, List, [], filter, sym, ap, ap₂, subst}
 use Rattle.std.specs.List.{AllZip}
 use Rattle.sqlite_catalog.specs.Listing.{IsIndexRow, IsViewRow, is_index_row, is_table_row, is_view_row}
-use Rattle.sqlite_schema.specs.declared.schema.Index.{Index}
 use Rattle.sqlite_schema.specs.declared.schema.Schema.{Schema}
 use Rattle.sqlite_schema.specs.declared.schema.Table.{Table}
 use Rattle.sqlite_schema.specs.declared.schema.View.{View as Stored}
