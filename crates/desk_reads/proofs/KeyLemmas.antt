@@ -59,13 +59,31 @@ pub is_return : (k : ℕ) (x : ReturnRow) → passes tables.returns (equals tabl
 is_return k x = only _ _ (int_is x.request k)
 
 states_differ : (s t : State) → bytes_eq (state_text s) (state_text t) ≡ is_state s t
-states_differ s t = elim s [
-  | states.Open ↦ elim t [ states.Open ↦ refl | states.Approved ↦ refl | states.Rejected ↦ refl | states.Withdrawn ↦ refl | states.Signed ↦ refl ]
-  | states.Approved ↦ elim t [ states.Open ↦ refl | states.Approved ↦ refl | states.Rejected ↦ refl | states.Withdrawn ↦ refl | states.Signed ↦ refl ]
-  | states.Rejected ↦ elim t [ states.Open ↦ refl | states.Approved ↦ refl | states.Rejected ↦ refl | states.Withdrawn ↦ refl | states.Signed ↦ refl ]
-  | states.Withdrawn ↦ elim t [ states.Open ↦ refl | states.Approved ↦ refl | states.Rejected ↦ refl | states.Withdrawn ↦ refl | states.Signed ↦ refl ]
-  | states.Signed ↦ elim t [ states.Open ↦ refl | states.Approved ↦ refl | states.Rejected ↦ refl | states.Withdrawn ↦ refl | states.Signed ↦ refl ]
-]
+states_differ states.Open states.Open = refl
+states_differ states.Open states.Approved = refl
+states_differ states.Open states.Rejected = refl
+states_differ states.Open states.Withdrawn = refl
+states_differ states.Open states.Signed = refl
+states_differ states.Approved states.Open = refl
+states_differ states.Approved states.Approved = refl
+states_differ states.Approved states.Rejected = refl
+states_differ states.Approved states.Withdrawn = refl
+states_differ states.Approved states.Signed = refl
+states_differ states.Rejected states.Open = refl
+states_differ states.Rejected states.Approved = refl
+states_differ states.Rejected states.Rejected = refl
+states_differ states.Rejected states.Withdrawn = refl
+states_differ states.Rejected states.Signed = refl
+states_differ states.Withdrawn states.Open = refl
+states_differ states.Withdrawn states.Approved = refl
+states_differ states.Withdrawn states.Rejected = refl
+states_differ states.Withdrawn states.Withdrawn = refl
+states_differ states.Withdrawn states.Signed = refl
+states_differ states.Signed states.Open = refl
+states_differ states.Signed states.Approved = refl
+states_differ states.Signed states.Rejected = refl
+states_differ states.Signed states.Withdrawn = refl
+states_differ states.Signed states.Signed = refl
 
 pub is_in : (s : State) (x : RequestRow) → passes tables.requests (equals tables.requests 8 0 ∷ []) (Text (state_text s) ∷ []) (values.request_values x) ≡ is_state s x.state
 is_in s x = only _ _ (text_is (state_text x.state) (state_text s) ∙ states_differ s x.state)
