@@ -1,6 +1,5 @@
 -- What a desk counts, of its tables and of its history.
 use Rattle.std.specs.Prelude.{◌≡◌, count_by, length}
-use Rattle.desk_texts.specs.declared.kind.ListedKind.{ListedKind}
 use Rattle.desk_texts.specs.declared.kind.ListedKind.TheVariants as kinds
 use Rattle.desk_texts.specs.declared.state.State.TheVariants as states
 use Rattle.desk_history.specs.Calls.{History, distinct, is_same_kind}
@@ -10,10 +9,10 @@ use Rattle.desk_history.specs.Requests.{is_state, requests}
 use Rattle.desk_history.specs.Revocations.{revocations}
 use Rattle.desk_history.specs.Tables.{Tables}
 use Rattle.desk_exports.specs.Reports.{count_in, count_listed}
-use Rattle.desk_counts.specs.declared.counts.Counts.{Counts}
-use Rattle.desk_counts.specs.declared.counts.KindCounts.{KindCounts}
-use Rattle.desk_counts.specs.declared.counts.ListCounts.{ListCounts}
-use Rattle.desk_counts.specs.declared.counts.RequestCounts.{RequestCounts}
+use Rattle.desk_counts.specs.declared.numbers.Counts.{Counts}
+use Rattle.desk_counts.specs.declared.numbers.KindCounts.{KindCounts}
+use Rattle.desk_counts.specs.declared.numbers.ListCounts.{ListCounts}
+use Rattle.desk_counts.specs.declared.numbers.RequestCounts.{RequestCounts}
 
 -- ---- of the tables
 

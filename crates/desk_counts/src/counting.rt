@@ -5,7 +5,7 @@ ghost use Rattle.desk_counts.specs.Parts.{CountEnded, CountWaiting};
 ghost use Rattle.desk_reads.specs.Reads.{Tells};
 ghost use Rattle.desk_sql.specs.States.{DoesInside, Keeps, Spares, StaysInside};
 
-use crate::counts::{Counts, KindCounts, ListCounts, RequestCounts};
+use crate::numbers::{Counts, KindCounts, ListCounts, RequestCounts};
 use desk_reads::{
     ReadFault, count_calls, count_components, count_listed_of, count_people, count_requests,
     count_requests_in, count_revoked_certificates, count_revoked_digests, own_row,
@@ -148,10 +148,7 @@ fn count_lists<S: Alter>(
 /// Counts all that a desk counts: thirteen counts, each of which visits a whole table. Takes memory for the desk's own row.
 ///
 /// `Row`: the desk's own row isn't one that a desk writes. `NoMemory`, `Store`: as they say.
-pub fn counts<S: Alter>(
-    alloc: Global,
-    tx: &mut Transaction<'_, S>,
-) -> Result<Counts, ReadFault>
+pub fn counts<S: Alter>(alloc: Global, tx: &mut Transaction<'_, S>) -> Result<Counts, ReadFault>
     ensures same_reference { tx.new.conn.ghost_name ≡ tx.old.conn.ghost_name }
     ensures value { DoesInside S.Store tx.old.conn.now tx.new.conn.now result
         (λ n. Tells (spec.CountTables n)) }

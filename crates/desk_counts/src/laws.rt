@@ -1,7 +1,7 @@
 //! What is counted of a history's tables.
 ghost use Rattle.std.specs.Prelude.{ℕ, List};
 ghost use Rattle.desk_counts.specs.Counts.{CountHistory, CountTables};
-ghost use Rattle.desk_counts.specs.declared.counts.Counts.{Counts};
+ghost use Rattle.desk_counts.specs.declared.numbers.Counts.{Counts};
 ghost use Rattle.desk_history.specs.Calls.{History};
 ghost use Rattle.desk_history.specs.Tables.{tables};
 

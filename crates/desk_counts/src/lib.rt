@@ -2,9 +2,9 @@
 #![tactic(auto)]
 
 mod counting;
-mod counts;
 mod laws;
+mod numbers;
 
 pub use counting::counts;
-pub use counts::{Counts, KindCounts, ListCounts, RequestCounts};
 pub use laws::tables_count_their_history;
+pub use numbers::{Counts, KindCounts, ListCounts, RequestCounts};

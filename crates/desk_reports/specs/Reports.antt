@@ -1,8 +1,8 @@
 -- The report of what is counted.
 use Rattle.std.specs.Prelude.{ℕ, List, ◌++◌, codes}
-use Rattle.desk_counts.specs.declared.counts.Counts.{Counts}
-use Rattle.desk_counts.specs.declared.counts.ListCounts.{ListCounts}
-use Rattle.desk_counts.specs.declared.counts.RequestCounts.{RequestCounts}
+use Rattle.desk_counts.specs.declared.numbers.Counts.{Counts}
+use Rattle.desk_counts.specs.declared.numbers.ListCounts.{ListCounts}
+use Rattle.desk_counts.specs.declared.numbers.RequestCounts.{RequestCounts}
 use Rattle.desk_exports.specs.Reports.{line}
 
 -- the lines of the people and of the requests

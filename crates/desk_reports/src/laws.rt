@@ -1,7 +1,7 @@
 //! That a report of what is counted is the history's.
 ghost use Rattle.std.specs.Prelude.{◌≡◌};
 ghost use Rattle.desk_counts.specs.Counts.{CountHistory};
-ghost use Rattle.desk_counts.specs.declared.counts.Counts.{Counts};
+ghost use Rattle.desk_counts.specs.declared.numbers.Counts.{Counts};
 ghost use Rattle.desk_exports.specs.Reports as exports;
 ghost use Rattle.desk_history.specs.Calls.{History};
 ghost use Rattle.desk_reports.specs.Reports.{report_of};

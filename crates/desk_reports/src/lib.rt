@@ -2,7 +2,7 @@
 #![tactic(auto)]
 
 mod laws;
-mod report;
+mod text;
 
 pub use laws::report_is_the_history;
-pub use report::report;
+pub use text::report;

@@ -1,6 +1,7 @@
-use Rattle.std.proofs.Common.{◌≡◌, ◌∙◌, ℕ, Bool, true, false, suc, List, [], ◌∷◌, count_by, map, length, refl, ap}
-use Rattle.std.proofs.lemmas.Bool.{cases_Bool}
+use Rattle.std.proofs.Common.{◌≡◌, ◌∙◌, Bool, suc, List, [], ◌∷◌, count_by, map, length, filter, refl, sym, ap}
 use Rattle.std.proofs.lemmas.List.{length-map}
+use Rattle.std.proofs.lemmas.List.Sums.{length-filter}
+use Rattle.sqlite_trees.proofs.ListLemmas.{filter-map}
 use Rattle.desk_texts.specs.declared.state.State.{State}
 use Rattle.desk_texts.specs.declared.state.State.TheVariants as states
 use Rattle.desk_history.specs.Calls.{History}
@@ -13,11 +14,8 @@ use Rattle.desk_exports.specs.Reports.{count_in}
 use Rattle.desk_counts.proofs.laws.tables_count_their_history.Goals as goal
 
 count_by-map : {X Y : Type 0} (f : X → Y) (p : Y → Bool) (xs : List X) → count_by p (map f xs) ≡ count_by (λ x. p (f x)) xs
-count_by-map f p [] = refl
-count_by-map f p (x ∷ xs) = elim (cases_Bool (p (f x))) [
-  | inl is ↦ rw is (ap suc (count_by-map f p xs))
-  | inr is ↦ rw is (count_by-map f p xs)
-]
+count_by-map f p xs =
+    sym (length-filter p (map f xs)) ∙ ap length (filter-map p f xs) ∙ length-map (filter (λ x. p (f x)) xs) f ∙ length-filter (λ x. p (f x)) xs
 
 in_state : (s : State) (cs : History) → count_by (λ (r : RequestRow). is_state s r.state) (map (λ r. request_row (state cs r.number) r) (requests cs)) ≡ count_in s cs
 in_state s cs = count_by-map (λ (r : Request). request_row (state cs r.number) r) (λ (r : RequestRow). is_state s r.state) (requests cs)
