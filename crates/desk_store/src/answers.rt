@@ -23,6 +23,7 @@ use sqlite::{Alter, Transaction};
 use std::alloc::Global;
 
 /// Who has the token of this SHA-256?
+#[derive(Drop)]
 struct WhoHas<'a> {
     token: &'a Digest,
 }
@@ -42,6 +43,7 @@ impl<'a> Question for WhoHas<'a> {
 }
 
 /// How many of everything are there?
+#[derive(Drop)]
 struct HowMany;
 
 impl Question for HowMany {
@@ -138,6 +140,9 @@ impl<S: Alter + Drop> Desk<S> {
         ensures named { self.old.needs_reopening ≡ false → IfErr result IsFailure }
     {
         tables_count_their_history();
-        self.asked(&HowMany)
+        match self.asked(&HowMany) {
+            Ok(counted) => Ok(counted),
+            Err(refusal) => Err(refusal),
+        }
     }
 }

@@ -12,9 +12,9 @@ pub returns-in-Ok-clause-same : goal.returns-in-Ok-clause-same
 returns-in-Ok-clause-same g c =
     let old = c.args.conn.now in
     let begun = state g.S.Store (record old { in_transaction = true }) in
-    let last = c.read.new.tx.conn.now in
+    let last = c.read-read.new.tx.conn.now in
     let end = c.rollback.new.self.0 in
-    let did = c.read.ensures in
+    let did = c.read-read.ensures in
     let spared : Survives begun (state g.S.Store last) (λ _. ⊥) = rw c.transaction-tx.ensures.begun at did.survives in
     let kept : HasCleanDisk (state g.S.Store last) → KeepsCommit begun (state g.S.Store last) = λ clean. (rw c.transaction-tx.ensures.begun at (did.kept clean)) refl in
     let same : end ≡ c.conn-1.given.0 = search rules in
@@ -29,7 +29,7 @@ returns-in-Ok-clause-ok g c =
     let question = c.args.question.now in
     let answer = c.in-Ok.answer in
     let begun = state g.S.Store (record old { in_transaction = true }) in
-    let last = c.read.new.tx.conn.now in
+    let last = c.read-read.new.tx.conn.now in
     let end = c.rollback.new.self.0 in
     let did = c.in-Ok.ensures in
     let spared : Survives begun (state g.S.Store last) (λ _. ⊥) = rw c.transaction-tx.ensures.begun at did.survives in
