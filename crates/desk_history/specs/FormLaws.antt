@@ -6,14 +6,16 @@ use Rattle.desk_texts.specs.Formed.{IsCall}
 use Rattle.desk_texts.specs.Raising.{names_no_sbat}
 use Rattle.desk_texts.specs.ReplyTexts.{reply_text_of}
 use Rattle.desk_texts.specs.declared.command.Call.{Call}
+use Rattle.desk_texts.specs.declared.facts.Facts.{Facts}
 use Rattle.desk_texts.specs.declared.reply.Reply.{Reply}
-use Rattle.desk_history.specs.Calls.{History, are_apart, item}
+use Rattle.desk_history.specs.Calls.{GoesOnFrom, History, are_apart, item}
 use Rattle.desk_history.specs.Formed.{IsHistory, IsReadable}
 use Rattle.desk_history.specs.Laws.{StandOnce}
-use Rattle.desk_history.specs.Lives.{Ends, Life, WasAnswered, events_of}
+use Rattle.desk_history.specs.Lives.{Ends, Event, Life, WasAnswered, events_of}
 use Rattle.desk_history.specs.Replies.{minutes, reply}
 use Rattle.desk_history.specs.Runs.{is_legal}
 use Rattle.desk_history.specs.Tables.{Tables, tables}
+use Rattle.desk_history.specs.Verdicts.{is_barred}
 use Rattle.desk_history.specs.declared.rows.Minute.{Minute}
 use Rattle.desk_history.specs.declared.rows.RequestCertificateRow.{RequestCertificateRow}
 use Rattle.desk_history.specs.declared.rows.RequestComponentRow.{RequestComponentRow}
@@ -75,3 +77,17 @@ abbrev pub AnsweredCallsStand : Type 0
 AnsweredCallsStand =
     (lives : List Life) (cs : History) → Ends lives cs → All (λ e. IsCall e.call) (events_of lives)
     → (c : Call) (reply : Reply) (at : History) → WasAnswered (events_of lives) cs c reply at → Stands cs c reply
+
+-- What a series of lives left keeps all that was answered Ok: the call stands in it with its reply, it goes on from the
+-- history of that time, and each image that was barred then is barred.
+pub record KeepsAnswered (events : List Event) (cs : History) : Type 0 where
+  pub stands : (c : Call) (reply : Reply) (at : History) → WasAnswered events cs c reply at → Stands cs c reply
+  pub goes_on : (c : Call) (reply : Reply) (at : History) → WasAnswered events cs c reply at → GoesOnFrom at cs
+  pub barred : (c : Call) (reply : Reply) (at : History) → WasAnswered events cs c reply at
+      → (x : Facts) → IsTrue (is_barred at x) → IsTrue (is_barred cs x)
+
+-- any number of lives leave a desk's history that keeps all that was answered in them, where each call was in its forms
+abbrev pub LivesKeepAnswered : Type 0
+LivesKeepAnswered =
+    (lives : List Life) (cs : History) → Ends lives cs → All (λ e. IsCall e.call) (events_of lives)
+    → IsHistory cs × KeepsAnswered (events_of lives) cs

@@ -35,3 +35,9 @@ pub fn series_leave_histories()
 pub fn answered_calls_stand()
     ensures { law.AnsweredCallsStand }
 {}
+
+/// What any number of lives leave keeps all that was answered Ok: each call with its reply, the history of that time
+/// as its beginning, and each image barred that was barred then.
+pub fn lives_keep_what_was_answered()
+    ensures { law.LivesKeepAnswered }
+{}

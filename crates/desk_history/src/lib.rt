@@ -18,7 +18,7 @@ pub use answer::Answer;
 pub use finding::{Below, Verdict};
 pub use form_laws::{
     all_rows_stand_once, answered_calls_stand, callers_are_told, level_has_no_sbat,
-    minutes_are_readable, minutes_differ, series_leave_histories,
+    lives_keep_what_was_answered, minutes_are_readable, minutes_differ, series_leave_histories,
 };
 pub use laws::{
     allows_exactly, answers_are_kept, answers_have_histories, keys_stand_once,
