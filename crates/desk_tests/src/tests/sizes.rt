@@ -105,7 +105,10 @@ fn a_desk_takes_the_largest_commands(rt: HostRuntime) -> Result<(), Fail> {
     let _olga = answer(alloc, &mut desk, "console p1 add olga officer 1")?;
     let _ann = answer(alloc, &mut desk, "console p2 add ann submitter 2")?;
     let calls = [
-        (call(alloc, "olga", 1, import(alloc)?)?, "imported 10000 0 0 0"),
+        (
+            call(alloc, "olga", 1, import(alloc)?)?,
+            "imported 10000 0 0 0",
+        ),
         (call(alloc, "olga", 2, listing(alloc)?)?, "listed"),
         (call(alloc, "ann", 1, submission(alloc)?)?, "submitted 1"),
     ];
