@@ -4,6 +4,7 @@
 mod acting;
 mod answers;
 mod asking;
+mod closing;
 mod desk;
 mod forms;
 mod founding;
