@@ -7,5 +7,6 @@ mod forms;
 mod founding;
 mod opening;
 mod reading;
+mod showing;
 
 pub use desk::Desk;
