@@ -18,7 +18,7 @@ use Rattle.desk_history.specs.declared.rows.RequestRow.{RequestRow}
 use Rattle.desk_history.proofs.ListLemmas.{number_is}
 use Rattle.desk_history.proofs.ShownLemmas.{found_passes}
 use Rattle.desk_reads.specs.Reads.{listed}
-use Rattle.desk_shown.specs.Steps.{IsShownIn, shown_to}
+use Rattle.desk_shown.specs.Steps.{IsShownIn, visible_row}
 use Rattle.desk_shown.proofs.ItemLemmas.{found_listed, found_passing, map_listed, passing, unmapped}
 use Rattle.desk_shown.proofs.MadeLemmas.{is_shown, row_of}
 
@@ -101,7 +101,7 @@ module _ (owner : List ℕ) (cs : History) (name : List ℕ) (k : ℕ) where
       let one : filter (has_number r.number) (requests cs) ≡ r ∷ [] = subst (λ n. filter (has_number n) (requests cs) ≡ r ∷ []) (number_is k r.number passes) it.1.one in
       subst (λ d. IsGiven d (Ok s) IsShown) (sym (due_if p e row r it.1 true h)) (is_shown owner cs history r one s (subst (λ x. IsShownIn (tables owner cs) x s) it.1.is shown))
 
-  pub gives_none : (p : Person) → IsNamed (Some p) → (row : Option RequestRow) → IsAsked row → shown_to p row ≡ None → GivesRequest cs (callers.Person name) k (Err refusals.NoSuchRequest)
+  pub gives_none : (p : Person) → IsNamed (Some p) → (row : Option RequestRow) → IsAsked row → visible_row p row ≡ None → GivesRequest cs (callers.Person name) k (Err refusals.NoSuchRequest)
   gives_none p e None f h = gives_absent p e f
   gives_none p e (Some row) f h = by (is_reader p row) refl
     where
@@ -109,7 +109,7 @@ module _ (owner : List ℕ) (cs : History) (name : List ℕ) (k : ℕ) where
       by true q = absurd (let is : (if true then Some row else None) ≡ None = ap (λ b. if b then Some row else None) (sym q) ∙ h in cc)
       by false q = gives_hidden p e row f q
 
-  pub gives_shown : IsHistory cs → (p : Person) → IsNamed (Some p) → (asked : Option RequestRow) → IsAsked asked → (row : RequestRow) → shown_to p asked ≡ Some row
+  pub gives_shown : IsHistory cs → (p : Person) → IsNamed (Some p) → (asked : Option RequestRow) → IsAsked asked → (row : RequestRow) → visible_row p asked ≡ Some row
       → (s : ShownRequest) → IsShownIn (tables owner cs) row s → GivesRequest cs (callers.Person name) k (Ok s)
   gives_shown history p e None f row h s shown = absurd cc
   gives_shown history p e (Some first) f row h s shown = by (is_reader p first) refl

@@ -100,13 +100,13 @@ module _ (owner : List ℕ) (cs : History) (p : Person) where
   rows_are rows are up =
       let oldest = map (row_of cs) (reverse mine) in
       let given : IsPermutation (map (row_of cs) mine) rows =
-          subst (λ l. IsPermutation l rows) (filter-map (λ (r : RequestRow). sees p.role (bytes_eq p.name r.submitter)) (row_of cs) (requests cs)) are.all in
+      subst (λ l. IsPermutation l rows) (filter-map (λ (r : RequestRow). sees p.role (bytes_eq p.name r.submitter)) (row_of cs) (requests cs)) are.all in
       let about : IsPermutation (map (row_of cs) mine) oldest =
-          subst (IsPermutation (map (row_of cs) mine)) (sym (map-reverse (row_of cs) mine)) (IsPermutation-reverse (map (row_of cs) mine)) in
+      subst (IsPermutation (map (row_of cs) mine)) (sym (map-reverse (row_of cs) mine)) (IsPermutation-reverse (map (row_of cs) mine)) in
       let moved : IsPermutation rows oldest = IsPermutation-trans rows (map (row_of cs) mine) oldest (IsPermutation-sym (map (row_of cs) mine) rows given) about in
       let ascends : IsAscending (λ (a b : RequestRow). a.number < b.number) oldest =
-          ascending-map (λ (a b : RequestRow). a.number < b.number) (row_of cs) (reverse mine)
-          (turned (λ (a b : Request). a.number < b.number) mine (ascending-filter (λ (a b : Request). b.number < a.number) is_mine (requests cs) (newest_first (submitted cs)))) in
+      ascending-map (λ (a b : RequestRow). a.number < b.number) (row_of cs) (reverse mine)
+      (turned (λ (a b : Request). a.number < b.number) mine (ascending-filter (λ (a b : Request). b.number < a.number) is_mine (requests cs) (newest_first (submitted cs)))) in
       one_order number rows oldest up ascends
       (λ d h. Contains-permutation rows oldest d moved h)
       (λ d h. Contains-permutation oldest rows d (IsPermutation-sym rows oldest moved) h)

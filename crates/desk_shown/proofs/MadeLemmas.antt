@@ -46,12 +46,12 @@ is_shown owner cs h r one s shown =
     let made = shown.made in
     let within = one_within (requests cs) k r one (requests_within cs h.formed) in
     let carried : s.facts.carried ≡ r.facts.carried =
-        carried_are r shown.parts.certificates.items s.facts.carried within.ascending
-        (subst (λ l. IsPermutation l shown.parts.certificates.items) (certificates_of_one k (requests cs) r one) are.certificates) made.carried in
+    carried_are r shown.parts.certificates.items s.facts.carried within.ascending
+    (subst (λ l. IsPermutation l shown.parts.certificates.items) (certificates_of_one k (requests cs) r one) are.certificates) made.carried in
     let components : s.facts.components ≡ r.facts.components =
-        components_are k r.facts.components s.facts.components
-        (subst (IsPermutation (placed_from k 0 r.facts.components)) made.components
-        (subst (λ l. IsPermutation l shown.parts.components.items) (components_of_one k (requests cs) r one) are.components)) in
+    components_are k r.facts.components s.facts.components
+    (subst (IsPermutation (placed_from k 0 r.facts.components)) made.components
+    (subst (λ l. IsPermutation l shown.parts.components.items) (components_of_one k (requests cs) r one) are.components)) in
     record {
       number = made.number;
       submitter = made.submitter;

@@ -71,7 +71,7 @@ pub carried_are : (r : Request) (rows : List RequestCertificateRow) (given : Lis
 carried_are r rows given up moved arranged =
     let named = digests_of rows in
     let same : IsPermutation r.facts.carried named =
-        subst (λ l. IsPermutation l named) (digests_same r.number r.facts.carried) (IsPermutation-map (λ (x : RequestCertificateRow). x.digest) (certificate_rows r) rows moved) in
+    subst (λ l. IsPermutation l named) (digests_same r.number r.facts.carried) (IsPermutation-map (λ (x : RequestCertificateRow). x.digest) (certificate_rows r) rows moved) in
     IsArranged-one named given r.facts.carried arranged (record {
       ascending = up;
       all = λ d h. Contains-permutation named r.facts.carried d (IsPermutation-sym r.facts.carried named same) h;
@@ -107,9 +107,9 @@ unplaced k p (x ∷ xs) = ap (λ l. x ∷ l) (unplaced k (p + 1) xs)
 pub components_are : (k : ℕ) (xs ys : List Component) → IsPermutation (placed_from k 0 xs) (placed_from k 0 ys) → ys ≡ xs
 components_are k xs ys moved =
     let same : placed_from k 0 ys ≡ placed_from k 0 xs =
-        one_order (λ (y : RequestComponentRow). y.place) (placed_from k 0 ys) (placed_from k 0 xs) (places_ascend k 0 ys) (places_ascend k 0 xs)
-        (λ d h. Contains-permutation (placed_from k 0 ys) (placed_from k 0 xs) d (IsPermutation-sym (placed_from k 0 xs) (placed_from k 0 ys) moved) h)
-        (λ d h. Contains-permutation (placed_from k 0 xs) (placed_from k 0 ys) d moved h) in
+    one_order (λ (y : RequestComponentRow). y.place) (placed_from k 0 ys) (placed_from k 0 xs) (places_ascend k 0 ys) (places_ascend k 0 xs)
+    (λ d h. Contains-permutation (placed_from k 0 ys) (placed_from k 0 xs) d (IsPermutation-sym (placed_from k 0 xs) (placed_from k 0 ys) moved) h)
+    (λ d h. Contains-permutation (placed_from k 0 xs) (placed_from k 0 ys) d moved h) in
     sym (unplaced k 0 ys) ∙ ap (map component_of) same ∙ unplaced k 0 xs
 
 -- ---- what a request's image carries ascends

@@ -59,6 +59,6 @@ pub record AreRowsFor (reader : Person) (t : Tables) (rows : List RequestRow) : 
   pub all : IsPermutation (filter (λ r. sees reader.role (bytes_eq reader.name r.submitter)) t.requests) rows
 
 -- the row, if it is there and the person is shown its request
-abbrev pub shown_to : Person → Option RequestRow → Option RequestRow
-shown_to reader None = None
-shown_to reader (Some row) = if sees reader.role (bytes_eq reader.name row.submitter) then Some row else None
+abbrev pub visible_row : Person → Option RequestRow → Option RequestRow
+visible_row reader None = None
+visible_row reader (Some row) = if sees reader.role (bytes_eq reader.name row.submitter) then Some row else None

@@ -8,9 +8,7 @@ ghost use Rattle.desk_shown.specs.Steps.{IsMadeOf, digests_of, shown_row};
 
 use crate::parts::Parts;
 use desk_bytes::Digest;
-use desk_history::{
-    RequestCertificateRow, RequestComponentRow, RequestRow, ReturnRow, VoteRow,
-};
+use desk_history::{RequestCertificateRow, RequestComponentRow, RequestRow, ReturnRow, VoteRow};
 use desk_reads::ReadFault;
 use desk_texts::{
     Carried, Components, Extent, Facts, RequestNumber, ShownRequest, ShownReturn, ShownVote,

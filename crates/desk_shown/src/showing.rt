@@ -2,7 +2,7 @@
 ghost use Rattle.std.specs.Prelude.{◌≡◌, IfErr, IfOk, bytes_eq};
 ghost use Rattle.desk_history.specs.Shown.{GivesRequest, sees};
 ghost use Rattle.desk_reads.specs.Reads.{Tells};
-ghost use Rattle.desk_shown.specs.Steps.{IsShownIn, shown_to};
+ghost use Rattle.desk_shown.specs.Steps.{IsShownIn, visible_row};
 ghost use Rattle.desk_shown.specs.Telling.{IsRequestRefusal, TellsOf};
 ghost use Rattle.desk_sql.specs.States.{DoesInside, Keeps, Spares, StaysInside};
 ghost use Rattle.desk_texts.specs.declared.caller.Caller.TheVariants as callers;
@@ -46,7 +46,7 @@ fn is_shown_to(reader: &Person, row: &RequestRow) -> bool
 
 /// The row, if it is there and the person is shown its request.
 fn row_for(reader: &Person, row: Option<RequestRow>) -> Option<RequestRow>
-    ensures { result ≡ shown_to reader.now row }
+    ensures { result ≡ visible_row reader.now row }
 {
     let Some(row) = row else {
         return None;

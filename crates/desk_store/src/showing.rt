@@ -149,7 +149,7 @@ impl<S: Alter + Drop> Desk<S> {
             return Err(Refusal::NotYourRole);
         };
         match read_requests(self.alloc, &mut self.conn, name) {
-            Ok(given) => given,
+            Ok(shown) => shown,
             Err(failure) => {
                 self.needs_reopening = failure == Refusal::Store;
                 Err(failure)

@@ -19,7 +19,7 @@ returns-in_default-clause-value g c clean inside =
     let s0 = state g.S.Store c.args.tx.now.conn.now in
     let s1 = state g.S.Store c.person_named.new.tx.conn.now in
     let read : Tells (λ t. filter (has_name name) t.people ≡ listed found) s0 s1 =
-        subst (λ n. Tells (λ t. filter (has_name n) t.people ≡ listed found) s0 s1) c.as_str.ensures.value (c.in_ok-found.ensures.value clean inside) in
+    subst (λ n. Tells (λ t. filter (has_name n) t.people ≡ listed found) s0 s1) c.as_str.ensures.value (c.in_ok-found.ensures.value clean inside) in
     let none : found ≡ None = search (rules, c.in_default.is) in
     tells_of s0 s1 (λ t. filter (has_name name) t.people ≡ listed found) (λ cs. IsGiven (requests_for cs (callers.Person name)) (Err refusals.UnknownCaller) (λ ws shown. AreShown ws shown.items))
     (λ owner cs h e. gives_nobody owner cs name (λ ws shown. AreShown ws shown.items) (subst (λ o. filter (has_name name) (people cs) ≡ listed o) none e)) read
@@ -38,7 +38,7 @@ returns-clause-value g c clean inside =
     let c2 : HasCleanDisk s2 = omega (arith, c.in_ok-shown.ensures.survives.clean, clean) in
     let c1 : HasCleanDisk s1 = omega (arith, c.in_ok-rows.ensures.survives.clean, c2) in
     let first : Tells (λ t. filter (has_name name) t.people ≡ listed found) s0 s1 =
-        subst (λ n. Tells (λ t. filter (has_name n) t.people ≡ listed found) s0 s1) c.as_str.ensures.value (c.in_ok-found.ensures.value c1 inside) in
+    subst (λ n. Tells (λ t. filter (has_name n) t.people ≡ listed found) s0 s1) c.as_str.ensures.value (c.in_ok-found.ensures.value c1 inside) in
     let second : Tells (λ t. AreRowsFor reader t rows.items) s1 s2 = c.in_ok-rows.ensures.value c2 first.kept.inside in
     let third : Tells (λ t. AllZip (IsShownIn t) rows.items shown.items) s2 s3 = c.in_ok-shown.ensures.value clean second.kept.inside in
     let some : found ≡ Some reader = search (rules, c.in-Some.is) in
@@ -46,6 +46,6 @@ returns-clause-value g c clean inside =
     tells_of s0 s3 (λ t. ((filter (has_name name) t.people ≡ listed found) × AreRowsFor reader t rows.items) × AllZip (IsShownIn t) rows.items shown.items)
     (λ cs. IsGiven (requests_for cs (callers.Person name)) (Ok shown) (λ ws shown. AreShown ws shown.items))
     (λ owner cs h all. gives_all owner cs name h reader (subst (λ o. filter (has_name name) (people cs) ≡ listed o) some all.0.0) rows.items all.0.1 order
-        shown (λ v. v.items) all.1)
+    shown (λ v. v.items) all.1)
     (tells_then s0 s2 s3 (λ t. (filter (has_name name) t.people ≡ listed found) × AreRowsFor reader t rows.items) (λ t. AllZip (IsShownIn t) rows.items shown.items)
     (tells_then s0 s1 s2 (λ t. filter (has_name name) t.people ≡ listed found) (λ t. AreRowsFor reader t rows.items) first second) third)

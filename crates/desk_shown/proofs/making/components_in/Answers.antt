@@ -16,7 +16,7 @@ loop-row-preserved c =
     let stands : row ≡ placed k (0 + length done) x = c.in_ok-component.ensures in
     let pushed : c.push.new.items.items ≡ done ++ x ∷ [] = c.in_ok-push.ensures in (
       ap (λ l. placed_from k 0 l ++ rest) pushed ∙ ap (λ l. l ++ rest) (placed_more k 0 done x) ∙ append_assoc (placed_from k 0 done) (placed k (0 + length done) x ∷ []) rest
-      ∙ ap (λ r. placed_from k 0 done ++ r ∷ rest) (sym stands) ∙ ap (λ l. placed_from k 0 done ++ l) (sym steps) ∙ at.invariant.0,
+          ∙ ap (λ r. placed_from k 0 done ++ r ∷ rest) (sym stands) ∙ ap (λ l. placed_from k 0 done ++ l) (sym steps) ∙ at.invariant.0,
       let was = at.invariant.1 in
           let gone = c.in-Some.ensures.steps.1 in
           let short = ap length steps in

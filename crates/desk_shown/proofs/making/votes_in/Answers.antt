@@ -13,7 +13,7 @@ loop-row-preserved c =
     let steps : into_iter_items at.row-iterator ≡ x ∷ rest = c.in-Some.ensures.steps.0 in
     let pushed : c.push.new.items.items ≡ at.votes.items ++ shown_vote x ∷ [] = c.in_ok-push.ensures ∙ ap (λ v. at.votes.items ++ v ∷ []) c.vote_in.ensures in (
       ap (λ l. l ++ map shown_vote rest) pushed ∙ append_assoc at.votes.items (shown_vote x ∷ []) (map shown_vote rest)
-      ∙ ap (λ l. at.votes.items ++ map shown_vote l) (sym steps) ∙ at.invariant.0,
+          ∙ ap (λ l. at.votes.items ++ map shown_vote l) (sym steps) ∙ at.invariant.0,
       let was = at.invariant.1 in
           let gone = c.in-Some.ensures.steps.1 in
           let short = ap length steps in
@@ -25,5 +25,5 @@ returns c =
     let at = c.loop-row in
     let empty : into_iter_items at.row-iterator ≡ [] = nothing_left _ (sym at.invariant.1 ∙ c.in-None.ensures.steps.0) in
     let all : at.votes.items ≡ map shown_vote c.args.rows.items =
-        sym (append-nil at.votes.items) ∙ ap (λ l. at.votes.items ++ map shown_vote l) (sym empty) ∙ at.invariant.0 ∙ ap (map shown_vote) c.into_iter-row-iterator.ensures.into_iter_gives.0 in
+    sym (append-nil at.votes.items) ∙ ap (λ l. at.votes.items ++ map shown_vote l) (sym empty) ∙ at.invariant.0 ∙ ap (map shown_vote) c.into_iter-row-iterator.ensures.into_iter_gives.0 in
     subst (λ l. IsPermutation l c.new-2.result) all c.new-2.ensures.same

@@ -25,12 +25,12 @@ pub returns-in-Ok-clause-shown : goal.returns-in-Ok-clause-shown
 returns-in-Ok-clause-shown g c clean =
     let old = c.args.self.now in
     let new : Desk _ = record c.args.self.now { conn = c.read_requests.new.conn } in
-    given_ok g.S.Store old new (λ cs. requests_for cs c.args.caller.now) (λ ws shown. AreShown ws shown.items) c.in-Ok.given
-    (λ owner cs was. subst (λ who. IsGiven (requests_for cs who) c.in-Ok.given (λ ws shown. AreShown ws shown.items)) (sym (search (rules, c.in-Person.is))) (c.in-Ok.ensures.ok clean owner cs was.history was.shows))
+    given_ok g.S.Store old new (λ cs. requests_for cs c.args.caller.now) (λ ws shown. AreShown ws shown.items) c.in-Ok.shown
+    (λ owner cs was. subst (λ who. IsGiven (requests_for cs who) c.in-Ok.shown (λ ws shown. AreShown ws shown.items)) (sym (search (rules, c.in-Person.is))) (c.in-Ok.ensures.ok clean owner cs was.history was.shows))
 
 pub returns-in-Ok-clause-refused : goal.returns-in-Ok-clause-refused
 returns-in-Ok-clause-refused g c clean =
     let old = c.args.self.now in
     let new : Desk _ = record c.args.self.now { conn = c.read_requests.new.conn } in
-    given_err g.S.Store old new (λ cs. requests_for cs c.args.caller.now) (λ ws shown. AreShown ws shown.items) c.in-Ok.given
-    (λ owner cs was. subst (λ who. IsGiven (requests_for cs who) c.in-Ok.given (λ ws shown. AreShown ws shown.items)) (sym (search (rules, c.in-Person.is))) (c.in-Ok.ensures.ok clean owner cs was.history was.shows))
+    given_err g.S.Store old new (λ cs. requests_for cs c.args.caller.now) (λ ws shown. AreShown ws shown.items) c.in-Ok.shown
+    (λ owner cs was. subst (λ who. IsGiven (requests_for cs who) c.in-Ok.shown (λ ws shown. AreShown ws shown.items)) (sym (search (rules, c.in-Person.is))) (c.in-Ok.ensures.ok clean owner cs was.history was.shows))
