@@ -61,8 +61,8 @@ module _ (owner : List ℕ) (cs : History) (name : List ℕ) (k : ℕ) where
   gives_absent : (p : Person) → IsNamed (Some p) → IsAsked None → GivesRequest cs (callers.Person name) k (Err refusals.NoSuchRequest)
   gives_absent p e f =
       let it = asked None f in
-      let none : it.0 ≡ None = none_found it.0 it.1.1 in
-      let is : request_for cs (callers.Person name) k ≡ Err refusals.NoSuchRequest = due_of p e None (it.1.0 ∙ ap listed none) in
+      let none : it.0 ≡ None = none_found it.0 it.2 in
+      let is : request_for cs (callers.Person name) k ≡ Err refusals.NoSuchRequest = due_of p e None (it.1 ∙ ap listed none) in
       subst (λ d. IsGiven d (Err refusals.NoSuchRequest) IsShown) (sym is) refl
 
   -- the request of the row that was read
@@ -75,7 +75,7 @@ module _ (owner : List ℕ) (cs : History) (name : List ℕ) (k : ℕ) where
   some_found row (Some r) one e = (r, record { one = one; is = (let same : row ≡ row_of cs r = cc in same) })
 
   row_asked : (row : RequestRow) → IsAsked (Some row) → (r : Request) × IsOfRow row r
-  row_asked row f = let it = asked (Some row) f in some_found row it.0 it.1.0 it.1.1
+  row_asked row f = let it = asked (Some row) f in some_found row it.0 it.1 it.2
 
   -- the person is shown the request of the row, or not
   abbrev pub is_reader : Person → RequestRow → Bool

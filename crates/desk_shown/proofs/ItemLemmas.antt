@@ -1,9 +1,9 @@
 -- Lists of which one item at most passes a test, and lists that ascend.
-use Rattle.std.proofs.Common.{◌≡◌, ◌⊎◌, inl, inr, ℕ, ◌<◌, Bool, true, false, cond, List, [], ◌∷◌, map, filter, find, Option, Some, None, option_map, refl, sym, ap, ap₂, subst, ◌∙◌, arith}
+use Rattle.std.proofs.Common.{◌≡◌, ◌⊎◌, inl, inr, ℕ, zero, suc, ◌<◌, Bool, true, false, cond, List, [], ◌∷◌, map, filter, find, Option, Some, None, option_map, refl, sym, ap, ap₂, subst, ◌∙◌, arith}
 use Rattle.std.specs.Prelude.{if◌then◌else◌}
-use Rattle.std.specs.List.{Contains}
+use Rattle.std.specs.List.{AllByRecursion, Contains}
+use Rattle.std.proofs.lemmas.List.Elements.{All-contains, All-from_recursion}
 use Rattle.sqlite_trees.specs.Tree.{IsAscending}
-use Rattle.desk_bytes.proofs.OrderLemmas.{All-at, Contains-cases, Contains-head, Contains-later}
 use Rattle.desk_reads.specs.Reads.{listed}
 
 module _ {X : Type 0} where
@@ -17,28 +17,27 @@ module _ {X : Type 0} where
   first_is x rest None e = absurd cc
   first_is x rest (Some y) e = (let same : x ≡ y = cc in ap Some same)
 
+  found_next : (p : X → Bool) (x : X) (xs : List X) (o : Option X) → filter p (x ∷ xs) ≡ listed o → (filter p xs ≡ listed o → find p xs ≡ o) → (b : Bool) → p x ≡ b → find p (x ∷ xs) ≡ o
+  found_next p x xs o e rest true h = ap (λ b. cond b (Some x) (find p xs)) h ∙ first_is x (filter p xs) o (sym (keeps p x xs h) ∙ e)
+  found_next p x xs o e rest false h = ap (λ b. cond b (Some x) (find p xs)) h ∙ rest (sym (drops p x xs h) ∙ e)
+
+  swapped_next : (p q : X → Bool) (x : X) (xs : List X) → filter q (filter p xs) ≡ filter p (filter q xs) → (b c : Bool) → p x ≡ b → q x ≡ c
+      → filter q (filter p (x ∷ xs)) ≡ filter p (filter q (x ∷ xs))
+  swapped_next p q x xs more true true h k =
+      ap (filter q) (keeps p x xs h) ∙ keeps q x (filter p xs) k ∙ ap (λ l. x ∷ l) more ∙ sym (keeps p x (filter q xs) h) ∙ sym (ap (filter p) (keeps q x xs k))
+  swapped_next p q x xs more true false h k = ap (filter q) (keeps p x xs h) ∙ drops q x (filter p xs) k ∙ more ∙ sym (ap (filter p) (drops q x xs k))
+  swapped_next p q x xs more false true h k = ap (filter q) (drops p x xs h) ∙ more ∙ sym (drops p x (filter q xs) h) ∙ sym (ap (filter p) (keeps q x xs k))
+  swapped_next p q x xs more false false h k = ap (filter q) (drops p x xs h) ∙ more ∙ sym (ap (filter p) (drops q x xs k))
+
   -- the one item that passes is found
   pub found_listed : (p : X → Bool) (xs : List X) (o : Option X) → filter p xs ≡ listed o → find p xs ≡ o
   found_listed p [] None e = refl
   found_listed p [] (Some y) e = absurd cc
-  found_listed p (x ∷ xs) o e = by (p x) refl
-    where
-      by : (b : Bool) → p x ≡ b → find p (x ∷ xs) ≡ o
-      by true h = ap (λ b. cond b (Some x) (find p xs)) h ∙ first_is x (filter p xs) o (sym (keeps p x xs h) ∙ e)
-      by false h = ap (λ b. cond b (Some x) (find p xs)) h ∙ found_listed p xs o (sym (drops p x xs h) ∙ e)
+  found_listed p (x ∷ xs) o e = found_next p x xs o e (found_listed p xs o) (p x) refl
 
   swapped : (p q : X → Bool) (xs : List X) → filter q (filter p xs) ≡ filter p (filter q xs)
   swapped p q [] = refl
-  swapped p q (x ∷ xs) = by (p x) (q x) refl refl
-    where
-      more : filter q (filter p xs) ≡ filter p (filter q xs)
-      more = swapped p q xs
-
-      by : (b c : Bool) → p x ≡ b → q x ≡ c → filter q (filter p (x ∷ xs)) ≡ filter p (filter q (x ∷ xs))
-      by true true h k = ap (filter q) (keeps p x xs h) ∙ keeps q x (filter p xs) k ∙ ap (λ l. x ∷ l) more ∙ sym (keeps p x (filter q xs) h) ∙ sym (ap (filter p) (keeps q x xs k))
-      by true false h k = ap (filter q) (keeps p x xs h) ∙ drops q x (filter p xs) k ∙ more ∙ sym (ap (filter p) (drops q x xs k))
-      by false true h k = ap (filter q) (drops p x xs h) ∙ more ∙ sym (drops p x (filter q xs) h) ∙ sym (ap (filter p) (keeps q x xs k))
-      by false false h k = ap (filter q) (drops p x xs h) ∙ more ∙ sym (ap (filter p) (drops q x xs k))
+  swapped p q (x ∷ xs) = swapped_next p q x xs (swapped p q xs) (p x) (q x) refl refl
 
   -- an item, where it passes
   abbrev pub passing : (X → Bool) → Option X → Option X
@@ -67,6 +66,19 @@ map_listed g None = refl
 map_listed g (Some x) = refl
 
 -- ---- lists that ascend by a number
+
+Contains-head : {X : Type 0} (x : X) (xs : List X) → Contains (x ∷ xs) x
+Contains-head x xs = (0, omega arith, refl)
+
+Contains-later : {X : Type 0} (x d : X) (xs : List X) → Contains xs d → Contains (x ∷ xs) d
+Contains-later x d xs h = let low = h.1 in (suc h.0, omega arith, h.2)
+
+Contains-cases : {X : Type 0} (x d : X) (xs : List X) → Contains (x ∷ xs) d → (x ≡ d) ⊎ Contains xs d
+Contains-cases x d xs (zero, low, is) = inl is
+Contains-cases x d xs (suc k, low, is) = inr (k, omega arith, is)
+
+All-at : {X : Type 0} (P : X → Type 0) (xs : List X) (d : X) → AllByRecursion P xs → Contains xs d → P d
+All-at P xs d all h = All-contains P xs d (All-from_recursion P xs all) h
 
 module _ {X : Type 0} (n : X → ℕ) where
   abbrev pub Ascends : List X → Type 0

@@ -8,7 +8,7 @@ use Rattle.std.proofs.lemmas.Bool.Decides.{nat_tests}
 use Rattle.std.proofs.lemmas.List.{map-append, reverse-append}
 use Rattle.std.proofs.lemmas.List.Sorted.{Contains-permutation, IsPermutation-reverse, IsPermutation-sym, IsPermutation-trans}
 use Rattle.sqlite_trees.specs.Tree.{IsAscending}
-use Rattle.sqlite_trees.proofs.ListLemmas.{all-filter, all-permutation, all_both, all_weaker, ascending-append, ascending-filter, ascending-map, filter-map, filter_none}
+use Rattle.sqlite_trees.proofs.ListLemmas.{all-filter, all-permutation, all_both, all_of, all_weaker, ascending-append, ascending-filter, ascending-map, filter-map, filter_none, filter_same}
 use Rattle.desk_bytes.specs.declared.refusal.Refusal.{Refusal}
 use Rattle.desk_bytes.specs.declared.refusal.Refusal.TheVariants as refusals
 use Rattle.desk_texts.specs.declared.caller.Caller.TheVariants as callers
@@ -19,7 +19,7 @@ use Rattle.desk_history.specs.Formed.{IsHistory}
 use Rattle.desk_history.specs.People.{has_name, people, person}
 use Rattle.desk_history.specs.Requests.{Request, Submitted, has_number, numbered, requests, submitted}
 use Rattle.desk_history.specs.Shown.{AreShown, IsGiven, IsShown, Whole, is_shown_to, requests_for, sees, whole, wholes}
-use Rattle.desk_history.specs.Tables.{tables}
+use Rattle.desk_history.specs.Tables.{Tables, tables}
 use Rattle.desk_history.specs.declared.rows.RequestRow.{RequestRow}
 use Rattle.desk_history.proofs.ListLemmas.{number_above}
 use Rattle.desk_reads.specs.Reads.{listed}
@@ -148,3 +148,20 @@ module _ (owner : List ℕ) (cs : History) (name : List ℕ) where
       → IsGiven (requests_for cs (callers.Person name)) (Ok given) (λ ws x. AreShown ws (items x))
   gives_all h p e rows are up given items z =
       subst (λ d. IsGiven d (Ok given) (λ ws x. AreShown ws (items x))) (sym (all_due owner cs name (Some p) e)) (are_shown owner cs p h rows are up (items given) z)
+
+-- ---- what the reads of rows told
+
+module _ (p : Person) (t : Tables) (rows : List RequestRow) where
+  pub all_rows : ((is_own : Bool) → sees p.role is_own ≡ true) → IsPermutation (filter (λ (r : RequestRow). true) t.requests) rows → AreRowsFor p t rows
+  all_rows every found = record {
+    all = subst (λ l. IsPermutation l rows)
+        (sym (filter_same (λ (r : RequestRow). sees p.role (bytes_eq p.name r.submitter)) (λ r. true) t.requests
+        (all_of (λ (r : RequestRow). sees p.role (bytes_eq p.name r.submitter) ≡ true) (λ r. every (bytes_eq p.name r.submitter)) t.requests))) found;
+  }
+
+  pub own_rows : ((is_own : Bool) → sees p.role is_own ≡ is_own) → IsPermutation (filter (λ (r : RequestRow). bytes_eq p.name r.submitter) t.requests) rows → AreRowsFor p t rows
+  own_rows own found = record {
+    all = subst (λ l. IsPermutation l rows)
+        (sym (filter_same (λ (r : RequestRow). sees p.role (bytes_eq p.name r.submitter)) (λ r. bytes_eq p.name r.submitter) t.requests
+        (all_of (λ (r : RequestRow). sees p.role (bytes_eq p.name r.submitter) ≡ bytes_eq p.name r.submitter) (λ r. own (bytes_eq p.name r.submitter)) t.requests))) found;
+  }

@@ -50,8 +50,8 @@ pub order_more : (rows : List RequestRow) (i : ℕ) (row : RequestRow) (above : 
 order_more rows i row above low is h so_far = subst (λ l. AscendTo l row.number) (sym (take_one rows i row low is)) (one_higher (take i rows) row above h so_far)
 
 -- what two lists show of one another, with one item more
-pub zip_more : {A B : Type 0} (P : A → B → Type 0) (as : List A) (bs : List B) (a : A) (b : B) → AllZip P as bs → P a b → AllZip P (as ++ a ∷ []) (bs ++ b ∷ [])
-zip_more P [] [] a b h p = (p, tt)
-zip_more P [] (y ∷ bs) a b h p = absurd h
-zip_more P (x ∷ as) [] a b h p = absurd h
-zip_more P (x ∷ as) (y ∷ bs) a b h p = (h.0, zip_more P as bs a b h.1 p)
+pub zip_more : {A B : Type 0} (P : A → B → Type 0) (xs : List A) (ys : List B) (x : A) (y : B) → AllZip P xs ys → P x y → AllZip P (xs ++ x ∷ []) (ys ++ y ∷ [])
+zip_more P [] [] x y h p = (p, tt)
+zip_more P [] (v ∷ ys) x y h p = absurd h
+zip_more P (u ∷ xs) [] x y h p = absurd h
+zip_more P (u ∷ xs) (v ∷ ys) x y h p = (h.0, zip_more P xs ys x y h.1 p)

@@ -35,8 +35,8 @@ return_is : (cs : History) (k : ℕ) (row : Option ReturnRow) → filter (λ (x 
     → option_map shown_row row ≡ option_map shown_return (returned cs k)
 return_is cs k row e =
     let it = unmapped return_row (filter (λ (x : Returned). k == x.request) (returns cs)) row (sym (filter-map (λ (x : ReturnRow). k == x.request) return_row (returns cs)) ∙ e) in
-    let found : returned cs k ≡ it.0 = found_listed (λ (x : Returned). k == x.request) (returns cs) it.0 it.1.0 in
-    ap (option_map shown_row) it.1.1 ∙ same_return it.0 ∙ ap (option_map shown_return) (sym found)
+    let found : returned cs k ≡ it.0 = found_listed (λ (x : Returned). k == x.request) (returns cs) it.0 it.1 in
+    ap (option_map shown_row) it.2 ∙ same_return it.0 ∙ ap (option_map shown_return) (sym found)
 
 pub is_shown : (owner : List ℕ) (cs : History) → IsHistory cs → (r : Request) → filter (has_number r.number) (requests cs) ≡ r ∷ []
     → (s : ShownRequest) → IsShownIn (tables owner cs) (row_of cs r) s → IsShown (whole cs r) s

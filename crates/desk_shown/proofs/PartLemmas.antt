@@ -29,20 +29,18 @@ module _ {X : Type 0} (rows : Request → List X) (number : X → ℕ) (k : ℕ)
   abbrev of_it : X → Bool
   of_it x = k == number x
 
+  rows_next : (r : Request) (rs : List Request) → filter of_it (flat_map rows rs) ≡ flat_map rows (filter (has_number k) rs) → (b : Bool) → (k == r.number) ≡ b
+      → filter of_it (rows r) ++ filter of_it (flat_map rows rs) ≡ flat_map rows (filter (has_number k) (r ∷ rs))
+  rows_next r rs more true h =
+      ap (λ l. l ++ filter of_it (flat_map rows rs)) (filter_all of_it (rows r) (each r true h)) ∙ ap (λ l. rows r ++ l) more
+      ∙ sym (ap (flat_map rows) (keeps (has_number k) r rs h))
+  rows_next r rs more false h =
+      ap (λ l. l ++ filter of_it (flat_map rows rs)) (filter_none of_it (rows r) (each r false h)) ∙ more
+      ∙ sym (ap (flat_map rows) (drops (has_number k) r rs h))
+
   all_rows : (rs : List Request) → filter of_it (flat_map rows rs) ≡ flat_map rows (filter (has_number k) rs)
   all_rows [] = refl
-  all_rows (r ∷ rs) = filter-append of_it (rows r) (flat_map rows rs) ∙ by (k == r.number) refl
-    where
-      more : filter of_it (flat_map rows rs) ≡ flat_map rows (filter (has_number k) rs)
-      more = all_rows rs
-
-      by : (b : Bool) → (k == r.number) ≡ b → filter of_it (rows r) ++ filter of_it (flat_map rows rs) ≡ flat_map rows (filter (has_number k) (r ∷ rs))
-      by true h =
-          ap (λ l. l ++ filter of_it (flat_map rows rs)) (filter_all of_it (rows r) (each r true h)) ∙ ap (λ l. rows r ++ l) more
-          ∙ sym (ap (flat_map rows) (keeps (has_number k) r rs h))
-      by false h =
-          ap (λ l. l ++ filter of_it (flat_map rows rs)) (filter_none of_it (rows r) (each r false h)) ∙ more
-          ∙ sym (ap (flat_map rows) (drops (has_number k) r rs h))
+  all_rows (r ∷ rs) = filter-append of_it (rows r) (flat_map rows rs) ∙ rows_next r rs (all_rows rs) (k == r.number) refl
 
   -- where one request has the number, its rows
   pub rows_of_one : (rs : List Request) (r : Request) → filter (has_number k) rs ≡ r ∷ [] → filter of_it (flat_map rows rs) ≡ rows r
@@ -135,13 +133,14 @@ pub requests_within : (cs : History) → All IsItem cs → All HasWithin (reques
 requests_within [] h = All-nil HasWithin
 requests_within (i ∷ cs) h = one_more cs i.call i.call.command (All-head IsItem i cs h).limits (requests_within cs (All-tail IsItem i cs h))
 
+within_next : (q : Request) (rs : List Request) (k : ℕ) (r : Request) → filter (has_number k) (q ∷ rs) ≡ r ∷ [] → All HasWithin (q ∷ rs) → (filter (has_number k) rs ≡ r ∷ [] → AreFactsWithin r.facts)
+    → (b : Bool) → (k == q.number) ≡ b → AreFactsWithin r.facts
+within_next q rs k r one all rest true h =
+    let whole : q ∷ filter (has_number k) rs ≡ r ∷ [] = sym (keeps (has_number k) q rs h) ∙ one in
+    let same : q ≡ r = cc in
+    subst HasWithin same (All-head HasWithin q rs all)
+within_next q rs k r one all rest false h = rest (sym (drops (has_number k) q rs h) ∙ one)
+
 pub one_within : (rs : List Request) (k : ℕ) (r : Request) → filter (has_number k) rs ≡ r ∷ [] → All HasWithin rs → AreFactsWithin r.facts
 one_within [] k r one all = absurd cc
-one_within (q ∷ rs) k r one all = by (k == q.number) refl
-  where
-    by : (b : Bool) → (k == q.number) ≡ b → AreFactsWithin r.facts
-    by true h =
-        let whole : q ∷ filter (has_number k) rs ≡ r ∷ [] = sym (keeps (has_number k) q rs h) ∙ one in
-        let same : q ≡ r = cc in
-        subst HasWithin same (All-head HasWithin q rs all)
-    by false h = one_within rs k r (sym (drops (has_number k) q rs h) ∙ one) (All-tail HasWithin q rs all)
+one_within (q ∷ rs) k r one all = within_next q rs k r one all (λ e. one_within rs k r e (All-tail HasWithin q rs all)) (k == q.number) refl

@@ -1,7 +1,7 @@
 //! All requests that a person is shown.
-ghost use Rattle.std.specs.Prelude.{◌≡◌, IfErr, IfOk, IsTrue};
+ghost use Rattle.std.specs.Prelude.{◌≡◌, Bool, IfErr, IfOk, IsTrue, false, true};
 ghost use Rattle.std.specs.List.{AllZip};
-ghost use Rattle.desk_history.specs.Shown.{AreShown, IsGiven, requests_for};
+ghost use Rattle.desk_history.specs.Shown.{AreShown, IsGiven, requests_for, sees};
 ghost use Rattle.desk_reads.specs.Reads.{Tells};
 ghost use Rattle.desk_shown.specs.Steps.{AreInOrder, AreRowsFor, IsShownIn};
 ghost use Rattle.desk_shown.specs.Telling.{IsReaderRefusal, TellsOf};
@@ -17,6 +17,17 @@ use desk_texts::{Person, PersonName, Role, ShownRequest};
 use sqlite::{Alter, Transaction};
 use std::alloc::Global;
 
+/// Whether the role is shown each request, not own ones alone.
+fn sees_all(role: Role) -> bool
+    ensures all { IsTrue result → (is_own : Bool) → sees role is_own ≡ true }
+    ensures own { result ≡ false → (is_own : Bool) → sees role is_own ≡ is_own }
+{
+    match role {
+        Role::Submitter => false,
+        Role::Reviewer | Role::Officer | Role::Signer => true,
+    }
+}
+
 /// The rows of the requests that the person is shown.
 fn rows_for<S: Alter>(
     alloc: Global,
@@ -30,16 +41,12 @@ fn rows_for<S: Alter>(
     ensures kept { Keeps S.Store tx.old.conn.now tx.new.conn.now }
     ensures survives { Spares S.Store tx.old.conn.now tx.new.conn.now }
 {
-    match reader.role {
-        Role::Submitter => {
-            let rows = requests_by(alloc, tx, &reader.name)?;
-            Ok(rows)
-        }
-        Role::Reviewer | Role::Officer | Role::Signer => {
-            let rows = requests_all(alloc, tx)?;
-            Ok(rows)
-        }
+    if sees_all(reader.role) {
+        let rows = requests_all(alloc, tx)?;
+        return Ok(rows);
     }
+    let rows = requests_by(alloc, tx, &reader.name)?;
+    Ok(rows)
 }
 
 /// Whether the numbers of the rows ascend, each once.

@@ -67,14 +67,13 @@ fn component_in(
     })
 }
 
-/// The components of a request's image. `Row`: a row is another request's, their places aren't those
-/// from 0 on, or they are more than an image may name.
-fn components_in(
+/// The components of the rows. `Row`: a row is another request's, or their places aren't those from 0 on.
+fn placed_in(
     alloc: Global,
     rows: Vec<RequestComponentRow>,
     request: RequestNumber,
-) -> Result<Components, ReadFault>
-    ensures { IfOk result (λ components. rows.items ≡ placed_from request 0 components) }
+) -> Result<Vec<Component>, ReadFault>
+    ensures { IfOk result (λ components. rows.items ≡ placed_from request 0 components.items) }
 {
     let mut components: Vec<Component> = Vec::new(alloc);
     for row in rows {
@@ -82,6 +81,19 @@ fn components_in(
         let component = component_in(row, request, place)?;
         push(&mut components, component)?;
     }
+    Ok(components)
+}
+
+/// The components of a request's image. `Row`: the rows aren't the request's, in their places from 0 on, or they are
+/// more than an image may name.
+fn components_in(
+    alloc: Global,
+    rows: Vec<RequestComponentRow>,
+    request: RequestNumber,
+) -> Result<Components, ReadFault>
+    ensures { IfOk result (λ components. rows.items ≡ placed_from request 0 components) }
+{
+    let components = placed_in(alloc, rows, request)?;
     match Components::new(components) {
         Some(components) => Ok(components),
         None => Err(ReadFault::Row),

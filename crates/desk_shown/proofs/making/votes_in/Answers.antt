@@ -26,4 +26,4 @@ returns c =
     let empty : into_iter_items at.row-iterator ≡ [] = nothing_left _ (sym at.invariant.1 ∙ c.in-None.ensures.steps.0) in
     let all : at.votes.items ≡ map shown_vote c.args.rows.items =
     sym (append-nil at.votes.items) ∙ ap (λ l. at.votes.items ++ map shown_vote l) (sym empty) ∙ at.invariant.0 ∙ ap (map shown_vote) c.into_iter-row-iterator.ensures.into_iter_gives.0 in
-    subst (λ l. IsPermutation l c.new-2.result) all c.new-2.ensures.same
+    subst (λ l. IsPermutation l c.new.result) all c.new.ensures.same

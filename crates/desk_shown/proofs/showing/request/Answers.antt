@@ -24,8 +24,8 @@ returns-in_default-clause-value g c clean inside =
     tells_of s0 s1 (λ t. filter (has_name name) t.people ≡ listed found) (λ cs. GivesRequest cs (callers.Person name) k (Err refusals.UnknownCaller))
     (λ owner cs h e. gives_nobody owner cs name k (subst (λ o. filter (has_name name) (people cs) ≡ listed o) none e)) read
 
-pub returns-in_default-2-clause-value : goal.returns-in_default-2-clause-value
-returns-in_default-2-clause-value g c clean inside =
+pub returns-in_default-row_for-clause-value : goal.returns-in_default-row_for-clause-value
+returns-in_default-row_for-clause-value g c clean inside =
     let name = c.args.name.now in
     let k = c.args.number in
     let found = c.in_ok-found.found in
@@ -39,7 +39,7 @@ returns-in_default-2-clause-value g c clean inside =
     subst (λ n. Tells (λ t. filter (has_name n) t.people ≡ listed found) s0 s1) c.as_str.ensures.value (c.in_ok-found.ensures.value c1 inside) in
     let second : Tells (λ t. filter (λ r. k == r.number) t.requests ≡ listed asked) s1 s2 = c.in_ok-asked.ensures.value clean first.kept.inside in
     let some : found ≡ Some reader = search (rules, c.in-Some.is) in
-    let none : visible_row reader asked ≡ None = search (rules, c.row_for.ensures, c.in_default-2.is) in
+    let none : visible_row reader asked ≡ None = search (rules, c.row_for.ensures, c.in_default-row_for.is) in
     tells_of s0 s2 (λ t. (filter (has_name name) t.people ≡ listed found) × (filter (λ r. k == r.number) t.requests ≡ listed asked))
     (λ cs. GivesRequest cs (callers.Person name) k (Err refusals.NoSuchRequest))
     (λ owner cs h both. gives_none owner cs name k reader (subst (λ o. filter (has_name name) (people cs) ≡ listed o) some both.0) asked both.1 none)
@@ -52,7 +52,7 @@ returns-clause-value g c clean inside =
     let found = c.in_ok-found.found in
     let reader = c.in-Some.reader in
     let asked = c.in_ok-asked.asked in
-    let row = c.in-Some-2.row in
+    let row = c.in-Some-row_for.row in
     let s = c.in_ok-shown.shown in
     let s0 = state g.S.Store c.args.tx.now.conn.now in
     let s1 = state g.S.Store c.person_named.new.tx.conn.now in
@@ -65,7 +65,7 @@ returns-clause-value g c clean inside =
     let second : Tells (λ t. filter (λ r. k == r.number) t.requests ≡ listed asked) s1 s2 = c.in_ok-asked.ensures.value c2 first.kept.inside in
     let third : Tells (λ t. IsShownIn t row s) s2 s3 = c.in_ok-shown.ensures.value clean second.kept.inside in
     let some : found ≡ Some reader = search (rules, c.in-Some.is) in
-    let seen : visible_row reader asked ≡ Some row = search (rules, c.row_for.ensures, c.in-Some-2.is) in
+    let seen : visible_row reader asked ≡ Some row = search (rules, c.row_for.ensures, c.in-Some-row_for.is) in
     tells_of s0 s3 (λ t. ((filter (has_name name) t.people ≡ listed found) × (filter (λ r. k == r.number) t.requests ≡ listed asked)) × IsShownIn t row s)
     (λ cs. GivesRequest cs (callers.Person name) k (Ok s))
     (λ owner cs h all. gives_shown owner cs name k h reader (subst (λ o. filter (has_name name) (people cs) ≡ listed o) some all.0.0) asked all.0.1 row seen s all.1)

@@ -1,7 +1,7 @@
 use Rattle.std.proofs.Common.{◌≡◌, ◌++◌, length}
 use Rattle.std.specs.Vec.Iter.{into_iter_items, into_iter_len}
 use Rattle.desk_history.specs.Tables.{placed_from}
-use Rattle.desk_shown.proofs.making.components_in.Given as goal
+use Rattle.desk_shown.proofs.making.placed_in.Given as goal
 
 abbrev pub invariant-loop-row : goal.invariant-loop-row
 invariant-loop-row l =
