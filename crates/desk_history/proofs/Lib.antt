@@ -13,5 +13,6 @@ pub mod RequestRowLemmas
 pub mod RowLemmas
 pub mod RunLemmas
 pub mod SeriesLemmas
+pub mod ShownLemmas
 pub mod VerdictLemmas
 pub mod WriteLemmas

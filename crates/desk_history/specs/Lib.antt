@@ -15,6 +15,7 @@ pub mod Requests
 pub mod Revocations
 pub mod Roles
 pub mod Runs
+pub mod Shown
 pub mod Tables
 pub mod Verdicts
 pub mod Worked

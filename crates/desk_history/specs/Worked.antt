@@ -22,6 +22,7 @@ pub mod Keys
 pub mod Levels
 pub mod Returns
 pub mod Reviews
+pub mod Showing
 
 -- a call, and what it is answered
 pub record Step : Type 0 where

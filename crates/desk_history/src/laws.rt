@@ -1,5 +1,6 @@
 //! Laws of the definitions: the clause of each function is one.
 ghost use Rattle.desk_history.specs.Laws as law;
+ghost use Rattle.desk_history.specs.Shown.{SubmittersSeeOwn};
 
 /// An image is allowed exactly where it isn't barred and stands in db.
 pub fn allows_exactly()
@@ -50,4 +51,9 @@ pub fn answers_have_histories()
 /// time.
 pub fn answers_are_kept()
     ensures { law.AnswersAreKept }
+{}
+
+/// What a submitter is told of requests is the same of all histories that have the same own ones.
+pub fn submitters_see_own()
+    ensures { SubmittersSeeOwn }
 {}

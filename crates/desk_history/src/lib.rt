@@ -23,7 +23,7 @@ pub use form_laws::{
 pub use laws::{
     allows_exactly, answers_are_kept, answers_have_histories, keys_stand_once,
     legal_histories_are_runs, listed_rows_are_listed, rows_stand_once, runs_go_on,
-    series_are_legal, what_is_barred_stays_barred,
+    series_are_legal, submitters_see_own, what_is_barred_stays_barred,
 };
 pub use limits::{
     MOST_CALLS, MOST_LEVEL_COMPONENTS, MOST_LISTED, MOST_PEOPLE, MOST_REQUESTS,
@@ -40,7 +40,7 @@ pub use rules::{
 pub use standing::Standing;
 pub use verdicts::{bars, lists_image, verdict_of};
 pub use worked::{
-    imports_are_answered, keys_are_answered, levels_are_answered, returns_are_answered,
-    reviews_are_answered,
+    imports_are_answered, keys_are_answered, levels_are_answered, requests_are_shown,
+    returns_are_answered, reviews_are_answered,
 };
 pub use write::Write;

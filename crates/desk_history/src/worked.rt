@@ -4,6 +4,7 @@ ghost use Rattle.desk_history.specs.Worked.Keys as keys;
 ghost use Rattle.desk_history.specs.Worked.Levels as levels;
 ghost use Rattle.desk_history.specs.Worked.Returns as returns;
 ghost use Rattle.desk_history.specs.Worked.Reviews as reviews;
+ghost use Rattle.desk_history.specs.Worked.Showing as showing;
 
 /// A request is approved by two votes of yes, and another one rejected by one of no.
 pub fn reviews_are_answered()
@@ -41,4 +42,10 @@ pub fn imports_are_answered()
     ensures answers { imports.AnswersImports }
     ensures history { imports.KeepsImports }
     ensures rows { imports.TablesImports }
+{}
+
+/// People ask for one request, and for all of them.
+pub fn requests_are_shown()
+    ensures each { showing.TellsRequests }
+    ensures all { showing.TellsAll }
 {}

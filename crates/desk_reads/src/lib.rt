@@ -27,4 +27,7 @@ pub use from_row::FromRow;
 pub use lists::{component_named, entry_of, revoked_certificate, revoked_digest};
 pub use own::own_row;
 pub use people::{person_named, person_of_token};
-pub use requests::{certificates_of, components_of, request_numbered, return_of, votes_of};
+pub use requests::{
+    certificates_of, components_of, request_numbered, requests_all, requests_by, return_of,
+    votes_of,
+};

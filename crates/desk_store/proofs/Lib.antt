@@ -5,3 +5,4 @@ mod ActingLemmas
 mod CommitLemmas
 mod DeskLemmas
 mod ClosingLemmas
+mod ShowingLemmas

@@ -5,3 +5,4 @@ pub mod Steps
 pub mod Acts
 pub mod Reads
 pub mod Closed
+pub mod Showing

@@ -10,6 +10,7 @@ mod forms;
 mod founding;
 mod opening;
 mod reading;
+mod showing;
 
 pub use desk::Desk;
 pub use desk_counts::{Counts, KindCounts, ListCounts, RequestCounts};

@@ -5,7 +5,7 @@ use desk_store::Desk;
 use desk_texts::{
     Ballot, Call, Caller, Carried, Certificate, Command, Components, Digests, Extent, Facts,
     Import, ImportedComponents, Key, ListedKind, Listing, Note, Person, PersonName, Raise, Reply,
-    RequestNumber, ReturnedFile, Role, Submission, Title, Vote, reply_text,
+    RequestNumber, ReturnedFile, Role, ShownRequest, Submission, Title, Vote, reply_text,
 };
 use sbat::{Component, ComponentName, Generation, Stamp};
 use sqlite::{Alter, Connection, MemStore, params};

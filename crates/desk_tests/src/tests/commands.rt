@@ -31,7 +31,7 @@ impl<'a> Words<'a> {
         Ok(digest(self.text()?.parse::<u8>()?))
     }
 
-    fn request(&mut self) -> Result<RequestNumber, Fail> {
+    pub(super) fn request(&mut self) -> Result<RequestNumber, Fail> {
         Ok(RequestNumber::new(self.number()?).ok_or("a request's number")?)
     }
 

@@ -1,0 +1,136 @@
+-- What a person is shown of the requests.
+use Rattle.std.specs.Prelude.{◌≡◌, ℕ, ◌==◌, Bool, true, List, map, filter, find, reverse, Option, Some, option_map, ok_or, Result, Ok, Err, bytes_eq}
+use Rattle.std.specs.List.{AllZip}
+use Rattle.std.specs.List.Sorted.{IsPermutation}
+use Rattle.std.specs.Result.{result_map_both}
+use Rattle.desk_bytes.specs.declared.refusal.Refusal.{Refusal}
+use Rattle.desk_bytes.specs.declared.refusal.Refusal.TheVariants as refusals
+use Rattle.desk_texts.specs.declared.caller.Caller.{Caller}
+use Rattle.desk_texts.specs.declared.caller.Caller.TheVariants as callers
+use Rattle.desk_texts.specs.declared.command.Person.{Person}
+use Rattle.desk_texts.specs.declared.role.Role.{Role}
+use Rattle.desk_texts.specs.declared.role.Role.TheVariants as roles
+use Rattle.desk_texts.specs.declared.shown.ShownRequest.{ShownRequest}
+use Rattle.desk_texts.specs.declared.shown.ShownReturn.{ShownReturn}
+use Rattle.desk_texts.specs.declared.shown.ShownVote.{ShownVote}
+use Rattle.desk_texts.specs.declared.state.State.{State}
+use Rattle.desk_history.specs.Calls.{History}
+use Rattle.desk_history.specs.People.{person}
+use Rattle.desk_history.specs.Requests.{Request, Returned, requests, returns, state, votes, votes_on}
+use Rattle.desk_history.specs.declared.rows.VoteRow.{VoteRow}
+
+-- what was returned for a request
+abbrev pub returned : History → ℕ → Option Returned
+returned cs k = find (λ r. k == r.request) (returns cs)
+
+-- All that there is of a request: what was submitted, its state, the votes on it, and what was returned.
+pub record Whole : Type 0 where
+  pub request : Request
+  pub state : State
+  pub votes : List VoteRow
+  pub returned : Option Returned
+
+-- all that there is of this request
+abbrev pub whole : History → Request → Whole
+whole cs r = record { request = r; state = state cs r.number; votes = votes_on (votes cs) r.number; returned = returned cs r.number }
+
+-- of each request, the newest first
+abbrev pub wholes : History → List Whole
+wholes cs = map (whole cs) (requests cs)
+
+-- ---- how it is shown
+
+-- a vote, as it is shown
+abbrev pub shown_vote : VoteRow → ShownVote
+shown_vote v = record { reviewer = v.reviewer; vote = v.vote; note = v.note }
+
+-- a returned file, as it is shown
+abbrev pub shown_return : Returned → ShownReturn
+shown_return r = record { length = r.facts.extent.length; file = r.facts.file; digest = r.facts.digest }
+
+-- All of the request is shown, and nothing else. Its votes stand in the order of their reviewers.
+pub record IsShown (w : Whole) (s : ShownRequest) : Type 0 where
+  pub number : s.number ≡ w.request.number
+  pub submitter : s.submitter ≡ w.request.submitter
+  pub title : s.title ≡ w.request.title
+  pub facts : s.facts ≡ w.request.facts
+  pub state : s.state ≡ w.state
+  pub votes : IsPermutation (map shown_vote w.votes) s.votes
+  pub returned : s.returned ≡ option_map shown_return w.returned
+
+-- the same of each request, in their order
+abbrev pub AreShown : List Whole → List ShownRequest → Type 0
+AreShown ws shown = AllZip IsShown ws shown
+
+-- ---- to whom
+
+-- own: a submitter is shown own requests alone, everybody else each request
+abbrev pub sees : Role → Bool → Bool
+sees roles.Submitter is_own = is_own
+sees roles.Reviewer is_own = true
+sees roles.Officer is_own = true
+sees roles.Signer is_own = true
+
+-- the person is shown the request
+abbrev pub is_shown_to : Person → Whole → Bool
+is_shown_to p w = sees p.role (bytes_eq p.name w.request.submitter)
+
+-- own: the console is shown no request
+abbrev pub reader : History → Caller → Result Person Refusal
+reader cs callers.Console = Err refusals.NotYourRole
+reader cs (callers.Person name) = ok_or (person cs name) refusals.UnknownCaller
+
+-- what a caller is shown, the newest first
+abbrev pub shown_to : History → Caller → Result (List Whole) Refusal
+shown_to cs c = result_map_both (λ p. filter (λ w. is_shown_to p w) (wholes cs)) (λ refusal. refusal) (reader cs c)
+
+-- the request has this number
+abbrev pub is_numbered : ℕ → Whole → Bool
+is_numbered k w = k == w.request.number
+
+-- the request of this number among them
+abbrev pub found_among : ℕ → Result (List Whole) Refusal → Result Whole Refusal
+found_among k (Ok ws) = ok_or (find (is_numbered k) ws) refusals.NoSuchRequest
+found_among k (Err refusal) = Err refusal
+
+-- what a caller is told who asks for a request. own: one that the caller isn't shown is none
+abbrev pub request_for : History → Caller → ℕ → Result Whole Refusal
+request_for cs c k = found_among k (shown_to cs c)
+
+-- what a caller is told who asks for all, ascending by number
+abbrev pub requests_for : History → Caller → Result (List Whole) Refusal
+requests_for cs c = result_map_both reverse (λ refusal. refusal) (shown_to cs c)
+
+-- ---- what is given to a caller
+
+-- what is due is shown, or the refusal that is due is given
+abbrev pub IsGiven : {A B : Type 0} → Result A Refusal → Result B Refusal → (A → B → Type 0) → Type 0
+IsGiven (Ok due) (Ok given) shows = shows due given
+IsGiven (Ok due) (Err refusal) shows = ⊥
+IsGiven (Err refusal) (Ok given) shows = ⊥
+IsGiven (Err refusal) (Err given) shows = given ≡ refusal
+
+-- to a caller who asks for this request
+abbrev pub GivesRequest : History → Caller → ℕ → Result ShownRequest Refusal → Type 0
+GivesRequest cs c k given = IsGiven (request_for cs c k) given IsShown
+
+-- ---- what a submitter learns
+
+-- the requests that a person submitted, the newest first
+abbrev pub own : History → List ℕ → List Whole
+own cs name = filter (λ w. bytes_eq name w.request.submitter) (wholes cs)
+
+-- the role of a name
+abbrev pub role_of : History → List ℕ → Option Role
+role_of cs name = option_map (λ p. p.role) (person cs name)
+
+-- the caller is told the same of both, whatever is asked for
+pub record TellAlike (one other : History) (c : Caller) : Type 0 where
+  pub each : (k : ℕ) → request_for one c k ≡ request_for other c k
+  pub all : requests_for one c ≡ requests_for other c
+
+-- What a submitter is told comes of own requests alone: it is the same of all histories that have the same ones.
+abbrev pub SubmittersSeeOwn : Type 0
+SubmittersSeeOwn =
+    (one other : History) (name : List ℕ) → role_of one name ≡ Some roles.Submitter → role_of other name ≡ Some roles.Submitter
+    → own one name ≡ own other name → TellAlike one other (callers.Person name)

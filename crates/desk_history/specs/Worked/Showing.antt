@@ -1,0 +1,56 @@
+-- What people are shown of two requests: ann's, which was signed, and rita's, which was rejected.
+use Rattle.std.specs.Prelude.{◌≡◌, ℕ, List, [], ◌∷◌, codes, Some, None, Ok, Err}
+use Rattle.desk_bytes.specs.declared.refusal.Refusal.TheVariants as refusals
+use Rattle.desk_texts.specs.declared.caller.Caller.{Caller}
+use Rattle.desk_texts.specs.declared.caller.Caller.TheVariants as callers
+use Rattle.desk_texts.specs.declared.state.State.TheVariants as states
+use Rattle.desk_texts.specs.declared.vote.Vote.TheVariants.{No, Yes}
+use Rattle.desk_history.specs.Shown.{Whole, request_for, requests_for}
+use Rattle.desk_history.specs.Worked.Returns.{after_return, signed}
+use Rattle.desk_history.specs.Worked.Reviews.{a}
+
+-- ann's request, and the newest vote on it first
+abbrev pub first : Whole
+first = record {
+  request = record { number = 1; submitter = codes "ann"; title = codes "shim 15.8"; facts = a };
+  state = states.Signed;
+  votes =
+      record { request = 1; reviewer = codes "raul"; vote = Yes; note = codes "looked" }
+      ∷ record { request = 1; reviewer = codes "rita"; vote = Yes; note = codes "looked" }
+      ∷ [];
+  returned = Some (record { request = 1; signer = codes "sid"; facts = signed });
+}
+
+-- rita's
+abbrev pub second : Whole
+second = record {
+  request = record { number = 2; submitter = codes "rita"; title = codes "shim 15.8"; facts = a };
+  state = states.Rejected;
+  votes = record { request = 2; reviewer = codes "rosa"; vote = No; note = codes "looked" } ∷ [];
+  returned = None;
+}
+
+-- a person who asks
+abbrev asks : List ℕ → Caller
+asks name = callers.Person name
+
+-- ann asks for another's request, and for one that isn't there: she is told the same
+abbrev pub TellsRequests : Type 0
+TellsRequests =
+    (request_for after_return (asks (codes "ann")) 1 ≡ Ok first)
+    × (request_for after_return (asks (codes "ann")) 2 ≡ Err refusals.NoSuchRequest)
+    × (request_for after_return (asks (codes "ann")) 3 ≡ Err refusals.NoSuchRequest)
+    × (request_for after_return (asks (codes "rita")) 1 ≡ Ok first)
+    × (request_for after_return (asks (codes "sid")) 2 ≡ Ok second)
+    × (request_for after_return (asks (codes "olga")) 3 ≡ Err refusals.NoSuchRequest)
+    × (request_for after_return (asks (codes "eve")) 1 ≡ Err refusals.UnknownCaller)
+    × (request_for after_return callers.Console 1 ≡ Err refusals.NotYourRole)
+
+-- and all at once
+abbrev pub TellsAll : Type 0
+TellsAll =
+    (requests_for after_return (asks (codes "ann")) ≡ Ok (first ∷ []))
+    × (requests_for after_return (asks (codes "rita")) ≡ Ok (first ∷ second ∷ []))
+    × (requests_for after_return (asks (codes "olga")) ≡ Ok (first ∷ second ∷ []))
+    × (requests_for after_return (asks (codes "eve")) ≡ Err refusals.UnknownCaller)
+    × (requests_for after_return callers.Console ≡ Err refusals.NotYourRole)

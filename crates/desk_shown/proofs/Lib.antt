@@ -1,0 +1,7 @@
+mod GivingLemmas
+mod ItemLemmas
+mod ListingLemmas
+mod LoopLemmas
+mod MadeLemmas
+mod PartLemmas
+mod TellsLemmas

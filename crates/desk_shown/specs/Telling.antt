@@ -1,0 +1,24 @@
+-- What is told of the requests of a desk's history.
+use Rattle.std.specs.Prelude.{◌≡◌, ◌⊎◌, ℕ, List, Result}
+use Rattle.sqlite.specs.State.{State}
+use Rattle.desk_bytes.specs.declared.refusal.Refusal.{Refusal}
+use Rattle.desk_bytes.specs.declared.refusal.Refusal.TheVariants as refusals
+use Rattle.desk_history.specs.Calls.{History}
+use Rattle.desk_history.specs.Formed.{IsHistory}
+use Rattle.desk_contents.specs.Contents.{contents}
+use Rattle.desk_contents.specs.Histories.{rows_of}
+use Rattle.desk_sql.specs.States.{Changes, Sees}
+use Rattle.desk_statements.specs.Tables.{desk_schema}
+
+-- Nothing changes, and this is told of each history that a desk may have and whose tables the store holds.
+pub record TellsOf (told : History → Type 0) (old new : State) : Type 0 where
+  pub kept : Changes desk_schema contents old new (λ t. t)
+  pub tells : (owner : List ℕ) (cs : History) → IsHistory cs → Sees desk_schema old (rows_of owner cs) → told cs
+
+-- own: nobody has the name
+abbrev pub IsReaderRefusal : Refusal → Type 0
+IsReaderRefusal refusal = refusal ≡ refusals.UnknownCaller
+
+-- own: nobody has the name, or there is no such request for that person
+abbrev pub IsRequestRefusal : Refusal → Type 0
+IsRequestRefusal refusal = IsReaderRefusal refusal ⊎ (refusal ≡ refusals.NoSuchRequest)

@@ -1,0 +1,45 @@
+use Rattle.std.proofs.Common.{◌≡◌, true, rules, refl, subst, arith, ℕ, List, IsTrue}
+use Rattle.sqlite.specs.Held.{Held, state}
+use Rattle.sqlite.specs.State.{HasCleanDisk, KeepsCommit, Survives}
+use Rattle.desk_texts.specs.declared.caller.Caller.TheVariants as callers
+use Rattle.desk_history.specs.Calls.{History}
+use Rattle.desk_history.specs.Shown.{AreShown, IsGiven, requests_for}
+use Rattle.desk_contents.specs.Histories.{ShowsHistory}
+use Rattle.desk_shown.specs.Telling.{TellsOf}
+use Rattle.desk_store.specs.Showing.{GivesAll}
+use Rattle.desk_store.proofs.OpeningLemmas.{undone}
+use Rattle.desk_store.proofs.showing.read_requests.Goals as goal
+
+pub returns-in-Ok-clause-same : goal.returns-in-Ok-clause-same
+returns-in-Ok-clause-same g c =
+    let old = c.args.conn.now in
+    let begun = state g.S.Store (record old { in_transaction = true }) in
+    let last = c.requests_of-read.new.tx.conn.now in
+    let end = c.rollback.new.self.0 in
+    let did = c.requests_of-read.ensures in
+    let spared : Survives begun (state g.S.Store last) (λ _. ⊥) = rw c.transaction-tx.ensures.begun at did.survives in
+    let kept : HasCleanDisk (state g.S.Store last) → KeepsCommit begun (state g.S.Store last) = λ clean. (rw c.transaction-tx.ensures.begun at (did.kept clean)) refl in
+    let same : end ≡ c.conn-1.given.0 = search rules in
+    subst (λ (x : Held _). HasCleanDisk (state g.S.Store x) → (owner : List ℕ) (cs : History) → ShowsHistory (state g.S.Store old) owner cs → ShowsHistory (state g.S.Store x) owner cs)
+    same (λ clean owner cs shows.
+    let late : HasCleanDisk (state g.S.Store last) = omega (arith, c.rollback.ensures.survives.clean, clean) in
+    undone g.S.Store old last end owner cs (omega (arith, spared.clean, late)) (kept late) (c.rollback.ensures.undone clean) shows)
+
+pub returns-in-Ok-clause-ok : goal.returns-in-Ok-clause-ok
+returns-in-Ok-clause-ok g c =
+    let old = c.args.conn.now in
+    let begun = state g.S.Store (record old { in_transaction = true }) in
+    let last = c.requests_of-read.new.tx.conn.now in
+    let end = c.rollback.new.self.0 in
+    let did = c.in-Ok.ensures in
+    let due = λ (cs : History). IsGiven (requests_for cs (callers.Person c.args.name.now)) c.in-Ok.given (λ ws shown. AreShown ws shown.items) in
+    let spared : Survives begun (state g.S.Store last) (λ _. ⊥) = rw c.transaction-tx.ensures.begun at did.survives in
+    let told : HasCleanDisk (state g.S.Store last) → TellsOf due begun (state g.S.Store last) =
+    λ late. (rw c.transaction-tx.ensures.begun at (did.value late)) refl in
+    let live : HasCleanDisk (state g.S.Store last) → IsTrue (state g.S.Store last).is_open = λ late. ((rw c.transaction-tx.ensures.begun at (did.inside late)) refl).0 in
+    let same : end ≡ c.conn-1.given.0 = search rules in
+    subst (λ (x : Held _). HasCleanDisk (state g.S.Store x) → GivesAll (state g.S.Store old) due)
+    same (λ clean owner cs history shows.
+    let late : HasCleanDisk (state g.S.Store last) = omega (arith, c.rollback.ensures.survives.clean, clean) in
+    let it = told late in
+    it.tells owner cs history (record { inside = refl; holds = (shows.holds (omega (arith, spared.clean, late)) (it.kept.kept.was_open (live late))).0 }))
