@@ -1,6 +1,7 @@
 //! Desks made, given back and opened again, and stores that hold none.
 use desk_bytes::{Digest, Guid, Refusal};
-use desk_rules::{decide, verdict};
+use desk_reports::report;
+use desk_rules::decide;
 use desk_store::Desk;
 use desk_texts::{
     Ballot, Call, Caller, Carried, Certificate, Command, Components, Digests, Extent, Facts,

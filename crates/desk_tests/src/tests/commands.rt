@@ -27,7 +27,7 @@ impl<'a> Words<'a> {
     }
 
     /// The next word, as the byte of a digest.
-    fn digest(&mut self) -> Result<Digest, Fail> {
+    pub(super) fn digest(&mut self) -> Result<Digest, Fail> {
         Ok(digest(self.text()?.parse::<u8>()?))
     }
 

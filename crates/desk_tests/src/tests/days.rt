@@ -84,8 +84,8 @@ pub(super) fn answer<S: Alter + Drop>(
 /// What the desk says of an image, in words.
 fn said(alloc: Global, desk: &mut Desk<MemStore>, words: &mut Words) -> Result<String, Fail> {
     let facts = words.facts()?;
-    match desk.list_view(&facts) {
-        Ok(view) => Ok(format!(in alloc; "{:?}", verdict(&view, &facts))?),
+    match desk.verdict(&facts) {
+        Ok(verdict) => Ok(format!(in alloc; "{verdict:?}")?),
         Err(refusal) => Ok(String::from_str(alloc, refusal.name())?),
     }
 }
@@ -136,14 +136,44 @@ fn all_shown(alloc: Global, desk: &mut Desk<MemStore>, words: &mut Words) -> Res
     Ok(text)
 }
 
+/// Who has a token, by the name.
+fn who(alloc: Global, desk: &mut Desk<MemStore>, words: &mut Words) -> Result<String, Fail> {
+    let token = words.digest()?;
+    match desk.person_of(&token) {
+        Ok(Some(person)) => Ok(String::from_str(alloc, person.name.as_str())?),
+        Ok(None) => Ok(String::from_str(alloc, "nobody")?),
+        Err(refusal) => Ok(String::from_str(alloc, refusal.name())?),
+    }
+}
+
+/// The report of the desk, its words parted by one space each.
+fn counted(alloc: Global, desk: &mut Desk<MemStore>) -> Result<String, Fail> {
+    let counts = match desk.counts() {
+        Ok(counts) => counts,
+        Err(refusal) => return Err(refusal.name())?,
+    };
+    let text = report(alloc, &counts)?;
+    let mut line = String::new(alloc);
+    for word in text.split_whitespace() {
+        if !line.is_empty() {
+            line.push_str(" ")?;
+        }
+        line.push_str(word)?;
+    }
+    Ok(line)
+}
+
 /// The answer to a line: `WHO KEY VERB ..` is a call, `alone WHO KEY VERB ..` one with no view before it, `verdict IMAGE`
-/// asks of an image, `shows WHO REQUEST` and `lists WHO` of requests.
+/// asks of an image, `shows WHO REQUEST` and `lists WHO` of requests, `who TOKEN` of
+/// people, `report` of what is counted.
 fn played(alloc: Global, desk: &mut Desk<MemStore>, line: &str) -> Result<String, Fail> {
     let mut words = Words::new(alloc, line);
     match words.text()? {
         "verdict" => said(alloc, desk, &mut words),
         "shows" => shown(alloc, desk, &mut words),
         "lists" => all_shown(alloc, desk, &mut words),
+        "who" => who(alloc, desk, &mut words),
+        "report" => counted(alloc, desk),
         "alone" => {
             let who = words.text()?;
             let call = call(alloc, &mut words, who)?;
@@ -234,7 +264,11 @@ ann a4 submit shim 160 160 0 0 : Revoked
 reopen
 sid s1 return 1 160 160 1 204 0 : returned 1
 olga o5 list 33 : listed
-olga o6 unlist 33 : unlisted";
+olga o6 unlist 33 : unlisted
+who 3 : raul
+who 9 : nobody
+report : people 6 requests 3 open 0 approved 0 rejected 1 withdrawn 1 signed 1 listed digests 0 listed certificates 0 \
+revoked digests 1 revoked certificates 1 level components 0 commands 20 stamp 2021030218";
 
 /// The level rises, and revocations are imported.
 const LEVELS: &str = "\
