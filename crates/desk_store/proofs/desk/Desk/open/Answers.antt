@@ -20,3 +20,8 @@ pub returns-else-version-ne-VERSION-clause-read : goal.returns-else-version-ne-V
 returns-else-version-ne-VERSION-clause-read g c clean contents rows shows has =
     let one : c.in-Ok.version ≡ 1 = search rules in
     subst (AreOf rows) one (c.in-Ok.ensures.read clean contents rows shows has)
+
+pub returns-else-version-ne-VERSION-clause-lives : goal.returns-else-version-ne-VERSION-clause-lives
+returns-else-version-ne-VERSION-clause-lives g c clean owner lives cs ends formed shows left =
+    let law = c.lives_keep_what_was_answered.ensures lives cs ends formed in
+    (returns-else-version-ne-VERSION-clause-ok g c clean owner cs law.0 shows left, law.1)
