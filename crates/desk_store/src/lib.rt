@@ -3,6 +3,7 @@
 
 mod acting;
 mod desk;
+mod exports;
 mod forms;
 mod founding;
 mod opening;

@@ -8,12 +8,12 @@ use Rattle.sqlite.specs.Schema.{Schema}
 use Rattle.sqlite.specs.State.{HasCleanDisk, IsUnchanged, Shown, Survives, CommitsShowing}
 use Rattle.sqlite.specs.Values.{bound}
 use Rattle.desk_sql.proofs.ReadLemmas.{shown_after, streams, takes_one_more}
-use Rattle.desk_sql.proofs.streaming.stream.Goals as goal
+use Rattle.desk_sql.proofs.streaming.hand_over.Goals as goal
 
 pub rows-init : goal.rows-init
 rows-init g c =
     let made = c.in-Ok.ensures in
-    (refl, made.survives, ([], refl, λ clean plain. begun_plain g.S.Store c.args.sql.now (bound c.args.params.now) c.args.conn.now _ plain (made.begun clean)))
+    (refl, made.survives, made.mode, ([], refl, λ clean plain. begun_plain g.S.Store c.args.sql.now (bound c.args.params.now) c.args.conn.now _ plain (made.begun clean)))
 
 pub rows-preserved : goal.rows-preserved
 rows-preserved g c =
@@ -23,12 +23,13 @@ rows-preserved g c =
     let moved = c.next.follows.holds-at-none in
     let held = c.next.follows.lender-at-none.conn.now in
     let now = state g.S.Store held in
-    let before = c.rows.invariant.2 in
+    let before = c.rows.invariant.3 in
     let row = c.in-Some.row.now in
     let survived : Survives old now (CommitsShowing text params old) = search rules in
     let next : option_copied c.in-Ok-next.next ≡ Some row = search rules in (
       search rules,
       survived,
+      (λ outside. moved.mode (c.rows.invariant.2 outside)),
       (
         before.0 ++ row ∷ [],
         takes_one_more g.T.TakesRow.takes c.args.taker.now c.rows.taker c.take.new.self before.0 row before.1 c.in-Ok-take.ensures.ok,
@@ -48,7 +49,7 @@ returns-in_default-clause-value g c clean =
     let moved = c.next.follows.holds-at-none in
     let now = c.next.follows.lender-at-none.conn.now in
     let late : HasCleanDisk (state g.S.Store now) = search rules in
-    let before = c.rows.invariant.2 in
+    let before = c.rows.invariant.3 in
     let given = before.0 in
     let same : now ≡ c.conn-in_default-1.given.0 = search rules in
     record {
