@@ -109,3 +109,7 @@ module _ {X : Type 0} (at : ℕ) (table : Table) (text : List ℕ) (terms : List
         (AppendsBeginning-after before w.mid after (flat_map bytes parts.0) (bytes one.0 ++ flat_map bytes (one.1 ++ it.1)) (subst (Appends before w.mid) front w.written)
         (AppendsBeginning-before w.mid after (bytes one.0) (flat_map bytes (one.1 ++ it.1)) mine))
   ]
+
+  pub told : ((new : State) (before after : Option (List ℕ)) → WritesAnswer (IsPart shown bytes) text params s new before after → WritesOf s before after (λ _ cs. flat_map bytes (wanted cs)))
+      × ((before after : Option (List ℕ)) → WritesFirst (IsPart shown bytes) text params s before after → BeginsOf s before after (λ _ cs. flat_map bytes (wanted cs)))
+  told = (writes, begins)

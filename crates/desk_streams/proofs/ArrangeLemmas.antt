@@ -70,22 +70,23 @@ module _ {X : Type 0} (le : X → X → Bool) where
     pair x y l tie false true p q = refl
     pair x y l tie false false p q = absurd (true≢false (sym (total x y p) ∙ q))
 
+    beside : (x y z : X) (zs : List X) → Tie x y → placed x (placed y zs) ≡ placed y (placed x zs) → (a b : Bool) → le y z ≡ a → le x z ≡ b
+        → placed x (if a then y ∷ z ∷ zs else z ∷ placed y zs) ≡ placed y (if b then x ∷ z ∷ zs else z ∷ placed x zs)
+    beside x y z zs tie rest true true p q =
+        ap (λ l. if le x y then x ∷ y ∷ z ∷ zs else y ∷ l) (first x z zs q)
+        ∙ pair x y (z ∷ zs) tie (le x y) (le y x) refl refl
+        ∙ ap (λ l. if le y x then y ∷ x ∷ z ∷ zs else x ∷ l) (sym (first y z zs p))
+    beside x y z zs tie rest true false p q =
+        let no : le x y ≡ false = denied (le x y) (λ is. true≢false (sym (chains x y z is p) ∙ q)) in
+        later x y (z ∷ zs) no ∙ ap (λ l. y ∷ l) (later x z zs q) ∙ sym (first y z (placed x zs) p)
+    beside x y z zs tie rest false true p q =
+        let no : le y x ≡ false = denied (le y x) (λ is. true≢false (sym (chains y x z is q) ∙ p)) in
+        first x z (placed y zs) q ∙ sym (later y x (z ∷ zs) no ∙ ap (λ l. x ∷ l) (later y z zs p))
+    beside x y z zs tie rest false false p q = later x z (placed y zs) q ∙ ap (λ l. z ∷ l) rest ∙ sym (later y z (placed x zs) p)
+
     swapped : (x y : X) (l : List X) → Tie x y → placed x (placed y l) ≡ placed y (placed x l)
     swapped x y [] tie = pair x y [] tie (le x y) (le y x) refl refl
-    swapped x y (z ∷ zs) tie = go (le y z) (le x z) refl refl
-      where
-        go : (a b : Bool) → le y z ≡ a → le x z ≡ b → placed x (if a then y ∷ z ∷ zs else z ∷ placed y zs) ≡ placed y (if b then x ∷ z ∷ zs else z ∷ placed x zs)
-        go true true p q =
-            ap (λ l. if le x y then x ∷ y ∷ z ∷ zs else y ∷ l) (first x z zs q)
-            ∙ pair x y (z ∷ zs) tie (le x y) (le y x) refl refl
-            ∙ ap (λ l. if le y x then y ∷ x ∷ z ∷ zs else x ∷ l) (sym (first y z zs p))
-        go true false p q =
-            let no : le x y ≡ false = denied (le x y) (λ is. true≢false (sym (chains x y z is p) ∙ q)) in
-            later x y (z ∷ zs) no ∙ ap (λ l. y ∷ l) (later x z zs q) ∙ sym (first y z (placed x zs) p)
-        go false true p q =
-            let no : le y x ≡ false = denied (le y x) (λ is. true≢false (sym (chains y x z is q) ∙ p)) in
-            first x z (placed y zs) q ∙ sym (later y x (z ∷ zs) no ∙ ap (λ l. x ∷ l) (later y z zs p))
-        go false false p q = later x z (placed y zs) q ∙ ap (λ l. z ∷ l) (swapped x y zs tie) ∙ sym (later y z (placed x zs) p)
+    swapped x y (z ∷ zs) tie = beside x y z zs tie (swapped x y zs tie) (le y z) (le x z) refl refl
 
     abbrev AreAlike : List X → List X → Type 0
     AreAlike xs ys = IsPermutation xs ys × (Apart xs → Apart ys × (arranged xs ≡ arranged ys))

@@ -1,6 +1,10 @@
 pub mod ArrangeLemmas
 pub mod OrderLemmas
+pub mod ListLemmas
 pub mod RowLemmas
 pub mod AnswerLemmas
+pub mod ExportLemmas
+pub mod PartLemmas
 pub mod StepLemmas
-pub mod ListLemmas
+pub mod CountedLemmas
+pub mod ListedLemmas

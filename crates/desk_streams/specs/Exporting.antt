@@ -1,8 +1,8 @@
 -- What an export of a desk writes, and what it leaves of the connection.
-use Rattle.std.specs.Prelude.{◌≡◌, ℕ, List, Option, length, filter}
+use Rattle.std.specs.Prelude.{◌≡◌, ℕ, List, Option, Result, MatchResult, length, filter}
 use Rattle.std.specs.Io.KnownBytes.{Appends}
 use Rattle.sqlite.specs.Held.{Held, state}
-use Rattle.sqlite.specs.State.{State}
+use Rattle.sqlite.specs.State.{State, HasCleanDisk}
 use Rattle.sqlite.specs.Store.{Ghosts}
 use Rattle.desk_bytes.specs.Output.{AppendsBeginning}
 use Rattle.desk_texts.specs.declared.kind.ListedKind.TheVariants as kinds
@@ -28,6 +28,12 @@ StaysOf old new = (owner : List ℕ) (cs : History) → ShowsHistory old owner c
 -- where it showed one, a stop leaves what it left before
 abbrev pub SparesOf : {S : Type 0} → Ghosts S → Held S → Held S → Type 0
 SparesOf g old new = (owner : List ℕ) (cs : History) → ShowsHistory (state g old) owner cs → Spares g old new
+
+-- A step of an export: on a clean disk it wrote these bytes, or where it failed a beginning of them; and what it leaves
+pub record Exports {S X E : Type 0} (g : Ghosts S) (old new : Held S) (before after : Option (List ℕ)) (result : Result X E) (bytes : List ℕ → History → List ℕ) : Type 0 where
+  pub wrote : HasCleanDisk (state g new) → MatchResult result (λ _. WritesOf (state g old) before after bytes) (λ _. BeginsOf (state g old) before after bytes)
+  pub same : StaysOf (state g old) (state g new)
+  pub spares : SparesOf g old new
 
 -- how many rows the list has
 abbrev pub size_of : Counted → Tables → ℕ

@@ -1,11 +1,13 @@
 -- Rows of an answer as bytes that are written one after another.
-use Rattle.std.specs.Prelude.{◌≡◌, ◌⊎◌, ℕ, List, [], ◌∷◌, ◌++◌, Option, IsTrue}
+use Rattle.std.specs.Prelude.{◌≡◌, ◌⊎◌, ℕ, List, [], ◌∷◌, ◌++◌, Option, Result, MatchResult, IsTrue}
 use Rattle.std.specs.Io.KnownBytes.{Appends}
+use Rattle.sqlite.specs.Held.{Held, state}
 use Rattle.sqlite.specs.Order.{Row}
-use Rattle.sqlite.specs.State.{State}
+use Rattle.sqlite.specs.State.{State, HasCleanDisk}
+use Rattle.sqlite.specs.Store.{Ghosts}
 use Rattle.desk_bytes.specs.Output.{AppendsBeginning}
 use Rattle.desk_sql.specs.Effects.{Streams}
-use Rattle.desk_sql.specs.Streaming.{BeginsAnswer}
+use Rattle.desk_sql.specs.Streaming.{BeginsAnswer, SparesShown, StaysShown}
 
 -- the bytes are this part of each thing that the row shows
 abbrev pub IsPart : {X : Type 0} → (X → Row) → (X → List ℕ) → Row → List ℕ → Type 0
@@ -49,3 +51,10 @@ pub record WritesFirst (spells : Row → List ℕ → Type 0) (text : List ℕ) 
   pub written : Appends before mid bytes
   pub begins : (taken ≡ []) ⊎ BeginsAnswer text params s taken
   pub ends : EndsIn spells text params s taken mid after
+
+-- The rows of a query's answer are written, or where that failed the first of them; and what it leaves
+pub record PutsRows {S X E : Type 0} (g : Ghosts S) (spells : Row → List ℕ → Type 0) (text : List ℕ) (params : Row) (old new : Held S) (before after : Option (List ℕ)) (result : Result X E) : Type 0 where
+  pub wrote : HasCleanDisk (state g new)
+      → MatchResult result (λ _. WritesAnswer spells text params (state g old) (state g new) before after) (λ _. WritesFirst spells text params (state g old) before after)
+  pub same : StaysShown text (state g old) (state g new)
+  pub spares : SparesShown g text old new

@@ -7,7 +7,7 @@ ghost use Rattle.siglist.specs.SignatureLists.{spelling};
 ghost use Rattle.siglist.specs.Writing.{sha256_entry_bytes, sha256_parts, x509_row};
 ghost use Rattle.desk_texts.specs.declared.kind.ListedKind.TheVariants as kinds;
 ghost use Rattle.desk_exports.specs.Exports.{db, entries_of};
-ghost use Rattle.desk_streams.specs.Exporting.{BeginsOf, SparesOf, StaysOf, WritesOf};
+ghost use Rattle.desk_streams.specs.Exporting.{BeginsOf, Exports, SparesOf, StaysOf, WritesOf};
 ghost use Rattle.desk_streams.specs.Faults.{IsExportFailure};
 
 use crate::fault::ExportFault;
@@ -29,19 +29,13 @@ fn put_digests<S: Alter, W: Write>(
     owner: Guid,
     writer: &mut W,
 ) -> Result<(), ExportFault>
-    ensures ok { HasCleanDisk (state S.Store conn.new)
-        → OnOk result (WritesOf (state S.Store conn.old) (W.contents writer.old) (W.contents writer.new)
-        (λ _ cs. flat_map (λ e. sha256_entry_bytes owner e.digest) (entries_of kinds.Digest cs))) }
-    ensures err { HasCleanDisk (state S.Store conn.new)
-        → OnErr result (BeginsOf (state S.Store conn.old) (W.contents writer.old) (W.contents writer.new)
-        (λ _ cs. flat_map (λ e. sha256_entry_bytes owner e.digest) (entries_of kinds.Digest cs))) }
-    ensures same { StaysOf (state S.Store conn.old) (state S.Store conn.new) }
-    ensures spares { SparesOf S.Store conn.old conn.new }
+    ensures { Exports S.Store conn.old conn.new
+        (W.contents writer.old) (W.contents writer.new) result
+        (λ _ cs. flat_map (λ e. sha256_entry_bytes owner e.digest) (entries_of kinds.Digest cs)) }
 {
     let form = ListedDigest { owner };
     let kind = ListedKind::Digest.text();
-    put_rows(alloc, conn, SELECT_LISTED_OF, params![kind], &form, writer)?;
-    Ok(())
+    put_rows(alloc, conn, SELECT_LISTED_OF, params![kind], &form, writer)
 }
 
 /// Writes the list of the listed digests of images, if there is one.
@@ -51,14 +45,9 @@ fn put_digest_list<S: Alter, W: Write>(
     owner: Guid,
     writer: &mut W,
 ) -> Result<(), ExportFault>
-    ensures ok { HasCleanDisk (state S.Store conn.new)
-        → OnOk result (WritesOf (state S.Store conn.old) (W.contents writer.old) (W.contents writer.new)
-        (λ _ cs. sha256_parts owner (map (λ e. e.digest) (entries_of kinds.Digest cs)))) }
-    ensures err { HasCleanDisk (state S.Store conn.new)
-        → OnErr result (BeginsOf (state S.Store conn.old) (W.contents writer.old) (W.contents writer.new)
-        (λ _ cs. sha256_parts owner (map (λ e. e.digest) (entries_of kinds.Digest cs)))) }
-    ensures same { StaysOf (state S.Store conn.old) (state S.Store conn.new) }
-    ensures spares { SparesOf S.Store conn.old conn.new }
+    ensures { Exports S.Store conn.old conn.new
+        (W.contents writer.old) (W.contents writer.new) result
+        (λ _ cs. sha256_parts owner (map (λ e. e.digest) (entries_of kinds.Digest cs))) }
 {
     let counted = size(conn, Counted::ListedDigests)?;
     if counted == 0 {
@@ -66,8 +55,7 @@ fn put_digest_list<S: Alter, W: Write>(
     }
     let count = head_count(counted)?;
     sha256_head(count, writer)?;
-    put_digests(alloc, conn, owner, writer)?;
-    Ok(())
+    put_digests(alloc, conn, owner, writer)
 }
 
 /// Writes a list for each listed certificate, ascending by its digest.
@@ -77,19 +65,13 @@ fn put_certificates<S: Alter, W: Write>(
     owner: Guid,
     writer: &mut W,
 ) -> Result<(), ExportFault>
-    ensures ok { HasCleanDisk (state S.Store conn.new)
-        → OnOk result (WritesOf (state S.Store conn.old) (W.contents writer.old) (W.contents writer.new)
-        (λ _ cs. flat_map (λ e. spelling (x509_row owner e.body)) (entries_of kinds.Certificate cs))) }
-    ensures err { HasCleanDisk (state S.Store conn.new)
-        → OnErr result (BeginsOf (state S.Store conn.old) (W.contents writer.old) (W.contents writer.new)
-        (λ _ cs. flat_map (λ e. spelling (x509_row owner e.body)) (entries_of kinds.Certificate cs))) }
-    ensures same { StaysOf (state S.Store conn.old) (state S.Store conn.new) }
-    ensures spares { SparesOf S.Store conn.old conn.new }
+    ensures { Exports S.Store conn.old conn.new
+        (W.contents writer.old) (W.contents writer.new) result
+        (λ _ cs. flat_map (λ e. spelling (x509_row owner e.body)) (entries_of kinds.Certificate cs)) }
 {
     let form = ListedCertificate { owner };
     let kind = ListedKind::Certificate.text();
-    put_rows(alloc, conn, SELECT_LISTED_OF, params![kind], &form, writer)?;
-    Ok(())
+    put_rows(alloc, conn, SELECT_LISTED_OF, params![kind], &form, writer)
 }
 
 /// Writes all of these lists.
@@ -98,19 +80,12 @@ fn put_db<S: Alter, W: Write>(
     conn: &mut Connection<S>,
     writer: &mut W,
 ) -> Result<(), ExportFault>
-    ensures ok { HasCleanDisk (state S.Store conn.new)
-        → OnOk result (WritesOf (state S.Store conn.old)
-        (W.contents writer.old) (W.contents writer.new) db) }
-    ensures err { HasCleanDisk (state S.Store conn.new)
-        → OnErr result (BeginsOf (state S.Store conn.old)
-        (W.contents writer.old) (W.contents writer.new) db) }
-    ensures same { StaysOf (state S.Store conn.old) (state S.Store conn.new) }
-    ensures spares { SparesOf S.Store conn.old conn.new }
+    ensures { Exports S.Store conn.old conn.new
+        (W.contents writer.old) (W.contents writer.new) result db }
 {
     let row = own(alloc, conn)?;
     put_digest_list(alloc, conn, row.owner, writer)?;
-    put_certificates(alloc, conn, row.owner, writer)?;
-    Ok(())
+    put_certificates(alloc, conn, row.owner, writer)
 }
 
 /// Writes db: one SHA256 list of the listed digests of images, or none where there is no digest, and then an

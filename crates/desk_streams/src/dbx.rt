@@ -7,7 +7,7 @@ ghost use Rattle.siglist.specs.Writing.{sha256_entry_bytes, sha256_parts};
 ghost use Rattle.siglist.specs.Writing.{x509_sha256_entry_bytes, x509_sha256_parts};
 ghost use Rattle.desk_texts.specs.declared.kind.ListedKind.TheVariants as kinds;
 ghost use Rattle.desk_exports.specs.Exports.{dbx, revoked};
-ghost use Rattle.desk_streams.specs.Exporting.{BeginsOf, SparesOf, StaysOf, WritesOf};
+ghost use Rattle.desk_streams.specs.Exporting.{BeginsOf, Exports, SparesOf, StaysOf, WritesOf};
 ghost use Rattle.desk_streams.specs.Faults.{IsExportFailure};
 
 use crate::fault::ExportFault;
@@ -28,18 +28,12 @@ fn put_digests<S: Alter, W: Write>(
     owner: Guid,
     writer: &mut W,
 ) -> Result<(), ExportFault>
-    ensures ok { HasCleanDisk (state S.Store conn.new)
-        → OnOk result (WritesOf (state S.Store conn.old) (W.contents writer.old) (W.contents writer.new)
-        (λ _ cs. flat_map (sha256_entry_bytes owner) (revoked kinds.Digest cs))) }
-    ensures err { HasCleanDisk (state S.Store conn.new)
-        → OnErr result (BeginsOf (state S.Store conn.old) (W.contents writer.old) (W.contents writer.new)
-        (λ _ cs. flat_map (sha256_entry_bytes owner) (revoked kinds.Digest cs))) }
-    ensures same { StaysOf (state S.Store conn.old) (state S.Store conn.new) }
-    ensures spares { SparesOf S.Store conn.old conn.new }
+    ensures { Exports S.Store conn.old conn.new
+        (W.contents writer.old) (W.contents writer.new) result
+        (λ _ cs. flat_map (sha256_entry_bytes owner) (revoked kinds.Digest cs)) }
 {
     let form = RevokedDigest { owner };
-    put_rows(alloc, conn, SELECT_REVOKED_DIGESTS, &[], &form, writer)?;
-    Ok(())
+    put_rows(alloc, conn, SELECT_REVOKED_DIGESTS, &[], &form, writer)
 }
 
 /// Writes the list of the revoked digests of images, if there is one.
@@ -49,14 +43,9 @@ fn put_digest_list<S: Alter, W: Write>(
     owner: Guid,
     writer: &mut W,
 ) -> Result<(), ExportFault>
-    ensures ok { HasCleanDisk (state S.Store conn.new)
-        → OnOk result (WritesOf (state S.Store conn.old) (W.contents writer.old) (W.contents writer.new)
-        (λ _ cs. sha256_parts owner (revoked kinds.Digest cs))) }
-    ensures err { HasCleanDisk (state S.Store conn.new)
-        → OnErr result (BeginsOf (state S.Store conn.old) (W.contents writer.old) (W.contents writer.new)
-        (λ _ cs. sha256_parts owner (revoked kinds.Digest cs))) }
-    ensures same { StaysOf (state S.Store conn.old) (state S.Store conn.new) }
-    ensures spares { SparesOf S.Store conn.old conn.new }
+    ensures { Exports S.Store conn.old conn.new
+        (W.contents writer.old) (W.contents writer.new) result
+        (λ _ cs. sha256_parts owner (revoked kinds.Digest cs)) }
 {
     let counted = size(conn, Counted::RevokedDigests)?;
     if counted == 0 {
@@ -64,8 +53,7 @@ fn put_digest_list<S: Alter, W: Write>(
     }
     let count = head_count(counted)?;
     sha256_head(count, writer)?;
-    put_digests(alloc, conn, owner, writer)?;
-    Ok(())
+    put_digests(alloc, conn, owner, writer)
 }
 
 /// Writes an entry for each revoked certificate, ascending by its digest.
@@ -75,18 +63,12 @@ fn put_certificates<S: Alter, W: Write>(
     owner: Guid,
     writer: &mut W,
 ) -> Result<(), ExportFault>
-    ensures ok { HasCleanDisk (state S.Store conn.new)
-        → OnOk result (WritesOf (state S.Store conn.old) (W.contents writer.old) (W.contents writer.new)
-        (λ _ cs. flat_map (x509_sha256_entry_bytes owner) (revoked kinds.Certificate cs))) }
-    ensures err { HasCleanDisk (state S.Store conn.new)
-        → OnErr result (BeginsOf (state S.Store conn.old) (W.contents writer.old) (W.contents writer.new)
-        (λ _ cs. flat_map (x509_sha256_entry_bytes owner) (revoked kinds.Certificate cs))) }
-    ensures same { StaysOf (state S.Store conn.old) (state S.Store conn.new) }
-    ensures spares { SparesOf S.Store conn.old conn.new }
+    ensures { Exports S.Store conn.old conn.new
+        (W.contents writer.old) (W.contents writer.new) result
+        (λ _ cs. flat_map (x509_sha256_entry_bytes owner) (revoked kinds.Certificate cs)) }
 {
     let form = RevokedCertificate { owner };
-    put_rows(alloc, conn, SELECT_REVOKED_CERTIFICATES, &[], &form, writer)?;
-    Ok(())
+    put_rows(alloc, conn, SELECT_REVOKED_CERTIFICATES, &[], &form, writer)
 }
 
 /// Writes the list of the revoked certificates, if there is one.
@@ -96,14 +78,9 @@ fn put_certificate_list<S: Alter, W: Write>(
     owner: Guid,
     writer: &mut W,
 ) -> Result<(), ExportFault>
-    ensures ok { HasCleanDisk (state S.Store conn.new)
-        → OnOk result (WritesOf (state S.Store conn.old) (W.contents writer.old) (W.contents writer.new)
-        (λ _ cs. x509_sha256_parts owner (revoked kinds.Certificate cs))) }
-    ensures err { HasCleanDisk (state S.Store conn.new)
-        → OnErr result (BeginsOf (state S.Store conn.old) (W.contents writer.old) (W.contents writer.new)
-        (λ _ cs. x509_sha256_parts owner (revoked kinds.Certificate cs))) }
-    ensures same { StaysOf (state S.Store conn.old) (state S.Store conn.new) }
-    ensures spares { SparesOf S.Store conn.old conn.new }
+    ensures { Exports S.Store conn.old conn.new
+        (W.contents writer.old) (W.contents writer.new) result
+        (λ _ cs. x509_sha256_parts owner (revoked kinds.Certificate cs)) }
 {
     let counted = size(conn, Counted::RevokedCertificates)?;
     if counted == 0 {
@@ -111,8 +88,7 @@ fn put_certificate_list<S: Alter, W: Write>(
     }
     let count = head_count(counted)?;
     x509_sha256_head(count, writer)?;
-    put_certificates(alloc, conn, owner, writer)?;
-    Ok(())
+    put_certificates(alloc, conn, owner, writer)
 }
 
 /// Writes both lists.
@@ -121,19 +97,12 @@ fn put_dbx<S: Alter, W: Write>(
     conn: &mut Connection<S>,
     writer: &mut W,
 ) -> Result<(), ExportFault>
-    ensures ok { HasCleanDisk (state S.Store conn.new)
-        → OnOk result (WritesOf (state S.Store conn.old)
-        (W.contents writer.old) (W.contents writer.new) dbx) }
-    ensures err { HasCleanDisk (state S.Store conn.new)
-        → OnErr result (BeginsOf (state S.Store conn.old)
-        (W.contents writer.old) (W.contents writer.new) dbx) }
-    ensures same { StaysOf (state S.Store conn.old) (state S.Store conn.new) }
-    ensures spares { SparesOf S.Store conn.old conn.new }
+    ensures { Exports S.Store conn.old conn.new
+        (W.contents writer.old) (W.contents writer.new) result dbx }
 {
     let row = own(alloc, conn)?;
     put_digest_list(alloc, conn, row.owner, writer)?;
-    put_certificate_list(alloc, conn, row.owner, writer)?;
-    Ok(())
+    put_certificate_list(alloc, conn, row.owner, writer)
 }
 
 /// Writes dbx: one SHA256 list of the revoked digests of images, and one X509_SHA256 list of the revoked

@@ -5,7 +5,7 @@ ghost use Rattle.sqlite.specs.Held.{state};
 ghost use Rattle.sqlite.specs.State.{HasCleanDisk};
 ghost use Rattle.sbat.specs.Writing.{row_text};
 ghost use Rattle.desk_exports.specs.Exports.{level, level_components};
-ghost use Rattle.desk_streams.specs.Exporting.{BeginsOf, SparesOf, StaysOf, WritesOf};
+ghost use Rattle.desk_streams.specs.Exporting.{BeginsOf, Exports, SparesOf, StaysOf, WritesOf};
 ghost use Rattle.desk_streams.specs.Faults.{IsExportFailure};
 
 use crate::fault::ExportFault;
@@ -25,17 +25,11 @@ fn put_components<S: Alter, W: Write>(
     conn: &mut Connection<S>,
     writer: &mut W,
 ) -> Result<(), ExportFault>
-    ensures ok { HasCleanDisk (state S.Store conn.new)
-        → OnOk result (WritesOf (state S.Store conn.old) (W.contents writer.old) (W.contents writer.new)
-        (λ _ cs. flat_map (λ x. row_text x.name x.generation) (level_components cs))) }
-    ensures err { HasCleanDisk (state S.Store conn.new)
-        → OnErr result (BeginsOf (state S.Store conn.old) (W.contents writer.old) (W.contents writer.new)
-        (λ _ cs. flat_map (λ x. row_text x.name x.generation) (level_components cs))) }
-    ensures same { StaysOf (state S.Store conn.old) (state S.Store conn.new) }
-    ensures spares { SparesOf S.Store conn.old conn.new }
+    ensures { Exports S.Store conn.old conn.new
+        (W.contents writer.old) (W.contents writer.new) result
+        (λ _ cs. flat_map (λ x. row_text x.name x.generation) (level_components cs)) }
 {
-    put_rows(alloc, conn, SELECT_COMPONENTS, &[], &LevelLine, writer)?;
-    Ok(())
+    put_rows(alloc, conn, SELECT_COMPONENTS, &[], &LevelLine, writer)
 }
 
 /// Writes the first line and the components' lines.
@@ -44,19 +38,12 @@ fn put_level<S: Alter, W: Write>(
     conn: &mut Connection<S>,
     writer: &mut W,
 ) -> Result<(), ExportFault>
-    ensures ok { HasCleanDisk (state S.Store conn.new)
-        → OnOk result (WritesOf (state S.Store conn.old)
-        (W.contents writer.old) (W.contents writer.new) (λ _ cs. level cs)) }
-    ensures err { HasCleanDisk (state S.Store conn.new)
-        → OnErr result (BeginsOf (state S.Store conn.old)
-        (W.contents writer.old) (W.contents writer.new) (λ _ cs. level cs)) }
-    ensures same { StaysOf (state S.Store conn.old) (state S.Store conn.new) }
-    ensures spares { SparesOf S.Store conn.old conn.new }
+    ensures { Exports S.Store conn.old conn.new
+        (W.contents writer.old) (W.contents writer.new) result (λ _ cs. level cs) }
 {
     let row = own(alloc, conn)?;
     level_head(row.stamp, writer)?;
-    put_components(alloc, conn, writer)?;
-    Ok(())
+    put_components(alloc, conn, writer)
 }
 
 /// Writes the level: `sbat,1,` and its stamp, and then a line for each component, ascending by name (shim's

@@ -8,7 +8,7 @@ ghost use Rattle.sqlite_value.specs.Order.{column};
 ghost use Rattle.desk_bytes.specs.Output.{AppendsBeginning};
 ghost use Rattle.desk_reads.specs.CallColumns.{call_columns, texts_of};
 ghost use Rattle.desk_exports.specs.Exports.{minute_line, minutes_text};
-ghost use Rattle.desk_streams.specs.Exporting.{BeginsOf, SparesOf, StaysOf, WritesOf};
+ghost use Rattle.desk_streams.specs.Exporting.{BeginsOf, Exports, SparesOf, StaysOf, WritesOf};
 ghost use Rattle.desk_streams.specs.Faults.{IsExportFailure};
 ghost use Rattle.desk_streams.specs.Lines.{line_of};
 ghost use Rattle.desk_streams.specs.Rows.{IsPart};
@@ -129,17 +129,10 @@ fn put_minutes<S: Alter, W: Write>(
     conn: &mut Connection<S>,
     writer: &mut W,
 ) -> Result<(), ExportFault>
-    ensures ok { HasCleanDisk (state S.Store conn.new)
-        → OnOk result (WritesOf (state S.Store conn.old)
-        (W.contents writer.old) (W.contents writer.new) (λ _ cs. minutes_text cs)) }
-    ensures err { HasCleanDisk (state S.Store conn.new)
-        → OnErr result (BeginsOf (state S.Store conn.old)
-        (W.contents writer.old) (W.contents writer.new) (λ _ cs. minutes_text cs)) }
-    ensures same { StaysOf (state S.Store conn.old) (state S.Store conn.new) }
-    ensures spares { SparesOf S.Store conn.old conn.new }
+    ensures { Exports S.Store conn.old conn.new
+        (W.contents writer.old) (W.contents writer.new) result (λ _ cs. minutes_text cs) }
 {
-    put_rows(alloc, conn, SELECT_CALLS, &[], &MinuteLine, writer)?;
-    Ok(())
+    put_rows(alloc, conn, SELECT_CALLS, &[], &MinuteLine, writer)
 }
 
 /// Writes the minutes: a line for each accepted call, the first call first, of its number, caller, key, text and

@@ -1,10 +1,7 @@
 //! Rows that are written as the store gives them.
-ghost use Rattle.std.specs.Prelude.{◌≡◌, OnErr, OnOk};
-ghost use Rattle.sqlite.specs.Held.{state};
-ghost use Rattle.sqlite.specs.State.{HasCleanDisk};
+ghost use Rattle.std.specs.Prelude.{◌≡◌};
 ghost use Rattle.sqlite.specs.Values.{bound};
-ghost use Rattle.desk_sql.specs.Streaming.{SparesShown, StaysShown};
-ghost use Rattle.desk_streams.specs.Rows.{BeginsRow, WritesAnswer, WritesFirst, WritesRow};
+ghost use Rattle.desk_streams.specs.Rows.{BeginsRow, PutsRows, WritesRow};
 
 use crate::fault::ExportFault;
 use crate::forms::RowForm;
@@ -48,15 +45,8 @@ pub(crate) fn put_rows<S: Alter, F: RowForm, W: Write>(
     form: &F,
     writer: &mut W,
 ) -> Result<(), ExportFault>
-    ensures ok { HasCleanDisk (state S.Store conn.new)
-        → OnOk result (WritesAnswer (F.spells form.now) sql.now (bound params.now)
-        (state S.Store conn.old) (state S.Store conn.new)
-        (W.contents writer.old) (W.contents writer.new)) }
-    ensures err { HasCleanDisk (state S.Store conn.new)
-        → OnErr result (WritesFirst (F.spells form.now) sql.now (bound params.now)
-        (state S.Store conn.old) (W.contents writer.old) (W.contents writer.new)) }
-    ensures same { StaysShown sql.now (state S.Store conn.old) (state S.Store conn.new) }
-    ensures spares { SparesShown S.Store sql.now conn.old conn.new }
+    ensures { PutsRows S.Store (F.spells form.now) sql.now (bound params.now) conn.old conn.new
+        (W.contents writer.old) (W.contents writer.new) result }
 {
     let mut taker = RowWriter {
         alloc,
