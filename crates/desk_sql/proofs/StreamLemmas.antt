@@ -1,5 +1,5 @@
 -- A query outside a transaction: what it leaves of the connection, and what its first rows begin.
-use Rattle.std.proofs.Common.{◌≡◌, ◌⊎◌, inl, inr, ℕ, List, [], ◌∷◌, ◌++◌, refl, sym, ap, subst, subst₂, ◌∙◌, IsTrue, Ok, false}
+use Rattle.std.proofs.Common.{◌≡◌, ◌⊎◌, inl, inr, ℕ, List, [], ◌∷◌, ◌++◌, refl, sym, ap, subst, subst₂, ◌∙◌, IsTrue, Result, Ok, Err, OnErr, OnOk, false}
 use Rattle.sqlite.proofs.Callers.{EndsIn, begins_shown, command_of, given_begin, unchanged_then}
 use Rattle.sqlite.specs.Clock.{timed}
 use Rattle.sqlite_schema.specs.declared.command.Command.{Command}
@@ -24,6 +24,19 @@ use Rattle.desk_sql.specs.Meanings.{SelectsRows}
 use Rattle.desk_sql.specs.States.{Shows}
 use Rattle.desk_sql.specs.Streaming.{BeginsAnswer, HandsFirst, IsGivenUp, StaysOrUndoes, StreamsFirst}
 use Rattle.desk_sql.proofs.ReadLemmas.{finds_rows, shown_after}
+
+-- a fact of every error
+pub OnErr-fact : {X E : Type 0} (r : Result X E) (P : Type 0) → P → OnErr r P
+OnErr-fact (Ok x) P h = tt
+OnErr-fact (Err e) P h = h
+
+pub OnErr-so : {X E : Type 0} (r : Result X E) (P Q : Type 0) → (P → Q) → OnErr r P → OnErr r Q
+OnErr-so (Ok x) P Q so h = tt
+OnErr-so (Err e) P Q so h = so h
+
+pub OnOk-so : {X E : Type 0} (r : Result X E) (P Q : Type 0) → (P → Q) → OnOk r P → OnOk r Q
+OnOk-so (Ok x) P Q so h = so h
+OnOk-so (Err e) P Q so h = tt
 
 -- ---- what steps leave
 
