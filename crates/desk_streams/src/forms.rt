@@ -36,6 +36,7 @@ pub(crate) trait RowForm {
 }
 
 /// A revoked digest of an image, as an entry of a SHA256 list.
+#[derive(Drop)]
 pub(crate) struct RevokedDigest {
     pub(crate) owner: Guid,
 }
@@ -56,6 +57,7 @@ impl RowForm for RevokedDigest {
 }
 
 /// A revoked certificate's digest, as an entry of an X509_SHA256 list.
+#[derive(Drop)]
 pub(crate) struct RevokedCertificate {
     pub(crate) owner: Guid,
 }
@@ -76,6 +78,7 @@ impl RowForm for RevokedCertificate {
 }
 
 /// A component of the level, as its line.
+#[derive(Drop)]
 pub(crate) struct LevelLine;
 
 impl RowForm for LevelLine {

@@ -25,6 +25,7 @@ use std::alloc::Global;
 use std::io::Write;
 
 /// The columns of a call as they stand in its row.
+#[derive(Drop)]
 struct CallColumns<'a> {
     number: u64,
     caller: &'a [u8],
@@ -106,6 +107,7 @@ fn put_line<W: Write>(columns: &CallColumns<'_>, writer: &mut W) -> Result<(), W
 }
 
 /// A call, as its line in the minutes.
+#[derive(Drop)]
 struct MinuteLine;
 
 impl RowForm for MinuteLine {

@@ -21,6 +21,7 @@ use std::io::Write;
 const LONGEST: usize = 65_536;
 
 /// A listed digest of an image, as an entry of a SHA256 list.
+#[derive(Drop)]
 pub(crate) struct ListedDigest {
     pub(crate) owner: Guid,
 }
@@ -62,6 +63,7 @@ fn put_certificate<W: Write>(
 }
 
 /// A listed certificate, as an X509 list of its own.
+#[derive(Drop)]
 pub(crate) struct ListedCertificate {
     pub(crate) owner: Guid,
 }

@@ -13,6 +13,7 @@ use std::alloc::Global;
 use std::io::Write;
 
 /// Writes each row that it is handed.
+#[derive(Drop)]
 pub(crate) struct RowWriter<'a, F, W> {
     alloc: Global,
     form: &'a F,
