@@ -27,7 +27,7 @@ use Rattle.desk_streams.specs.Rows.{AreSpelt, BeginsRow, IsPart, WritesAnswer, W
 
 -- the front of an answer shows the front of what the answer shows
 parted : {X : Type 0} (shown : X → Row) (us rest : List Row) (ys : List X) → us ++ rest ≡ map shown ys
-    → (as : List X) × (bs : List X) × (us ≡ map shown as) × (rest ≡ map shown bs) × (ys ≡ as ++ bs)
+    → (ahead : List X) × (behind : List X) × (us ≡ map shown ahead) × (rest ≡ map shown behind) × (ys ≡ ahead ++ behind)
 parted shown [] rest ys h = ([], ys, refl, h, refl)
 parted shown (u ∷ us) rest [] h = absurd cc
 parted shown (u ∷ us) rest (y ∷ ys) h =
@@ -36,7 +36,7 @@ parted shown (u ∷ us) rest (y ∷ ys) h =
     let it = parted shown us rest ys more in
     (y ∷ it.0, it.1, ap₂ (λ a b. a ∷ b) one it.2, it.3, ap (λ l. y ∷ l) it.4)
 
-first_of : {X : Type 0} (shown : X → Row) (row : Row) (more : List Row) (bs : List X) → row ∷ more ≡ map shown bs → (x : X) × (xs : List X) × (row ≡ shown x) × (bs ≡ x ∷ xs)
+first_of : {X : Type 0} (shown : X → Row) (row : Row) (more : List Row) (behind : List X) → row ∷ more ≡ map shown behind → (x : X) × (xs : List X) × (row ≡ shown x) × (behind ≡ x ∷ xs)
 first_of shown row more [] h = absurd cc
 first_of shown row more (x ∷ xs) h = let one : row ≡ shown x = cc in (x, xs, one, refl)
 
@@ -72,7 +72,7 @@ module _ {X : Type 0} (at : ℕ) (table : Table) (text : List ℕ) (terms : List
 
   -- what begins the answer begins the list
   begun : (owner : List ℕ) (cs : History) → ShowsHistory s owner cs → (given : List Row) → BeginsAnswer text params s given
-      → (as : List X) × (bs : List X) × (given ≡ map shown as) × (wanted cs ≡ as ++ bs)
+      → (ahead : List X) × (behind : List X) × (given ≡ map shown ahead) × (wanted cs ≡ ahead ++ behind)
   begun owner cs was given h =
       let held : Holds desk_schema s.now (contents (tables owner cs)) = (was.holds (clean owner cs was) h.0).0 in
       let it = h.1 desk_schema at table terms (by_first ordered table) rest names means held.listed in
@@ -80,8 +80,8 @@ module _ {X : Type 0} (at : ℕ) (table : Table) (text : List ℕ) (terms : List
       let parts = parted shown given it.0 (wanted cs) all in
       (parts.0, parts.1, parts.2, parts.4)
 
-  joined : (as bs : List X) (cs : History) → wanted cs ≡ as ++ bs → flat_map bytes as ++ flat_map bytes bs ≡ flat_map bytes (wanted cs)
-  joined as bs cs is = sym (flat_map-append bytes as bs) ∙ ap (flat_map bytes) (sym is)
+  joined : (ahead behind : List X) (cs : History) → wanted cs ≡ ahead ++ behind → flat_map bytes ahead ++ flat_map bytes behind ≡ flat_map bytes (wanted cs)
+  joined ahead behind cs is = sym (flat_map-append bytes ahead behind) ∙ ap (flat_map bytes) (sym is)
 
   pub begins : (before after : Option (List ℕ)) → WritesFirst (IsPart shown bytes) text params s before after → BeginsOf s before after (λ _ cs. flat_map bytes (wanted cs))
   begins before after w owner cs was = elim w.ends [

@@ -1,6 +1,6 @@
 -- Items put in their places one by one, by a test that orders them: the list that comes of it is the same in whatever
 -- order they come.
-use Rattle.std.proofs.Common.{◌≡◌, ℕ, zero, suc, ◌+◌, ◌<◌, ◌≤◌, Bool, true, false, List, [], ◌∷◌, length, refl, sym, ap, ◌∙◌, arith, true≢false}
+use Rattle.std.proofs.Common.{◌≡◌, ℕ, zero, suc, ◌+◌, ◌<◌, ◌≤◌, Bool, true, false, List, [], ◌∷◌, length, get_or, refl, sym, ap, subst, ◌∙◌, arith, true≢false}
 use Rattle.std.specs.Prelude.{if◌then◌else◌, ⊤}
 use Rattle.std.specs.List.{AllByRecursion}
 use Rattle.std.specs.List.Sorted.{IsPermutation, IsSortedBy}
@@ -60,7 +60,9 @@ module _ {X : Type 0} (le : X → X → Bool) where
   rises_of lt P turn (x ∷ []) all h = tt
   rises_of lt P turn (x ∷ y ∷ ys) all h = (
     turn x y all.0 all.1.0 (h 0 x (omega arith) (omega arith)),
-    rises_of lt P turn (y ∷ ys) all.1 (λ k d low high. h (suc k) d (omega arith) (omega arith)),
+    rises_of lt P turn (y ∷ ys) all.1 (λ k d low high.
+        let next : suc k + 1 ≡ suc (k + 1) = omega arith in
+        subst (λ n. lt (get_or (x ∷ y ∷ ys) n d) (get_or (y ∷ ys) k d) ≡ false) next (h (suc k) d (omega arith) (omega arith))),
   )
 
   module _ (total : (x y : X) → le x y ≡ false → le y x ≡ true) (chains : (x y z : X) → le x y ≡ true → le y z ≡ true → le x z ≡ true) where

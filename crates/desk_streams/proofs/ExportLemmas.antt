@@ -27,7 +27,7 @@ one_digest : (x y : List ℕ) → digest_values x ≡ digest_values y → x ≡ 
 one_digest x y h = cc
 
 -- a query's answer writes these bytes of each history, and a part of it a beginning of them
-abbrev pub Told : {X : Type 0} → (X → Row) → (X → List ℕ) → List ℕ → Row → State → (History → List X) → Type 0
+abbrev pub Told : {X : Type 0} → (X → Row) → (X → List ℕ) → List ℕ → Row → State → (History → List X) → Type 1
 Told shown bytes text params s wanted =
     ((new : State) (before after : Option (List ℕ)) → WritesAnswer (IsPart shown bytes) text params s new before after → WritesOf s before after (λ _ cs. flat_map bytes (wanted cs)))
     × ((before after : Option (List ℕ)) → WritesFirst (IsPart shown bytes) text params s before after → BeginsOf s before after (λ _ cs. flat_map bytes (wanted cs)))

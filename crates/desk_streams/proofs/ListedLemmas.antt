@@ -22,8 +22,6 @@ use Rattle.desk_contents.specs.Histories.{ShowsHistory}
 use Rattle.desk_contents.specs.Values.{call_values, component_values, entry_values}
 use Rattle.desk_exports.specs.Exports.{entries_of, level_components, minute_line}
 use Rattle.desk_reads.specs.CallColumns.{call_columns, texts_of}
-use Rattle.desk_sql.specs.Effects.{passes}
-use Rattle.desk_sql.proofs.ValueLemmas.{only, text_is}
 use Rattle.desk_statements.specs.Columns.{columns_after, equals, names_of}
 use Rattle.desk_statements.specs.Tables as tables
 use Rattle.desk_statements.specs.declared.selecting.TheConstants.{SELECT_CALLS, SELECT_COMPONENTS, SELECT_LISTED_OF}
@@ -31,6 +29,7 @@ use Rattle.desk_statements.proofs.SelectFacts as facts
 use Rattle.desk_streams.specs.Lines.{line_of}
 use Rattle.desk_streams.proofs.AnswerLemmas.{told}
 use Rattle.desk_streams.proofs.ExportLemmas.{Told}
+use Rattle.desk_streams.proofs.KindLemmas.{is_of_kind}
 use Rattle.desk_streams.proofs.ListLemmas.{calls_in_order, components_in_order, entries_in_order}
 
 one_line : (x y : Component) → component_values x ≡ component_values y → row_text x.name x.generation ≡ row_text y.name y.generation
@@ -38,15 +37,6 @@ one_line x y h =
     let name : x.name ≡ y.name = cc in
     let generation : x.generation ≡ y.generation = cc in
     ap₂ row_text name generation
-
-pub kinds_differ : (k l : ListedKind) → bytes_eq (kind_text k) (kind_text l) ≡ is_same_kind k l
-kinds_differ kinds.Digest kinds.Digest = refl
-kinds_differ kinds.Digest kinds.Certificate = refl
-kinds_differ kinds.Certificate kinds.Digest = refl
-kinds_differ kinds.Certificate kinds.Certificate = refl
-
-pub is_of_kind : (kind : ListedKind) (x : Entry) → passes tables.listed (equals tables.listed 0 0 ∷ []) (Text (kind_text kind) ∷ []) (entry_values x) ≡ is_same_kind kind x.kind
-is_of_kind kind x = only _ _ (text_is (kind_text x.kind) (kind_text kind) ∙ kinds_differ kind x.kind)
 
 one_digest : (x y : Entry) → entry_values x ≡ entry_values y → x.digest ≡ y.digest
 one_digest x y h = cc

@@ -40,8 +40,8 @@ module _ {S X E : Type 0} (g : store.Ghosts S) where
 
       go : (r : Result X E) → HasCleanDisk (state g c) → MatchResult r (λ _. WritesOf (state g b) x y f) (λ _. BeginsOf (state g b) x y f)
           → MatchResult r (λ _. WritesOf (state g a) x y h) (λ _. BeginsOf (state g a) x y h)
-      go (Ok v) clean w owner cs was = subst (Appends x y) (same (late clean owner cs was) owner cs was) (w owner cs (stays owner cs was))
-      go (Err e) clean w owner cs was = subst (AppendsBeginning x y) (same (late clean owner cs was) owner cs was) (w owner cs (stays owner cs was))
+      go (Ok v) clean w = λ owner cs was. subst (Appends x y) (same (late clean owner cs was) owner cs was) (w owner cs (stays owner cs was))
+      go (Err e) clean w = λ owner cs was. subst (AppendsBeginning x y) (same (late clean owner cs was) owner cs was) (w owner cs (stays owner cs was))
 
   -- bytes were written before
   pub after_write : (a c : Held S) (x y z : Option (List ℕ)) (r : Result X E) (bs : List ℕ) (f : List ℕ → History → List ℕ) → Appends x y bs → Exports g a c y z r f
@@ -50,8 +50,8 @@ module _ {S X E : Type 0} (g : store.Ghosts S) where
     where
       go : (r : Result X E) → MatchResult r (λ _. WritesOf (state g a) y z f) (λ _. BeginsOf (state g a) y z f)
           → MatchResult r (λ _. WritesOf (state g a) x z (λ owner cs. bs ++ f owner cs)) (λ _. BeginsOf (state g a) x z (λ owner cs. bs ++ f owner cs))
-      go (Ok v) w owner cs was = Appends-trans x y z bs (f owner cs) put (w owner cs was)
-      go (Err e) w owner cs was = AppendsBeginning-after x y z bs (f owner cs) put (w owner cs was)
+      go (Ok v) w = λ owner cs was. Appends-trans x y z bs (f owner cs) put (w owner cs was)
+      go (Err e) w = λ owner cs was. AppendsBeginning-after x y z bs (f owner cs) put (w owner cs was)
 
   -- another step came before, which wrote all
   pub after_step : {Y F : Type 0} (a b c : Held S) (x y z : Option (List ℕ)) (v : Y) (r : Result X E) (f h : List ℕ → History → List ℕ) → Exports {E = F} g a b x y (Ok v) f → Exports g b c y z r h
@@ -67,9 +67,9 @@ module _ {S X E : Type 0} (g : store.Ghosts S) where
 
       go : (r : Result X E) → HasCleanDisk (state g c) → MatchResult r (λ _. WritesOf (state g b) y z h) (λ _. BeginsOf (state g b) y z h)
           → MatchResult r (λ _. WritesOf (state g a) x z (λ owner cs. f owner cs ++ h owner cs)) (λ _. BeginsOf (state g a) x z (λ owner cs. f owner cs ++ h owner cs))
-      go (Ok w) clean did owner cs was =
+      go (Ok w) clean did = λ owner cs was.
           Appends-trans x y z (f owner cs) (h owner cs) (one.wrote (late clean owner cs was) owner cs was) (did owner cs (one.same owner cs was))
-      go (Err e) clean did owner cs was =
+      go (Err e) clean did = λ owner cs was.
           AppendsBeginning-after x y z (f owner cs) (h owner cs) (one.wrote (late clean owner cs was) owner cs was) (did owner cs (one.same owner cs was))
 
   -- a step stopped, and no other came

@@ -14,5 +14,5 @@ pub returns : goal.returns
 returns g c =
     let old = c.args.conn.now in
     of_rows g.S.Store digest_values (sha256_entry_bytes c.args.owner) SELECT_REVOKED_DIGESTS.now [] (revoked kinds.Digest) old c.put_rows.new.conn
-    (g.W.contents c.args.writer.now) (g.W.contents c.put_rows.new.writer) c.put_rows.result facts.select_revoked_digests.plain
+    (g.W.Write.contents c.args.writer.now) (g.W.Write.contents c.put_rows.new.writer) c.put_rows.result facts.select_revoked_digests.plain
     (λ clean. tells_digests (state g.S.Store old) clean c.args.owner) c.put_rows.ensures
