@@ -53,6 +53,15 @@ module _ {S X E : Type 0} (g : store.Ghosts S) where
       go (Ok v) w = λ owner cs was. Appends-trans x y z bs (f owner cs) put (w owner cs was)
       go (Err e) w = λ owner cs was. AppendsBeginning-after x y z bs (f owner cs) put (w owner cs was)
 
+  -- the same bytes in other words
+  pub same_bytes : (a c : Held S) (x y : Option (List ℕ)) (r : Result X E) (f h : List ℕ → History → List ℕ) → ((owner : List ℕ) (cs : History) → f owner cs ≡ h owner cs) → Exports g a c x y r f
+      → Exports g a c x y r h
+  same_bytes a c x y r f h same it = record { wrote = λ clean. go r (it.wrote clean); same = it.same; spares = it.spares }
+    where
+      go : (r : Result X E) → MatchResult r (λ _. WritesOf (state g a) x y f) (λ _. BeginsOf (state g a) x y f) → MatchResult r (λ _. WritesOf (state g a) x y h) (λ _. BeginsOf (state g a) x y h)
+      go (Ok v) w = λ owner cs was. subst (Appends x y) (same owner cs) (w owner cs was)
+      go (Err e) w = λ owner cs was. subst (AppendsBeginning x y) (same owner cs) (w owner cs was)
+
   -- another step came before, which wrote all
   pub after_step : {Y F : Type 0} (a b c : Held S) (x y z : Option (List ℕ)) (v : Y) (r : Result X E) (f h : List ℕ → History → List ℕ) → Exports {E = F} g a b x y (Ok v) f → Exports g b c y z r h
       → Exports g a c x z r (λ owner cs. f owner cs ++ h owner cs)
