@@ -9,3 +9,4 @@ pub mod PartLemmas
 pub mod StepLemmas
 pub mod CountedLemmas
 pub mod ListedLemmas
+pub mod LineLemmas

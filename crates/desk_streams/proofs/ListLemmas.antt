@@ -1,5 +1,5 @@
 -- The lists of a history's tables, in the order of exports.
-use Rattle.std.proofs.Common.{◌≡◌, ◌≤◌, ◌+◌, ℕ, pos, Bool, true, false, not, ◌&&◌, ◌||◌, List, [], ◌∷◌, ◌++◌, map, filter, length, reverse, bytes_eq, refl, sym, ap, ap₂, subst, ◌∙◌, arith, nat_le, true≢false}
+use Rattle.std.proofs.Common.{◌≡◌, ◌≤◌, ◌+◌, ℕ, pos, Bool, true, false, not, ◌&&◌, ◌||◌, List, [], ◌∷◌, ◌++◌, map, filter, flat_map, length, reverse, bytes_eq, refl, sym, ap, ap₂, subst, ◌∙◌, arith, nat_le, true≢false}
 use Rattle.std.specs.Prelude.{if◌then◌else◌, ⊤}
 use Rattle.std.specs.List.{AllByRecursion, list_any}
 use Rattle.std.specs.List.Sorted.{IsPermutation, IsSorted}
@@ -9,6 +9,7 @@ use Rattle.std.specs.declared.cmp.Ordering.{Ordering}
 use Rattle.std.proofs.lemmas.Bool.{and_parts, or_parts}
 use Rattle.std.proofs.lemmas.Bool.Decides.{nat_tests}
 use mathlib.Core.List.{reverse-cons}
+use Rattle.std.proofs.lemmas.List.Concat.{flat_map-append}
 use Rattle.std.proofs.lemmas.List.Sorted.{IsPermutation-reverse}
 use Rattle.sbat.specs.declared.component.Component.{Component}
 use Rattle.desk_texts.specs.declared.kind.ListedKind.{ListedKind}
@@ -23,12 +24,12 @@ use Rattle.desk_history.specs.Tables.{level_row, level_rows}
 use Rattle.desk_history.proofs.ListLemmas.{bytes_eq-refl, once_apart}
 use Rattle.desk_history.proofs.ListingLemmas.{listed_apart}
 use Rattle.desk_contents.specs.Values.{component_values, entry_values}
-use Rattle.desk_exports.specs.Exports.{entries_of}
+use Rattle.desk_exports.specs.Exports.{entries_of, minute_line}
 use Rattle.desk_exports.specs.Orders.{ascending, ascending_by}
-use Rattle.desk_reads.specs.CallColumns.{call_columns, texts_of}
 use Rattle.desk_sql.specs.Queries.{by_keys}
 use Rattle.desk_statements.specs.Columns.{by_first}
 use Rattle.desk_statements.specs.Tables as tables
+use Rattle.desk_streams.specs.Lines.{Columns, columns_of, columns_row, line}
 use Rattle.desk_streams.proofs.ArrangeLemmas.{Apart, Rises, Tie, all_any, all_permuted, arranged, arranged_is, arranged_one, rises_of}
 use Rattle.desk_streams.proofs.OrderLemmas.{ascending-arranged, before_chains, before_of, before_tie, before_total, by_key, calls_order, components_order, entries_order}
 
@@ -142,47 +143,59 @@ entries_in_order k cs ys moved sorted =
 
 -- ---- calls
 
-abbrev numbered : Minute → Minute → Bool
+abbrev numbered : Columns → Columns → Bool
 numbered x y = nat_le x.number y.number
 
-below_all : (cs : History) (n : ℕ) → length cs ≤ n → AllByRecursion (λ (m : Minute). m.number ≤ n) (minutes cs)
+-- the calls, the newest first, by their texts
+abbrev pub called : History → List Columns
+called cs = map columns_of (minutes cs)
+
+below_all : (cs : History) (n : ℕ) → length cs ≤ n → AllByRecursion (λ (m : Columns). m.number ≤ n) (called cs)
 below_all [] n h = tt
 below_all (i ∷ cs) n h = (omega arith, below_all cs n (omega arith))
 
-above_all : (n : ℕ) (x : Minute) (ms : List Minute) → x.number ≡ n + 1 → AllByRecursion (λ (m : Minute). m.number ≤ n) ms → AllByRecursion (Tie numbered x) ms
+above_all : (n : ℕ) (x : Columns) (ms : List Columns) → x.number ≡ n + 1 → AllByRecursion (λ (m : Columns). m.number ≤ n) ms → AllByRecursion (Tie numbered x) ms
 above_all n x [] is h = tt
 above_all n x (m ∷ ms) is h = ((λ low high. (let a : x.number ≤ m.number = grind (arith, nat_tests) in absurd (omega (arith, h.0)))), above_all n x ms is h.1)
 
-calls_apart : (cs : History) → Apart numbered (minutes cs)
+calls_apart : (cs : History) → Apart numbered (called cs)
 calls_apart [] = tt
-calls_apart (i ∷ cs) = (above_all (length cs) (minute cs i.call) (minutes cs) refl (below_all cs (length cs) (omega arith)), calls_apart cs)
+calls_apart (i ∷ cs) = (above_all (length cs) (columns_of (minute cs i.call)) (called cs) refl (below_all cs (length cs) (omega arith)), calls_apart cs)
 
-rises_push : (xs : List Minute) (x : Minute) → Rises numbered xs → AllByRecursion (λ (m : Minute). m.number ≤ x.number) xs → Rises numbered (xs ++ x ∷ [])
+rises_push : (xs : List Columns) (x : Columns) → Rises numbered xs → AllByRecursion (λ (m : Columns). m.number ≤ x.number) xs → Rises numbered (xs ++ x ∷ [])
 rises_push [] x h all = tt
-rises_push (y ∷ []) x h all = (let low : y.number ≤ x.number = all.0 in grind (arith, nat_tests), tt)
+rises_push (y ∷ []) x h all = (let low : y.number ≤ x.number = all.0 in (grind (arith, nat_tests), tt))
 rises_push (y ∷ z ∷ zs) x h all = (h.0, rises_push (z ∷ zs) x h.1 all.1)
 
-reversed : (cs : History) → Rises numbered (reverse (minutes cs))
+reversed : (cs : History) → Rises numbered (reverse (called cs))
 reversed [] = tt
 reversed (i ∷ cs) =
-    let m = minute cs i.call in
-    subst (Rises numbered) (sym (reverse-cons m (minutes cs)))
-    (rises_push (reverse (minutes cs)) m (reversed cs) (all_permuted (λ (x : Minute). x.number ≤ m.number) (minutes cs) (reverse (minutes cs)) (IsPermutation-reverse (minutes cs)) (below_all cs (length cs + 1) (omega arith))))
+    let m = columns_of (minute cs i.call) in
+    subst (Rises numbered) (sym (reverse-cons m (called cs)))
+    (rises_push (reverse (called cs)) m (reversed cs) (all_permuted (λ (x : Columns). x.number ≤ m.number) (called cs) (reverse (called cs)) (IsPermutation-reverse (called cs)) (below_all cs (length cs + 1) (omega arith))))
 
-numbers_up : (x y : Minute) → is_lt (int_cmp (pos y.number) (pos x.number)) ≡ false → numbered x y ≡ true
+numbers_up : (x y : Columns) → is_lt (int_cmp (pos y.number) (pos x.number)) ≡ false → numbered x y ≡ true
 numbers_up x y h = grind (arith, nat_tests)
 
-numbers_total : (x y : Minute) → numbered x y ≡ false → numbered y x ≡ true
+numbers_total : (x y : Columns) → numbered x y ≡ false → numbered y x ≡ true
 numbers_total x y h = grind (arith, nat_tests)
 
-numbers_chain : (x y z : Minute) → numbered x y ≡ true → numbered y z ≡ true → numbered x z ≡ true
+numbers_chain : (x y z : Columns) → numbered x y ≡ true → numbered y z ≡ true → numbered x z ≡ true
 numbers_chain x y z h k = grind (arith, nat_tests)
 
-pub calls_in_order : (cs : History) (ys : List Minute) → IsPermutation (filter (λ _. true) (minutes cs)) ys
-    → IsSorted (λ x y. by_keys (by_first 1 tables.calls) (call_columns (texts_of x)) (call_columns (texts_of y))) ys → ys ≡ reverse (minutes cs)
+pub calls_in_order : (cs : History) (ys : List Columns) → IsPermutation (filter (λ _. true) (called cs)) ys
+    → IsSorted (λ x y. by_keys (by_first 1 tables.calls) (columns_row x) (columns_row y)) ys → ys ≡ reverse (called cs)
 calls_in_order cs ys moved sorted =
-    let ms = minutes cs in
+    let ms = called cs in
     arranged_one numbered numbers_total numbers_chain ms ys (subst (λ l. IsPermutation l ys) (every ms) moved) (calls_apart cs)
-    (rises_of numbered (λ x y. is_lt (by_keys (by_first 1 tables.calls) (call_columns (texts_of x)) (call_columns (texts_of y)))) (λ _. ⊤)
+    (rises_of numbered (λ x y. is_lt (by_keys (by_first 1 tables.calls) (columns_row x) (columns_row y))) (λ _. ⊤)
     (λ x y _ _ h. numbers_up x y (sym (ap is_lt (calls_order y x)) ∙ h)) ys (all_any (λ _. ⊤) (λ _. tt) ys) sorted)
     ∙ sym (arranged_one numbered numbers_total numbers_chain ms (reverse ms) (IsPermutation-reverse ms) (calls_apart cs) (reversed cs))
+
+-- the lines of the minutes are those of their texts
+pub lines_of : (ms : List Minute) → flat_map line (reverse (map columns_of ms)) ≡ flat_map minute_line (reverse ms)
+lines_of [] = refl
+lines_of (m ∷ ms) =
+    ap (flat_map line) (reverse-cons (columns_of m) (map columns_of ms)) ∙ flat_map-append line (reverse (map columns_of ms)) (columns_of m ∷ [])
+    ∙ ap (λ l. l ++ flat_map line (columns_of m ∷ [])) (lines_of ms)
+    ∙ sym (ap (flat_map minute_line) (reverse-cons m ms) ∙ flat_map-append minute_line (reverse ms) (m ∷ []))

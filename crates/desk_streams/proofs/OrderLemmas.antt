@@ -13,13 +13,12 @@ use Rattle.sqlite_value.proofs.OrderLemmas.{value_cmp-Blob, value_cmp-Int, value
 use Rattle.sbat.specs.declared.component.Component.{Component}
 use Rattle.desk_texts.specs.Words.{kind_text}
 use Rattle.desk_history.specs.declared.rows.Entry.{Entry}
-use Rattle.desk_history.specs.declared.rows.Minute.{Minute}
 use Rattle.desk_contents.specs.Values.{component_values, digest_values, entry_values}
 use Rattle.desk_exports.specs.Orders.{ascending_by, in_place, is_before}
-use Rattle.desk_reads.specs.CallColumns.{call_columns, texts_of}
 use Rattle.desk_sql.specs.Queries.{by_keys}
 use Rattle.desk_statements.specs.Columns.{by_first}
 use Rattle.desk_statements.specs.Tables as tables
+use Rattle.desk_streams.specs.Lines.{Columns, columns_row}
 use Rattle.desk_streams.proofs.ArrangeLemmas.{arranged, placed}
 
 -- ---- texts by bytes
@@ -103,5 +102,5 @@ entries_order x y one =
     kinds : value_cmp (Text (kind_text x.kind)) (Text (kind_text y.kind)) ≡ Equal
     kinds = value_cmp-Text (kind_text x.kind) (kind_text y.kind) ∙ ap (λ k. slice_cmp nat_cmp (kind_text x.kind) (kind_text k)) (sym one) ∙ tied_itself nat_list_cmp_total (kind_text x.kind)
 
-pub calls_order : (x y : Minute) → by_keys (by_first 1 tables.calls) (call_columns (texts_of x)) (call_columns (texts_of y)) ≡ int_cmp (pos x.number) (pos y.number)
+pub calls_order : (x y : Columns) → by_keys (by_first 1 tables.calls) (columns_row x) (columns_row y) ≡ int_cmp (pos x.number) (pos y.number)
 calls_order x y = then_equal (value_cmp (Int (pos x.number)) (Int (pos y.number))) ∙ value_cmp-Int (pos x.number) (pos y.number)

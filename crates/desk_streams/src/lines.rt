@@ -6,11 +6,10 @@ ghost use Rattle.sqlite.specs.State.{HasCleanDisk};
 ghost use Rattle.sqlite.specs.declared.types.Value.TheVariants.{Int, Text};
 ghost use Rattle.sqlite_value.specs.Order.{column};
 ghost use Rattle.desk_bytes.specs.Output.{AppendsBeginning};
-ghost use Rattle.desk_reads.specs.CallColumns.{call_columns, texts_of};
-ghost use Rattle.desk_exports.specs.Exports.{minute_line, minutes_text};
+ghost use Rattle.desk_exports.specs.Exports.{minutes_text};
 ghost use Rattle.desk_streams.specs.Exporting.{BeginsOf, Exports, SparesOf, StaysOf, WritesOf};
 ghost use Rattle.desk_streams.specs.Faults.{IsExportFailure};
-ghost use Rattle.desk_streams.specs.Lines.{line_of};
+ghost use Rattle.desk_streams.specs.Lines.{columns_row, line, line_of};
 ghost use Rattle.desk_streams.specs.Rows.{IsPart};
 
 use crate::fault::ExportFault;
@@ -111,7 +110,7 @@ fn put_line<W: Write>(columns: &CallColumns<'_>, writer: &mut W) -> Result<(), W
 struct MinuteLine;
 
 impl RowForm for MinuteLine {
-    ghost spells = { λ _. IsPart (λ m. call_columns (texts_of m)) minute_line };
+    ghost spells = { λ _. IsPart columns_row line };
 
     fn put<W: Write>(
         &self,
