@@ -12,3 +12,4 @@ pub mod StopLemmas
 pub mod ReadLemmas
 pub mod CountLemmas
 pub mod ItemLemmas
+pub mod StreamLemmas

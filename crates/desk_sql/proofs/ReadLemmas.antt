@@ -42,7 +42,7 @@ shown_same sql params old new rows plain h =
     let full = timed params h.0.formats h.1.now in
     (subst (ShowsRows old new sql h.0 full rows) none h.2).3
 
-failed_same : (sql : List ℕ) (params : Row) (old new : State) (e : Error) → FailsToQuery sql params old new e → IsUnchanged old new ⊎ IsRolledBack old new
+pub failed_same : (sql : List ℕ) (params : Row) (old new : State) (e : Error) → FailsToQuery sql params old new e → IsUnchanged old new ⊎ IsRolledBack old new
 unfolding FailsToQuery IsNotRun
 failed_same sql params old new e (inl (inl h)) = inl h.1
 failed_same sql params old new e (inl (inr h)) = inr h.3

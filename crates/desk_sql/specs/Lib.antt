@@ -3,3 +3,4 @@ pub mod States
 pub mod Queries
 pub mod Meanings
 pub mod Effects
+pub mod Streaming

@@ -5,4 +5,5 @@ pub mod Steps
 pub mod Acts
 pub mod Reads
 pub mod Closed
+pub mod Exports
 pub mod Showing

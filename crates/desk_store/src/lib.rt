@@ -6,6 +6,7 @@ mod answers;
 mod asking;
 mod closing;
 mod desk;
+mod exports;
 mod forms;
 mod founding;
 mod opening;

@@ -132,6 +132,8 @@ impl TakesRow for FirstBytes {
 
     ghost takes = { λ _ _ _. Unit {0} };
 
+    ghost gives_up = { λ _ _ _. Unit {0} };
+
     fn take(&mut self, row: &Row) -> Result<(), Error> {
         let digest: Vec<u8> = row.get(0)?;
         let Some(first) = digest.first() else {

@@ -1,65 +1,62 @@
-use Rattle.std.proofs.Common.{◌≡◌, ◌++◌, ◌∷◌, [], Some, option_copied, refl, sym, subst, rules, arith}
-use Rattle.sqlite.proofs.Callers.{IsPlain, begun_plain, unchanged_then}
-use Rattle.sqlite.specs.Effect.{Database}
-use Rattle.sqlite.specs.Given.{HasGiven}
+use Rattle.std.proofs.Common.{◌≡◌, arith, sym, subst, IsTrue}
+use Rattle.sqlite.proofs.Callers.{never_commits}
+use Rattle.sqlite.proofs.StateLemmas.{survives_then}
 use Rattle.sqlite.specs.Held.{state}
-use Rattle.sqlite.specs.Listing.{understood}
-use Rattle.sqlite.specs.Schema.{Schema}
-use Rattle.sqlite.specs.State.{HasCleanDisk, IsUnchanged, Shown, Survives, CommitsShowing}
+use Rattle.sqlite.specs.State.{CommitsShowing, HasCleanDisk, IsUnchanged}
 use Rattle.sqlite.specs.Values.{bound}
-use Rattle.desk_sql.proofs.ReadLemmas.{shown_after, streams, takes_one_more}
+use Rattle.desk_sql.specs.Effects.{HandsOver}
+use Rattle.desk_sql.specs.Streaming.{HandsFirst}
+use Rattle.desk_sql.proofs.StreamLemmas.{OnErr-so, OnOk-so, hands_first_after, hands_over_after, plain_after, showing_before, still_shows, undone_then}
 use Rattle.desk_sql.proofs.streaming.stream.Goals as goal
 
-pub rows-init : goal.rows-init
-rows-init g c =
-    let made = c.in-Ok.ensures in
-    (refl, made.survives, ([], refl, λ clean plain. begun_plain g.S.Store c.args.sql.now (bound c.args.params.now) c.args.conn.now _ plain (made.begun clean)))
-
-pub rows-preserved : goal.rows-preserved
-rows-preserved g c =
+pub returns-clause-value : goal.returns-clause-value
+returns-clause-value g c clean =
     let text = c.args.sql.now in
     let params = bound c.args.params.now in
     let old = state g.S.Store c.args.conn.now in
-    let moved = c.next.follows.holds-at-none in
-    let held = c.next.follows.lender-at-none.conn.now in
-    let now = state g.S.Store held in
-    let before = c.rows.invariant.2 in
-    let row = c.in-Some.row.now in
-    let survived : Survives old now (CommitsShowing text params old) = search rules in
-    let next : option_copied c.in-Ok-next.next ≡ Some row = search rules in (
-      search rules,
-      survived,
-      (
-        before.0 ++ row ∷ [],
-        takes_one_more g.T.TakesRow.takes c.args.taker.now c.rows.taker c.take.new.self before.0 row before.1 c.in-Ok-take.ensures.ok,
-        λ clean plain.
-            let was = before.2 (omega (arith, moved.survives.clean, clean)) plain in
-            let gave : HasGiven g.S.Store text params held (before.0 ++ row ∷ []) = (rw (c.in-Ok-next.is, next) at (moved.ok clean)) text params before.0 was.0 in
-            let same : IsUnchanged (state g.S.Store c.rows.rows.conn.now) now = rw c.in-Ok-next.is at (moved.same clean) in
-            (gave, unchanged_then old (state g.S.Store c.rows.rows.conn.now) now was.1 same),
-      ),
-    )
+    let mid = state g.S.Store c.compile.new.conn in
+    let new = state g.S.Store c.hand_over.new.conn in
+    let late : HasCleanDisk mid = omega (arith, c.hand_over.ensures.survives.clean, clean) in
+    let same : IsUnchanged old mid = c.in-Ok.ensures.same late in
+    OnOk-so c.hand_over.result _ _ (hands_over_after text params old mid same g.T.TakesRow.takes new c.args.taker.now c.hand_over.new.taker) (c.hand_over.ensures.value clean)
 
-pub returns-in_default-clause-value : goal.returns-in_default-clause-value
-returns-in_default-clause-value g c clean =
+pub returns-clause-begins : goal.returns-clause-begins
+returns-clause-begins g c clean =
     let text = c.args.sql.now in
     let params = bound c.args.params.now in
     let old = state g.S.Store c.args.conn.now in
-    let moved = c.next.follows.holds-at-none in
-    let now = c.next.follows.lender-at-none.conn.now in
-    let late : HasCleanDisk (state g.S.Store now) = search rules in
-    let before = c.rows.invariant.2 in
-    let given = before.0 in
-    let same : now ≡ c.conn-in_default-1.given.0 = search rules in
-    record {
-      answer = given;
-      handed = before.1;
-      exact = λ schema at table terms order rest names means has.
-          let plain : IsPlain (understood old.now.schema text) = subst (λ (k : Schema). IsPlain (understood k text)) (sym has) means.plain in
-          let was = before.2 (omega (arith, moved.survives.clean)) plain in
-          let shown = (rw (c.in-Ok-next.is, c.in_default.is) at (moved.ok late)) text params given was.0 in
-          let later = subst (λ (d : Database). IsPlain (understood d.schema text)) (sym was.1.0.now_is) plain in
-          let all : Shown text params old (state g.S.Store c.conn-in_default-1.given.0) given =
-          subst (λ h. Shown text params old (state g.S.Store h) given) same (shown_after text params old (state g.S.Store c.rows.rows.conn.now) (state g.S.Store now) given later was.1 shown) in
-          streams text params old (state g.S.Store c.conn-in_default-1.given.0) given all schema at table terms order rest names means has;
-    }
+    let mid = state g.S.Store c.compile.new.conn in
+    let late : HasCleanDisk mid = omega (arith, c.hand_over.ensures.survives.clean, clean) in
+    let same : IsUnchanged old mid = c.in-Ok.ensures.same late in
+    OnErr-so c.hand_over.result _ _ (hands_first_after text params old mid same g.T.TakesRow.takes g.T.TakesRow.gives_up c.args.taker.now c.hand_over.new.taker) (c.hand_over.ensures.begins clean same.0.is_open)
+
+pub returns-clause-spares : goal.returns-clause-spares
+returns-clause-spares g c schema held plain shows =
+    let text = c.args.sql.now in
+    let params = bound c.args.params.now in
+    let old = state g.S.Store c.args.conn.now in
+    let mid = state g.S.Store c.compile.new.conn in
+    let new = state g.S.Store c.hand_over.new.conn in
+    let first = c.in-Ok.ensures.survives in
+    let second = c.hand_over.ensures.survives in
+    survives_then old mid new (λ _. ⊥) (CommitsShowing text params mid) (λ _. ⊥) (λ _ _ none. none)
+    (λ clean db may.
+    let late : HasCleanDisk mid = omega (arith, second.clean, clean) in
+    let same : IsUnchanged old mid = c.in-Ok.ensures.same late in
+    never_commits text params mid db (plain_after schema text held old mid (omega (arith, first.clean, late)) same shows plain) may)
+    first second
+
+pub returns-clause-survives : goal.returns-clause-survives
+returns-clause-survives g c =
+    let text = c.args.sql.now in
+    let params = bound c.args.params.now in
+    let old = state g.S.Store c.args.conn.now in
+    let mid = state g.S.Store c.compile.new.conn in
+    let new = state g.S.Store c.hand_over.new.conn in
+    let first = c.in-Ok.ensures.survives in
+    let second = c.hand_over.ensures.survives in
+    survives_then old mid new (λ _. ⊥) (CommitsShowing text params mid) (CommitsShowing text params old) (λ _ _ none. absurd none)
+    (λ clean db may.
+    let late : HasCleanDisk mid = omega (arith, second.clean, clean) in
+    showing_before text params old mid (c.in-Ok.ensures.same late) first.limit db may)
+    first second

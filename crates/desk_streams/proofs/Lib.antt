@@ -1,0 +1,12 @@
+pub mod ArrangeLemmas
+pub mod OrderLemmas
+pub mod ListLemmas
+pub mod RowLemmas
+pub mod AnswerLemmas
+pub mod ExportLemmas
+pub mod KindLemmas
+pub mod PartLemmas
+pub mod StepLemmas
+pub mod CountedLemmas
+pub mod ListedLemmas
+pub mod LineLemmas

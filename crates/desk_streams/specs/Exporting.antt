@@ -1,0 +1,51 @@
+-- What an export of a desk writes, and what it leaves of the connection.
+use Rattle.std.specs.Prelude.{◌≡◌, ℕ, List, Option, Result, MatchResult, length, filter}
+use Rattle.std.specs.Io.KnownBytes.{Appends}
+use Rattle.sqlite.specs.Held.{Held, state}
+use Rattle.sqlite.specs.State.{State, HasCleanDisk}
+use Rattle.sqlite.specs.Store.{Ghosts}
+use Rattle.desk_bytes.specs.Output.{AppendsBeginning}
+use Rattle.desk_texts.specs.declared.kind.ListedKind.TheVariants as kinds
+use Rattle.desk_history.specs.Calls.{History, is_same_kind}
+use Rattle.desk_history.specs.Tables.{Tables, tables}
+use Rattle.desk_contents.specs.Histories.{ShowsHistory}
+use Rattle.desk_sql.specs.States.{Spares}
+use Rattle.desk_streams.specs.declared.heads.Counted.{Counted}
+use Rattle.desk_streams.specs.declared.heads.Counted.TheVariants as counted
+
+-- the bytes of each history that the connection showed are written
+abbrev pub WritesOf : State → Option (List ℕ) → Option (List ℕ) → (List ℕ → History → List ℕ) → Type 0
+WritesOf old before after bytes = (owner : List ℕ) (cs : History) → ShowsHistory old owner cs → Appends before after (bytes owner cs)
+
+-- a beginning of them is
+abbrev pub BeginsOf : State → Option (List ℕ) → Option (List ℕ) → (List ℕ → History → List ℕ) → Type 0
+BeginsOf old before after bytes = (owner : List ℕ) (cs : History) → ShowsHistory old owner cs → AppendsBeginning before after (bytes owner cs)
+
+-- the connection shows each history that it showed
+abbrev pub StaysOf : State → State → Type 0
+StaysOf old new = (owner : List ℕ) (cs : History) → ShowsHistory old owner cs → ShowsHistory new owner cs
+
+-- where it showed one, a stop leaves what it left before
+abbrev pub SparesOf : {S : Type 0} → Ghosts S → Held S → Held S → Type 0
+SparesOf g old new = (owner : List ℕ) (cs : History) → ShowsHistory (state g old) owner cs → Spares g old new
+
+-- A step of an export: on a clean disk it wrote these bytes, or where it failed a beginning of them; and what it leaves
+pub record Exports {S X E : Type 0} (g : Ghosts S) (old new : Held S) (before after : Option (List ℕ)) (result : Result X E) (bytes : List ℕ → History → List ℕ) : Type 0 where
+  pub wrote : HasCleanDisk (state g new) → MatchResult result (λ _. WritesOf (state g old) before after bytes) (λ _. BeginsOf (state g old) before after bytes)
+  pub same : StaysOf (state g old) (state g new)
+  pub spares : SparesOf g old new
+
+-- how many rows the list has
+abbrev pub size_of : Counted → Tables → ℕ
+size_of counted.RevokedDigests t = length t.revoked_digests
+size_of counted.RevokedCertificates t = length t.revoked_certificates
+size_of counted.ListedDigests t = length (filter (λ e. is_same_kind kinds.Digest e.kind) t.listed)
+
+-- the number is that of the rows of each history that the connection showed
+abbrev pub IsSizeOf : State → Counted → ℕ → Type 0
+IsSizeOf old list n = (owner : List ℕ) (cs : History) → ShowsHistory old owner cs → n ≡ size_of list (tables owner cs)
+
+-- the owner and the stamp are those of each such history
+abbrev pub AreOwn : State → List ℕ → ℕ → Type 0
+AreOwn old owner stamp =
+    (o : List ℕ) (cs : History) → ShowsHistory old o cs → (owner ≡ (tables o cs).desk.owner) × (stamp ≡ (tables o cs).desk.stamp)
