@@ -1,5 +1,5 @@
 -- What is given to a person who asks for a request.
-use Rattle.std.proofs.Common.{◌≡◌, ℕ, ◌==◌, Bool, true, false, List, [], ◌∷◌, map, filter, find, Option, Some, None, option_map, Result, Ok, Err, refl, sym, ap, subst, ◌∙◌}
+use Rattle.std.proofs.Common.{◌≡◌, ℕ, ◌==◌, Bool, true, false, List, [], ◌∷◌, map, filter, Option, Some, None, option_map, Result, Ok, Err, refl, sym, ap, subst, ◌∙◌}
 use Rattle.std.specs.Prelude.{bytes_eq, if◌then◌else◌, ok_or}
 use Rattle.std.specs.Result.{result_map_both}
 use Rattle.sqlite_trees.proofs.ListLemmas.{filter-map}
@@ -10,7 +10,7 @@ use Rattle.desk_texts.specs.declared.command.Person.{Person}
 use Rattle.desk_texts.specs.declared.shown.ShownRequest.{ShownRequest}
 use Rattle.desk_history.specs.Calls.{History}
 use Rattle.desk_history.specs.Formed.{IsHistory}
-use Rattle.desk_history.specs.People.{has_name, people, person}
+use Rattle.desk_history.specs.People.{has_name, people}
 use Rattle.desk_history.specs.Requests.{Request, has_number, requests}
 use Rattle.desk_history.specs.Shown.{GivesRequest, IsGiven, IsShown, Whole, found_among, is_numbered, is_shown_to, request_for, sees, whole, wholes}
 use Rattle.desk_history.specs.Tables.{tables}

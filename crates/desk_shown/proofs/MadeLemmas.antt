@@ -13,7 +13,7 @@ use Rattle.desk_history.specs.Tables.{placed_from, request_row, return_row, tabl
 use Rattle.desk_history.specs.declared.rows.RequestRow.{RequestRow}
 use Rattle.desk_history.specs.declared.rows.ReturnRow.{ReturnRow}
 use Rattle.desk_reads.specs.Reads.{listed}
-use Rattle.desk_shown.specs.Steps.{ArePartsOf, IsMadeOf, IsShownIn, shown_row}
+use Rattle.desk_shown.specs.Steps.{IsShownIn, shown_row}
 use Rattle.desk_shown.proofs.ItemLemmas.{found_listed, unmapped}
 use Rattle.desk_shown.proofs.PartLemmas.{carried_are, certificates_of_one, components_are, components_of_one, one_within, requests_within}
 

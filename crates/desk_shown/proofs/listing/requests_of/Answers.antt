@@ -1,4 +1,4 @@
-use Rattle.std.proofs.Common.{◌≡◌, Some, None, Ok, Err, List, filter, rules, arith, subst, sym}
+use Rattle.std.proofs.Common.{◌≡◌, Some, None, Ok, Err, filter, rules, arith, subst}
 use Rattle.std.specs.List.{AllZip}
 use Rattle.sqlite.specs.Held.{state}
 use Rattle.sqlite.specs.State.{HasCleanDisk}

@@ -1,4 +1,3 @@
-use Rattle.sqlite.specs.Held.{state}
 use Rattle.desk_shown.proofs.ListingLemmas.{all_rows, own_rows}
 use Rattle.desk_shown.proofs.listing.rows_for.Goals as goal
 

@@ -1,14 +1,13 @@
-use Rattle.std.proofs.Common.{◌≡◌, [], ◌∷◌, ◌++◌, ◌∙◌, IsTrue, ap, sym, subst, length, append_assoc, append-nil, arith, rules, refl}
+use Rattle.std.proofs.Common.{◌≡◌, [], ◌∷◌, ◌++◌, ◌∙◌, ap, sym, subst, length, append_assoc, append-nil, arith}
 use Rattle.std.specs.List.{AllZip}
 use Rattle.std.specs.Vec.Iter.{into_iter_items}
 use Rattle.sqlite.specs.Held.{state}
 use Rattle.sqlite.specs.State.{HasCleanDisk}
 use Rattle.sqlite.proofs.StateLemmas.{survives_then}
-use Rattle.desk_history.specs.Tables.{Tables}
 use Rattle.desk_reads.specs.Reads.{Tells}
 use Rattle.desk_shown.specs.Steps.{IsShownIn}
 use Rattle.desk_shown.proofs.LoopLemmas.{nothing_left, zip_more}
-use Rattle.desk_shown.proofs.TellsLemmas.{tells_none, tells_so, tells_then}
+use Rattle.desk_shown.proofs.TellsLemmas.{tells_so, tells_then}
 use Rattle.desk_shown.proofs.listing.shown_all.Goals as goal
 
 pub loop-row-preserved : goal.loop-row-preserved

@@ -1,4 +1,4 @@
-use Rattle.std.proofs.Common.{◌≡◌, ◌==◌, Some, None, Ok, Err, List, filter, rules, arith, subst, sym}
+use Rattle.std.proofs.Common.{◌≡◌, ◌==◌, Some, None, Ok, Err, filter, rules, arith, subst}
 use Rattle.sqlite.specs.Held.{state}
 use Rattle.sqlite.specs.State.{HasCleanDisk}
 use Rattle.desk_bytes.specs.declared.refusal.Refusal.TheVariants as refusals

@@ -1,4 +1,3 @@
-use Rattle.sqlite.specs.Held.{state}
 use Rattle.desk_shown.proofs.showing.shown_of.Goals as goal
 
 pub returns-clause-value : goal.returns-clause-value
