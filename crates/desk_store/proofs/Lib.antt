@@ -4,3 +4,4 @@ mod OpeningLemmas
 mod ActingLemmas
 mod CommitLemmas
 mod DeskLemmas
+mod ClosingLemmas

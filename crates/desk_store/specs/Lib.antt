@@ -4,3 +4,4 @@ pub mod Rows
 pub mod Steps
 pub mod Acts
 pub mod Reads
+pub mod Closed

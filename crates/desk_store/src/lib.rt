@@ -2,6 +2,7 @@
 #![tactic(auto)]
 
 mod acting;
+mod closing;
 mod desk;
 mod forms;
 mod founding;
