@@ -1,21 +1,23 @@
 //! Desks made, given back and opened again, and stores that hold none.
 use desk_bytes::{Digest, Guid, Refusal};
-use desk_rules::verdict;
+use desk_rules::{decide, verdict};
 use desk_store::Desk;
 use desk_texts::{
-    Ballot, Caller, Carried, Certificate, Command, Components, Digests, Extent, Facts, Import,
-    ImportedComponents, Key, ListedKind, Listing, Note, Person, PersonName, Raise, Reply,
+    Ballot, Call, Caller, Carried, Certificate, Command, Components, Digests, Extent, Facts,
+    Import, ImportedComponents, Key, ListedKind, Listing, Note, Person, PersonName, Raise, Reply,
     RequestNumber, ReturnedFile, Role, Submission, Title, Vote, reply_text,
 };
 use sbat::{Component, ComponentName, Generation, Stamp};
-use sqlite::{Connection, MemStore, params};
+use sqlite::{Alter, Connection, MemStore, params};
 use std::alloc::Global;
 use std::process::Abort;
 use std::str::SplitWhitespace;
 use std::test::Fail;
 
+mod closing;
 mod commands;
 mod days;
+mod sizes;
 
 type Memory = Connection<MemStore>;
 
@@ -24,9 +26,8 @@ fn digest(byte: u8) -> Digest {
     Digest::from([byte; 32])
 }
 
-/// A desk without calls.
-fn new_desk(alloc: Global) -> Result<Desk<MemStore>, Fail> {
-    let conn = Connection::open_in_memory(alloc)?;
+/// A desk without calls in the connection's store.
+fn desk_in<S: Alter + Drop>(alloc: Global, conn: Connection<S>) -> Result<Desk<S>, Fail> {
     if !conn.is_autocommit() {
         return Err("a new connection")?;
     }
@@ -36,8 +37,14 @@ fn new_desk(alloc: Global) -> Result<Desk<MemStore>, Fail> {
     }
 }
 
+/// A desk without calls.
+fn new_desk(alloc: Global) -> Result<Desk<MemStore>, Fail> {
+    let conn = Connection::open_in_memory(alloc)?;
+    desk_in(alloc, conn)
+}
+
 /// The desk that the connection's store holds.
-fn desk_of(alloc: Global, conn: Memory) -> Result<Desk<MemStore>, Fail> {
+fn desk_of<S: Alter + Drop>(alloc: Global, conn: Connection<S>) -> Result<Desk<S>, Fail> {
     if !conn.is_autocommit() {
         return Err("a desk's connection")?;
     }
