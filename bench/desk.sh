@@ -1,14 +1,15 @@
 #!/bin/sh
 # bench/desk.sh [SIZE ..]: what a desk in a file costs, in one run, against sqlite3's shell on the same files. Not part of
 # the gate. For desks of 1,000, 10,000 and 100,000 accepted calls, or those given:
-#   views    each command's view and a verdict's: processor and clock microseconds a call, and the ratio to the first size
+#   views    each command's view and a verdict's: microseconds a call, and the ratio to the first size
 #   apply    one RevokeDigest, committed; and 2,000 of them on a new desk beside the shell, which commits the same rows
 #            one call at a time under WAL and synchronous=FULL
 #   open     beside the shell's PRAGMA integrity_check of the same file
 #   memory   the most that the process had
 # and at the end the shell holds each file sound, with the rows that were applied.
 # The program is built in a room of its own ($DESK_BENCH_ROOM, kept between runs) out of copies of the crates, with what was
-# built of them. The desks stand in $DESK_BENCH_DISK, a folder on the disk that is to be measured (TMPDIR or /tmp).
+# built of them; the program alone took 21 processor minutes. The desks stand in $DESK_BENCH_DISK, a folder on the disk that
+# is to be measured (TMPDIR or /tmp). A folder $DESK_BENCH_KEPT keeps the filled desks for the next run.
 set -eu
 root=$(CDPATH='' cd -- "$(dirname -- "$(readlink -f -- "$0")")/.." && pwd -P)
 room=${DESK_BENCH_ROOM:-${TMPDIR:-/tmp}/desk_bench}

@@ -7,9 +7,11 @@ import sys
 import tempfile
 import time
 
+sys.stdout.reconfigure(line_buffering=True)
 PROGRAM, DISK = sys.argv[1:3]
+KEPT = os.environ.get("DESK_BENCH_KEPT", "")
 SIZES = [int(size) for size in sys.argv[3:]] or [1_000, 10_000, 100_000]
-ROUNDS = 5
+ROUNDS = 9
 MANY = 2_000
 
 
@@ -50,6 +52,11 @@ def middle(pairs):
     return tuple(statistics.median(column) for column in zip(*pairs))
 
 
+def least(pairs):
+    """The least of processor and clock, which other work on the machine disturbs least."""
+    return tuple(min(column) for column in zip(*pairs))
+
+
 def desk(*words):
     return Run([PROGRAM, *map(str, words)])
 
@@ -69,55 +76,64 @@ def copy(path, name):
 
 
 def fill():
-    """A desk of each size, out of the one before it."""
+    """A desk of each size, out of the one before it, or the one that an earlier run kept."""
     paths, before = {}, 0
     path = os.path.join(ROOM, "growing.db")
     for size in SIZES:
+        kept = os.path.join(KEPT, f"desk{size}.db")
+        if KEPT and os.path.exists(kept):
+            before, paths[size] = size, copy(kept, f"desk{size}.db")
+            copy(kept, "growing.db")
+            continue
         start = time.perf_counter()
         _, memory = told(desk("fill", path, before, size).text)
         took = time.perf_counter() - start
         before, paths[size] = size, copy(path, f"desk{size}.db")
+        if KEPT:
+            shutil.copyfile(path, kept)
         length = os.path.getsize(paths[size])
         print(f"desk of {size:,} calls: {length:,} bytes; filled by apply to it in {took:.1f} s, VmHWM {memory:,} kB")
     return paths
 
 
-def table(title, columns, rows):
-    """Processor microseconds, the ratio to the first column, and clock microseconds in brackets."""
-    print(f"\n{title}")
-    for name in rows:
-        first = columns[0][1][name][0]
-        cells = [f"{times[name][0]:11.1f} {times[name][0] / first:6.2f} [{times[name][1]:.1f}]" for _, times in columns]
-        print(f"{name:22}" + "".join(f"{cell:>34}" for cell in cells))
+def table(title, times):
+    """For each size the least and the median processor microseconds, each with its ratio to the first size, and the
+    least by the clock in brackets; `times` has the pairs of each kind, by size."""
+    print(f"\n{title}: processor us a call, least (ratio) and median (ratio), [least by the clock]; at {SIZES}")
+    for name in times[SIZES[0]]:
+        cells, first = [], (least(times[SIZES[0]][name])[0], middle(times[SIZES[0]][name])[0])
+        for size in SIZES:
+            low, clock = least(times[size][name])
+            half, _ = middle(times[size][name])
+            cells.append(f"{low:10.1f} ({low / first[0]:5.2f}) {half:10.1f} ({half / first[1]:5.2f}) [{clock:.1f}]")
+        print(f"{name:20}" + "".join(f"{cell:>52}" for cell in cells))
+
+
+def gathered(rounds, run):
+    """What `run` printed for each size, in rounds that take the sizes in turn."""
+    times, memory = {size: {} for size in SIZES}, {}
+    for _ in range(rounds):
+        for size in SIZES:
+            found, memory[size] = told(run(size).text)
+            for what, pairs in found.items():
+                times[size].setdefault(what, []).extend(pairs)
+    return times, memory
 
 
 def views(paths):
-    """Each view by keys out of all calls, and by keys out of the first 1,000 calls alone."""
-    memory = {}
-    for title, blocks in (("keys out of all calls", None), ("keys out of the first 1,000 calls", 10)):
-        columns = []
-        for size in SIZES:
-            run = desk("view", copy(paths[size], "view.db"), blocks or max(1, size // 100))
-            times, memory[size] = told(run.text)
-            columns.append((size, {what: middle(pairs) for what, pairs in times.items()}))
-        table(
-            f"views, {title}: processor us a call, its ratio to {SIZES[0]:,} calls, [clock us]; at {SIZES}",
-            columns,
-            list(columns[0][1]),
+    """Each view by keys out of all calls, and by keys out of one hundred calls, again and again."""
+    for title, blocks in (("views, keys out of all calls", None), ("views, keys out of one hundred calls", 1)):
+        times, memory = gathered(
+            6, lambda size: desk("view", copy(paths[size], "view.db"), blocks or max(1, size // 100))
         )
+        table(title, times)
     return memory
 
 
 def applies(paths):
     """Single RevokeDigest at each size, in batches of 50."""
-    columns, memory = [], {}
-    for size in SIZES:
-        pairs = []
-        for _ in range(3):
-            times, memory[size] = told(desk("apply", copy(paths[size], "apply.db"), 1_000, 50).text)
-            pairs += times["apply"]
-        columns.append((size, {"apply": middle(pairs)}))
-    table(f"apply of RevokeDigest: processor us a call, ratio, [clock us]; at {SIZES}", columns, ["apply"])
+    times, memory = gathered(6, lambda size: desk("apply", copy(paths[size], "apply.db"), 1_000, 50))
+    table("apply of RevokeDigest, one commit each", times)
     return memory
 
 
@@ -156,12 +172,14 @@ def peers(paths):
         whole = shell(copy(start, "shell.db"), script)
         sums["shell"].append((whole.processor - empty.processor, whole.clock - empty.clock))
     ours, theirs = middle(sums["ours"]), middle(sums["shell"])
-    print(f"\n{MANY:,} RevokeDigest on a new desk, one commit each; seconds of {ROUNDS} rounds, median (least to most)")
+    print(f"\n{MANY:,} RevokeDigest on a new desk, one commit each; seconds of {ROUNDS} rounds, median (from to)")
     for name, pairs in sums.items():
         for place, kind in enumerate(("processor", "clock")):
             values = [pair[place] for pair in pairs]
             print(f"{name:6} {kind:9} {statistics.median(values):8.3f} ({min(values):.3f} to {max(values):.3f})")
-    print(f"ratio: processor {ours[0] / theirs[0]:.2f}, clock {ours[1] / theirs[1]:.2f}")
+    print(f"ratio of medians: processor {ours[0] / theirs[0]:.2f}, clock {ours[1] / theirs[1]:.2f}")
+    ours, theirs = least(sums["ours"]), least(sums["shell"])
+    print(f"ratio of the least: processor {ours[0] / theirs[0]:.2f}, clock {ours[1] / theirs[1]:.2f}")
     same = dump(os.path.join(ROOM, "ours.db")) == dump(os.path.join(ROOM, "shell.db"))
     print(f"the two files hold {'the same rows' if same else 'DIFFERENT rows'}")
     sync_cost()
