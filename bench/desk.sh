@@ -1,0 +1,34 @@
+#!/bin/sh
+# bench/desk.sh [SIZE ..]: what a desk in a file costs, in one run, against sqlite3's shell on the same files. Not part of
+# the gate. For desks of 1,000, 10,000 and 100,000 accepted calls, or those given:
+#   views    each command's view and a verdict's: microseconds a call, and the ratio to the first size
+#   apply    one RevokeDigest, committed; and 2,000 of them on a new desk beside the shell, which commits the same rows
+#            one call at a time under WAL and synchronous=FULL
+#   open     beside the shell's PRAGMA integrity_check of the same file
+#   memory   the most that the process had
+# and at the end the shell holds each file sound, with the rows that were applied.
+# The program is built in a room of its own ($DESK_BENCH_ROOM, kept between runs) out of copies of the crates, with what was
+# built of them; the program alone took 21 processor minutes. The desks stand in $DESK_BENCH_DISK, a folder on the disk that
+# is to be measured (TMPDIR or /tmp). A folder $DESK_BENCH_KEPT keeps the filled desks for the next run.
+set -eu
+root=$(CDPATH='' cd -- "$(dirname -- "$(readlink -f -- "$0")")/.." && pwd -P)
+room=${DESK_BENCH_ROOM:-${TMPDIR:-/tmp}/desk_bench}
+disk=${DESK_BENCH_DISK:-${TMPDIR:-/tmp}}
+command -v sqlite3 > /dev/null || { echo 'bench/desk.sh: sqlite3 is needed' >&2; exit 1; }
+mkdir -p "$room/crates/desk_bench/src"
+: > "$room/crates.txt"
+for crate in desk_store $(sed -n 's/^desk_store://p' "$root/crates.txt"); do
+    [ -d "$root/crates/$crate" ] || continue
+    mkdir -p "$room/crates/$crate"
+    (cd "$root/crates/$crate" && tar -cf - --exclude=out --exclude=must-fail .) | (cd "$room/crates/$crate" && tar -xf -)
+    if [ -d "$root/crates/$crate/out" ] && [ ! -d "$room/crates/$crate/out" ]; then
+        cp -a "$root/crates/$crate/out" "$room/crates/$crate/"
+    fi
+    grep "^$crate:" "$root/crates.txt" >> "$room/crates.txt"
+done
+cp "$root/bench/desk/main.rt.txt" "$room/crates/desk_bench/src/main.rt"
+echo 'desk_bench: desk_store desk_rules desk_texts sbat desk_bytes sqlite' >> "$room/crates.txt"
+(cd "$room/crates/desk_bench" && rt run > "$room/build.log" 2>&1) || true
+program="$room/crates/desk_bench/out/desk_bench"
+test -x "$program" || { tail -20 "$room/build.log" >&2; exit 1; }
+exec python3 "$root/bench/desk/measure.py" "$program" "$disk" "$@"
