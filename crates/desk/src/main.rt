@@ -2,7 +2,7 @@
 #![tactic(auto)]
 
 mod fault;
-mod file;
+mod person;
 mod run;
 
 use desk_bytes::Refusal;

@@ -1,14 +1,18 @@
 //! From what the words say to the work.
 use crate::fault::Stop;
-use crate::file::{read_file, read_image};
+use crate::person::person_from;
 use desk_bytes::{Guid, Refusal, WriteFailed};
+use desk_files::{Ending, Outcome, add_person, judge_image, make_desk, read_file, read_image};
 use desk_lines::{Fault, print_facts, print_fault, print_list, print_ranges};
 use desk_service::facts;
-use desk_words::Words;
+use desk_words::{PersonWords, Words};
 use siglist::pack;
 use std::alloc::Global;
 use std::io::{BufWriter, Read, Write};
 use std::process::ExitCode;
+
+/// The status of an image that a desk doesn't allow.
+const REFUSED: u8 = 1;
 
 /// The status of words that aren't understood.
 pub const MISUSED: u8 = 2;
@@ -72,6 +76,35 @@ fn run_list(rt: &HostRuntime, file: &str) -> Result<(), Stop> {
     Ok(())
 }
 
+/// Makes a desk.
+fn run_init(rt: &HostRuntime, db: &str, owner: &str) -> Result<Ending, Stop> {
+    let Ok(owner) = Guid::parse(owner) else {
+        return Err(Stop::Word("OWNER"));
+    };
+    Ok(make_desk(rt, db, &owner))
+}
+
+/// Adds a person, whose token is the first line of the standard input.
+fn run_person(rt: &HostRuntime, words: PersonWords<'_>) -> Result<Ending, Stop> {
+    let (key, person) = match person_from(rt.alloc(), words, &mut rt.stdin()) {
+        Ok(read) => read,
+        Err(why) => return Err(why),
+    };
+    let mut out = buffered(rt.alloc(), rt.stdout())?;
+    Ok(add_person(rt, words.db, &key, person, &mut out))
+}
+
+/// Prints a verdict.
+fn run_verdict(rt: &HostRuntime, db: &str, file: &str) -> Result<Ending, Stop> {
+    let mut out = buffered(rt.alloc(), rt.stdout())?;
+    Ok(judge_image(rt, db, file, &mut out))
+}
+
+/// Says a fault on standard error, and gives its status.
+fn tell(rt: &HostRuntime, fault: Fault) -> ExitCode {
+    ExitCode::from(print_fault(fault.refusal, fault.place, &mut rt.stderr()))
+}
+
 /// Says on standard error what stopped the program, and gives the status of that.
 pub fn stop(rt: &HostRuntime, why: Stop) -> ExitCode {
     match why {
@@ -79,22 +112,49 @@ pub fn stop(rt: &HostRuntime, why: Stop) -> ExitCode {
             let _ = eprintln!(rt; "bad {name}");
             ExitCode::from(MISUSED)
         }
-        Stop::Fault(fault) => {
-            ExitCode::from(print_fault(fault.refusal, fault.place, &mut rt.stderr()))
-        }
+        Stop::Fault(fault) => tell(rt, fault),
+    }
+}
+
+/// The status of a subcommand without a desk.
+fn status_of(rt: &HostRuntime, done: Result<(), Stop>) -> ExitCode {
+    match done {
+        Ok(()) => ExitCode::SUCCESS,
+        Err(why) => stop(rt, why),
+    }
+}
+
+/// The status of work on a desk.
+fn status_of_work(rt: &HostRuntime, work: Result<Outcome, Fault>) -> ExitCode {
+    match work {
+        Ok(Outcome::Done) => ExitCode::SUCCESS,
+        Ok(Outcome::Refused) => ExitCode::from(REFUSED),
+        Err(fault) => tell(rt, fault),
+    }
+}
+
+/// The status of a subcommand over a desk's file: a desk that couldn't be closed is told last.
+fn status_of_ending(rt: &HostRuntime, ended: Result<Ending, Stop>) -> ExitCode {
+    let ending = match ended {
+        Ok(ending) => ending,
+        Err(why) => return stop(rt, why),
+    };
+    let status = status_of_work(rt, ending.work);
+    match ending.closing {
+        None => status,
+        Some(fault) => tell(rt, fault),
     }
 }
 
 /// Does what the words say, and gives the status.
 pub fn run(rt: &HostRuntime, line: Words<'_>) -> ExitCode {
-    let done = match line {
-        Words::Pack { owner } => run_pack(rt, owner),
-        Words::Ranges { file } => run_ranges(rt, file),
-        Words::Facts { file } => run_facts(rt, file),
-        Words::List { file } => run_list(rt, file),
-    };
-    match done {
-        Ok(()) => ExitCode::SUCCESS,
-        Err(why) => stop(rt, why),
+    match line {
+        Words::Init { db, owner } => status_of_ending(rt, run_init(rt, db, owner)),
+        Words::Person(words) => status_of_ending(rt, run_person(rt, words)),
+        Words::Facts { file } => status_of(rt, run_facts(rt, file)),
+        Words::Ranges { file } => status_of(rt, run_ranges(rt, file)),
+        Words::Verdict { db, file } => status_of_ending(rt, run_verdict(rt, db, file)),
+        Words::List { file } => status_of(rt, run_list(rt, file)),
+        Words::Pack { owner } => status_of(rt, run_pack(rt, owner)),
     }
 }

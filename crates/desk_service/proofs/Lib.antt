@@ -1,1 +1,2 @@
+pub mod FirstLineLemmas
 pub mod PlacesLemmas

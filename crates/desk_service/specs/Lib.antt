@@ -1,3 +1,4 @@
 pub mod Faults
 pub mod ImageFacts
 pub mod Parts
+pub mod Tokens

@@ -4,6 +4,8 @@
 mod collecting;
 mod fault;
 mod part;
+mod token;
 
 pub use collecting::facts;
 pub use fault::FactsFault;
+pub use token::{is_token, read_token, token_digest};

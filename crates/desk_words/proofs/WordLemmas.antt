@@ -15,7 +15,7 @@ use Rattle.clap.specs.declared.parser.matches.ArgMatches.{ArgMatches}
 use Rattle.clap.proofs.OnLiterals.{clap_on_literals}
 use Rattle.clap.proofs.WalkLemmas.{walk_stopped}
 use Rattle.desk_words.specs.Commands.{desk_app, id_of, subcommand_shape, word_rule}
-use Rattle.desk_words.specs.Lines.{Answers, IsPlainWord, Line, Spells, Takes, facts, line_found, line_in, line_of, list, pack, ranges, subcommand_name, words_after}
+use Rattle.desk_words.specs.Lines.{Answers, IsPlainWord, Line, Spells, Takes, facts, init, line_found, line_in, line_of, list, pack, person, ranges, subcommand_name, verdict, words_after}
 use Rattle.desk_words.specs.declared.line.Words.{Words}
 use Rattle.desk_words.specs.declared.line.WordsFault.{WordsFault}
 use Rattle.desk_words.specs.declared.line.WordsFault.TheVariants.{Missing}
@@ -96,6 +96,62 @@ takes_one name first plain = record {
   rows = rw (walked_plain (leaf name 1).rules (positional 0) nothing_held 1 first (plain 0 [] (omega arith)) refl) refl;
 }
 
+-- what is held of the word at a place of a subcommand of so many words, with what was held before it
+abbrev held_with : ℕ → ℕ → Held → Text → Held
+held_with count place h word =
+    (to_positional (leaf [] count).rules (Some (positional place)) word (at_position (place + 1) h) h).held
+
+abbrev held_two : ℕ → Text → Text → Held
+held_two count first second = held_with count 1 (held_with count 0 nothing_held first) second
+
+abbrev held_three : ℕ → Text → Text → Text → Held
+held_three count first second third = held_with count 2 (held_two count first second) third
+
+takes_two : (name first second : Text) → All IsPlainWord (first ∷ second ∷ []) → TakesWords name (first ∷ second ∷ [])
+unfolding walk_passes
+takes_two name first second plain =
+    let p0 : IsPlainWord first = plain 0 [] (omega arith) in
+    let p1 : IsPlainWord second = plain 1 [] (omega arith) in
+    record {
+      passes = rw (
+        turn_plain (leaf name 2) (positional 0) nothing_held 1 first p0 refl,
+        walked_plain (leaf name 2).rules (positional 0) nothing_held 1 first p0 refl,
+        turn_plain (leaf name 2) (positional 1) (held_with 2 0 nothing_held first) 2 second p1 refl,
+        walked_plain (leaf name 2).rules (positional 1) (held_with 2 0 nothing_held first) 2 second p1 refl,
+      ) refl;
+      rows = rw (
+        walked_plain (leaf name 2).rules (positional 0) nothing_held 1 first p0 refl,
+        walked_plain (leaf name 2).rules (positional 1) (held_with 2 0 nothing_held first) 2 second p1 refl,
+      ) refl;
+    }
+
+takes_four : (name first second third fourth : Text) → All IsPlainWord (first ∷ second ∷ third ∷ fourth ∷ [])
+    → TakesWords name (first ∷ second ∷ third ∷ fourth ∷ [])
+unfolding walk_passes
+takes_four name first second third fourth plain =
+    let p0 : IsPlainWord first = plain 0 [] (omega arith) in
+    let p1 : IsPlainWord second = plain 1 [] (omega arith) in
+    let p2 : IsPlainWord third = plain 2 [] (omega arith) in
+    let p3 : IsPlainWord fourth = plain 3 [] (omega arith) in
+    record {
+      passes = rw (
+        turn_plain (leaf name 4) (positional 0) nothing_held 1 first p0 refl,
+        walked_plain (leaf name 4).rules (positional 0) nothing_held 1 first p0 refl,
+        turn_plain (leaf name 4) (positional 1) (held_with 4 0 nothing_held first) 2 second p1 refl,
+        walked_plain (leaf name 4).rules (positional 1) (held_with 4 0 nothing_held first) 2 second p1 refl,
+        turn_plain (leaf name 4) (positional 2) (held_two 4 first second) 3 third p2 refl,
+        walked_plain (leaf name 4).rules (positional 2) (held_two 4 first second) 3 third p2 refl,
+        turn_plain (leaf name 4) (positional 3) (held_three 4 first second third) 4 fourth p3 refl,
+        walked_plain (leaf name 4).rules (positional 3) (held_three 4 first second third) 4 fourth p3 refl,
+      ) refl;
+      rows = rw (
+        walked_plain (leaf name 4).rules (positional 0) nothing_held 1 first p0 refl,
+        walked_plain (leaf name 4).rules (positional 1) (held_with 4 0 nothing_held first) 2 second p1 refl,
+        walked_plain (leaf name 4).rules (positional 2) (held_two 4 first second) 3 third p2 refl,
+        walked_plain (leaf name 4).rules (positional 3) (held_three 4 first second third) 4 fourth p3 refl,
+      ) refl;
+    }
+
 -- ---- the subcommand's name, whatever follows it
 
 -- the name is met as that of this subcommand
@@ -158,22 +214,31 @@ rows_after_name name subcommand words begins =
 
 begins : (line : Line) → Begins (subcommand_name line) (leaf (subcommand_name line) (length (words_after line)))
 unfolding clap_on_literals
-begins (pack owner) = record { walks = refl; passes = refl; found = refl }
-begins (ranges file) = record { walks = refl; passes = refl; found = refl }
+begins (init path owner) = record { walks = refl; passes = refl; found = refl }
+begins (person path name role key) = record { walks = refl; passes = refl; found = refl }
 begins (facts file) = record { walks = refl; passes = refl; found = refl }
+begins (ranges file) = record { walks = refl; passes = refl; found = refl }
+begins (verdict path file) = record { walks = refl; passes = refl; found = refl }
 begins (list file) = record { walks = refl; passes = refl; found = refl }
+begins (pack owner) = record { walks = refl; passes = refl; found = refl }
 
 takes_words : (line : Line) → All IsPlainWord (words_after line) → TakesWords (subcommand_name line) (words_after line)
-takes_words (pack owner) plain = takes_one (codes "pack") owner plain
-takes_words (ranges file) plain = takes_one (codes "ranges") file plain
+takes_words (init path owner) plain = takes_two (codes "init") path owner plain
+takes_words (person path name role key) plain = takes_four (codes "person") path name role key plain
 takes_words (facts file) plain = takes_one (codes "facts") file plain
+takes_words (ranges file) plain = takes_one (codes "ranges") file plain
+takes_words (verdict path file) plain = takes_two (codes "verdict") path file plain
 takes_words (list file) plain = takes_one (codes "list") file plain
+takes_words (pack owner) plain = takes_one (codes "pack") owner plain
 
 reads_back : (line : Line) → line_in (subcommand_name line, rows_from 0 (words_after line)) ≡ Some line
-reads_back (pack owner) = refl
-reads_back (ranges file) = refl
+reads_back (init path owner) = refl
+reads_back (person path name role key) = refl
 reads_back (facts file) = refl
+reads_back (ranges file) = refl
+reads_back (verdict path file) = refl
 reads_back (list file) = refl
+reads_back (pack owner) = refl
 
 -- ---- what `words` cites
 

@@ -29,14 +29,28 @@ bare_app = on_top (λ s. record s {
   subcommand_required = true;
 }) (new_app (codes "desk"))
 
--- with the subcommands that read one file
-abbrev pub with_readers : App → App
-with_readers app =
-    with_subcommand (with_subcommand (with_subcommand app
-    (subcommand_shape (codes "ranges") 1))
-    (subcommand_shape (codes "facts") 1))
-    (subcommand_shape (codes "list") 1)
+-- with the subcommands that set a desk up
+abbrev pub with_founding : App → App
+with_founding app =
+    with_subcommand (with_subcommand app
+    (subcommand_shape (codes "init") 2))
+    (subcommand_shape (codes "person") 4)
 
--- the program's command
+-- with the subcommands that look at an image
+abbrev pub with_images : App → App
+with_images app =
+    with_subcommand (with_subcommand (with_subcommand app
+    (subcommand_shape (codes "facts") 1))
+    (subcommand_shape (codes "ranges") 1))
+    (subcommand_shape (codes "verdict") 2)
+
+-- with the subcommands for signature lists
+abbrev pub with_lists : App → App
+with_lists app =
+    with_subcommand (with_subcommand app
+    (subcommand_shape (codes "list") 1))
+    (subcommand_shape (codes "pack") 1)
+
+-- own: the program's command, its subcommands in the order of a day's work
 abbrev pub desk_app : App
-desk_app = with_readers (with_subcommand bare_app (subcommand_shape (codes "pack") 1))
+desk_app = with_lists (with_images (with_founding bare_app))

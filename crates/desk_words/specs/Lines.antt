@@ -12,43 +12,72 @@ use Rattle.desk_words.specs.declared.line.WordsFault.TheVariants.{Missing, NoMem
 
 -- a subcommand with its words, as texts
 pub data Line : Type 0 where
-  pack : Text → Line
-  ranges : Text → Line
+  init : Text → Text → Line
+  person : Text → Text → Text → Text → Line
   facts : Text → Line
+  ranges : Text → Line
+  verdict : Text → Text → Line
   list : Text → Line
+  pack : Text → Line
 
 -- own: the name of its subcommand
 abbrev pub subcommand_name : Line → Text
-subcommand_name (pack owner) = codes "pack"
-subcommand_name (ranges file) = codes "ranges"
+subcommand_name (init path owner) = codes "init"
+subcommand_name (person path name role key) = codes "person"
 subcommand_name (facts file) = codes "facts"
+subcommand_name (ranges file) = codes "ranges"
+subcommand_name (verdict path file) = codes "verdict"
 subcommand_name (list file) = codes "list"
+subcommand_name (pack owner) = codes "pack"
 
 -- own: the words after it
 abbrev pub words_after : Line → List Text
-words_after (pack owner) = owner ∷ []
-words_after (ranges file) = file ∷ []
+words_after (init path owner) = path ∷ owner ∷ []
+words_after (person path name role key) = path ∷ name ∷ role ∷ key ∷ []
 words_after (facts file) = file ∷ []
+words_after (ranges file) = file ∷ []
+words_after (verdict path file) = path ∷ file ∷ []
 words_after (list file) = file ∷ []
+words_after (pack owner) = owner ∷ []
 
 -- what the program takes the line for
 abbrev pub line_of : Words → Line
-line_of (said.Pack owner) = pack owner.now
-line_of (said.Ranges file) = ranges file.now
+line_of (said.Init path owner) = init path.now owner.now
+line_of (said.Person words) = person words.db.now words.name.now words.role.now words.key.now
 line_of (said.Facts file) = facts file.now
+line_of (said.Ranges file) = ranges file.now
+line_of (said.Verdict path file) = verdict path.now file.now
 line_of (said.List file) = list file.now
+line_of (said.Pack owner) = pack owner.now
 
 -- what follows from the word at a place, where the rows that `clap` found have it
 abbrev pub with_word : List Row → ℕ → (Text → Option Line) → Option Line
 with_word rows place next = option_and_then next (first_of (id_of place) rows)
 
+-- what a subcommand of one word says by its rows
+abbrev pub one_in : (Text → Line) → List Row → Option Line
+one_in line rows = with_word rows 0 (λ word. Some (line word))
+
+-- what one of two words says
+abbrev pub two_in : (Text → Text → Line) → List Row → Option Line
+two_in line rows = with_word rows 0 (λ word. with_word rows 1 (λ other. Some (line word other)))
+
+-- what `person` says
+abbrev pub person_in : List Row → Option Line
+person_in rows =
+    with_word rows 0 (λ path. with_word rows 1 (λ name. with_word rows 2 (λ role. with_word rows 3 (λ key.
+    Some (person path name role key)))))
+
 -- what a subcommand of that name says by its rows
 abbrev pub line_in : Text × List Row → Option Line
 line_in (name, rows) =
-    if bytes_eq name (codes "pack") then with_word rows 0 (λ owner. Some (pack owner))
-    else if bytes_eq name (codes "ranges") then with_word rows 0 (λ file. Some (ranges file))
-    else if bytes_eq name (codes "facts") then with_word rows 0 (λ file. Some (facts file))
-    else if bytes_eq name (codes "list") then with_word rows 0 (λ file. Some (list file))
+    if bytes_eq name (codes "init") then two_in init rows
+    else if bytes_eq name (codes "person") then person_in rows
+    else if bytes_eq name (codes "facts") then one_in facts rows
+    else if bytes_eq name (codes "ranges") then one_in ranges rows
+    else if bytes_eq name (codes "verdict") then two_in verdict rows
+    else if bytes_eq name (codes "list") then one_in list rows
+    else if bytes_eq name (codes "pack") then one_in pack rows
     else None
 
 -- a word that stands for itself: it isn't empty and doesn't begin with a hyphen (45)

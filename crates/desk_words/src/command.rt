@@ -1,44 +1,13 @@
 //! The command line as `clap` is told of it.
-ghost use Rattle.std.specs.Prelude.{◌≡◌, ◌<◌, ◌≤◌, IfOk, false, length};
+ghost use Rattle.std.specs.Prelude.{◌≡◌, ◌<◌, ◌≤◌, IfOk, codes, false, length};
 ghost use Rattle.clap.specs.Words.{app_of, rule_of, shape_of, with_subcommand};
 ghost use Rattle.clap.specs.declared.builder.command.Command.TheViews.{out-Command};
-ghost use Rattle.desk_words.specs.Commands.{desk_app, id_of, ids, subcommand_shape, with_readers as readers};
-ghost use Rattle.desk_words.specs.Commands.{word_rule};
+ghost use Rattle.desk_words.specs.Commands.{desk_app, id_of, ids, subcommand_shape, word_rule};
+ghost use Rattle.desk_words.specs.Commands as spec;
 
+use crate::help;
 use clap::{Arg, Command};
 use std::alloc::{AllocError, Global};
-
-/// What the help of `pack` ends with.
-const PACK: &str = "\
-Reads lines of 64 hexadecimal digits from standard input, and writes one list to standard output.
-
-Example: desk pack 00112233-4455-6677-8899-aabbccddeeff < digests.txt > dbx.esl
-
-Status: 0 done, 1 a line was refused, 2 the words are wrong, 3 a device failed";
-
-/// What the help of `ranges` ends with.
-const RANGES: &str = "\
-Reads FILE, and writes a line FROM-TO for each range, half-open, and then the gap.
-
-Example: desk ranges shimx64.efi
-
-Status: 0 done, 1 the image was refused, 2 the words are wrong, 3 a device failed";
-
-/// What the help of `facts` ends with.
-const FACTS: &str = "\
-Reads FILE, and writes a line for its length, each digest, the gap, each certificate and each component.
-
-Example: desk facts shimx64.efi
-
-Status: 0 done, 1 the image was refused, 2 the words are wrong, 3 a device failed";
-
-/// What the help of `list` ends with.
-const LIST: &str = "\
-Reads FILE, and writes a line OFFSET KIND COUNT for each signature list in it.
-
-Example: desk list dbx.esl
-
-Status: 0 done, 1 the file was refused, 2 the words are wrong, 3 a device failed";
 
 /// What help shows of a word.
 #[derive(Clone, Copy)]
@@ -107,14 +76,122 @@ fn with_one_more<'a>(
     command.subcommand(added)
 }
 
-/// The command with the subcommands that read one file.
-fn with_readers<'a>(alloc: Global, command: Command<'a>) -> Result<Command<'a>, AllocError>
-    ensures { IfOk result (λ c. app_of c ≡ readers (app_of command.entry)) }
-{
-    let image = Shown {
+/// The path of a desk's file.
+fn db<'a>() -> Shown<'a> {
+    Shown {
+        name: "DB",
+        help: "The path of the desk's file",
+    }
+}
+
+/// The path of an image.
+fn image<'a>() -> Shown<'a> {
+    Shown {
         name: "FILE",
         help: "The path of the image",
+    }
+}
+
+/// The owner's GUID.
+fn owner<'a>() -> Shown<'a> {
+    Shown {
+        name: "OWNER",
+        help: "The owner's GUID, as 8-4-4-4-12 hexadecimal digits",
+    }
+}
+
+/// The command with `init`.
+fn with_init<'a>(alloc: Global, command: Command<'a>) -> Result<Command<'a>, AllocError>
+    ensures { IfOk result (λ c. app_of c
+        ≡ with_subcommand (app_of command.entry) (subcommand_shape (codes "init") 2)) }
+{
+    with_one_more(
+        alloc,
+        command,
+        "init",
+        "Makes a desk without calls in a file",
+        help::INIT,
+        &[db(), owner()],
+    )
+}
+
+/// The command with `person`.
+fn with_person<'a>(alloc: Global, command: Command<'a>) -> Result<Command<'a>, AllocError>
+    ensures { IfOk result (λ c. app_of c
+        ≡ with_subcommand (app_of command.entry) (subcommand_shape (codes "person") 4)) }
+{
+    let name = Shown {
+        name: "NAME",
+        help: "1 to 32 of a to z, 0 to 9 and -, first a letter",
     };
+    let role = Shown {
+        name: "ROLE",
+        help: "submitter, reviewer, officer or signer",
+    };
+    let key = Shown {
+        name: "KEY",
+        help: "1 to 64 visible characters of ASCII, another for each call",
+    };
+    with_one_more(
+        alloc,
+        command,
+        "person",
+        "Adds a person to a desk, with the token on standard input",
+        help::PERSON,
+        &[db(), name, role, key],
+    )
+}
+
+/// The command with the subcommands that set a desk up.
+fn with_founding<'a>(alloc: Global, command: Command<'a>) -> Result<Command<'a>, AllocError>
+    ensures { IfOk result (λ c. app_of c ≡ spec.with_founding (app_of command.entry)) }
+{
+    let command = with_init(alloc, command)?;
+    with_person(alloc, command)
+}
+
+/// The command with `verdict`.
+fn with_verdict<'a>(alloc: Global, command: Command<'a>) -> Result<Command<'a>, AllocError>
+    ensures { IfOk result (λ c. app_of c
+        ≡ with_subcommand (app_of command.entry) (subcommand_shape (codes "verdict") 2)) }
+{
+    with_one_more(
+        alloc,
+        command,
+        "verdict",
+        "Prints whether an EFI image is allowed by a desk, or why it is refused",
+        help::VERDICT,
+        &[db(), image()],
+    )
+}
+
+/// The command with the subcommands that look at an image.
+fn with_images<'a>(alloc: Global, command: Command<'a>) -> Result<Command<'a>, AllocError>
+    ensures { IfOk result (λ c. app_of c ≡ spec.with_images (app_of command.entry)) }
+{
+    let command = with_one_more(
+        alloc,
+        command,
+        "facts",
+        "Prints the digests, certificates and SBAT components of an EFI image",
+        help::FACTS,
+        &[image()],
+    )?;
+    let command = with_one_more(
+        alloc,
+        command,
+        "ranges",
+        "Prints the ranges of an EFI image that its Authenticode digest is made of",
+        help::RANGES,
+        &[image()],
+    )?;
+    with_verdict(alloc, command)
+}
+
+/// The command with the subcommands for signature lists.
+fn with_lists<'a>(alloc: Global, command: Command<'a>) -> Result<Command<'a>, AllocError>
+    ensures { IfOk result (λ c. app_of c ≡ spec.with_lists (app_of command.entry)) }
+{
     let lists = Shown {
         name: "FILE",
         help: "The path of the signature lists",
@@ -122,51 +199,39 @@ fn with_readers<'a>(alloc: Global, command: Command<'a>) -> Result<Command<'a>, 
     let command = with_one_more(
         alloc,
         command,
-        "ranges",
-        "Prints the ranges of an EFI image that its Authenticode digest is made of",
-        RANGES,
-        &[image],
-    )?;
-    let command = with_one_more(
-        alloc,
-        command,
-        "facts",
-        "Prints the digests, certificates and SBAT components of an EFI image",
-        FACTS,
-        &[image],
+        "list",
+        "Prints the place, kind and count of each signature list in a file",
+        help::LIST,
+        &[lists],
     )?;
     with_one_more(
         alloc,
         command,
-        "list",
-        "Prints the place, kind and count of each signature list in a file",
-        LIST,
-        &[lists],
+        "pack",
+        "Packs the digests on standard input, one a line in hexadecimal, into a signature list",
+        help::PACK,
+        &[owner()],
     )
+}
+
+/// The command without its subcommands.
+fn bare<'a>(alloc: Global) -> Result<Command<'a>, AllocError>
+    ensures { IfOk result (λ c. app_of c ≡ spec.bare_app) }
+{
+    Command::new(alloc, "desk")
+        .version("0.1.0")
+        .about("The Secure Boot signing and revocation desk")
+        .propagate_version(true)
+        .no_binary_name(true)
+        .subcommand_required(true)
+        .bin_name("desk")
 }
 
 /// The program's command.
 pub fn desk_command<'a>(alloc: Global) -> Result<Command<'a>, AllocError>
     ensures { IfOk result (λ c. app_of c ≡ desk_app) }
 {
-    let owner = Shown {
-        name: "OWNER",
-        help: "The owner's GUID, as 8-4-4-4-12 hexadecimal digits",
-    };
-    let bare = Command::new(alloc, "desk")
-        .version("0.1.0")
-        .about("The Secure Boot signing and revocation desk")
-        .propagate_version(true)
-        .no_binary_name(true)
-        .subcommand_required(true)
-        .bin_name("desk")?;
-    let command = with_one_more(
-        alloc,
-        bare,
-        "pack",
-        "Packs the digests on standard input, one a line in hexadecimal, into a signature list",
-        PACK,
-        &[owner],
-    )?;
-    with_readers(alloc, command)
+    let command = with_founding(alloc, bare(alloc)?)?;
+    let command = with_images(alloc, command)?;
+    with_lists(alloc, command)
 }

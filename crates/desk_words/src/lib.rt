@@ -2,8 +2,9 @@
 #![tactic(auto)]
 
 mod command;
+mod help;
 mod line;
 mod words_reading;
 
-pub use line::{Words, WordsFault};
+pub use line::{PersonWords, Words, WordsFault};
 pub use words_reading::words;

@@ -1,17 +1,32 @@
 //! What the program's words say.
 use clap::Error;
 
+/// The words of `person`.
+#[derive(Clone, Copy, Debug, PartialEq, Eq)]
+pub struct PersonWords<'a> {
+    pub db: &'a str,
+    pub name: &'a str,
+    pub role: &'a str,
+    pub key: &'a str,
+}
+
 /// A subcommand with its words.
 #[derive(Clone, Copy, Debug, PartialEq, Eq)]
 pub enum Words<'a> {
-    /// Packs the digests of the standard input under this owner's GUID.
-    Pack { owner: &'a str },
-    /// Prints the ranges of this image's file that Authenticode hashes.
-    Ranges { file: &'a str },
+    /// Makes a desk with this owner's GUID in this file.
+    Init { db: &'a str, owner: &'a str },
+    /// Adds a person to the desk in a file.
+    Person(PersonWords<'a>),
     /// Prints what the desk keeps of this image's file.
     Facts { file: &'a str },
+    /// Prints the ranges of this image's file that Authenticode hashes.
+    Ranges { file: &'a str },
+    /// Prints what the desk in this file says of an image's file.
+    Verdict { db: &'a str, file: &'a str },
     /// Prints the signature lists in this file.
     List { file: &'a str },
+    /// Packs the digests of the standard input under this owner's GUID.
+    Pack { owner: &'a str },
 }
 
 /// Why no subcommand was taken.

@@ -2,10 +2,11 @@
 ghost use Rattle.std.specs.Prelude.{◌≡◌, ◌<◌, length, map, option_and_then, option_map, string_bytes};
 ghost use Rattle.clap.specs.Words.{first_of, found_of, rows_of, subcommand_rows_of};
 ghost use Rattle.desk_words.specs.Commands.{id_of, ids};
-ghost use Rattle.desk_words.specs.Lines.{Answers, Line, Spells, Takes, line_in, line_of};
+ghost use Rattle.desk_words.specs.Lines.{Answers, Line, Spells, Takes, line_in, line_of, one_in};
+ghost use Rattle.desk_words.specs.Lines.{init, person_in, two_in, verdict};
 
 use crate::command::{desk_command, id_at};
-use crate::line::{Words, WordsFault};
+use crate::line::{PersonWords, Words, WordsFault};
 use clap::ArgMatches;
 use clap::error::ErrorKind;
 use std::alloc::Global;
@@ -19,26 +20,63 @@ fn word_at<'a>(matches: &ArgMatches<'a>, place: usize) -> Option<&'a str>
     matches.get_str(id_at(place))
 }
 
+/// `init` with its words.
+fn init_at<'a>(matches: &ArgMatches<'a>) -> Option<Words<'a>>
+    ensures { option_map line_of result ≡ two_in init (rows_of (found_of matches.now)) }
+{
+    let db = word_at(matches, 0)?;
+    let owner = word_at(matches, 1)?;
+    Some(Words::Init { db, owner })
+}
+
+/// `person` with its words.
+fn person_at<'a>(matches: &ArgMatches<'a>) -> Option<Words<'a>>
+    ensures { option_map line_of result ≡ person_in (rows_of (found_of matches.now)) }
+{
+    let db = word_at(matches, 0)?;
+    let name = word_at(matches, 1)?;
+    let role = word_at(matches, 2)?;
+    let key = word_at(matches, 3)?;
+    Some(Words::Person(PersonWords {
+        db,
+        name,
+        role,
+        key,
+    }))
+}
+
+/// `verdict` with its words.
+fn verdict_at<'a>(matches: &ArgMatches<'a>) -> Option<Words<'a>>
+    ensures { option_map line_of result ≡ two_in verdict (rows_of (found_of matches.now)) }
+{
+    let db = word_at(matches, 0)?;
+    let file = word_at(matches, 1)?;
+    Some(Words::Verdict { db, file })
+}
+
 /// The subcommand of this name, with its words.
 fn line_at<'a>(name: &'a str, matches: &ArgMatches<'a>) -> Option<Words<'a>>
     ensures { option_map line_of result ≡ line_in (name.now, rows_of (found_of matches.now)) }
 {
     match name {
-        "pack" => {
-            let owner = word_at(matches, 0)?;
-            Some(Words::Pack { owner })
+        "init" => init_at(matches),
+        "person" => person_at(matches),
+        "facts" => {
+            let file = word_at(matches, 0)?;
+            Some(Words::Facts { file })
         }
         "ranges" => {
             let file = word_at(matches, 0)?;
             Some(Words::Ranges { file })
         }
-        "facts" => {
-            let file = word_at(matches, 0)?;
-            Some(Words::Facts { file })
-        }
+        "verdict" => verdict_at(matches),
         "list" => {
             let file = word_at(matches, 0)?;
             Some(Words::List { file })
+        }
+        "pack" => {
+            let owner = word_at(matches, 0)?;
+            Some(Words::Pack { owner })
         }
         _ => None,
     }

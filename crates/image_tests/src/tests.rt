@@ -5,6 +5,7 @@ mod failing;
 mod layouts;
 mod lines;
 mod pieces;
+mod tokens;
 mod words;
 
 use std::alloc::{AllocError, Global};
@@ -21,6 +22,7 @@ enum Call {
     List,
     Parts,
     Ranges,
+    Token,
     Words,
 }
 
@@ -110,6 +112,7 @@ fn answer(alloc: Global, call: Call, input: &str) -> Result<String, Fail> {
         Call::List => lines::of_list(alloc, input),
         Call::Parts => layouts::of_parts(alloc, input),
         Call::Ranges => layouts::of_ranges(alloc, input),
+        Call::Token => tokens::of_token(alloc, input),
         Call::Words => words::of_words(alloc, input),
     }
 }

@@ -1,10 +1,12 @@
 //! The lines that are printed of facts, of lists and of a fault.
 use super::{Call, check, image, parted};
 use desk_bytes::{Guid, Refusal, WriteFailed};
-use desk_lines::{Fault, MOST_BYTES, print_facts, print_fault, print_list};
+use desk_history::{Below, Verdict};
+use desk_lines::{Fault, MOST_BYTES, print_facts, print_fault, print_list, print_verdict};
 use desk_service::facts;
 use desk_testing::Narrow;
 use pe_image::Bytes;
+use sbat::Generation;
 use siglist::pack;
 use std::alloc::Global;
 use std::io::ErrorKind;
@@ -182,5 +184,33 @@ fn prints_why_a_text_is_not_packed(rt: HostRuntime) -> Result<(), Fail> {
     let fault = Fault::from(answer.err().ok_or("it is packed")?);
     assert!(rt; print_fault(fault.refusal, fault.place, &mut out) == 1);
     assert!(rt; out.as_slice() == b"refused 18 Line at 2\n".as_slice() && list.is_empty());
+    Ok(())
+}
+
+/// What is printed of verdicts on an image of the components sbat 1 and grub 3.
+const VERDICTS: &str = "\
+allowed
+refused dbx-digest
+refused dbx-certificate
+refused not-listed
+refused sbat grub 3 4294967295
+";
+
+/// That image.
+const WITH_COMPONENTS: &str = "1536 + 70:02 368:2e73626174 376:24000000 384:0002000000040000 \
+    1024:736261742c312c612c622c312c750d0a0d0a677275622c30332c612c622c322c750a";
+
+#[test]
+fn prints_the_line_of_a_verdict(rt: HostRuntime) -> Result<(), Fail> {
+    let bytes = image(rt.alloc(), WITH_COMPONENTS)?;
+    let found = facts(rt.alloc(), &mut Bytes(&bytes))?;
+    let needs = Generation::new(u32::MAX).ok_or("a generation")?;
+    let mut out = Vec::new(rt.alloc());
+    print_verdict(&Verdict::Allowed, &found, &mut out)?;
+    print_verdict(&Verdict::DbxDigest, &found, &mut out)?;
+    print_verdict(&Verdict::DbxCertificate, &found, &mut out)?;
+    print_verdict(&Verdict::NotListed, &found, &mut out)?;
+    print_verdict(&Verdict::Sbat(Below { place: 1, needs }), &found, &mut out)?;
+    assert!(rt; out.as_slice() == VERDICTS.as_bytes());
     Ok(())
 }

@@ -1,22 +1,28 @@
 //! The words of the command line.
 use super::{Call, check};
-use desk_words::{Words, WordsFault, words};
+use desk_words::{PersonWords, Words, WordsFault, words};
 use std::alloc::Global;
 use std::test::Fail;
 
 const WORDS: &str = "\
-pack 0011 = pack of 0011
-ranges a/b.efi = ranges of a/b.efi
+init a.db 0011 = init of a.db for 0011
+person a.db olga officer k1 = person of a.db: olga officer k1
 facts a/b.efi = facts of a/b.efi
+ranges a/b.efi = ranges of a/b.efi
+verdict a.db b.efi = verdict of a.db and b.efi
 list a/b.esl = list of a/b.esl
+pack 0011 = pack of 0011
 --help = Usage: desk <COMMAND>
 -h = Usage: desk <COMMAND>
 help = Usage: desk <COMMAND>
+help init = Usage: desk init <DB> <OWNER>
+help person = Usage: desk person <DB> <NAME> <ROLE> <KEY>
+help facts = Usage: desk facts <FILE>
+help ranges = Usage: desk ranges <FILE>
+help verdict = Usage: desk verdict <DB> <FILE>
+help list = Usage: desk list <FILE>
 help pack = Usage: desk pack <OWNER>
 pack --help = Usage: desk pack <OWNER>
-help ranges = Usage: desk ranges <FILE>
-help facts = Usage: desk facts <FILE>
-help list = Usage: desk list <FILE>
 --version = desk 0.1.0
 -V = desk 0.1.0
 pack --version = desk-pack 0.1.0
@@ -24,17 +30,23 @@ pack --version = desk-pack 0.1.0
 x = mistake
 unpack x = mistake
 -x = mistake
-pack = mistake
-pack x y = mistake
 pack -x = mistake
-ranges = mistake
-ranges x y = mistake
-facts = mistake
-facts x y = mistake
-list = mistake
-list x y = mistake
 pack --owner=x = mistake
 help x = mistake
+init a.db = mistake
+init a.db 0011 more = mistake
+person a.db olga officer = mistake
+person a.db olga officer k1 more = mistake
+facts = mistake
+facts a/b.efi more = mistake
+ranges = mistake
+ranges a/b.efi more = mistake
+verdict a.db = mistake
+verdict a.db b.efi more = mistake
+list = mistake
+list a/b.esl more = mistake
+pack = mistake
+pack 0011 more = mistake
 ";
 
 /// The line that begins with `Usage:`, or else the first.
@@ -47,6 +59,30 @@ fn usage(alloc: Global, text: &str) -> Result<String, Fail> {
     Ok(String::from_str(alloc, text.lines().next().unwrap_or(""))?)
 }
 
+/// A subcommand with its words.
+fn said(alloc: Global, line: Words<'_>) -> Result<String, Fail> {
+    Ok(match line {
+        Words::Init { db, owner } => format!(in alloc; "init of {db} for {owner}")?,
+        Words::Person(words) => person(alloc, words)?,
+        Words::Facts { file } => format!(in alloc; "facts of {file}")?,
+        Words::Ranges { file } => format!(in alloc; "ranges of {file}")?,
+        Words::Verdict { db, file } => format!(in alloc; "verdict of {db} and {file}")?,
+        Words::List { file } => format!(in alloc; "list of {file}")?,
+        Words::Pack { owner } => format!(in alloc; "pack of {owner}")?,
+    })
+}
+
+/// The words of `person`.
+fn person(alloc: Global, words: PersonWords<'_>) -> Result<String, Fail> {
+    let PersonWords {
+        db,
+        name,
+        role,
+        key,
+    } = words;
+    Ok(format!(in alloc; "person of {db}: {name} {role} {key}")?)
+}
+
 /// What the words say.
 pub fn of_words(alloc: Global, input: &str) -> Result<String, Fail> {
     let mut given = Vec::new(alloc);
@@ -54,10 +90,7 @@ pub fn of_words(alloc: Global, input: &str) -> Result<String, Fail> {
         given.push(String::from_str(alloc, word)?)?;
     }
     match words(alloc, given.as_slice()) {
-        Ok(Words::Pack { owner }) => Ok(format!(in alloc; "pack of {owner}")?),
-        Ok(Words::Ranges { file }) => Ok(format!(in alloc; "ranges of {file}")?),
-        Ok(Words::Facts { file }) => Ok(format!(in alloc; "facts of {file}")?),
-        Ok(Words::List { file }) => Ok(format!(in alloc; "list of {file}")?),
+        Ok(line) => said(alloc, line),
         Err(WordsFault::Refused(error)) => {
             if error.use_stderr() {
                 return Ok(String::from_str(alloc, "mistake")?);

@@ -1,0 +1,122 @@
+//! A desk's file: made, opened and closed.
+ghost use Rattle.std.specs.Prelude.{◌≡◌, IfOk, false};
+
+use crate::ending::{Ending, Outcome};
+use desk_bytes::{Guid, Refusal};
+use desk_lines::Fault;
+use desk_store::Desk;
+use sqlite::{Connection, Error, ErrorCode, File, FileStore};
+use std::{fs, io};
+
+/// A connection to a file.
+type FileConnection = Connection<FileStore<File>>;
+
+/// A desk in a file.
+pub(crate) type FileDesk = Desk<FileStore<File>>;
+
+/// Whether the database failed for want of memory.
+fn is_out_of_memory(error: &Error) -> bool {
+    match error {
+        Error::SqliteFailure(ErrorCode::OutOfMemory) => true,
+        _ => false,
+    }
+}
+
+/// Lets a connection go without closing it: nothing is written.
+fn let_go(conn: FileConnection) {
+    let _ = conn;
+}
+
+/// Opens a file, or makes it. File: it can't be opened, is no database, or is in use.
+fn connect(rt: &HostRuntime, path: &str) -> Result<FileConnection, Refusal>
+    ensures { IfOk result (λ conn. conn.in_transaction ≡ false) }
+{
+    match Connection::open(rt, path) {
+        Ok(conn) => Ok(conn),
+        Err(error) => {
+            if is_out_of_memory(&error) {
+                Err(Refusal::NoMemory)
+            } else {
+                Err(Refusal::File)
+            }
+        }
+    }
+}
+
+/// Whether there is something at a path.
+fn is_there(rt: &HostRuntime, path: &str) -> Result<bool, Refusal> {
+    match fs::exists(rt, path) {
+        Ok(there) => Ok(there),
+        Err(error) if error.kind() == io::ErrorKind::OutOfMemory => Err(Refusal::NoMemory),
+        Err(_) => Err(Refusal::File),
+    }
+}
+
+/// Makes a desk in a file, which is made where it isn't there.
+pub(crate) fn make(rt: &HostRuntime, path: &str, owner: &Guid) -> Result<FileDesk, Refusal> {
+    let conn = connect(rt, path)?;
+    match Desk::create(rt.alloc(), conn, owner) {
+        Ok(desk) => Ok(desk),
+        Err((refusal, conn)) => {
+            let_go(conn);
+            Err(refusal)
+        }
+    }
+}
+
+/// Opens the desk in a file. File: it isn't there; it isn't made then.
+pub(crate) fn open(rt: &HostRuntime, path: &str) -> Result<FileDesk, Refusal> {
+    if !is_there(rt, path)? {
+        return Err(Refusal::File);
+    }
+    let conn = connect(rt, path)?;
+    match Desk::open(rt.alloc(), conn) {
+        Ok(desk) => Ok(desk),
+        Err((refusal, conn)) => {
+            let_go(conn);
+            Err(refusal)
+        }
+    }
+}
+
+/// Closes a desk's file: what stands in its log is copied into it. A failure leaves both together as
+/// the desk.
+fn close(desk: FileDesk) -> Result<(), Refusal> {
+    match desk.release().close() {
+        Ok(()) => Ok(()),
+        Err(error) => {
+            if is_out_of_memory(&error) {
+                Err(Refusal::NoMemory)
+            } else {
+                Err(Refusal::Store)
+            }
+        }
+    }
+}
+
+/// Whether the desk has to be opened again after this work, so that it can't be closed.
+fn needs_reopening(work: &Result<Outcome, Fault>) -> bool {
+    match work {
+        Ok(_) => false,
+        Err(fault) => fault.refusal == Refusal::Store || fault.refusal == Refusal::Reopen,
+    }
+}
+
+/// Closes the desk behind the work that was done on it. A desk that failed is let go: its next opening
+/// finds what it kept.
+pub(crate) fn ended(desk: FileDesk, work: Result<Outcome, Fault>) -> Ending
+    ensures { result.work ≡ work }
+{
+    if needs_reopening(&work) {
+        let_go(desk.release());
+        return Ending {
+            work,
+            closing: None,
+        };
+    }
+    let closing = match close(desk) {
+        Ok(()) => None,
+        Err(refusal) => Some(Fault::from(refusal)),
+    };
+    Ending { work, closing }
+}

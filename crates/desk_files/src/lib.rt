@@ -1,0 +1,11 @@
+//! Desks in files: what each subcommand over a desk's file does.
+#![tactic(auto)]
+
+mod desk_file;
+mod ending;
+mod file;
+mod working;
+
+pub use ending::{Ending, Outcome};
+pub use file::{read_file, read_image};
+pub use working::{add_person, judge_image, make_desk};

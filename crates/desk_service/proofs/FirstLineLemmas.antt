@@ -1,0 +1,51 @@
+-- The first line of a text that comes byte by byte.
+use Rattle.std.proofs.Common.{◌≡◌, ◌∙◌, ℕ, zero, suc, ◌<◌, eqb, false, List, [], ◌∷◌, ◌++◌, length, get_or, Option, None, Some, IfSome, sym, ap, subst, inl, inr, arith, append-nil, append_assoc}
+use Rattle.std.specs.Io.KnownBytes.{Consumes, IsAtEnd}
+use Rattle.desk_bytes.proofs.LineLemmas.{HasNoLf, lines_of-crlf, lines_of-last, lines_of-lf}
+use Rattle.desk_service.specs.Tokens.{IsTextOf, first_line, first_of}
+
+HasNoLf-tail : (b : ℕ) (bs : List ℕ) → HasNoLf (b ∷ bs) → HasNoLf bs
+HasNoLf-tail b bs h = record { at = λ k l. h.at (suc k) (omega arith) }
+
+HasNoLf-cons : (b : ℕ) (bs : List ℕ) → eqb b 10 ≡ false → HasNoLf bs → HasNoLf (b ∷ bs)
+HasNoLf-cons b bs first tail = record { at = at } where
+  at : (k : ℕ) → k < length (b ∷ bs) → eqb (get_or (b ∷ bs) k 0) 10 ≡ false
+  at zero l = first
+  at (suc k) l = tail.at k (omega arith)
+
+-- the beginning of a line without an LF has none
+HasNoLf-front : (front : List ℕ) (b : ℕ) → HasNoLf (front ++ b ∷ []) → HasNoLf front
+HasNoLf-front [] b h = record { at = λ k l. absurd (omega arith) }
+HasNoLf-front (x ∷ xs) b h =
+    HasNoLf-cons x xs (h.at 0 (omega arith)) (HasNoLf-front xs b (HasNoLf-tail x (xs ++ b ∷ []) h))
+
+-- a line that its first LF ends is the text's first
+first_line-ended : (line text rest : List ℕ) → HasNoLf line → IsTextOf line text → text ≡ first_line (line ++ 10 ∷ rest)
+first_line-ended line text rest h is = elim is [
+  | inl cr ↦
+      let front = HasNoLf-front text 13 (subst HasNoLf cr h) in
+      let whole : line ++ 10 ∷ rest ≡ text ++ 13 ∷ 10 ∷ rest = ap (λ l. l ++ 10 ∷ rest) cr ∙ append_assoc text (13 ∷ []) (10 ∷ rest) in
+      sym (ap first_line whole ∙ ap first_of (lines_of-crlf text rest front))
+  | inr plain ↦
+      sym (ap (λ l. first_line (l ++ 10 ∷ rest)) plain.0 ∙ ap first_of (lines_of-lf text rest (subst HasNoLf plain.0 h) plain.1))
+]
+
+-- the same of what a reader gave before the LF, and with it
+pub first_line-read : (a b c : Option (List ℕ)) (line text : List ℕ) (byte : ℕ) → Consumes a b line → Consumes b c (byte ∷ []) → byte ≡ 10
+    → HasNoLf line → IsTextOf line text → IfSome a (λ given. text ≡ first_line given)
+first_line-read None b c line text byte before next lf h is = tt
+first_line-read (Some given) None c line text byte before next lf h is = absurd before
+first_line-read (Some given) (Some left) None line text byte before next lf h is = absurd next
+first_line-read (Some given) (Some left) (Some rest) line text byte before next lf h is =
+    let whole : given ≡ line ++ 10 ∷ rest = before ∙ ap (λ l. line ++ l) next ∙ ap (λ (b : ℕ). line ++ b ∷ rest) lf in
+    first_line-ended line text rest h is ∙ ap first_line (sym whole)
+
+-- and of one that is at its end
+pub first_line-last : (a b c : Option (List ℕ)) (line : List ℕ) → Consumes a b line → Consumes b c [] × IsAtEnd c → HasNoLf line
+    → IfSome a (λ given. line ≡ first_line given)
+first_line-last None b c line before end h = tt
+first_line-last (Some given) None c line before end h = absurd before
+first_line-last (Some given) (Some left) None line before end h = absurd end.0
+first_line-last (Some given) (Some left) (Some rest) line before end h =
+    let whole : given ≡ line = before ∙ ap (λ l. line ++ l) (end.0 ∙ end.1) ∙ append-nil line in
+    sym (ap first_line whole ∙ ap first_of (lines_of-last line h))

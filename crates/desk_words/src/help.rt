@@ -1,0 +1,54 @@
+//! The texts with which the help of each subcommand ends: what it reads and writes, an example, its statuses.
+
+pub const INIT: &str = "\
+Makes the desk in DB, a file that isn't there, or an empty one. OWNER is the owner of every entry that
+the desk exports. Reads nothing, and prints nothing.
+
+Example: desk init desk.db 00112233-4455-6677-8899-aabbccddeeff
+
+Status: 0 done, 1 DB has tables already, 2 the words are wrong, 3 a device failed, as where DB can't be opened";
+
+pub const PERSON: &str = "\
+Reads the person's token, 16 to 128 visible characters of ASCII, from the first line of standard input, and
+prints `added NAME`. The desk keeps the token's SHA-256 and not the token. KEY names the call: the same
+call under the same key is answered again, and changes nothing.
+
+Example: desk person desk.db olga officer k1 < token.txt
+
+Status: 0 done, 1 refused, 2 a word or the token is wrong, 3 a device failed, as where DB isn't there or is in use";
+
+pub const FACTS: &str = "\
+Reads FILE, and writes a line for its length, each digest, the gap, each certificate and each component.
+
+Example: desk facts shimx64.efi
+
+Status: 0 done, 1 the image was refused, 2 the words are wrong, 3 a device failed";
+
+pub const RANGES: &str = "\
+Reads FILE, and writes a line FROM-TO for each range, half-open, and then the gap.
+
+Example: desk ranges shimx64.efi
+
+Status: 0 done, 1 the image was refused, 2 the words are wrong, 3 a device failed";
+
+pub const VERDICT: &str = "\
+Reads DB and FILE, and prints `allowed`, or `refused` and why: `dbx-digest`, `dbx-certificate`, `not-listed`,
+or `sbat NAME HAS NEEDS` with the image's generation of a component and the one that the level needs.
+
+Example: desk verdict desk.db shimx64.efi
+
+Status: 0 allowed, 1 refused, 2 the words are wrong, 3 a device failed, as where DB isn't there or is in use";
+
+pub const LIST: &str = "\
+Reads FILE, and writes a line OFFSET KIND COUNT for each signature list in it.
+
+Example: desk list dbx.esl
+
+Status: 0 done, 1 the file was refused, 2 the words are wrong, 3 a device failed";
+
+pub const PACK: &str = "\
+Reads lines of 64 hexadecimal digits from standard input, and writes one list to standard output.
+
+Example: desk pack 00112233-4455-6677-8899-aabbccddeeff < digests.txt > dbx.esl
+
+Status: 0 done, 1 a line was refused, 2 the words are wrong, 3 a device failed";
