@@ -1,6 +1,6 @@
 #!/bin/sh
 # A day of a desk at the command line, with the built program or the one that is named: day.sh [PROGRAM]. A desk is made,
-# six people are added, an image is judged; each output, error line and status is compared with what has
+# six people are added, an image is judged, and all is exported; each output, error line and status is compared with what has
 # to be there. Then each fault of each subcommand in its order, two terminals at one file, and a writer that is full. Rows
 # that only HTTP commands will write are put in by sqlite3, which also reads the file; without sqlite3 that part is left out.
 # Not part of the gate.
@@ -12,7 +12,7 @@ else
     "$root/desk" --version > /dev/null
     program=$root/crates/desk/out/desk
 fi
-exports=''
+exports='db dbx level minutes'
 owner=00112233-4455-6677-8899-aabbccddeeff
 stored=33221100554477668899aabbccddeeff
 signed=$root/examples/signed.efi
@@ -175,7 +175,7 @@ run 0 added '' uwe person desk.db uwe signer k7
 
 # ---- help, in the order of a day's work
 
-subcommands='init person facts ranges verdict list pack'
+subcommands='init person facts ranges verdict db dbx level list pack minutes'
 "$program" help > help
 order=$(sed -n 's/^  \([a-z]*\)  .*/\1/p' help | tr '\n' ' ')
 case $order in

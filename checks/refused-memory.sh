@@ -3,7 +3,7 @@
 # `desk facts` with examples/signed.efi, an image with a certificate and two SBAT components, and on `desk list` with a list
 # of another type than the three, whose GUID is printed. Each such run has to end with status 3, the line `device 40 NoMemory`
 # and nothing written (of `list` a beginning); the first run that meets no refusal has to write what it writes with ample
-# memory. So have `init`, `person` and `verdict` over a desk's file, also where the output stands when the desk is closed;
+# memory. So have `init`, `person`, `verdict` and `dbx` over a desk's file, also where the output stands when the desk is closed;
 # the same words on the file that a refused run left have to end as they do on the file that it found. Not part of the gate: it
 # needs a C compiler, for a malloc that refuses.
 set -eu
@@ -130,3 +130,5 @@ refuse person "$room/added" "$room/token" person "$desk" ann submitter k1
 echo 'refused not-listed' > "$room/not_listed"
 most=19 wanted_status=1
 refuse verdict "$room/not_listed" /dev/null verdict "$desk" "$root/examples/signed.efi"
+most=0 wanted_status=0
+refuse dbx "$room/nothing" /dev/null dbx "$desk"

@@ -2,7 +2,9 @@
 use crate::fault::Stop;
 use crate::person::person_from;
 use desk_bytes::{Guid, Refusal, WriteFailed};
-use desk_files::{Ending, Outcome, add_person, judge_image, make_desk, read_file, read_image};
+use desk_files::{
+    Ending, Export, Outcome, add_person, export, judge_image, make_desk, read_file, read_image,
+};
 use desk_lines::{Fault, print_facts, print_fault, print_list, print_ranges};
 use desk_service::facts;
 use desk_words::{PersonWords, Words};
@@ -100,6 +102,12 @@ fn run_verdict(rt: &HostRuntime, db: &str, file: &str) -> Result<Ending, Stop> {
     Ok(judge_image(rt, db, file, &mut out))
 }
 
+/// Writes an export.
+fn run_export(rt: &HostRuntime, db: &str, what: Export) -> Result<Ending, Stop> {
+    let mut out = buffered(rt.alloc(), rt.stdout())?;
+    Ok(export(rt, db, what, &mut out))
+}
+
 /// Says a fault on standard error, and gives its status.
 fn tell(rt: &HostRuntime, fault: Fault) -> ExitCode {
     ExitCode::from(print_fault(fault.refusal, fault.place, &mut rt.stderr()))
@@ -154,7 +162,11 @@ pub fn run(rt: &HostRuntime, line: Words<'_>) -> ExitCode {
         Words::Facts { file } => status_of(rt, run_facts(rt, file)),
         Words::Ranges { file } => status_of(rt, run_ranges(rt, file)),
         Words::Verdict { db, file } => status_of_ending(rt, run_verdict(rt, db, file)),
+        Words::Db { db } => status_of_ending(rt, run_export(rt, db, Export::Db)),
+        Words::Dbx { db } => status_of_ending(rt, run_export(rt, db, Export::Dbx)),
+        Words::Level { db } => status_of_ending(rt, run_export(rt, db, Export::Level)),
         Words::List { file } => status_of(rt, run_list(rt, file)),
         Words::Pack { owner } => status_of(rt, run_pack(rt, owner)),
+        Words::Minutes { db } => status_of_ending(rt, run_export(rt, db, Export::Minutes)),
     }
 }

@@ -14,6 +14,19 @@ use sqlite::Alter;
 use std::alloc::Global;
 use std::io::Write;
 
+/// What is exported of a desk.
+#[derive(Clone, Copy, Debug, PartialEq, Eq)]
+pub enum Export {
+    /// The list of allowed images, as signature lists.
+    Db,
+    /// The list of revoked images, as signature lists.
+    Dbx,
+    /// The SBAT level, as text.
+    Level,
+    /// The minutes, as text.
+    Minutes,
+}
+
 /// Writes out what is buffered.
 fn flush<W: Write>(writer: &mut W) -> Result<(), Fault> {
     writer.flush().map_err(|_| Fault::from(WriteFailed))
@@ -105,6 +118,34 @@ pub fn judge_image<W: Write>(rt: &HostRuntime, path: &str, file: &str, writer: &
     match open(rt, path) {
         Ok(mut desk) => {
             let work = judge_file(rt, &mut desk, file, writer);
+            ended(desk, work)
+        }
+        Err(refusal) => Ending::without_desk(refusal),
+    }
+}
+
+/// Writes an export of the desk.
+fn write_export<S: Alter + Drop, W: Write>(
+    desk: &mut Desk<S>,
+    what: Export,
+    writer: &mut W,
+) -> Result<Outcome, Fault> {
+    match what {
+        Export::Db => desk.export_db(writer)?,
+        Export::Dbx => desk.export_dbx(writer)?,
+        Export::Level => desk.export_level(writer)?,
+        Export::Minutes => desk.minutes(writer)?,
+    }
+    flush(writer)?;
+    Ok(Outcome::Done)
+}
+
+/// Writes an export of the desk in a file, whose faults are told as `add_person` tells them. What stops
+/// it may leave a beginning of the export in the writer.
+pub fn export<W: Write>(rt: &HostRuntime, path: &str, what: Export, writer: &mut W) -> Ending {
+    match open(rt, path) {
+        Ok(mut desk) => {
+            let work = write_export(&mut desk, what, writer);
             ended(desk, work)
         }
         Err(refusal) => Ending::without_desk(refusal),

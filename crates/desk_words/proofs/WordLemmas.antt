@@ -15,7 +15,7 @@ use Rattle.clap.specs.declared.parser.matches.ArgMatches.{ArgMatches}
 use Rattle.clap.proofs.OnLiterals.{clap_on_literals}
 use Rattle.clap.proofs.WalkLemmas.{walk_stopped}
 use Rattle.desk_words.specs.Commands.{desk_app, id_of, subcommand_shape, word_rule}
-use Rattle.desk_words.specs.Lines.{Answers, IsPlainWord, Line, Spells, Takes, facts, init, line_found, line_in, line_of, list, pack, person, ranges, subcommand_name, verdict, words_after}
+use Rattle.desk_words.specs.Lines.{Answers, IsPlainWord, Line, Spells, Takes, db, dbx, facts, init, level, line_found, line_in, line_of, list, minutes, pack, person, ranges, subcommand_name, verdict, words_after}
 use Rattle.desk_words.specs.declared.line.Words.{Words}
 use Rattle.desk_words.specs.declared.line.WordsFault.{WordsFault}
 use Rattle.desk_words.specs.declared.line.WordsFault.TheVariants.{Missing}
@@ -219,8 +219,12 @@ begins (person path name role key) = record { walks = refl; passes = refl; found
 begins (facts file) = record { walks = refl; passes = refl; found = refl }
 begins (ranges file) = record { walks = refl; passes = refl; found = refl }
 begins (verdict path file) = record { walks = refl; passes = refl; found = refl }
+begins (db path) = record { walks = refl; passes = refl; found = refl }
+begins (dbx path) = record { walks = refl; passes = refl; found = refl }
+begins (level path) = record { walks = refl; passes = refl; found = refl }
 begins (list file) = record { walks = refl; passes = refl; found = refl }
 begins (pack owner) = record { walks = refl; passes = refl; found = refl }
+begins (minutes path) = record { walks = refl; passes = refl; found = refl }
 
 takes_words : (line : Line) → All IsPlainWord (words_after line) → TakesWords (subcommand_name line) (words_after line)
 takes_words (init path owner) plain = takes_two (codes "init") path owner plain
@@ -228,8 +232,12 @@ takes_words (person path name role key) plain = takes_four (codes "person") path
 takes_words (facts file) plain = takes_one (codes "facts") file plain
 takes_words (ranges file) plain = takes_one (codes "ranges") file plain
 takes_words (verdict path file) plain = takes_two (codes "verdict") path file plain
+takes_words (db path) plain = takes_one (codes "db") path plain
+takes_words (dbx path) plain = takes_one (codes "dbx") path plain
+takes_words (level path) plain = takes_one (codes "level") path plain
 takes_words (list file) plain = takes_one (codes "list") file plain
 takes_words (pack owner) plain = takes_one (codes "pack") owner plain
+takes_words (minutes path) plain = takes_one (codes "minutes") path plain
 
 reads_back : (line : Line) → line_in (subcommand_name line, rows_from 0 (words_after line)) ≡ Some line
 reads_back (init path owner) = refl
@@ -237,8 +245,12 @@ reads_back (person path name role key) = refl
 reads_back (facts file) = refl
 reads_back (ranges file) = refl
 reads_back (verdict path file) = refl
+reads_back (db path) = refl
+reads_back (dbx path) = refl
+reads_back (level path) = refl
 reads_back (list file) = refl
 reads_back (pack owner) = refl
+reads_back (minutes path) = refl
 
 -- ---- what `words` cites
 

@@ -44,6 +44,14 @@ with_images app =
     (subcommand_shape (codes "ranges") 1))
     (subcommand_shape (codes "verdict") 2)
 
+-- with the subcommands that export from a desk
+abbrev pub with_exports : App → App
+with_exports app =
+    with_subcommand (with_subcommand (with_subcommand app
+    (subcommand_shape (codes "db") 1))
+    (subcommand_shape (codes "dbx") 1))
+    (subcommand_shape (codes "level") 1)
+
 -- with the subcommands for signature lists
 abbrev pub with_lists : App → App
 with_lists app =
@@ -53,4 +61,6 @@ with_lists app =
 
 -- own: the program's command, its subcommands in the order of a day's work
 abbrev pub desk_app : App
-desk_app = with_lists (with_images (with_founding bare_app))
+desk_app =
+    with_subcommand (with_lists (with_exports (with_images (with_founding bare_app))))
+    (subcommand_shape (codes "minutes") 1)

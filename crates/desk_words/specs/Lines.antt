@@ -17,8 +17,12 @@ pub data Line : Type 0 where
   facts : Text → Line
   ranges : Text → Line
   verdict : Text → Text → Line
+  db : Text → Line
+  dbx : Text → Line
+  level : Text → Line
   list : Text → Line
   pack : Text → Line
+  minutes : Text → Line
 
 -- own: the name of its subcommand
 abbrev pub subcommand_name : Line → Text
@@ -27,8 +31,12 @@ subcommand_name (person path name role key) = codes "person"
 subcommand_name (facts file) = codes "facts"
 subcommand_name (ranges file) = codes "ranges"
 subcommand_name (verdict path file) = codes "verdict"
+subcommand_name (db path) = codes "db"
+subcommand_name (dbx path) = codes "dbx"
+subcommand_name (level path) = codes "level"
 subcommand_name (list file) = codes "list"
 subcommand_name (pack owner) = codes "pack"
+subcommand_name (minutes path) = codes "minutes"
 
 -- own: the words after it
 abbrev pub words_after : Line → List Text
@@ -37,8 +45,12 @@ words_after (person path name role key) = path ∷ name ∷ role ∷ key ∷ []
 words_after (facts file) = file ∷ []
 words_after (ranges file) = file ∷ []
 words_after (verdict path file) = path ∷ file ∷ []
+words_after (db path) = path ∷ []
+words_after (dbx path) = path ∷ []
+words_after (level path) = path ∷ []
 words_after (list file) = file ∷ []
 words_after (pack owner) = owner ∷ []
+words_after (minutes path) = path ∷ []
 
 -- what the program takes the line for
 abbrev pub line_of : Words → Line
@@ -47,8 +59,12 @@ line_of (said.Person words) = person words.db.now words.name.now words.role.now 
 line_of (said.Facts file) = facts file.now
 line_of (said.Ranges file) = ranges file.now
 line_of (said.Verdict path file) = verdict path.now file.now
+line_of (said.Db path) = db path.now
+line_of (said.Dbx path) = dbx path.now
+line_of (said.Level path) = level path.now
 line_of (said.List file) = list file.now
 line_of (said.Pack owner) = pack owner.now
+line_of (said.Minutes path) = minutes path.now
 
 -- what follows from the word at a place, where the rows that `clap` found have it
 abbrev pub with_word : List Row → ℕ → (Text → Option Line) → Option Line
@@ -76,8 +92,12 @@ line_in (name, rows) =
     else if bytes_eq name (codes "facts") then one_in facts rows
     else if bytes_eq name (codes "ranges") then one_in ranges rows
     else if bytes_eq name (codes "verdict") then two_in verdict rows
+    else if bytes_eq name (codes "db") then one_in db rows
+    else if bytes_eq name (codes "dbx") then one_in dbx rows
+    else if bytes_eq name (codes "level") then one_in level rows
     else if bytes_eq name (codes "list") then one_in list rows
     else if bytes_eq name (codes "pack") then one_in pack rows
+    else if bytes_eq name (codes "minutes") then one_in minutes rows
     else None
 
 -- a word that stands for itself: it isn't empty and doesn't begin with a hyphen (45)

@@ -188,6 +188,36 @@ fn with_images<'a>(alloc: Global, command: Command<'a>) -> Result<Command<'a>, A
     with_verdict(alloc, command)
 }
 
+/// The command with the subcommands that export from a desk.
+fn with_exports<'a>(alloc: Global, command: Command<'a>) -> Result<Command<'a>, AllocError>
+    ensures { IfOk result (λ c. app_of c ≡ spec.with_exports (app_of command.entry)) }
+{
+    let command = with_one_more(
+        alloc,
+        command,
+        "db",
+        "Writes what a desk allows as signature lists (db)",
+        help::DB,
+        &[db()],
+    )?;
+    let command = with_one_more(
+        alloc,
+        command,
+        "dbx",
+        "Writes what a desk has revoked as signature lists (dbx)",
+        help::DBX,
+        &[db()],
+    )?;
+    with_one_more(
+        alloc,
+        command,
+        "level",
+        "Writes the SBAT level of a desk",
+        help::LEVEL,
+        &[db()],
+    )
+}
+
 /// The command with the subcommands for signature lists.
 fn with_lists<'a>(alloc: Global, command: Command<'a>) -> Result<Command<'a>, AllocError>
     ensures { IfOk result (λ c. app_of c ≡ spec.with_lists (app_of command.entry)) }
@@ -233,5 +263,14 @@ pub fn desk_command<'a>(alloc: Global) -> Result<Command<'a>, AllocError>
 {
     let command = with_founding(alloc, bare(alloc)?)?;
     let command = with_images(alloc, command)?;
-    with_lists(alloc, command)
+    let command = with_exports(alloc, command)?;
+    let command = with_lists(alloc, command)?;
+    with_one_more(
+        alloc,
+        command,
+        "minutes",
+        "Prints the accepted calls of a desk",
+        help::MINUTES,
+        &[db()],
+    )
 }

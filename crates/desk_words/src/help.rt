@@ -39,6 +39,28 @@ Example: desk verdict desk.db shimx64.efi
 
 Status: 0 allowed, 1 refused, 2 the words are wrong, 3 a device failed, as where DB isn't there or is in use";
 
+pub const DB: &str = "\
+Writes signature lists: the digests that are listed, then each certificate.
+
+Example: desk db desk.db > db.esl
+
+Status: 0 done, 1 DB holds no desk, 2 the words are wrong, 3 a device failed, as where DB isn't there or is in use";
+
+pub const DBX: &str = "\
+Writes signature lists: the digests that are revoked, then the SHA-256 of each revoked certificate's
+TBSCertificate.
+
+Example: desk dbx desk.db > dbx.esl
+
+Status: 0 done, 1 DB holds no desk, 2 the words are wrong, 3 a device failed, as where DB isn't there or is in use";
+
+pub const LEVEL: &str = "\
+Writes the level as shim reads it: a line `sbat,1,STAMP`, then a line `NAME,GENERATION` for each component.
+
+Example: desk level desk.db > sbat_level.csv
+
+Status: 0 done, 1 DB holds no desk, 2 the words are wrong, 3 a device failed, as where DB isn't there or is in use";
+
 pub const LIST: &str = "\
 Reads FILE, and writes a line OFFSET KIND COUNT for each signature list in it.
 
@@ -52,3 +74,11 @@ Reads lines of 64 hexadecimal digits from standard input, and writes one list to
 Example: desk pack 00112233-4455-6677-8899-aabbccddeeff < digests.txt > dbx.esl
 
 Status: 0 done, 1 a line was refused, 2 the words are wrong, 3 a device failed";
+
+pub const MINUTES: &str = "\
+Prints a line for each accepted call, the first call first: its number, caller, key, text and reply, parted by
+tabs.
+
+Example: desk minutes desk.db
+
+Status: 0 done, 1 DB holds no desk, 2 the words are wrong, 3 a device failed, as where DB isn't there or is in use";

@@ -23,10 +23,18 @@ pub enum Words<'a> {
     Ranges { file: &'a str },
     /// Prints what the desk in this file says of an image's file.
     Verdict { db: &'a str, file: &'a str },
+    /// Writes the list of allowed images of the desk in this file.
+    Db { db: &'a str },
+    /// Writes the list of revoked images of the desk in this file.
+    Dbx { db: &'a str },
+    /// Writes the SBAT level of the desk in this file.
+    Level { db: &'a str },
     /// Prints the signature lists in this file.
     List { file: &'a str },
     /// Packs the digests of the standard input under this owner's GUID.
     Pack { owner: &'a str },
+    /// Prints the minutes of the desk in this file.
+    Minutes { db: &'a str },
 }
 
 /// Why no subcommand was taken.

@@ -70,6 +70,18 @@ fn line_at<'a>(name: &'a str, matches: &ArgMatches<'a>) -> Option<Words<'a>>
             Some(Words::Ranges { file })
         }
         "verdict" => verdict_at(matches),
+        "db" => {
+            let db = word_at(matches, 0)?;
+            Some(Words::Db { db })
+        }
+        "dbx" => {
+            let db = word_at(matches, 0)?;
+            Some(Words::Dbx { db })
+        }
+        "level" => {
+            let db = word_at(matches, 0)?;
+            Some(Words::Level { db })
+        }
         "list" => {
             let file = word_at(matches, 0)?;
             Some(Words::List { file })
@@ -77,6 +89,10 @@ fn line_at<'a>(name: &'a str, matches: &ArgMatches<'a>) -> Option<Words<'a>>
         "pack" => {
             let owner = word_at(matches, 0)?;
             Some(Words::Pack { owner })
+        }
+        "minutes" => {
+            let db = word_at(matches, 0)?;
+            Some(Words::Minutes { db })
         }
         _ => None,
     }

@@ -10,8 +10,12 @@ person a.db olga officer k1 = person of a.db: olga officer k1
 facts a/b.efi = facts of a/b.efi
 ranges a/b.efi = ranges of a/b.efi
 verdict a.db b.efi = verdict of a.db and b.efi
+db a.db = db of a.db
+dbx a.db = dbx of a.db
+level a.db = level of a.db
 list a/b.esl = list of a/b.esl
 pack 0011 = pack of 0011
+minutes a.db = minutes of a.db
 --help = Usage: desk <COMMAND>
 -h = Usage: desk <COMMAND>
 help = Usage: desk <COMMAND>
@@ -20,8 +24,12 @@ help person = Usage: desk person <DB> <NAME> <ROLE> <KEY>
 help facts = Usage: desk facts <FILE>
 help ranges = Usage: desk ranges <FILE>
 help verdict = Usage: desk verdict <DB> <FILE>
+help db = Usage: desk db <DB>
+help dbx = Usage: desk dbx <DB>
+help level = Usage: desk level <DB>
 help list = Usage: desk list <FILE>
 help pack = Usage: desk pack <OWNER>
+help minutes = Usage: desk minutes <DB>
 pack --help = Usage: desk pack <OWNER>
 --version = desk 0.1.0
 -V = desk 0.1.0
@@ -43,10 +51,18 @@ ranges = mistake
 ranges a/b.efi more = mistake
 verdict a.db = mistake
 verdict a.db b.efi more = mistake
+db = mistake
+db a.db more = mistake
+dbx = mistake
+dbx a.db more = mistake
+level = mistake
+level a.db more = mistake
 list = mistake
 list a/b.esl more = mistake
 pack = mistake
 pack 0011 more = mistake
+minutes = mistake
+minutes a.db more = mistake
 ";
 
 /// The line that begins with `Usage:`, or else the first.
@@ -67,8 +83,12 @@ fn said(alloc: Global, line: Words<'_>) -> Result<String, Fail> {
         Words::Facts { file } => format!(in alloc; "facts of {file}")?,
         Words::Ranges { file } => format!(in alloc; "ranges of {file}")?,
         Words::Verdict { db, file } => format!(in alloc; "verdict of {db} and {file}")?,
+        Words::Db { db } => format!(in alloc; "db of {db}")?,
+        Words::Dbx { db } => format!(in alloc; "dbx of {db}")?,
+        Words::Level { db } => format!(in alloc; "level of {db}")?,
         Words::List { file } => format!(in alloc; "list of {file}")?,
         Words::Pack { owner } => format!(in alloc; "pack of {owner}")?,
+        Words::Minutes { db } => format!(in alloc; "minutes of {db}")?,
     })
 }
 
