@@ -56,7 +56,7 @@ module _ {X : Type 0} (at : ℕ) (table : Table) (text : List ℕ) (terms : List
     (bytes : X → List ℕ) (own : (x y : X) → shown x ≡ shown y → bytes x ≡ bytes y)
     (wanted : History → List X)
     (order : (owner : List ℕ) (cs : History) (ys : List X) → IsPermutation (filter p (part (tables owner cs))) ys
-      → IsSorted (λ x y. by_keys (by_first ordered table) (shown x) (shown y)) ys → ys ≡ wanted cs)
+    → IsSorted (λ x y. by_keys (by_first ordered table) (shown x) (shown y)) ys → ys ≡ wanted cs)
     (s : State) (clean : (owner : List ℕ) (cs : History) → ShowsHistory s owner cs → HasCleanDisk s) where
   -- the rows of an answer are those of the list that is wanted
   listed : (owner : List ℕ) (cs : History) (answer : List Row) → IsSelected table terms (by_first ordered table) rest params (map item (part (tables owner cs))) answer → answer ≡ map shown (wanted cs)
@@ -103,7 +103,7 @@ module _ {X : Type 0} (at : ℕ) (table : Table) (text : List ℕ) (terms : List
         let one = first_of shown row [] parts.1 parts.3 in
         let front : w.bytes ≡ flat_map bytes parts.0 = spelt_rows shown bytes w.taken parts.0 w.bytes parts.2 w.spelt in
         let whole : wanted cs ≡ parts.0 ++ (one.0 ∷ (one.1 ++ it.1)) =
-            it.3 ∙ ap (λ l. l ++ it.1) (parts.4 ∙ ap (λ l. parts.0 ++ l) one.3) ∙ append_assoc parts.0 (one.0 ∷ one.1) it.1 in
+        it.3 ∙ ap (λ l. l ++ it.1) (parts.4 ∙ ap (λ l. parts.0 ++ l) one.3) ∙ append_assoc parts.0 (one.0 ∷ one.1) it.1 in
         let mine : AppendsBeginning w.mid after (bytes one.0) = begin (bytes one.0) (λ y is. own one.0 y (sym one.2 ∙ is)) in
         subst (AppendsBeginning before after) (joined parts.0 (one.0 ∷ (one.1 ++ it.1)) cs whole)
         (AppendsBeginning-after before w.mid after (flat_map bytes parts.0) (bytes one.0 ++ flat_map bytes (one.1 ++ it.1)) (subst (Appends before w.mid) front w.written)

@@ -23,12 +23,7 @@ pub(crate) trait RowForm {
     /// Writes the row.
     ///
     /// `Read`: the row isn't the desk's, or memory was refused; nothing was written. `Write`: the writer failed.
-    fn put<W: Write>(
-        &self,
-        alloc: Global,
-        row: &Row,
-        writer: &mut W,
-    ) -> Result<(), ExportFault>
+    fn put<W: Write>(&self, alloc: Global, row: &Row, writer: &mut W) -> Result<(), ExportFault>
         ensures ok { OnOk result (WritesRow (spells self.now row.now)
             (W.contents writer.old) (W.contents writer.new)) }
         ensures err { OnErr result (BeginsRow (spells self.now row.now)
@@ -44,12 +39,7 @@ pub(crate) struct RevokedDigest {
 impl RowForm for RevokedDigest {
     ghost spells = { λ f. IsPart digest_values (sha256_entry_bytes f.owner) };
 
-    fn put<W: Write>(
-        &self,
-        alloc: Global,
-        row: &Row,
-        writer: &mut W,
-    ) -> Result<(), ExportFault> {
+    fn put<W: Write>(&self, alloc: Global, row: &Row, writer: &mut W) -> Result<(), ExportFault> {
         let digest = Digest::from_row(alloc, row)?;
         sha256_entry(&self.owner, &digest, writer)?;
         Ok(())
@@ -65,12 +55,7 @@ pub(crate) struct RevokedCertificate {
 impl RowForm for RevokedCertificate {
     ghost spells = { λ f. IsPart digest_values (x509_sha256_entry_bytes f.owner) };
 
-    fn put<W: Write>(
-        &self,
-        alloc: Global,
-        row: &Row,
-        writer: &mut W,
-    ) -> Result<(), ExportFault> {
+    fn put<W: Write>(&self, alloc: Global, row: &Row, writer: &mut W) -> Result<(), ExportFault> {
         let digest = Digest::from_row(alloc, row)?;
         x509_sha256_entry(&self.owner, &digest, writer)?;
         Ok(())
@@ -84,12 +69,7 @@ pub(crate) struct LevelLine;
 impl RowForm for LevelLine {
     ghost spells = { λ _. IsPart component_values (λ x. row_text x.name x.generation) };
 
-    fn put<W: Write>(
-        &self,
-        alloc: Global,
-        row: &Row,
-        writer: &mut W,
-    ) -> Result<(), ExportFault> {
+    fn put<W: Write>(&self, alloc: Global, row: &Row, writer: &mut W) -> Result<(), ExportFault> {
         let component = Component::from_row(alloc, row)?;
         level_row(&component.name, component.generation, writer)?;
         Ok(())

@@ -10,9 +10,7 @@ ghost use Rattle.desk_sql.specs.States.{DoesInside, Keeps, Spares, StaysInside};
 ghost use Rattle.desk_streams.specs.Exporting.{AreOwn, IsSizeOf, StaysOf, size_of};
 
 use crate::fault::ExportFault;
-use desk_reads::{
-    DeskRow, ReadFault, count_revoked_certificates, count_revoked_digests, own_row,
-};
+use desk_reads::{DeskRow, ReadFault, count_revoked_certificates, count_revoked_digests, own_row};
 use desk_sql::count;
 use desk_statements::COUNT_LISTED_OF;
 use desk_texts::ListedKind;

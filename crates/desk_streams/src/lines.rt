@@ -112,12 +112,7 @@ struct MinuteLine;
 impl RowForm for MinuteLine {
     ghost spells = { λ _. IsPart columns_row line };
 
-    fn put<W: Write>(
-        &self,
-        _alloc: Global,
-        row: &Row,
-        writer: &mut W,
-    ) -> Result<(), ExportFault> {
+    fn put<W: Write>(&self, _alloc: Global, row: &Row, writer: &mut W) -> Result<(), ExportFault> {
         let columns = columns_of(row)?;
         put_line(&columns, writer)?;
         Ok(())

@@ -29,12 +29,7 @@ pub(crate) struct ListedDigest {
 impl RowForm for ListedDigest {
     ghost spells = { λ f. IsPart entry_values (λ e. sha256_entry_bytes f.owner e.digest) };
 
-    fn put<W: Write>(
-        &self,
-        alloc: Global,
-        row: &Row,
-        writer: &mut W,
-    ) -> Result<(), ExportFault> {
+    fn put<W: Write>(&self, alloc: Global, row: &Row, writer: &mut W) -> Result<(), ExportFault> {
         let entry = Entry::from_row(alloc, row)?;
         sha256_entry(&self.owner, &entry.digest, writer)?;
         Ok(())
@@ -71,12 +66,7 @@ pub(crate) struct ListedCertificate {
 impl RowForm for ListedCertificate {
     ghost spells = { λ f. IsPart entry_values (λ e. spelling (x509_row f.owner e.body)) };
 
-    fn put<W: Write>(
-        &self,
-        alloc: Global,
-        row: &Row,
-        writer: &mut W,
-    ) -> Result<(), ExportFault> {
+    fn put<W: Write>(&self, alloc: Global, row: &Row, writer: &mut W) -> Result<(), ExportFault> {
         let entry = Entry::from_row(alloc, row)?;
         put_certificate(&self.owner, entry.body.as_slice(), writer)
     }

@@ -170,10 +170,16 @@ fn exports_are_the_bytes_of_the_calls(rt: HostRuntime) -> Result<(), Fail> {
         "digests come before certificates"
     );
     let mut level = writer(rt.alloc(), 0);
-    assert!(rt; desk.export_level(&mut level) == Ok(()), "the level is written");
+    assert!(rt;
+        desk.export_level(&mut level) == Ok(()),
+        "the level is written"
+    );
     assert!(rt; level.taken.as_slice() == LEVEL.as_bytes(), "names ascend");
     let mut minutes = writer(rt.alloc(), 0);
-    assert!(rt; desk.minutes(&mut minutes) == Ok(()), "the minutes are written");
+    assert!(rt;
+        desk.minutes(&mut minutes) == Ok(()),
+        "the minutes are written"
+    );
     assert!(rt;
         minutes.taken.as_slice() == MINUTES.as_bytes(),
         "the first call comes first"
@@ -212,7 +218,10 @@ fn a_fault_leaves_a_beginning_and_the_desk(rt: HostRuntime) -> Result<(), Fail> 
         }
     }
     let mut whole = writer(rt.alloc(), 0);
-    assert!(rt; desk.export_dbx(&mut whole) == Ok(()), "the desk is as it was");
+    assert!(rt;
+        desk.export_dbx(&mut whole) == Ok(()),
+        "the desk is as it was"
+    );
     assert!(rt; whole.taken.as_slice() == wanted.as_slice(), "so is dbx");
     Ok(())
 }
@@ -220,7 +229,10 @@ fn a_fault_leaves_a_beginning_and_the_desk(rt: HostRuntime) -> Result<(), Fail> 
 #[test]
 fn a_row_that_is_no_desks_is_the_stores_fault(rt: HostRuntime) -> Result<(), Fail> {
     let mut conn = filled_desk(rt.alloc())?.release();
-    conn.execute("UPDATE revoked_digests SET digest = x'bb' WHERE digest > x'bc'", &[])?;
+    conn.execute(
+        "UPDATE revoked_digests SET digest = x'bb' WHERE digest > x'bc'",
+        &[],
+    )?;
     if !conn.is_autocommit() {
         return Err("a desk's connection")?;
     }

@@ -37,4 +37,4 @@ returns-in-Ok-clause-ok g c =
     let late : HasCleanDisk (state g.S.Store last) = omega (arith, c.rollback.ensures.survives.clean, clean) in
     let it = told late in
     let held = (shows.holds (omega (arith, spared.clean, late)) (it.kept.kept.was_open (live late))).0 in
-     (it.tells (tables owner cs) (record { inside = refl; holds = held })))
+    (it.tells (tables owner cs) (record { inside = refl; holds = held })))
