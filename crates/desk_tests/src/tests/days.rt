@@ -52,8 +52,7 @@ fn request_words(alloc: Global, request: &ShownRequest) -> Result<String, Fail> 
     let state = request.state;
     let certificates = request.facts.carried.as_slice().len();
     let components = request.facts.components.as_slice().len();
-    let mut text =
-        format!(in alloc; "{number} {submitter} {state:?} {certificates} {components}")?;
+    let mut text = format!(in alloc; "{number} {submitter} {state:?} {certificates} {components}")?;
     for shown in request.votes.as_slice() {
         let reviewer = shown.reviewer.as_str();
         let vote = shown.vote;
