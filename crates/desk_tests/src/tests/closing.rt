@@ -21,7 +21,10 @@ fn connected(alloc: Global, files: Files<MemoryFile>) -> Result<Connection<Store
 fn closed(desk: Desk<Store>) -> Result<Files<MemoryFile>, Fail> {
     match desk.close() {
         Ok(files) => Ok(files),
-        Err((refusal, _)) => Err(refusal.name())?,
+        Err((refusal, store)) => {
+            drop(store.close());
+            Err(refusal.name())?
+        }
     }
 }
 
