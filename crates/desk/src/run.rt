@@ -3,7 +3,7 @@ use crate::fault::Stop;
 use crate::person::person_from;
 use desk_bytes::{Guid, Refusal, WriteFailed};
 use desk_files::{
-    Ending, Export, Outcome, add_person, export, judge_image, make_desk, read_file, read_image,
+    Ending, Export, Outcome, add_person, export_from, judge_image, make_desk, read_file, read_image,
 };
 use desk_lines::{Fault, print_facts, print_fault, print_list, print_ranges};
 use desk_service::facts;
@@ -105,7 +105,7 @@ fn run_verdict(rt: &HostRuntime, db: &str, file: &str) -> Result<Ending, Stop> {
 /// Writes an export.
 fn run_export(rt: &HostRuntime, db: &str, what: Export) -> Result<Ending, Stop> {
     let mut out = buffered(rt.alloc(), rt.stdout())?;
-    Ok(export(rt, db, what, &mut out))
+    Ok(export_from(rt, db, what, &mut out))
 }
 
 /// Says a fault on standard error, and gives its status.

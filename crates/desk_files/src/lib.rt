@@ -8,4 +8,4 @@ mod working;
 
 pub use ending::{Ending, Outcome};
 pub use file::{read_file, read_image};
-pub use working::{Export, add_person, export, judge_image, make_desk};
+pub use working::{Export, add_person, export_from, judge_image, make_desk};

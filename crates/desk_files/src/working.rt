@@ -142,7 +142,7 @@ fn write_export<S: Alter + Drop, W: Write>(
 
 /// Writes an export of the desk in a file, whose faults are told as `add_person` tells them. What stops
 /// it may leave a beginning of the export in the writer.
-pub fn export<W: Write>(rt: &HostRuntime, path: &str, what: Export, writer: &mut W) -> Ending {
+pub fn export_from<W: Write>(rt: &HostRuntime, path: &str, what: Export, writer: &mut W) -> Ending {
     match open(rt, path) {
         Ok(mut desk) => {
             let work = write_export(&mut desk, what, writer);
