@@ -1,12 +1,11 @@
 //! Desks made, given back and opened again, and stores that hold none.
 use desk_bytes::{Digest, Guid, Refusal};
-use desk_reports::report;
-use desk_rules::decide;
+use desk_rules::{decide, verdict};
 use desk_store::Desk;
 use desk_texts::{
     Ballot, Call, Caller, Carried, Certificate, Command, Components, Digests, Extent, Facts,
     Import, ImportedComponents, Key, ListedKind, Listing, Note, Person, PersonName, Raise, Reply,
-    RequestNumber, ReturnedFile, Role, ShownRequest, Submission, Title, Vote, reply_text,
+    RequestNumber, ReturnedFile, Role, Submission, Title, Vote, reply_text,
 };
 use sbat::{Component, ComponentName, Generation, Stamp};
 use sqlite::{Alter, Connection, MemStore, params};

@@ -27,11 +27,11 @@ impl<'a> Words<'a> {
     }
 
     /// The next word, as the byte of a digest.
-    pub(super) fn digest(&mut self) -> Result<Digest, Fail> {
+    fn digest(&mut self) -> Result<Digest, Fail> {
         Ok(digest(self.text()?.parse::<u8>()?))
     }
 
-    pub(super) fn request(&mut self) -> Result<RequestNumber, Fail> {
+    fn request(&mut self) -> Result<RequestNumber, Fail> {
         Ok(RequestNumber::new(self.number()?).ok_or("a request's number")?)
     }
 

@@ -84,96 +84,18 @@ pub(super) fn answer<S: Alter + Drop>(
 /// What the desk says of an image, in words.
 fn said(alloc: Global, desk: &mut Desk<MemStore>, words: &mut Words) -> Result<String, Fail> {
     let facts = words.facts()?;
-    match desk.verdict(&facts) {
-        Ok(verdict) => Ok(format!(in alloc; "{verdict:?}")?),
+    match desk.list_view(&facts) {
+        Ok(view) => Ok(format!(in alloc; "{:?}", verdict(&view, &facts))?),
         Err(refusal) => Ok(String::from_str(alloc, refusal.name())?),
     }
-}
-
-/// A request that is shown, in words: its number, submitter and state, how many certificates and components its image
-/// has, the votes, and the length of what was returned.
-fn request_words(alloc: Global, request: &ShownRequest) -> Result<String, Fail> {
-    let number = request.number.value();
-    let submitter = request.submitter.as_str();
-    let state = request.state;
-    let certificates = request.facts.carried.as_slice().len();
-    let components = request.facts.components.as_slice().len();
-    let mut text = format!(in alloc; "{number} {submitter} {state:?} {certificates} {components}")?;
-    for shown in request.votes.as_slice() {
-        let reviewer = shown.reviewer.as_str();
-        let vote = shown.vote;
-        text.push_str(format!(in alloc; " {reviewer} {vote:?}")?.as_str())?;
-    }
-    if let Some(returned) = request.returned {
-        let length = returned.length;
-        text.push_str(format!(in alloc; " returned {length}")?.as_str())?;
-    }
-    Ok(text)
-}
-
-/// What a person is told who asks for a request, in words.
-fn shown(alloc: Global, desk: &mut Desk<MemStore>, words: &mut Words) -> Result<String, Fail> {
-    let caller = caller(alloc, words.text()?)?;
-    let number = words.request()?;
-    match desk.request(&caller, number) {
-        Ok(request) => request_words(alloc, &request),
-        Err(refusal) => Ok(String::from_str(alloc, refusal.name())?),
-    }
-}
-
-/// What a person is told who asks for all requests, in words.
-fn all_shown(alloc: Global, desk: &mut Desk<MemStore>, words: &mut Words) -> Result<String, Fail> {
-    let caller = caller(alloc, words.text()?)?;
-    let requests = match desk.requests_of(&caller) {
-        Ok(requests) => requests,
-        Err(refusal) => return Ok(String::from_str(alloc, refusal.name())?),
-    };
-    let mut text = String::new(alloc);
-    for request in &requests {
-        text.push_str(request_words(alloc, request)?.as_str())?;
-        text.push_str(";")?;
-    }
-    Ok(text)
-}
-
-/// Who has a token, by the name.
-fn who(alloc: Global, desk: &mut Desk<MemStore>, words: &mut Words) -> Result<String, Fail> {
-    let token = words.digest()?;
-    match desk.person_of(&token) {
-        Ok(Some(person)) => Ok(String::from_str(alloc, person.name.as_str())?),
-        Ok(None) => Ok(String::from_str(alloc, "nobody")?),
-        Err(refusal) => Ok(String::from_str(alloc, refusal.name())?),
-    }
-}
-
-/// The report of the desk, its words parted by one space each.
-fn counted(alloc: Global, desk: &mut Desk<MemStore>) -> Result<String, Fail> {
-    let counts = match desk.counts() {
-        Ok(counts) => counts,
-        Err(refusal) => return Err(refusal.name())?,
-    };
-    let text = report(alloc, &counts)?;
-    let mut line = String::new(alloc);
-    for word in text.split_whitespace() {
-        if !line.is_empty() {
-            line.push_str(" ")?;
-        }
-        line.push_str(word)?;
-    }
-    Ok(line)
 }
 
 /// The answer to a line: `WHO KEY VERB ..` is a call, `alone WHO KEY VERB ..` one with no view before it, `verdict IMAGE`
-/// asks of an image, `shows WHO REQUEST` and `lists WHO` of requests, `who TOKEN` of
-/// people, `report` of what is counted.
+/// asks of an image.
 fn played(alloc: Global, desk: &mut Desk<MemStore>, line: &str) -> Result<String, Fail> {
     let mut words = Words::new(alloc, line);
     match words.text()? {
         "verdict" => said(alloc, desk, &mut words),
-        "shows" => shown(alloc, desk, &mut words),
-        "lists" => all_shown(alloc, desk, &mut words),
-        "who" => who(alloc, desk, &mut words),
-        "report" => counted(alloc, desk),
         "alone" => {
             let who = words.text()?;
             let call = call(alloc, &mut words, who)?;
@@ -226,7 +148,7 @@ rita r1 yes 1 : reviewed 1 open
 rita r2 yes 1 : AlreadyReviewed
 raul r1 yes 1 : reviewed 1 approved
 rosa r1 yes 1 : WrongState
-rita r2 submit shim 162 162 2 171 170 2 shim 4 grub 3 : submitted 2
+rita r2 submit shim 160 160 0 0 : submitted 2
 rita r3 yes 2 : OwnRequest
 rosa r1 no 2 : reviewed 2 rejected
 ann a2 withdraw 2 : NoSuchRequest
@@ -237,18 +159,6 @@ sid s1 return 1 161 161 1 204 0 : DigestDiffers
 reopen
 sid s1 return 1 160 160 1 204 0 : returned 1
 sid s2 return 1 160 160 1 204 0 : WrongState
-shows ann 1 : 1 ann Signed 0 0 raul Yes rita Yes returned 1024
-shows ann 2 : NoSuchRequest
-shows ann 9 : NoSuchRequest
-shows rita 2 : 2 rita Rejected 2 2 rosa No
-shows sid 1 : 1 ann Signed 0 0 raul Yes rita Yes returned 1024
-shows olga 9 : NoSuchRequest
-shows eve 1 : UnknownCaller
-shows console 1 : NotYourRole
-lists ann : 1 ann Signed 0 0 raul Yes rita Yes returned 1024;
-lists rita : 1 ann Signed 0 0 raul Yes rita Yes returned 1024;2 rita Rejected 2 2 rosa No;
-lists eve : UnknownCaller
-lists console : NotYourRole
 verdict 160 160 1 204 0 : Allowed
 verdict 160 160 0 0 : NotListed
 olga o2 revoke-certificate 204 : revoked
@@ -264,11 +174,7 @@ ann a4 submit shim 160 160 0 0 : Revoked
 reopen
 sid s1 return 1 160 160 1 204 0 : returned 1
 olga o5 list 33 : listed
-olga o6 unlist 33 : unlisted
-who 3 : raul
-who 9 : nobody
-report : people 6 requests 3 open 0 approved 0 rejected 1 withdrawn 1 signed 1 listed digests 0 listed certificates 0 \
-revoked digests 1 revoked certificates 1 level components 0 commands 20 stamp 2021030218";
+olga o6 unlist 33 : unlisted";
 
 /// The level rises, and revocations are imported.
 const LEVELS: &str = "\
