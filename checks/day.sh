@@ -154,6 +154,7 @@ run 0 added '' ann person empty.db ann submitter k1
 mkfifo image
 "$program" verdict desk.db image > judged 2> err_judged &
 judge=$!
+sleep 1
 tries=0
 until "$program" verdict desk.db text > /dev/null 2> err; [ "$(cat err)" = 'device 45 File' ]; do
     tries=$((tries + 1))
