@@ -1,0 +1,30 @@
+//! A body that is an image.
+ghost use Rattle.std.specs.Prelude.{◌≡◌, IfOk, IfSome};
+ghost use Rattle.desk_http.specs.Bodies.{body_in};
+
+use crate::served::Unread;
+use pe_image::{Pieces, PiecesFault, Source};
+use std::alloc::Global;
+use std::io::Read;
+
+/// Reads the `size` bytes of an image into pieces, or gives `None` where the input ends before them. Nothing
+/// past them is asked for. Takes memory for what it reads, as it comes.
+pub(crate) fn read_image<R: Read>(
+    alloc: Global,
+    reader: &mut R,
+    size: usize,
+) -> Result<Option<Pieces>, Unread>
+    ensures { IfOk result (λ image. IfSome (R.remaining reader.old) (λ b. image ≡ body_in size b)) }
+{
+    match Pieces::take(alloc, reader, size as u64) {
+        Ok(image) => {
+            if image.len() < size as u64 {
+                Ok(None)
+            } else {
+                Ok(Some(image))
+            }
+        }
+        Err(PiecesFault::Read) => Err(Unread::Read),
+        Err(PiecesFault::NoMemory) => Err(Unread::NoMemory),
+    }
+}
