@@ -1,6 +1,6 @@
--- What is asked for at a route, and what the bytes after a request change.
-use Rattle.std.proofs.Common.{◌≡◌, ◌∙◌, ℕ, ◌≤◌, List, [], ◌++◌, length, take, refl, sym, ap, arith, true, Option, Some, None, Result, Ok, Err, IfOk, nat_le}
-use Rattle.std.proofs.lemmas.List.{append-nil, take-append-le}
+-- What is asked for at a route, and what the bytes of a head begin with.
+use Rattle.std.proofs.Common.{◌≡◌, ℕ, List, [], refl, sym, subst, Option, Some, None, Result, Ok, Err, IfOk}
+use Rattle.std.proofs.lemmas.List.{append-nil}
 use Rattle.httparse.specs.Grammar.{RequestHead, print_request, ReadsRequest}
 use Rattle.desk_heads.specs.Heads.{HasHead}
 use Rattle.desk_requests.specs.Asked.{asked_at, asked_of, keyed, titled, stamped, numbered, key_in, title_in, stamp_in, number_in}
@@ -9,8 +9,7 @@ use Rattle.desk_requests.specs.declared.ask.Asked.{Asked}
 use Rattle.desk_requests.specs.declared.fault.AskedFault.{AskedFault}
 use Rattle.desk_requests.specs.declared.route.Route.{Route}
 use Rattle.desk_requests.specs.declared.route.Route.TheVariants as route
-use Rattle.desk_http.specs.Bodies.{takes_image}
-use Rattle.desk_http.specs.Tasks.{asks_with_image}
+use Rattle.desk_http.specs.Bodies.{asks_with_image, takes_image}
 
 -- ---- the body of what is asked for is an image exactly where the route's is
 
@@ -64,7 +63,7 @@ asked_with_body route.Level w = refl
 asked_with_body route.Report w = refl
 
 pub asks_as_its_route : (w : Want) (a : Asked) → asked_of w ≡ Ok a → asks_with_image a ≡ takes_image w.route
-asks_as_its_route w a e = let P = Holds (HasBodyOf w.route) in subst P e (asked_with_body w.route w)
+asks_as_its_route w a e = let P : Result Asked AskedFault → Type 0 = λ r. Holds (HasBodyOf w.route) r in subst P e (asked_with_body w.route w)
 
 -- ---- heads
 

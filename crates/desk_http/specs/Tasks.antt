@@ -1,5 +1,5 @@
 -- own: what a request with a body calls the desk for.
-use Rattle.std.specs.Prelude.{ℕ, List, Bool, true, false, Option, Some, option_map}
+use Rattle.std.specs.Prelude.{ℕ, List, Option, Some, option_map}
 use Rattle.desk_bodies.specs.Bodies.{review_of, named_digest, unlist_of, level_of}
 use Rattle.desk_requests.specs.declared.ask.Asked.{Asked}
 use Rattle.desk_requests.specs.declared.ask.Asked.TheVariants as asked
@@ -29,10 +29,3 @@ task_of asked.Dbx body = Some task.Dbx
 task_of asked.Db body = Some task.Db
 task_of asked.Level body = Some task.Level
 task_of asked.Report body = Some task.Report
-
--- its body is an image
-abbrev pub asks_with_image : Asked → Bool
-asks_with_image (asked.Submit key title) = true
-asks_with_image (asked.Return key number) = true
-asks_with_image asked.Verdict = true
-asks_with_image _ = false

@@ -1,8 +1,9 @@
 //! What a person asks for with a body.
-ghost use Rattle.std.specs.Prelude.{◌≡◌, IfOk, IfSome, Some, false, true};
+ghost use Rattle.std.specs.Prelude.{◌≡◌, Err, IfErr, IfOk, IfSome, MatchResult, Ok, Some, false, true};
 ghost use Rattle.desk_requests.specs.Wanted.{shown};
 ghost use Rattle.desk_http.specs.Asked as spec;
 ghost use Rattle.desk_http.specs.Bodies as bodies;
+ghost use Rattle.desk_http.specs.Unread.{CanCome};
 
 use crate::body_reading::read_bytes;
 use crate::image_reading::read_image;
@@ -13,7 +14,7 @@ use desk_requests::{AskedFault, Route, Wanted, asked};
 use desk_responses::{Outage, Refused};
 use desk_texts::Person;
 use pe_image::Pieces;
-use std::alloc::Global;
+use std::alloc::{AllocError, Global};
 use std::io::Read;
 
 /// Whether the route's body is an image.
@@ -43,13 +44,12 @@ fn takes_image(route: Route) -> bool
 }
 
 /// What a person asks for with an image.
-#[tactic(auto, using(crate::proofs::AskLemmas::asks_as_its_route))]
 fn ask_with_image(
     alloc: Global,
     person: Person,
     wanted: &Wanted<'_>,
     image: Pieces,
-) -> Result<Due, Unread>
+) -> Result<Due, AllocError>
     requires { bodies.takes_image wanted.now.route ≡ true }
     ensures { IfOk result (λ due. due ≡ spec.of_body person (shown wanted.now) (Some image)) }
 {
@@ -60,18 +60,17 @@ fn ask_with_image(
         }
         Err(AskedFault::BadField) => Ok(Err(Refused::BadField)),
         Err(AskedFault::NoSuchRequest) => Ok(Err(Refused::NoSuchRequest)),
-        Err(AskedFault::NoMemory) => Err(Unread::Outage(Outage::NoMemory)),
+        Err(AskedFault::NoMemory) => Err(AllocError),
     }
 }
 
 /// What a person asks for with a body that is no image.
-#[tactic(auto, using(crate::proofs::AskLemmas::asks_as_its_route))]
 fn ask_with_body(
     alloc: Global,
     person: Person,
     wanted: &Wanted<'_>,
     body: Vec<u8>,
-) -> Result<Due, Unread>
+) -> Result<Due, AllocError>
     requires { bodies.takes_image wanted.now.route ≡ false }
     ensures { IfOk result (λ due. due ≡ spec.of_body person (shown wanted.now) (Some body.items)) }
 {
@@ -82,7 +81,18 @@ fn ask_with_body(
         },
         Err(AskedFault::BadField) => Ok(Err(Refused::BadField)),
         Err(AskedFault::NoSuchRequest) => Ok(Err(Refused::NoSuchRequest)),
-        Err(AskedFault::NoMemory) => Err(Unread::Outage(Outage::NoMemory)),
+        Err(AskedFault::NoMemory) => Err(AllocError),
+    }
+}
+
+/// The same, where want of memory is told as the desk's.
+fn or_unread(due: Result<Due, AllocError>) -> Result<Due, Unread>
+    ensures { MatchResult due (λ given. result ≡ Ok given)
+        (λ _. result ≡ Err (Unread.Outage Outage.NoMemory)) }
+{
+    match due {
+        Ok(due) => Ok(due),
+        Err(AllocError) => Err(Unread::Outage(Outage::NoMemory)),
     }
 }
 
@@ -93,17 +103,18 @@ pub(crate) fn ask<R: Read>(
     wanted: &Wanted<'_>,
     reader: &mut R,
 ) -> Result<Due, Unread>
-    ensures { IfOk result (λ due. IfSome (R.remaining reader.old) (λ rest.
+    ensures asked { IfOk result (λ due. IfSome (R.remaining reader.old) (λ rest.
         due ≡ spec.of_body person (shown wanted.now) (bodies.body_in wanted.now.size rest))) }
+    ensures named { IfErr result CanCome }
 {
     if takes_image(wanted.route) {
         match read_image(alloc, reader, wanted.size)? {
-            Some(image) => ask_with_image(alloc, person, wanted, image),
+            Some(image) => or_unread(ask_with_image(alloc, person, wanted, image)),
             None => Ok(Err(Refused::BadHead)),
         }
     } else {
         match read_bytes(alloc, reader, wanted.size)? {
-            Some(body) => ask_with_body(alloc, person, wanted, body),
+            Some(body) => or_unread(ask_with_body(alloc, person, wanted, body)),
             None => Ok(Err(Refused::BadHead)),
         }
     }

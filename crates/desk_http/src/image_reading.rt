@@ -1,6 +1,7 @@
 //! A body that is an image.
-ghost use Rattle.std.specs.Prelude.{◌≡◌, IfOk, IfSome};
+ghost use Rattle.std.specs.Prelude.{◌≡◌, IfErr, IfOk, IfSome};
 ghost use Rattle.desk_http.specs.Bodies.{body_in};
+ghost use Rattle.desk_http.specs.Unread.{CanCome};
 
 use crate::served::Unread;
 use pe_image::{Pieces, PiecesFault, Source};
@@ -14,7 +15,8 @@ pub(crate) fn read_image<R: Read>(
     reader: &mut R,
     size: usize,
 ) -> Result<Option<Pieces>, Unread>
-    ensures { IfOk result (λ image. IfSome (R.remaining reader.old) (λ b. image ≡ body_in size b)) }
+    ensures body { IfOk result (λ image. IfSome (R.remaining reader.old) (λ b. image ≡ body_in size b)) }
+    ensures named { IfErr result CanCome }
 {
     match Pieces::take(alloc, reader, size as u64) {
         Ok(image) => {

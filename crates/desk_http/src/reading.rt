@@ -1,8 +1,9 @@
 //! What the input of a connection asks for.
-ghost use Rattle.std.specs.Prelude.{◌≡◌, ◌≢◌, ℕ, List, Err, IfErr, IfOk, IfSome, MatchOption, MatchResult};
+ghost use Rattle.std.specs.Prelude.{◌≡◌, ◌≢◌, ℕ, List, [], Err, IfErr, IfOk, IfSome, MatchOption, MatchResult};
 ghost use Rattle.httparse.specs.Grammar.{ReadsRequest, RequestHead};
 ghost use Rattle.desk_heads.specs.Fields.{parts_of};
 ghost use Rattle.desk_heads.specs.Heads.{HasFewFields};
+ghost use Rattle.desk_requests.specs.Fields.{bytes_of};
 ghost use Rattle.desk_requests.specs.Wanted as wants;
 ghost use Rattle.desk_calls.specs.Desks.{Keeps, Views};
 ghost use Rattle.desk_http.specs.Asked as spec;
@@ -111,13 +112,16 @@ pub(crate) fn read_due<D: Answering, R: Read>(
     ensures before { D.clean desk.new → D.clean desk.old }
     ensures named { Views (D.shows desk.old) (λ _ _. IfErr result CanCome) }
 {
-    match read_head(alloc, reader) {
-        Ok(Begun::Nothing) => Ok(None),
-        Ok(Begun::NoHead) => Ok(Some(Err(Refused::BadHead))),
-        Ok(Begun::Head(head)) => match ask_by_head(alloc, desk, &head, reader) {
-            Ok(due) => Ok(Some(due)),
-            Err(unread) => Err(unread),
-        },
-        Err(fault) => Err(unread(fault)),
+    let head = match read_head(alloc, reader) {
+        Ok(Begun::Head(head)) => head,
+        Ok(Begun::Nothing) => return Ok(None),
+        Ok(Begun::NoHead) => return Ok(Some(Err(Refused::BadHead))),
+        Err(fault) => return Err(unread(fault)),
+    };
+    let due = ask_by_head(alloc, desk, &head, reader);
+    drop(head);
+    match due {
+        Ok(due) => Ok(Some(due)),
+        Err(unread) => Err(unread),
     }
 }

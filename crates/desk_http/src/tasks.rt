@@ -1,22 +1,21 @@
 //! What a request with a body calls the desk for.
 ghost use Rattle.std.specs.Prelude.{◌≡◌, IfOk, Some, false, true};
 ghost use Rattle.desk_bodies.specs.Bodies as bodies;
+ghost use Rattle.desk_http.specs.Bodies.{asks_with_image};
 ghost use Rattle.desk_http.specs.Tasks as spec;
 
-use crate::served::Unread;
 use desk_bodies::{
     BodyFault, LevelBody, ReviewBody, UnlistBody, read_digest, read_level, read_review, read_unlist,
 };
 use desk_bytes::Digest;
 use desk_calls::{Octets, Task};
 use desk_requests::Asked;
-use desk_responses::Outage;
 use pe_image::Pieces;
-use std::alloc::Global;
+use std::alloc::{AllocError, Global};
 
 /// The task of a request whose body is an image.
 pub(crate) fn task_with_image(asked: Asked, image: Pieces) -> Task
-    requires { spec.asks_with_image asked ≡ true }
+    requires { asks_with_image asked ≡ true }
     ensures { spec.task_of asked image ≡ Some result }
 {
     match asked {
@@ -44,46 +43,46 @@ pub(crate) fn task_with_image(asked: Asked, image: Pieces) -> Task
 }
 
 /// The review that a body says, if it says one.
-fn review(alloc: Global, body: &[u8]) -> Result<Option<ReviewBody>, Unread>
+fn review(alloc: Global, body: &[u8]) -> Result<Option<ReviewBody>, AllocError>
     ensures { IfOk result (λ review. review ≡ bodies.review_of body.now) }
 {
     match read_review(alloc, body) {
         Ok(review) => Ok(Some(review)),
         Err(BodyFault::BadBody) => Ok(None),
-        Err(BodyFault::NoMemory) => Err(Unread::Outage(Outage::NoMemory)),
+        Err(BodyFault::NoMemory) => Err(AllocError),
     }
 }
 
 /// The digest that a body says, if it says one.
-fn digest(alloc: Global, body: &[u8]) -> Result<Option<Digest>, Unread>
+fn digest(alloc: Global, body: &[u8]) -> Result<Option<Digest>, AllocError>
     ensures { IfOk result (λ digest. digest ≡ bodies.named_digest body.now) }
 {
     match read_digest(alloc, body) {
         Ok(digest) => Ok(Some(digest)),
         Err(BodyFault::BadBody) => Ok(None),
-        Err(BodyFault::NoMemory) => Err(Unread::Outage(Outage::NoMemory)),
+        Err(BodyFault::NoMemory) => Err(AllocError),
     }
 }
 
 /// What a body says is taken off the list, if it says it.
-fn unlist(alloc: Global, body: &[u8]) -> Result<Option<UnlistBody>, Unread>
+fn unlist(alloc: Global, body: &[u8]) -> Result<Option<UnlistBody>, AllocError>
     ensures { IfOk result (λ unlist. unlist ≡ bodies.unlist_of body.now) }
 {
     match read_unlist(alloc, body) {
         Ok(unlist) => Ok(Some(unlist)),
         Err(BodyFault::BadBody) => Ok(None),
-        Err(BodyFault::NoMemory) => Err(Unread::Outage(Outage::NoMemory)),
+        Err(BodyFault::NoMemory) => Err(AllocError),
     }
 }
 
 /// What a body says the level is raised by, if it says it.
-fn level(alloc: Global, body: &[u8]) -> Result<Option<LevelBody>, Unread>
+fn level(alloc: Global, body: &[u8]) -> Result<Option<LevelBody>, AllocError>
     ensures { IfOk result (λ level. level ≡ bodies.level_of body.now) }
 {
     match read_level(alloc, body) {
         Ok(level) => Ok(Some(level)),
         Err(BodyFault::BadBody) => Ok(None),
-        Err(BodyFault::NoMemory) => Err(Unread::Outage(Outage::NoMemory)),
+        Err(BodyFault::NoMemory) => Err(AllocError),
     }
 }
 
@@ -93,8 +92,8 @@ pub(crate) fn task_with_body(
     alloc: Global,
     asked: Asked,
     body: Vec<u8>,
-) -> Result<Option<Task>, Unread>
-    requires { spec.asks_with_image asked ≡ false }
+) -> Result<Option<Task>, AllocError>
+    requires { asks_with_image asked ≡ false }
     ensures { IfOk result (λ task. task ≡ spec.task_of asked body.items) }
 {
     let task = match asked {
