@@ -15,7 +15,7 @@ pub one_more : (owner : List ℕ) (cs : History) (bs : List (List ℕ)) (b text 
     → RespondsToEach owner cs (bs ++ b ∷ []) (text ++ one) later
 one_more owner cs [] b text one last later each more =
     let P : History → Type 0 = λ h. RespondsTo owner h b one later in
-    (one, [], later, subst P each.1 more, rw each.0 (sym (append-nil one)), refl, refl)
+    (one, [], later, subst P each.1 more, rw each.0 (sym (append-nil one)), (refl, refl))
 one_more owner cs (x ∷ bs) b text one last later each more = (
   each.0,
   each.1 ++ one,
@@ -27,7 +27,7 @@ one_more owner cs (x ∷ bs) b text one last later each more = (
 
 not_outage : (a told : Answer) (code number : ℕ) → told ≡ a → IsTold told code number → is_outage_number (number_of a) ≡ true
     → is_outage_number number ≡ false → ⊥
-not_outage a told code number same says yes no =
+not_outage a told code number same says known no =
     let e : number ≡ number_of a = says.number ∙ ap number_of same in
     let both : is_outage_number (number_of a) ≡ false = rw e at no in cc
 
