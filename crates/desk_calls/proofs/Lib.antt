@@ -1,2 +1,3 @@
 pub mod RefusalLemmas
 pub mod AnswerLemmas
+pub mod LawLemmas
