@@ -4,11 +4,11 @@ ghost use Rattle.sqlite.specs.Held.{state};
 ghost use Rattle.sqlite.specs.State.{HasCleanDisk};
 ghost use Rattle.desk_store.specs.Desks.{ShowsDesk};
 
+use crate::open_desk::OpenDesk;
 use desk_bytes::{Digest, Refusal};
 use desk_calls::{Answering, Octets, ShownRequests};
 use desk_history::Verdict;
 use desk_reports::{report, report_is_the_history};
-use desk_store::Desk;
 use desk_texts::{Caller, Command, Facts, Key, Person, Reply, RequestNumber, ShownRequest};
 use sqlite::Alter;
 use std::alloc::Global;
@@ -21,29 +21,29 @@ fn into_memory(refusal: Refusal) -> Refusal {
     refusal
 }
 
-impl<S: Alter + Drop> Answering for Desk<S> {
-    ghost shows = { λ desk owner cs. ShowsDesk S.Store desk owner cs };
+impl<S: Alter + Drop> Answering for OpenDesk<S> {
+    ghost shows = { λ kept owner cs. ShowsDesk S.Store kept.desk owner cs };
 
-    ghost clean = { λ desk. HasCleanDisk (state S.Store desk.conn) };
+    ghost clean = { λ kept. HasCleanDisk (state S.Store kept.desk.conn) };
 
     fn person_of(&mut self, token: &Digest) -> Result<Option<Person>, Refusal> {
-        Desk::person_of(self, token)
+        self.desk.person_of(token)
     }
 
     fn apply(&mut self, caller: &Caller, key: &Key, command: &Command) -> Result<Reply, Refusal> {
-        Desk::apply(self, caller, key, command)
+        self.desk.apply(caller, key, command)
     }
 
     fn verdict(&mut self, facts: &Facts) -> Result<Verdict, Refusal> {
-        Desk::verdict(self, facts)
+        self.desk.verdict(facts)
     }
 
     fn request(&mut self, caller: &Caller, number: RequestNumber) -> Result<ShownRequest, Refusal> {
-        Desk::request(self, caller, number)
+        self.desk.request(caller, number)
     }
 
     fn requests_of(&mut self, caller: &Caller) -> Result<ShownRequests, Refusal> {
-        match Desk::requests_of(self, caller) {
+        match self.desk.requests_of(caller) {
             Ok(requests) => Ok(ShownRequests::new(requests)),
             Err(refusal) => Err(refusal),
         }
@@ -51,7 +51,7 @@ impl<S: Alter + Drop> Answering for Desk<S> {
 
     fn dbx(&mut self, alloc: Global) -> Result<Octets, Refusal> {
         let mut bytes = Vec::new(alloc);
-        match self.export_dbx(&mut bytes) {
+        match self.desk.export_dbx(&mut bytes) {
             Ok(()) => Ok(Octets::new(bytes)),
             Err(refusal) => Err(into_memory(refusal)),
         }
@@ -59,7 +59,7 @@ impl<S: Alter + Drop> Answering for Desk<S> {
 
     fn db(&mut self, alloc: Global) -> Result<Octets, Refusal> {
         let mut bytes = Vec::new(alloc);
-        match self.export_db(&mut bytes) {
+        match self.desk.export_db(&mut bytes) {
             Ok(()) => Ok(Octets::new(bytes)),
             Err(refusal) => Err(into_memory(refusal)),
         }
@@ -67,7 +67,7 @@ impl<S: Alter + Drop> Answering for Desk<S> {
 
     fn level(&mut self, alloc: Global) -> Result<Octets, Refusal> {
         let mut bytes = Vec::new(alloc);
-        match self.export_level(&mut bytes) {
+        match self.desk.export_level(&mut bytes) {
             Ok(()) => Ok(Octets::new(bytes)),
             Err(refusal) => Err(into_memory(refusal)),
         }
@@ -75,7 +75,7 @@ impl<S: Alter + Drop> Answering for Desk<S> {
 
     fn report(&mut self, alloc: Global) -> Result<Octets, Refusal> {
         report_is_the_history();
-        let counts = match self.counts() {
+        let counts = match self.desk.counts() {
             Ok(counts) => counts,
             Err(refusal) => return Err(refusal),
         };

@@ -2,6 +2,8 @@
 #![tactic(auto)]
 
 mod answering;
+mod open_desk;
 mod serving;
 
+pub use open_desk::OpenDesk;
 pub use serving::answer;
