@@ -1,3 +1,4 @@
-pub mod RefusalLemmas
 pub mod AnswerLemmas
+pub mod BodyLemmas
 pub mod LawLemmas
+pub mod RefusalLemmas

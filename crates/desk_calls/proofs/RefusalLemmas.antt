@@ -64,75 +64,78 @@ apart refusals.LengthNeeded = inr (inr ((λ e. cc), (λ e. cc)))
 apart refusals.TooLarge = inr (inr ((λ e. cc), (λ e. cc)))
 apart refusals.NotSupported = inr (inr ((λ e. cc), (λ e. cc)))
 
+not_true : IsTrue false → ⊥
+not_true h = cc
+
 -- the desk's rules refuse by what can be told
 pub told_by_rules : (r : Refusal) → IsTrue (may_answer r) → IsSome (refused_of r)
-told_by_rules refusals.Short h = absurd h
-told_by_rules refusals.NoMz h = absurd h
-told_by_rules refusals.NoPe h = absurd h
-told_by_rules refusals.Magic h = absurd h
-told_by_rules refusals.NotEfi h = absurd h
-told_by_rules refusals.Headers h = absurd h
-told_by_rules refusals.Sections h = absurd h
-told_by_rules refusals.Overlap h = absurd h
-told_by_rules refusals.Table h = absurd h
-told_by_rules refusals.Der h = absurd h
-told_by_rules refusals.TwoSbat h = absurd h
-told_by_rules refusals.SbatRow h = absurd h
-told_by_rules refusals.TooLong h = absurd h
-told_by_rules refusals.Read h = absurd h
-told_by_rules refusals.List h = absurd h
-told_by_rules refusals.EntrySize h = absurd h
-told_by_rules refusals.Write h = absurd h
-told_by_rules refusals.Line h = absurd h
-told_by_rules refusals.CsvRow h = absurd h
-told_by_rules refusals.UnknownCaller h = tt
-told_by_rules refusals.NotYourRole h = tt
-told_by_rules refusals.KeyReused h = tt
-told_by_rules refusals.NoSuchRequest h = tt
-told_by_rules refusals.WrongState h = tt
-told_by_rules refusals.OwnRequest h = tt
-told_by_rules refusals.AlreadyReviewed h = tt
-told_by_rules refusals.DigestDiffers h = tt
-told_by_rules refusals.Revoked h = tt
-told_by_rules refusals.NotListed h = tt
-told_by_rules refusals.AlreadyRevoked h = tt
-told_by_rules refusals.NotHigher h = tt
-told_by_rules refusals.StampNotLater h = tt
-told_by_rules refusals.AlreadyListed h = tt
-told_by_rules refusals.NotThere h = tt
-told_by_rules refusals.NameTaken h = tt
-told_by_rules refusals.Full h = tt
-told_by_rules refusals.NoMemory h = tt
-told_by_rules refusals.Store h = absurd h
-told_by_rules refusals.Reopen h = absurd h
-told_by_rules refusals.NotADesk h = absurd h
-told_by_rules refusals.Version h = absurd h
-told_by_rules refusals.File h = absurd h
-told_by_rules refusals.Exists h = absurd h
-told_by_rules refusals.BadHead h = absurd h
-told_by_rules refusals.BadField h = absurd h
-told_by_rules refusals.BadBody h = absurd h
-told_by_rules refusals.NoRoute h = absurd h
-told_by_rules refusals.BadMethod h = absurd h
-told_by_rules refusals.LengthNeeded h = absurd h
-told_by_rules refusals.TooLarge h = absurd h
-told_by_rules refusals.NotSupported h = absurd h
+told_by_rules refusals.Short h = absurd (not_true h)
+told_by_rules refusals.NoMz h = absurd (not_true h)
+told_by_rules refusals.NoPe h = absurd (not_true h)
+told_by_rules refusals.Magic h = absurd (not_true h)
+told_by_rules refusals.NotEfi h = absurd (not_true h)
+told_by_rules refusals.Headers h = absurd (not_true h)
+told_by_rules refusals.Sections h = absurd (not_true h)
+told_by_rules refusals.Overlap h = absurd (not_true h)
+told_by_rules refusals.Table h = absurd (not_true h)
+told_by_rules refusals.Der h = absurd (not_true h)
+told_by_rules refusals.TwoSbat h = absurd (not_true h)
+told_by_rules refusals.SbatRow h = absurd (not_true h)
+told_by_rules refusals.TooLong h = absurd (not_true h)
+told_by_rules refusals.Read h = absurd (not_true h)
+told_by_rules refusals.List h = absurd (not_true h)
+told_by_rules refusals.EntrySize h = absurd (not_true h)
+told_by_rules refusals.Write h = absurd (not_true h)
+told_by_rules refusals.Line h = absurd (not_true h)
+told_by_rules refusals.CsvRow h = absurd (not_true h)
+told_by_rules refusals.UnknownCaller h = refl
+told_by_rules refusals.NotYourRole h = refl
+told_by_rules refusals.KeyReused h = refl
+told_by_rules refusals.NoSuchRequest h = refl
+told_by_rules refusals.WrongState h = refl
+told_by_rules refusals.OwnRequest h = refl
+told_by_rules refusals.AlreadyReviewed h = refl
+told_by_rules refusals.DigestDiffers h = refl
+told_by_rules refusals.Revoked h = refl
+told_by_rules refusals.NotListed h = refl
+told_by_rules refusals.AlreadyRevoked h = refl
+told_by_rules refusals.NotHigher h = refl
+told_by_rules refusals.StampNotLater h = refl
+told_by_rules refusals.AlreadyListed h = refl
+told_by_rules refusals.NotThere h = refl
+told_by_rules refusals.NameTaken h = refl
+told_by_rules refusals.Full h = refl
+told_by_rules refusals.NoMemory h = refl
+told_by_rules refusals.Store h = absurd (not_true h)
+told_by_rules refusals.Reopen h = absurd (not_true h)
+told_by_rules refusals.NotADesk h = absurd (not_true h)
+told_by_rules refusals.Version h = absurd (not_true h)
+told_by_rules refusals.File h = absurd (not_true h)
+told_by_rules refusals.Exists h = absurd (not_true h)
+told_by_rules refusals.BadHead h = absurd (not_true h)
+told_by_rules refusals.BadField h = absurd (not_true h)
+told_by_rules refusals.BadBody h = absurd (not_true h)
+told_by_rules refusals.NoRoute h = absurd (not_true h)
+told_by_rules refusals.BadMethod h = absurd (not_true h)
+told_by_rules refusals.LengthNeeded h = absurd (not_true h)
+told_by_rules refusals.TooLarge h = absurd (not_true h)
+told_by_rules refusals.NotSupported h = absurd (not_true h)
 
 -- an outage is told
 pub told_outage : (r : Refusal) → IsOutage r → IsSome (refused_of r)
-told_outage r (inl e) = subst (λ x. IsSome (refused_of x)) (sym e) tt
-told_outage r (inr (inl e)) = subst (λ x. IsSome (refused_of x)) (sym e) tt
-told_outage r (inr (inr e)) = subst (λ x. IsSome (refused_of x)) (sym e) tt
+told_outage r (inl e) = subst (λ x. IsSome (refused_of x)) (sym e) refl
+told_outage r (inr (inl e)) = subst (λ x. IsSome (refused_of x)) (sym e) refl
+told_outage r (inr (inr e)) = subst (λ x. IsSome (refused_of x)) (sym e) refl
 
 -- so is what is refused to those who ask for requests
 pub told_reading : (r : Refusal) → IsReadingRefusal r → IsSome (refused_of r)
-told_reading r (inl e) = subst (λ x. IsSome (refused_of x)) (sym e) tt
-told_reading r (inr (inl e)) = subst (λ x. IsSome (refused_of x)) (sym e) tt
-told_reading r (inr (inr (inl e))) = subst (λ x. IsSome (refused_of x)) (sym e) tt
+told_reading r (inl e) = subst (λ x. IsSome (refused_of x)) (sym e) refl
+told_reading r (inr (inl e)) = subst (λ x. IsSome (refused_of x)) (sym e) refl
+told_reading r (inr (inr (inl e))) = subst (λ x. IsSome (refused_of x)) (sym e) refl
 told_reading r (inr (inr (inr e))) = told_outage r e
 
 tells_same : (x y : Refused) → Some x ≡ Some y → Tells (refusal_of x) (place_of x) y
-tells_same x y e = let same : x ≡ y = cc in record { row = ap refusal_of (sym same); place = ap place_of (sym same) }
+tells_same x y e = let same : x ≡ y = cc in record { of = ap refusal_of (sym same); at = ap place_of (sym same) }
 
 not_some : (y : Refused) → None ≡ Some y → ⊥
 not_some y e = cc

@@ -20,13 +20,13 @@ use Rattle.desk_imports.specs.declared.fault.ImportFault.{ImportFault}
 
 -- a request is refused so for this row of the table of refusals, with this place or none
 pub record Tells (row : Refusal) (place : Option ℕ) (refused : Refused) : Type 0 where
-  pub row : told.refusal_of refused ≡ row
-  pub place : told.place_of refused ≡ place
+  pub of : told.refusal_of refused ≡ row
+  pub at : told.place_of refused ≡ place
 
 -- a body is refused so for the first fault in it; want of memory is no fault of a body
-pub record TellsFault {F : Type 0} (first : F → Type 0) (row : F → Refusal) (place : F → Option ℕ) (refused : Refused) : Type 0 where
+pub record TellsFault {F : Type 0} (is_first : F → Type 0) (row : F → Refusal) (place : F → Option ℕ) (refused : Refused) : Type 0 where
   pub fault : F
-  pub first : first fault
+  pub first : is_first fault
   pub told : Tells (row fault) (place fault) refused
   pub own : row fault ≢ refusals.NoMemory
 
