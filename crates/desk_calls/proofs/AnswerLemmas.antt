@@ -3,6 +3,7 @@ use Rattle.std.proofs.Common.{◌≡◌, ◌≢◌, ◌⊎◌, inl, inr, ℕ, Li
 use Rattle.desk_bytes.specs.declared.refusal.Refusal.{Refusal}
 use Rattle.desk_bytes.specs.declared.refusal.Refusal.TheVariants as refusals
 use Rattle.desk_texts.specs.declared.command.Command.{Command}
+use Rattle.desk_texts.specs.declared.command.Person.{Person}
 use Rattle.desk_texts.specs.declared.reply.Reply.{Reply}
 use Rattle.desk_history.specs.Calls.{History}
 use Rattle.desk_history.specs.Runs as runs
@@ -12,11 +13,12 @@ use Rattle.desk_responses.specs.Refusals.{refused_of}
 use Rattle.desk_responses.specs.declared.outage.Outage.TheVariants as outage
 use Rattle.desk_responses.specs.declared.refused.Refused.{Refused}
 use Rattle.desk_responses.specs.declared.refused.Refused.TheVariants as refused
-use Rattle.desk_calls.specs.Answers.{IsReadAndTaken, IsRefusal, IsRuled, IsTaken, Serves, call_of}
+use Rattle.desk_calls.specs.Answers.{AnswersTask, IsReadAndTaken, IsRefusal, IsRuled, IsTaken, Serves, call_of}
 use Rattle.desk_calls.specs.Bodies.{Gives}
 use Rattle.desk_calls.specs.Desks.{IsOutage}
 use Rattle.desk_calls.specs.declared.answers.Answer.{Answer}
 use Rattle.desk_calls.specs.declared.answers.Answer.TheVariants as answer
+use Rattle.desk_calls.specs.declared.call.Task.{Task}
 use Rattle.desk_calls.proofs.RefusalLemmas.{apart, placeless}
 
 told_memory : (r : Refusal) (x : Refused) → refused_of r ≡ Some x → r ≡ refusals.NoMemory → x ≡ refused.Unavailable outage.NoMemory
@@ -64,3 +66,20 @@ serves_read after cs name key reads read a (inr no_memory) (inl served) =
     let taken : IsTaken cs name key (Err (refused.Unavailable outage.NoMemory)) a served.0 = subst (λ r. IsTaken cs name key r a served.0) no_memory served.1 in
     inr (inl (taken.0, subst after taken.1 served.2))
 serves_read after cs name key reads read a (inr no_memory) (inr failed) = inr failed
+
+-- a reply of the rules is the answer
+pub serves_reply : (after : History → Type 0) (cs : History) (name key : List ℕ) (command : Command) (reply : Reply)
+    → runs.reply_in (runs.answer cs (call_of name key command)) ≡ Some reply → after (runs.next cs (call_of name key command))
+    → Serves after cs (IsTaken cs name key (Ok command)) (answer.Reply reply)
+serves_reply after cs name key command reply said shown =
+    inl (runs.next cs (call_of name key command), (ruled_reply (runs.answer cs (call_of name key command)) reply said, refl), shown)
+
+-- the same where the command is read as another that it is
+pub serves_same : (after : History → Type 0) (cs : History) (name key : List ℕ) (x y : Result Command Refused) (a : Answer)
+    → x ≡ y → Serves after cs (IsTaken cs name key x) a → Serves after cs (IsTaken cs name key y) a
+serves_same after cs name key x y a e h = subst (λ read. Serves after cs (IsTaken cs name key read) a) e h
+
+-- the task is this one
+pub serves_task : (after : History → Type 0) (owner : List ℕ) (cs : History) (p : Person) (t u : Task) (a : Answer)
+    → t ≡ u → Serves after cs (AnswersTask owner cs p u) a → Serves after cs (AnswersTask owner cs p t) a
+serves_task after owner cs p t u a e h = subst (λ v. Serves after cs (AnswersTask owner cs p v) a) (sym e) h
