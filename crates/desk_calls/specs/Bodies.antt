@@ -7,6 +7,7 @@ use Rattle.desk_texts.specs.declared.command.Command.{Command}
 use Rattle.desk_texts.specs.declared.command.Command.TheVariants as command
 use Rattle.desk_texts.specs.declared.facts.Facts.{Facts}
 use Rattle.desk_responses.specs.Refusals as told
+use Rattle.desk_responses.specs.declared.outage.Outage.TheVariants as outage
 use Rattle.desk_responses.specs.declared.refused.Refused.{Refused}
 use Rattle.desk_responses.specs.declared.refused.Refused.TheVariants as refused
 use Rattle.desk_service.specs.Faults as facts
@@ -19,19 +20,24 @@ use Rattle.desk_imports.specs.declared.fault.ImportFault.{ImportFault}
 
 -- a request is refused so for this row of the table of refusals, with this place or none
 pub record Tells (row : Refusal) (place : Option ℕ) (refused : Refused) : Type 0 where
-  pub row : told.refusal_of refused ≡ row
-  pub place : told.place_of refused ≡ place
+  pub of : told.refusal_of refused ≡ row
+  pub at : told.place_of refused ≡ place
 
 -- a body is refused so for the first fault in it; want of memory is no fault of a body
-pub record TellsFault {F : Type 0} (first : F → Type 0) (row : F → Refusal) (place : F → Option ℕ) (refused : Refused) : Type 0 where
+pub record TellsFault {F : Type 0} (is_first : F → Type 0) (row : F → Refusal) (place : F → Option ℕ) (refused : Refused) : Type 0 where
   pub fault : F
-  pub first : first fault
+  pub first : is_first fault
   pub told : Tells (row fault) (place fault) refused
   pub own : row fault ≢ refusals.NoMemory
 
 -- an image in memory, of which no read fails, is refused for this
 abbrev pub RefusesImage : List ℕ → Refused → Type 0
 RefusesImage image = TellsFault (IsFirstFault image 0 0) facts.refusal_of facts.place_of
+
+-- its facts are read, or it is refused
+abbrev pub ReadsFacts : List ℕ → Result Facts Refused → Type 0
+ReadsFacts image (Ok x) = IsFactsOf image x
+ReadsFacts image (Err refused) = RefusesImage image refused
 
 -- an image's command, made of its facts
 abbrev pub ReadsImage : (Facts → Command) → List ℕ → Result Command Refused → Type 0
@@ -63,3 +69,7 @@ ReadsCsv text stamp = ReadsImport (IsCsvImport text stamp) (RefusesCsv text)
 -- the text of an SBAT level
 abbrev pub ReadsLevel : List ℕ → Result Command Refused → Type 0
 ReadsLevel text = ReadsImport (IsLevelImport text) (RefusesLevelImport text)
+
+-- the code gives this, or tells that memory was refused
+abbrev pub Gives : {A : Type 0} → (Result A Refused → Type 0) → Result A Refused → Type 0
+Gives reads read = reads read ⊎ (read ≡ Err (refused.Unavailable outage.NoMemory))
