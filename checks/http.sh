@@ -410,11 +410,8 @@ told() {
     "$program" "$@" < "$input" > out 2> err || got=$?
     [ "$got" -eq "$status" ] && [ "$(cat err)" = "$line" ] && [ ! -s out ] || fail "desk $*: status $got, $(cat out err)"
 }
-for word in 0 00 65536 -1 +80 8o 99999999999999999999 ''; do
-    case $word in
-        -*) ;;
-        *) told 2 'bad PORT' nothing serve missing.db "$word" x ;;
-    esac
+for word in 0 00 65536 +80 8o 99999999999999999999 ''; do
+    told 2 'bad PORT' nothing serve missing.db "$word" x
 done
 for word in 0 1000001 x 99999999999999999999 ''; do
     told 2 'bad COUNT' nothing serve missing.db "$port" "$word"
@@ -422,7 +419,8 @@ done
 told 3 'device 45 File' nothing serve missing.db "$port" 1
 told 3 'device 45 File' whole answer missing.db
 [ ! -e missing.db ] || fail 'a file that was missing was made'
-told 1 'refused 43 NotADesk' whole answer nothing
+: > empty.db
+told 1 'refused 43 NotADesk' whole answer empty.db
 port=$((port + 1))
 "$program" serve desk.db "000$port" 001 > served 2> served.err &
 server=$!
