@@ -1,14 +1,12 @@
 //! The Secure Boot signing and revocation desk.
 #![tactic(auto)]
 
-mod fault;
-mod person;
 mod run;
 
 use desk_bytes::Refusal;
 use desk_lines::Fault;
+use desk_values::Stop;
 use desk_words::{WordsFault, words};
-use fault::Stop;
 use run::{MISUSED, run, stop};
 use std::process::ExitCode;
 use std::rt::Env;

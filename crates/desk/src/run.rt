@@ -1,20 +1,17 @@
 //! From what the words say to the work.
-use crate::fault::Stop;
-use crate::person::person_from;
 use desk_bytes::{Guid, Refusal, WriteFailed};
 use desk_files::{
-    Ending, Export, Outcome, add_person, export_from, judge_image, make_desk, read_file, read_image,
+    Ending, Export, add_person, export_from, judge_image, make_desk, print_ending, read_file,
+    read_image,
 };
 use desk_lines::{Fault, print_facts, print_fault, print_list, print_ranges};
 use desk_service::facts;
+use desk_values::{Stop, owner_from, person_from};
 use desk_words::{PersonWords, Words};
 use siglist::pack;
 use std::alloc::Global;
 use std::io::{BufWriter, Read, Write};
 use std::process::ExitCode;
-
-/// The status of an image that a desk doesn't allow.
-const REFUSED: u8 = 1;
 
 /// The status of words that aren't understood.
 pub const MISUSED: u8 = 2;
@@ -43,8 +40,9 @@ fn pack_through<R: Read, W: Write + Drop>(
 
 /// Packs the standard input.
 fn run_pack(rt: &HostRuntime, owner: &str) -> Result<(), Stop> {
-    let Ok(owner) = Guid::parse(owner) else {
-        return Err(Stop::Word("OWNER"));
+    let owner = match owner_from(owner) {
+        Ok(owner) => owner,
+        Err(why) => return Err(why),
     };
     pack_through(rt.alloc(), &owner, &mut rt.stdin(), rt.stdout())?;
     Ok(())
@@ -80,20 +78,27 @@ fn run_list(rt: &HostRuntime, file: &str) -> Result<(), Stop> {
 
 /// Makes a desk.
 fn run_init(rt: &HostRuntime, db: &str, owner: &str) -> Result<Ending, Stop> {
-    let Ok(owner) = Guid::parse(owner) else {
-        return Err(Stop::Word("OWNER"));
+    let owner = match owner_from(owner) {
+        Ok(owner) => owner,
+        Err(why) => return Err(why),
     };
     Ok(make_desk(rt, db, &owner))
 }
 
 /// Adds a person, whose token is the first line of the standard input.
 fn run_person(rt: &HostRuntime, words: PersonWords<'_>) -> Result<Ending, Stop> {
-    let (key, person) = match person_from(rt.alloc(), words, &mut rt.stdin()) {
+    let PersonWords {
+        db,
+        name,
+        role,
+        key,
+    } = words;
+    let (key, person) = match person_from(rt.alloc(), name, role, key, &mut rt.stdin()) {
         Ok(read) => read,
         Err(why) => return Err(why),
     };
     let mut out = buffered(rt.alloc(), rt.stdout())?;
-    Ok(add_person(rt, words.db, &key, person, &mut out))
+    Ok(add_person(rt, db, &key, person, &mut out))
 }
 
 /// Prints a verdict.
@@ -116,7 +121,8 @@ fn tell(rt: &HostRuntime, fault: Fault) -> ExitCode {
 /// Says on standard error what stopped the program, and gives the status of that.
 pub fn stop(rt: &HostRuntime, why: Stop) -> ExitCode {
     match why {
-        Stop::Word(name) => {
+        Stop::Word(word) => {
+            let name = word.name();
             let _ = eprintln!(rt; "bad {name}");
             ExitCode::from(MISUSED)
         }
@@ -132,25 +138,11 @@ fn status_of(rt: &HostRuntime, done: Result<(), Stop>) -> ExitCode {
     }
 }
 
-/// The status of work on a desk.
-fn status_of_work(rt: &HostRuntime, work: Result<Outcome, Fault>) -> ExitCode {
-    match work {
-        Ok(Outcome::Done) => ExitCode::SUCCESS,
-        Ok(Outcome::Refused) => ExitCode::from(REFUSED),
-        Err(fault) => tell(rt, fault),
-    }
-}
-
 /// The status of a subcommand over a desk's file: a desk that couldn't be closed is told last.
 fn status_of_ending(rt: &HostRuntime, ended: Result<Ending, Stop>) -> ExitCode {
-    let ending = match ended {
-        Ok(ending) => ending,
-        Err(why) => return stop(rt, why),
-    };
-    let status = status_of_work(rt, ending.work);
-    match ending.closing {
-        None => status,
-        Some(fault) => tell(rt, fault),
+    match ended {
+        Ok(ending) => ExitCode::from(print_ending(ending, &mut rt.stderr())),
+        Err(why) => stop(rt, why),
     }
 }
 

@@ -1,5 +1,7 @@
 //! A desk's file: made, opened and closed.
-ghost use Rattle.std.specs.Prelude.{◌≡◌, IfOk, false};
+ghost use Rattle.std.specs.Prelude.{◌≡◌, None, IfErr, IfOk, IfSome, false, true};
+ghost use Rattle.desk_files.specs.Faults.{IsClosingRefusal, IsFileRefusal, IsMakingRefusal};
+ghost use Rattle.desk_files.specs.Faults.{IsLasting, IsOpeningRefusal, IsRow};
 
 use crate::ending::{Ending, Outcome};
 use desk_bytes::{Guid, Refusal};
@@ -29,7 +31,8 @@ fn let_go(conn: FileConnection) {
 
 /// Opens a file, or makes it. File: it can't be opened, is no database, or is in use.
 fn connect(rt: &HostRuntime, path: &str) -> Result<FileConnection, Refusal>
-    ensures { IfOk result (λ conn. conn.in_transaction ≡ false) }
+    ensures outside { IfOk result (λ conn. conn.in_transaction ≡ false) }
+    ensures named { IfErr result IsFileRefusal }
 {
     match Connection::open(rt, path) {
         Ok(conn) => Ok(conn),
@@ -44,7 +47,9 @@ fn connect(rt: &HostRuntime, path: &str) -> Result<FileConnection, Refusal>
 }
 
 /// Whether there is something at a path.
-fn is_there(rt: &HostRuntime, path: &str) -> Result<bool, Refusal> {
+fn is_there(rt: &HostRuntime, path: &str) -> Result<bool, Refusal>
+    ensures { IfErr result IsFileRefusal }
+{
     match fs::exists(rt, path) {
         Ok(there) => Ok(there),
         Err(error) if error.kind() == io::ErrorKind::OutOfMemory => Err(Refusal::NoMemory),
@@ -53,8 +58,13 @@ fn is_there(rt: &HostRuntime, path: &str) -> Result<bool, Refusal> {
 }
 
 /// Makes a desk in a file, which is made where it isn't there.
-pub(crate) fn make(rt: &HostRuntime, path: &str, owner: &Guid) -> Result<FileDesk, Refusal> {
-    let conn = connect(rt, path)?;
+pub(crate) fn make(rt: &HostRuntime, path: &str, owner: &Guid) -> Result<FileDesk, Refusal>
+    ensures { IfErr result IsMakingRefusal }
+{
+    let conn = match connect(rt, path) {
+        Ok(conn) => conn,
+        Err(refusal) => return Err(refusal),
+    };
     match Desk::create(rt.alloc(), conn, owner) {
         Ok(desk) => Ok(desk),
         Err((refusal, conn)) => {
@@ -64,12 +74,14 @@ pub(crate) fn make(rt: &HostRuntime, path: &str, owner: &Guid) -> Result<FileDes
     }
 }
 
-/// Opens the desk in a file. File: it isn't there; it isn't made then.
-pub(crate) fn open(rt: &HostRuntime, path: &str) -> Result<FileDesk, Refusal> {
-    if !is_there(rt, path)? {
-        return Err(Refusal::File);
-    }
-    let conn = connect(rt, path)?;
+/// Opens a file that is there, and the desk in it.
+fn open_there(rt: &HostRuntime, path: &str) -> Result<FileDesk, Refusal>
+    ensures { IfErr result IsOpeningRefusal }
+{
+    let conn = match connect(rt, path) {
+        Ok(conn) => conn,
+        Err(refusal) => return Err(refusal),
+    };
     match Desk::open(rt.alloc(), conn) {
         Ok(desk) => Ok(desk),
         Err((refusal, conn)) => {
@@ -79,23 +91,35 @@ pub(crate) fn open(rt: &HostRuntime, path: &str) -> Result<FileDesk, Refusal> {
     }
 }
 
+/// Opens the desk in a file. File: it isn't there; it isn't made then.
+pub(crate) fn open(rt: &HostRuntime, path: &str) -> Result<FileDesk, Refusal>
+    ensures { IfErr result IsOpeningRefusal }
+{
+    match is_there(rt, path) {
+        Ok(true) => open_there(rt, path),
+        Ok(false) => Err(Refusal::File),
+        Err(refusal) => Err(refusal),
+    }
+}
+
 /// Closes a desk's file: what stands in its log is copied into it. A failure leaves both together as
 /// the desk.
-fn close(desk: FileDesk) -> Result<(), Refusal> {
-    match desk.release().close() {
-        Ok(()) => Ok(()),
-        Err(error) => {
-            if is_out_of_memory(&error) {
-                Err(Refusal::NoMemory)
-            } else {
-                Err(Refusal::Store)
-            }
+fn close(desk: FileDesk) -> Result<(), Refusal>
+    ensures { IfErr result IsClosingRefusal }
+{
+    match desk.close() {
+        Ok(_) => Ok(()),
+        Err((refusal, store)) => {
+            drop(store.close());
+            Err(refusal)
         }
     }
 }
 
 /// Whether the desk has to be opened again after this work, so that it can't be closed.
-fn needs_reopening(work: &Result<Outcome, Fault>) -> bool {
+fn needs_reopening(work: &Result<Outcome, Fault>) -> bool
+    ensures { IfErr work.now (λ fault. IsLasting fault.refusal → result ≡ true) }
+{
     match work {
         Ok(_) => false,
         Err(fault) => fault.refusal == Refusal::Store || fault.refusal == Refusal::Reopen,
@@ -105,7 +129,9 @@ fn needs_reopening(work: &Result<Outcome, Fault>) -> bool {
 /// Closes the desk behind the work that was done on it. A desk that failed is let go: its next opening
 /// finds what it kept.
 pub(crate) fn ended(desk: FileDesk, work: Result<Outcome, Fault>) -> Ending
-    ensures { result.work ≡ work }
+    ensures work { result.work ≡ work }
+    ensures closing { IfSome result.closing (IsRow IsClosingRefusal) }
+    ensures let_go { IfErr work (λ fault. IsLasting fault.refusal → result.closing ≡ None) }
 {
     if needs_reopening(&work) {
         let_go(desk.release());

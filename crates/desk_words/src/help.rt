@@ -1,8 +1,8 @@
 //! The texts with which the help of each subcommand ends: what it reads and writes, an example, its statuses.
 
 pub const INIT: &str = "\
-Makes the desk in DB, a file that isn't there, or an empty one. OWNER is the owner of every entry that
-the desk exports. Reads nothing, and prints nothing.
+Makes the desk in DB, a file that isn't there, or one without tables. OWNER is the owner of every entry that
+the desk exports. Reads no input, and prints nothing.
 
 Example: desk init desk.db 00112233-4455-6677-8899-aabbccddeeff
 
@@ -18,14 +18,15 @@ Example: desk person desk.db olga officer k1 < token.txt
 Status: 0 done, 1 refused, 2 a word or the token is wrong, 3 a device failed, as where DB isn't there or is in use";
 
 pub const FACTS: &str = "\
-Reads FILE, and writes a line for its length, each digest, the gap, each certificate and each component.
+Reads FILE, and prints a line for its length, each digest, the gap, each certificate and each component: what
+a desk keeps of the image.
 
 Example: desk facts shimx64.efi
 
 Status: 0 done, 1 the image was refused, 2 the words are wrong, 3 a device failed";
 
 pub const RANGES: &str = "\
-Reads FILE, and writes a line FROM-TO for each range, half-open, and then the gap.
+Reads FILE, and prints a line FROM-TO for each range, half-open, and then the gap.
 
 Example: desk ranges shimx64.efi
 
@@ -40,44 +41,47 @@ Example: desk verdict desk.db shimx64.efi
 Status: 0 allowed, 1 refused, 2 the words are wrong, 3 a device failed, as where DB isn't there or is in use";
 
 pub const DB: &str = "\
-Writes signature lists: the digests that are listed, then each certificate.
+Reads DB, and writes signature lists to standard output: the digests that are listed, then each certificate.
 
 Example: desk db desk.db > db.esl
 
 Status: 0 done, 1 DB holds no desk, 2 the words are wrong, 3 a device failed, as where DB isn't there or is in use";
 
 pub const DBX: &str = "\
-Writes signature lists: the digests that are revoked, then the SHA-256 of each revoked certificate's
-TBSCertificate.
+Reads DB, and writes signature lists to standard output: the digests that are revoked, then the SHA-256 of each
+revoked certificate's TBSCertificate.
 
 Example: desk dbx desk.db > dbx.esl
 
 Status: 0 done, 1 DB holds no desk, 2 the words are wrong, 3 a device failed, as where DB isn't there or is in use";
 
 pub const LEVEL: &str = "\
-Writes the level as shim reads it: a line `sbat,1,STAMP`, then a line `NAME,GENERATION` for each component.
+Reads DB, and prints the level as shim reads it: a line `sbat,1,STAMP`, then a line `NAME,GENERATION` for each
+component.
 
 Example: desk level desk.db > sbat_level.csv
 
 Status: 0 done, 1 DB holds no desk, 2 the words are wrong, 3 a device failed, as where DB isn't there or is in use";
 
 pub const LIST: &str = "\
-Reads FILE, and writes a line OFFSET KIND COUNT for each signature list in it.
+Reads FILE, and prints a line OFFSET KIND COUNT for each signature list in it: where it begins, the kind and
+the number of its entries.
 
 Example: desk list dbx.esl
 
 Status: 0 done, 1 the file was refused, 2 the words are wrong, 3 a device failed";
 
 pub const PACK: &str = "\
-Reads lines of 64 hexadecimal digits from standard input, and writes one list to standard output.
+Reads lines of 64 hexadecimal digits from standard input, and writes one signature list of them to standard
+output, ascending and each once.
 
 Example: desk pack 00112233-4455-6677-8899-aabbccddeeff < digests.txt > dbx.esl
 
 Status: 0 done, 1 a line was refused, 2 the words are wrong, 3 a device failed";
 
 pub const MINUTES: &str = "\
-Prints a line for each accepted call, the first call first: its number, caller, key, text and reply, parted by
-tabs.
+Reads DB, and prints a line for each accepted call, the first call first: its number, caller, key, text and
+reply, parted by tabs.
 
 Example: desk minutes desk.db
 

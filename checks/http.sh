@@ -1,0 +1,449 @@
+#!/bin/sh
+# curl against `desk serve`, with the built program or the one that is named: http.sh [PROGRAM]. A desk of six people takes
+# a day of requests over every route, and each status, field and body of a response is compared with what has to be there; the
+# same requests with the same keys a second time are answered the same and leave the same minutes. Then what HTTP itself is
+# refused for, a body that is cut short, `Expect`, an image of 64 MiB, three clients at once, the faults of `serve` and `answer`,
+# and a connection that ends without a request. It takes ports from 20000 on. Not part of the gate: it needs curl.
+set -eu
+root=$(CDPATH='' cd -- "$(dirname -- "$(readlink -f -- "$0")")/.." && pwd -P)
+if [ $# -gt 0 ]; then
+    program=$(readlink -f -- "$1")
+else
+    "$root/desk" --version > /dev/null
+    program=$root/crates/desk/out/desk
+fi
+owner=00112233-4455-6677-8899-aabbccddeeff
+stored=33221100554477668899aabbccddeeff
+room=$(mktemp -d)
+server=
+# The server that this script started is ended with it.
+leave() {
+    if [ -n "$server" ]; then kill "$server" 2> /dev/null || :; fi
+    rm -rf "$room"
+}
+trap leave EXIT
+cd "$room"
+port=$((20000 + $$ % 20000))
+requests=0
+
+fail() {
+    echo "http.sh: $*" >&2
+    exit 1
+}
+
+# ---- the server
+
+# serve COUNT: serves so many connections of the desk in the background.
+serve() {
+    port=$((port + 1))
+    "$program" serve desk.db "$port" "$1" > served 2> served.err &
+    server=$!
+}
+# served STATUS [LINE]: the server has ended so.
+served() {
+    got=0
+    wait "$server" || got=$?
+    server=
+    printf '%s' "${2:+$2
+}" > want
+    [ "$got" -eq "$1" ] && cmp -s served.err want && [ ! -s served ] || fail "serve: status $got, $(cat served served.err)"
+}
+# call CURL-WORD..: curl, once the server listens.
+call() {
+    tries=0
+    while :; do
+        got=0
+        curl -sS --max-time 120 -o body -D head "$@" 2> curl.err || got=$?
+        [ "$got" -ne 7 ] && return "$got"
+        tries=$((tries + 1))
+        [ "$tries" -le 100 ] || fail "nobody listens: $(cat served.err)"
+        sleep 0.1
+    done
+}
+# field NAME: the value of a field of the response.
+field() { sed -n "s/^$1: \(.*\)\r\$/\1/p" head; }
+# ask STATUS TYPE FILE CURL-WORD..: the response has this status, type and body.
+ask() {
+    status=$1 type=$2 wanted=$3
+    shift 3
+    call "$@" || fail "curl $*: $(cat curl.err)"
+    requests=$((requests + 1))
+    said=$(sed -n '1s/\r$//p' head)
+    if [ "$said" != "HTTP/1.1 $status" ] || [ "$(field Content-Type)" != "$type" ] || [ "$(field Connection)" != close ] \
+        || [ "$(field Content-Length)" != "$(wc -c < "$wanted")" ] || ! cmp -s body "$wanted"; then
+        echo "curl $*: in place of $status, $type and $(head -c 300 "$wanted"):" >&2
+        cat head body >&2
+        exit 1
+    fi
+}
+# says TEXT: what follows is asked to have this body.
+says() { printf '%s' "$1" > said; }
+# json STATUS BODY CURL-WORD..: the same, of JSON.
+json() {
+    says "$2"
+    status=$1
+    shift 2
+    ask "$status" application/json said "$@"
+}
+refused() {
+    status=$1 number=$2 name=$3
+    shift 3
+    json "$status" "{\"name\":\"$name\",\"refused\":$number}" "$@"
+}
+token_of() {
+    case $1 in
+        ann) echo ann-token-000001 ;;
+        rita) echo rita-token-000002 ;;
+        raul) echo raul-token-000003 ;;
+        rosa) echo rosa-token-000004 ;;
+        sid) echo sid-token-000005 ;;
+        olga) echo olga-token-000006 ;;
+    esac
+}
+at() { echo "http://127.0.0.1:$port$1"; }
+# get NAME PATH, post NAME KEY PATH BODY-FILE [FIELD..]: put the words for curl into `words`, one a line.
+get() {
+    printf '%s\n' -H "Desk-Token: $(token_of "$1")" "$(at "$2")" > words
+}
+post() {
+    printf '%s\n' -H "Desk-Token: $(token_of "$1")" -H "Desk-Key: $2" --data-binary "@$4" "$(at "$3")" > words
+    shift 4
+    for more in "$@"; do printf '%s\n' -H "$more" >> words; done
+}
+# with COMMAND WORD..: the command with the words that were put.
+with() {
+    while IFS= read -r word; do set -- "$@" "$word"; done < words
+    "$@"
+}
+
+# ---- files
+
+# hex FILE HEX..: the file has these bytes.
+hex() {
+    file=$1
+    shift
+    printf '%s' "$@" | xxd -r -p > "$file"
+}
+# change FROM TO PLACE HEX ..: the file with bytes written over it.
+change() {
+    cp "$1" "$2"
+    changed=$2
+    shift 2
+    while [ $# -gt 0 ]; do
+        printf '%s' "$2" | xxd -r -p | dd of="$changed" bs=1 seek="$1" conv=notrunc 2> dd.err
+        shift 2
+    done
+}
+# of BYTE: a digest of this byte alone.
+of() { printf "%064d" 0 | sed "s/00/$1/g"; }
+plain=$root/examples/tiny.efi
+hex table 2b00000000020200 3021 06092a864886f70d010702 a014 3012 020101 3100 3000 a007 30053003020101 3100 0000000000
+change "$plain" bare 232 0004000030000000
+cat bare table > signed
+change signed other 600 01
+hex certificate 30053003020101
+body() { printf '%s' "$2" > "$1"; }
+body yes '{"note":"fine","vote":"yes"}'
+body no '{"vote": "no", "note": ""}'
+: > nothing
+tbs=$(printf 3003020101 | xxd -r -p | sha256sum | cut -d' ' -f1)
+body revoke_tbs "{\"digest\":\"$tbs\"}"
+body revoke_aa "{\"digest\":\"$(of AA)\"}"
+body list_bb "{\"digest\":\"$(of bb)\"}"
+body unlist_bb "{\"digest\":\"$(of bb)\",\"kind\":\"digest\"}"
+body raise_grub '{"component":"grub","generation":3,"stamp":2024010100}'
+hex lists 2616c4c14c509240aca941f936934328 4c000000 00000000 30000000 "$stored" "$(of aa)" \
+    92a4d23bc0967940b420fcf98ef103ed 5c000000 00000000 40000000 "$stored" "$(of cc)" 00112233445566778899aabbccddeeff \
+    "$stored" 30000000 00000000 14000000 "$stored" 01020304
+printf 'kind,value,generation\nsha256,%s,\nsbat,shim,2\nsbat,shim,3\n' "$(of dd)" > csv
+printf 'sbat,1,2024010102\ngrub,4\nshim,4\n' > level_text
+digest_of() { "$program" facts "$1" | sed -n "s/^$2 //p"; }
+
+# ---- a day
+
+people() {
+    "$program" init desk.db "$owner"
+    number=0
+    for person in ann/submitter rita/reviewer raul/reviewer rosa/reviewer sid/signer olga/officer; do
+        name=${person%/*} number=$((number + 1))
+        token_of "$name" | "$program" person desk.db "$name" "${person#*/}" "k$number" > person
+        [ "$(cat person)" = "added $name" ] || fail "person $name: $(cat person)"
+    done
+}
+people
+
+# The commands of the day, on every route that has one. A second time with the same keys they are answered the same.
+commands=20
+day() {
+    post ann k1 /requests "$plain" 'Desk-Title: A'
+    with json '200 OK' '{"reply":"submitted","request":1}'
+    post rita k1 /requests/1/review yes
+    with json '200 OK' '{"reply":"reviewed","request":1,"state":"open"}'
+    post raul k1 /requests/1/review yes
+    with json '200 OK' '{"reply":"reviewed","request":1,"state":"approved"}'
+    post rita k3 /requests "$plain" 'Desk-Title: B'
+    with json '200 OK' '{"reply":"submitted","request":2}'
+    post rosa k2 /requests/2/review no
+    with json '200 OK' '{"reply":"reviewed","request":2,"state":"rejected"}'
+    post ann k2 /requests "$plain" 'Desk-Title: C'
+    with json '200 OK' '{"reply":"submitted","request":3}'
+    post ann k3 /requests/3/withdraw nothing
+    with json '200 OK' '{"reply":"withdrawn","request":3}'
+    post olga k1 /db/certificates certificate
+    with json '200 OK' '{"reply":"listed"}'
+    post sid k2 /requests/1/return signed
+    with json '200 OK' '{"reply":"returned","request":1}'
+    post olga k2 /db/digests list_bb
+    with json '200 OK' '{"reply":"listed"}'
+    post olga k3 /db/unlist unlist_bb
+    with json '200 OK' '{"reply":"unlisted"}'
+    post olga k4 /dbx/digests revoke_aa
+    with json '200 OK' '{"reply":"revoked"}'
+    post olga k5 /level raise_grub
+    with json '200 OK' '{"reply":"raised"}'
+    post olga k6 /imports/dbx lists
+    with json '200 OK' '{"certificates":1,"components":0,"digests":0,"passed":1,"reply":"imported"}'
+    post olga k7 /imports/dbx lists
+    with json '200 OK' '{"certificates":0,"components":0,"digests":0,"passed":1,"reply":"imported"}'
+    post olga k8 /imports/csv csv 'Desk-Stamp: 2024010101'
+    with json '200 OK' '{"certificates":0,"components":1,"digests":1,"passed":0,"reply":"imported"}'
+    post olga k9 /imports/csv csv
+    with json '200 OK' '{"certificates":0,"components":0,"digests":0,"passed":0,"reply":"imported"}'
+    post olga k10 /imports/level level_text
+    with json '200 OK' '{"certificates":0,"components":2,"digests":0,"passed":0,"reply":"imported"}'
+    post olga k11 /dbx/certificates revoke_tbs
+    with json '200 OK' '{"reply":"revoked"}'
+    post ann k4 /requests "$plain" 'Desk-Title: D'
+    with json '200 OK' '{"reply":"submitted","request":4}'
+}
+serve "$commands"
+day
+served 0
+"$program" minutes desk.db > minutes
+[ "$(wc -l < minutes)" -eq $((6 + commands)) ] || fail "minutes: $(cat minutes)"
+serve "$commands"
+day
+served 0
+"$program" minutes desk.db > again
+cmp -s minutes again || fail 'the minutes of the same day, twice'
+
+# ---- what is read
+
+length=1024 zeros=$plain
+request() {
+    file=$(digest_of "$zeros" file) digest=$(digest_of "$zeros" digest)
+    printf '{"carried":[],"components":[],"digest":"%s","file":"%s","gap":0,"length":%s,"number":%s,"returned":%s,' \
+        "$digest" "$file" "$length" "$1" "$2"
+    printf '"signing":"%s","state":"%s","submitter":"%s","title":"%s","votes":[%s]}' \
+        "$(digest_of "$zeros" signing)" "$3" "$4" "$5" "$6"
+}
+returned=\"$(sha256sum < signed | cut -d' ' -f1)\"
+vote() { printf '{"note":"%s","reviewer":"%s","vote":"%s"}' "$1" "$2" "$3"; }
+first=$(request 1 "$returned" signed ann A "$(vote fine raul yes),$(vote fine rita yes)")
+second=$(request 2 null rejected rita B "$(vote '' rosa no)")
+third=$(request 3 null withdrawn ann C '')
+fourth=$(request 4 null open ann D '')
+"$program" dbx desk.db > dbx
+"$program" db desk.db > db
+"$program" level desk.db > level
+serve 19
+get ann /requests/1
+with json '200 OK' "$first"
+get ann /requests
+with json '200 OK' "[$first,$third,$fourth]"
+get sid /requests
+with json '200 OK' "[$first,$second,$third,$fourth]"
+get ann /requests/2
+with refused '404 Not Found' 23 NoSuchRequest
+get ann /requests/5
+with refused '404 Not Found' 23 NoSuchRequest
+get ann /requests/02
+with refused '404 Not Found' 23 NoSuchRequest
+get ann /dbx
+with ask '200 OK' application/octet-stream dbx
+get ann /db
+with ask '200 OK' application/octet-stream db
+get ann /level
+with ask '200 OK' text/plain level
+get ann /report
+with refused '403 Forbidden' 21 NotYourRole
+get olga /report
+with call || fail 'no report'
+grep -q '^people  *6$' body && grep -q '^signed  *1$' body && grep -q '^stamp  *2024010102$' body || fail "report: $(cat body)"
+post ann k9 /verdict signed
+with json '200 OK' '{"verdict":"dbx-certificate"}'
+post ann k9 /verdict "$plain"
+with json '200 OK' '{"verdict":"not-listed"}'
+post ann k1 /requests "$plain" 'Desk-Title: another'
+with refused '409 Conflict' 22 KeyReused
+post rita k4 /requests/4/review yes
+with json '200 OK' '{"reply":"reviewed","request":4,"state":"open"}'
+post rita k5 /requests/4/review yes
+with refused '409 Conflict' 26 AlreadyReviewed
+post sid k3 /requests/1/return other
+with refused '409 Conflict' 24 WrongState
+post olga k12 /dbx/digests revoke_aa
+with refused '409 Conflict' 30 AlreadyRevoked
+post olga k13 /level raise_grub
+with refused '409 Conflict' 31 NotHigher
+served 0
+"$program" minutes desk.db > minutes
+[ "$(wc -l < minutes)" -eq $((6 + commands + 1)) ] || fail "minutes: $(cat minutes)"
+
+# ---- what HTTP is refused for
+
+head -c 5000000 /dev/zero > long
+head -c 20000 /dev/zero | tr '\0' a > wide
+serve 20
+refused '401 Unauthorized' 20 UnknownCaller "$(at /level)"
+[ "$(field WWW-Authenticate)" = Desk ] || fail "401: $(cat head)"
+refused '401 Unauthorized' 20 UnknownCaller -H 'Desk-Token: nobody-token-0001' "$(at /level)"
+get ann /nowhere
+with refused '404 Not Found' 53 NoRoute
+get ann '/level?x=1'
+with refused '404 Not Found' 53 NoRoute
+get ann /imports/csv
+with refused '405 Method Not Allowed' 54 BadMethod
+[ "$(field Allow)" = POST ] || fail "405: $(cat head)"
+get ann /level
+with refused '405 Method Not Allowed' 54 BadMethod -X DELETE
+[ "$(field Allow)" = 'GET, POST' ] || fail "405: $(cat head)"
+get ann /level
+with refused '400 Bad Request' 51 BadField -H 'Desk-Token: twice-token-00001'
+get ann /level
+with refused '400 Bad Request' 51 BadField -X GET --data-binary @yes
+get olga /dbx/digests
+with refused '411 Length Required' 55 LengthNeeded -X POST
+post olga k20 /dbx/digests yes 'Transfer-Encoding: chunked'
+with refused '501 Not Implemented' 57 NotSupported
+post olga k20 /dbx/digests long
+with refused '413 Payload Too Large' 56 TooLarge
+post olga k20 /dbx/digests long 'Expect:'
+with refused '413 Payload Too Large' 56 TooLarge
+post olga k20 /dbx/digests yes
+with refused '422 Unprocessable Entity' 52 BadBody
+post olga 'a key' /dbx/digests revoke_aa
+with refused '400 Bad Request' 51 BadField
+post ann k20 /requests "$plain"
+with refused '400 Bad Request' 51 BadField
+post ann k20 /requests long 'Desk-Title: long'
+with refused '422 Unprocessable Entity' 2 NoMz
+post olga k20 /imports/dbx yes
+with json '422 Unprocessable Entity' '{"at":0,"name":"List","refused":15}'
+post olga k20 /imports/csv yes
+with json '422 Unprocessable Entity' '{"at":0,"name":"CsvRow","refused":19}'
+post ann k20 /verdict "$plain" 'Expect: 100-continue'
+with json '200 OK' '{"verdict":"not-listed"}'
+get ann /level
+with refused '400 Bad Request' 50 BadHead -H "X: $(cat wide)"
+served 0
+
+# ---- a body that is cut short, and a connection without a request
+
+# raw FILE: sends the file's bytes, ends its side, and keeps what comes back.
+raw() {
+    tries=0
+    until curl -sS --max-time 60 -o body "telnet://127.0.0.1:$port" < "$1" 2> curl.err; do
+        tries=$((tries + 1))
+        [ "$tries" -le 100 ] || fail "nobody listens: $(cat served.err curl.err)"
+        sleep 0.1
+    done
+    requests=$((requests + 1))
+}
+printf 'POST /requests HTTP/1.1\r\nDesk-Token: ann-token-000001\r\nDesk-Key: k30\r\nDesk-Title: cut\r\nContent-Length: 1024\r\n\r\n' > cut
+head -c 1023 "$plain" >> cut
+"$program" answer desk.db < cut > answered 2> err || fail "answer: $(cat err)"
+printf 'HTTP/1.1 400 Bad Request\r\nContent-Type: application/json\r\nContent-Length: 31\r\nConnection: close\r\n\r\n%s' \
+    '{"name":"BadHead","refused":50}' > want
+cmp -s answered want && [ ! -s err ] || fail "answer to a cut body: $(cat answered err)"
+"$program" answer desk.db < nothing > answered 2> err || fail "answer to nothing: $(cat err)"
+[ ! -s answered ] && [ ! -s err ] || fail "answer to nothing: $(cat answered err)"
+printf 'GET /level HTTP/1.1\r\nDesk-Token: olga-token-000006\r\n\r\n' > whole
+"$program" answer desk.db < whole > answered 2> err || fail "answer: $(cat err)"
+{
+    printf 'HTTP/1.1 200 OK\r\nContent-Type: text/plain\r\nContent-Length: %s\r\nConnection: close\r\n\r\n' "$(wc -c < level)"
+    cat level
+} > want
+cmp -s answered want && [ ! -s err ] || fail "answer: $(cat answered err)"
+serve 3
+raw nothing
+get ann /level
+with ask '200 OK' text/plain level
+get ann /level
+with ask '200 OK' text/plain level
+served 0
+"$program" minutes desk.db > again
+cmp -s minutes again || fail 'a refused request changed the minutes'
+
+# ---- an image of 64 MiB, with and without `Expect`
+
+change "$plain" large 344 00feff03
+truncate -s 67108864 large
+serve 2
+post ann k40 /requests large 'Desk-Title: large'
+with json '200 OK' '{"reply":"submitted","request":5}'
+post ann k40 /requests large 'Desk-Title: large' 'Expect:'
+with json '200 OK' '{"reply":"submitted","request":5}'
+served 0
+
+# ---- three clients at once
+
+serve 3
+with_one() {
+    curl -sS --retry 20 --retry-connrefused --retry-delay 1 -H "Desk-Token: $(token_of "$1")" -o "level_$1" "$(at /level)"
+}
+with_one ann & one=$!
+with_one rita & two=$!
+with_one olga & three=$!
+wait "$one" && wait "$two" && wait "$three" || fail 'three clients'
+served 0
+for name in ann rita olga; do cmp -s "level_$name" level || fail "three clients: $(cat "level_$name")"; done
+requests=$((requests + 3))
+
+# ---- the faults of `serve` and `answer`
+
+# told STATUS LINE INPUT WORD..: the program ends so.
+told() {
+    status=$1 line=$2 input=$3
+    shift 3
+    got=0
+    "$program" "$@" < "$input" > out 2> err || got=$?
+    [ "$got" -eq "$status" ] && [ "$(cat err)" = "$line" ] && [ ! -s out ] || fail "desk $*: status $got, $(cat out err)"
+}
+for word in 0 00 65536 +80 8o 99999999999999999999 ''; do
+    told 2 'bad PORT' nothing serve missing.db "$word" x
+done
+for word in 0 1000001 x 99999999999999999999 ''; do
+    told 2 'bad COUNT' nothing serve missing.db "$port" "$word"
+done
+told 3 'device 45 File' nothing serve missing.db "$port" 1
+told 3 'device 45 File' whole answer missing.db
+[ ! -e missing.db ] || fail 'a file that was missing was made'
+: > empty.db
+told 1 'refused 43 NotADesk' whole answer empty.db
+port=$((port + 1))
+"$program" serve desk.db "000$port" 001 > served 2> served.err &
+server=$!
+# The port is taken: another desk's server can't have it, and its desk is closed as it was.
+cp desk.db other.db 2> /dev/null || fail 'no copy of the desk'
+tries=0
+until got=0; "$program" verdict desk.db "$plain" > out 2> err || got=$?; [ "$(cat err)" = 'device 45 File' ]; do
+    tries=$((tries + 1))
+    [ "$tries" -le 100 ] || fail "the desk was never in use: status $got, $(cat out err)"
+    sleep 0.1
+done
+sleep 1
+told 3 'device 14 Read' nothing serve other.db "$port" 1
+get ann /level
+with ask '200 OK' text/plain level
+served 0
+
+# ---- the desk is closed, and all is read back
+
+"$program" list dbx > lists_read
+"$program" minutes desk.db > minutes
+[ "$(wc -l < minutes)" -eq $((6 + commands + 2)) ] || fail "minutes: $(cat minutes)"
+if command -v sqlite3 > /dev/null; then
+    [ "$(sqlite3 desk.db 'PRAGMA integrity_check')" = ok ] || fail 'sqlite3 finds a fault'
+fi
+echo "$requests requests, each answered as it has to be"

@@ -1,0 +1,83 @@
+//! One request, from a reader or a connection.
+ghost use Rattle.std.specs.Prelude.{IfSome};
+ghost use Rattle.desk_net.specs.Faults.{IsLasting};
+
+use crate::served::ending;
+use crate::stand_in::{Answering, HttpFault, Served, serve_one};
+use desk_bytes::Refusal;
+use std::alloc::Global;
+use std::io::{BufReader, Read, Write};
+use std::net::{Shutdown, TcpStream};
+use std::time::Duration;
+
+/// How long a peer that was refused may take between two pieces of what it still sends, in milliseconds.
+const PATIENCE: u64 = 500;
+
+/// The most pieces that are read of a peer that was refused: an image and its head fit.
+const MOST_PIECES: u32 = 20_000;
+
+/// Reads what a peer still sends, and drops it. A connection that is closed before is reset, and the peer may
+/// lose the response (RFC 9112, section 9.6).
+fn read_off(stream: &TcpStream) {
+    if stream.shutdown(Shutdown::Write).is_err()
+        || stream
+            .set_read_timeout(Some(Duration::from_millis(PATIENCE)))
+            .is_err()
+    {
+        return;
+    }
+    let mut peer = stream;
+    let mut piece = [0; 8192];
+    for _ in 0..MOST_PIECES {
+        match peer.read(&mut piece) {
+            Ok(0) => return,
+            Ok(_) => {}
+            Err(_) => return,
+        }
+    }
+}
+
+/// Whether the request may not have been read to its end.
+fn was_refused(served: &Result<Served, HttpFault>) -> bool {
+    match served {
+        Ok(Served::Answered(_, number)) => *number != 0,
+        Ok(Served::Nothing) => false,
+        Err(HttpFault::Read | HttpFault::Write | HttpFault::NoMemory) => false,
+    }
+}
+
+/// Serves one request of a connection, and gives what ends the program. Where there is no memory for the reader,
+/// this connection ends without a response.
+pub(crate) fn serve_stream<D: Answering>(
+    alloc: Global,
+    desk: &mut D,
+    stream: &TcpStream,
+) -> Option<Refusal>
+    ensures lasting { IfSome result IsLasting }
+    ensures before { D.clean desk.new → D.clean desk.old }
+{
+    let Ok(mut reader) = BufReader::new(alloc, stream) else {
+        return None;
+    };
+    let mut writer = stream;
+    let served = serve_one(alloc, desk, &mut reader, &mut writer);
+    if was_refused(&served) {
+        read_off(stream);
+    }
+    ending(served)
+}
+
+/// Serves one request of a reader, as `serve_one` does. Takes memory for a piece of the input.
+pub fn answer<D: Answering, R: Read + Drop, W: Write>(
+    alloc: Global,
+    desk: &mut D,
+    reader: R,
+    writer: &mut W,
+) -> Result<Served, HttpFault>
+    ensures before { D.clean desk.new → D.clean desk.old }
+{
+    let Ok(mut reader) = BufReader::new(alloc, reader) else {
+        return Err(HttpFault::NoMemory);
+    };
+    serve_one(alloc, desk, &mut reader, writer)
+}

@@ -1,0 +1,47 @@
+//! What a served connection comes to.
+ghost use Rattle.std.specs.Prelude.{◌≡◌};
+ghost use Rattle.desk_net.specs.Served as spec;
+
+use crate::stand_in::{HttpFault, Served};
+use desk_bytes::Refusal;
+
+/// The refusal after which the desk has to be opened again, by the number of a response.
+fn lasting(number: u8) -> Option<Refusal>
+    ensures { result ≡ spec.lasting number }
+{
+    if number == Refusal::Store.number() {
+        Some(Refusal::Store)
+    } else if number == Refusal::Reopen.number() {
+        Some(Refusal::Reopen)
+    } else {
+        None
+    }
+}
+
+/// What ends the program that serves one connection after another.
+pub(crate) fn ending(served: Result<Served, HttpFault>) -> Option<Refusal>
+    ensures { result ≡ spec.ending_of served }
+{
+    match served {
+        Ok(Served::Nothing) => None,
+        Ok(Served::Answered(_, number)) => lasting(number),
+        Err(HttpFault::Read | HttpFault::Write | HttpFault::NoMemory) => None,
+    }
+}
+
+/// What is told of the one request that was served: that the desk has to be opened again, or what stopped the
+/// request itself.
+pub fn told(served: Result<Served, HttpFault>) -> Result<(), Refusal>
+    ensures { result ≡ spec.told_of served }
+{
+    match served {
+        Ok(Served::Nothing) => Ok(()),
+        Ok(Served::Answered(_, number)) => match lasting(number) {
+            None => Ok(()),
+            Some(refusal) => Err(refusal),
+        },
+        Err(HttpFault::Read) => Err(Refusal::Read),
+        Err(HttpFault::Write) => Err(Refusal::Write),
+        Err(HttpFault::NoMemory) => Err(Refusal::NoMemory),
+    }
+}
