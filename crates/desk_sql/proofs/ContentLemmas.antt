@@ -10,6 +10,7 @@ use Rattle.sqlite.specs.State as states
 use Rattle.sqlite.specs.State.{State, KeepsCommit}
 use Rattle.sqlite.specs.Table.{Table}
 use Rattle.sqlite.specs.Tree.{Trees}
+use Rattle.sqlite_catalog.specs.Listing.{IsSound}
 use Rattle.desk_sql.specs.Contents.{Contents, HoldRows, IsIn, IsKeyed, seen, change_at, are_other, is_apart}
 use Rattle.desk_sql.specs.Meanings.{StandsAt}
 use Rattle.desk_sql.specs.States.{Moves}
@@ -66,6 +67,7 @@ rows_at (t ∷ ts) (r ∷ c) (suc at) table rows db is has h = rows_at ts c at t
 -- a statement's step: this table's rows change, and no other table's
 pub record Steps (schema : Schema) (table : Table) (change : List Row → List Row) (old new : Database) : Type 0 where
   pub listed : new.schema ≡ schema
+  pub sound : IsSound schema new.trees
   pub tables : AllByRecursion (λ (t : Table). t.tree ≢ table.tree → new.trees t.tree ≡ old.trees t.tree) schema.tables
   pub rows : (rows : List Row) → IsIn old.trees table rows → IsIn new.trees table (change rows)
 
@@ -81,6 +83,7 @@ moves schema at table stands change old new shown steps = record {
         inside = shown.mode;
         holds = record {
           listed = it.listed;
+          sound = it.sound;
           rows = one_changes schema.tables c at table change old.now.trees new.now.trees stands.place stands.apart it.tables it.rows sees.holds.rows;
         };
       };

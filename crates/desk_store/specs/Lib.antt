@@ -1,5 +1,6 @@
 pub mod Pasts
 pub mod Desks
+pub mod Reopening
 pub mod Rows
 pub mod Steps
 pub mod Acts
