@@ -3,7 +3,7 @@ use Rattle.sqlite.specs.Held.{state}
 use Rattle.desk_store.proofs.ReopeningLemmas.{shown_by_catalog}
 use Rattle.desk_store.proofs.opening.found_is_shown.Goals as goal
 
-pub returns-clause : goal.returns-clause
-returns-clause g c owner cs holds =
+pub returns : goal.returns
+returns g c owner cs holds =
     shown_by_catalog (state g.S.Store c.args.conn.now) owner cs c.catalog_lists_one_schema.ensures c.schema-_sound.ensures.live
     (λ live. search (rules, live)) c.requires.outside holds
