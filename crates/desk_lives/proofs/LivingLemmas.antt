@@ -68,22 +68,22 @@ module _ {S : Type 0} (g : store.Ghosts S) (desk : Desk S) where
   lives_again owner lives cs keeps = record { told = refl; some = ∣ (cs, ends_next lives cs keeps.ends, keeps.shows) ∣₁ }
 
   pub may_stop_living : MayStopLiving g desk
-  may_stop_living owner before events was = ∥∥₁_map was.some (λ it clean db may. (it.0, it.1.0, it.1.1.left clean db may))
+  may_stop_living owner before events was = ∥∥₁_map was.some (λ it clean db may. (it.0, it.1, it.2.left clean db may))
 
 module _ {S : Type 0} (g : store.Ghosts S) (old new : Desk S) where
   pub goes_on_living : GoesOnLiving g old new
   goes_on_living owner before events c was = (
     λ reply told. record {
       told = still_told events _ was.told refl;
-      some = ∥∥₁_map was.some (λ it. let did = told owner it.0 it.1.1 in (_, ends_then before events c (Answered reply) it.0 _ was.told it.1.0 (did.0, refl), did.1));
+      some = ∥∥₁_map was.some (λ it. let did = told owner it.0 it.2 in (_, ends_then before events c (Answered reply) it.0 _ was.told it.1 (did.0, refl), did.1));
     },
     λ refusal other told. record {
       told = still_told events _ was.told refl;
-      some = ∥∥₁_map was.some (λ it. let did = told other owner it.0 it.1.1 in (it.0, ends_then before events c Refused it.0 it.0 was.told it.1.0 refl, did.1));
+      some = ∥∥₁_map was.some (λ it. let did = told other owner it.0 it.2 in (it.0, ends_then before events c Refused it.0 it.0 was.told it.1 refl, did.1));
     },
   )
 
   pub may_end_living : MayEndLiving g old new
   may_end_living owner before events c was stops =
-      ∥∥₁_map was.some (λ it clean db may. let left = stops owner it.0 it.1.1 clean db may in
-      (left.0, ends_then before events c Stopped it.0 left.0 was.told it.1.0 left.1.0, left.1.1))
+      ∥∥₁_map was.some (λ it clean db may. let left = stops owner it.0 it.2 clean db may in
+      (left.0, ends_then before events c Stopped it.0 left.0 was.told it.1 left.1, left.2))

@@ -47,16 +47,20 @@ pub record IsIn (db : Trees) (table : Table) (rows : List Row) : Type 0 where
 abbrev pub HoldRows : Trees → List Table → Contents → Type 0
 HoldRows db tables contents = AllZip (IsIn db) tables contents
 
--- The trees hold these rows, and are a database of this schema: their catalog lists its tables and no other, and the rows
--- obey it. Whoever opens them finds the schema by the catalog.
+-- The trees are a database of this schema: their catalog lists its tables and no other, and the rows obey it. Whoever opens
+-- them finds the schema by the catalog.
+unfoldable pub IsDatabaseOf : Schema → Trees → Type 0
+IsDatabaseOf schema db = IsSound schema db
+
+-- they hold these rows besides
 pub record AreTablesOf (schema : Schema) (db : Trees) (contents : Contents) : Type 0 where
-  pub sound : IsSound schema db
+  pub sound : IsDatabaseOf schema db
   pub rows : HoldRows db schema.tables contents
 
 -- the database has these tables and no other, with these rows
 pub record Holds (schema : Schema) (db : Database) (contents : Contents) : Type 0 where
   pub listed : db.schema ≡ schema
-  pub sound : IsSound schema db.trees
+  pub sound : IsDatabaseOf schema db.trees
   pub rows : HoldRows db.trees schema.tables contents
 
 -- the contents where the rows of the table at this place change

@@ -4,14 +4,13 @@ use Rattle.std.specs.Prelude.{⊤}
 use Rattle.sqlite.specs.Store as store
 use Rattle.sqlite.specs.Effect.{Database, IsDatabase}
 use Rattle.sqlite.specs.Held.{Held, state}
-use Rattle.sqlite.specs.Schema.{Schema}
 use Rattle.sqlite.specs.State as states
 use Rattle.sqlite.specs.State.{State, HasCleanDisk, KeepsCommit, Survives}
-use Rattle.sqlite_catalog.specs.Listing.{IsSound}
 use Rattle.sqlite.proofs.StateLemmas.{survives_then}
 use Rattle.sqlite.proofs.Callers.{survives_begin}
 use Rattle.desk_sql.specs.Contents.{Holds, no_rows}
 use Rattle.desk_sql.specs.States.{Makes, Sees, Turns}
+use Rattle.desk_sql.proofs.ContentLemmas.{database_of}
 use Rattle.desk_sql.proofs.StopLemmas.{tables_of}
 use Rattle.desk_sql.proofs.TableLemmas.{made_holds}
 use Rattle.desk_statements.specs.Tables.{desk_schema, no_schema}
@@ -26,7 +25,7 @@ founds first mid new owner made put = record {
   kept = record { was_open = λ o. made.kept.was_open (put.kept.was_open o); committed = λ o. put.kept.committed o ∙ made.kept.committed (put.kept.was_open o) };
   value = λ sound free. put.value tt (record {
     inside = made.inside;
-    holds = made_holds desk_schema mid.now (made.value (record { listed = free; sound = subst (λ (s : Schema). IsSound s first.now.trees) free sound; empty = tt }));
+    holds = made_holds desk_schema mid.now (made.value (record { listed = free; sound = database_of no_schema first.now free sound; empty = tt }));
   });
 }
 

@@ -13,6 +13,7 @@ use Rattle.desk_history.specs.Calls.{History}
 use Rattle.desk_reads.specs.Failures.{IsFailure}
 use Rattle.desk_store.specs.Steps.{IsReadRefusal}
 use Rattle.desk_sql.specs.Contents.{AreTablesOf}
+use Rattle.desk_sql.proofs.ContentLemmas.{catalog_of}
 use Rattle.desk_statements.specs.Tables.{desk_schema}
 use Rattle.desk_contents.specs.Histories.{HoldsHistory, ShowsHistory, rows_of}
 
@@ -25,7 +26,7 @@ shown_by_catalog s owner cs one_schema live settled outside holds = record {
   holds = λ clean is_open.
       let now = settled is_open in
       let mine : AreTablesOf desk_schema s.now.trees (rows_of owner cs) = subst (λ (d : Database). AreTablesOf desk_schema d.trees (rows_of owner cs)) (sym now) holds in
-      let same : desk_schema ≡ s.now.schema = one_schema (s.now.trees catalog_tree) desk_schema s.now.schema refl mine.sound.lists.listed (live is_open).0.lists.listed in
+      let same : desk_schema ≡ s.now.schema = one_schema (s.now.trees catalog_tree) desk_schema s.now.schema refl (catalog_of desk_schema s.now.trees mine.sound) (live is_open).0.lists.listed in
       (record { listed = sym same; sound = mine.sound; rows = mine.rows }, now);
 }
 

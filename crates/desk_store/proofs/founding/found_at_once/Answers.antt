@@ -16,7 +16,7 @@ returns-in-Ok-commit-clause-ok g c =
     let last = c.found.new.tx.conn.now in
     let end = c.commit.new.self.0 in
     let did = c.in-Ok.ensures in
-    let sound : IsTrue (state g.S.Store old).is_open → IsDatabase (state g.S.Store old).now = λ live. (c.schema-_sound.ensures.live live).0 in
+    let sound : IsTrue (state g.S.Store old).is_open → IsDatabase (state g.S.Store old).now = λ live. (c.schema-sound.ensures.live live).0 in
     let made : HasCleanDisk (state g.S.Store last) → IsTrue (state g.S.Store last).is_open × Founds begun (state g.S.Store last) owner =
     λ clean. (((rw c.transaction-tx.ensures.begun at (did.inside clean)) refl).0, (rw c.transaction-tx.ensures.begun at (did.value clean)) refl) in
     let same : end ≡ c.conn-1.given.0 = search rules in
@@ -32,7 +32,7 @@ returns-in-Ok-commit-clause-survives g c =
     let end = c.commit.new.self.0 in
     let did = c.in-Ok.ensures in
     let spared : Survives begun (state g.S.Store last) (λ _. ⊥) = rw c.transaction-tx.ensures.begun at did.survives in
-    let sound : IsTrue (state g.S.Store old).is_open → IsDatabase (state g.S.Store old).now = λ live. (c.schema-_sound.ensures.live live).0 in
+    let sound : IsTrue (state g.S.Store old).is_open → IsDatabase (state g.S.Store old).now = λ live. (c.schema-sound.ensures.live live).0 in
     let made : HasCleanDisk (state g.S.Store last) → IsTrue (state g.S.Store last).is_open × Founds begun (state g.S.Store last) owner =
     λ clean. (((rw c.transaction-tx.ensures.begun at (did.inside clean)) refl).0, (rw c.transaction-tx.ensures.begun at (did.value clean)) refl) in
     let same : end ≡ c.conn-1.given.0 = search rules in
@@ -48,7 +48,7 @@ returns-in-Err-commit-clause-survives g c =
     let end = c.commit.new.self.0 in
     let did = c.in-Ok.ensures in
     let spared : Survives begun (state g.S.Store last) (λ _. ⊥) = rw c.transaction-tx.ensures.begun at did.survives in
-    let sound : IsTrue (state g.S.Store old).is_open → IsDatabase (state g.S.Store old).now = λ live. (c.schema-_sound.ensures.live live).0 in
+    let sound : IsTrue (state g.S.Store old).is_open → IsDatabase (state g.S.Store old).now = λ live. (c.schema-sound.ensures.live live).0 in
     let made : HasCleanDisk (state g.S.Store last) → IsTrue (state g.S.Store last).is_open × Founds begun (state g.S.Store last) owner =
     λ clean. (((rw c.transaction-tx.ensures.begun at (did.inside clean)) refl).0, (rw c.transaction-tx.ensures.begun at (did.value clean)) refl) in
     let same : end ≡ c.conn-1.given.0 = search rules in

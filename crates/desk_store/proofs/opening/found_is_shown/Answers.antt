@@ -5,5 +5,5 @@ use Rattle.desk_store.proofs.opening.found_is_shown.Goals as goal
 
 pub returns : goal.returns
 returns g c owner cs holds =
-    shown_by_catalog (state g.S.Store c.args.conn.now) owner cs c.catalog_lists_one_schema.ensures c.schema-_sound.ensures.live
-    (λ live. search (rules, live)) c.requires.outside holds
+    shown_by_catalog (state g.S.Store c.args.conn.now) owner cs c.catalog_lists_one_schema.ensures c.schema-sound.ensures.live
+    (λ live. c.is_autocommit-settled.ensures.settled (search rules) live) c.requires.outside holds
