@@ -7,7 +7,7 @@ use Rattle.desk_history.specs.Tables.{tables}
 use Rattle.sqlite.specs.State.{State}
 use Rattle.sqlite.specs.Tree.{Trees}
 use Rattle.desk_contents.specs.Contents.{contents}
-use Rattle.desk_sql.specs.Contents.{Contents, HoldRows}
+use Rattle.desk_sql.specs.Contents.{AreTablesOf, Contents}
 use Rattle.desk_sql.specs.States.{Leaves, Shows}
 use Rattle.desk_statements.specs.Tables.{desk_schema}
 
@@ -15,9 +15,9 @@ use Rattle.desk_statements.specs.Tables.{desk_schema}
 abbrev pub rows_of : List ℕ → History → Contents
 rows_of owner cs = contents (tables owner cs)
 
--- the trees hold them
+-- the trees hold them, and are a database of the desk's tables
 abbrev pub HoldsHistory : Trees → List ℕ → History → Type 0
-HoldsHistory db owner cs = HoldRows db desk_schema.tables (rows_of owner cs)
+HoldsHistory db owner cs = AreTablesOf desk_schema db (rows_of owner cs)
 
 -- the connection shows them, and no other table
 abbrev pub ShowsHistory : State → List ℕ → History → Type 0

@@ -3,16 +3,28 @@ use Rattle.std.proofs.Common.{◌≡◌, ◌≢◌, ℕ, zero, suc, ◌==◌, no
 use Rattle.std.specs.List.{AllByRecursion}
 use Rattle.std.specs.List.Sorted.{IsPermutation}
 use Rattle.std.proofs.lemmas.Bool.{eq-eqb, and_parts}
-use Rattle.sqlite.specs.Effect.{Database}
+use Rattle.sqlite.specs.Effect.{Database, IsDatabase}
 use Rattle.sqlite.specs.Order.{Row}
 use Rattle.sqlite.specs.Schema.{Schema}
 use Rattle.sqlite.specs.State as states
 use Rattle.sqlite.specs.State.{State, KeepsCommit}
 use Rattle.sqlite.specs.Table.{Table}
 use Rattle.sqlite.specs.Tree.{Trees}
-use Rattle.desk_sql.specs.Contents.{Contents, HoldRows, IsIn, IsKeyed, seen, change_at, are_other, is_apart}
+use Rattle.sqlite_catalog.specs.Listing.{AreListed, IsSound}
+use Rattle.sqlite_trees.specs.Objects.{catalog_tree}
+use Rattle.desk_sql.specs.Contents.{Contents, HoldRows, IsDatabaseOf, IsIn, IsKeyed, seen, change_at, are_other, is_apart}
 use Rattle.desk_sql.specs.Meanings.{StandsAt}
 use Rattle.desk_sql.specs.States.{Moves}
+
+-- a database is one of its own schema
+pub database_of : (schema : Schema) (db : Database) → db.schema ≡ schema → IsDatabase db → IsDatabaseOf schema db.trees
+unfolding IsDatabaseOf
+database_of schema db is sound = subst (λ (s : Schema). IsSound s db.trees) is sound
+
+-- its catalog lists that schema
+pub catalog_of : (schema : Schema) (db : Trees) → IsDatabaseOf schema db → AreListed (db catalog_tree) schema
+unfolding IsDatabaseOf
+catalog_of schema db sound = sound.lists.listed
 
 differs : (a b : ℕ) → not (a == b) ≡ true → a ≢ b
 differs a b h e = let same = eq-eqb a b e in let k : not true ≡ true = subst (λ x. not x ≡ true) same h in cc
@@ -66,6 +78,7 @@ rows_at (t ∷ ts) (r ∷ c) (suc at) table rows db is has h = rows_at ts c at t
 -- a statement's step: this table's rows change, and no other table's
 pub record Steps (schema : Schema) (table : Table) (change : List Row → List Row) (old new : Database) : Type 0 where
   pub listed : new.schema ≡ schema
+  pub sound : IsDatabaseOf schema new.trees
   pub tables : AllByRecursion (λ (t : Table). t.tree ≢ table.tree → new.trees t.tree ≡ old.trees t.tree) schema.tables
   pub rows : (rows : List Row) → IsIn old.trees table rows → IsIn new.trees table (change rows)
 
@@ -81,6 +94,7 @@ moves schema at table stands change old new shown steps = record {
         inside = shown.mode;
         holds = record {
           listed = it.listed;
+          sound = it.sound;
           rows = one_changes schema.tables c at table change old.now.trees new.now.trees stands.place stands.apart it.tables it.rows sees.holds.rows;
         };
       };

@@ -1,15 +1,23 @@
 -- From the steps of a transaction to its commit.
-use Rattle.std.proofs.Common.{◌≡◌, true, false, refl, sym, subst, ◌∙◌, arith, IsTrue}
+use Rattle.std.proofs.Common.{true, false, refl, sym, subst, ◌∙◌, arith, IsTrue}
 use Rattle.sqlite.specs.Store as store
 use Rattle.sqlite.specs.Effect.{Database}
 use Rattle.sqlite.specs.Held.{Held, state}
 use Rattle.sqlite.specs.Schema.{Schema}
 use Rattle.sqlite.specs.State as states
 use Rattle.sqlite.specs.State.{State, HasCleanDisk, Survives, KeepsCommit}
-use Rattle.sqlite.proofs.StateLemmas.{survives_then}
-use Rattle.sqlite.proofs.Callers.{survives_begin}
-use Rattle.desk_sql.specs.Contents.{Contents, Holds, HoldRows}
+use Rattle.desk_sql.specs.Contents.{AreTablesOf, Contents, Holds}
 use Rattle.desk_sql.specs.States.{Changes, Turns, Sees, Shows}
+
+-- the trees of a database with these tables
+pub tables_of : (schema : Schema) (db : Database) (c : Contents) → Holds schema db c → AreTablesOf schema db.trees c
+tables_of schema db c holds = record { sound = holds.sound; rows = holds.rows }
+
+-- the last commit of an open connection
+pub committed_tables : (schema : Schema) (s : State) (c : Contents) → Shows schema s c → HasCleanDisk s → IsTrue s.is_open → AreTablesOf schema s.committed.trees c
+committed_tables schema s c shows clean live =
+    let it = shows.holds clean live in
+    subst (λ (d : Database). AreTablesOf schema d.trees c) it.1 (tables_of schema s.now c it.0)
 
 module _ {T : Type 0} (schema : Schema) (contents : T → Contents) where
   pub changes_then : (first mid new : State) (f h : T → T) → Changes schema contents first mid f → Changes schema contents mid new h → Changes schema contents first new (λ t. h (f t))
@@ -40,17 +48,6 @@ module _ {T S : Type 0} (schema : Schema) (before after : T → Contents) (g : s
   pub holds_all : (t : T) → Shows schema (state g old) (before t) → HasCleanDisk (state g old) → IsTrue (state g last).is_open → Turns schema before after begun (state g last)
       → Sees schema (state g last) (after t)
   holds_all t shows clean live w = w.value t (record { inside = refl; holds = (shows.holds clean (w.kept.was_open live)).0 })
-
-  pub survives_all : Survives begun (state g last) (λ _. ⊥) → (HasCleanDisk (state g last) → IsTrue (state g last).is_open × Turns schema before after begun (state g last))
-      → Survives (state g last) (state g end) (λ db. db ≡ (state g last).now.trees)
-      → Survives (state g old) (state g end) (λ db. (t : T) → Shows schema (state g old) (before t) → HoldRows db schema.tables (after t))
-  survives_all s w e = survives_then (state g old) (state g last) (state g end) (λ _. ⊥) (λ db. db ≡ (state g last).now.trees) (λ db. (t : T) → Shows schema (state g old) (before t) → HoldRows db schema.tables (after t))
-      (λ _ db none. absurd none)
-      (λ clean db is t shows. let late : HasCleanDisk (state g last) = omega (arith, e.clean, clean) in
-      let it = w late in
-      let sees = holds_all t shows (omega (arith, s.clean, late)) it.0 it.1 in
-      subst (λ d. HoldRows d schema.tables (after t)) (sym is) sees.holds.rows)
-      (survives_begin g old (state g last) (λ _. ⊥) s) e
 
   pub shows_all : Survives begun (state g last) (λ _. ⊥) → (HasCleanDisk (state g last) → IsTrue (state g last).is_open × Turns schema before after begun (state g last))
       → HasCleanDisk (state g last) → states.Shows (state g last) (state g end) (state g last).now (state g last).now false → (t : T) → Shows schema (state g old) (before t) → Shows schema (state g end) (after t)

@@ -11,7 +11,7 @@ use Rattle.sqlite.specs.Held.{Held, state}
 use Rattle.sqlite.specs.Listing.{understood}
 use Rattle.sqlite.specs.Order.{Row}
 use Rattle.sqlite.specs.Schema.{Schema}
-use Rattle.sqlite.specs.State.{State, Begins, CommitsShowing, Fails, HasCleanDisk, IsNotRun, IsStatement, IsUnchanged, Shown, Survives, mode_of, text_of}
+use Rattle.sqlite.specs.State.{State, CommitsShowing, Fails, HasCleanDisk, IsNotRun, IsStatement, IsUnchanged, Shown, Survives, mode_of, text_of}
 use Rattle.sqlite.specs.Store as store
 use Rattle.sqlite.specs.Table.{Table}
 use Rattle.sqlite.specs.Term.{Term}
@@ -22,7 +22,7 @@ use Rattle.desk_sql.specs.Contents.{Contents, Holds}
 use Rattle.desk_sql.specs.Effects.{HandsOver, Streams}
 use Rattle.desk_sql.specs.Meanings.{SelectsRows}
 use Rattle.desk_sql.specs.States.{Shows}
-use Rattle.desk_sql.specs.Streaming.{BeginsAnswer, HandsFirst, IsGivenUp, StaysOrUndoes, StreamsFirst}
+use Rattle.desk_sql.specs.Streaming.{BeginsAnswer, HandsFirst, StaysOrUndoes}
 use Rattle.desk_sql.proofs.ReadLemmas.{finds_rows, shown_after}
 
 -- a fact of every error

@@ -9,13 +9,14 @@ use Rattle.sqlite.specs.Command.TheVariants.{CreateTable}
 use Rattle.sqlite.specs.Change.{created, next_tree}
 use Rattle.sqlite_catalog.specs.Change.{KeepsRows}
 use Rattle.sqlite.specs.Does.{Tally, lacks_sequence}
-use Rattle.sqlite.specs.Effect.{Database}
+use Rattle.sqlite.specs.Effect.{Database, IsDatabase}
 use Rattle.sqlite.specs.State.{State, Writes, ExecutesInside}
 use Rattle.sqlite.proofs.Callers.{runs_as}
 use Rattle.desk_sql.specs.Contents.{Holds, HoldRows, IsKeyed, seen, no_rows}
 use Rattle.desk_sql.specs.Effects.{Creates, CreatesAll}
 use Rattle.desk_sql.specs.Meanings.{MakesTable, MakeTables, schema_after}
 use Rattle.desk_sql.specs.States.{Made, Makes}
+use Rattle.desk_sql.proofs.ContentLemmas.{database_of}
 use Rattle.desk_sql.proofs.PartLemmas.{went, same_value}
 use Rattle.std.specs.List.Sorted.{IsPermutation}
 
@@ -46,6 +47,7 @@ creates text old new count h schema table means = record {
       let fresh : first.0.trees (next_tree schema) ≡ [] = subst (λ s. first.0.trees (next_tree s) ≡ []) made.listed it.empty in
       subst (λ (d : Database). Made d (created schema table)) (sym now) (record {
         listed = listed;
+        sound = database_of (created schema table) first.0 listed (subst IsDatabase now w.sound);
         empty = all_and (λ t. first.0.trees t.tree ≡ []) schema.tables (record table { tree = next_tree schema }) (emptied schema.tables old.now.trees first.0.trees kept made.empty) fresh;
       });
 }
@@ -62,7 +64,7 @@ empty_tables (t ∷ ts) db h = (
 
 -- what was made holds no rows
 pub made_holds : (schema : Schema) (db : Database) → Made db schema → Holds schema db (no_rows schema.tables)
-made_holds schema db made = record { listed = made.listed; rows = empty_tables schema.tables db.trees made.empty }
+made_holds schema db made = record { listed = made.listed; sound = made.sound; rows = empty_tables schema.tables db.trees made.empty }
 
 -- ---- one table after another
 

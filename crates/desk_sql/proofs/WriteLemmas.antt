@@ -24,7 +24,7 @@ use Rattle.sqlite_trees.specs.declared.store.Shape.TheVariants as shape
 use Rattle.desk_sql.specs.Contents.{IsKeyed, seen}
 use Rattle.desk_sql.specs.Effects.{Inserts, Updates, Deletes, passes, updated}
 use Rattle.desk_sql.specs.Queries.{finding, meets, projected, rewritten}
-use Rattle.desk_sql.proofs.ContentLemmas.{moves}
+use Rattle.desk_sql.proofs.ContentLemmas.{database_of, moves}
 use Rattle.desk_sql.proofs.EditLemmas.{Updated, updates as updates_tree, Deleted, deletes as deletes_tree}
 use Rattle.desk_sql.proofs.InsertLemmas.{puts, put_permutes}
 use Rattle.desk_sql.proofs.QueryLemmas.{selected}
@@ -41,6 +41,7 @@ inserts text params old new count h schema at table terms row means shape =
     let whole : seen table put ≡ row = ap (λ ts. seen table (with_rowid Chosen rows (cast_row table (eval_all ts (params ∷ []))))) (take_all (length terms) terms (omega arith)) ∙ shape rows in
     record {
       listed = p.listed;
+      sound = database_of schema new.now p.listed w.sound;
       tables = p.tables;
       rows = λ l was. record {
         same = subst (λ k. IsPermutation (row ∷ l) (map (seen table) k)) (sym p.rows)
@@ -103,6 +104,7 @@ updates text params old new count h schema at table terms rest means =
     let all = old.now.trees table.tree in
     record {
       listed = u.listed;
+      sound = database_of schema new.now u.listed w.sound;
       tables = u.tables;
       rows = λ l was.
           let tree = updated_tree schema table terms rest old.now.trees new.now.trees params was.keyed new.now.schema again in
@@ -125,6 +127,7 @@ deletes text params old new count h schema at table terms means =
     let all = old.now.trees table.tree in
     record {
       listed = u.listed;
+      sound = database_of schema new.now u.listed w.sound;
       tables = u.tables;
       rows = λ l was.
           let tree = deleted_tree schema table terms [] old.now.trees new.now.trees params was.keyed new.now.schema again in

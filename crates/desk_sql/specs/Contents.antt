@@ -8,6 +8,7 @@ use Rattle.sqlite.specs.Order.{Row}
 use Rattle.sqlite.specs.Schema.{Schema}
 use Rattle.sqlite.specs.Table.{Table}
 use Rattle.sqlite.specs.Tree.{Trees, IsTable, rowid}
+use Rattle.sqlite_catalog.specs.Listing.{IsSound}
 use Rattle.sqlite_trees.specs.View.{is_int}
 
 -- A stored row begins with its row id. Where an INTEGER PRIMARY KEY is that number, all of the row counts; in other
@@ -46,9 +47,20 @@ pub record IsIn (db : Trees) (table : Table) (rows : List Row) : Type 0 where
 abbrev pub HoldRows : Trees → List Table → Contents → Type 0
 HoldRows db tables contents = AllZip (IsIn db) tables contents
 
+-- The trees are a database of this schema: their catalog lists its tables and no other, and the rows obey it. Whoever opens
+-- them finds the schema by the catalog.
+unfoldable pub IsDatabaseOf : Schema → Trees → Type 0
+IsDatabaseOf schema db = IsSound schema db
+
+-- they hold these rows besides
+pub record AreTablesOf (schema : Schema) (db : Trees) (contents : Contents) : Type 0 where
+  pub sound : IsDatabaseOf schema db
+  pub rows : HoldRows db schema.tables contents
+
 -- the database has these tables and no other, with these rows
 pub record Holds (schema : Schema) (db : Database) (contents : Contents) : Type 0 where
   pub listed : db.schema ≡ schema
+  pub sound : IsDatabaseOf schema db.trees
   pub rows : HoldRows db.trees schema.tables contents
 
 -- the contents where the rows of the table at this place change

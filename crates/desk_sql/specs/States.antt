@@ -8,7 +8,7 @@ use Rattle.sqlite.specs.State.{State, HasCleanDisk, KeepsCommit, Survives}
 use Rattle.sqlite.specs.Store.{Ghosts}
 use Rattle.sqlite.specs.Table.{Table}
 use Rattle.sqlite.specs.Tree.{Trees}
-use Rattle.desk_sql.specs.Contents.{Contents, Holds}
+use Rattle.desk_sql.specs.Contents.{Contents, Holds, IsDatabaseOf}
 
 -- inside a transaction
 pub record Sees (schema : Schema) (s : State) (contents : Contents) : Type 0 where
@@ -43,6 +43,7 @@ Leaves s P = HasCleanDisk s → (db : Trees) → s.may_leave db → P db
 -- the tables of the schema stand there, and are empty
 pub record Made (db : Database) (schema : Schema) : Type 0 where
   pub listed : db.schema ≡ schema
+  pub sound : IsDatabaseOf schema db.trees
   pub empty : AllByRecursion (λ (t : Table). db.trees t.tree ≡ []) schema.tables
 
 -- a step of making them

@@ -1,7 +1,6 @@
 -- From what a close leaves of the files to the history that they hold.
 use Rattle.std.proofs.Common.{◌≡◌, ◌⊎◌, inr, ℕ, List, false, sym, subst, arith, IsTrue}
 use Rattle.sqlite.specs.Closing.{IsCopied}
-use Rattle.sqlite.specs.Effect.{Database}
 use Rattle.sqlite.specs.Files.{FailsToClose, file_state, over_files}
 use Rattle.sqlite.specs.State.{HasCleanDisk}
 use Rattle.sqlite.specs.Tree.{Trees}
@@ -16,7 +15,9 @@ use Rattle.sqlite_trees.specs.View.{IsClean, IsQuiet}
 use Rattle.sqlite_trees.specs.declared.error.StoreError.TheVariants.{OutOfMemory, Io, Corrupt, Full, Broken, Unstorable}
 use Rattle.sqlite_wal.specs.Reads.{AreClean}
 use Rattle.desk_bytes.specs.declared.refusal.Refusal.TheVariants as refusals
-use Rattle.desk_contents.specs.Histories.{HoldsHistory}
+use Rattle.desk_contents.specs.Histories.{HoldsHistory, rows_of}
+use Rattle.desk_sql.proofs.StopLemmas.{committed_tables}
+use Rattle.desk_statements.specs.Tables.{desk_schema}
 use Rattle.desk_history.specs.Calls.{History}
 use Rattle.desk_tables.specs.Faults.{fault_of, refusal_of}
 use Rattle.desk_store.specs.Closed.{AreClosed, OpenAgain}
@@ -27,9 +28,7 @@ module _ {D : Type 0} {g : Ghosts D} (desk : Desk (FileStore D g)) where
   -- the last commit of a desk has the rows of the history that it shows
   committed_rows : HasCleanDisk (file_state desk.conn) → IsTrue (file_state desk.conn).is_open
       → (owner : List ℕ) (cs : History) → ShowsDesk over_files desk owner cs → HoldsHistory (file_state desk.conn).committed.trees owner cs
-  committed_rows clean live owner cs was =
-      let it = was.shows.holds clean live in
-      subst (λ (d : Database). HoldsHistory d.trees owner cs) it.1 it.0.rows
+  committed_rows clean live owner cs was = committed_tables desk_schema (file_state desk.conn) (rows_of owner cs) was.shows clean live
 
   -- what a close has copied
   pub copied_rows : (files : Files D) → IsCopied desk.conn files → (owner : List ℕ) (cs : History) → ShowsDesk over_files desk owner cs → AreClosed g files owner cs

@@ -14,8 +14,8 @@ use Rattle.desk_texts.specs.declared.command.Call.{Call}
 use Rattle.desk_history.specs.Calls.{History}
 use Rattle.desk_history.specs.Runs.{is_accepted}
 use Rattle.desk_sizes.specs.declared.kept.KeptSizes.{KeptSizes}
-use Rattle.desk_sql.specs.Contents.{HoldRows, Holds}
-use Rattle.desk_sql.proofs.StopLemmas.{holds_all, shows_all}
+use Rattle.desk_sql.specs.Contents.{AreTablesOf, Holds}
+use Rattle.desk_sql.proofs.StopLemmas.{holds_all, shows_all, tables_of}
 use Rattle.desk_statements.specs.Tables.{desk_schema}
 use Rattle.desk_store.specs.Acts.{Acts, Answers, LeavesNext, Runs}
 use Rattle.desk_contents.specs.Histories.{ShowsHistory, rows_of}
@@ -131,6 +131,6 @@ module _ {S : Type 0} (g : store.Ghosts S) (old last end : Held S) where
         let it = did late in
         let sees = holds_all desk_schema (before sizes) (after sizes c) g old last end p shows (omega (arith, s.clean, late)) it.0 it.1.turned in (
           ap is_accepted (told s late it.0 it.1 p shows).exact ∙ accepted,
-          subst (λ d. HoldRows d desk_schema.tables (after sizes c p)) (sym is) sees.holds.rows,
+          subst (λ (d : Trees). AreTablesOf desk_schema d (after sizes c p)) (sym is) (tables_of desk_schema (state g last).now (after sizes c p) sees.holds),
         ))
         (survives_begin g old (state g last) (λ _. ⊥) s) e

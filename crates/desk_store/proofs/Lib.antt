@@ -7,3 +7,4 @@ mod DeskLemmas
 mod ClosingLemmas
 mod ShowingLemmas
 mod QuestionLemmas
+mod ReopeningLemmas

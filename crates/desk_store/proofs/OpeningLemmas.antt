@@ -30,7 +30,7 @@ use Rattle.desk_contents.specs.Values.{desk_values}
 use Rattle.desk_contents.specs.Histories.{ShowsHistory, rows_of}
 use Rattle.desk_store.specs.Rows.{desk_columns}
 use Rattle.desk_reads.specs.Failures.{IsFailure}
-use Rattle.desk_store.specs.Steps.{AreShownAs, ReadsInside, RefusesText, TellsOf}
+use Rattle.desk_store.specs.Steps.{AreShownAs, ReadsInside, RefusesText, TellsOf, TellsOpen}
 
 pub unchanged_keeps : (old new : State) → IsUnchanged old new → KeepsCommit old new
 unchanged_keeps old new same = record { was_open = λ _. same.0.was_open; committed = λ _. same.0.committed_is }
@@ -86,6 +86,13 @@ module _ {S : Type 0} (g : store.Ghosts S) (old last end : Held S) (owner : List
   pub read_before : (result : Result ℕ Refusal) → HasCleanDisk (state g old) → TellsOf begun result → ReadsInside begun result → IfOk result (AreShownAs (state g old))
   read_before (Ok version) clean told reads = λ c rows shows has. reads c rows (record { inside = refl; holds = (shows.holds clean told.0).0 }) has
   read_before (Err refusal) clean told reads = tt
+
+  -- the connection was open where a version was read, and where there is no desk
+  pub open_before : (result : Result ℕ Refusal) → TellsOf begun result → TellsOpen (state g old) result
+  open_before (Ok version) told = told.0
+  open_before (Err refusal) (inl (inl memory)) = λ is. absurd (let e = sym memory ∙ is in cc)
+  open_before (Err refusal) (inl (inr store)) = λ is. absurd (let e = sym store ∙ is in cc)
+  open_before (Err refusal) (inr told) = λ _. told.1.0
 
   -- a transaction that is rolled back leaves what the connection shows
   pub undone : HasCleanDisk (state g old) → KeepsCommit begun (state g last) → IsRolledBack (state g last) (state g end)

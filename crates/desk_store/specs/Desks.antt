@@ -1,17 +1,14 @@
 -- What a desk shows, and what a stop leaves of it.
-use Rattle.std.specs.Prelude.{◌≡◌, ◌≢◌, ◌⊎◌, ℕ, All, List, Some, false, IsTrue}
+use Rattle.std.specs.Prelude.{◌≡◌, ◌≢◌, ◌⊎◌, ℕ, List, Some, false, IsTrue}
 use Rattle.sqlite.specs.Store.{Ghosts}
-use Rattle.sqlite.specs.Held.{Held, state}
+use Rattle.sqlite.specs.Held.{state}
 use Rattle.desk_bytes.specs.declared.refusal.Refusal.{Refusal}
 use Rattle.desk_bytes.specs.declared.refusal.Refusal.TheVariants as refusals
-use Rattle.desk_texts.specs.Formed.{IsCall}
 use Rattle.desk_texts.specs.declared.command.Call.{Call}
 use Rattle.desk_texts.specs.declared.reply.Reply.{Reply}
 use Rattle.desk_history.specs.Calls.{History}
 use Rattle.desk_history.specs.DecisionRefusals.{may_answer}
-use Rattle.desk_history.specs.FormLaws.{KeepsAnswered}
 use Rattle.desk_history.specs.Formed.{IsHistory}
-use Rattle.desk_history.specs.Lives.{Ends, Life, events_of}
 use Rattle.desk_history.specs.Runs.{answer, is_accepted, next, reply_in}
 use Rattle.desk_history.specs.Tables.{tables}
 use Rattle.desk_history.specs.declared.answer.Answer.TheVariants.{Refused}
@@ -28,15 +25,6 @@ pub record ShowsDesk {S : Type 0} (g : Ghosts S) (desk : Desk S) (owner : List �
   pub shows : ShowsHistory (state g desk.conn) owner cs
   pub sizes : AreRight desk.sizes (tables owner cs)
   pub left : LeavesHistory (state g desk.conn) owner cs
-
--- A desk that was opened after any number of lives, with all the stops that these met: each history that they may have
--- left, and that the connection showed and a stop left, is the one that the desk answers for, and it keeps all that was
--- answered Ok.
-abbrev pub Recovers : {S : Type 0} → Ghosts S → Held S → Desk S → Type 0
-Recovers g conn desk =
-    (owner : List ℕ) (lives : List Life) (cs : History) → Ends lives cs → All (λ e. IsCall e.call) (events_of lives)
-    → ShowsHistory (state g conn) owner cs → LeavesHistory (state g conn) owner cs
-    → ShowsDesk g desk owner cs × KeepsAnswered (events_of lives) cs
 
 module _ {S : Type 0} (g : Ghosts S) (old new : Desk S) where
   -- Ok: the reply is the answer to the call, and the desk shows the history after it.

@@ -1,5 +1,6 @@
 -- What the steps of a transaction promise, of a connection before and after them.
 use Rattle.std.specs.Prelude.{◌≡◌, ◌≢◌, ◌⊎◌, ℕ, length, List, [], slice_get, Some, IfOk, IsTrue, Result, MatchResult}
+use Rattle.sqlite.specs.Effect.{IsDatabase}
 use Rattle.sqlite.specs.Order.{Row}
 use Rattle.sqlite.specs.State.{State, KeepsCommit}
 use Rattle.sqlite.specs.declared.error.Error.{Error}
@@ -15,12 +16,12 @@ use Rattle.desk_statements.specs.Tables.{desk_schema, no_schema}
 use Rattle.desk_contents.specs.Histories.{rows_of}
 use Rattle.desk_store.specs.Rows.{AreOf}
 
--- in a store without tables the desk's are made, with the rows of a desk without calls; nothing is committed
+-- in a sound store without tables the desk's are made, with the rows of a desk without calls; nothing is committed
 pub record Founds (old new : State) (owner : List ℕ) : Type 0 where
   pub is_open : IsTrue old.is_open → IsTrue new.is_open
   pub inside : IsTrue new.in_transaction
   pub kept : KeepsCommit old new
-  pub value : old.now.schema ≡ no_schema → Sees desk_schema new (rows_of owner [])
+  pub value : IsDatabase old.now → old.now.schema ≡ no_schema → Sees desk_schema new (rows_of owner [])
 
 -- the error is that of a text
 abbrev pub RefusesText : Error → Type 0
@@ -41,6 +42,10 @@ TellsAll s told = IsTrue s.is_open × ((owner : List ℕ) (cs : History) → len
 -- the version is that of these tables, or a device failed, or the tables are no desk's
 abbrev pub TellsOf : State → Result ℕ Refusal → Type 0
 TellsOf s result = MatchResult result (λ version. TellsAll s (version ≡ 1)) (λ refusal. IsFailure refusal ⊎ ((refusal ≡ refusals.NotADesk) × TellsAll s ⊥))
+
+-- the store is open where a version was read, and where there is no desk
+abbrev pub TellsOpen : State → Result ℕ Refusal → Type 0
+TellsOpen s result = MatchResult result (λ _. IsTrue s.is_open) (λ refusal. refusal ≡ refusals.NotADesk → IsTrue s.is_open)
 
 -- inside a transaction: the rows of the table `desk` read as those of a desk of this version
 abbrev pub ReadsInside : State → Result ℕ Refusal → Type 0

@@ -14,7 +14,8 @@ ghost use Rattle.desk_rules.specs.Shown.{Shows};
 ghost use Rattle.desk_rules.specs.Views.{ShowsLists, keys_of};
 ghost use Rattle.desk_views.specs.Named.{HoldsNoRowBeyond};
 ghost use Rattle.desk_store.specs.Desks.{CommitsOnlyAccepted, IsCallRefusal, KeepsDesk, MayStop};
-ghost use Rattle.desk_store.specs.Desks.{Recovers, Refuses, Replies, ShowsDesk, Views};
+ghost use Rattle.desk_store.specs.Desks.{Refuses, Replies, ShowsDesk, Views};
+ghost use Rattle.desk_store.specs.Reopening.{FindsADesk, Recovers};
 ghost use Rattle.desk_contents.specs.Histories.{HoldsHistory, LeavesHistory, ShowsHistory};
 ghost use Rattle.desk_reads.specs.Failures.{IsFailure};
 ghost use Rattle.desk_store.specs.Steps.{AreShownAs, IsReadRefusal};
@@ -22,10 +23,10 @@ ghost use Rattle.desk_store.specs.Steps.{AreShownAs, IsReadRefusal};
 use crate::acting::{run, told};
 use crate::forms::call_is_formed;
 use crate::founding::{found_at_once, has_no_tables};
-use crate::opening::{VERSION, read_version};
+use crate::opening::{VERSION, found_is_shown, read_version};
 use crate::questions::{ListsFor, RowsFor};
 use desk_bytes::{Guid, Refusal};
-use desk_history::lives_keep_what_was_answered;
+use desk_history::{keys_stand_once, lives_keep_what_was_answered};
 use desk_rules::{ListView, View};
 use desk_sizes::KeptSizes;
 use desk_sql::stop_leaves_what_is_shown;
@@ -87,10 +88,11 @@ impl<S: Alter + Drop> Desk<S> {
     }
 
     /// Opens the desk that the store holds. It looks at the desk's own row and at no other, and
-    /// commits nothing. Whatever stops the desk's lives before it met, where the store shows a history
-    /// that they may have left, the desk answers for that history: it holds each call that was
-    /// answered Ok, with its reply, and bars each image that was barred when a call was answered. The connection has to be in no transaction (`is_autocommit`); a refusal
-    /// hands it back. Takes memory for that row.
+    /// commits nothing. Whatever stops the desk's lives before it met, over what they may have left
+    /// the desk answers for a history that they may leave: it holds each call that was answered Ok,
+    /// with its reply, and bars each image that was barred when a call was answered. The connection
+    /// has to be in no transaction (`is_autocommit`); a refusal hands it back. Takes memory for that
+    /// row.
     ///
     /// `NotADesk`: the store has no row that reads as a desk's. `Version`: it has one, of a version
     /// that this program doesn't know. `NoMemory`: memory was refused. `Store`: the store failed.
@@ -111,17 +113,22 @@ impl<S: Alter + Drop> Desk<S> {
             → IsFailure e.0 × ShowsHistory (state S.Store e.1) owner cs) }
         ensures lives { IfOk result (λ desk. HasCleanDisk (state S.Store desk.conn)
             → Recovers S.Store conn desk) }
+        ensures found { IfErr result (λ e. HasCleanDisk (state S.Store e.1)
+            → FindsADesk S.Store conn e.0) }
         ensures spares { IfOk result (λ desk. Spares S.Store conn desk.conn) }
         ensures spared { IfErr result (λ e. Spares S.Store conn e.1) }
         ensures outside { IfErr result (λ e. e.1.in_transaction ≡ false) }
         ensures named { IfErr result (λ e. (e.0 ≡ Refusal.Version) ⊎ IsReadRefusal e.0) }
     {
+        found_is_shown(&conn);
+        stop_leaves_what_is_shown(&conn);
         match read_version(&mut conn) {
             Ok(version) => {
                 if version != VERSION {
                     return Err((Refusal::Version, conn));
                 }
                 lives_keep_what_was_answered();
+                keys_stand_once();
                 Ok(Desk {
                     alloc,
                     conn,

@@ -52,6 +52,7 @@ pub(crate) fn found_at_once<S: Alter>(conn: &mut Connection<S>, owner: &Guid) ->
         (λ db. (state S.Store conn.old).now.schema ≡ no_schema → HoldsHistory db owner.now []) }
     ensures failed { IfErr result IsFailure }
 {
+    let _sound = conn.schema();
     let mut tx = conn.transaction();
     match found(&mut tx, owner) {
         Ok(()) => match tx.commit() {

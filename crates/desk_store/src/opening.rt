@@ -7,13 +7,14 @@ ghost use Rattle.sqlite.specs.declared.types.Value.TheVariants.{Blob, Int, Text}
 ghost use Rattle.sqlite_value.specs.Order.{column};
 ghost use Rattle.desk_history.specs.Calls.{History};
 ghost use Rattle.desk_sql.specs.States.{Keeps, Spares};
-ghost use Rattle.desk_contents.specs.Histories.{ShowsHistory};
+ghost use Rattle.desk_contents.specs.Histories.{HoldsHistory, ShowsHistory};
 ghost use Rattle.desk_store.specs.Rows.{IsGuid, ReadsAs};
 ghost use Rattle.desk_reads.specs.Failures.{IsFailure};
 ghost use Rattle.desk_store.specs.Steps.{AreShownAs, IsReadRefusal, ReadsInside};
-ghost use Rattle.desk_store.specs.Steps.{RefusesColumns, RefusesText, TellsOf};
+ghost use Rattle.desk_store.specs.Steps.{RefusesColumns, RefusesText, TellsOf, TellsOpen};
 
 use desk_bytes::Refusal;
+use desk_catalog::catalog_lists_one_schema;
 use desk_sql::select;
 use desk_statements::SELECT_DESK;
 use desk_tables::WriteFault;
@@ -158,6 +159,8 @@ pub(crate) fn read_version<S: Alter>(conn: &mut Connection<S>) -> Result<u64, Re
         → ShowsHistory (state S.Store conn.new) owner cs }
     ensures read { HasCleanDisk (state S.Store conn.new)
         → IfOk result (AreShownAs (state S.Store conn.old)) }
+    ensures open { HasCleanDisk (state S.Store conn.new)
+        → TellsOpen (state S.Store conn.old) result }
     ensures named { IfErr result IsReadRefusal }
     ensures survives { Spares S.Store conn.old conn.new }
 {
@@ -165,4 +168,17 @@ pub(crate) fn read_version<S: Alter>(conn: &mut Connection<S>) -> Result<u64, Re
     let read = version_of(&mut tx);
     tx.rollback();
     read
+}
+
+/// A connection outside a transaction shows the history whose tables it has as its last commit: the
+/// catalog among these lists the desk's tables, and no other schema has that catalog.
+pub(crate) fn found_is_shown<S: Alter>(conn: &Connection<S>)
+    requires outside { conn.now.in_transaction ≡ false }
+    ensures { (owner : List ℕ) (cs : History)
+        → HoldsHistory (state S.Store conn.now).committed.trees owner cs
+        → ShowsHistory (state S.Store conn.now) owner cs }
+{
+    catalog_lists_one_schema();
+    let _sound = conn.schema();
+    let _settled = conn.is_autocommit();
 }

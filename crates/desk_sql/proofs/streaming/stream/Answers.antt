@@ -1,12 +1,10 @@
-use Rattle.std.proofs.Common.{◌≡◌, arith, sym, subst, IsTrue}
+use Rattle.std.proofs.Common.{arith}
 use Rattle.sqlite.proofs.Callers.{never_commits}
 use Rattle.sqlite.proofs.StateLemmas.{survives_then}
 use Rattle.sqlite.specs.Held.{state}
 use Rattle.sqlite.specs.State.{CommitsShowing, HasCleanDisk, IsUnchanged}
 use Rattle.sqlite.specs.Values.{bound}
-use Rattle.desk_sql.specs.Effects.{HandsOver}
-use Rattle.desk_sql.specs.Streaming.{HandsFirst}
-use Rattle.desk_sql.proofs.StreamLemmas.{OnErr-so, OnOk-so, hands_first_after, hands_over_after, plain_after, showing_before, still_shows, undone_then}
+use Rattle.desk_sql.proofs.StreamLemmas.{OnErr-so, OnOk-so, hands_first_after, hands_over_after, plain_after, showing_before}
 use Rattle.desk_sql.proofs.streaming.stream.Goals as goal
 
 pub returns-clause-value : goal.returns-clause-value

@@ -1,4 +1,5 @@
 use Rattle.std.proofs.Common.{◌≡◌, [], rules, true, refl, subst, arith, IsTrue}
+use Rattle.sqlite.specs.Effect.{IsDatabase}
 use Rattle.sqlite.specs.Held.{Held, state}
 use Rattle.sqlite.specs.State.{HasCleanDisk, Survives}
 use Rattle.desk_statements.specs.Tables.{no_schema}
@@ -15,10 +16,12 @@ returns-in-Ok-commit-clause-ok g c =
     let last = c.found.new.tx.conn.now in
     let end = c.commit.new.self.0 in
     let did = c.in-Ok.ensures in
-    let made : HasCleanDisk (state g.S.Store last) → Founds begun (state g.S.Store last) owner = λ clean. (rw c.transaction-tx.ensures.begun at (did.value clean)) refl in
+    let sound : IsTrue (state g.S.Store old).is_open → IsDatabase (state g.S.Store old).now = λ live. (c.schema-sound.ensures.live live).0 in
+    let made : HasCleanDisk (state g.S.Store last) → IsTrue (state g.S.Store last).is_open × Founds begun (state g.S.Store last) owner =
+    λ clean. (((rw c.transaction-tx.ensures.begun at (did.inside clean)) refl).0, (rw c.transaction-tx.ensures.begun at (did.value clean)) refl) in
     let same : end ≡ c.conn-1.given.0 = search rules in
     subst (λ (x : Held _). HasCleanDisk (state g.S.Store x) → IsTrue (state g.S.Store x).is_open × ((state g.S.Store old).now.schema ≡ no_schema → ShowsHistory (state g.S.Store x) owner []))
-    same (λ clean. founded_shown g.S.Store old last end owner (omega (arith, c.in-Ok-commit.ensures.survives.clean, clean)) made (c.in-Ok-commit.ensures.ok clean).1)
+    same (λ clean. founded_shown g.S.Store old last end owner sound (omega (arith, c.in-Ok-commit.ensures.survives.clean, clean)) made (c.in-Ok-commit.ensures.ok clean).1)
 
 pub returns-in-Ok-commit-clause-survives : goal.returns-in-Ok-commit-clause-survives
 returns-in-Ok-commit-clause-survives g c =
@@ -29,10 +32,12 @@ returns-in-Ok-commit-clause-survives g c =
     let end = c.commit.new.self.0 in
     let did = c.in-Ok.ensures in
     let spared : Survives begun (state g.S.Store last) (λ _. ⊥) = rw c.transaction-tx.ensures.begun at did.survives in
-    let made : HasCleanDisk (state g.S.Store last) → Founds begun (state g.S.Store last) owner = λ clean. (rw c.transaction-tx.ensures.begun at (did.value clean)) refl in
+    let sound : IsTrue (state g.S.Store old).is_open → IsDatabase (state g.S.Store old).now = λ live. (c.schema-sound.ensures.live live).0 in
+    let made : HasCleanDisk (state g.S.Store last) → IsTrue (state g.S.Store last).is_open × Founds begun (state g.S.Store last) owner =
+    λ clean. (((rw c.transaction-tx.ensures.begun at (did.inside clean)) refl).0, (rw c.transaction-tx.ensures.begun at (did.value clean)) refl) in
     let same : end ≡ c.conn-1.given.0 = search rules in
     subst (λ (x : Held _). Survives (state g.S.Store old) (state g.S.Store x) (λ db. (state g.S.Store old).now.schema ≡ no_schema → HoldsHistory db owner []))
-    same (founded_left g.S.Store old last end owner spared made c.in-Ok-commit.ensures.survives)
+    same (founded_left g.S.Store old last end owner sound spared made c.in-Ok-commit.ensures.survives)
 
 pub returns-in-Err-commit-clause-survives : goal.returns-in-Err-commit-clause-survives
 returns-in-Err-commit-clause-survives g c =
@@ -43,7 +48,9 @@ returns-in-Err-commit-clause-survives g c =
     let end = c.commit.new.self.0 in
     let did = c.in-Ok.ensures in
     let spared : Survives begun (state g.S.Store last) (λ _. ⊥) = rw c.transaction-tx.ensures.begun at did.survives in
-    let made : HasCleanDisk (state g.S.Store last) → Founds begun (state g.S.Store last) owner = λ clean. (rw c.transaction-tx.ensures.begun at (did.value clean)) refl in
+    let sound : IsTrue (state g.S.Store old).is_open → IsDatabase (state g.S.Store old).now = λ live. (c.schema-sound.ensures.live live).0 in
+    let made : HasCleanDisk (state g.S.Store last) → IsTrue (state g.S.Store last).is_open × Founds begun (state g.S.Store last) owner =
+    λ clean. (((rw c.transaction-tx.ensures.begun at (did.inside clean)) refl).0, (rw c.transaction-tx.ensures.begun at (did.value clean)) refl) in
     let same : end ≡ c.conn-1.given.0 = search rules in
     subst (λ (x : Held _). Survives (state g.S.Store old) (state g.S.Store x) (λ db. (state g.S.Store old).now.schema ≡ no_schema → HoldsHistory db owner []))
-    same (founded_left g.S.Store old last end owner spared made c.in-Err-commit.ensures.survives)
+    same (founded_left g.S.Store old last end owner sound spared made c.in-Err-commit.ensures.survives)

@@ -5,8 +5,8 @@ use Rattle.sqlite.specs.State.{HasCleanDisk, KeepsCommit, Survives}
 use Rattle.desk_history.specs.Calls.{History}
 use Rattle.desk_contents.specs.Histories.{ShowsHistory}
 use Rattle.desk_reads.specs.Failures.{IsFailure}
-use Rattle.desk_store.specs.Steps.{AreShownAs, ReadsInside, TellsOf}
-use Rattle.desk_store.proofs.OpeningLemmas.{read_before, told_before, undone}
+use Rattle.desk_store.specs.Steps.{AreShownAs, ReadsInside, TellsOf, TellsOpen}
+use Rattle.desk_store.proofs.OpeningLemmas.{open_before, read_before, told_before, undone}
 use Rattle.desk_store.proofs.opening.read_version.Goals as goal
 
 pub returns-clause-told : goal.returns-clause-told
@@ -54,3 +54,15 @@ returns-clause-read g c =
     same (λ clean.
     let late : HasCleanDisk (state g.S.Store last) = omega (arith, c.rollback.ensures.survives.clean, clean) in
     read_before g.S.Store old last end [] [] c.version_of-read.result (omega (arith, spared.clean, late)) (told late) (read late))
+
+pub returns-clause-open : goal.returns-clause-open
+returns-clause-open g c =
+    let old = c.args.conn.now in
+    let begun = state g.S.Store (record old { in_transaction = true }) in
+    let last = c.version_of-read.new.tx.conn.now in
+    let end = c.rollback.new.self.0 in
+    let did = c.version_of-read.ensures in
+    let told : HasCleanDisk (state g.S.Store last) → TellsOf begun c.version_of-read.result = λ clean. (rw c.transaction-tx.ensures.begun at (did.told clean)) refl in
+    let same : end ≡ c.conn-1.given.0 = search rules in
+    subst (λ (x : Held _). HasCleanDisk (state g.S.Store x) → TellsOpen (state g.S.Store old) c.version_of-read.result)
+    same (λ clean. open_before g.S.Store old last end [] [] c.version_of-read.result (told (omega (arith, c.rollback.ensures.survives.clean, clean))))

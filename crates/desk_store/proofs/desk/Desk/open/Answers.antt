@@ -1,9 +1,13 @@
-use Rattle.std.proofs.Common.{◌≡◌, rules, refl, subst}
+use Rattle.std.proofs.Common.{◌≡◌, ◌≢◌, rules, refl, subst, arith, IsTrue}
+use Rattle.std.proofs.Math.Logic.{∥∥₁_map}
 use Rattle.sqlite.specs.Held.{state}
+use Rattle.sqlite.specs.State.{HasCleanDisk}
 use Rattle.desk_history.specs.Tables.{tables}
-use Rattle.desk_contents.specs.Histories.{HoldsHistory}
+use Rattle.desk_contents.specs.Histories.{HoldsHistory, rows_of}
+use Rattle.desk_statements.specs.Tables.{desk_schema}
 use Rattle.desk_store.specs.Rows.{AreOf}
 use Rattle.desk_store.proofs.OpeningLemmas.{still_leaves}
+use Rattle.desk_store.proofs.ReopeningLemmas.{never_version, no_failure, not_missing}
 use Rattle.desk_store.proofs.SizeLemmas.{unknown_are_right}
 use Rattle.desk_store.proofs.desk.Desk.open.Goals as goal
 
@@ -22,6 +26,32 @@ returns-else-version-ne-VERSION-clause-read g c clean contents rows shows has =
     subst (AreOf rows) one (c.in-Ok.ensures.read clean contents rows shows has)
 
 pub returns-else-version-ne-VERSION-clause-lives : goal.returns-else-version-ne-VERSION-clause-lives
-returns-else-version-ne-VERSION-clause-lives g c clean owner lives cs ends formed shows left =
-    let law = c.lives_keep_what_was_answered.ensures lives cs ends formed in
-    (returns-else-version-ne-VERSION-clause-ok g c clean owner cs law.0 shows left, law.1)
+returns-else-version-ne-VERSION-clause-lives g c clean owner lives formed finds =
+    let before : HasCleanDisk (state g.S.Store c.args.conn) = omega (arith, c.read_version.ensures.survives.clean, clean) in
+    let live : IsTrue (state g.S.Store c.args.conn).is_open = c.in-Ok.ensures.open clean in
+    ∥∥₁_map (finds before live) (λ it. let cs = it.0 in
+    let law = c.lives_keep_what_was_answered.ensures lives cs it.1 formed in
+    let shows = c.found_is_shown.ensures owner cs it.2 in
+    let left = c.stop_leaves_what_is_shown.ensures desk_schema (rows_of owner cs) shows live in (
+      cs,
+      record {
+        ends = it.1;
+        shows = returns-else-version-ne-VERSION-clause-ok g c clean owner cs law.0 shows left;
+        once = c.keys_stand_once.ensures cs law.0.legal;
+        answered = law.1;
+      },
+    ))
+
+pub returns-then-version-ne-VERSION-clause-found : goal.returns-then-version-ne-VERSION-clause-found
+returns-then-version-ne-VERSION-clause-found g c clean owner lives long finds =
+    let before : HasCleanDisk (state g.S.Store c.args.conn) = omega (arith, c.read_version.ensures.survives.clean, clean) in
+    let live : IsTrue (state g.S.Store c.args.conn).is_open = c.in-Ok.ensures.open clean in
+    let other : c.in-Ok.version ≢ 1 = search rules in
+    (λ is. cc, λ _. not_missing (finds before live) (λ it. other (c.in-Ok.ensures.told clean owner it.0 long (c.found_is_shown.ensures owner it.0 it.2))))
+
+pub returns-in-Err-clause-found : goal.returns-in-Err-clause-found
+returns-in-Err-clause-found g c clean owner lives long finds =
+    let before : HasCleanDisk (state g.S.Store c.args.conn) = omega (arith, c.read_version.ensures.survives.clean, clean) in (
+      λ is. not_missing (finds before (c.in-Err.ensures.open clean is)) (λ it. no_failure c.in-Err.refusal is (c.in-Err.ensures.told clean owner it.0 long (c.found_is_shown.ensures owner it.0 it.2))),
+      λ is. never_version c.in-Err.refusal is c.in-Err.ensures.named,
+    )

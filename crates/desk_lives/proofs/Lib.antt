@@ -1,0 +1,2 @@
+mod LivingLemmas
+mod RestartLemmas

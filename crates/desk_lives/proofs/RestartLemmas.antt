@@ -1,0 +1,33 @@
+-- From what a stop leaves of a desk's files to what a connection that is opened over them finds.
+use Rattle.std.proofs.Common.{◌≡◌, ℕ, List, sym, subst, ◌∙◌, arith, IsTrue}
+use Rattle.std.proofs.Math.Logic.{∥∥₁_map₂}
+use Rattle.sqlite.specs.Files.{Finds, file_state, image_of}
+use Rattle.sqlite.specs.Held.{AreDatabases, Held}
+use Rattle.sqlite.specs.State.{HasCleanDisk}
+use Rattle.sqlite.proofs.Theorems.{next_run}
+use Rattle.sqlite_disk.specs.declared.Disk.{Ghosts}
+use Rattle.sqlite_disk.specs.declared.Files.{Files}
+use Rattle.sqlite_pool.proofs.StateLemmas.{clean_is, may_leave_is}
+use Rattle.sqlite_store.specs.FileStore.{faults, files, is_shielded, recovers, view}
+use Rattle.sqlite_store.specs.declared.store.FileStore.{FileStore}
+use Rattle.sqlite_trees.proofs.Doubt.{no_doubt}
+use Rattle.sqlite_trees.specs.View.{IsClean, IsQuiet}
+use Rattle.sqlite_wal.specs.Files.{outcomes}
+use Rattle.sqlite_wal.specs.Reads.{AreClean}
+use Rattle.desk_history.specs.Lives.{Life}
+use Rattle.desk_store.specs.Reopening.{FindsLives, LeavesLives}
+
+module _ {D : Type 0} (g : Ghosts D) (old : Held (FileStore D g)) (it : FileStore D g) where
+  -- a connection over files that hold what the store's may leave finds what a stop left of the connection before
+  pub found_again : IsQuiet view faults recovers is_shielded old.store it → (IsClean (view it) → IsTrue (view it).is_numbered) → (IsClean (view it) → AreDatabases (recovers it))
+      → (given new : Files D) → files it ≡ (given.log, given.db) → (AreClean g new.log new.db → AreClean g given.log given.db)
+      → outcomes g given.log given.db (image_of g new) → (conn : Held (FileStore D g)) → (HasCleanDisk (file_state conn) → Finds new conn)
+      → (owner : List ℕ) (lives : List Life) → LeavesLives (file_state old) owner lives → FindsLives (file_state conn) owner lives
+  found_again quiet numbered sound given new same honest may conn opened owner lives leaves = λ clean _.
+      let finds = opened clean in
+      let sure = subst (λ p. AreClean g p.0 p.1) (sym same) (honest finds.honest) in
+      let now : IsClean (view it) = no_doubt _ (clean_is it.pool ∙ sure) in
+      let left = may_leave_is it.pool (image_of g new) sure (subst (λ p. outcomes g p.0 p.1 (image_of g new)) (sym same) may) in
+      let before : HasCleanDisk (file_state old) = omega (arith, quiet.clean, now) in
+      ∥∥₁_map₂ (next_run it (numbered now) (sound now) (image_of g new) left (file_state conn) (record { holds = finds.holds; reads = finds.reads })) leaves
+      (λ trees each. each before _ (quiet.outcomes _ trees))

@@ -1,0 +1,60 @@
+-- Lives of a desk, as its openings and calls make them.
+use Rattle.std.specs.Prelude.{◌≢◌, ℕ, Bool, true, false, List, [], ◌∷◌, ◌++◌, IsTrue}
+use Rattle.std.specs.List.{list_all}
+use Rattle.sqlite.specs.Store.{Ghosts}
+use Rattle.sqlite.specs.Held.{state}
+use Rattle.desk_bytes.specs.declared.refusal.Refusal.{Refusal}
+use Rattle.desk_bytes.specs.declared.refusal.Refusal.TheVariants as refusals
+use Rattle.desk_texts.specs.declared.command.Call.{Call}
+use Rattle.desk_texts.specs.declared.reply.Reply.{Reply}
+use Rattle.desk_history.specs.Calls.{History}
+use Rattle.desk_history.specs.Lives.{Answered, Ends, Event, Fate, Life, Opened, Refused, Stopped}
+use Rattle.desk_store.specs.Desks.{MayStop, Refuses, Replies, ShowsDesk}
+use Rattle.desk_store.specs.Reopening.{Keeps, LeavesLives}
+use Rattle.desk_store.specs.declared.desk.Desk.{Desk}
+
+-- these lives, and the one of a desk that was opened after them and was called so
+abbrev pub and_now : List Life → List Event → List Life
+and_now before events = before ++ record { opening = Opened; events = events } ∷ []
+
+-- the events, and then this call
+abbrev pub and_then : List Event → Call → Fate → List Event
+and_then events c fate = events ++ record { call = c; fate = fate } ∷ []
+
+-- the call wasn't stopped
+abbrev pub is_told : Event → Bool
+is_told e = elim e.fate [ Answered reply ↦ true | Refused ↦ true | Stopped ↦ false ]
+
+-- The desk answers for a history that these lives may leave, the last of them its own, which met no stop yet.
+pub record LivesOn {S : Type 0} (g : Ghosts S) (desk : Desk S) (owner : List ℕ) (before : List Life) (events : List Event) : Type 0 where
+  pub told : IsTrue (list_all is_told events)
+  pub some : ∥ ((cs : History) × Ends (and_now before events) cs × ShowsDesk g desk owner cs) ∥₁
+
+module _ {S : Type 0} (g : Ghosts S) (desk : Desk S) where
+  -- a new desk begins the first life
+  abbrev pub BeginsLiving : Type 0
+  BeginsLiving = (owner : List ℕ) → ShowsDesk g desk owner [] → LivesOn g desk owner [] []
+
+  -- a desk that was opened begins the next
+  abbrev pub LivesAgain : Type 0
+  LivesAgain = (owner : List ℕ) (lives : List Life) (cs : History) → Keeps g desk owner lives cs → LivesOn g desk owner lives []
+
+  -- whenever no call is under way, a stop leaves what the lives may leave
+  abbrev pub MayStopLiving : Type 0
+  MayStopLiving =
+      (owner : List ℕ) (before : List Life) (events : List Event) → LivesOn g desk owner before events
+      → LeavesLives (state g desk.conn) owner (and_now before events)
+
+module _ {S : Type 0} (g : Ghosts S) (old new : Desk S) where
+  -- a call that is answered Ok, or refused, is one more of the desk's life
+  abbrev pub GoesOnLiving : Type 0
+  GoesOnLiving =
+      (owner : List ℕ) (before : List Life) (events : List Event) (c : Call) → LivesOn g old owner before events
+      → ((reply : Reply) → Replies g old new c reply → LivesOn g new owner before (and_then events c (Answered reply)))
+      × ((refusal : Refusal) → refusal ≢ refusals.Store → Refuses g old new c refusal → LivesOn g new owner before (and_then events c Refused))
+
+  -- whatever becomes of it, a stop leaves what the lives may leave where it was stopped
+  abbrev pub MayEndLiving : Type 0
+  MayEndLiving =
+      (owner : List ℕ) (before : List Life) (events : List Event) (c : Call) → LivesOn g old owner before events
+      → MayStop g old new c → LeavesLives (state g new.conn) owner (and_now before (and_then events c Stopped))

@@ -1,0 +1,43 @@
+//! A stop of the machine, and the opening after it.
+ghost use Rattle.std.specs.Prelude.{◌≢◌, ℕ, All, List, IfErr, IfOk, length};
+ghost use Rattle.sqlite.specs.Files.{file_state, over_files};
+ghost use Rattle.sqlite.specs.State.{HasCleanDisk};
+ghost use Rattle.desk_texts.specs.Formed.{IsCall};
+ghost use Rattle.desk_history.specs.Calls.{History};
+ghost use Rattle.desk_history.specs.Lives.{Life, events_of};
+ghost use Rattle.desk_store.specs.Reopening.{Keeps, LeavesLives};
+
+use desk_bytes::Refusal;
+use desk_store::Desk;
+use sqlite::{Connection, FileStore, Files, Options};
+use sqlite_disk::{Crash, Disk};
+use std::alloc::Global;
+
+/// The machine stops here, at whatever point of its life the desk is, and its files are opened
+/// again: of each file stands there what its disk leaves. The desk that is then opened keeps all that
+/// was answered Ok in any of the lives before. A stop within a call is one at its end on a disk
+/// that failed from some write on, since what such a call does then changes nothing. Programs
+/// have no such disk; it is there for theorems and tests. Takes memory.
+///
+/// A refusal: of `Desk::open`; or `Store`, the files didn't open.
+pub fn restart<D: Crash + Drop>(
+    alloc: Global,
+    desk: Desk<FileStore<D>>,
+    options: Options,
+) -> Result<Desk<FileStore<D>>, Refusal>
+    ensures keeps { IfOk result (λ again. HasCleanDisk (file_state again.conn)
+        → (owner : List ℕ) (lives : List Life) → All (λ e. IsCall e.call) (events_of lives)
+        → LeavesLives (file_state desk.conn) owner lives
+        → ∥ ((cs : History) × Keeps over_files again owner lives cs) ∥₁) }
+{
+    let mut files = desk.release().into_store().close();
+    files.log.crash();
+    files.db.crash();
+    match Connection::open_files(alloc, files, options) {
+        Ok(conn) => match Desk::open(alloc, conn) {
+            Ok(again) => Ok(again),
+            Err((refusal, _)) => Err(refusal),
+        },
+        Err(_) => Err(Refusal::Store),
+    }
+}
