@@ -1,5 +1,5 @@
 //! Days of a desk in a store: lines of what it is asked, and what it has to answer.
-use super::asking::answer;
+use super::asking::answer_at_last;
 use super::founding::{make, open, run};
 use super::scripts::{
     BARRED, EXPORTS, FAULTS, HUNDRED, LARGEST, LEVELS, REQUESTS, ROWS, SPOILT, TABLES,
@@ -30,23 +30,24 @@ fn is_for_store(given: &str) -> bool {
     matches!(word, "reopen" | "SELECT" | "INSERT" | "UPDATE" | "DELETE")
 }
 
+/// The desk after a line, and what was told.
+fn turn(alloc: Global, desk: Memory, given: &str) -> Option<(Memory, String)> {
+    if is_for_store(given) {
+        return again(alloc, desk, given);
+    }
+    let mut desk = desk;
+    let told = answer_at_last(alloc, &mut desk, given)?;
+    Some((desk, told))
+}
+
 /// Plays the lines of a script, `GIVEN : ANSWER` or `GIVEN` alone. Where memory was refused the desk is asked once more, and has
 /// to be as it was before.
 fn play(rt: &impl Abort, alloc: Global, script: &str) -> Result<(), Fail> {
     let mut desk = new_desk(alloc).ok_or("a desk")?;
     for line in script.lines() {
         let (given, wanted) = line.split_once(" : ").unwrap_or((line, ""));
-        let mut told;
-        if is_for_store(given) {
-            let (next, answer) = again(alloc, desk, given).ok_or(line)?;
-            desk = next;
-            told = answer;
-        } else {
-            told = answer(alloc, &mut desk, given).ok_or(line)?;
-            if told.starts_with("NoMemory") {
-                told = answer(alloc, &mut desk, given).ok_or(line)?;
-            }
-        }
+        let (next, told) = turn(alloc, desk, given).ok_or(line)?;
+        desk = next;
         assert!(rt; told.as_str() == wanted, "{line}: {told}");
     }
     Ok(())

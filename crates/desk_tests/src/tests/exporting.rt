@@ -31,27 +31,44 @@ fn put_ends(line: &mut Line, bytes: &[u8]) -> Option<()> {
     line.bytes(bytes.get(bytes.len().checked_sub(48)?..)?).ok()
 }
 
-/// Writes dbx into writers that fail at each of their calls in turn, and into the first that doesn't. Each fault has to
-/// leave a beginning of dbx in the writer, and the desk as it was.
+/// Writes dbx into a writer that fails at this call: nothing where it fails as it has to, leaving a beginning of dbx; else what
+/// became of it.
+fn fault(alloc: Global, desk: &mut Memory, fails_at: u64, whole: &[u8]) -> Option<&'static str> {
+    let mut part = writer(alloc, fails_at);
+    let written = write(desk, "dbx", &mut part);
+    let is_whole = part.taken.as_slice() == whole;
+    match written {
+        Ok(()) if is_whole => Some("whole after each fault"),
+        Ok(()) => Some("other bytes"),
+        Err(Refusal::Write) if !is_whole && whole.starts_with(&part.taken) => None,
+        Err(refusal) => Some(refusal.name()),
+    }
+}
+
+/// Writes dbx into writers that fail at each of their calls in turn, and into the first that doesn't.
 fn put_faults(alloc: Global, desk: &mut Memory, line: &mut Line, whole: &[u8]) -> Option<()> {
     for fails_at in 1..u64::MAX {
-        let mut part = writer(alloc, fails_at);
-        let written = write(desk, "dbx", &mut part);
-        let is_whole = part.taken.as_slice() == whole;
-        let word = match written {
-            Ok(()) if is_whole => "whole after each fault",
-            Ok(()) => "other bytes",
-            Err(Refusal::Write) if !is_whole && whole.starts_with(&part.taken) => continue,
-            Err(Refusal::Write) => "no beginning",
-            Err(refusal) => refusal.name(),
-        };
-        return line.put(word).ok();
+        if let Some(word) = fault(alloc, desk, fails_at, whole) {
+            return line.put(word).ok();
+        }
     }
     None
 }
 
-/// An export of the desk: dbx and db as runs of bytes, the level and the minutes as texts; of dbx also its `ends`, and
-/// `faults`. One that is refused tells how many bytes went out before.
+/// An export's bytes: runs of bytes, of the level and the minutes a text, and of dbx its `ends`.
+fn put_export(line: &mut Line, what: &str, bytes: &[u8]) -> Option<()> {
+    if bytes.is_empty() {
+        return line.put("nothing").ok();
+    }
+    match what {
+        "level" | "minutes" => line.marked(bytes).ok(),
+        "ends" => put_ends(line, bytes),
+        _ => line.bytes(bytes).ok(),
+    }
+}
+
+/// An export of the desk; `faults` for one of dbx into writers that fail. One that is refused tells how many bytes went out
+/// before.
 pub(super) fn exported(
     alloc: Global,
     desk: &mut Memory,
@@ -61,16 +78,11 @@ pub(super) fn exported(
     let what = words.text()?;
     let mut written = writer(alloc, 0);
     if let Err(refusal) = write(desk, what, &mut written) {
-        line.put(refusal.name()).ok()?;
-        line.put("after").ok()?;
-        return line.number(written.taken.len() as u64).ok();
+        line.number(written.taken.len() as u64).ok()?;
+        return line.put(refusal.name()).ok();
     }
-    let bytes = written.taken.as_slice();
-    match what {
-        _ if bytes.is_empty() => line.put("nothing").ok(),
-        "level" | "minutes" => line.marked(bytes).ok(),
-        "ends" => put_ends(line, bytes),
-        "faults" => put_faults(alloc, desk, line, bytes),
-        _ => line.bytes(bytes).ok(),
+    if what == "faults" {
+        return put_faults(alloc, desk, line, written.taken.as_slice());
     }
+    put_export(line, what, written.taken.as_slice())
 }

@@ -33,23 +33,30 @@ pub(super) fn run(alloc: Global, conn: &mut Connection<MemStore>, text: &str) ->
     }
 }
 
+/// `a desk` or the name of the refusal, and the connection.
+fn outcome(
+    answer: Result<Desk<MemStore>, (Refusal, Connection<MemStore>)>,
+) -> (&'static str, Connection<MemStore>) {
+    match answer {
+        Ok(desk) => ("a desk", desk.release()),
+        Err((refusal, conn)) => (refusal.name(), conn),
+    }
+}
+
 /// What `make`, `open` or a text in SQL does to the store.
 fn done(
     alloc: Global,
-    mut conn: Connection<MemStore>,
+    conn: Connection<MemStore>,
     text: &str,
 ) -> Option<(&'static str, Connection<MemStore>)> {
-    let answer = match text {
-        "make" => make(alloc, conn),
-        "open" => open(alloc, conn),
+    match text {
+        "make" => Some(outcome(make(alloc, conn))),
+        "open" => Some(outcome(open(alloc, conn))),
         _ => {
+            let mut conn = conn;
             run(alloc, &mut conn, text)?;
-            return Some(("", conn));
+            Some(("", conn))
         }
-    };
-    match answer {
-        Ok(desk) => Some(("a desk", desk.release())),
-        Err((refusal, conn)) => Some((refusal.name(), conn)),
     }
 }
 

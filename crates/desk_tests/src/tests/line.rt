@@ -49,15 +49,15 @@ impl Line {
 
     /// Bytes, as runs.
     pub(super) fn bytes(&mut self, bytes: &[u8]) -> Result<(), AllocError> {
-        let mut count = 0;
-        let mut last = 0;
+        let mut count = 0u64;
+        let mut last = 0u8;
         for byte in bytes {
             if count > 0 && *byte != last {
                 self.run(last, count)?;
                 count = 0;
             }
             last = *byte;
-            count += 1;
+            count = count.saturating_add(1);
         }
         if count > 0 {
             self.run(last, count)?;

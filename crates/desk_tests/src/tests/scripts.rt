@@ -190,7 +190,8 @@ SELECT text FROM calls WHERE no = 9 : review 1 yes looked
 SELECT group_concat(no || ' ' || submitter || ' ' || title || ' ' || state) FROM requests : 1 ann shim-15.8 signed,2 ann shim withdrawn
 SELECT length || ' ' || gap || ' ' || hex(substr(file, 1, 1)) || hex(substr(digest, 1, 1)) || hex(substr(signing, 1, 1)) FROM requests WHERE no = 1 : 1024 8 F0A0A1
 SELECT group_concat(request || ' ' || substr(hex(digest), 1, 2)) FROM request_certificates : 1 14,1 15
-SELECT group_concat(request || ' ' || place || ' ' || name || ' ' || generation) FROM request_components : 1 0 grub 3,1 1 shim 4
+SELECT group_concat(request || ' ' || place || ' ' || name || ' ' || generation) FROM request_components WHERE place = 0 : 1 0 grub 3
+SELECT group_concat(request || ' ' || place || ' ' || name || ' ' || generation) FROM request_components WHERE place = 1 : 1 1 shim 4
 SELECT group_concat(request || ' ' || reviewer || ' ' || vote || ' ' || note) FROM votes : 1 rita yes looked,1 raul yes fine
 SELECT request || ' ' || signer || ' ' || length || ' ' || substr(hex(file), 1, 2) || substr(hex(digest), 1, 2) FROM returns : 1 sid 1024 F0A1
 SELECT group_concat(kind || ' ' || hex(body) || ' ' || substr(hex(digest), 1, 2)) FROM listed : certificate 30053003020101 14,digest  16
@@ -232,8 +233,8 @@ export minutes : \
 9|olga|k8|raise shim 2 2024010100|raised/\
 10|olga|k9|raise grub 3 2024010101|raised/
 UPDATE revoked_digests SET digest = x'bb' WHERE digest > x'bc'
-export dbx : Store after 76
-export minutes : Reopen after 0";
+export dbx : 76 Store
+export minutes : 0 Reopen";
 
 /// Rows that no desk writes, put there in SQL: where a call needs one the store has failed, and nothing was changed.
 pub(super) const SPOILT: &str = "\
