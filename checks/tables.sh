@@ -1,12 +1,12 @@
 #!/bin/sh
 # Writes a day of a desk into a file by desk_tables, and lets sqlite3's own shell read it: its integrity check, the columns
-# and keys of each table, and every row. Not part of the gate: it needs sqlite3. The program runs interpreted, unproved, in a room
-# of its own ($TABLES_ROOM, kept between runs), over the proved libraries.
+# and keys of each table, and every row. A name that is taken and a number past SQL's integers have to be refused. Not part of the
+# gate: it needs sqlite3. The program runs unproved, in a room of its own ($TABLES_ROOM, kept between runs), over the proved libraries.
 set -eu
 root=$(CDPATH='' cd -- "$(dirname -- "$(readlink -f -- "$0")")/.." && pwd -P)
 room=${TABLES_ROOM:-${TMPDIR:-/tmp}/desk_tables_room}
 mkdir -p "$room/crates"
-below="desk_bytes sbat desk_texts desk_history desk_sql desk_statements desk_contents desk_tables tables_tests"
+below="desk_bytes sbat desk_texts desk_history desk_sql desk_statements desk_contents desk_tables"
 : > "$room/crates.txt"
 for crate in $below; do
     rm -rf "$room/crates/$crate"
@@ -15,10 +15,11 @@ for crate in $below; do
 done
 mkdir -p "$room/crates/write_day/src"
 cp "$root/checks/tables/main.rt.txt" "$room/crates/write_day/src/main.rt"
-echo 'write_day: tables_tests desk_tables desk_statements desk_history desk_bytes sqlite' >> "$room/crates.txt"
+cp "$root/checks/tables/writes.rt.txt" "$room/crates/write_day/src/writes.rt"
+echo 'write_day: desk_tables desk_statements desk_history desk_texts sbat desk_bytes sqlite' >> "$room/crates.txt"
 rm -f "$room/desk.db" "$room/desk.db-wal"
-(cd "$room/crates/write_day" && rt try --seconds 600 -- "$room/desk.db" > "$room/run.log" 2>&1) || true
-test -s "$room/desk.db" || { tail -20 "$room/run.log" >&2; exit 1; }
+(cd "$room/crates/write_day" && rt try --seconds 600 -- "$room/desk.db" > "$room/run.log" 2>&1) || { tail -20 "$room/run.log" >&2; exit 1; }
+test -s "$room/desk.db"
 
 cat > "$room/wanted" << 'TEXT'
 ok

@@ -1,16 +1,6 @@
 //! Two days of a desk: who calls with which key and command, and the answer, or an image and what the desk says of it.
-use super::commands::Words;
 use super::tables::{new_tables, write_all};
 use super::*;
-
-/// The caller of this name, `console` being the console.
-pub(super) fn caller(alloc: Global, name: &str) -> Result<Caller, Fail> {
-    if name == "console" {
-        Ok(Caller::Console)
-    } else {
-        Ok(Caller::Person(PersonName::parse(alloc, name.as_bytes())?))
-    }
-}
 
 /// The decision in words: a reply's text, with `again` before one that writes nothing, or a refusal's name.
 pub(super) fn told(alloc: Global, decision: &Result<Changes, Refusal>) -> Result<String, Fail> {
@@ -28,12 +18,9 @@ pub(super) fn told(alloc: Global, decision: &Result<Changes, Refusal>) -> Result
 }
 
 /// Gives one call, writes what was decided, and tells the answer.
-fn ask(alloc: Global, tables: &mut View, words: &mut Words, who: &str) -> Result<String, Fail> {
-    let caller = caller(alloc, who)?;
-    let key = Key::parse(alloc, words.text()?.as_bytes())?;
-    let verb = words.text()?;
-    let command = words.command(verb)?;
-    let decision = decide(alloc, tables, &caller, &key, &command);
+fn ask(alloc: Global, tables: &mut View, given: &str) -> Result<String, Fail> {
+    let call = Words::new(alloc, given).call().ok_or("a call")?;
+    let decision = decide(alloc, tables, &call.caller, &call.key, &call.command);
     let answer = told(alloc, &decision)?;
     if let Ok(changes) = &decision {
         write_all(alloc, tables, &changes.writes)?;
@@ -42,8 +29,8 @@ fn ask(alloc: Global, tables: &mut View, words: &mut Words, who: &str) -> Result
 }
 
 /// What the desk says of an image, in words.
-fn said(alloc: Global, tables: &View, words: &mut Words) -> Result<String, Fail> {
-    let facts = words.facts()?;
+fn said(alloc: Global, tables: &View, given: &str) -> Result<String, Fail> {
+    let facts = Words::new(alloc, given).facts().ok_or("facts")?;
     let verdict = verdict(&tables.lists, &facts);
     Ok(format!(in alloc; "{verdict:?}")?)
 }
@@ -53,12 +40,9 @@ fn play(rt: &impl Abort, alloc: Global, script: &str) -> Result<(), Fail> {
     let mut tables = new_tables(alloc)?;
     for line in script.lines() {
         let (given, wanted) = line.split_once(" : ").ok_or("an answer")?;
-        let mut words = Words::new(alloc, given);
-        let who = words.text()?;
-        let answer = if who == "verdict" {
-            said(alloc, &tables, &mut words)?
-        } else {
-            ask(alloc, &mut tables, &mut words, who)?
+        let answer = match given.strip_prefix("verdict ") {
+            Some(image) => said(alloc, &tables, image)?,
+            None => ask(alloc, &mut tables, given)?,
         };
         assert!(rt; answer.as_str() == wanted, "{line}: {answer}");
     }

@@ -1,25 +1,24 @@
 //! What a desk may hold: the last call that fits, and the first that doesn't.
-use super::commands::Words;
-use super::days::{caller, told};
+use super::days::told;
 use super::tables::{NONE, new_tables};
 use super::*;
 
 /// Calls, each on a desk whose tables have these sizes: how many tables are named, the name and the size of each, and the
-/// call with its answer, as `WHO VERB .. : ANSWER`.
+/// call with its answer, as `WHO KEY VERB .. : ANSWER`.
 const CALLS: &str = "\
-1 people 999 console add a signer 2 : added a
-1 people 1000 console add a signer 2 : Full
-1 requests 99999 ann submit s 1 1 0 0 : submitted 100000
-1 requests 100000 ann submit s 1 1 0 0 : Full
-1 listed 9999 olga list 1 : listed
-1 listed 10000 olga list 1 : Full
-1 listed 10000 olga unlist 1 : NotThere
-1 digests 99999 olga revoke 1 : revoked
-1 digests 100000 olga revoke 1 : Full
-3 certificates 9999 components 9999 calls 999999 olga import 2024010100 0 0 1 1 1 grub 1 : imported 0 1 1 0
-3 certificates 9999 components 9999 calls 999999 olga import 2024010100 0 0 2 1 2 1 grub 1 : Full
-3 certificates 9999 components 9999 calls 999999 olga import 2024010100 0 0 1 1 2 grub 1 shim 1 : Full
-1 calls 1000000 olga revoke 1 : Full";
+1 people 999 console k add a signer 2 : added a
+1 people 1000 console k add a signer 2 : Full
+1 requests 99999 ann k submit s 1 1 0 0 : submitted 100000
+1 requests 100000 ann k submit s 1 1 0 0 : Full
+1 listed 9999 olga k list 1 : listed
+1 listed 10000 olga k list 1 : Full
+1 listed 10000 olga k unlist 1 : NotThere
+1 digests 99999 olga k revoke 1 : revoked
+1 digests 100000 olga k revoke 1 : Full
+3 certificates 9999 components 9999 calls 999999 olga k import 2024010100 0 0 1 1 1 grub 1 : imported 0 1 1 0
+3 certificates 9999 components 9999 calls 999999 olga k import 2024010100 0 0 2 1 2 1 grub 1 : Full
+3 certificates 9999 components 9999 calls 999999 olga k import 2024010100 0 0 1 1 2 grub 1 shim 1 : Full
+1 calls 1000000 olga k revoke 1 : Full";
 
 /// A desk with an officer and a submitter.
 fn tables(alloc: Global) -> Result<View, Fail> {
@@ -50,9 +49,9 @@ fn set_size(sizes: &mut Sizes, table: &str, size: u64) {
 /// The sizes that the words begin with.
 fn sizes(words: &mut Words) -> Result<Sizes, Fail> {
     let mut sizes = NONE;
-    for _ in 0..words.number()? {
-        let table = words.text()?;
-        let size = words.number()?;
+    for _ in 0..words.number().ok_or("a count")? {
+        let table = words.text().ok_or("a table")?;
+        let size = words.number().ok_or("a size")?;
         set_size(&mut sizes, table, size);
     }
     Ok(sizes)
@@ -60,11 +59,11 @@ fn sizes(words: &mut Words) -> Result<Sizes, Fail> {
 
 /// The answer to the call that the words say.
 fn answer(alloc: Global, tables: &View, words: &mut Words) -> Result<String, Fail> {
-    let caller = caller(alloc, words.text()?)?;
-    let key = Key::parse(alloc, b"k")?;
-    let verb = words.text()?;
-    let command = words.command(verb)?;
-    told(alloc, &decide(alloc, tables, &caller, &key, &command))
+    let call = words.call().ok_or("a call")?;
+    told(
+        alloc,
+        &decide(alloc, tables, &call.caller, &call.key, &call.command),
+    )
 }
 
 #[test]

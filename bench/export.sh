@@ -1,0 +1,131 @@
+#!/bin/sh
+# bench/export.sh [PROGRAM] [DIGESTS] [ROUNDS]: what an export of dbx costs, of 100,000 digests or as many as are given, in one run
+# beside sqlite3's shell on the same file, `SELECT .. ORDER BY digest` into `xxd -r -p`, which writes the same entries:
+#   time     median seconds of processor and clock over the rounds, in turn; whole, and less what opening takes (`desk level`, and a
+#            SELECT of the desk's row)
+#   memory   the most that malloc had given while dbx was written, beyond what it had given when the level's first byte was; and
+#            the most that each process had
+# Fails where the two write other bytes, or where the first of these is over 1 MiB. sqlite3 puts the digests into the desk's file.
+# Not part of the gate: it needs sqlite3, xxd, python3 and a C compiler, for a malloc that counts.
+set -eu
+root=$(CDPATH='' cd -- "$(dirname -- "$(readlink -f -- "$0")")/.." && pwd -P)
+if [ $# -gt 0 ]; then
+    program=$(readlink -f -- "$1")
+else
+    "$root/desk" --version > /dev/null
+    program=$root/crates/desk/out/desk
+fi
+room=$(mktemp -d)
+trap 'rm -rf "$room"' EXIT
+
+cat > "$room/count.c" << 'C'
+#define _GNU_SOURCE
+#include <dlfcn.h>
+#include <malloc.h>
+#include <stdio.h>
+#include <stdlib.h>
+#include <sys/types.h>
+#include <sys/uio.h>
+
+/* Bytes given and not given back; those when the first byte went to standard output; the most from then on. */
+static long live, at_first, most;
+static int is_writing;
+
+static void *given(void *at) {
+    if (at) live += (long)malloc_usable_size(at);
+    if (is_writing && live > most) most = live;
+    return at;
+}
+
+#define NEXT(type, name, ...) static type (*next)(__VA_ARGS__); if (!next) next = (type (*)(__VA_ARGS__))dlsym(RTLD_NEXT, name)
+
+void *malloc(size_t size) { NEXT(void *, "malloc", size_t); return given(next(size)); }
+
+void *aligned_alloc(size_t alignment, size_t size) { NEXT(void *, "aligned_alloc", size_t, size_t); return given(next(alignment, size)); }
+
+int posix_memalign(void **at, size_t alignment, size_t size) {
+    NEXT(int, "posix_memalign", void **, size_t, size_t);
+    int status = next(at, alignment, size);
+    if (!status) given(*at);
+    return status;
+}
+
+void *realloc(void *at, size_t size) {
+    NEXT(void *, "realloc", void *, size_t);
+    long before = at ? (long)malloc_usable_size(at) : 0;
+    void *now = next(at, size);
+    if (now) live -= before;
+    return now ? given(now) : now;
+}
+
+void free(void *at) {
+    NEXT(void, "free", void *);
+    if (at) live -= (long)malloc_usable_size(at);
+    next(at);
+}
+
+static void begin(int file) {
+    if (file == 1 && !is_writing) { is_writing = 1; at_first = most = live; }
+}
+
+ssize_t write(int file, const void *from, size_t size) { NEXT(ssize_t, "write", int, const void *, size_t); begin(file); return next(file, from, size); }
+
+ssize_t writev(int file, const struct iovec *from, int count) { NEXT(ssize_t, "writev", int, const struct iovec *, int); begin(file); return next(file, from, count); }
+
+__attribute__((destructor)) static void tell(void) { fprintf(stderr, "heap %ld %ld\n", at_first, most); }
+C
+cc -shared -fPIC -O1 -o "$room/count.so" "$room/count.c" -ldl
+"$program" init "$room/desk.db" 00112233-4455-6677-8899-aabbccddeeff
+exec python3 - "$program" "$room" "${2:-100000}" "${3:-9}" << 'PYTHON'
+import hashlib, os, shlex, statistics, subprocess, sys, time
+
+PROGRAM, ROOM = sys.argv[1:3]
+DIGESTS, ROUNDS = map(int, sys.argv[3:])
+FILE, OWNER = f"{ROOM}/desk.db", "33221100554477668899AABBCCDDEEFF"
+rows = "".join(f"INSERT INTO revoked_digests VALUES (X'{hashlib.sha256(b'%d' % n).hexdigest()}');\n" for n in range(DIGESTS))
+subprocess.run(["sqlite3", FILE], input=f"BEGIN;\n{rows}COMMIT;\n".encode(), check=True)
+
+
+class Run:
+    """Seconds of processor and clock, the most memory in kB, and both outputs."""
+
+    def __init__(self, line, preload=""):
+        with open(f"{ROOM}/out", "wb") as out, open(f"{ROOM}/err", "wb") as err:
+            start = time.perf_counter()
+            child = subprocess.Popen(["sh", "-c", line], stdout=out, stderr=err, env={**os.environ, "LD_PRELOAD": preload} if preload else None)
+            _, status, used = os.wait4(child.pid, 0)
+            self.clock = time.perf_counter() - start
+        child.returncode = os.waitstatus_to_exitcode(status)
+        self.processor, self.kilobytes = used.ru_utime + used.ru_stime, used.ru_maxrss
+        self.out, self.err = open(f"{ROOM}/out", "rb").read(), open(f"{ROOM}/err").read()
+        if child.returncode:
+            sys.exit(f"{line} ended with {child.returncode}: {self.err}")
+
+
+at, desk = shlex.quote(FILE), shlex.quote(PROGRAM)
+LINES = {
+    "desk dbx": f"exec {desk} dbx {at}",
+    "desk level": f"exec {desk} level {at}",
+    "sqlite3 | xxd": f"sqlite3 {at} \"SELECT '{OWNER}' || hex(digest) FROM revoked_digests ORDER BY digest\" | xxd -r -p",
+    "sqlite3": f"sqlite3 {at} 'SELECT stamp FROM desk'",
+}
+runs = {name: [] for name in LINES}
+for _ in range(ROUNDS):
+    for name, line in LINES.items():
+        runs[name].append(Run(line))
+ours, theirs = runs["desk dbx"][0].out, runs["sqlite3 | xxd"][0].out
+if ours[28:] != theirs or len(ours) != 28 + 48 * DIGESTS:
+    sys.exit("the shell and the desk write other entries")
+times = {name: [statistics.median(getattr(run, what) for run in all) for what in ("processor", "clock")] for name, all in runs.items()}
+for name, (processor, clock) in times.items():
+    print(f"{name:14} processor {processor:.3f} s, clock {clock:.3f} s, at most {max(run.kilobytes for run in runs[name])} kB")
+ratios = [a / b for a, b in zip(times["desk dbx"], times["sqlite3 | xxd"])]
+print("whole: processor %.2f, clock %.2f of the shell's" % tuple(ratios))
+alone = [(a - b) / (c - d) for a, b, c, d in zip(*(times[name] for name in LINES))]
+print("less opening: processor %.2f, clock %.2f of the shell's" % tuple(alone))
+heap = {name: [int(word) for word in Run(LINES[name], f"{ROOM}/count.so").err.split("heap")[-1].split()] for name in ("desk dbx", "desk level")}
+beyond = heap["desk dbx"][1] - heap["desk level"][0]
+print(f"{len(ours)} bytes; memory beyond the open desk: {beyond} bytes, of {heap['desk level'][0]}")
+if beyond > 1 << 20:
+    sys.exit("more than 1 MiB")
+PYTHON

@@ -1,0 +1,111 @@
+#!/bin/sh
+# What other programs read of a desk's exports: exports.sh [PROGRAM]. A desk is made; sqlite3 puts 300 revoked digests, two
+# revoked certificates, three listed digests and two listed certificates into it, in no order; dbx and db are exported. `desk
+# list` has to find their lists. sig-list-to-certs of efitools has to find each entry in order, with its owner and body. dbxtool
+# has to list as many entries. And `desk list` reads what hash-to-efi-sig-list writes for an image of efitools, which has to hold the
+# digest that `desk facts` gives. Each tool is left out where it isn't installed, and named at the end. Not part of the gate: it
+# needs sqlite3, openssl and xxd.
+set -eu
+root=$(CDPATH='' cd -- "$(dirname -- "$(readlink -f -- "$0")")/.." && pwd -P)
+if [ $# -gt 0 ]; then
+    program=$(readlink -f -- "$1")
+else
+    "$root/desk" --version > /dev/null
+    program=$root/crates/desk/out/desk
+fi
+for tool in sqlite3 openssl xxd; do
+    command -v "$tool" > /dev/null || { echo "exports.sh: $tool is needed" >&2; exit 1; }
+done
+owner=00112233-4455-6677-8899-aabbccddeeff
+room=$(mktemp -d)
+trap 'rm -rf "$room"' EXIT
+cd "$room"
+read_by='desk list'
+
+# same WANTED FOUND WHAT: two files have to be the same.
+same() {
+    cmp -s "$1" "$2" || { echo "exports.sh: $3" >&2; diff "$1" "$2" | head -10 >&2; exit 1; }
+}
+
+# ---- the desk
+
+"$program" init desk.db "$owner"
+for number in 1 2; do
+    openssl req -x509 -newkey rsa:2048 -nodes -keyout key -subj "/CN=listed $number" -days 3650 -outform DER -out "$number.der" 2> log
+    # What is signed of a certificate (RFC 5280, section 4.1) is its first inner element.
+    openssl asn1parse -inform DER -in "$number.der" -strparse 4 -noout -out tbs
+    digest=$(sha256sum < tbs | cut -d' ' -f1)
+    echo "INSERT INTO listed VALUES ('certificate', X'$digest', X'$(xxd -p "$number.der" | tr -d '\n')');"
+    echo "$digest $number.der" >> certificates
+done > rows
+# Digests that don't ascend: the SHA-256 of each number.
+digest_of() { printf '%s' "$1" | sha256sum | cut -d' ' -f1; }
+for number in $(seq 300); do digest_of "revoked $number"; done > revoked
+for number in 1 2 3; do digest_of "listed $number"; done > listed
+for number in 1 2; do digest_of "certificate $number"; done > revoked_certificates
+sed "s/.*/INSERT INTO revoked_digests VALUES (X'&');/" revoked >> rows
+sed "s/.*/INSERT INTO revoked_certificates VALUES (X'&');/" revoked_certificates >> rows
+sed "s/.*/INSERT INTO listed VALUES ('digest', X'&', X'');/" listed >> rows
+{ echo 'BEGIN;'; cat rows; echo 'COMMIT;'; } | sqlite3 desk.db
+"$program" dbx desk.db > dbx
+"$program" db desk.db > db
+
+# ---- desk list: the SHA256 list has 28 bytes and 48 a digest, an X509 list 28, 16 and the certificate's
+
+printf '0 sha256 300\n14428 x509_sha256 2\n' > wanted
+"$program" list dbx > found
+same wanted found 'desk list of dbx'
+LC_ALL=C sort certificates > ascending
+first=$(head -1 ascending | cut -d' ' -f2)
+printf '0 sha256 3\n172 x509 1\n%s x509 1\n' $((172 + 44 + $(wc -c < "$first"))) > wanted
+"$program" list db > found
+same wanted found 'desk list of db'
+
+# ---- efitools: each entry into a file of its own, in order
+
+# bodies NAME COUNT ENDING..: the files NAME-0 and so on, as digits, each on a line, and the owner of each.
+bodies() {
+    name=$1
+    for place in $(seq 0 $(($2 - 1))); do xxd -p "$name-$place".* | tr -d '\n'; echo; done
+}
+if command -v sig-list-to-certs > /dev/null; then
+    read_by="$read_by, sig-list-to-certs"
+    sig-list-to-certs dbx x > said
+    [ "$(grep -c "Guid $owner" said)" -eq 302 ] || { echo 'exports.sh: efitools finds other owners in dbx' >&2; exit 1; }
+    LC_ALL=C sort revoked > wanted
+    LC_ALL=C sort revoked_certificates | sed 's/$/00000000000000000000000000000000/' >> wanted
+    bodies x 302 > found
+    same wanted found 'efitools of dbx'
+    sig-list-to-certs db d > said
+    [ "$(grep -c "Guid $owner" said)" -eq 5 ] || { echo 'exports.sh: efitools finds other owners in db' >&2; exit 1; }
+    LC_ALL=C sort listed > wanted
+    cut -d' ' -f2 ascending | while read -r file; do xxd -p "$file" | tr -d '\n'; echo; done >> wanted
+    bodies d 5 > found
+    same wanted found 'efitools of db'
+fi
+for image in /usr/lib/efitools/*/HelloWorld.efi; do
+    if command -v hash-to-efi-sig-list > /dev/null && [ -e "$image" ]; then
+        read_by="$read_by, hash-to-efi-sig-list"
+        hash-to-efi-sig-list "$image" made > said
+        echo '0 sha256 1' > wanted
+        "$program" list made > found
+        same wanted found 'desk list of what efitools made'
+        "$program" facts "$image" | sed -n 's/^signing //p' > wanted
+        tail -c 32 made | xxd -p | tr -d '\n' > found
+        echo >> found
+        same wanted found 'the digest that efitools makes'
+    fi
+done
+
+# ---- dbxtool, which reads neither more than 2,000 entries nor a dbx with certificates alone
+
+if command -v dbxtool > /dev/null; then
+    read_by="$read_by, dbxtool"
+    dbxtool -l -d dbx > said
+    found=$(grep -ic "$(LC_ALL=C sort revoked | head -1)" said)
+    [ "$found" -eq 1 ] || { echo 'exports.sh: dbxtool lists another first digest' >&2; exit 1; }
+    for digest in $(cat revoked); do
+        grep -qi "$digest" said || { echo "exports.sh: dbxtool has no $digest" >&2; exit 1; }
+    done
+fi
+echo "dbx of 300 digests and 2 certificates, db of 3 and 2: read as they are by $read_by"

@@ -1,0 +1,213 @@
+//! Questions to a desk, read from lines, and its answers in words. Each function makes one call of the desk: a proof that carries
+//! the contracts of several takes minutes.
+use super::exporting::exported;
+use super::line::Line;
+use super::telling::{put_person, put_request, put_requests, put_rows, put_verdict, told};
+use super::*;
+
+/// Gives the desk one call.
+fn apply<S: Alter + Drop>(desk: &mut Desk<S>, call: &Call) -> Result<Reply, Refusal> {
+    desk.apply(&call.caller, &call.key, &call.command)
+}
+
+/// The desk's view for a call.
+fn viewed(desk: &mut Memory, call: &Call) -> Result<View, Refusal> {
+    desk.view(&call.caller, &call.key, &call.command)
+}
+
+/// What is decided on a call by this view.
+fn decided_by(alloc: Global, view: &View, call: &Call) -> Result<Reply, Refusal> {
+    match decide(alloc, view, &call.caller, &call.key, &call.command) {
+        Ok(changes) => Ok(changes.reply),
+        Err(refusal) => Err(refusal),
+    }
+}
+
+/// What is decided on a call by the desk's view for it.
+fn decided(alloc: Global, desk: &mut Memory, call: &Call) -> Result<Reply, Refusal> {
+    match viewed(desk, call) {
+        Ok(view) => decided_by(alloc, &view, call),
+        Err(refusal) => Err(refusal),
+    }
+}
+
+/// The answer to a call, in words.
+fn replied<S: Alter + Drop>(alloc: Global, desk: &mut Desk<S>, call: &Call) -> Option<String> {
+    told(alloc, &apply(desk, call)).ok()
+}
+
+/// What is decided on a call by the desk's view for it, in words.
+fn foretold(alloc: Global, desk: &mut Memory, call: &Call) -> Option<String> {
+    told(alloc, &decided(alloc, desk, call)).ok()
+}
+
+/// The answer that was decided, if the desk has given it, and `Reopen` where the view had failed. Else another text, which ends with
+/// the desk's answer.
+fn agreed(alloc: Global, expected: String, answer: &str) -> Option<String> {
+    let wanted = if expected.as_str() == "Store" {
+        "Reopen"
+    } else {
+        expected.as_str()
+    };
+    if answer == wanted {
+        return Some(expected);
+    }
+    let mut line = Line::new(alloc);
+    line.put("not by the view:").ok()?;
+    line.put(answer).ok()?;
+    Some(line.text)
+}
+
+/// The answer to a call that is decided first by the desk's view for it.
+fn both(alloc: Global, desk: &mut Memory, call: &Call) -> Option<String> {
+    let expected = foretold(alloc, desk, call)?;
+    if expected.as_str() == "NoMemory" {
+        return Some(expected);
+    }
+    let answer = replied(alloc, desk, call)?;
+    agreed(alloc, expected, answer.as_str())
+}
+
+/// The answer to a call.
+pub(super) fn answered<S: Alter + Drop>(
+    alloc: Global,
+    desk: &mut Desk<S>,
+    given: &str,
+) -> Option<String> {
+    let call = Words::new(alloc, given).call()?;
+    replied(alloc, desk, &call)
+}
+
+/// The same, of a call that is decided first by the desk's view for it.
+fn asked(alloc: Global, desk: &mut Memory, given: &str) -> Option<String> {
+    let call = Words::new(alloc, given).call()?;
+    both(alloc, desk, &call)
+}
+
+/// The rows of lists that the desk's view for a call has.
+fn rows(desk: &mut Memory, words: &mut Words, line: &mut Line) -> Option<()> {
+    match viewed(desk, &words.call()?) {
+        Ok(view) => put_rows(line, &view.lists).ok(),
+        Err(refusal) => line.put(refusal.name()).ok(),
+    }
+}
+
+/// What a verdict on the image is by the rows that the desk gives for it, and those rows.
+fn seen(desk: &mut Memory, words: &mut Words, line: &mut Line) -> Option<()> {
+    let facts = words.facts()?;
+    match desk.list_view(&facts) {
+        Ok(view) => {
+            put_verdict(line, verdict(&view, &facts)).ok()?;
+            put_rows(line, &view).ok()
+        }
+        Err(refusal) => line.put(refusal.name()).ok(),
+    }
+}
+
+/// What the desk says of an image.
+fn judged(desk: &mut Memory, words: &mut Words, line: &mut Line) -> Option<()> {
+    let facts = words.facts()?;
+    match desk.verdict(&facts) {
+        Ok(verdict) => put_verdict(line, verdict).ok(),
+        Err(refusal) => line.put(refusal.name()).ok(),
+    }
+}
+
+/// A request, as the caller is shown it.
+fn shown(desk: &mut Memory, words: &mut Words, line: &mut Line) -> Option<()> {
+    let caller = words.caller()?;
+    let number = words.request()?;
+    match desk.request(&caller, number) {
+        Ok(request) => put_request(line, &request).ok(),
+        Err(refusal) => line.put(refusal.name()).ok(),
+    }
+}
+
+/// All requests that the caller is shown.
+fn all_shown(desk: &mut Memory, words: &mut Words, line: &mut Line) -> Option<()> {
+    let caller = words.caller()?;
+    match desk.requests_of(&caller) {
+        Ok(requests) => put_requests(line, &requests).ok(),
+        Err(refusal) => line.put(refusal.name()).ok(),
+    }
+}
+
+/// Who has a token.
+fn who(desk: &mut Memory, words: &mut Words, line: &mut Line) -> Option<()> {
+    let token = words.digest()?;
+    match desk.person_of(&token) {
+        Ok(person) => put_person(line, &person).ok(),
+        Err(refusal) => line.put(refusal.name()).ok(),
+    }
+}
+
+/// The desk's report.
+fn counted(alloc: Global, desk: &mut Memory, line: &mut Line) -> Option<()> {
+    match desk.counts() {
+        Ok(counts) => line.marked(report(alloc, &counts).ok()?.as_bytes()).ok(),
+        Err(refusal) => line.put(refusal.name()).ok(),
+    }
+}
+
+/// A call of this name with the key of this number, which revokes the digest of this number.
+fn revocation(alloc: Global, who: &str, number: u64) -> Result<Line, AllocError> {
+    let mut line = Line::new(alloc);
+    line.put(who)?;
+    line.number(number)?;
+    line.put("revoke")?;
+    line.number(number)?;
+    Ok(line)
+}
+
+/// `revoked`, after so many calls of the caller, each of which revokes a digest of its own; or the first other answer.
+fn revoked(alloc: Global, desk: &mut Memory, words: &mut Words) -> Option<String> {
+    let who = words.text()?;
+    for number in 1..=words.number()? {
+        let line = revocation(alloc, who, number).ok()?;
+        let answer = asked(alloc, desk, line.text.as_str())?;
+        if answer.as_str() != "revoked" {
+            return Some(answer);
+        }
+    }
+    String::from_str(alloc, "revoked").ok()
+}
+
+/// Puts what was told, if it was.
+fn put_told(line: &mut Line, told: Option<String>) -> Option<()> {
+    line.put(told?.as_str()).ok()
+}
+
+/// Puts the answer to a line.
+fn put_answer(alloc: Global, desk: &mut Memory, given: &str, line: &mut Line) -> Option<()> {
+    let (verb, rest) = given.split_once(" ").unwrap_or((given, ""));
+    let mut words = Words::new(alloc, rest);
+    match verb {
+        "alone" => put_told(line, answered(alloc, desk, rest)),
+        "rows" => rows(desk, &mut words, line),
+        "revoke-to" => put_told(line, revoked(alloc, desk, &mut words)),
+        "image-rows" => seen(desk, &mut words, line),
+        "verdict" => judged(desk, &mut words, line),
+        "shows" => shown(desk, &mut words, line),
+        "lists" => all_shown(desk, &mut words, line),
+        "who" => who(desk, &mut words, line),
+        "report" => counted(alloc, desk, line),
+        "export" => exported(alloc, desk, &mut words, line),
+        _ => put_told(line, asked(alloc, desk, given)),
+    }
+}
+
+/// The answer to a line.
+fn answer(alloc: Global, desk: &mut Memory, given: &str) -> Option<String> {
+    let mut line = Line::new(alloc);
+    put_answer(alloc, desk, given, &mut line)?;
+    Some(line.text)
+}
+
+/// The answer to a line, which is asked once more where memory was refused.
+pub(super) fn answer_at_last(alloc: Global, desk: &mut Memory, given: &str) -> Option<String> {
+    let told = answer(alloc, desk, given)?;
+    if told.ends_with("NoMemory") {
+        return answer(alloc, desk, given);
+    }
+    Some(told)
+}

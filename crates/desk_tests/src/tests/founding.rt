@@ -1,0 +1,86 @@
+//! Desks made, given back and opened again, and stores that hold none.
+use super::*;
+
+/// A desk without calls in the connection's store, or what refuses it and the connection.
+pub(super) fn make<S: Alter + Drop>(
+    alloc: Global,
+    conn: Connection<S>,
+) -> Result<Desk<S>, (Refusal, Connection<S>)> {
+    if !conn.is_autocommit() {
+        return Err((Refusal::Reopen, conn));
+    }
+    Desk::create(alloc, conn, &Guid::from([7; 16]))
+}
+
+/// The desk that the connection's store holds, or what refuses it and the connection.
+pub(super) fn open<S: Alter + Drop>(
+    alloc: Global,
+    conn: Connection<S>,
+) -> Result<Desk<S>, (Refusal, Connection<S>)> {
+    if !conn.is_autocommit() {
+        return Err((Refusal::Reopen, conn));
+    }
+    Desk::open(alloc, conn)
+}
+
+/// The first text of the answer to a SELECT; nothing for any other text in SQL, which is executed.
+pub(super) fn run(alloc: Global, conn: &mut Connection<MemStore>, text: &str) -> Option<String> {
+    if text.starts_with("SELECT ") {
+        conn.query_row(text, &[]).ok()?.get(0).ok()
+    } else {
+        conn.execute(text, &[]).ok()?;
+        Some(String::new(alloc))
+    }
+}
+
+/// `a desk` or the name of the refusal, and the connection.
+fn outcome(
+    answer: Result<Desk<MemStore>, (Refusal, Connection<MemStore>)>,
+) -> (&'static str, Connection<MemStore>) {
+    match answer {
+        Ok(desk) => ("a desk", desk.release()),
+        Err((refusal, conn)) => (refusal.name(), conn),
+    }
+}
+
+/// What `make`, `open` or a text in SQL does to the store.
+fn done(
+    alloc: Global,
+    conn: Connection<MemStore>,
+    text: &str,
+) -> Option<(&'static str, Connection<MemStore>)> {
+    match text {
+        "make" => Some(outcome(make(alloc, conn))),
+        "open" => Some(outcome(open(alloc, conn))),
+        _ => {
+            let mut conn = conn;
+            run(alloc, &mut conn, text)?;
+            Some(("", conn))
+        }
+    }
+}
+
+/// An empty store holds no desk; one is made once, and its row has to be that of a desk of version 1.
+const STORES: &str = "\
+open : NotADesk
+make : a desk
+open : a desk
+make : Exists
+UPDATE desk SET version = 3
+open : Version
+UPDATE desk SET version = 1, mark = 'boot'
+open : NotADesk
+UPDATE desk SET mark = 'boot-desk'
+open : a desk";
+
+#[test]
+fn a_desk_is_made_once_and_opened(rt: HostRuntime) -> Result<(), Fail> {
+    let mut conn = Connection::open_in_memory(rt.alloc())?;
+    for line in STORES.lines() {
+        let (text, wanted) = line.split_once(" : ").unwrap_or((line, ""));
+        let (told, next) = done(rt.alloc(), conn, text).ok_or(line)?;
+        assert!(rt; told == wanted, "{line}: {told}");
+        conn = next;
+    }
+    Ok(())
+}

@@ -1,0 +1,314 @@
+//! The lines of days: `WHO KEY VERB .. : ANSWER` is a call that the desk's view for it decides first, `alone ..` one without a view,
+//! `rows ..` asks for the rows of lists in that view. A digest is told by its first byte, an export as bytes and how often they
+//! come, a text with `/` for LF and `|` for a tab. What is in capitals is SQL for the store under the desk, which is opened again.
+
+/// Requests, reviews, returns and listings, and what people are shown of them. The certificate is 204, the image 160; 161
+/// is another.
+pub(super) const REQUESTS: &str = "\
+console p1 add ann submitter 1 : added ann
+console p2 add rita reviewer 2 : added rita
+console p3 add raul reviewer 3 : added raul
+console p4 add rosa reviewer 4 : added rosa
+console p5 add sid signer 5 : added sid
+console p6 add olga officer 6 : added olga
+eve a1 list 1 : UnknownCaller
+ann a1 submit shim 160 160 0 0 : submitted 1
+ann a1 submit shim 160 160 0 0 : submitted 1
+ann a1 submit grub 160 160 0 0 : KeyReused
+ann a2 yes 1 : NotYourRole
+rita r1 yes 1 looked : reviewed 1 open
+rita r2 yes 1 : AlreadyReviewed
+raul r1 yes 1 : reviewed 1 approved
+rosa r1 yes 1 : WrongState
+rita r2 submit shim 162 162 2 171 170 2 shim 4 grub 3 : submitted 2
+rita r3 yes 2 : OwnRequest
+rosa r1 no 2 : reviewed 2 rejected
+ann a2 withdraw 2 : NoSuchRequest
+shows ann 2 : NoSuchRequest
+shows ann 1 : 1 ann shim approved 1024 8 240 160 160 raul yes rita yes looked
+sid s1 return 1 160 160 1 204 0 : NotListed
+olga o1 list-certificate 204 : listed
+olga o2 list-certificate 204 : AlreadyListed
+export db : a1 59 c0 a5 e4 94 a7 4a 87 b5 ab 15 5c 2b f0 72 33 00*7 17 00*3 07*16 30 05 30 03 02 01*2
+sid s1 return 1 161 161 1 204 0 : DigestDiffers
+reopen
+sid s1 return 1 160 160 1 204 0 : returned 1
+sid s2 return 1 160 160 1 204 0 : WrongState
+shows ann 1 : 1 ann shim signed 1024 8 240 160 160 raul yes rita yes looked returned 1024 240 160
+shows ann 9 : NoSuchRequest
+shows rita 2 : 2 rita shim rejected 1024 8 240 162 162 certificate 170 certificate 171 component shim 4 component grub 3 rosa no
+shows sid 1 : 1 ann shim signed 1024 8 240 160 160 raul yes rita yes looked returned 1024 240 160
+shows olga 9 : NoSuchRequest
+shows eve 1 : UnknownCaller
+shows console 1 : NotYourRole
+lists ann : 1 ann shim signed 1024 8 240 160 160 raul yes rita yes looked returned 1024 240 160;
+lists rita : 1 ann shim signed 1024 8 240 160 160 raul yes rita yes looked returned 1024 240 160; \
+2 rita shim rejected 1024 8 240 162 162 certificate 170 certificate 171 component shim 4 component grub 3 rosa no;
+lists eve : UnknownCaller
+lists console : NotYourRole
+verdict 160 160 1 204 0 : allowed
+verdict 160 160 0 0 : not-listed
+olga o2 revoke-certificate 204 : revoked
+verdict 160 160 1 204 0 : dbx-certificate
+olga o3 unlist-certificate 204 : unlisted
+verdict 160 160 1 204 0 : dbx-certificate
+olga o4 revoke-certificate 204 : AlreadyRevoked
+olga o4 unlist-certificate 204 : NotThere
+ann a2 submit shim 160 160 0 0 : submitted 3
+ann a3 withdraw 3 : withdrawn 3
+olga o4 revoke 160 : revoked
+ann a4 submit shim 160 160 0 0 : Revoked
+reopen
+sid s1 return 1 160 160 1 204 0 : returned 1
+olga o5 list 33 : listed
+olga o6 unlist 33 : unlisted
+who 3 : raul reviewer 3
+who 9 : nobody
+report : \
+people                           6/\
+requests                         3/\
+open                             0/\
+approved                         0/\
+rejected                         1/\
+withdrawn                        1/\
+signed                           1/\
+listed digests                   0/\
+listed certificates              0/\
+revoked digests                  1/\
+revoked certificates             1/\
+level components                 0/\
+commands                        20/\
+stamp                   2021030218/";
+
+/// An approved request whose image is revoked stays as it is; keys are each caller's own.
+pub(super) const BARRED: &str = "\
+console k1 add ann submitter 1 : added ann
+console k2 add rita reviewer 2 : added rita
+console k3 add raul reviewer 3 : added raul
+console k4 add sid signer 4 : added sid
+console k5 add olga officer 5 : added olga
+ann k1 submit shim 160 160 0 0 : submitted 1
+rita k1 submit shim 162 162 0 0 : submitted 2
+rita k2 yes 1 : reviewed 1 open
+raul k2 yes 1 : reviewed 1 approved
+olga k1 list-certificate 204 : listed
+olga k2 revoke 160 : revoked
+sid k1 return 1 160 160 1 204 0 : Revoked
+shows ann 1 : 1 ann shim approved 1024 8 240 160 160 raul yes rita yes
+lists rita : 1 ann shim approved 1024 8 240 160 160 raul yes rita yes; 2 rita shim open 1024 8 240 162 162;";
+
+/// The level rises, and revocations are imported.
+pub(super) const LEVELS: &str = "\
+console p1 add olga officer 1 : added olga
+olga v1 raise grub 3 2024010100 : raised
+export level : sbat,1,2024010100/grub,3/
+olga v2 raise grub 2 2024010101 : NotHigher
+olga v2 raise grub 4 2024010100 : StampNotLater
+olga v2 raise sbat 2 2024010101 : NotHigher
+olga v2 list 32 : listed
+verdict 32 32 0 1 grub 2 : sbat 0 3
+verdict 32 32 0 1 grub 3 : allowed
+verdict 32 32 0 1 grub 4294967295 : allowed
+reopen
+olga v3 import 0 1 1 170 1 187 0 : imported 1 1 0 1
+olga v4 import 0 1 1 170 1 187 0 : imported 0 0 0 1
+export dbx : 26 16 c4 c1 4c 50 92 40 ac a9 41 f9 36 93 43 28 4c 00*7 30 00*3 07*16 aa*32 \
+92 a4 d2 3b c0 96 79 40 b4 20 fc f9 8e f1 03 ed 5c 00*7 40 00*3 07*16 bb*32 00*16
+olga v5 import 0 0 1 171 0 1 grub 4 : StampNotLater
+olga v5 import 2024010101 0 1 171 0 2 grub 4 shim 2 : imported 1 0 2 0
+verdict 171 34 0 0 : dbx-digest
+verdict 32 32 1 187 0 : dbx-certificate
+verdict 32 32 0 2 shim 2 grub 3 : sbat 1 4
+reopen
+olga v5 import 2024010101 0 1 171 0 2 grub 4 shim 2 : imported 1 0 2 0
+olga v6 raise shim 3 2024010102 : raised";
+
+/// The rows of lists that an image and each command name, beside rows that they don't name.
+pub(super) const ROWS: &str = "\
+console p1 add olga officer 1 : added olga
+olga k1 list 1 : listed
+olga k2 list 2 : listed
+olga k3 list-certificate 2 : listed
+olga k4 list-certificate 3 : listed
+olga k5 revoke 1 : revoked
+olga k6 revoke 2 : revoked
+olga k7 revoke 4 : revoked
+olga k8 revoke-certificate 2 : revoked
+olga k9 revoke-certificate 4 : revoked
+olga k10 raise shim 3 2024010100 : raised
+olga k11 raise grub 2 2024010101 : raised
+image-rows 1 4 2 2 3 3 shim 5 kernel 5 shim 5 : \
+dbx-digest digest 1 certificate 2 certificate 3 revoked 1 revoked 4 revoked-certificate 2 level shim 3 level shim 3
+rows console x add ann submitter 2 : none
+rows olga x submit shim 1 4 2 2 3 3 shim 5 kernel 5 shim 5 : \
+revoked 1 revoked 4 revoked-certificate 2 level shim 3 level shim 3
+rows olga x yes 1 : none
+rows olga x withdraw 1 : none
+rows olga x return 1 1 4 2 2 3 3 shim 5 kernel 5 shim 5 : \
+digest 1 certificate 2 certificate 3 revoked 1 revoked 4 revoked-certificate 2 level shim 3 level shim 3
+rows olga x list-certificate 3 : certificate 3
+rows olga x list 2 : digest 2
+rows olga x list 3 : none
+rows olga x unlist-certificate 2 : certificate 2
+rows olga x revoke 4 : revoked 4
+rows olga x revoke 3 : none
+rows olga x revoke-certificate 2 : revoked-certificate 2
+rows olga x revoke-certificate 1 : none
+rows olga x raise grub 5 2021030218 : level grub 2
+rows olga x import 0 0 3 4 3 4 2 2 1 2 grub 5 kernel 5 : revoked 4 revoked 4 revoked-certificate 2 level grub 2";
+
+/// Each kind of write once, and each column of each table.
+pub(super) const TABLES: &str = "\
+console k1 add ann submitter 1 : added ann
+console k2 add rita reviewer 2 : added rita
+console k3 add raul reviewer 3 : added raul
+console k4 add sid signer 4 : added sid
+console k5 add olga officer 5 : added olga
+ann k1 submit shim-15.8 160 161 2 21 20 2 grub 3 shim 4 : submitted 1
+ann k2 submit shim 162 162 0 0 : submitted 2
+ann k3 withdraw 2 : withdrawn 2
+rita k1 yes 1 looked : reviewed 1 open
+raul k1 yes 1 fine : reviewed 1 approved
+olga k1 list-certificate 20 : listed
+olga k2 list 22 : listed
+olga k3 list 23 : listed
+olga k4 unlist 23 : unlisted
+sid k1 return 1 161 161 1 20 0 : returned 1
+olga k5 revoke 31 : revoked
+olga k6 revoke-certificate 32 : revoked
+olga k7 raise grub 3 2024010100 : raised
+olga k8 raise shim 2 2024010101 : raised
+olga k9 raise grub 4 2024010102 : raised
+SELECT id || ' ' || mark || ' ' || version || ' ' || hex(owner) || ' ' || stamp FROM desk : 1 boot-desk 1 07070707070707070707070707070707 2024010102
+SELECT group_concat(name || ' ' || role || ' ' || length(token) || ' ' || substr(hex(token), 1, 2)) FROM people : \
+ann submitter 32 01,rita reviewer 32 02,raul reviewer 32 03,sid signer 32 04,olga officer 32 05
+SELECT name, role, token FROM people ORDER BY name : ann
+SELECT group_concat(no || ' ' || caller || ' ' || key || ' ' || reply) FROM calls WHERE no < 9 : \
+1 console k1 added ann,2 console k2 added rita,3 console k3 added raul,4 console k4 added sid,5 console k5 added olga,\
+6 ann k1 submitted 1,7 ann k2 submitted 2,8 ann k3 withdrawn 2
+SELECT text FROM calls WHERE no = 9 : review 1 yes looked
+SELECT group_concat(no || ' ' || submitter || ' ' || title || ' ' || state) FROM requests : 1 ann shim-15.8 signed,2 ann shim withdrawn
+SELECT length || ' ' || gap || ' ' || hex(substr(file, 1, 1)) || hex(substr(digest, 1, 1)) || hex(substr(signing, 1, 1)) FROM requests WHERE no = 1 : 1024 8 F0A0A1
+SELECT group_concat(request || ' ' || substr(hex(digest), 1, 2)) FROM request_certificates : 1 14,1 15
+SELECT group_concat(request || ' ' || place || ' ' || name || ' ' || generation) FROM request_components WHERE place = 0 : 1 0 grub 3
+SELECT group_concat(request || ' ' || place || ' ' || name || ' ' || generation) FROM request_components WHERE place = 1 : 1 1 shim 4
+SELECT group_concat(request || ' ' || reviewer || ' ' || vote || ' ' || note) FROM votes : 1 rita yes looked,1 raul yes fine
+SELECT request || ' ' || signer || ' ' || length || ' ' || substr(hex(file), 1, 2) || substr(hex(digest), 1, 2) FROM returns : 1 sid 1024 F0A1
+SELECT group_concat(kind || ' ' || hex(body) || ' ' || substr(hex(digest), 1, 2)) FROM listed : certificate 30053003020101 14,digest  16
+SELECT group_concat(substr(hex(digest), 1, 2)) FROM revoked_digests : 1F
+SELECT group_concat(substr(hex(digest), 1, 2)) FROM revoked_certificates : 20
+SELECT group_concat(name || ' ' || generation) FROM components : grub 4,shim 2";
+
+/// Exports of an empty desk, of one after ten calls, and of one with a row that no desk writes.
+pub(super) const EXPORTS: &str = "\
+export dbx : nothing
+export db : nothing
+export minutes : nothing
+export level : sbat,1,2021030218/
+console p1 add olga officer 1 : added olga
+olga k1 revoke 204 : revoked
+olga k2 revoke 170 : revoked
+olga k3 revoke 187 : revoked
+olga k4 revoke-certificate 187 : revoked
+olga k5 list 33 : listed
+olga k6 list 32 : listed
+olga k7 list-certificate 20 : listed
+olga k8 raise shim 2 2024010100 : raised
+olga k9 raise grub 3 2024010101 : raised
+export dbx : 26 16 c4 c1 4c 50 92 40 ac a9 41 f9 36 93 43 28 ac 00*7 30 00*3 \
+07*16 aa*32 07*16 bb*32 07*16 cc*32 \
+92 a4 d2 3b c0 96 79 40 b4 20 fc f9 8e f1 03 ed 5c 00*7 40 00*3 07*16 bb*32 00*16
+export db : 26 16 c4 c1 4c 50 92 40 ac a9 41 f9 36 93 43 28 7c 00*7 30 00*3 07*16 20*32 07*16 21*32 \
+a1 59 c0 a5 e4 94 a7 4a 87 b5 ab 15 5c 2b f0 72 33 00*7 17 00*3 07*16 30 05 30 03 02 01*2
+export level : sbat,1,2024010101/grub,3/shim,2/
+export minutes : \
+1|console|p1|add-person olga officer 0101010101010101010101010101010101010101010101010101010101010101|added olga/\
+2|olga|k1|revoke-digest cccccccccccccccccccccccccccccccccccccccccccccccccccccccccccccccc|revoked/\
+3|olga|k2|revoke-digest aaaaaaaaaaaaaaaaaaaaaaaaaaaaaaaaaaaaaaaaaaaaaaaaaaaaaaaaaaaaaaaa|revoked/\
+4|olga|k3|revoke-digest bbbbbbbbbbbbbbbbbbbbbbbbbbbbbbbbbbbbbbbbbbbbbbbbbbbbbbbbbbbbbbbb|revoked/\
+5|olga|k4|revoke-certificate bbbbbbbbbbbbbbbbbbbbbbbbbbbbbbbbbbbbbbbbbbbbbbbbbbbbbbbbbbbbbbbb|revoked/\
+6|olga|k5|list-digest 2121212121212121212121212121212121212121212121212121212121212121|listed/\
+7|olga|k6|list-digest 2020202020202020202020202020202020202020202020202020202020202020|listed/\
+8|olga|k7|list-certificate 1414141414141414141414141414141414141414141414141414141414141414 30053003020101|listed/\
+9|olga|k8|raise shim 2 2024010100|raised/\
+10|olga|k9|raise grub 3 2024010101|raised/
+UPDATE revoked_digests SET digest = x'bb' WHERE digest > x'bc'
+export dbx : 76 Store
+export minutes : 0 Reopen";
+
+/// Rows that no desk writes, put there in SQL: where a call needs one the store has failed, and nothing was changed.
+pub(super) const SPOILT: &str = "\
+console p1 add ann officer 1 : added ann
+UPDATE people SET role = 'king'
+alone ann a1 list 1 : Store
+console p2 add rita reviewer 2 : Reopen
+verdict 1 1 0 0 : Reopen
+reopen
+ann a1 list 1 : Store
+UPDATE people SET role = 'officer'
+ann a1 list 1 : listed
+UPDATE calls SET reply = 'taken' WHERE no = 2
+ann a1 list 1 : Store
+UPDATE calls SET reply = 'listed' WHERE no = 2
+ann a1 list 1 : listed
+UPDATE desk SET stamp = 5
+alone ann a2 list 2 : Store
+UPDATE desk SET stamp = 2021030218
+ann a2 list 2 : listed
+UPDATE calls SET no = 4 WHERE no = 3
+alone ann a3 list 3 : Store
+UPDATE calls SET no = 3 WHERE no = 4
+verdict 3 3 0 0 : not-listed
+ann a3 raise shim 3 2024010100 : raised
+ann a4 revoke 9 : revoked
+console p2 add bob submitter 2 : added bob
+bob b1 submit shim 1 1 1 20 1 shim 4 : submitted 1
+UPDATE requests SET state = 'opened'
+shows bob 1 : Store
+lists bob : Reopen
+UPDATE requests SET state = 'open'
+INSERT INTO request_certificates (request, digest) VALUES (1, x'01')
+lists ann : Store
+report : Reopen
+DELETE FROM request_certificates WHERE digest = x'01'
+UPDATE components SET generation = 0
+verdict 1 1 0 1 shim 4 : Store
+UPDATE components SET generation = 3
+UPDATE people SET token = x'02' WHERE name = 'bob'
+shows bob 1 : Store
+who 1 : Reopen
+UPDATE people SET token = x'0202020202020202020202020202020202020202020202020202020202020202' WHERE name = 'bob'
+UPDATE desk SET stamp = 202401010
+report : Store
+UPDATE desk SET stamp = 2024010100
+shows bob 1 : 1 bob shim open 1024 8 240 1 1 certificate 20 component shim 4
+verdict 1 1 0 1 shim 4 : allowed
+who 2 : bob submitter 2";
+
+/// A hundred calls, and then one more.
+pub(super) const HUNDRED: &str = "\
+console p1 add olga officer 1 : added olga
+revoke-to olga 99 : revoked
+olga x revoke 99 : AlreadyRevoked
+olga x revoke 100 : revoked";
+
+/// An export of 300 digests, into a writer that fails at each of its calls in turn.
+pub(super) const FAULTS: &str = "\
+console p1 add olga officer 1 : added olga
+olga o1 import-digests 300 : imported 300 0 0 0
+export ends : 14428 26 16 c4 c1 4c 50 92 40 ac a9 41 f9 36 93 43 28 5c 38 00*6 30 00*3 .. 07*16 ff 00*31
+export faults : whole after each fault
+olga o2 revoke 5 : revoked";
+
+/// 10,000 digests in one import, a certificate of 65,536 bytes, and an image with 64 certificates and 256 components.
+pub(super) const LARGEST: &str = "\
+console p1 add olga officer 1 : added olga
+console p2 add ann submitter 2 : added ann
+olga o1 import-digests 10000 : imported 10000 0 0 0
+olga o2 list-largest : listed
+ann a1 submit-largest : submitted 1
+reopen
+olga o1 import-digests 10000 : imported 10000 0 0 0
+olga o2 list-largest : listed
+ann a1 submit-largest : submitted 1
+export ends : 480028 26 16 c4 c1 4c 50 92 40 ac a9 41 f9 36 93 43 28 1c 53 07 00*5 30 00*3 .. 07*16 ff 26 00*30";

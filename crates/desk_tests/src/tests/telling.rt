@@ -1,0 +1,120 @@
+//! What a desk answers, in words.
+use super::line::Line;
+use super::*;
+
+/// A reply's text, or a refusal's name.
+pub(super) fn told(alloc: Global, answer: &Result<Reply, Refusal>) -> Result<String, AllocError> {
+    match answer {
+        Ok(reply) => String::from_str(alloc, reply_text(alloc, reply)?.as_str()),
+        Err(refusal) => String::from_str(alloc, refusal.name()),
+    }
+}
+
+/// The word of a verdict, and for a component below the level its place and the generation that is asked of it.
+pub(super) fn put_verdict(line: &mut Line, verdict: Verdict) -> Result<(), AllocError> {
+    match verdict {
+        Verdict::DbxDigest => line.put("dbx-digest"),
+        Verdict::DbxCertificate => line.put("dbx-certificate"),
+        Verdict::NotListed => line.put("not-listed"),
+        Verdict::Sbat(below) => {
+            line.put("sbat")?;
+            line.number(below.place as u64)?;
+            line.number(u64::from(below.needs.value()))
+        }
+        Verdict::Allowed => line.put("allowed"),
+    }
+}
+
+/// The rows of a view's lists: listed entries, revoked digests and certificates, components; or `none`.
+pub(super) fn put_rows(line: &mut Line, view: &ListView) -> Result<(), AllocError> {
+    for listing in &view.listed {
+        line.put(listing.kind.text())?;
+        line.digest(&listing.digest)?;
+    }
+    for digest in &view.revoked_digests {
+        line.put("revoked")?;
+        line.digest(digest)?;
+    }
+    for digest in &view.revoked_certificates {
+        line.put("revoked-certificate")?;
+        line.digest(digest)?;
+    }
+    for component in &view.components {
+        line.put("level")?;
+        put_component(line, component)?;
+    }
+    if line.text.is_empty() {
+        return line.put("none");
+    }
+    Ok(())
+}
+
+fn put_component(line: &mut Line, component: &Component) -> Result<(), AllocError> {
+    line.put(component.name.as_str())?;
+    line.number(u64::from(component.generation.value()))
+}
+
+/// An image: length, gap and digests, and then each certificate and component.
+fn put_facts(line: &mut Line, facts: &Facts) -> Result<(), AllocError> {
+    line.number(facts.extent.length())?;
+    line.number(facts.extent.gap())?;
+    line.digest(&facts.file)?;
+    line.digest(&facts.digest)?;
+    line.digest(&facts.signing)?;
+    for digest in facts.carried.as_slice() {
+        line.put("certificate")?;
+        line.digest(digest)?;
+    }
+    for component in facts.components.as_slice() {
+        line.put("component")?;
+        put_component(line, component)?;
+    }
+    Ok(())
+}
+
+/// The votes on a request, and what was returned for it.
+fn put_outcome(line: &mut Line, request: &ShownRequest) -> Result<(), AllocError> {
+    for shown in request.votes.as_slice() {
+        line.put(shown.reviewer.as_str())?;
+        line.put(shown.vote.text())?;
+        if !shown.note.as_str().is_empty() {
+            line.put(shown.note.as_str())?;
+        }
+    }
+    if let Some(returned) = request.returned {
+        line.put("returned")?;
+        line.number(returned.length)?;
+        line.digest(&returned.file)?;
+        line.digest(&returned.digest)?;
+    }
+    Ok(())
+}
+
+/// A request as it is shown: number, submitter, title and state, its image, the votes, and what was returned.
+pub(super) fn put_request(line: &mut Line, request: &ShownRequest) -> Result<(), AllocError> {
+    line.number(request.number.value())?;
+    line.put(request.submitter.as_str())?;
+    line.put(request.title.as_str())?;
+    line.put(request.state.text())?;
+    put_facts(line, &request.facts)?;
+    put_outcome(line, request)
+}
+
+/// Requests as they are shown, each ended by a semicolon.
+pub(super) fn put_requests(line: &mut Line, requests: &[ShownRequest]) -> Result<(), AllocError> {
+    for request in requests {
+        put_request(line, request)?;
+        line.text.push_str(";")?;
+    }
+    Ok(())
+}
+
+/// A person's name, role and token, or `nobody`.
+pub(super) fn put_person(line: &mut Line, person: &Option<Person>) -> Result<(), AllocError> {
+    let Some(person) = person else {
+        return line.put("nobody");
+    };
+    line.put(person.name.as_str())?;
+    line.put(person.role.text())?;
+    line.digest(&person.token)
+}
