@@ -1,0 +1,5 @@
+//! Scratch tests.
+#![tactic(auto)]
+
+#[cfg(test)]
+mod tests;
