@@ -1,5 +1,0 @@
-//! Scratch tests.
-#![tactic(auto)]
-
-#[cfg(test)]
-mod tests;
