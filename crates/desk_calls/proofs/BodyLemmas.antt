@@ -1,11 +1,9 @@
 -- What bodies are read as.
-use Rattle.std.proofs.Common.{◌≡◌, ℕ, List, length, Option, Some, None, Result, Err, refl, nat_lt, false}
+use Rattle.std.proofs.Common.{◌≡◌, ℕ, List, length, Option, Some, None, Err, refl, nat_lt, false}
 use Rattle.desk_bytes.specs.Elements.{IsCertificate}
-use Rattle.desk_texts.specs.declared.command.Command.{Command}
-use Rattle.desk_responses.specs.declared.refused.Refused.{Refused}
 use Rattle.desk_responses.specs.declared.refused.Refused.TheVariants as refused
 use Rattle.desk_imports.specs.FromLists.{tbs_of}
-use Rattle.desk_calls.specs.Bodies.{listing_of, with_tbs}
+use Rattle.desk_calls.specs.Bodies.{listing_of}
 
 -- bytes that are no certificate have no TBSCertificate
 pub no_tbs : (b : List ℕ) → ((b t : List ℕ) → tbs_of b ≡ Some t → IsCertificate b t) → ((t : List ℕ) → IsCertificate b t → ⊥) → tbs_of b ≡ None

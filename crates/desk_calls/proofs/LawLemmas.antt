@@ -1,6 +1,5 @@
 -- Laws of answers.
-use Rattle.std.proofs.Common.{◌≡◌, ◌∙◌, inl, inr, ℕ, List, Result, Ok, Err, Bool, true, false, refl, sym, subst}
-use Rattle.desk_texts.specs.declared.caller.Caller.TheVariants as callers
+use Rattle.std.proofs.Common.{◌≡◌, ◌∙◌, ℕ, List, Result, Ok, Err, false, refl, subst}
 use Rattle.desk_texts.specs.declared.command.Command.{Command}
 use Rattle.desk_texts.specs.declared.command.Command.TheVariants as command
 use Rattle.desk_texts.specs.declared.command.Person.{Person}
@@ -14,7 +13,6 @@ use Rattle.desk_calls.specs.Answers.{raise_of, AnswersTask, IsRuled, IsTaken, Sh
 use Rattle.desk_calls.specs.Bodies.{listing_of}
 use Rattle.desk_calls.specs.Laws.{RefusalsChangeNothing, SubmittersAreAnsweredByOwn}
 use Rattle.desk_calls.specs.declared.answers.Answer.TheVariants as answer
-use Rattle.desk_calls.specs.declared.call.Call.{Call}
 use Rattle.desk_calls.specs.declared.call.Task.{Task}
 use Rattle.desk_calls.specs.declared.call.Task.TheVariants as task
 

@@ -1,5 +1,4 @@
-use Rattle.std.proofs.Common.{sym, subst}
-use Rattle.desk_calls.specs.Answers.{IsTaken, Serves}
+use Rattle.std.proofs.Common.{sym}
 use Rattle.desk_calls.specs.declared.answers.Answer.TheVariants.{Reply}
 use Rattle.desk_calls.proofs.AnswerLemmas.{serves_reply, serves_same}
 use Rattle.desk_calls.proofs.taking.take.Goals as goal
