@@ -31,14 +31,19 @@ leave_then : (cs : History) (events : List Event) (e : Event) (middle end : Hist
 leave_then cs [] e middle end left turn = (end, subst (λ h. MayTurn h e.call e.fate end) left turn, refl)
 leave_then cs (x ∷ events) e middle end left turn = (left.0, left.1, leave_then left.0 events e middle end left.2 turn)
 
+-- an event that wasn't stopped, before others
+before_others : (d : Call) (own : Fate) (events : List Event) (c : Call) (fate : Fate) → list_all is_told (record { call = d; fate = own } ∷ events) ≡ true
+    → (list_all is_told events ≡ true → ends_at_a_stop (and_then events c fate) ≡ true) → ends_at_a_stop (record { call = d; fate = own } ∷ and_then events c fate) ≡ true
+before_others d (Answered reply) events c fate told more = more told
+before_others d Refused events c fate told more = more told
+before_others d Stopped events c fate told more = cc
+
 -- where no call was stopped, the next one may be
 one_more : (events : List Event) (c : Call) (fate : Fate) → list_all is_told events ≡ true → ends_at_a_stop (and_then events c fate) ≡ true
 one_more [] c (Answered reply) told = refl
 one_more [] c Refused told = refl
 one_more [] c Stopped told = refl
-one_more (record { call = d; fate = Answered reply } ∷ events) c fate told = one_more events c fate told
-one_more (record { call = d; fate = Refused } ∷ events) c fate told = one_more events c fate told
-one_more (record { call = d; fate = Stopped } ∷ events) c fate told = cc
+one_more (e ∷ events) c fate told = before_others e.call e.fate events c fate told (one_more events c fate)
 
 still_told : (events : List Event) (e : Event) → list_all is_told events ≡ true → is_told e ≡ true → list_all is_told (events ++ e ∷ []) ≡ true
 still_told events e told last = list_all-append is_told events (e ∷ []) ∙ (rw (told, last) refl)
@@ -48,7 +53,8 @@ pub ends_then : (before : List Life) (events : List Event) (c : Call) (fate : Fa
     → Ends (and_now before events) cs → MayTurn cs c fate later → Ends (and_now before (and_then events c fate)) later
 ends_then before events c fate cs later told ends turn =
     let e : Event = record { call = c; fate = fate } in
-    let parts = and_parts _ _ (sym (list_all-append is_life before (record { opening = Opened; events = events } ∷ [])) ∙ ends.0) in (
+    let last : List Life = record { opening = Opened; events = events } ∷ [] in
+    let parts = and_parts (list_all is_life before) (list_all is_life last) (sym (list_all-append is_life before last) ∙ ends.0) in (
       list_all-append is_life before (record { opening = Opened; events = and_then events c fate } ∷ []) ∙ (rw (parts.0, one_more events c fate told) refl),
       subst (λ es. MayLeave [] es later) (sym (events_then before events e)) (leave_then [] (events_of (and_now before events)) e cs later ends.1 turn),
     )

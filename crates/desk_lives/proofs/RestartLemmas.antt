@@ -1,6 +1,7 @@
 -- From what a stop leaves of a desk's files to what a connection that is opened over them finds.
-use Rattle.std.proofs.Common.{◌≡◌, ℕ, List, sym, subst, ◌∙◌, arith, IsTrue}
+use Rattle.std.proofs.Common.{◌≡◌, ℕ, List, refl, sym, subst, ◌∙◌, arith, IsTrue}
 use Rattle.std.proofs.Math.Logic.{∥∥₁_map₂}
+use Rattle.std.proofs.lemmas.Bool.{and_parts}
 use Rattle.sqlite.specs.Files.{Finds, file_state, image_of}
 use Rattle.sqlite.specs.Held.{AreDatabases, Held}
 use Rattle.sqlite.specs.State.{HasCleanDisk}
@@ -17,13 +18,22 @@ use Rattle.sqlite_wal.specs.Reads.{AreClean}
 use Rattle.desk_history.specs.Lives.{Life}
 use Rattle.desk_store.specs.Reopening.{FindsLives, LeavesLives}
 
+-- files that are clean after a stop were clean before it
+pub both_clean : {D : Type 0} (g : Ghosts D) (given new : Files D) → (IsTrue (g.is_clean new.log) → IsTrue (g.is_clean given.log)) → (IsTrue (g.is_clean new.db) → IsTrue (g.is_clean given.db))
+    → AreClean g new.log new.db → AreClean g given.log given.db
+both_clean g given new log db clean =
+    let parts = and_parts (g.is_clean new.log) (g.is_clean new.db) clean in
+    let one = log parts.0 in
+    let two = db parts.1 in
+    rw (one, two) refl
+
 module _ {D : Type 0} (g : Ghosts D) (old : Held (FileStore D g)) (it : FileStore D g) where
   -- a connection over files that hold what the store's may leave finds what a stop left of the connection before
   pub found_again : IsQuiet view faults recovers is_shielded old.store it → (IsClean (view it) → IsTrue (view it).is_numbered) → (IsClean (view it) → AreDatabases (recovers it))
       → (given new : Files D) → files it ≡ (given.log, given.db) → (AreClean g new.log new.db → AreClean g given.log given.db)
       → outcomes g given.log given.db (image_of g new) → (conn : Held (FileStore D g)) → (HasCleanDisk (file_state conn) → Finds new conn)
       → (owner : List ℕ) (lives : List Life) → LeavesLives (file_state old) owner lives → FindsLives (file_state conn) owner lives
-  found_again quiet numbered sound given new same honest may conn opened owner lives leaves = λ clean _.
+  found_again quiet numbered sound given new same honest may conn opened owner lives leaves clean _ =
       let finds = opened clean in
       let sure = subst (λ p. AreClean g p.0 p.1) (sym same) (honest finds.honest) in
       let now : IsClean (view it) = no_doubt _ (clean_is it.pool ∙ sure) in
