@@ -79,7 +79,7 @@ fn a_desk_is_made_once_and_opened(rt: HostRuntime) -> Result<(), Fail> {
     for line in STORES.lines() {
         let (text, wanted) = line.split_once(" : ").unwrap_or((line, ""));
         let (told, next) = done(rt.alloc(), conn, text).ok_or(line)?;
-        assert!(rt; told == wanted, "{line}: {told}");
+        assert!(rt; told == wanted, "{line}");
         conn = next;
     }
     Ok(())
