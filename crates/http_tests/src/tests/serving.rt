@@ -69,7 +69,7 @@ fn answers_each_request(rt: HostRuntime) -> Result<(), Fail> {
     Ok(())
 }
 
-/// A request, its response, and how many bytes go out before the writer fails.
+/// A request for the level.
 const LEVEL: &str = "GET /level HTTP/1.1|Desk-Token: a-token-of-olga1||";
 
 #[test]
@@ -96,7 +96,7 @@ fn tells_where_a_read_or_a_write_fails(rt: HostRuntime) -> Result<(), Fail> {
     let input = bytes_of(alloc, LEVEL)?;
     let mut desk = stand_in(alloc);
     let mut reader = Slow {
-        rest: &input,
+        rest: input.as_slice(),
         most: 1,
         calls: 0,
         fails_at: 7,
@@ -113,10 +113,7 @@ fn tells_where_a_read_or_a_write_fails(rt: HostRuntime) -> Result<(), Fail> {
     assert!(rt; writer.taken.is_empty(), "nothing went out");
     let served = serve_one(alloc, &mut desk, &mut input.as_slice(), &mut writer);
     assert!(rt; served == Err(HttpFault::Write), "a write");
-    let begun = b"HTTP/1.1 200 OK\r\nContent-Type: ".as_slice();
-    assert!(rt;
-        writer.taken.as_slice() == &begun[..32],
-        "a beginning went out"
-    );
+    let begun = b"HTTP/1.1 200 OK\r\nContent-Type: t".as_slice();
+    assert!(rt; writer.taken.as_slice() == begun, "a beginning went out");
     Ok(())
 }

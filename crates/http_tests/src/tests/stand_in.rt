@@ -20,25 +20,27 @@ pub(crate) struct StandIn {
 }
 
 /// Tells the words of what is asked.
-fn tell(asked: &mut String, words: &[&str]) -> Result<(), Refusal> {
+fn tell(asked: &mut String, words: &[&str]) -> Result<(), AllocError> {
     for word in words {
-        if !asked.is_empty() && asked.push_str(" ").is_err() {
-            return Err(Refusal::NoMemory);
+        if !asked.is_empty() {
+            asked.push_str(" ")?;
         }
-        if asked.push_str(word).is_err() {
-            return Err(Refusal::NoMemory);
-        }
+        asked.push_str(*word)?;
     }
     Ok(())
 }
 
-/// Bytes, as a desk exports them.
-fn exported(alloc: Global, bytes: &[u8]) -> Result<Octets, Refusal> {
+/// Tells what is asked, and gives these bytes.
+fn exported(
+    alloc: Global,
+    asked: &mut String,
+    word: &str,
+    bytes: &[u8],
+) -> Result<Octets, AllocError> {
+    tell(asked, &[word])?;
     let mut copy = Vec::new(alloc);
-    match copy.extend_from_slice(bytes) {
-        Ok(()) => Ok(Octets::new(copy)),
-        Err(AllocError) => Err(Refusal::NoMemory),
-    }
+    copy.extend_from_slice(bytes)?;
+    Ok(Octets::new(copy))
 }
 
 /// What a command is answered.
@@ -71,7 +73,7 @@ impl Answering for StandIn {
     ghost clean = { λ _. ⊤ };
 
     fn person_of(&mut self, token: &Digest) -> Result<Option<Person>, Refusal> {
-        if *token != token_digest(b"a-token-of-olga1") {
+        if *token != token_digest(b"a-token-of-olga1".as_slice()) {
             return Ok(None);
         }
         match PersonName::parse(self.alloc, b"olga") {
@@ -88,16 +90,18 @@ impl Answering for StandIn {
         let Ok(text) = command_text(self.alloc, command) else {
             return Err(Refusal::NoMemory);
         };
-        tell(
-            &mut self.asked,
-            &[caller.name(), key.as_str(), text.as_str()],
-        )?;
+        let words = [caller.name(), key.as_str(), text.as_str()];
+        if tell(&mut self.asked, &words).is_err() {
+            return Err(Refusal::NoMemory);
+        }
         reply(command).ok_or(Refusal::NotYourRole)
     }
 
     fn verdict(&mut self, _facts: &Facts) -> Result<Verdict, Refusal> {
-        tell(&mut self.asked, &["verdict"])?;
-        Ok(Verdict::NotListed)
+        match tell(&mut self.asked, &["verdict"]) {
+            Ok(()) => Ok(Verdict::NotListed),
+            Err(AllocError) => Err(Refusal::NoMemory),
+        }
     }
 
     fn request(
@@ -105,32 +109,44 @@ impl Answering for StandIn {
         caller: &Caller,
         _number: RequestNumber,
     ) -> Result<ShownRequest, Refusal> {
-        tell(&mut self.asked, &["request", caller.name()])?;
-        Err(Refusal::NoSuchRequest)
+        match tell(&mut self.asked, &["request", caller.name()]) {
+            Ok(()) => Err(Refusal::NoSuchRequest),
+            Err(AllocError) => Err(Refusal::NoMemory),
+        }
     }
 
     fn requests_of(&mut self, caller: &Caller) -> Result<ShownRequests, Refusal> {
-        tell(&mut self.asked, &["requests", caller.name()])?;
-        Ok(ShownRequests::new(Vec::new(self.alloc)))
+        match tell(&mut self.asked, &["requests", caller.name()]) {
+            Ok(()) => Ok(ShownRequests::new(Vec::new(self.alloc))),
+            Err(AllocError) => Err(Refusal::NoMemory),
+        }
     }
 
     fn dbx(&mut self, alloc: Global) -> Result<Octets, Refusal> {
-        tell(&mut self.asked, &["dbx"])?;
-        exported(alloc, b"\ndbx")
+        match exported(alloc, &mut self.asked, "dbx", b"\ndbx") {
+            Ok(bytes) => Ok(bytes),
+            Err(AllocError) => Err(Refusal::NoMemory),
+        }
     }
 
     fn db(&mut self, alloc: Global) -> Result<Octets, Refusal> {
-        tell(&mut self.asked, &["db"])?;
-        exported(alloc, b"")
+        match exported(alloc, &mut self.asked, "db", b"") {
+            Ok(bytes) => Ok(bytes),
+            Err(AllocError) => Err(Refusal::NoMemory),
+        }
     }
 
     fn level(&mut self, alloc: Global) -> Result<Octets, Refusal> {
-        tell(&mut self.asked, &["level"])?;
-        exported(alloc, b"sbat,1,2021030218\n")
+        match exported(alloc, &mut self.asked, "level", b"sbat,1,2021030218\n") {
+            Ok(bytes) => Ok(bytes),
+            Err(AllocError) => Err(Refusal::NoMemory),
+        }
     }
 
     fn report(&mut self, alloc: Global) -> Result<Octets, Refusal> {
-        tell(&mut self.asked, &["report"])?;
-        exported(alloc, b"people 1\n")
+        match exported(alloc, &mut self.asked, "report", b"people 1\n") {
+            Ok(bytes) => Ok(bytes),
+            Err(AllocError) => Err(Refusal::NoMemory),
+        }
     }
 }
