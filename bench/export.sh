@@ -3,9 +3,8 @@
 # beside sqlite3's shell on the same file, `SELECT .. ORDER BY digest` into `xxd -r -p`, which writes the same entries:
 #   time     median seconds of processor and clock over the rounds, in turn; whole, and less what opening takes (`desk level`, and a
 #            SELECT of the desk's row)
-#   memory   the most that malloc had given while dbx was written, beyond what it had given when the level's first byte was; and
-#            the most that each process had
-# Fails where the two write other bytes, or where the first of these is over 1 MiB. sqlite3 puts the digests into the desk's file.
+#   memory   the most that malloc had given while dbx was written, beyond what it had given when the level's first byte was
+# Fails where the two write other bytes, or where that is over 1 MiB. sqlite3 puts the digests into the desk's file.
 # Not part of the gate: it needs sqlite3, xxd, python3 and a C compiler, for a malloc that counts.
 set -eu
 root=$(CDPATH='' cd -- "$(dirname -- "$(readlink -f -- "$0")")/.." && pwd -P)
@@ -87,7 +86,7 @@ subprocess.run(["sqlite3", FILE], input=f"BEGIN;\n{rows}COMMIT;\n".encode(), che
 
 
 class Run:
-    """Seconds of processor and clock, the most memory in kB, and both outputs."""
+    """Seconds of processor and clock, and both outputs."""
 
     def __init__(self, line, preload=""):
         with open(f"{ROOM}/out", "wb") as out, open(f"{ROOM}/err", "wb") as err:
@@ -96,7 +95,7 @@ class Run:
             _, status, used = os.wait4(child.pid, 0)
             self.clock = time.perf_counter() - start
         child.returncode = os.waitstatus_to_exitcode(status)
-        self.processor, self.kilobytes = used.ru_utime + used.ru_stime, used.ru_maxrss
+        self.processor = used.ru_utime + used.ru_stime
         self.out, self.err = open(f"{ROOM}/out", "rb").read(), open(f"{ROOM}/err").read()
         if child.returncode:
             sys.exit(f"{line} ended with {child.returncode}: {self.err}")
@@ -118,7 +117,7 @@ if ours[28:] != theirs or len(ours) != 28 + 48 * DIGESTS:
     sys.exit("the shell and the desk write other entries")
 times = {name: [statistics.median(getattr(run, what) for run in all) for what in ("processor", "clock")] for name, all in runs.items()}
 for name, (processor, clock) in times.items():
-    print(f"{name:14} processor {processor:.3f} s, clock {clock:.3f} s, at most {max(run.kilobytes for run in runs[name])} kB")
+    print(f"{name:14} processor {processor:.3f} s, clock {clock:.3f} s")
 ratios = [a / b for a, b in zip(times["desk dbx"], times["sqlite3 | xxd"])]
 print("whole: processor %.2f, clock %.2f of the shell's" % tuple(ratios))
 alone = [(a - b) / (c - d) for a, b, c, d in zip(*(times[name] for name in LINES))]
