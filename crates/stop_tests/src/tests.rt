@@ -3,9 +3,9 @@ use desk_bytes::{Digest, Guid, Refusal};
 use desk_lives::restart;
 use desk_store::Desk;
 use desk_texts::{
-    Ballot, Call, Caller, Carried, Certificate, Command, Components, Digests, Extent, Facts, Import,
-    ImportedComponents, Key, ListedKind, Listing, Note, Person, PersonName, Raise, RequestNumber,
-    ReturnedFile, Role, Submission, Title, Vote,
+    Ballot, Call, Caller, Carried, Certificate, Command, Components, Digests, Extent, Facts,
+    Import, ImportedComponents, Key, ListedKind, Listing, Note, Person, PersonName, Raise,
+    RequestNumber, ReturnedFile, Role, Submission, Title, Vote,
 };
 use sbat::{Component, ComponentName, Generation, Stamp};
 use sqlite::{Connection, FileStore, Files, Options};

@@ -113,7 +113,12 @@ fn command(alloc: Global, key: &str, verb: &str, number: u8) -> Result<Command, 
         "revoke-certificate" => Ok(Command::RevokeCertificate(digest(number))),
         "raise" => raise(alloc, number),
         "import" => import(alloc),
-        role => person(alloc, key, Role::parse(role.as_bytes()).ok_or("a verb")?, number),
+        role => person(
+            alloc,
+            key,
+            Role::parse(role.as_bytes()).ok_or("a verb")?,
+            number,
+        ),
     }
 }
 
@@ -127,6 +132,9 @@ pub(super) fn call(alloc: Global, line: &str) -> Result<Call, Fail> {
     let command = command(alloc, key, verb, number)?;
     let caller = Caller::parse(alloc, who.as_bytes())?;
     let key = Key::parse(alloc, key.as_bytes())?;
-    Ok(Call { caller, key, command })
+    Ok(Call {
+        caller,
+        key,
+        command,
+    })
 }
-
