@@ -59,7 +59,7 @@ C
 cc -shared -fPIC -O1 -o "$room/refuse.so" "$room/refuse.c" -ldl
 
 # The tests whose names have the word; each runs in a process of its own.
-names=$("$program" | grep "$test") || { echo "desk-memory.sh: no test has $test in its name" >&2; exit 1; }
+names=$("$program" --list | sed "s/: test$//" | grep "$test") || { echo "desk-memory.sh: no test has $test in its name" >&2; exit 1; }
 for name in $names; do
     inside=0 elsewhere=0 n=1
     while :; do
@@ -71,7 +71,10 @@ for name in $names; do
         fi
         if [ "$status" -eq 0 ]; then
             inside=$((inside + 1))
-        elif [ "$status" -eq 1 ] && grep -q '^error: ' "$room/err"; then
+        elif [ "$status" -eq 101 ] && grep -q '^error: ' "$room/err"; then
+            elsewhere=$((elsewhere + 1))
+        elif [ "$status" -eq 134 ] && grep -q ': [0-9]* Write$' "$room/err"; then
+            # The writer that the test lends grows too, and an export tells of its refusal as of any other fault of a writer.
             elsewhere=$((elsewhere + 1))
         else
             echo "$name: allocation $n refused: status $status" >&2
