@@ -17,7 +17,7 @@ disk=${DESK_BENCH_DISK:-${TMPDIR:-/tmp}}
 command -v sqlite3 > /dev/null || { echo 'bench/desk.sh: sqlite3 is needed' >&2; exit 1; }
 mkdir -p "$room/crates/desk_bench/src"
 : > "$room/crates.txt"
-for crate in desk_store $(sed -n 's/^desk_store://p' "$root/crates.txt"); do
+for crate in desk_connections desk_store $(sed -n 's/^desk_store://p' "$root/crates.txt"); do
     [ -d "$root/crates/$crate" ] || continue
     mkdir -p "$room/crates/$crate"
     (cd "$root/crates/$crate" && tar -cf - --exclude=out --exclude=must-fail .) | (cd "$room/crates/$crate" && tar -xf -)
@@ -27,7 +27,7 @@ for crate in desk_store $(sed -n 's/^desk_store://p' "$root/crates.txt"); do
     grep "^$crate:" "$root/crates.txt" >> "$room/crates.txt"
 done
 cp "$root/bench/desk/main.rt.txt" "$room/crates/desk_bench/src/main.rt"
-echo 'desk_bench: desk_store desk_rules desk_texts sbat desk_bytes sqlite' >> "$room/crates.txt"
+echo 'desk_bench: desk_connections desk_store desk_rules desk_texts sbat desk_bytes sqlite' >> "$room/crates.txt"
 (cd "$room/crates/desk_bench" && rt run > "$room/build.log" 2>&1) || true
 program="$room/crates/desk_bench/out/desk_bench"
 test -x "$program" || { tail -20 "$room/build.log" >&2; exit 1; }

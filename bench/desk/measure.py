@@ -204,11 +204,11 @@ def opens(paths):
     memory = {}
     print(f"\nopening, milliseconds, median of {ROUNDS}: processor [clock]")
     for size in SIZES:
-        pairs = {"Connection::open": [], "Desk::open": [], "integrity_check": []}
+        pairs = {"connect": [], "Desk::open": [], "integrity_check": []}
         for _ in range(ROUNDS):
             path = copy(paths[size], "open.db")
             times, memory[size] = told(desk("open", path).text)
-            for what in ("Connection::open", "Desk::open"):
+            for what in ("connect", "Desk::open"):
                 pairs[what] += times[what]
             path = copy(paths[size], "check.db")
             empty = shell(path, "SELECT count(*) FROM desk;\n")

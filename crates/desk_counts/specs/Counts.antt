@@ -49,8 +49,9 @@ pub record CountTables (n : Counts) (t : Tables) : Type 0 where
   pub requests : CountRequests n.requests t
   pub lists : CountLists n.lists t
 
--- ---- of the history: the numbers of its report
+-- ---- of the history
 
+-- the numbers of a history's report
 pub record CountHistory (n : Counts) (cs : History) : Type 0 where
   pub people : n.people ≡ length (people cs)
   pub requests : n.requests.all ≡ length (requests cs)

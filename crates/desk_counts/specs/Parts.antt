@@ -6,10 +6,12 @@ use Rattle.desk_history.specs.Tables.{Tables}
 use Rattle.desk_counts.specs.declared.counting.Ended.{Ended}
 use Rattle.desk_counts.specs.declared.counting.Waiting.{Waiting}
 
+-- the requests that wait: for votes, and for the signed file
 pub record CountWaiting (n : Waiting) (t : Tables) : Type 0 where
   pub still_open : n.still_open ≡ count_by (λ r. is_state states.Open r.state) t.requests
   pub approved : n.approved ≡ count_by (λ r. is_state states.Approved r.state) t.requests
 
+-- the requests that nothing more can happen to
 pub record CountEnded (n : Ended) (t : Tables) : Type 0 where
   pub rejected : n.rejected ≡ count_by (λ r. is_state states.Rejected r.state) t.requests
   pub withdrawn : n.withdrawn ≡ count_by (λ r. is_state states.Withdrawn r.state) t.requests

@@ -54,7 +54,8 @@ pub(crate) fn rows_of<S: Alter>(
     ensures same_reference { tx.new.conn.ghost_name ≡ tx.old.conn.ghost_name }
     ensures value { DoesInside S.Store tx.old.conn.now tx.new.conn.now result
         (λ view. Tells (λ t. ShowsLists view t (asked listed.entry revoked.entry named.now))) }
-    ensures only { IfOk result (λ view. HoldsNoOther view (asked listed.entry revoked.entry named.now)) }
+    ensures only { IfOk result (λ view.
+        HoldsNoOther view (asked listed.entry revoked.entry named.now)) }
     ensures inside { StaysInside S.Store tx.old.conn.now tx.new.conn.now result }
     ensures kept { Keeps S.Store tx.old.conn.now tx.new.conn.now }
     ensures survives { Spares S.Store tx.old.conn.now tx.new.conn.now }

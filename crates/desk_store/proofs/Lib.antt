@@ -6,3 +6,4 @@ mod CommitLemmas
 mod DeskLemmas
 mod ClosingLemmas
 mod ShowingLemmas
+mod QuestionLemmas

@@ -1,9 +1,9 @@
 pub mod Pasts
 pub mod Desks
+pub mod Questions
 pub mod Rows
 pub mod Steps
 pub mod Acts
-pub mod Reads
 pub mod Closed
 pub mod Exports
 pub mod Showing

@@ -2,90 +2,24 @@
 ghost use Rattle.std.specs.Prelude.{◌≡◌, ◌≢◌, Err, filter, true, false, IfErr, IfOk, IsErrOf};
 ghost use Rattle.sqlite.specs.Held.{state};
 ghost use Rattle.sqlite.specs.State.{HasCleanDisk};
-ghost use Rattle.desk_counts.specs.Counts.{CountHistory, CountTables};
+ghost use Rattle.desk_counts.specs.Counts.{CountHistory};
 ghost use Rattle.desk_history.specs.People.{has_token, people};
-ghost use Rattle.desk_history.specs.Tables.{tables};
 ghost use Rattle.desk_history.specs.Verdicts as verdicts;
 ghost use Rattle.desk_reads.specs.Failures.{IsFailure};
 ghost use Rattle.desk_reads.specs.Reads.{listed};
 ghost use Rattle.desk_sql.specs.States.{Spares};
 ghost use Rattle.desk_store.specs.Desks.{KeepsDesk, Views};
 
-use crate::asking::{Question, ask};
 use crate::desk::Desk;
+use crate::questions::{HowMany, WhoHas};
 use desk_bytes::{Digest, Refusal};
-use desk_counts::{Counts, counts, tables_count_their_history};
+use desk_counts::{Counts, tables_count_their_history};
 use desk_history::Verdict;
-use desk_reads::{ReadFault, person_of_token};
 use desk_rules::verdict;
 use desk_texts::{Facts, Person};
-use sqlite::{Alter, Transaction};
-use std::alloc::Global;
-
-/// Who has the token of this SHA-256?
-#[derive(Drop)]
-struct WhoHas<'a> {
-    token: &'a Digest,
-}
-
-impl<'a> Question for WhoHas<'a> {
-    type Answer = Option<Person>;
-
-    ghost tells = { λ q person t. filter (has_token q.token.now) t.people ≡ listed person };
-
-    fn read<S: Alter>(
-        &self,
-        alloc: Global,
-        tx: &mut Transaction<'_, S>,
-    ) -> Result<Option<Person>, ReadFault> {
-        person_of_token(alloc, tx, self.token)
-    }
-}
-
-/// How many of everything are there?
-#[derive(Drop)]
-struct HowMany;
-
-impl Question for HowMany {
-    type Answer = Counts;
-
-    ghost tells = { λ _ n t. CountTables n t };
-
-    fn read<S: Alter>(
-        &self,
-        alloc: Global,
-        tx: &mut Transaction<'_, S>,
-    ) -> Result<Counts, ReadFault> {
-        counts(alloc, tx)
-    }
-}
+use sqlite::Alter;
 
 impl<S: Alter + Drop> Desk<S> {
-    /// The answer to the question.
-    fn asked<Q: Question>(&mut self, question: &Q) -> Result<Q::Answer, Refusal>
-        ensures shown { HasCleanDisk (state S.Store self.new.conn) → IfOk result (λ answer.
-            Views S.Store self.old self.new (λ owner cs.
-            Q.Question.tells question.now answer (tables owner cs))) }
-        ensures same { HasCleanDisk (state S.Store self.new.conn) → result ≢ Err Refusal.Store
-            → KeepsDesk S.Store self.old self.new }
-        ensures spares { Spares S.Store self.old.conn self.new.conn }
-        ensures poisons { IsErrOf result Refusal.Store → self.new.needs_reopening ≡ true }
-        ensures closed { self.old.needs_reopening ≡ true
-            → (result ≡ Err Refusal.Reopen) × (self.new ≡ self.old) }
-        ensures named { self.old.needs_reopening ≡ false → IfErr result IsFailure }
-    {
-        if self.needs_reopening {
-            return Err(Refusal::Reopen);
-        }
-        match ask(self.alloc, &mut self.conn, question) {
-            Ok(answer) => Ok(answer),
-            Err(failure) => {
-                self.needs_reopening = failure == Refusal::Store;
-                Err(failure)
-            }
-        }
-    }
-
     /// The person whose token has this SHA-256, if there is one. Takes memory for the row.
     ///
     /// `NoMemory`: memory was refused. `Store`: the store failed, or isn't as a desk left it.

@@ -1,37 +1,45 @@
-//! Questions about a desk's tables, each answered by reads in a transaction that is rolled back.
-ghost use Rattle.std.specs.Prelude.{◌≡◌, ℕ, List, IfErr, IfOk};
+//! Questions about a desk's history, each answered by reads in a transaction that is rolled back.
+ghost use Rattle.std.specs.Prelude.{◌≡◌, ◌≢◌, ℕ, List, Err, true, false, IfErr, IfOk, IsErrOf};
 ghost use Rattle.sqlite.specs.Held.{state};
 ghost use Rattle.sqlite.specs.State.{HasCleanDisk};
 ghost use Rattle.desk_contents.specs.Histories.{ShowsHistory};
 ghost use Rattle.desk_history.specs.Calls.{History};
-ghost use Rattle.desk_history.specs.Tables.{Tables, tables};
+ghost use Rattle.desk_history.specs.Formed.{IsHistory};
 ghost use Rattle.desk_reads.specs.Failures.{IsFailure};
-ghost use Rattle.desk_reads.specs.Reads.{Tells};
 ghost use Rattle.desk_sql.specs.States.{DoesInside, Keeps, Spares, StaysInside};
+ghost use Rattle.desk_store.specs.Desks.{KeepsDesk, Views};
+ghost use Rattle.desk_store.specs.Questions.{Answers};
 
+use crate::desk::Desk;
 use desk_bytes::Refusal;
-use desk_reads::ReadFault;
 use sqlite::{Alter, Connection, Transaction};
 use std::alloc::Global;
 
-/// A question about the desk's tables.
+/// A question about the history that a desk shows.
 pub(crate) trait Question {
     /// What answers it.
     type Answer;
 
-    /// What an answer tells of the tables.
-    ghost tells: { Self → Self.Answer → Tables → Type 0 };
+    /// What an answer tells of a history, with the desk's owner.
+    ghost tells: { Self → Self.Answer → List ℕ → History → Type 0 };
+
+    /// What holds of an answer on any store.
+    ghost bounds: { Self → Self.Answer → Type 0 };
 
     /// Reads the answer. It changes nothing.
     fn read<S: Alter>(
         &self,
         alloc: Global,
         tx: &mut Transaction<'_, S>,
-    ) -> Result<Self::Answer, ReadFault>
+    ) -> Result<Self::Answer, Refusal>
         ensures same_reference { tx.new.conn.ghost_name ≡ tx.old.conn.ghost_name }
         ensures value { DoesInside S.Store tx.old.conn.now tx.new.conn.now result
-            (λ answer. Tells (tells self.now answer)) }
+            (λ answer. Answers (tells self.now answer)) }
+        ensures bound { IfOk result (bounds self.now) }
         ensures inside { StaysInside S.Store tx.old.conn.now tx.new.conn.now result }
+
+        ensures failed { IfErr result IsFailure }
+
         ensures kept { Keeps S.Store tx.old.conn.now tx.new.conn.now }
         ensures survives { Spares S.Store tx.old.conn.now tx.new.conn.now };
 }
@@ -43,8 +51,10 @@ pub(crate) fn ask<S: Alter, Q: Question>(
     question: &Q,
 ) -> Result<Q::Answer, Refusal>
     ensures ok { HasCleanDisk (state S.Store conn.new) → IfOk result (λ answer.
-        (owner : List ℕ) (cs : History) → ShowsHistory (state S.Store conn.old) owner cs
-        → Q.Question.tells question.now answer (tables owner cs)) }
+        (owner : List ℕ) (cs : History) → IsHistory cs
+        → ShowsHistory (state S.Store conn.old) owner cs
+        → Q.Question.tells question.now answer owner cs) }
+    ensures bound { IfOk result (Q.Question.bounds question.now) }
     ensures same { HasCleanDisk (state S.Store conn.new) → (owner : List ℕ) (cs : History)
         → ShowsHistory (state S.Store conn.old) owner cs
         → ShowsHistory (state S.Store conn.new) owner cs }
@@ -59,6 +69,33 @@ pub(crate) fn ask<S: Alter, Q: Question>(
     tx.rollback();
     match read {
         Ok(answer) => Ok(answer),
-        Err(fault) => Err(fault.refusal()),
+        Err(failure) => Err(failure),
+    }
+}
+
+impl<S: Alter + Drop> Desk<S> {
+    /// The answer to the question. Nothing is changed.
+    pub(crate) fn asked<Q: Question>(&mut self, question: &Q) -> Result<Q::Answer, Refusal>
+        ensures shown { HasCleanDisk (state S.Store self.new.conn) → IfOk result (λ answer.
+            Views S.Store self.old self.new (Q.Question.tells question.now answer)) }
+        ensures bound { IfOk result (Q.Question.bounds question.now) }
+        ensures same { HasCleanDisk (state S.Store self.new.conn) → result ≢ Err Refusal.Store
+            → KeepsDesk S.Store self.old self.new }
+        ensures spares { Spares S.Store self.old.conn self.new.conn }
+        ensures poisons { IsErrOf result Refusal.Store → self.new.needs_reopening ≡ true }
+        ensures closed { self.old.needs_reopening ≡ true
+            → (result ≡ Err Refusal.Reopen) × (self.new ≡ self.old) }
+        ensures named { self.old.needs_reopening ≡ false → IfErr result IsFailure }
+    {
+        if self.needs_reopening {
+            return Err(Refusal::Reopen);
+        }
+        match ask(self.alloc, &mut self.conn, question) {
+            Ok(answer) => Ok(answer),
+            Err(failure) => {
+                self.needs_reopening = failure == Refusal::Store;
+                Err(failure)
+            }
+        }
     }
 }

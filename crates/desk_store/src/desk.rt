@@ -23,7 +23,7 @@ use crate::acting::{run, told};
 use crate::forms::call_is_formed;
 use crate::founding::{found_at_once, has_no_tables};
 use crate::opening::{VERSION, read_version};
-use crate::reading::{read_lists, read_view};
+use crate::questions::{ListsFor, RowsFor};
 use desk_bytes::{Guid, Refusal};
 use desk_history::lives_keep_what_was_answered;
 use desk_rules::{ListView, View};
@@ -149,6 +149,8 @@ impl<S: Alter + Drop> Desk<S> {
             (called caller.now key.now command.now) }
         ensures spares { CommitsOnlyAccepted S.Store self.old self.new
             (called caller.now key.now command.now) }
+        ensures clean { HasCleanDisk (state S.Store self.new.conn)
+            → HasCleanDisk (state S.Store self.old.conn) }
         ensures poisons { IsErrOf result Refusal.Store → self.new.needs_reopening ≡ true }
         ensures closed { self.old.needs_reopening ≡ true
             → (result ≡ Err Refusal.Reopen) × (self.new ≡ self.old) }
@@ -191,18 +193,18 @@ impl<S: Alter + Drop> Desk<S> {
             → (result ≡ Err Refusal.Reopen) × (self.new ≡ self.old) }
         ensures named { self.old.needs_reopening ≡ false → IfErr result IsFailure }
     {
-        if self.needs_reopening {
-            return Err(Refusal::Reopen);
-        }
-        match read_view(self.alloc, &mut self.conn, self.sizes, caller, key, command) {
+        let question = RowsFor {
+            sizes: self.sizes,
+            caller,
+            key,
+            command,
+        };
+        match self.asked(&question) {
             Ok(viewed) => {
                 self.sizes = viewed.sizes;
                 Ok(viewed.view)
             }
-            Err(failure) => {
-                self.needs_reopening = failure == Refusal::Store;
-                Err(failure)
-            }
+            Err(failure) => Err(failure),
         }
     }
 
@@ -222,16 +224,7 @@ impl<S: Alter + Drop> Desk<S> {
             → (result ≡ Err Refusal.Reopen) × (self.new ≡ self.old) }
         ensures named { self.old.needs_reopening ≡ false → IfErr result IsFailure }
     {
-        if self.needs_reopening {
-            return Err(Refusal::Reopen);
-        }
-        match read_lists(self.alloc, &mut self.conn, facts) {
-            Ok(view) => Ok(view),
-            Err(failure) => {
-                self.needs_reopening = failure == Refusal::Store;
-                Err(failure)
-            }
-        }
+        self.asked(&ListsFor { facts })
     }
 
     /// Gives the connection back, in whatever state it is.

@@ -31,6 +31,8 @@ impl<S: Alter + Drop> Desk<S> {
         ensures same { HasCleanDisk (state S.Store self.new.conn) → result ≢ Err Refusal.Store
             → KeepsDesk S.Store self.old self.new }
         ensures spares { SparesDesk S.Store self.old self.new }
+        ensures clean { HasCleanDisk (state S.Store self.new.conn)
+            → HasCleanDisk (state S.Store self.old.conn) }
         ensures poisons { IsErrOf result Refusal.Store → self.new.needs_reopening ≡ true }
         ensures closed { self.old.needs_reopening ≡ true → (result ≡ Err Refusal.Reopen)
             × (self.new ≡ self.old) × (writer.new ≡ writer.old) }
@@ -61,6 +63,8 @@ impl<S: Alter + Drop> Desk<S> {
         ensures same { HasCleanDisk (state S.Store self.new.conn) → result ≢ Err Refusal.Store
             → KeepsDesk S.Store self.old self.new }
         ensures spares { SparesDesk S.Store self.old self.new }
+        ensures clean { HasCleanDisk (state S.Store self.new.conn)
+            → HasCleanDisk (state S.Store self.old.conn) }
         ensures poisons { IsErrOf result Refusal.Store → self.new.needs_reopening ≡ true }
         ensures closed { self.old.needs_reopening ≡ true → (result ≡ Err Refusal.Reopen)
             × (self.new ≡ self.old) × (writer.new ≡ writer.old) }
@@ -90,6 +94,8 @@ impl<S: Alter + Drop> Desk<S> {
         ensures same { HasCleanDisk (state S.Store self.new.conn) → result ≢ Err Refusal.Store
             → KeepsDesk S.Store self.old self.new }
         ensures spares { SparesDesk S.Store self.old self.new }
+        ensures clean { HasCleanDisk (state S.Store self.new.conn)
+            → HasCleanDisk (state S.Store self.old.conn) }
         ensures poisons { IsErrOf result Refusal.Store → self.new.needs_reopening ≡ true }
         ensures closed { self.old.needs_reopening ≡ true → (result ≡ Err Refusal.Reopen)
             × (self.new ≡ self.old) × (writer.new ≡ writer.old) }
@@ -119,6 +125,8 @@ impl<S: Alter + Drop> Desk<S> {
         ensures same { HasCleanDisk (state S.Store self.new.conn) → result ≢ Err Refusal.Store
             → KeepsDesk S.Store self.old self.new }
         ensures spares { SparesDesk S.Store self.old self.new }
+        ensures clean { HasCleanDisk (state S.Store self.new.conn)
+            → HasCleanDisk (state S.Store self.old.conn) }
         ensures poisons { IsErrOf result Refusal.Store → self.new.needs_reopening ≡ true }
         ensures closed { self.old.needs_reopening ≡ true → (result ≡ Err Refusal.Reopen)
             × (self.new ≡ self.old) × (writer.new ≡ writer.old) }

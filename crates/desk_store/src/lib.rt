@@ -10,7 +10,7 @@ mod exports;
 mod forms;
 mod founding;
 mod opening;
-mod reading;
+mod questions;
 mod showing;
 
 pub use desk::Desk;

@@ -1,83 +1,18 @@
-//! What people are shown of a desk's requests.
-ghost use Rattle.std.specs.Prelude.{◌≡◌, ◌≢◌, ℕ, List, Err, IfErr, IfOk, IsErrOf, MatchResult, false, true};
+//! What a person is shown of a desk's requests.
+ghost use Rattle.std.specs.Prelude.{◌≡◌, ◌≢◌, Err, MatchResult, false, true};
+ghost use Rattle.std.specs.Prelude.{IfErr, IfOk, IsErrOf};
 ghost use Rattle.sqlite.specs.Held.{state};
 ghost use Rattle.sqlite.specs.State.{HasCleanDisk};
-ghost use Rattle.desk_history.specs.Calls.{History};
-ghost use Rattle.desk_history.specs.Formed.{IsHistory};
-ghost use Rattle.desk_history.specs.Shown.{AreShown, GivesRequest, IsGiven, IsShown};
-ghost use Rattle.desk_history.specs.Shown.{request_for, requests_for};
-ghost use Rattle.desk_contents.specs.Histories.{ShowsHistory};
-ghost use Rattle.desk_reads.specs.Failures.{IsFailure};
-ghost use Rattle.desk_shown.specs.Telling.{IsReaderRefusal, IsRequestRefusal};
+ghost use Rattle.desk_history.specs.Shown.{AreShown, IsShown, request_for, requests_for};
 ghost use Rattle.desk_sql.specs.States.{Spares};
 ghost use Rattle.desk_store.specs.Desks.{KeepsDesk, Views};
-ghost use Rattle.desk_store.specs.Showing.{GivesAll, IsReadingRefusal};
-ghost use Rattle.desk_texts.specs.declared.caller.Caller.TheVariants as callers;
+ghost use Rattle.desk_store.specs.Showing.{IsReadingRefusal};
 
 use crate::desk::Desk;
+use crate::questions::{AllRequests, OneRequest};
 use desk_bytes::Refusal;
-use desk_texts::{Caller, PersonName, RequestNumber, ShownRequest};
-use sqlite::{Alter, Connection};
-use std::alloc::Global;
-
-/// The request of this number, as the person of this name is shown it, or why not. It commits
-/// nothing.
-fn read_request<S: Alter>(
-    alloc: Global,
-    conn: &mut Connection<S>,
-    name: &PersonName,
-    number: RequestNumber,
-) -> Result<Result<ShownRequest, Refusal>, Refusal>
-    ensures ok { HasCleanDisk (state S.Store conn.new) → IfOk result (λ given.
-        GivesAll (state S.Store conn.old)
-        (λ cs. GivesRequest cs (callers.Person name.now) number given)) }
-    ensures told { IfOk result (λ given. IfErr given IsRequestRefusal) }
-    ensures same { HasCleanDisk (state S.Store conn.new) → (owner : List ℕ) (cs : History)
-        → ShowsHistory (state S.Store conn.old) owner cs
-        → ShowsHistory (state S.Store conn.new) owner cs }
-    ensures failed { IfErr result IsFailure }
-    ensures survives { Spares S.Store conn.old conn.new }
-{
-    if !conn.is_autocommit() {
-        return Err(Refusal::Store);
-    }
-    let mut tx = conn.transaction();
-    let read = desk_shown::request(alloc, &mut tx, name, number);
-    tx.rollback();
-    match read {
-        Ok(given) => Ok(given),
-        Err(fault) => Err(fault.refusal()),
-    }
-}
-
-/// The requests that the person of this name is shown, or why none. It commits nothing.
-fn read_requests<S: Alter>(
-    alloc: Global,
-    conn: &mut Connection<S>,
-    name: &PersonName,
-) -> Result<Result<Vec<ShownRequest>, Refusal>, Refusal>
-    ensures ok { HasCleanDisk (state S.Store conn.new) → IfOk result (λ given.
-        GivesAll (state S.Store conn.old)
-        (λ cs. IsGiven (requests_for cs (callers.Person name.now)) given
-        (λ ws shown. AreShown ws shown.items))) }
-    ensures told { IfOk result (λ given. IfErr given IsReaderRefusal) }
-    ensures same { HasCleanDisk (state S.Store conn.new) → (owner : List ℕ) (cs : History)
-        → ShowsHistory (state S.Store conn.old) owner cs
-        → ShowsHistory (state S.Store conn.new) owner cs }
-    ensures failed { IfErr result IsFailure }
-    ensures survives { Spares S.Store conn.old conn.new }
-{
-    if !conn.is_autocommit() {
-        return Err(Refusal::Store);
-    }
-    let mut tx = conn.transaction();
-    let read = desk_shown::requests_of(alloc, &mut tx, name);
-    tx.rollback();
-    match read {
-        Ok(given) => Ok(given),
-        Err(fault) => Err(fault.refusal()),
-    }
-}
+use desk_texts::{Caller, RequestNumber, ShownRequest};
+use sqlite::Alter;
 
 impl<S: Alter + Drop> Desk<S> {
     /// The request of this number, as the caller is shown it: its facts, its state, the votes on it
@@ -112,12 +47,9 @@ impl<S: Alter + Drop> Desk<S> {
         let Caller::Person(name) = caller else {
             return Err(Refusal::NotYourRole);
         };
-        match read_request(self.alloc, &mut self.conn, name, number) {
+        match self.asked(&OneRequest { name, number }) {
             Ok(given) => given,
-            Err(failure) => {
-                self.needs_reopening = failure == Refusal::Store;
-                Err(failure)
-            }
+            Err(failure) => Err(failure),
         }
     }
 
@@ -148,12 +80,9 @@ impl<S: Alter + Drop> Desk<S> {
         let Caller::Person(name) = caller else {
             return Err(Refusal::NotYourRole);
         };
-        match read_requests(self.alloc, &mut self.conn, name) {
-            Ok(shown) => shown,
-            Err(failure) => {
-                self.needs_reopening = failure == Refusal::Store;
-                Err(failure)
-            }
+        match self.asked(&AllRequests { name }) {
+            Ok(given) => given,
+            Err(failure) => Err(failure),
         }
     }
 }

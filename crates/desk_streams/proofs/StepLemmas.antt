@@ -33,10 +33,11 @@ module _ {S X E : Type 0} (g : store.Ghosts S) where
     wrote = λ clean. go r clean (it.wrote clean);
     same = λ owner cs was. it.same owner cs (stays owner cs was);
     spares = λ owner cs was. spares_then (state g a) (state g b) (state g c) spared (it.spares owner cs (stays owner cs was));
+    clean = λ end. omega (arith, spared.clean, it.clean end);
   }
     where
       late : HasCleanDisk (state g c) → (owner : List ℕ) (cs : History) → ShowsHistory (state g a) owner cs → HasCleanDisk (state g b)
-      late clean owner cs was = omega (arith, (it.spares owner cs (stays owner cs was)).clean, clean)
+      late clean owner cs was = it.clean clean
 
       go : (r : Result X E) → HasCleanDisk (state g c) → MatchResult r (λ _. WritesOf (state g b) x y f) (λ _. BeginsOf (state g b) x y f)
           → MatchResult r (λ _. WritesOf (state g a) x y h) (λ _. BeginsOf (state g a) x y h)
@@ -46,7 +47,7 @@ module _ {S X E : Type 0} (g : store.Ghosts S) where
   -- bytes were written before
   pub after_write : (a c : Held S) (x y z : Option (List ℕ)) (r : Result X E) (bs : List ℕ) (f : List ℕ → History → List ℕ) → Appends x y bs → Exports g a c y z r f
       → Exports g a c x z r (λ owner cs. bs ++ f owner cs)
-  after_write a c x y z r bs f put it = record { wrote = λ clean. go r (it.wrote clean); same = it.same; spares = it.spares }
+  after_write a c x y z r bs f put it = record { wrote = λ clean. go r (it.wrote clean); same = it.same; spares = it.spares; clean = it.clean }
     where
       go : (r : Result X E) → MatchResult r (λ _. WritesOf (state g a) y z f) (λ _. BeginsOf (state g a) y z f)
           → MatchResult r (λ _. WritesOf (state g a) x z (λ owner cs. bs ++ f owner cs)) (λ _. BeginsOf (state g a) x z (λ owner cs. bs ++ f owner cs))
@@ -56,7 +57,7 @@ module _ {S X E : Type 0} (g : store.Ghosts S) where
   -- the same bytes in other words
   pub same_bytes : (a c : Held S) (x y : Option (List ℕ)) (r : Result X E) (f h : List ℕ → History → List ℕ) → ((owner : List ℕ) (cs : History) → f owner cs ≡ h owner cs) → Exports g a c x y r f
       → Exports g a c x y r h
-  same_bytes a c x y r f h same it = record { wrote = λ clean. go r (it.wrote clean); same = it.same; spares = it.spares }
+  same_bytes a c x y r f h same it = record { wrote = λ clean. go r (it.wrote clean); same = it.same; spares = it.spares; clean = it.clean }
     where
       go : (r : Result X E) → MatchResult r (λ _. WritesOf (state g a) x y f) (λ _. BeginsOf (state g a) x y f) → MatchResult r (λ _. WritesOf (state g a) x y h) (λ _. BeginsOf (state g a) x y h)
       go (Ok v) w = λ owner cs was. subst (Appends x y) (same owner cs) (w owner cs was)
@@ -69,10 +70,11 @@ module _ {S X E : Type 0} (g : store.Ghosts S) where
     wrote = λ clean. go r clean (two.wrote clean);
     same = λ owner cs was. two.same owner cs (one.same owner cs was);
     spares = λ owner cs was. spares_then (state g a) (state g b) (state g c) (one.spares owner cs was) (two.spares owner cs (one.same owner cs was));
+    clean = λ end. one.clean (two.clean end);
   }
     where
       late : HasCleanDisk (state g c) → (owner : List ℕ) (cs : History) → ShowsHistory (state g a) owner cs → HasCleanDisk (state g b)
-      late clean owner cs was = omega (arith, (two.spares owner cs (one.same owner cs was)).clean, clean)
+      late clean owner cs was = two.clean clean
 
       go : (r : Result X E) → HasCleanDisk (state g c) → MatchResult r (λ _. WritesOf (state g b) y z h) (λ _. BeginsOf (state g b) y z h)
           → MatchResult r (λ _. WritesOf (state g a) x z (λ owner cs. f owner cs ++ h owner cs)) (λ _. BeginsOf (state g a) x z (λ owner cs. f owner cs ++ h owner cs))
@@ -88,12 +90,13 @@ module _ {S X E : Type 0} (g : store.Ghosts S) where
     wrote = λ clean owner cs was. AppendsBeginning-before x y (f owner cs) (h owner cs) (it.wrote clean owner cs was);
     same = it.same;
     spares = it.spares;
+    clean = it.clean;
   }
 
   -- a read stopped, or a write after it
   pub stopped_read : (a b : Held S) (x y : Option (List ℕ)) (e : E) (f : List ℕ → History → List ℕ) → StaysOf (state g a) (state g b) → Survives (state g a) (state g b) (λ _. ⊥)
       → (HasCleanDisk (state g b) → BeginsOf (state g a) x y f) → Exports {X = X} g a b x y (Err e) f
-  stopped_read a b x y e f stays spared begins = record { wrote = begins; same = stays; spares = λ _ _ _. spared }
+  stopped_read a b x y e f stays spared begins = record { wrote = begins; same = stays; spares = λ _ _ _. spared; clean = λ end. omega (arith, spared.clean, end) }
 
   -- a read told that nothing is to be written
   pub nothing : (a b : Held S) (x : Option (List ℕ)) (v : X) (f : List ℕ → History → List ℕ) → StaysOf (state g a) (state g b) → Survives (state g a) (state g b) (λ _. ⊥)
@@ -102,6 +105,7 @@ module _ {S X E : Type 0} (g : store.Ghosts S) where
     wrote = λ clean owner cs was. subst (Appends x x) (sym (none clean owner cs was)) (Appends-nil x);
     same = stays;
     spares = λ _ _ _. spared;
+    clean = λ end. omega (arith, spared.clean, end);
   }
 
   -- a query of the desk's tables
@@ -113,10 +117,11 @@ module _ {S X E : Type 0} (g : store.Ghosts S) where
     wrote = λ clean. go r clean (it.wrote clean);
     same = λ owner cs was. it.same desk_schema (rows_of owner cs) plain was;
     spares = λ owner cs was. it.spares desk_schema (rows_of owner cs) plain was;
+    clean = it.clean;
   }
     where
       early : HasCleanDisk (state g b) → (owner : List ℕ) (cs : History) → ShowsHistory (state g a) owner cs → HasCleanDisk (state g a)
-      early clean owner cs was = omega (arith, (it.spares desk_schema (rows_of owner cs) plain was).clean, clean)
+      early clean owner cs was = it.clean clean
 
       go : (r : Result X E) → HasCleanDisk (state g b)
           → MatchResult r (λ _. WritesAnswer (IsPart shown bytes) text params (state g a) (state g b) x y) (λ _. WritesFirst (IsPart shown bytes) text params (state g a) x y)

@@ -34,6 +34,7 @@ pub record Exports {S X E : Type 0} (g : Ghosts S) (old new : Held S) (before af
   pub wrote : HasCleanDisk (state g new) → MatchResult result (λ _. WritesOf (state g old) before after bytes) (λ _. BeginsOf (state g old) before after bytes)
   pub same : StaysOf (state g old) (state g new)
   pub spares : SparesOf g old new
+  pub clean : HasCleanDisk (state g new) → HasCleanDisk (state g old)
 
 -- how many rows the list has
 abbrev pub size_of : Counted → Tables → ℕ

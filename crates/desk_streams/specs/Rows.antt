@@ -58,3 +58,4 @@ pub record PutsRows {S X E : Type 0} (g : Ghosts S) (spells : Row → List ℕ �
       → MatchResult result (λ _. WritesAnswer spells text params (state g old) (state g new) before after) (λ _. WritesFirst spells text params (state g old) before after)
   pub same : StaysShown text (state g old) (state g new)
   pub spares : SparesShown g text old new
+  pub clean : HasCleanDisk (state g new) → HasCleanDisk (state g old)

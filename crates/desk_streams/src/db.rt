@@ -110,6 +110,7 @@ pub fn export_db<S: Alter, W: Write>(
 
     ensures same { StaysOf (state S.Store conn.old) (state S.Store conn.new) }
     ensures spares { SparesOf S.Store conn.old conn.new }
+    ensures clean { HasCleanDisk (state S.Store conn.new) → HasCleanDisk (state S.Store conn.old) }
 {
     match put_db(alloc, conn, writer) {
         Ok(()) => Ok(()),

@@ -67,6 +67,7 @@ pub fn export_level<S: Alter, W: Write>(
 
     ensures same { StaysOf (state S.Store conn.old) (state S.Store conn.new) }
     ensures spares { SparesOf S.Store conn.old conn.new }
+    ensures clean { HasCleanDisk (state S.Store conn.new) → HasCleanDisk (state S.Store conn.old) }
 {
     match put_level(alloc, conn, writer) {
         Ok(()) => Ok(()),

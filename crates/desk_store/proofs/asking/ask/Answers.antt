@@ -3,8 +3,8 @@ use Rattle.sqlite.specs.Held.{Held, state}
 use Rattle.sqlite.specs.State.{HasCleanDisk, KeepsCommit, Survives}
 use Rattle.desk_contents.specs.Histories.{ShowsHistory}
 use Rattle.desk_history.specs.Calls.{History}
-use Rattle.desk_history.specs.Tables.{tables}
-use Rattle.desk_reads.specs.Reads.{Tells}
+use Rattle.desk_history.specs.Formed.{IsHistory}
+use Rattle.desk_store.specs.Questions.{Answers}
 use Rattle.desk_store.proofs.OpeningLemmas.{undone}
 use Rattle.desk_store.proofs.asking.ask.Goals as goal
 
@@ -33,12 +33,12 @@ returns-in-Ok-clause-ok g c =
     let end = c.rollback.new.self.0 in
     let did = c.in-Ok.ensures in
     let spared : Survives begun (state g.S.Store last) (λ _. ⊥) = rw c.transaction-tx.ensures.begun at did.survives in
-    let told : HasCleanDisk (state g.S.Store last) → Tells (g.Q.Question.tells question answer) begun (state g.S.Store last) =
+    let told : HasCleanDisk (state g.S.Store last) → Answers (g.Q.Question.tells question answer) begun (state g.S.Store last) =
     λ late. (rw c.transaction-tx.ensures.begun at (did.value late)) refl in
     let live : HasCleanDisk (state g.S.Store last) → IsTrue (state g.S.Store last).is_open = λ late. ((rw c.transaction-tx.ensures.begun at (did.inside late)) refl).0 in
     let same : end ≡ c.conn-1.given.0 = search rules in
-    subst (λ (x : Held _). HasCleanDisk (state g.S.Store x) → (owner : List ℕ) (cs : History) → ShowsHistory (state g.S.Store old) owner cs → g.Q.Question.tells question answer (tables owner cs))
-    same (λ clean owner cs shows.
+    subst (λ (x : Held _). HasCleanDisk (state g.S.Store x) → (owner : List ℕ) (cs : History) → IsHistory cs → ShowsHistory (state g.S.Store old) owner cs → g.Q.Question.tells question answer owner cs)
+    same (λ clean owner cs history shows.
     let late : HasCleanDisk (state g.S.Store last) = omega (arith, c.rollback.ensures.survives.clean, clean) in
     let it = told late in
-    it.tells (tables owner cs) (record { inside = refl; holds = (shows.holds (omega (arith, spared.clean, late)) (it.kept.kept.was_open (live late))).0 }))
+    it.tells owner cs history (record { inside = refl; holds = (shows.holds (omega (arith, spared.clean, late)) (it.kept.kept.was_open (live late))).0 }))

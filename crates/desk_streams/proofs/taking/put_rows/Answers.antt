@@ -1,4 +1,4 @@
-use Rattle.std.proofs.Common.{◌≡◌, rules, subst}
+use Rattle.std.proofs.Common.{◌≡◌, arith, rules, subst}
 use Rattle.sqlite.specs.Held.{state}
 use Rattle.sqlite.specs.Values.{bound}
 use Rattle.desk_streams.specs.Rows.{WritesAnswer, WritesFirst}
@@ -18,6 +18,7 @@ returns-in-Ok g c = record {
       subst (λ w. WritesAnswer (g.F.RowForm.spells c.args.form.now) c.args.sql.now (bound c.args.params.now) (state g.S.Store c.args.conn.now) (state g.S.Store c.stream.new.conn) (g.W.Write.contents c.args.writer.now) (g.W.Write.contents w)) end done;
   same = c.in-Ok.ensures.same;
   spares = c.in-Ok.ensures.spares;
+  clean = λ end. omega (arith, c.in-Ok.ensures.survives.clean, end);
 }
 
 pub returns-in-Err-Store : goal.returns-in-Err-Store
@@ -33,6 +34,7 @@ returns-in-Err-Store g c = record {
       subst (λ w. WritesFirst (g.F.RowForm.spells c.args.form.now) text params old (g.W.Write.contents c.args.writer.now) (g.W.Write.contents w)) end all;
   same = c.in-Err-Store.ensures.same;
   spares = c.in-Err-Store.ensures.spares;
+  clean = λ end. omega (arith, c.in-Err-Store.ensures.survives.clean, end);
 }
 
 pub returns-in-Err-Taker : goal.returns-in-Err-Taker
@@ -48,4 +50,5 @@ returns-in-Err-Taker g c = record {
       subst (λ w. WritesFirst (g.F.RowForm.spells c.args.form.now) text params old (g.W.Write.contents c.args.writer.now) (g.W.Write.contents w)) end all;
   same = c.in-Err-Taker.ensures.same;
   spares = c.in-Err-Taker.ensures.spares;
+  clean = λ end. omega (arith, c.in-Err-Taker.ensures.survives.clean, end);
 }

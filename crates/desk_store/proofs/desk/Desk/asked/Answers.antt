@@ -5,7 +5,7 @@ use Rattle.desk_store.proofs.DeskLemmas.{reads_shown}
 use Rattle.desk_store.proofs.desk.Desk.asked.Goals as goal
 
 pub returns-in-Ok-clause-shown : goal.returns-in-Ok-clause-shown
-returns-in-Ok-clause-shown g c clean owner cs was = c.in-Ok.ensures.ok clean owner cs was.shows
+returns-in-Ok-clause-shown g c clean owner cs was = c.in-Ok.ensures.ok clean owner cs was.history was.shows
 
 pub returns-in-Ok-clause-same : goal.returns-in-Ok-clause-same
 returns-in-Ok-clause-same g c clean other owner cs was =

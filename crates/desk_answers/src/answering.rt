@@ -1,0 +1,87 @@
+//! A desk in a store is one that answers.
+ghost use Rattle.std.specs.Prelude.{◌≡◌};
+ghost use Rattle.sqlite.specs.Held.{state};
+ghost use Rattle.sqlite.specs.State.{HasCleanDisk};
+ghost use Rattle.desk_store.specs.Desks.{ShowsDesk};
+
+use crate::open_desk::OpenDesk;
+use desk_bytes::{Digest, Refusal};
+use desk_calls::{Answering, Octets, ShownRequests};
+use desk_history::Verdict;
+use desk_reports::{report, report_is_the_history};
+use desk_texts::{Caller, Command, Facts, Key, Person, Reply, RequestNumber, ShownRequest};
+use sqlite::Alter;
+use std::alloc::Global;
+
+/// What an export into memory failed for: a vector takes each byte that it finds memory for.
+fn into_memory(refusal: Refusal) -> Refusal {
+    if refusal == Refusal::Write {
+        return Refusal::NoMemory;
+    }
+    refusal
+}
+
+impl<S: Alter + Drop> Answering for OpenDesk<S> {
+    ghost shows = { λ kept owner cs. ShowsDesk S.Store kept.desk owner cs };
+
+    ghost clean = { λ kept. HasCleanDisk (state S.Store kept.desk.conn) };
+
+    fn person_of(&mut self, token: &Digest) -> Result<Option<Person>, Refusal> {
+        self.desk.person_of(token)
+    }
+
+    fn apply(&mut self, caller: &Caller, key: &Key, command: &Command) -> Result<Reply, Refusal> {
+        self.desk.apply(caller, key, command)
+    }
+
+    fn verdict(&mut self, facts: &Facts) -> Result<Verdict, Refusal> {
+        self.desk.verdict(facts)
+    }
+
+    fn request(&mut self, caller: &Caller, number: RequestNumber) -> Result<ShownRequest, Refusal> {
+        self.desk.request(caller, number)
+    }
+
+    fn requests_of(&mut self, caller: &Caller) -> Result<ShownRequests, Refusal> {
+        match self.desk.requests_of(caller) {
+            Ok(requests) => Ok(ShownRequests::new(requests)),
+            Err(refusal) => Err(refusal),
+        }
+    }
+
+    fn dbx(&mut self, alloc: Global) -> Result<Octets, Refusal> {
+        let mut bytes = Vec::new(alloc);
+        match self.desk.export_dbx(&mut bytes) {
+            Ok(()) => Ok(Octets::new(bytes)),
+            Err(refusal) => Err(into_memory(refusal)),
+        }
+    }
+
+    fn db(&mut self, alloc: Global) -> Result<Octets, Refusal> {
+        let mut bytes = Vec::new(alloc);
+        match self.desk.export_db(&mut bytes) {
+            Ok(()) => Ok(Octets::new(bytes)),
+            Err(refusal) => Err(into_memory(refusal)),
+        }
+    }
+
+    fn level(&mut self, alloc: Global) -> Result<Octets, Refusal> {
+        let mut bytes = Vec::new(alloc);
+        match self.desk.export_level(&mut bytes) {
+            Ok(()) => Ok(Octets::new(bytes)),
+            Err(refusal) => Err(into_memory(refusal)),
+        }
+    }
+
+    fn report(&mut self, alloc: Global) -> Result<Octets, Refusal> {
+        report_is_the_history();
+        let counts = match self.desk.counts() {
+            Ok(counts) => counts,
+            Err(refusal) => return Err(refusal),
+        };
+        match report(alloc, &counts) {
+            Ok(text) => Ok(Octets::new(text.into_bytes())),
+            Err(_) => Err(Refusal::NoMemory),
+        }
+    }
+}

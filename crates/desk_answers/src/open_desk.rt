@@ -1,0 +1,28 @@
+//! A desk that answers calls.
+ghost use Rattle.std.specs.Prelude.{◌≡◌};
+
+use desk_store::Desk;
+use sqlite::Alter;
+
+/// A desk in a store, as one that answers calls.
+#[derive(Drop)]
+pub struct OpenDesk<S: Alter> {
+    pub(crate) desk: Desk<S>,
+}
+
+impl<S: Alter + Drop> OpenDesk<S> {
+    /// Has the desk answer calls. Takes no memory.
+    pub fn new(desk: Desk<S>) -> OpenDesk<S>
+        ensures { result.desk ≡ desk }
+    {
+        OpenDesk { desk }
+    }
+
+    /// Gives the desk back, as to be closed. Takes no memory.
+    pub fn into_desk(self) -> Desk<S>
+        ensures { result ≡ self.desk }
+    {
+        let OpenDesk { desk } = self;
+        desk
+    }
+}

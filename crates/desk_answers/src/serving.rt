@@ -1,0 +1,21 @@
+//! The answer of a desk in a store.
+ghost use Rattle.std.specs.Prelude.{ℕ, List};
+ghost use Rattle.sqlite.specs.Held.{state};
+ghost use Rattle.sqlite.specs.State.{HasCleanDisk};
+ghost use Rattle.desk_calls.specs.Answers.{Answers, Serves};
+ghost use Rattle.desk_history.specs.Calls.{History};
+ghost use Rattle.desk_store.specs.Desks.{ShowsDesk};
+
+use crate::open_desk::OpenDesk;
+use desk_calls::{Answer, Call};
+use sqlite::Alter;
+use std::alloc::Global;
+
+/// Answers a call, as `desk_calls::answer` does.
+pub fn answer<S: Alter + Drop>(alloc: Global, desk: &mut OpenDesk<S>, call: Call) -> Answer
+    ensures { HasCleanDisk (state S.Store desk.new.desk.conn) → (owner : List ℕ) (cs : History)
+        → ShowsDesk S.Store desk.old.desk owner cs
+        → Serves (ShowsDesk S.Store desk.new.desk owner) cs (Answers owner cs call) result }
+{
+    desk_calls::answer(alloc, desk, call)
+}

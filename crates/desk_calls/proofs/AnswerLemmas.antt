@@ -1,0 +1,85 @@
+-- From what a desk gives to what is answered.
+use Rattle.std.proofs.Common.{◌≡◌, ◌≢◌, ◌⊎◌, inl, inr, ℕ, List, Option, Some, None, Result, Ok, Err, refl, sym, ap, subst}
+use Rattle.desk_bytes.specs.declared.refusal.Refusal.{Refusal}
+use Rattle.desk_bytes.specs.declared.refusal.Refusal.TheVariants as refusals
+use Rattle.desk_texts.specs.declared.command.Command.{Command}
+use Rattle.desk_texts.specs.declared.command.Person.{Person}
+use Rattle.desk_texts.specs.declared.reply.Reply.{Reply}
+use Rattle.desk_history.specs.Calls.{History}
+use Rattle.desk_history.specs.Runs as runs
+use Rattle.desk_history.specs.declared.answer.Answer as ruling
+use Rattle.desk_history.specs.declared.answer.Answer.TheVariants as ruled
+use Rattle.desk_responses.specs.Refusals.{refused_of}
+use Rattle.desk_responses.specs.declared.outage.Outage.TheVariants as outage
+use Rattle.desk_responses.specs.declared.refused.Refused.{Refused}
+use Rattle.desk_responses.specs.declared.refused.Refused.TheVariants as refused
+use Rattle.desk_calls.specs.Answers.{AnswersTask, IsReadAndTaken, IsRefusal, IsRuled, IsTaken, Serves, call_of}
+use Rattle.desk_calls.specs.Bodies.{Gives}
+use Rattle.desk_calls.specs.Desks.{IsOutage}
+use Rattle.desk_calls.specs.declared.answers.Answer.{Answer}
+use Rattle.desk_calls.specs.declared.answers.Answer.TheVariants as answer
+use Rattle.desk_calls.specs.declared.call.Task.{Task}
+use Rattle.desk_calls.proofs.RefusalLemmas.{apart, placeless}
+
+told_memory : (r : Refusal) (x : Refused) → refused_of r ≡ Some x → r ≡ refusals.NoMemory → x ≡ refused.Unavailable outage.NoMemory
+told_memory r x is e = let h : Some (refused.Unavailable outage.NoMemory) ≡ Some x = subst (λ y. refused_of y ≡ Some x) e is in cc
+
+told_store : (r : Refusal) (x : Refused) → refused_of r ≡ Some x → r ≡ refusals.Store → x ≡ refused.Unavailable outage.Store
+told_store r x is e = let h : Some (refused.Unavailable outage.Store) ≡ Some x = subst (λ y. refused_of y ≡ Some x) e is in cc
+
+-- an outage of a desk that was usable is want of memory or a failed store
+pub no_third : (r : Refusal) → IsOutage r → r ≢ refusals.Reopen → r ≢ refusals.NoMemory → r ≢ refusals.Store → ⊥
+no_third r (inl e) no_reopen no_memory no_store = no_memory e
+no_third r (inr (inl e)) no_reopen no_memory no_store = no_store e
+no_third r (inr (inr e)) no_reopen no_memory no_store = no_reopen e
+
+-- a refusal of the desk is an outage, or the answer that is due
+pub serves_refusal : (after : History → Type 0) (cs : History) (due : Answer → History → Type 0) (r : Refusal) (x : Refused)
+    → refused_of r ≡ Some x → (r ≢ refusals.Store → after cs)
+    → (r ≢ refusals.NoMemory → r ≢ refusals.Store → IsRefusal r (answer.Refused x) → due (answer.Refused x) cs)
+    → Serves after cs due (answer.Refused x)
+serves_refusal after cs due r x is same told = elim (apart r) [
+  | inl memory ↦ inr (inl (ap answer.Refused (told_memory r x is memory), same (λ e. let h : refusals.NoMemory ≡ refusals.Store = cc in cc)))
+  | inr (inl store) ↦ inr (inr (ap answer.Refused (told_store r x is store)))
+  | inr (inr others) ↦ inl (cs, told others.0 others.1 (record { refused = x; told = placeless r x is; is = refl }), same others.1)
+]
+
+-- what the rules reply is told
+pub ruled_reply : (said : ruling.Answer) (reply : Reply) → runs.reply_in said ≡ Some reply → IsRuled said (answer.Reply reply)
+ruled_reply (ruled.Accepted given) reply e = cc
+ruled_reply (ruled.Repeated given) reply e = cc
+ruled_reply (ruled.Refused refusal) reply e = let h : None ≡ Some reply = e in absurd (let no : ⊥ = cc in no)
+
+-- what they refuse is told, and changes nothing
+pub taken_refusal : (cs : History) (name key : List ℕ) (command : Command) (r : Refusal) (a : Answer)
+    → runs.answer cs (call_of name key command) ≡ ruled.Refused r → IsRefusal r a → IsTaken cs name key (Ok command) a cs
+taken_refusal cs name key command r a is told =
+    (subst (λ said. IsRuled said a) (sym is) told, rw is refl)
+
+-- a body that is read so is taken as it was read
+pub serves_read : (after : History → Type 0) (cs : History) (name key : List ℕ) (reads : Result Command Refused → Type 0)
+    (read : Result Command Refused) (a : Answer)
+    → Gives reads read → Serves after cs (IsTaken cs name key read) a → Serves after cs (IsReadAndTaken cs name key reads) a
+serves_read after cs name key reads read a (inl is) (inl served) = inl (served.0, (read, is, served.1), served.2)
+serves_read after cs name key reads read a (inl is) (inr failed) = inr failed
+serves_read after cs name key reads read a (inr no_memory) (inl served) =
+    let taken : IsTaken cs name key (Err (refused.Unavailable outage.NoMemory)) a served.0 = subst (λ r. IsTaken cs name key r a served.0) no_memory served.1 in
+    inr (inl (taken.0, subst after taken.1 served.2))
+serves_read after cs name key reads read a (inr no_memory) (inr failed) = inr failed
+
+-- a reply of the rules is the answer
+pub serves_reply : (after : History → Type 0) (cs : History) (name key : List ℕ) (command : Command) (reply : Reply)
+    → runs.reply_in (runs.answer cs (call_of name key command)) ≡ Some reply → after (runs.next cs (call_of name key command))
+    → Serves after cs (IsTaken cs name key (Ok command)) (answer.Reply reply)
+serves_reply after cs name key command reply said shown =
+    inl (runs.next cs (call_of name key command), (ruled_reply (runs.answer cs (call_of name key command)) reply said, refl), shown)
+
+-- the same where the command is read as another that it is
+pub serves_same : (after : History → Type 0) (cs : History) (name key : List ℕ) (x y : Result Command Refused) (a : Answer)
+    → x ≡ y → Serves after cs (IsTaken cs name key x) a → Serves after cs (IsTaken cs name key y) a
+serves_same after cs name key x y a e h = subst (λ read. Serves after cs (IsTaken cs name key read) a) e h
+
+-- the task is this one
+pub serves_task : (after : History → Type 0) (owner : List ℕ) (cs : History) (p : Person) (t u : Task) (a : Answer)
+    → t ≡ u → Serves after cs (AnswersTask owner cs p u) a → Serves after cs (AnswersTask owner cs p t) a
+serves_task after owner cs p t u a e h = subst (λ v. Serves after cs (AnswersTask owner cs p v) a) (sym e) h

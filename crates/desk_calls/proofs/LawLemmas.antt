@@ -1,0 +1,63 @@
+-- Laws of answers.
+use Rattle.std.proofs.Common.{◌≡◌, ◌∙◌, inl, inr, ℕ, List, Result, Ok, Err, Bool, true, false, refl, sym, subst}
+use Rattle.desk_texts.specs.declared.caller.Caller.TheVariants as callers
+use Rattle.desk_texts.specs.declared.command.Command.{Command}
+use Rattle.desk_texts.specs.declared.command.Command.TheVariants as command
+use Rattle.desk_texts.specs.declared.command.Person.{Person}
+use Rattle.desk_history.specs.Calls.{History}
+use Rattle.desk_history.specs.Runs.{is_accepted}
+use Rattle.desk_history.specs.declared.answer.Answer as ruling
+use Rattle.desk_history.specs.declared.answer.Answer.TheVariants as ruled
+use Rattle.desk_history.proofs.ShownLemmas.{submitters_see_own}
+use Rattle.desk_responses.specs.declared.refused.Refused.{Refused}
+use Rattle.desk_calls.specs.Answers.{raise_of, AnswersTask, IsRuled, IsTaken, ShowsRequest, ShowsRequests}
+use Rattle.desk_calls.specs.Bodies.{listing_of}
+use Rattle.desk_calls.specs.Laws.{RefusalsChangeNothing, SubmittersAreAnsweredByOwn}
+use Rattle.desk_calls.specs.declared.answers.Answer.TheVariants as answer
+use Rattle.desk_calls.specs.declared.call.Call.{Call}
+use Rattle.desk_calls.specs.declared.call.Task.{Task}
+use Rattle.desk_calls.specs.declared.call.Task.TheVariants as task
+
+refused_by_rules : (said : ruling.Answer) (x : Refused) → IsRuled said (answer.Refused x) → is_accepted said ≡ false
+refused_by_rules (ruled.Accepted reply) x h = cc
+refused_by_rules (ruled.Repeated reply) x h = refl
+refused_by_rules (ruled.Refused refusal) x h = refl
+
+taken_same : (cs : History) (name key : List ℕ) (read : Result Command Refused) (x : Refused) (later : History)
+    → IsTaken cs name key read (answer.Refused x) later → later ≡ cs
+taken_same cs name key (Err refused) x later h = h.1
+taken_same cs name key (Ok command) x later h = h.1 ∙ rw (refused_by_rules _ x h.0) refl
+
+same : (owner : List ℕ) (cs : History) (p : Person) (t : Task) (x : Refused) (later : History)
+    → AnswersTask owner cs p t (answer.Refused x) later → later ≡ cs
+same owner cs p (task.Submit key title image) x later h = taken_same cs p.name key h.0 x later h.2
+same owner cs p task.Requests x later h = h.1
+same owner cs p (task.Request number) x later h = h.1
+same owner cs p (task.Review key number body) x later h = taken_same cs p.name key (Ok (command.Review (record { request = number; vote = body.vote; note = body.note }))) x later h
+same owner cs p (task.Withdraw key number) x later h = taken_same cs p.name key (Ok (command.Withdraw number)) x later h
+same owner cs p (task.Return key number image) x later h = taken_same cs p.name key h.0 x later h.2
+same owner cs p (task.ListCertificate key body) x later h = taken_same cs p.name key (listing_of body) x later h
+same owner cs p (task.ListDigest key digest) x later h = taken_same cs p.name key (Ok (command.ListDigest digest)) x later h
+same owner cs p (task.Unlist key body) x later h = taken_same cs p.name key (Ok (command.Unlist (record { kind = body.kind; digest = body.digest }))) x later h
+same owner cs p (task.RevokeDigest key digest) x later h = taken_same cs p.name key (Ok (command.RevokeDigest digest)) x later h
+same owner cs p (task.RevokeCertificate key digest) x later h = taken_same cs p.name key (Ok (command.RevokeCertificate digest)) x later h
+same owner cs p (task.RaiseLevel key body) x later h = taken_same cs p.name key (Ok (command.RaiseLevel (raise_of body))) x later h
+same owner cs p (task.ImportDbx key bytes) x later h = taken_same cs p.name key h.0 x later h.2
+same owner cs p (task.ImportCsv key stamp text) x later h = taken_same cs p.name key h.0 x later h.2
+same owner cs p (task.ImportLevel key text) x later h = taken_same cs p.name key h.0 x later h.2
+same owner cs p (task.Verdict image) x later h = h.1
+same owner cs p task.Dbx x later h = h.1
+same owner cs p task.Db x later h = h.1
+same owner cs p task.Level x later h = h.1
+same owner cs p task.Report x later h = h.1
+
+pub refusals_change_nothing : RefusalsChangeNothing
+refusals_change_nothing owner cs call x later h = same owner cs call.person call.task x later h
+
+pub submitters_are_answered_by_own : SubmittersAreAnsweredByOwn
+submitters_are_answered_by_own one other p first second alike =
+    let told = submitters_see_own one other p.name first second alike in
+    record {
+      each = λ here there k a later h. (subst (λ r. ShowsRequest r a) (told.each k) h.0, refl);
+      all = λ here there a later h. (subst (λ r. ShowsRequests r a) told.all h.0, refl);
+    }

@@ -1,0 +1,4 @@
+pub mod AnswerLemmas
+pub mod BodyLemmas
+pub mod LawLemmas
+pub mod RefusalLemmas

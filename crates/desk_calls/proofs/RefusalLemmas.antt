@@ -1,0 +1,195 @@
+-- Which refusals of the desk are told, and that none of these has a place.
+use Rattle.std.proofs.Common.{◌≡◌, ◌≢◌, ◌⊎◌, inl, inr, Option, Some, None, IsSome, IsTrue, true, false, refl, sym, ap, subst, is_some}
+use Rattle.desk_bytes.specs.declared.refusal.Refusal.{Refusal}
+use Rattle.desk_bytes.specs.declared.refusal.Refusal.TheVariants as refusals
+use Rattle.desk_history.specs.DecisionRefusals.{may_answer}
+use Rattle.desk_responses.specs.Refusals.{place_of, refused_of, refusal_of}
+use Rattle.desk_responses.specs.declared.outage.Outage.TheVariants as outage
+use Rattle.desk_responses.specs.declared.refused.Refused.{Refused}
+use Rattle.desk_responses.specs.declared.refused.Refused.TheVariants as refused
+use Rattle.desk_calls.specs.Bodies.{Tells}
+use Rattle.desk_calls.specs.Desks.{IsOutage, IsReadingRefusal}
+
+-- want of memory, a failed store, or neither
+pub apart : (r : Refusal) → (r ≡ refusals.NoMemory) ⊎ ((r ≡ refusals.Store) ⊎ ((r ≢ refusals.NoMemory) × (r ≢ refusals.Store)))
+apart refusals.Short = inr (inr ((λ e. cc), (λ e. cc)))
+apart refusals.NoMz = inr (inr ((λ e. cc), (λ e. cc)))
+apart refusals.NoPe = inr (inr ((λ e. cc), (λ e. cc)))
+apart refusals.Magic = inr (inr ((λ e. cc), (λ e. cc)))
+apart refusals.NotEfi = inr (inr ((λ e. cc), (λ e. cc)))
+apart refusals.Headers = inr (inr ((λ e. cc), (λ e. cc)))
+apart refusals.Sections = inr (inr ((λ e. cc), (λ e. cc)))
+apart refusals.Overlap = inr (inr ((λ e. cc), (λ e. cc)))
+apart refusals.Table = inr (inr ((λ e. cc), (λ e. cc)))
+apart refusals.Der = inr (inr ((λ e. cc), (λ e. cc)))
+apart refusals.TwoSbat = inr (inr ((λ e. cc), (λ e. cc)))
+apart refusals.SbatRow = inr (inr ((λ e. cc), (λ e. cc)))
+apart refusals.TooLong = inr (inr ((λ e. cc), (λ e. cc)))
+apart refusals.Read = inr (inr ((λ e. cc), (λ e. cc)))
+apart refusals.List = inr (inr ((λ e. cc), (λ e. cc)))
+apart refusals.EntrySize = inr (inr ((λ e. cc), (λ e. cc)))
+apart refusals.Write = inr (inr ((λ e. cc), (λ e. cc)))
+apart refusals.Line = inr (inr ((λ e. cc), (λ e. cc)))
+apart refusals.CsvRow = inr (inr ((λ e. cc), (λ e. cc)))
+apart refusals.UnknownCaller = inr (inr ((λ e. cc), (λ e. cc)))
+apart refusals.NotYourRole = inr (inr ((λ e. cc), (λ e. cc)))
+apart refusals.KeyReused = inr (inr ((λ e. cc), (λ e. cc)))
+apart refusals.NoSuchRequest = inr (inr ((λ e. cc), (λ e. cc)))
+apart refusals.WrongState = inr (inr ((λ e. cc), (λ e. cc)))
+apart refusals.OwnRequest = inr (inr ((λ e. cc), (λ e. cc)))
+apart refusals.AlreadyReviewed = inr (inr ((λ e. cc), (λ e. cc)))
+apart refusals.DigestDiffers = inr (inr ((λ e. cc), (λ e. cc)))
+apart refusals.Revoked = inr (inr ((λ e. cc), (λ e. cc)))
+apart refusals.NotListed = inr (inr ((λ e. cc), (λ e. cc)))
+apart refusals.AlreadyRevoked = inr (inr ((λ e. cc), (λ e. cc)))
+apart refusals.NotHigher = inr (inr ((λ e. cc), (λ e. cc)))
+apart refusals.StampNotLater = inr (inr ((λ e. cc), (λ e. cc)))
+apart refusals.AlreadyListed = inr (inr ((λ e. cc), (λ e. cc)))
+apart refusals.NotThere = inr (inr ((λ e. cc), (λ e. cc)))
+apart refusals.NameTaken = inr (inr ((λ e. cc), (λ e. cc)))
+apart refusals.Full = inr (inr ((λ e. cc), (λ e. cc)))
+apart refusals.NoMemory = inl refl
+apart refusals.Store = inr (inl refl)
+apart refusals.Reopen = inr (inr ((λ e. cc), (λ e. cc)))
+apart refusals.NotADesk = inr (inr ((λ e. cc), (λ e. cc)))
+apart refusals.Version = inr (inr ((λ e. cc), (λ e. cc)))
+apart refusals.File = inr (inr ((λ e. cc), (λ e. cc)))
+apart refusals.Exists = inr (inr ((λ e. cc), (λ e. cc)))
+apart refusals.BadHead = inr (inr ((λ e. cc), (λ e. cc)))
+apart refusals.BadField = inr (inr ((λ e. cc), (λ e. cc)))
+apart refusals.BadBody = inr (inr ((λ e. cc), (λ e. cc)))
+apart refusals.NoRoute = inr (inr ((λ e. cc), (λ e. cc)))
+apart refusals.BadMethod = inr (inr ((λ e. cc), (λ e. cc)))
+apart refusals.LengthNeeded = inr (inr ((λ e. cc), (λ e. cc)))
+apart refusals.TooLarge = inr (inr ((λ e. cc), (λ e. cc)))
+apart refusals.NotSupported = inr (inr ((λ e. cc), (λ e. cc)))
+
+not_true : IsTrue false → ⊥
+not_true h = cc
+
+-- the desk's rules refuse by what can be told
+pub told_by_rules : (r : Refusal) → IsTrue (may_answer r) → IsSome (refused_of r)
+told_by_rules refusals.Short h = absurd (not_true h)
+told_by_rules refusals.NoMz h = absurd (not_true h)
+told_by_rules refusals.NoPe h = absurd (not_true h)
+told_by_rules refusals.Magic h = absurd (not_true h)
+told_by_rules refusals.NotEfi h = absurd (not_true h)
+told_by_rules refusals.Headers h = absurd (not_true h)
+told_by_rules refusals.Sections h = absurd (not_true h)
+told_by_rules refusals.Overlap h = absurd (not_true h)
+told_by_rules refusals.Table h = absurd (not_true h)
+told_by_rules refusals.Der h = absurd (not_true h)
+told_by_rules refusals.TwoSbat h = absurd (not_true h)
+told_by_rules refusals.SbatRow h = absurd (not_true h)
+told_by_rules refusals.TooLong h = absurd (not_true h)
+told_by_rules refusals.Read h = absurd (not_true h)
+told_by_rules refusals.List h = absurd (not_true h)
+told_by_rules refusals.EntrySize h = absurd (not_true h)
+told_by_rules refusals.Write h = absurd (not_true h)
+told_by_rules refusals.Line h = absurd (not_true h)
+told_by_rules refusals.CsvRow h = absurd (not_true h)
+told_by_rules refusals.UnknownCaller h = refl
+told_by_rules refusals.NotYourRole h = refl
+told_by_rules refusals.KeyReused h = refl
+told_by_rules refusals.NoSuchRequest h = refl
+told_by_rules refusals.WrongState h = refl
+told_by_rules refusals.OwnRequest h = refl
+told_by_rules refusals.AlreadyReviewed h = refl
+told_by_rules refusals.DigestDiffers h = refl
+told_by_rules refusals.Revoked h = refl
+told_by_rules refusals.NotListed h = refl
+told_by_rules refusals.AlreadyRevoked h = refl
+told_by_rules refusals.NotHigher h = refl
+told_by_rules refusals.StampNotLater h = refl
+told_by_rules refusals.AlreadyListed h = refl
+told_by_rules refusals.NotThere h = refl
+told_by_rules refusals.NameTaken h = refl
+told_by_rules refusals.Full h = refl
+told_by_rules refusals.NoMemory h = refl
+told_by_rules refusals.Store h = absurd (not_true h)
+told_by_rules refusals.Reopen h = absurd (not_true h)
+told_by_rules refusals.NotADesk h = absurd (not_true h)
+told_by_rules refusals.Version h = absurd (not_true h)
+told_by_rules refusals.File h = absurd (not_true h)
+told_by_rules refusals.Exists h = absurd (not_true h)
+told_by_rules refusals.BadHead h = absurd (not_true h)
+told_by_rules refusals.BadField h = absurd (not_true h)
+told_by_rules refusals.BadBody h = absurd (not_true h)
+told_by_rules refusals.NoRoute h = absurd (not_true h)
+told_by_rules refusals.BadMethod h = absurd (not_true h)
+told_by_rules refusals.LengthNeeded h = absurd (not_true h)
+told_by_rules refusals.TooLarge h = absurd (not_true h)
+told_by_rules refusals.NotSupported h = absurd (not_true h)
+
+-- an outage is told
+pub told_outage : (r : Refusal) → IsOutage r → IsSome (refused_of r)
+told_outage r (inl e) = subst (λ x. IsSome (refused_of x)) (sym e) refl
+told_outage r (inr (inl e)) = subst (λ x. IsSome (refused_of x)) (sym e) refl
+told_outage r (inr (inr e)) = subst (λ x. IsSome (refused_of x)) (sym e) refl
+
+-- so is what is refused to those who ask for requests
+pub told_reading : (r : Refusal) → IsReadingRefusal r → IsSome (refused_of r)
+told_reading r (inl e) = subst (λ x. IsSome (refused_of x)) (sym e) refl
+told_reading r (inr (inl e)) = subst (λ x. IsSome (refused_of x)) (sym e) refl
+told_reading r (inr (inr (inl e))) = subst (λ x. IsSome (refused_of x)) (sym e) refl
+told_reading r (inr (inr (inr e))) = told_outage r e
+
+tells_same : (x y : Refused) → Some x ≡ Some y → Tells (refusal_of x) (place_of x) y
+tells_same x y e = let same : x ≡ y = cc in record { of = ap refusal_of (sym same); at = ap place_of (sym same) }
+
+not_some : (y : Refused) → None ≡ Some y → ⊥
+not_some y e = cc
+
+-- a refusal that is told by its row has no place
+pub placeless : (r : Refusal) (x : Refused) → refused_of r ≡ Some x → Tells r None x
+placeless refusals.Short x e = tells_same refused.Short x e
+placeless refusals.NoMz x e = tells_same refused.NoMz x e
+placeless refusals.NoPe x e = tells_same refused.NoPe x e
+placeless refusals.Magic x e = tells_same refused.Magic x e
+placeless refusals.NotEfi x e = tells_same refused.NotEfi x e
+placeless refusals.Headers x e = tells_same refused.Headers x e
+placeless refusals.Sections x e = tells_same refused.Sections x e
+placeless refusals.Overlap x e = tells_same refused.Overlap x e
+placeless refusals.Table x e = tells_same refused.Table x e
+placeless refusals.Der x e = tells_same refused.Der x e
+placeless refusals.TwoSbat x e = tells_same refused.TwoSbat x e
+placeless refusals.SbatRow x e = absurd (not_some x e)
+placeless refusals.TooLong x e = tells_same refused.TooLong x e
+placeless refusals.Read x e = absurd (not_some x e)
+placeless refusals.List x e = absurd (not_some x e)
+placeless refusals.EntrySize x e = absurd (not_some x e)
+placeless refusals.Write x e = absurd (not_some x e)
+placeless refusals.Line x e = absurd (not_some x e)
+placeless refusals.CsvRow x e = absurd (not_some x e)
+placeless refusals.UnknownCaller x e = tells_same refused.UnknownCaller x e
+placeless refusals.NotYourRole x e = tells_same refused.NotYourRole x e
+placeless refusals.KeyReused x e = tells_same refused.KeyReused x e
+placeless refusals.NoSuchRequest x e = tells_same refused.NoSuchRequest x e
+placeless refusals.WrongState x e = tells_same refused.WrongState x e
+placeless refusals.OwnRequest x e = tells_same refused.OwnRequest x e
+placeless refusals.AlreadyReviewed x e = tells_same refused.AlreadyReviewed x e
+placeless refusals.DigestDiffers x e = tells_same refused.DigestDiffers x e
+placeless refusals.Revoked x e = tells_same refused.Revoked x e
+placeless refusals.NotListed x e = tells_same refused.NotListed x e
+placeless refusals.AlreadyRevoked x e = tells_same refused.AlreadyRevoked x e
+placeless refusals.NotHigher x e = tells_same refused.NotHigher x e
+placeless refusals.StampNotLater x e = tells_same refused.StampNotLater x e
+placeless refusals.AlreadyListed x e = tells_same refused.AlreadyListed x e
+placeless refusals.NotThere x e = tells_same refused.NotThere x e
+placeless refusals.NameTaken x e = tells_same refused.NameTaken x e
+placeless refusals.Full x e = tells_same refused.Full x e
+placeless refusals.NoMemory x e = tells_same (refused.Unavailable outage.NoMemory) x e
+placeless refusals.Store x e = tells_same (refused.Unavailable outage.Store) x e
+placeless refusals.Reopen x e = tells_same (refused.Unavailable outage.Reopen) x e
+placeless refusals.NotADesk x e = tells_same (refused.Unavailable outage.NotADesk) x e
+placeless refusals.Version x e = absurd (not_some x e)
+placeless refusals.File x e = absurd (not_some x e)
+placeless refusals.Exists x e = absurd (not_some x e)
+placeless refusals.BadHead x e = tells_same refused.BadHead x e
+placeless refusals.BadField x e = tells_same refused.BadField x e
+placeless refusals.BadBody x e = tells_same refused.BadBody x e
+placeless refusals.NoRoute x e = tells_same refused.NoRoute x e
+placeless refusals.BadMethod x e = absurd (not_some x e)
+placeless refusals.LengthNeeded x e = tells_same refused.LengthNeeded x e
+placeless refusals.TooLarge x e = tells_same refused.TooLarge x e
+placeless refusals.NotSupported x e = tells_same refused.NotSupported x e

@@ -1,0 +1,14 @@
+use Rattle.std.proofs.Common.{◌≡◌, ℕ, List, length, None, nat_lt, false, refl, rules, tests, arith, sym, subst}
+use Rattle.std.proofs.lemmas.Grind.{common_steps}
+use Rattle.desk_imports.specs.FromLists.{tbs_of}
+use Rattle.desk_bytes.specs.Elements.{IsCertificate}
+use Rattle.desk_calls.proofs.BodyLemmas.{lists_none, no_tbs}
+use Rattle.desk_calls.proofs.bodies.listing.Goals as goal
+
+pub returns-in-Err : goal.returns-in-Err
+returns-in-Err c =
+    let same : c.deref.result.now ≡ c.args.body = (let e = c.deref.ensures.value in let f = c.into_vec-bytes.ensures in search (rules, e, f)) in
+    let only : (t : List ℕ) → IsCertificate c.args.body t → ⊥ = subst (λ b. (t : List ℕ) → IsCertificate b t → ⊥) same c.in-Err.ensures.only in
+    let none : tbs_of c.args.body ≡ None = no_tbs c.args.body c.tbs_is_read.ensures.found only in
+    let few : nat_lt 65536 (length c.args.body) ≡ false = (let e = c.if-len-gt-LONGEST_CERTIFICATE.false in let f = c.into_vec-bytes.ensures in let h = c.len.ensures in search (rules, tests, e, f, h)) in
+    sym (lists_none c.args.body few none)

@@ -1,0 +1,144 @@
+-- What a desk that shows a history answers to a call, and the history after it.
+use Rattle.std.specs.Prelude.{◌≡◌, ◌⊎◌, ℕ, List, if◌then◌else◌, None, Result, Ok, Err}
+use Rattle.desk_bytes.specs.declared.refusal.Refusal.{Refusal}
+use Rattle.desk_texts.specs.declared.caller.Caller.TheVariants as callers
+use Rattle.desk_texts.specs.declared.command.Call.{Call as Ruled}
+use Rattle.desk_texts.specs.declared.command.Command.{Command}
+use Rattle.desk_texts.specs.declared.command.Command.TheVariants as command
+use Rattle.desk_texts.specs.declared.command.Person.{Person}
+use Rattle.desk_texts.specs.declared.command.Raise.{Raise}
+use Rattle.desk_texts.specs.declared.facts.Facts.{Facts}
+use Rattle.desk_texts.specs.declared.role.Role.{Role}
+use Rattle.desk_texts.specs.declared.shown.ShownRequest.{ShownRequest}
+use Rattle.desk_history.specs.Calls.{History}
+use Rattle.desk_history.specs.Roles.{is_officer}
+use Rattle.desk_history.specs.Runs as runs
+use Rattle.desk_history.specs.Shown.{AreShown, IsShown, Whole, request_for, requests_for}
+use Rattle.desk_history.specs.Verdicts.{verdict}
+use Rattle.desk_history.specs.declared.answer.Answer as ruling
+use Rattle.desk_history.specs.declared.answer.Answer.TheVariants as ruled
+use Rattle.desk_exports.specs.Exports as exports
+use Rattle.desk_exports.specs.Reports.{report}
+use Rattle.desk_bodies.specs.declared.body.LevelBody.{LevelBody}
+use Rattle.desk_responses.specs.declared.outage.Outage.TheVariants as outage
+use Rattle.desk_responses.specs.declared.refused.Refused.{Refused}
+use Rattle.desk_responses.specs.declared.refused.Refused.TheVariants as refused
+use Rattle.desk_service.specs.ImageFacts.{IsFactsOf}
+use Rattle.desk_calls.specs.Bodies.{ReadsCsv, ReadsDbx, ReadsImage, ReadsLevel, RefusesImage, Tells, listing_of}
+use Rattle.desk_calls.specs.Desks.{called}
+use Rattle.desk_calls.specs.declared.answers.Answer.{Answer}
+use Rattle.desk_calls.specs.declared.answers.Answer.TheVariants as answer
+use Rattle.desk_calls.specs.declared.call.Call.{Call}
+use Rattle.desk_calls.specs.declared.call.Task.{Task}
+use Rattle.desk_calls.specs.declared.call.Task.TheVariants as task
+
+-- a refusal that the desk gives, which has no place
+pub record IsRefusal (row : Refusal) (a : Answer) : Type 0 where
+  pub refused : Refused
+  pub told : Tells row None refused
+  pub is : a ≡ answer.Refused refused
+
+-- ---- commands
+
+-- the call of a command by the person of this name, under a key
+abbrev pub call_of : List ℕ → List ℕ → Command → Ruled
+call_of name key command = called (callers.Person name) key command
+
+-- what the desk's rules say of a call is told
+abbrev pub IsRuled : ruling.Answer → Answer → Type 0
+IsRuled (ruled.Accepted reply) a = a ≡ answer.Reply reply
+IsRuled (ruled.Repeated reply) a = a ≡ answer.Reply reply
+IsRuled (ruled.Refused refusal) a = IsRefusal refusal a
+
+-- own: a body that is refused is answered before the desk's rules are asked, and its key stays free
+abbrev pub IsTaken : History → List ℕ → List ℕ → Result Command Refused → Answer → History → Type 0
+IsTaken cs name key (Err refused) a later = (a ≡ answer.Refused refused) × (later ≡ cs)
+IsTaken cs name key (Ok command) a later =
+    IsRuled (runs.answer cs (call_of name key command)) a × (later ≡ runs.next cs (call_of name key command))
+
+-- the same of a body that is read so
+abbrev pub IsReadAndTaken : History → List ℕ → List ℕ → (Result Command Refused → Type 0) → Answer → History → Type 0
+IsReadAndTaken cs name key reads a later = (read : Result Command Refused) × reads read × IsTaken cs name key read a later
+
+-- ---- what is read of a desk
+
+-- the answer is one that is due, and nothing changes
+abbrev pub IsRead : History → (Answer → Type 0) → Answer → History → Type 0
+IsRead cs due a later = due a × (later ≡ cs)
+
+-- a request is shown, or the refusal that is due
+abbrev pub ShowsRequest : Result Whole Refusal → Answer → Type 0
+ShowsRequest (Ok w) a = (shown : ShownRequest) × IsShown w shown × (a ≡ answer.Request shown)
+ShowsRequest (Err refusal) a = IsRefusal refusal a
+
+-- requests are shown, or the refusal that is due
+abbrev pub ShowsRequests : Result (List Whole) Refusal → Answer → Type 0
+ShowsRequests (Ok ws) a = (shown : List ShownRequest) × AreShown ws shown × (a ≡ answer.Requests shown)
+ShowsRequests (Err refusal) a = IsRefusal refusal a
+
+-- the verdict on an image, or what the image is refused for. own: it needs neither role nor key
+abbrev pub Judges : History → List ℕ → Answer → Type 0
+Judges cs image a =
+    ((x : Facts) × IsFactsOf image x × (a ≡ answer.Verdict (verdict cs x) x))
+    ⊎ ((refused : Refused) × RefusesImage image refused × (a ≡ answer.Refused refused))
+
+-- own: the report is told to officers alone
+abbrev pub report_to : Role → History → Answer
+report_to role cs = if is_officer role then answer.Report (report cs) else answer.Refused refused.NotYourRole
+
+-- ---- every route
+
+-- what the level is raised by
+abbrev pub raise_of : LevelBody → Raise
+raise_of body = record {
+  component = record { name = body.component; generation = body.generation };
+  stamp = body.stamp;
+}
+
+-- The desk that shows the history answers a person's task so, and shows `later` afterwards. Of what is read of a desk
+-- nothing changes.
+abbrev pub AnswersTask : List ℕ → History → Person → Task → Answer → History → Type 0
+AnswersTask owner cs p (task.Submit key title image) =
+    IsReadAndTaken cs p.name key (ReadsImage (λ x. command.Submit (record { title = title; facts = x })) image)
+AnswersTask owner cs p task.Requests = IsRead cs (ShowsRequests (requests_for cs (callers.Person p.name)))
+AnswersTask owner cs p (task.Request number) = IsRead cs (ShowsRequest (request_for cs (callers.Person p.name) number))
+AnswersTask owner cs p (task.Review key number body) =
+    IsTaken cs p.name key (Ok (command.Review (record { request = number; vote = body.vote; note = body.note })))
+AnswersTask owner cs p (task.Withdraw key number) = IsTaken cs p.name key (Ok (command.Withdraw number))
+AnswersTask owner cs p (task.Return key number image) =
+    IsReadAndTaken cs p.name key (ReadsImage (λ x. command.Return (record { request = number; facts = x })) image)
+AnswersTask owner cs p (task.ListCertificate key body) = IsTaken cs p.name key (listing_of body)
+AnswersTask owner cs p (task.ListDigest key digest) = IsTaken cs p.name key (Ok (command.ListDigest digest))
+AnswersTask owner cs p (task.Unlist key body) =
+    IsTaken cs p.name key (Ok (command.Unlist (record { kind = body.kind; digest = body.digest })))
+AnswersTask owner cs p (task.RevokeDigest key digest) = IsTaken cs p.name key (Ok (command.RevokeDigest digest))
+AnswersTask owner cs p (task.RevokeCertificate key digest) = IsTaken cs p.name key (Ok (command.RevokeCertificate digest))
+AnswersTask owner cs p (task.RaiseLevel key body) = IsTaken cs p.name key (Ok (command.RaiseLevel (raise_of body)))
+AnswersTask owner cs p (task.ImportDbx key bytes) = IsReadAndTaken cs p.name key (ReadsDbx bytes)
+AnswersTask owner cs p (task.ImportCsv key stamp text) = IsReadAndTaken cs p.name key (ReadsCsv text stamp)
+AnswersTask owner cs p (task.ImportLevel key text) = IsReadAndTaken cs p.name key (ReadsLevel text)
+AnswersTask owner cs p (task.Verdict image) = IsRead cs (Judges cs image)
+AnswersTask owner cs p task.Dbx = IsRead cs (λ a. a ≡ answer.Dbx (exports.dbx owner cs))
+AnswersTask owner cs p task.Db = IsRead cs (λ a. a ≡ answer.Db (exports.db owner cs))
+AnswersTask owner cs p task.Level = IsRead cs (λ a. a ≡ answer.Level (exports.level cs))
+AnswersTask owner cs p task.Report = IsRead cs (λ a. a ≡ report_to p.role cs)
+
+-- the same of a call
+abbrev pub Answers : List ℕ → History → Call → Answer → History → Type 0
+Answers owner cs call = AnswersTask owner cs call.person call.task
+
+-- ---- what may fail
+
+-- memory was refused
+abbrev pub no_memory : Answer
+no_memory = answer.Refused (refused.Unavailable outage.NoMemory)
+
+-- the store failed
+abbrev pub store_failed : Answer
+store_failed = answer.Refused (refused.Unavailable outage.Store)
+
+-- The answer is one that is due, and the desk shows the history after it; or memory was refused, and it shows the one
+-- before; or the store failed.
+abbrev pub Serves : (History → Type 0) → History → (Answer → History → Type 0) → Answer → Type 0
+Serves shows cs due a =
+    ((later : History) × due a later × shows later) ⊎ (((a ≡ no_memory) × shows cs) ⊎ (a ≡ store_failed))

@@ -1,0 +1,75 @@
+-- What the bodies of commands are read as, and what they are refused for.
+use Rattle.std.specs.Prelude.{◌≡◌, ◌≢◌, ◌⊎◌, ℕ, List, length, nat_lt, if◌then◌else◌, Option, Some, None, Result, Ok, Err}
+use Rattle.sha2.specs.Sha256.{sha256}
+use Rattle.desk_bytes.specs.declared.refusal.Refusal.{Refusal}
+use Rattle.desk_bytes.specs.declared.refusal.Refusal.TheVariants as refusals
+use Rattle.desk_texts.specs.declared.command.Command.{Command}
+use Rattle.desk_texts.specs.declared.command.Command.TheVariants as command
+use Rattle.desk_texts.specs.declared.facts.Facts.{Facts}
+use Rattle.desk_responses.specs.Refusals as told
+use Rattle.desk_responses.specs.declared.outage.Outage.TheVariants as outage
+use Rattle.desk_responses.specs.declared.refused.Refused.{Refused}
+use Rattle.desk_responses.specs.declared.refused.Refused.TheVariants as refused
+use Rattle.desk_service.specs.Faults as facts
+use Rattle.desk_service.specs.ImageFacts.{IsFactsOf, IsFirstFault}
+use Rattle.desk_imports.specs.Faults as imports
+use Rattle.desk_imports.specs.FromCsv.{IsCsvImport, RefusesCsv}
+use Rattle.desk_imports.specs.FromLevel.{IsLevelImport, RefusesLevelImport}
+use Rattle.desk_imports.specs.FromLists.{IsDbxImport, RefusesDbx, tbs_of}
+use Rattle.desk_imports.specs.declared.fault.ImportFault.{ImportFault}
+
+-- a request is refused so for this row of the table of refusals, with this place or none
+pub record Tells (row : Refusal) (place : Option ℕ) (refused : Refused) : Type 0 where
+  pub of : told.refusal_of refused ≡ row
+  pub at : told.place_of refused ≡ place
+
+-- a body is refused so for the first fault in it; want of memory is no fault of a body
+pub record TellsFault {F : Type 0} (is_first : F → Type 0) (row : F → Refusal) (place : F → Option ℕ) (refused : Refused) : Type 0 where
+  pub fault : F
+  pub first : is_first fault
+  pub told : Tells (row fault) (place fault) refused
+  pub own : row fault ≢ refusals.NoMemory
+
+-- an image in memory, of which no read fails, is refused for this
+abbrev pub RefusesImage : List ℕ → Refused → Type 0
+RefusesImage image = TellsFault (IsFirstFault image 0 0) facts.refusal_of facts.place_of
+
+-- its facts are read, or it is refused
+abbrev pub ReadsFacts : List ℕ → Result Facts Refused → Type 0
+ReadsFacts image (Ok x) = IsFactsOf image x
+ReadsFacts image (Err refused) = RefusesImage image refused
+
+-- an image's command, made of its facts
+abbrev pub ReadsImage : (Facts → Command) → List ℕ → Result Command Refused → Type 0
+ReadsImage makes image (Ok command) = (x : Facts) × IsFactsOf image x × (command ≡ makes x)
+ReadsImage makes image (Err refused) = RefusesImage image refused
+
+-- a certificate with the SHA-256 of its TBSCertificate, if it has one
+abbrev pub with_tbs : List ℕ → Option (List ℕ) → Result Command Refused
+with_tbs body None = Err refused.Der
+with_tbs body (Some tbs) = Ok (command.ListCertificate (record { body = body; tbs = sha256 tbs }))
+
+-- own: a certificate of more than 65,536 bytes is too long, whatever they are
+abbrev pub listing_of : List ℕ → Result Command Refused
+listing_of body = if nat_lt 65536 (length body) then Err refused.TooLong else with_tbs body (tbs_of body)
+
+-- an import is the command that its definition makes of it, or is refused for the first fault in it
+abbrev pub ReadsImport : (Command → Type 0) → (ImportFault → Type 0) → Result Command Refused → Type 0
+ReadsImport is first (Ok command) = is command
+ReadsImport is first (Err refused) = TellsFault first imports.refusal_of imports.place_of refused
+
+-- signature lists
+abbrev pub ReadsDbx : List ℕ → Result Command Refused → Type 0
+ReadsDbx bytes = ReadsImport (IsDbxImport bytes) (RefusesDbx bytes)
+
+-- a CSV file, with the stamp that came beside it or none
+abbrev pub ReadsCsv : List ℕ → Option ℕ → Result Command Refused → Type 0
+ReadsCsv text stamp = ReadsImport (IsCsvImport text stamp) (RefusesCsv text)
+
+-- the text of an SBAT level
+abbrev pub ReadsLevel : List ℕ → Result Command Refused → Type 0
+ReadsLevel text = ReadsImport (IsLevelImport text) (RefusesLevelImport text)
+
+-- the code gives this, or tells that memory was refused
+abbrev pub Gives : {A : Type 0} → (Result A Refused → Type 0) → Result A Refused → Type 0
+Gives reads read = reads read ⊎ (read ≡ Err (refused.Unavailable outage.NoMemory))

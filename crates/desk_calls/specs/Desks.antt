@@ -1,0 +1,35 @@
+-- What a desk answers for, whatever it is made of.
+use Rattle.std.specs.Prelude.{◌≡◌, ◌⊎◌, ℕ, List, Option, find}
+use Rattle.desk_bytes.specs.declared.refusal.Refusal.{Refusal}
+use Rattle.desk_bytes.specs.declared.refusal.Refusal.TheVariants as refusals
+use Rattle.desk_texts.specs.declared.caller.Caller.{Caller}
+use Rattle.desk_texts.specs.declared.command.Call.{Call}
+use Rattle.desk_texts.specs.declared.command.Command.{Command}
+use Rattle.desk_texts.specs.declared.command.Person.{Person}
+use Rattle.desk_history.specs.Calls.{History}
+use Rattle.desk_history.specs.People.{has_token, people}
+
+-- this holds of each owner and history that a desk shows
+abbrev pub Views : (List ℕ → History → Type 0) → (List ℕ → History → Type 0) → Type 0
+Views shows told = (owner : List ℕ) (cs : History) → shows owner cs → told owner cs
+
+-- what was shown is shown still
+abbrev pub Keeps : (List ℕ → History → Type 0) → (List ℕ → History → Type 0) → Type 0
+Keeps before after = (owner : List ℕ) (cs : History) → before owner cs → after owner cs
+
+-- the person who has the token of this SHA-256
+abbrev pub person_with : List ℕ → History → Option Person
+person_with token cs = find (has_token token) (people cs)
+
+-- the call of a command, by its parts
+abbrev pub called : Caller → List ℕ → Command → Call
+called caller key command = record { caller = caller; key = key; command = command }
+
+-- own: the desk can answer nothing
+abbrev pub IsOutage : Refusal → Type 0
+IsOutage refusal = (refusal ≡ refusals.NoMemory) ⊎ ((refusal ≡ refusals.Store) ⊎ (refusal ≡ refusals.Reopen))
+
+-- own: what people may be refused who ask for requests
+abbrev pub IsReadingRefusal : Refusal → Type 0
+IsReadingRefusal refusal =
+    (refusal ≡ refusals.NotYourRole) ⊎ ((refusal ≡ refusals.UnknownCaller) ⊎ ((refusal ≡ refusals.NoSuchRequest) ⊎ IsOutage refusal))

@@ -1,0 +1,32 @@
+-- Laws of answers.
+use Rattle.std.specs.Prelude.{◌≡◌, ℕ, List, Some}
+use Rattle.desk_texts.specs.declared.command.Person.{Person}
+use Rattle.desk_texts.specs.declared.role.Role.TheVariants as roles
+use Rattle.desk_history.specs.Calls.{History}
+use Rattle.desk_history.specs.Shown.{own, role_of}
+use Rattle.desk_responses.specs.declared.refused.Refused.{Refused}
+use Rattle.desk_calls.specs.Answers.{Answers, AnswersTask}
+use Rattle.desk_calls.specs.declared.answers.Answer.{Answer}
+use Rattle.desk_calls.specs.declared.answers.Answer.TheVariants as answer
+use Rattle.desk_calls.specs.declared.call.Call.{Call}
+use Rattle.desk_calls.specs.declared.call.Task.TheVariants as task
+
+-- a call that is refused changes nothing, whether its body, the desk's rules or the person's role is why
+abbrev pub RefusalsChangeNothing : Type 0
+RefusalsChangeNothing =
+    (owner : List ℕ) (cs : History) (call : Call) (refused : Refused) (later : History)
+    → Answers owner cs call (answer.Refused refused) later → later ≡ cs
+
+-- who asks desks of these histories for requests is answered by the second as by the first, whatever else they hold
+pub record AnswersAlike (one other : History) (p : Person) : Type 0 where
+  pub each : (first second : List ℕ) (k : ℕ) (a : Answer) (later : History)
+      → AnswersTask first one p (task.Request k) a later → AnswersTask second other p (task.Request k) a other
+  pub all : (first second : List ℕ) (a : Answer) (later : History)
+      → AnswersTask first one p task.Requests a later → AnswersTask second other p task.Requests a other
+
+-- What a submitter is answered who asks for requests comes of own requests alone: it is the same of all histories that have
+-- the same ones.
+abbrev pub SubmittersAreAnsweredByOwn : Type 0
+SubmittersAreAnsweredByOwn =
+    (one other : History) (p : Person) → role_of one p.name ≡ Some roles.Submitter → role_of other p.name ≡ Some roles.Submitter
+    → own one p.name ≡ own other p.name → AnswersAlike one other p

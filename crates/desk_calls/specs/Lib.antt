@@ -1,0 +1,4 @@
+pub mod Answers
+pub mod Bodies
+pub mod Desks
+pub mod Laws

@@ -1,0 +1,133 @@
+//! Desks that answer.
+ghost use Rattle.std.specs.Prelude.{◌≡◌, ◌≢◌, ◌⊎◌, ℕ, List, Err, IfErr, IfOk, IsSome, IsTrue, MatchResult, Some};
+ghost use Rattle.desk_exports.specs.Exports as exports;
+ghost use Rattle.desk_exports.specs.Reports.{report};
+ghost use Rattle.desk_history.specs.Calls.{History};
+ghost use Rattle.desk_history.specs.DecisionRefusals.{may_answer};
+ghost use Rattle.desk_history.specs.Runs.{answer, next, reply_in};
+ghost use Rattle.desk_history.specs.Shown.{AreShown, IsShown, request_for, requests_for};
+ghost use Rattle.desk_history.specs.Verdicts as verdicts;
+ghost use Rattle.desk_history.specs.declared.answer.Answer.TheVariants as ruled;
+ghost use Rattle.desk_calls.specs.Desks.{IsOutage, IsReadingRefusal, Keeps, Views, called, person_with};
+
+use crate::octets::Octets;
+use crate::shown_requests::ShownRequests;
+use desk_bytes::{Digest, Refusal};
+use desk_history::Verdict;
+use desk_texts::{Caller, Command, Facts, Key, Person, Reply, RequestNumber, ShownRequest};
+use std::alloc::Global;
+
+/// A desk that answers for a history of accepted calls. What its clauses say of the history holds where the
+/// disk has kept its promise until the end of the call.
+///
+/// Each call may fail: `NoMemory` where memory was refused, which changes nothing; `Store` where the store failed,
+/// after which the desk shows no history; `Reopen` from then on.
+pub trait Answering {
+    /// The desk answers for this history, with this owner of the entries that it exports.
+    ghost shows: { Self → List ℕ → History → Type 0 };
+
+    /// The disk has returned what was written, so far.
+    ghost clean: { Self → Type 0 };
+
+    /// The person whose token has this SHA-256, if there is one.
+    fn person_of(&mut self, token: &Digest) -> Result<Option<Person>, Refusal>
+        ensures given { clean self.new → IfOk result (λ person. Views (shows self.old)
+            (λ _ cs. person ≡ person_with token.now cs)) }
+        ensures same { clean self.new → result ≢ Err Refusal.Store
+            → Keeps (shows self.old) (shows self.new) }
+        ensures before { clean self.new → clean self.old }
+        ensures named { IfErr result IsOutage }
+        ensures usable { Views (shows self.old) (λ _ _. result ≢ Err Refusal.Reopen) };
+
+    /// Answers the call of a command: an accepted one joins the history. A refusal by the rules changes nothing.
+    fn apply(&mut self, caller: &Caller, key: &Key, command: &Command) -> Result<Reply, Refusal>
+        ensures given { clean self.new → IfOk result (λ reply. Views (shows self.old) (λ owner cs.
+            (reply_in (answer cs (called caller.now key.now command.now)) ≡ Some reply)
+            × shows self.new owner (next cs (called caller.now key.now command.now)))) }
+        ensures refused { clean self.new → IfErr result (λ refusal. refusal ≢ Refusal.NoMemory
+            → refusal ≢ Refusal.Store → Views (shows self.old) (λ _ cs.
+            answer cs (called caller.now key.now command.now) ≡ ruled.Refused refusal)) }
+        ensures same { clean self.new → IfErr result (λ refusal. refusal ≢ Refusal.Store
+            → Keeps (shows self.old) (shows self.new)) }
+        ensures before { clean self.new → clean self.old }
+        ensures named { IfErr result (λ refusal. IsTrue (may_answer refusal) ⊎ IsOutage refusal) }
+        ensures usable { Views (shows self.old) (λ _ _. result ≢ Err Refusal.Reopen) };
+
+    /// What the desk says of the image.
+    fn verdict(&mut self, facts: &Facts) -> Result<Verdict, Refusal>
+        ensures given { clean self.new → IfOk result (λ said. Views (shows self.old)
+            (λ _ cs. said ≡ verdicts.verdict cs facts.now)) }
+        ensures same { clean self.new → result ≢ Err Refusal.Store
+            → Keeps (shows self.old) (shows self.new) }
+        ensures before { clean self.new → clean self.old }
+        ensures named { IfErr result IsOutage }
+        ensures usable { Views (shows self.old) (λ _ _. result ≢ Err Refusal.Reopen) };
+
+    /// The request of this number, as the caller is shown it.
+    fn request(&mut self, caller: &Caller, number: RequestNumber) -> Result<ShownRequest, Refusal>
+        ensures given { clean self.new → IfOk result (λ shown. Views (shows self.old)
+            (λ _ cs. MatchResult (request_for cs caller.now number)
+            (λ w. IsShown w shown) (λ _. ⊥))) }
+        ensures refused { clean self.new → IfErr result (λ refusal. refusal ≢ Refusal.NoMemory
+            → refusal ≢ Refusal.Store → Views (shows self.old)
+            (λ _ cs. request_for cs caller.now number ≡ Err refusal)) }
+        ensures same { clean self.new → result ≢ Err Refusal.Store
+            → Keeps (shows self.old) (shows self.new) }
+        ensures before { clean self.new → clean self.old }
+        ensures named { IfErr result IsReadingRefusal }
+        ensures usable { Views (shows self.old) (λ _ _. result ≢ Err Refusal.Reopen) };
+
+    /// The requests that the caller is shown, ascending by number.
+    fn requests_of(&mut self, caller: &Caller) -> Result<ShownRequests, Refusal>
+        ensures given { clean self.new → IfOk result (λ shown. Views (shows self.old)
+            (λ _ cs. MatchResult (requests_for cs caller.now)
+            (λ ws. AreShown ws shown) (λ _. ⊥))) }
+        ensures refused { clean self.new → IfErr result (λ refusal. refusal ≢ Refusal.NoMemory
+            → refusal ≢ Refusal.Store → Views (shows self.old)
+            (λ _ cs. requests_for cs caller.now ≡ Err refusal)) }
+        ensures same { clean self.new → result ≢ Err Refusal.Store
+            → Keeps (shows self.old) (shows self.new) }
+        ensures before { clean self.new → clean self.old }
+        ensures named { IfErr result IsReadingRefusal }
+        ensures usable { Views (shows self.old) (λ _ _. result ≢ Err Refusal.Reopen) };
+
+    /// The bytes of dbx.
+    fn dbx(&mut self, alloc: Global) -> Result<Octets, Refusal>
+        ensures given { clean self.new → IfOk result (λ bytes. Views (shows self.old)
+            (λ owner cs. bytes ≡ exports.dbx owner cs)) }
+        ensures same { clean self.new → result ≢ Err Refusal.Store
+            → Keeps (shows self.old) (shows self.new) }
+        ensures before { clean self.new → clean self.old }
+        ensures named { IfErr result IsOutage }
+        ensures usable { Views (shows self.old) (λ _ _. result ≢ Err Refusal.Reopen) };
+
+    /// The bytes of db.
+    fn db(&mut self, alloc: Global) -> Result<Octets, Refusal>
+        ensures given { clean self.new → IfOk result (λ bytes. Views (shows self.old)
+            (λ owner cs. bytes ≡ exports.db owner cs)) }
+        ensures same { clean self.new → result ≢ Err Refusal.Store
+            → Keeps (shows self.old) (shows self.new) }
+        ensures before { clean self.new → clean self.old }
+        ensures named { IfErr result IsOutage }
+        ensures usable { Views (shows self.old) (λ _ _. result ≢ Err Refusal.Reopen) };
+
+    /// The text of the level.
+    fn level(&mut self, alloc: Global) -> Result<Octets, Refusal>
+        ensures given { clean self.new → IfOk result (λ bytes. Views (shows self.old)
+            (λ _ cs. bytes ≡ exports.level cs)) }
+        ensures same { clean self.new → result ≢ Err Refusal.Store
+            → Keeps (shows self.old) (shows self.new) }
+        ensures before { clean self.new → clean self.old }
+        ensures named { IfErr result IsOutage }
+        ensures usable { Views (shows self.old) (λ _ _. result ≢ Err Refusal.Reopen) };
+
+    /// The text of the report.
+    fn report(&mut self, alloc: Global) -> Result<Octets, Refusal>
+        ensures given { clean self.new → IfOk result (λ bytes. Views (shows self.old)
+            (λ _ cs. bytes ≡ report cs)) }
+        ensures same { clean self.new → result ≢ Err Refusal.Store
+            → Keeps (shows self.old) (shows self.new) }
+        ensures before { clean self.new → clean self.old }
+        ensures named { IfErr result IsOutage }
+        ensures usable { Views (shows self.old) (λ _ _. result ≢ Err Refusal.Reopen) };
+}

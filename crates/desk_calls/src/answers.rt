@@ -1,0 +1,28 @@
+//! What calls are answered.
+use crate::octets::Octets;
+use crate::shown_requests::ShownRequests;
+use desk_history::Verdict;
+use desk_responses::Refused;
+use desk_texts::{Facts, Reply, ShownRequest};
+
+/// What the desk answers to a call.
+#[derive(Drop)]
+pub enum Answer {
+    /// The command was accepted, now or under the same key before.
+    Reply(Reply),
+    Request(ShownRequest),
+    /// Ascending by number.
+    Requests(ShownRequests),
+    /// On the image of these facts.
+    Verdict(Verdict, Facts),
+    /// Signature lists.
+    Dbx(Octets),
+    /// Signature lists.
+    Db(Octets),
+    /// SBAT text.
+    Level(Octets),
+    /// Fourteen lines of text.
+    Report(Octets),
+    /// With the place that the refusal tells, if it tells one.
+    Refused(Refused),
+}

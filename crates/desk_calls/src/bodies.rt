@@ -1,0 +1,175 @@
+//! The bodies of calls, read.
+ghost use Rattle.std.specs.Prelude.{◌≡◌};
+ghost use Rattle.desk_texts.specs.declared.command.Command.TheVariants as command;
+ghost use Rattle.desk_calls.specs.Answers.{raise_of};
+ghost use Rattle.desk_calls.specs.Bodies as spec;
+
+use crate::octets::Octets;
+use crate::refusing::{NO_MEMORY, of_facts, of_import};
+use desk_bodies::{LevelBody, ReviewBody, UnlistBody};
+use desk_bytes::{Refusal, tbs};
+use desk_imports::{import_csv, import_dbx, import_level, tbs_is_read};
+use desk_responses::Refused;
+use desk_service::{facts, token_digest};
+use desk_texts::{
+    Ballot, Certificate, Command, Facts, LONGEST_CERTIFICATE, Listing, Raise, RequestNumber,
+    ReturnedFile, Submission, Title,
+};
+use pe_image::{Pieces, no_slice_fails};
+use sbat::{Component, Stamp};
+use std::alloc::Global;
+
+/// The facts of an image.
+pub(crate) fn read_facts(alloc: Global, image: Pieces) -> Result<Facts, Refused>
+    ensures { spec.Gives (spec.ReadsFacts image) result }
+{
+    no_slice_fails();
+    let mut source = image;
+    match facts(alloc, &mut source) {
+        Ok(found) => Ok(found),
+        Err(fault) => {
+            if fault.refusal() == Refusal::NoMemory {
+                return Err(NO_MEMORY);
+            }
+            Err(of_facts(fault))
+        }
+    }
+}
+
+/// The command of a request of this title to sign the image.
+pub(crate) fn submission(alloc: Global, title: Title, image: Pieces) -> Result<Command, Refused>
+    ensures { spec.Gives (spec.ReadsImage
+        (λ x. command.Submit (record { title = title; facts = x })) image) result }
+{
+    match read_facts(alloc, image) {
+        Ok(facts) => Ok(Command::Submit(Submission { title, facts })),
+        Err(refused) => Err(refused),
+    }
+}
+
+/// The command that returns the signed image of a request.
+pub(crate) fn returned(
+    alloc: Global,
+    request: RequestNumber,
+    image: Pieces,
+) -> Result<Command, Refused>
+    ensures { spec.Gives (spec.ReadsImage
+        (λ x. command.Return (record { request = request; facts = x })) image) result }
+{
+    match read_facts(alloc, image) {
+        Ok(facts) => Ok(Command::Return(ReturnedFile { request, facts })),
+        Err(refused) => Err(refused),
+    }
+}
+
+/// The command of a review.
+pub(crate) fn review(request: RequestNumber, body: ReviewBody) -> Command
+    ensures { result ≡ command.Review (record {
+      request = request;
+      vote = body.vote;
+      note = body.note;
+    }) }
+{
+    let ReviewBody { note, vote } = body;
+    Command::Review(Ballot {
+        request,
+        vote,
+        note,
+    })
+}
+
+/// The command that takes an entry off the list.
+pub(crate) fn unlisting(body: UnlistBody) -> Command
+    ensures { result ≡ command.Unlist (record { kind = body.kind; digest = body.digest }) }
+{
+    Command::Unlist(Listing {
+        kind: body.kind,
+        digest: body.digest,
+    })
+}
+
+/// The command that raises the level.
+pub(crate) fn raise(body: LevelBody) -> Command
+    ensures { result ≡ command.RaiseLevel (raise_of body) }
+{
+    let LevelBody {
+        component,
+        generation,
+        stamp,
+    } = body;
+    Command::RaiseLevel(Raise {
+        component: Component {
+            name: component,
+            generation,
+        },
+        stamp,
+    })
+}
+
+/// The command that lists a certificate.
+pub(crate) fn listing(body: Octets) -> Result<Command, Refused>
+    ensures { result ≡ spec.listing_of body }
+{
+    tbs_is_read();
+    let bytes = body.into_vec();
+    if LONGEST_CERTIFICATE < bytes.len() {
+        return Err(Refused::TooLong);
+    }
+    let digest = match tbs(&bytes) {
+        Ok(inner) => token_digest(inner),
+        Err(_) => return Err(Refused::Der),
+    };
+    match Certificate::new(bytes, digest) {
+        Some(certificate) => Ok(Command::ListCertificate(certificate)),
+        None => unreachable!(),
+    }
+}
+
+/// The command that signature lists are.
+pub(crate) fn from_dbx(alloc: Global, body: &Octets) -> Result<Command, Refused>
+    ensures { spec.Gives (spec.ReadsDbx body.now) result }
+{
+    match import_dbx(alloc, body.as_slice()) {
+        Ok(command) => Ok(command),
+        Err(fault) => {
+            if fault.refusal() == Refusal::NoMemory {
+                return Err(NO_MEMORY);
+            }
+            Err(of_import(fault))
+        }
+    }
+}
+
+/// The command that a CSV file is.
+pub(crate) fn from_csv(
+    alloc: Global,
+    body: &Octets,
+    stamp: Option<Stamp>,
+) -> Result<Command, Refused>
+    ensures { spec.Gives (spec.ReadsCsv body.now stamp) result }
+{
+    match import_csv(alloc, body.as_slice(), stamp) {
+        Ok(command) => Ok(command),
+        Err(fault) => {
+            if fault.refusal() == Refusal::NoMemory {
+                return Err(NO_MEMORY);
+            }
+            Err(of_import(fault))
+        }
+    }
+}
+
+/// The command that the text of an SBAT level is.
+pub(crate) fn from_level(alloc: Global, body: &Octets) -> Result<Command, Refused>
+    ensures { spec.Gives (spec.ReadsLevel body.now) result }
+{
+    match import_level(alloc, body.as_slice()) {
+        Ok(command) => Ok(command),
+        Err(fault) => {
+            if fault.refusal() == Refusal::NoMemory {
+                return Err(NO_MEMORY);
+            }
+            Err(of_import(fault))
+        }
+    }
+}

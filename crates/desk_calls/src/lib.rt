@@ -1,0 +1,22 @@
+//! Calls of the desk and their answers: what people call it for, and what any desk that shows a history answers.
+#![tactic(auto)]
+
+mod answering;
+mod answers;
+mod bodies;
+mod call;
+mod laws;
+mod octets;
+mod reading;
+mod refusing;
+mod serving;
+mod shown_requests;
+mod taking;
+
+pub use answering::Answering;
+pub use answers::Answer;
+pub use call::{Call, Task};
+pub use laws::{refusals_change_nothing, submitters_are_answered_by_own};
+pub use octets::Octets;
+pub use serving::{answer, caller};
+pub use shown_requests::ShownRequests;

@@ -1,0 +1,123 @@
+//! What is read of a desk.
+ghost use Rattle.std.specs.Prelude.{◌≡◌, ℕ, List};
+ghost use Rattle.desk_exports.specs.Exports as exports;
+ghost use Rattle.desk_history.specs.Calls.{History};
+ghost use Rattle.desk_history.specs.Shown as shown;
+ghost use Rattle.desk_texts.specs.declared.caller.Caller.TheVariants as callers;
+ghost use Rattle.desk_calls.specs.Answers as spec;
+
+use crate::answering::Answering;
+use crate::answers::Answer;
+use crate::bodies::read_facts;
+use crate::refusing::told;
+use desk_responses::Refused;
+use desk_texts::{Caller, PersonName, RequestNumber, Role};
+use pe_image::Pieces;
+use std::alloc::Global;
+
+/// The request of this number, as the person of this name is shown it.
+pub(crate) fn request<D: Answering>(desk: &mut D, name: PersonName, number: RequestNumber) -> Answer
+    ensures served { D.clean desk.new → (owner : List ℕ) (cs : History)
+        → D.shows desk.old owner cs
+        → spec.Serves (D.shows desk.new owner) cs (spec.IsRead cs
+        (spec.ShowsRequest (shown.request_for cs (callers.Person name) number))) result }
+    ensures before { D.clean desk.new → D.clean desk.old }
+{
+    match desk.request(&Caller::Person(name), number) {
+        Ok(request) => Answer::Request(request),
+        Err(refusal) => Answer::Refused(told(refusal)),
+    }
+}
+
+/// The requests that the person of this name is shown.
+pub(crate) fn requests<D: Answering>(desk: &mut D, name: PersonName) -> Answer
+    ensures served { D.clean desk.new → (owner : List ℕ) (cs : History)
+        → D.shows desk.old owner cs
+        → spec.Serves (D.shows desk.new owner) cs (spec.IsRead cs
+        (spec.ShowsRequests (shown.requests_for cs (callers.Person name)))) result }
+    ensures before { D.clean desk.new → D.clean desk.old }
+{
+    match desk.requests_of(&Caller::Person(name)) {
+        Ok(requests) => Answer::Requests(requests),
+        Err(refusal) => Answer::Refused(told(refusal)),
+    }
+}
+
+/// What the desk says of the image.
+pub(crate) fn judge<D: Answering>(alloc: Global, desk: &mut D, image: Pieces) -> Answer
+    ensures served { D.clean desk.new → (owner : List ℕ) (cs : History)
+        → D.shows desk.old owner cs
+        → spec.Serves (D.shows desk.new owner) cs (spec.IsRead cs (spec.Judges cs image)) result }
+    ensures before { D.clean desk.new → D.clean desk.old }
+{
+    let found = match read_facts(alloc, image) {
+        Ok(found) => found,
+        Err(refused) => return Answer::Refused(refused),
+    };
+    match desk.verdict(&found) {
+        Ok(said) => Answer::Verdict(said, found),
+        Err(refusal) => Answer::Refused(told(refusal)),
+    }
+}
+
+/// The bytes of dbx.
+pub(crate) fn dbx<D: Answering>(alloc: Global, desk: &mut D) -> Answer
+    ensures served { D.clean desk.new → (owner : List ℕ) (cs : History)
+        → D.shows desk.old owner cs
+        → spec.Serves (D.shows desk.new owner) cs (spec.IsRead cs
+        (λ a. a ≡ Answer.Dbx (exports.dbx owner cs))) result }
+    ensures before { D.clean desk.new → D.clean desk.old }
+{
+    match desk.dbx(alloc) {
+        Ok(bytes) => Answer::Dbx(bytes),
+        Err(refusal) => Answer::Refused(told(refusal)),
+    }
+}
+
+/// The bytes of db.
+pub(crate) fn db<D: Answering>(alloc: Global, desk: &mut D) -> Answer
+    ensures served { D.clean desk.new → (owner : List ℕ) (cs : History)
+        → D.shows desk.old owner cs
+        → spec.Serves (D.shows desk.new owner) cs (spec.IsRead cs
+        (λ a. a ≡ Answer.Db (exports.db owner cs))) result }
+    ensures before { D.clean desk.new → D.clean desk.old }
+{
+    match desk.db(alloc) {
+        Ok(bytes) => Answer::Db(bytes),
+        Err(refusal) => Answer::Refused(told(refusal)),
+    }
+}
+
+/// The text of the level.
+pub(crate) fn level<D: Answering>(alloc: Global, desk: &mut D) -> Answer
+    ensures served { D.clean desk.new → (owner : List ℕ) (cs : History)
+        → D.shows desk.old owner cs
+        → spec.Serves (D.shows desk.new owner) cs (spec.IsRead cs
+        (λ a. a ≡ Answer.Level (exports.level cs))) result }
+    ensures before { D.clean desk.new → D.clean desk.old }
+{
+    match desk.level(alloc) {
+        Ok(text) => Answer::Level(text),
+        Err(refusal) => Answer::Refused(told(refusal)),
+    }
+}
+
+/// The text of the report, for an officer.
+pub(crate) fn report<D: Answering>(alloc: Global, desk: &mut D, role: Role) -> Answer
+    ensures served { D.clean desk.new → (owner : List ℕ) (cs : History)
+        → D.shows desk.old owner cs
+        → spec.Serves (D.shows desk.new owner) cs (spec.IsRead cs
+        (λ a. a ≡ spec.report_to role cs)) result }
+    ensures before { D.clean desk.new → D.clean desk.old }
+{
+    match role {
+        Role::Officer => {}
+        Role::Submitter | Role::Reviewer | Role::Signer => {
+            return Answer::Refused(Refused::NotYourRole);
+        }
+    }
+    match desk.report(alloc) {
+        Ok(text) => Answer::Report(text),
+        Err(refusal) => Answer::Refused(told(refusal)),
+    }
+}

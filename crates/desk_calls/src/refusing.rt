@@ -1,0 +1,130 @@
+//! Faults of bodies, and refusals of a desk, as a request is told them.
+ghost use Rattle.std.specs.Prelude.{◌≡◌, ◌≢◌, IsSome, None, Some};
+ghost use Rattle.authenticode.specs.Faults as carried;
+ghost use Rattle.pe_image.specs.Faults as layout;
+ghost use Rattle.sbat.specs.Refusals as sbat_faults;
+ghost use Rattle.siglist.specs.ListsFaults as lists;
+ghost use Rattle.desk_imports.specs.Faults as imports;
+ghost use Rattle.desk_service.specs.Faults as facts;
+ghost use Rattle.desk_responses.specs.Refusals.{outage_refusal, refused_of};
+ghost use Rattle.desk_calls.specs.Bodies.{Tells};
+ghost use Rattle.desk_calls.specs.Desks.{IsOutage};
+
+use authenticode::CarriedFault;
+use desk_bytes::Refusal;
+use desk_imports::ImportFault;
+use desk_responses::{Outage, Refused};
+use desk_service::FactsFault;
+use pe_image::LayoutFault;
+use sbat::SbatFault;
+use siglist::ListsFault;
+
+/// Want of memory.
+pub(crate) const NO_MEMORY: Refused = Refused::Unavailable(Outage::NoMemory);
+
+/// A refusal without a place.
+pub(crate) fn told(refusal: Refusal) -> Refused
+    requires { IsSome (refused_of refusal) }
+    ensures value { refused_of refusal ≡ Some result }
+    ensures tells { Tells refusal None result }
+{
+    match Refused::of(refusal) {
+        Some(refused) => refused,
+        None => unreachable!(),
+    }
+}
+
+/// Why the desk can answer nothing.
+pub(crate) fn outage(refusal: Refusal) -> Outage
+    requires { IsOutage refusal }
+    ensures { outage_refusal result ≡ refusal }
+{
+    if refusal == Refusal::NoMemory {
+        return Outage::NoMemory;
+    }
+    if refusal == Refusal::Store {
+        return Outage::Store;
+    }
+    Outage::Reopen
+}
+
+/// What an image without a layout is refused for, of which every read succeeded.
+fn of_layout(fault: LayoutFault) -> Refused
+    requires { layout.refusal_of fault ≢ Refusal.Read }
+    ensures { Tells (layout.refusal_of fault) None result }
+{
+    match fault {
+        LayoutFault::Short => Refused::Short,
+        LayoutFault::NoMz => Refused::NoMz,
+        LayoutFault::NoPe => Refused::NoPe,
+        LayoutFault::Magic => Refused::Magic,
+        LayoutFault::NotEfi => Refused::NotEfi,
+        LayoutFault::Headers => Refused::Headers,
+        LayoutFault::Sections => Refused::Sections,
+        LayoutFault::Overlap => Refused::Overlap,
+        LayoutFault::Table => Refused::Table,
+        LayoutFault::TwoSbat => Refused::TwoSbat,
+        LayoutFault::TooLong => Refused::TooLong,
+        LayoutFault::Read => unreachable!(),
+    }
+}
+
+/// What an image's certificates are refused for.
+fn of_carried(fault: CarriedFault) -> Refused
+    ensures { Tells (carried.refusal_of fault) None result }
+{
+    match fault {
+        CarriedFault::Table => Refused::Table,
+        CarriedFault::Der => Refused::Der,
+        CarriedFault::TooLong => Refused::TooLong,
+        CarriedFault::NoMemory => NO_MEMORY,
+    }
+}
+
+/// What SBAT text is refused for, with the number of its line.
+fn of_sbat(fault: SbatFault) -> Refused
+    ensures { Tells (sbat_faults.refusal_of fault) (sbat_faults.place_of fault) result }
+{
+    match fault {
+        SbatFault::Row(line) => Refused::SbatRow(line),
+        SbatFault::TooLong => Refused::TooLong,
+        SbatFault::NoMemory => NO_MEMORY,
+    }
+}
+
+/// What signature lists are refused for, with the offset of the list.
+fn of_lists(fault: ListsFault) -> Refused
+    ensures { Tells (lists.refusal_of fault) (Some (lists.place_of fault)) result }
+{
+    match fault {
+        ListsFault::List { offset } => Refused::List(offset),
+        ListsFault::EntrySize { offset } => Refused::EntrySize(offset),
+    }
+}
+
+/// What an image is refused for, of which every read succeeded.
+pub(crate) fn of_facts(fault: FactsFault) -> Refused
+    requires { facts.refusal_of fault ≢ Refusal.Read }
+    ensures { Tells (facts.refusal_of fault) (facts.place_of fault) result }
+{
+    match fault {
+        FactsFault::Layout(fault) => of_layout(fault),
+        FactsFault::Read => unreachable!(),
+        FactsFault::Carried(fault) => of_carried(fault),
+        FactsFault::Components(fault) => of_sbat(fault),
+        FactsFault::NoMemory => NO_MEMORY,
+    }
+}
+
+/// What an import is refused for.
+pub(crate) fn of_import(fault: ImportFault) -> Refused
+    ensures { Tells (imports.refusal_of fault) (imports.place_of fault) result }
+{
+    match fault {
+        ImportFault::Lists(fault) => of_lists(fault),
+        ImportFault::Record(number) => Refused::CsvRow(number),
+        ImportFault::Line(number) => Refused::SbatRow(number),
+        ImportFault::TooLong => Refused::TooLong,
+        ImportFault::NoMemory => NO_MEMORY,
+    }
+}

@@ -1,0 +1,86 @@
+//! The answer to a call.
+ghost use Rattle.std.specs.Prelude.{◌≡◌, ◌≢◌, ℕ, List, Err, IfOk};
+ghost use Rattle.sha2.specs.Sha256.{sha256};
+ghost use Rattle.desk_history.specs.Calls.{History};
+ghost use Rattle.desk_calls.specs.Answers as spec;
+ghost use Rattle.desk_calls.specs.Desks.{Keeps, Views, person_with};
+
+use crate::answering::Answering;
+use crate::answers::Answer;
+use crate::bodies::{
+    from_csv, from_dbx, from_level, listing, raise, returned, review, submission, unlisting,
+};
+use crate::call::{Call, Task};
+use crate::reading::{db, dbx, judge, level, report, request, requests};
+use crate::refusing::outage;
+use crate::taking::take;
+use desk_responses::Outage;
+use desk_service::token_digest;
+use desk_texts::{Command, Person};
+use std::alloc::Global;
+
+/// The person whose token this is, if there is one. Takes memory.
+///
+/// `NoMemory`: memory was refused, and nothing was changed. `Store`: the store failed, and each later call is
+/// answered `Reopen`.
+pub fn caller<D: Answering>(desk: &mut D, token: &[u8]) -> Result<Option<Person>, Outage>
+    ensures given { D.clean desk.new → IfOk result (λ person. Views (D.shows desk.old)
+        (λ _ cs. person ≡ person_with (sha256 token.now) cs)) }
+    ensures same { D.clean desk.new → result ≢ Err Outage.Store
+        → Keeps (D.shows desk.old) (D.shows desk.new) }
+    ensures before { D.clean desk.new → D.clean desk.old }
+    ensures usable { Views (D.shows desk.old) (λ _ _. result ≢ Err Outage.Reopen) }
+    ensures named { result ≢ Err Outage.NotADesk }
+{
+    match desk.person_of(&token_digest(token)) {
+        Ok(person) => Ok(person),
+        Err(refusal) => Err(outage(refusal)),
+    }
+}
+
+/// Answers a call. A body is read before the desk is asked, and what is wrong with it is answered first. Takes
+/// memory.
+///
+/// An answer of status 503 tells that the desk couldn't answer: `NoMemory`, and nothing was changed; `Store`, and
+/// each later answer is `Reopen`. Every other refusal changes nothing either.
+pub fn answer<D: Answering>(alloc: Global, desk: &mut D, call: Call) -> Answer
+    ensures served { D.clean desk.new → (owner : List ℕ) (cs : History)
+        → D.shows desk.old owner cs
+        → spec.Serves (D.shows desk.new owner) cs (spec.Answers owner cs call) result }
+    ensures before { D.clean desk.new → D.clean desk.old }
+{
+    let Call { person, task } = call;
+    let Person { name, role, .. } = person;
+    match task {
+        Task::Submit(key, title, image) => take(desk, name, &key, submission(alloc, title, image)),
+        Task::Requests => requests(desk, name),
+        Task::Request(number) => request(desk, name, number),
+        Task::Review(key, number, body) => take(desk, name, &key, Ok(review(number, body))),
+        Task::Withdraw(key, number) => take(desk, name, &key, Ok(Command::Withdraw(number))),
+        Task::Return(key, number, image) => take(desk, name, &key, returned(alloc, number, image)),
+        Task::ListCertificate(key, body) => take(desk, name, &key, listing(body)),
+        Task::ListDigest(key, digest) => take(desk, name, &key, Ok(Command::ListDigest(digest))),
+        Task::Unlist(key, body) => take(desk, name, &key, Ok(unlisting(body))),
+        Task::RevokeDigest(key, digest) => take(
+            desk,
+            name,
+            &key,
+            Ok(Command::RevokeDigest(digest)),
+        ),
+        Task::RevokeCertificate(key, digest) => take(
+            desk,
+            name,
+            &key,
+            Ok(Command::RevokeCertificate(digest)),
+        ),
+        Task::RaiseLevel(key, body) => take(desk, name, &key, Ok(raise(body))),
+        Task::ImportDbx(key, body) => take(desk, name, &key, from_dbx(alloc, &body)),
+        Task::ImportCsv(key, stamp, body) => take(desk, name, &key, from_csv(alloc, &body, stamp)),
+        Task::ImportLevel(key, body) => take(desk, name, &key, from_level(alloc, &body)),
+        Task::Verdict(image) => judge(alloc, desk, image),
+        Task::Dbx => dbx(alloc, desk),
+        Task::Db => db(alloc, desk),
+        Task::Level => level(alloc, desk),
+        Task::Report => report(alloc, desk, role),
+    }
+}

@@ -1,0 +1,32 @@
+//! Commands, taken by a desk.
+ghost use Rattle.std.specs.Prelude.{◌≡◌, ℕ, List};
+ghost use Rattle.desk_history.specs.Calls.{History};
+ghost use Rattle.desk_calls.specs.Answers.{IsTaken, Serves};
+
+use crate::answering::Answering;
+use crate::answers::Answer;
+use crate::refusing::told;
+use desk_responses::Refused;
+use desk_texts::{Caller, Command, Key, PersonName};
+
+/// Answers a command of the person of this name, under a key, or tells what its body is refused for.
+pub(crate) fn take<D: Answering>(
+    desk: &mut D,
+    name: PersonName,
+    key: &Key,
+    read: Result<Command, Refused>,
+) -> Answer
+    ensures served { D.clean desk.new → (owner : List ℕ) (cs : History)
+        → D.shows desk.old owner cs
+        → Serves (D.shows desk.new owner) cs (IsTaken cs name key.now read) result }
+    ensures before { D.clean desk.new → D.clean desk.old }
+{
+    let command = match read {
+        Ok(command) => command,
+        Err(refused) => return Answer::Refused(refused),
+    };
+    match desk.apply(&Caller::Person(name), key, &command) {
+        Ok(reply) => Answer::Reply(reply),
+        Err(refusal) => Answer::Refused(told(refusal)),
+    }
+}

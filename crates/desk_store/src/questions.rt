@@ -1,0 +1,194 @@
+//! The questions that a desk is asked.
+ghost use Rattle.std.specs.Prelude.{◌≡◌, ⊤, filter, IfErr};
+ghost use Rattle.desk_counts.specs.Counts.{CountTables};
+ghost use Rattle.desk_history.specs.People.{has_token};
+ghost use Rattle.desk_history.specs.Shown.{AreShown, GivesRequest, IsGiven, requests_for};
+ghost use Rattle.desk_history.specs.Tables.{tables};
+ghost use Rattle.desk_list_views.specs.Lists.{HoldsNoOther};
+ghost use Rattle.desk_reads.specs.Reads.{listed};
+ghost use Rattle.desk_rules.specs.Decisions.{called};
+ghost use Rattle.desk_rules.specs.Shown.{Shows};
+ghost use Rattle.desk_rules.specs.Views.{ShowsLists, keys_of};
+ghost use Rattle.desk_shown.specs.Telling.{IsReaderRefusal, IsRequestRefusal};
+ghost use Rattle.desk_sizes.specs.Sizes.{AreRight};
+ghost use Rattle.desk_texts.specs.declared.caller.Caller.TheVariants as callers;
+ghost use Rattle.desk_views.specs.Named.{HoldsNoRowBeyond};
+
+use crate::asking::Question;
+use desk_bytes::{Digest, Refusal};
+use desk_counts::{Counts, counts};
+use desk_list_views::list_view;
+use desk_reads::person_of_token;
+use desk_rules::{ListView, View};
+use desk_shown::{request, requests_of};
+use desk_sizes::KeptSizes;
+use desk_texts::{Caller, Command, Facts, Key, Person, PersonName, RequestNumber, ShownRequest};
+use desk_views::view;
+use sqlite::{Alter, Transaction};
+use std::alloc::Global;
+
+/// Who has the token of this SHA-256?
+#[derive(Drop)]
+pub(crate) struct WhoHas<'a> {
+    pub(crate) token: &'a Digest,
+}
+
+impl<'a> Question for WhoHas<'a> {
+    type Answer = Option<Person>;
+
+    ghost tells = { λ q person owner cs.
+        filter (has_token q.token.now) (tables owner cs).people ≡ listed person };
+
+    ghost bounds = { λ _ _. ⊤ };
+
+    fn read<S: Alter>(
+        &self,
+        alloc: Global,
+        tx: &mut Transaction<'_, S>,
+    ) -> Result<Option<Person>, Refusal> {
+        match person_of_token(alloc, tx, self.token) {
+            Ok(person) => Ok(person),
+            Err(fault) => Err(fault.refusal()),
+        }
+    }
+}
+
+/// How many of everything are there?
+#[derive(Drop)]
+pub(crate) struct HowMany;
+
+impl Question for HowMany {
+    type Answer = Counts;
+
+    ghost tells = { λ _ n owner cs. CountTables n (tables owner cs) };
+
+    ghost bounds = { λ _ _. ⊤ };
+
+    fn read<S: Alter>(
+        &self,
+        alloc: Global,
+        tx: &mut Transaction<'_, S>,
+    ) -> Result<Counts, Refusal> {
+        match counts(alloc, tx) {
+            Ok(counted) => Ok(counted),
+            Err(fault) => Err(fault.refusal()),
+        }
+    }
+}
+
+/// Which rows of the lists does a verdict on this image need?
+#[derive(Drop)]
+pub(crate) struct ListsFor<'a> {
+    pub(crate) facts: &'a Facts,
+}
+
+impl<'a> Question for ListsFor<'a> {
+    type Answer = ListView;
+
+    ghost tells = { λ q v owner cs. ShowsLists v (tables owner cs) (keys_of q.facts.now) };
+
+    ghost bounds = { λ q v. HoldsNoOther v (keys_of q.facts.now) };
+
+    fn read<S: Alter>(
+        &self,
+        alloc: Global,
+        tx: &mut Transaction<'_, S>,
+    ) -> Result<ListView, Refusal> {
+        match list_view(alloc, tx, self.facts) {
+            Ok(view) => Ok(view),
+            Err(fault) => Err(fault.refusal()),
+        }
+    }
+}
+
+/// Which rows does a decision on this call need, where these sizes are known?
+#[derive(Drop)]
+pub(crate) struct RowsFor<'a> {
+    pub(crate) sizes: KeptSizes,
+    pub(crate) caller: &'a Caller,
+    pub(crate) key: &'a Key,
+    pub(crate) command: &'a Command,
+}
+
+/// The rows that a decision on a call needs, and the sizes that are known since they were read.
+#[derive(Drop)]
+pub(crate) struct Viewed {
+    pub(crate) view: View,
+    pub(crate) sizes: KeptSizes,
+}
+
+impl<'a> Question for RowsFor<'a> {
+    type Answer = Viewed;
+
+    ghost tells = { λ q viewed owner cs. AreRight q.sizes (tables owner cs)
+        → Shows viewed.view (tables owner cs) (called q.caller.now q.key.now q.command.now)
+        × AreRight viewed.sizes (tables owner cs) };
+
+    ghost bounds = { λ q viewed. HoldsNoRowBeyond viewed.view
+        (called q.caller.now q.key.now q.command.now) };
+
+    fn read<S: Alter>(
+        &self,
+        alloc: Global,
+        tx: &mut Transaction<'_, S>,
+    ) -> Result<Viewed, Refusal> {
+        let mut sizes = self.sizes;
+        match view(alloc, tx, &mut sizes, self.caller, self.key, self.command) {
+            Ok(view) => Ok(Viewed { view, sizes }),
+            Err(failure) => Err(failure),
+        }
+    }
+}
+
+/// What is the person of this name shown of the request of this number?
+#[derive(Drop)]
+pub(crate) struct OneRequest<'a> {
+    pub(crate) name: &'a PersonName,
+    pub(crate) number: RequestNumber,
+}
+
+impl<'a> Question for OneRequest<'a> {
+    type Answer = Result<ShownRequest, Refusal>;
+
+    ghost tells = { λ q given owner cs.
+        GivesRequest cs (callers.Person q.name.now) q.number given };
+
+    ghost bounds = { λ _ given. IfErr given IsRequestRefusal };
+
+    fn read<S: Alter>(
+        &self,
+        alloc: Global,
+        tx: &mut Transaction<'_, S>,
+    ) -> Result<Result<ShownRequest, Refusal>, Refusal> {
+        match request(alloc, tx, self.name, self.number) {
+            Ok(given) => Ok(given),
+            Err(fault) => Err(fault.refusal()),
+        }
+    }
+}
+
+/// Which requests is the person of this name shown?
+#[derive(Drop)]
+pub(crate) struct AllRequests<'a> {
+    pub(crate) name: &'a PersonName,
+}
+
+impl<'a> Question for AllRequests<'a> {
+    type Answer = Result<Vec<ShownRequest>, Refusal>;
+
+    ghost tells = { λ q given owner cs. IsGiven (requests_for cs (callers.Person q.name.now)) given
+        (λ ws shown. AreShown ws shown.items) };
+
+    ghost bounds = { λ _ given. IfErr given IsReaderRefusal };
+
+    fn read<S: Alter>(
+        &self,
+        alloc: Global,
+        tx: &mut Transaction<'_, S>,
+    ) -> Result<Result<Vec<ShownRequest>, Refusal>, Refusal> {
+        match requests_of(alloc, tx, self.name) {
+            Ok(given) => Ok(given),
+            Err(fault) => Err(fault.refusal()),
+        }
+    }
+}
