@@ -1,0 +1,90 @@
+-- What is asked for by an input, and by what follows it.
+use Rattle.std.proofs.Common.{◌≡◌, ◌∙◌, ℕ, ◌≤◌, List, [], ◌++◌, length, refl, sym, ap, inl, inr, Option, Some, None, Result, Ok, Err, IfOk, IfSome, ◌≢◌, MatchResult, Vec}
+use Rattle.std.specs.declared.alloc.Global.{Global}
+use Rattle.httparse.specs.Grammar.{ReadsRequest, RequestHead}
+use Rattle.httparse.proofs.GrammarLemmas.{ReadsRequest-append, request_unique}
+use Rattle.desk_history.specs.Calls.{History}
+use Rattle.desk_heads.specs.Fields.{parts_of}
+use Rattle.desk_heads.specs.Heads.{FindsOf, HasFewFields, HasHead}
+use Rattle.desk_heads.specs.declared.begun.Begun.TheVariants.{Head}
+use Rattle.desk_requests.specs.Wanted.{Want, wanted_of}
+use Rattle.desk_requests.specs.declared.fault.WantedFault.{WantedFault}
+use Rattle.desk_requests.specs.declared.fault.WantedFault.TheVariants.{NoMemory}
+use Rattle.desk_responses.specs.declared.outage.Outage.TheVariants as outage
+use Rattle.desk_calls.specs.Desks.{Views}
+use Rattle.desk_texts.specs.declared.command.Person.{Person}
+use Rattle.desk_http.specs.Asked.{Asks, Due, HasRequest, caller_of, due_of, of_body, of_caller, of_head}
+use Rattle.desk_http.specs.Refused.{refused_by_head}
+use Rattle.desk_http.specs.declared.served.Unread.{Unread}
+use Rattle.desk_http.specs.declared.served.Unread.TheVariants.{Outage}
+use Rattle.desk_http.proofs.AskLemmas.{head_reads_itself}
+use Rattle.desk_http.proofs.BodyLemmas.{body_followed}
+
+-- two heads of one input ask for the same
+heads_ask_alike : (cs : History) (b : List ℕ) (h k : RequestHead) (r q : List ℕ) → HasHead b h r → HasHead b k q
+    → due_of cs h r ≡ due_of cs k q
+heads_ask_alike cs b h k r q x y =
+    let same = request_unique b h k r q x.reads y.reads in
+    ap (λ (g : RequestHead). due_of cs g r) same.0 ∙ ap (λ (s : List ℕ). due_of cs k s) same.1
+
+pub asks_once : (cs : History) (b : List ℕ) (due other : Due) → Asks cs b due → Asks cs b other → due ≡ other
+asks_once cs b due other (inl x) (inl y) = x.3 ∙ (heads_ask_alike cs b x.0 y.0 x.1 y.1 x.2 y.2 ∙ sym y.3)
+asks_once cs b due other (inl x) (inr y) = absurd (y.1 x.0 x.1 x.2)
+asks_once cs b due other (inr x) (inl y) = absurd (x.1 y.0 y.1 y.2)
+asks_once cs b due other (inr x) (inr y) = x.2 ∙ sym y.2
+
+caller_followed : (w : Want) (rest more : List ℕ) (p : Option Person) → w.size ≤ length rest
+    → of_caller w (rest ++ more) p ≡ of_caller w rest p
+caller_followed w rest more None le = refl
+caller_followed w rest more (Some p) le = ap (λ (body : Option (List ℕ)). of_body p w body) (body_followed w.size rest more le)
+
+head_followed : (cs : History) (rest more : List ℕ) (w : Result Want WantedFault) → IfOk w (λ v. v.size ≤ length rest)
+    → of_head cs (rest ++ more) w ≡ of_head cs rest w
+head_followed cs rest more (Err fault) le = refl
+head_followed cs rest more (Ok w) le = caller_followed w rest more (caller_of cs w.token) le
+
+-- a head stands where more follows
+followed : (b more : List ℕ) (h : RequestHead) (rest : List ℕ) → HasHead b h rest → HasHead (b ++ more) h (rest ++ more)
+followed b more h rest has = record {
+  reads = ReadsRequest-append b h rest more has.reads;
+  short = has.short;
+  few = has.few;
+}
+
+pub asks_the_same : (cs : History) (b : List ℕ) (h : RequestHead) (rest more : List ℕ) (due : Due) → HasRequest b h rest
+    → Asks cs b due → Asks cs (b ++ more) due
+asks_the_same cs b h rest more due has (inl x) =
+    let same = head_followed cs rest more (wanted_of (parts_of h)) has.body in
+    let alike = heads_ask_alike cs b x.0 h x.1 rest x.2 has.head in
+    inl (h, rest ++ more, followed b more h rest has.head, x.3 ∙ (alike ∙ sym same))
+asks_the_same cs b h rest more due has (inr x) = absurd (x.1 h rest has.head)
+
+-- ---- what is read of a head
+
+-- the head wants this
+pub wanted_is_due : (w : Result Want WantedFault) (v : Want) (r : Result Due Unread) (known : Option (List ℕ)) (shows : List ℕ → History → Type 0)
+    → w ≡ Ok v → IfOk r (λ due. IfSome known (λ rest. Views shows (λ _ cs. due ≡ of_caller v rest (caller_of cs v.token))))
+    → IfOk r (λ due. IfSome known (λ rest. Views shows (λ _ cs. due ≡ of_head cs rest w)))
+wanted_is_due w v r known shows e found = rw e found
+
+-- the head has a fault
+pub refused_is_due : (w : Result Want WantedFault) (f : WantedFault) (r : Result Due Unread) (known : Option (List ℕ)) (shows : List ℕ → History → Type 0)
+    → (f ≢ NoMemory → w ≡ Err f)
+    → MatchResult r (λ due. (f ≢ NoMemory) × (due ≡ Err (refused_by_head f))) (λ unread. unread ≡ Outage outage.NoMemory)
+    → IfOk r (λ due. IfSome known (λ rest. Views shows (λ _ cs. due ≡ of_head cs rest w)))
+refused_is_due w f (Err u) known shows given found = tt
+refused_is_due w f (Ok due) None shows given found = tt
+refused_is_due w f (Ok due) (Some rest) shows given found = λ owner cs shown. rw (given found.0) found.1
+
+-- a head was read
+pub head_is_asked : (old mid : Option (List ℕ)) (taken : Vec ℕ Global) (due : Due) (shows : List ℕ → History → Type 0)
+    → FindsOf old mid (Head taken)
+    → ((h : RequestHead) (q : List ℕ) → ReadsRequest taken.items h q → HasFewFields h
+    → IfSome mid (λ rest. Views shows (λ _ cs. due ≡ due_of cs h rest)))
+    → IfSome old (λ b. Views shows (λ _ cs. Asks cs b due))
+head_is_asked None mid taken due shows found asked = tt
+head_is_asked (Some b) mid taken due shows found asked =
+    let reads : ReadsRequest taken.items found.0 [] = rw found.3 (head_reads_itself b found.0 found.1 found.2) in
+    let given : IfSome (Some found.1) (λ rest. Views shows (λ _ cs. due ≡ due_of cs found.0 rest)) =
+    rw found.4 at (asked found.0 [] reads found.2.few) in
+    λ owner cs shown. inl (found.0, found.1, found.2, given owner cs shown)

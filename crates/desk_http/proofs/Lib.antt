@@ -1,0 +1,5 @@
+pub mod AskLemmas
+pub mod BodyLemmas
+pub mod EachLemmas
+pub mod InputLemmas
+pub mod TellLemmas

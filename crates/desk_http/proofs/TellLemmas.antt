@@ -1,0 +1,40 @@
+-- What is told is what was served, or the want of memory in its place.
+use Rattle.std.proofs.Common.{◌≡◌, ◌⊎◌, ℕ, List, inl, inr, refl, sym, subst, true, false, Result, Ok, Err}
+use Rattle.desk_history.specs.Calls.{History}
+use Rattle.desk_responses.specs.declared.outage.Outage.TheVariants as outage
+use Rattle.desk_responses.specs.declared.refused.Refused.TheVariants as refused
+use Rattle.desk_calls.specs.Answers.{Serves, no_memory, store_failed}
+use Rattle.desk_calls.specs.declared.answers.Answer.{Answer}
+use Rattle.desk_calls.specs.declared.answers.Answer.TheVariants as answer
+use Rattle.desk_http.specs.Asked.{Asks, Due}
+use Rattle.desk_http.specs.Sending.{Replaces, is_outage}
+use Rattle.desk_http.specs.Serving.{AnswersDue, AnswersInput, IsServed, Tells}
+
+-- what answers what is asked for answers the input
+pub serves_input : (shows : History → Type 0) (owner : List ℕ) (cs : History) (b : List ℕ) (due : Due) (a : Answer)
+    → Asks cs b due → Serves shows cs (AnswersDue owner cs due) a → Serves shows cs (AnswersInput owner cs b) a
+serves_input shows owner cs b due a asked (inl s) = inl (s.0, record { due = due; asked = asked; answered = s.1 }, s.2)
+serves_input shows owner cs b due a asked (inr failed) = inr failed
+
+-- an answer is told as it is
+same_told : (shows : History → Type 0) (cs : History) (due : Answer → History → Type 0) (a : Answer)
+    → Serves shows cs due a → Tells shows cs due a
+same_told shows cs due a (inl s) = inl (record { later = s.0; due = s.1; shown = s.2 })
+same_told shows cs due a (inr (inl x)) = inr (inl (x.0, inl x.1))
+same_told shows cs due a (inr (inr e)) = inr (inr e)
+
+store_is_outage : (a : Answer) → a ≡ store_failed → is_outage a ≡ false → ⊥
+store_is_outage a e own = let known : is_outage store_failed ≡ false = rw e at own in cc
+
+-- an answer whose text finds no memory
+untold : (shows : History → Type 0) (cs : History) (due : Answer → History → Type 0) (a : Answer)
+    → Serves shows cs due a → is_outage a ≡ false → shows cs ⊎ ((x : Answer) × IsServed shows due x)
+untold shows cs due a (inl s) own = inr (a, record { later = s.0; due = s.1; shown = s.2 })
+untold shows cs due a (inr (inl x)) own = inl x.1
+untold shows cs due a (inr (inr e)) own = absurd (store_is_outage a e own)
+
+pub told_is_served : (shows : History → Type 0) (cs : History) (due : Answer → History → Type 0) (a told : Answer)
+    → Serves shows cs due a → Replaces a told → Tells shows cs due told
+told_is_served shows cs due a told served (inl e) =
+    let P : Answer → Type 0 = λ x. Tells shows cs due x in subst P (sym e) (same_told shows cs due a served)
+told_is_served shows cs due a told served (inr x) = inr (inl (x.0, untold shows cs due a served x.1))

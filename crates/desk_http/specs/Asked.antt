@@ -1,0 +1,71 @@
+-- own: what an input asks for: a call, or the refusal of the first check that fails.
+use Rattle.std.specs.Prelude.{◌≡◌, ◌≢◌, ◌⊎◌, ◌≤◌, ℕ, List, [], length, IfOk, Option, Some, None, Result, Ok, Err}
+use Rattle.httparse.specs.Grammar.{RequestHead}
+use Rattle.sha2.specs.Sha256.{sha256}
+use Rattle.desk_history.specs.Calls.{History}
+use Rattle.desk_texts.specs.declared.command.Person.{Person}
+use Rattle.desk_heads.specs.Fields.{parts_of}
+use Rattle.desk_heads.specs.Heads.{HasHead, HasNoHead}
+use Rattle.desk_requests.specs.Asked.{asked_of}
+use Rattle.desk_requests.specs.Wanted.{Want, wanted_of}
+use Rattle.desk_requests.specs.declared.ask.Asked.{Asked}
+use Rattle.desk_requests.specs.declared.fault.AskedFault.{AskedFault}
+use Rattle.desk_requests.specs.declared.fault.WantedFault.{WantedFault}
+use Rattle.desk_responses.specs.declared.refused.Refused.{Refused}
+use Rattle.desk_responses.specs.declared.refused.Refused.TheVariants as refused
+use Rattle.desk_calls.specs.declared.call.Call.{Call}
+use Rattle.desk_calls.specs.declared.call.Task.{Task}
+use Rattle.desk_calls.specs.Desks.{person_with}
+use Rattle.desk_http.specs.Bodies.{body_in}
+use Rattle.desk_http.specs.Tasks.{task_of}
+use Rattle.desk_http.specs.Refused.{refused_by_head, refused_by_fields}
+
+-- a call, or the refusal of the first check that fails
+abbrev pub Due : Type 0
+Due = Result Call Refused
+
+-- the person whose token a field gives, if it gives one
+abbrev pub caller_of : History → Option (List ℕ) → Option Person
+caller_of cs None = None
+caller_of cs (Some token) = person_with (sha256 token) cs
+
+-- the call of a person for a task; BadBody where the body says none
+abbrev pub called_by : Person → Option Task → Due
+called_by p None = Err refused.BadBody
+called_by p (Some task) = Ok (record { person = p; task = task })
+
+-- what a person asks for with a body, where the fields say this
+abbrev pub of_fields : Person → List ℕ → Result Asked AskedFault → Due
+of_fields p body (Err fault) = Err (refused_by_fields fault)
+of_fields p body (Ok asked) = called_by p (task_of asked body)
+
+-- what a person asks for with a body, which may be cut short
+abbrev pub of_body : Person → Want → Option (List ℕ) → Due
+of_body p w None = Err refused.BadHead
+of_body p w (Some body) = of_fields p body (asked_of w)
+
+-- what a caller asks for, whom nobody may know; rest follows the head
+abbrev pub of_caller : Want → List ℕ → Option Person → Due
+of_caller w rest None = Err refused.UnknownCaller
+of_caller w rest (Some p) = of_body p w (body_in w.size rest)
+
+-- what is asked for where the head wants this
+abbrev pub of_head : History → List ℕ → Result Want WantedFault → Due
+of_head cs rest (Err fault) = Err (refused_by_head fault)
+of_head cs rest (Ok w) = of_caller w rest (caller_of cs w.token)
+
+-- what a head asks for, with what follows it: the head's own checks, then who calls, then the length of the
+-- body, then the fields, then what the body says
+abbrev pub due_of : History → RequestHead → List ℕ → Due
+due_of cs h rest = of_head cs rest (wanted_of (parts_of h))
+
+-- what the input b asks for: what the head says that begins it, or BadHead where no head does
+abbrev pub Asks : History → List ℕ → Due → Type 0
+Asks cs b due =
+    ((h : RequestHead) × (rest : List ℕ) × HasHead b h rest × (due ≡ due_of cs h rest))
+    ⊎ ((b ≢ []) × HasNoHead b × (due ≡ Err refused.BadHead))
+
+-- b begins with a whole request: its head, and as much of rest as the head announces, if it announces a body
+pub record HasRequest (b : List ℕ) (h : RequestHead) (rest : List ℕ) : Type 0 where
+  pub head : HasHead b h rest
+  pub body : IfOk (wanted_of (parts_of h)) (λ w. w.size ≤ length rest)

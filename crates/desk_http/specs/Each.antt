@@ -1,0 +1,25 @@
+-- own: what inputs are answered that come one after another.
+use Rattle.std.specs.Prelude.{◌≡◌, ◌⊎◌, ◌==◌, ◌||◌, ℕ, Bool, List, [], ◌∷◌, ◌++◌}
+use Rattle.desk_bytes.specs.Refusals.{number_of}
+use Rattle.desk_bytes.specs.declared.refusal.Refusal.TheVariants as refusal
+use Rattle.desk_history.specs.Calls.{History}
+use Rattle.desk_calls.specs.declared.answers.Answer.{Answer}
+use Rattle.desk_http.specs.Responses.{response_of}
+use Rattle.desk_http.specs.Serving.{AnswersInput}
+
+-- the response to an input at this history, and the history after it; no byte is no request
+abbrev pub RespondsTo : List ℕ → History → List ℕ → List ℕ → History → Type 0
+RespondsTo owner cs b text later =
+    ((b ≡ []) × (text ≡ []) × (later ≡ cs))
+    ⊎ ((a : Answer) × AnswersInput owner cs b a later × (text ≡ response_of a))
+
+-- the responses to inputs, one behind another, each at the history that the ones before it left
+abbrev pub RespondsToEach : List ℕ → History → List (List ℕ) → List ℕ → History → Type 0
+RespondsToEach owner cs [] text last = (text ≡ []) × (last ≡ cs)
+RespondsToEach owner cs (b ∷ bs) text last =
+    (one : List ℕ) × (rest : List ℕ) × (later : History)
+    × RespondsTo owner cs b one later × (text ≡ one ++ rest) × RespondsToEach owner later bs rest last
+
+-- the number tells that memory or the store failed
+abbrev pub is_outage_number : ℕ → Bool
+is_outage_number n = (n == number_of refusal.NoMemory) || (n == number_of refusal.Store)

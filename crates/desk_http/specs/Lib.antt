@@ -1,0 +1,9 @@
+pub mod Asked
+pub mod Bodies
+pub mod Each
+pub mod Refused
+pub mod Responses
+pub mod Sending
+pub mod Serving
+pub mod Tasks
+pub mod Unread

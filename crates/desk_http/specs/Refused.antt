@@ -1,0 +1,25 @@
+-- own: what a request is refused for by the checks on it.
+use Rattle.desk_requests.specs.declared.fault.AskedFault.{AskedFault}
+use Rattle.desk_requests.specs.declared.fault.AskedFault.TheVariants as asked
+use Rattle.desk_requests.specs.declared.fault.WantedFault.{WantedFault}
+use Rattle.desk_requests.specs.declared.fault.WantedFault.TheVariants as wanted
+use Rattle.desk_responses.specs.declared.outage.Outage.TheVariants as outage
+use Rattle.desk_responses.specs.declared.refused.Refused.{Refused}
+use Rattle.desk_responses.specs.declared.refused.Refused.TheVariants as refused
+
+-- for a fault of the head
+abbrev pub refused_by_head : WantedFault → Refused
+refused_by_head wanted.BadHead = refused.BadHead
+refused_by_head wanted.NotSupported = refused.NotSupported
+refused_by_head wanted.BadField = refused.BadField
+refused_by_head wanted.NoRoute = refused.NoRoute
+refused_by_head (wanted.BadMethod methods) = refused.BadMethod methods
+refused_by_head wanted.LengthNeeded = refused.LengthNeeded
+refused_by_head wanted.TooLarge = refused.TooLarge
+refused_by_head wanted.NoMemory = refused.Unavailable outage.NoMemory
+
+-- for a fault of what the fields say
+abbrev pub refused_by_fields : AskedFault → Refused
+refused_by_fields asked.BadField = refused.BadField
+refused_by_fields asked.NoSuchRequest = refused.NoSuchRequest
+refused_by_fields asked.NoMemory = refused.Unavailable outage.NoMemory

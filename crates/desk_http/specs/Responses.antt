@@ -1,0 +1,85 @@
+-- own: the response to each answer, to the byte.
+use Rattle.std.specs.Prelude.{◌≡◌, ℕ, List, [], Option, Some, None, Vec}
+use Rattle.std.specs.declared.alloc.Global.{Global}
+use Rattle.serde_json.specs.Data.{Data}
+use Rattle.serde_json.specs.Written.{compact_text}
+use Rattle.desk_bytes.specs.Refusals as rows
+use Rattle.desk_json.specs.Replies.{reply_data}
+use Rattle.desk_json.specs.Requests.{request_data, requests_data}
+use Rattle.desk_json.specs.Verdicts.{verdict_data}
+use Rattle.desk_responses.specs.Refusals as refusals
+use Rattle.desk_responses.specs.Responses.{code_of, response_text}
+use Rattle.desk_responses.specs.declared.content.Content.{Content}
+use Rattle.desk_responses.specs.declared.content.Content.TheVariants as content
+use Rattle.desk_responses.specs.declared.status.Status.{Status}
+use Rattle.desk_responses.specs.declared.status.Status.TheVariants as status
+use Rattle.desk_calls.specs.declared.answers.Answer.{Answer}
+use Rattle.desk_calls.specs.declared.answers.Answer.TheVariants.{Reply, Request, Requests, Verdict, Dbx, Db, Level, Report, Refused}
+
+-- its status: 200 for what is no refusal (RFC 9110, section 15.3.1)
+abbrev pub status_of : Answer → Status
+status_of (Reply reply) = status.Ok
+status_of (Request shown) = status.Ok
+status_of (Requests shown) = status.Ok
+status_of (Verdict verdict facts) = status.Ok
+status_of (Dbx bytes) = status.Ok
+status_of (Db bytes) = status.Ok
+status_of (Level text) = status.Ok
+status_of (Report text) = status.Ok
+status_of (Refused refused) = refusals.status_of refused
+
+-- what its body is
+abbrev pub content_of : Answer → Content
+content_of (Reply reply) = content.Json
+content_of (Request shown) = content.Json
+content_of (Requests shown) = content.Json
+content_of (Verdict verdict facts) = content.Json
+content_of (Dbx bytes) = content.Bytes
+content_of (Db bytes) = content.Bytes
+content_of (Level text) = content.Text
+content_of (Report text) = content.Text
+content_of (Refused refused) = content.Json
+
+-- the text of a JSON value, if there is one
+abbrev pub text_or_none : Option Data → List ℕ
+text_or_none None = []
+text_or_none (Some value) = compact_text value
+
+-- the bytes that the code's text holds, if there is one
+abbrev pub items_or_none : Option (Vec ℕ Global) → List ℕ
+items_or_none None = []
+items_or_none (Some text) = text.items
+
+-- its body. A reply of the console's and a verdict on another image have no JSON; no call of a person's is
+-- answered with one, and its body would be empty
+abbrev pub body_of : Answer → List ℕ
+body_of (Reply reply) = text_or_none (reply_data reply)
+body_of (Request shown) = compact_text (request_data shown)
+body_of (Requests shown) = compact_text (requests_data shown)
+body_of (Verdict verdict facts) = text_or_none (verdict_data facts.components verdict)
+body_of (Dbx bytes) = bytes
+body_of (Db bytes) = bytes
+body_of (Level text) = text
+body_of (Report text) = text
+body_of (Refused refused) = compact_text (refusals.refused_data refused)
+
+-- the whole response
+abbrev pub response_of : Answer → List ℕ
+response_of a = response_text (status_of a) (content_of a) (body_of a)
+
+-- the number of the refusal that it tells, 0 for none
+abbrev pub number_of : Answer → ℕ
+number_of (Reply reply) = 0
+number_of (Request shown) = 0
+number_of (Requests shown) = 0
+number_of (Verdict verdict facts) = 0
+number_of (Dbx bytes) = 0
+number_of (Db bytes) = 0
+number_of (Level text) = 0
+number_of (Report text) = 0
+number_of (Refused refused) = rows.number_of (refusals.refusal_of refused)
+
+-- a status and a number are those of an answer
+pub record IsTold (a : Answer) (code number : ℕ) : Type 0 where
+  pub status : code ≡ code_of (status_of a)
+  pub number : number ≡ number_of a

@@ -1,0 +1,70 @@
+-- own: what one connection is served, and what the desk shows then.
+use Rattle.std.specs.Prelude.{◌≡◌, ◌⊎◌, ℕ, List, [], Option, Result, Ok, Err, ⊤}
+use Rattle.std.specs.Io.KnownBytes.{Appends, Keeps}
+use Rattle.desk_bytes.specs.Output.{AppendsBeginning}
+use Rattle.desk_history.specs.Calls.{History}
+use Rattle.desk_calls.specs.Answers.{Answers, no_memory, store_failed}
+use Rattle.desk_calls.specs.declared.answers.Answer.{Answer}
+use Rattle.desk_calls.specs.declared.answers.Answer.TheVariants.{Refused}
+use Rattle.desk_http.specs.Asked.{Asks, Due}
+use Rattle.desk_http.specs.Responses.{IsTold, response_of}
+use Rattle.desk_http.specs.declared.served.HttpFault.{HttpFault}
+use Rattle.desk_http.specs.declared.served.HttpFault.TheVariants as fault
+use Rattle.desk_http.specs.declared.served.Served.{Served}
+use Rattle.desk_http.specs.declared.served.Served.TheVariants.{Answered, Nothing}
+
+-- The desk that shows the history answers so what is asked for, and shows `later` then. A refusal of the request
+-- is told, and changes nothing.
+abbrev pub AnswersDue : List ℕ → History → Due → Answer → History → Type 0
+AnswersDue owner cs (Ok call) = Answers owner cs call
+AnswersDue owner cs (Err refused) = λ a later. (a ≡ Refused refused) × (later ≡ cs)
+
+-- the desk that shows the history answers the input b so, and shows `later` then
+pub record AnswersInput (owner : List ℕ) (cs : History) (b : List ℕ) (a : Answer) (later : History) : Type 0 where
+  pub due : Due
+  pub asked : Asks cs b due
+  pub answered : AnswersDue owner cs due a later
+
+-- the desk shows the history after an answer that is due
+pub record IsServed (shows : History → Type 0) (due : Answer → History → Type 0) (a : Answer) : Type 0 where
+  pub later : History
+  pub due : due a later
+  pub shown : shows later
+
+-- What is told is an answer that is due, or the want of memory, also for an answer whose text found none,
+-- or that the store failed. The desk shows the history after the answer, or the one before, or none.
+abbrev pub Tells : (History → Type 0) → History → (Answer → History → Type 0) → Answer → Type 0
+Tells shows cs due told =
+    IsServed shows due told
+    ⊎ (((told ≡ no_memory) × (shows cs ⊎ ((a : Answer) × IsServed shows due a))) ⊎ (told ≡ store_failed))
+
+-- the response to an answer went out, with its status and number
+pub record Responds (old new : Option (List ℕ)) (told : Answer) (code number : ℕ) : Type 0 where
+  pub written : Appends old new (response_of told)
+  pub told : IsTold told code number
+
+-- where a response went out
+abbrev pub WhenAnswered : Result Served HttpFault → (ℕ → ℕ → Type 0) → Type 0
+WhenAnswered (Ok (Answered code number)) holds = holds code number
+WhenAnswered (Ok Nothing) holds = ⊤
+WhenAnswered (Err fault) holds = ⊤
+
+-- where the input had no byte
+abbrev pub WhenNothing : Result Served HttpFault → Type 0 → Type 0
+WhenNothing (Ok (Answered code number)) holds = ⊤
+WhenNothing (Ok Nothing) holds = holds
+WhenNothing (Err fault) holds = ⊤
+
+-- where the request wasn't read
+abbrev pub WhenUnread : Result Served HttpFault → Type 0 → Type 0
+WhenUnread (Ok served) holds = ⊤
+WhenUnread (Err fault.Read) holds = holds
+WhenUnread (Err fault.Write) holds = ⊤
+WhenUnread (Err fault.NoMemory) holds = holds
+
+-- where the response didn't go out whole
+abbrev pub WhenUnwritten : Result Served HttpFault → Type 0 → Type 0
+WhenUnwritten (Ok served) holds = ⊤
+WhenUnwritten (Err fault.Read) holds = ⊤
+WhenUnwritten (Err fault.Write) holds = holds
+WhenUnwritten (Err fault.NoMemory) holds = ⊤

@@ -1,0 +1,127 @@
+//! What the input of a connection asks for.
+ghost use Rattle.std.specs.Prelude.{◌≡◌, ◌≢◌, ℕ, List, [], Err, IfErr, IfOk, IfSome, MatchOption, MatchResult};
+ghost use Rattle.httparse.specs.Grammar.{ReadsRequest, RequestHead};
+ghost use Rattle.desk_heads.specs.Fields.{parts_of};
+ghost use Rattle.desk_heads.specs.Heads.{HasFewFields};
+ghost use Rattle.desk_requests.specs.Fields.{bytes_of};
+ghost use Rattle.desk_requests.specs.Wanted as wants;
+ghost use Rattle.desk_calls.specs.Desks.{Keeps, Views};
+ghost use Rattle.desk_http.specs.Asked as spec;
+ghost use Rattle.desk_http.specs.Refused.{refused_by_head};
+ghost use Rattle.desk_http.specs.Unread.{CanCome};
+
+use crate::asking::ask;
+use crate::body_reading::unread;
+use crate::served::{Due, Unread};
+use desk_calls::{Answering, caller};
+use desk_heads::{Begun, read_head};
+use desk_requests::{Wanted, WantedFault, wanted};
+use desk_responses::{Outage, Refused};
+use desk_texts::Person;
+use std::alloc::Global;
+use std::io::Read;
+
+/// What is due where the head has this fault.
+fn refuse(fault: WantedFault) -> Result<Due, Unread>
+    ensures { MatchResult result (λ due. (fault ≢ WantedFault.NoMemory)
+        × (due ≡ Err (refused_by_head fault))) (λ unread. unread ≡ Unread.Outage Outage.NoMemory) }
+{
+    match fault {
+        WantedFault::BadHead => Ok(Err(Refused::BadHead)),
+        WantedFault::NotSupported => Ok(Err(Refused::NotSupported)),
+        WantedFault::BadField => Ok(Err(Refused::BadField)),
+        WantedFault::NoRoute => Ok(Err(Refused::NoRoute)),
+        WantedFault::BadMethod(methods) => Ok(Err(Refused::BadMethod(methods))),
+        WantedFault::LengthNeeded => Ok(Err(Refused::LengthNeeded)),
+        WantedFault::TooLarge => Ok(Err(Refused::TooLarge)),
+        WantedFault::NoMemory => Err(Unread::Outage(Outage::NoMemory)),
+    }
+}
+
+/// The person whose token the field gives, if it gives one.
+fn person_of<D: Answering>(desk: &mut D, token: Option<&[u8]>) -> Result<Option<Person>, Unread>
+    ensures asked { D.clean desk.new → IfOk result (λ person. Views (D.shows desk.old)
+        (λ _ cs. person ≡ spec.caller_of cs (bytes_of token.entry))) }
+    ensures same { D.clean desk.new → result ≢ Err (Unread.Outage Outage.Store)
+        → Keeps (D.shows desk.old) (D.shows desk.new) }
+    ensures before { D.clean desk.new → D.clean desk.old }
+    ensures named { Views (D.shows desk.old) (λ _ _. IfErr result CanCome) }
+{
+    let Some(token) = token else {
+        return Ok(None);
+    };
+    match caller(desk, token) {
+        Ok(person) => Ok(person),
+        Err(outage) => Err(Unread::Outage(outage)),
+    }
+}
+
+/// What a head asks for, where it wants this.
+fn ask_as<D: Answering, R: Read>(
+    alloc: Global,
+    desk: &mut D,
+    wanted: &Wanted<'_>,
+    reader: &mut R,
+) -> Result<Due, Unread>
+    ensures asked { D.clean desk.new → IfOk result (λ due. IfSome (R.remaining reader.old) (λ rest.
+        Views (D.shows desk.old) (λ _ cs. due ≡ spec.of_caller (wants.shown wanted.now) rest
+        (spec.caller_of cs (wants.shown wanted.now).token)))) }
+    ensures same { D.clean desk.new → result ≢ Err (Unread.Outage Outage.Store)
+        → Keeps (D.shows desk.old) (D.shows desk.new) }
+    ensures before { D.clean desk.new → D.clean desk.old }
+    ensures named { Views (D.shows desk.old) (λ _ _. IfErr result CanCome) }
+{
+    match person_of(desk, wanted.token) {
+        Ok(Some(person)) => ask(alloc, person, wanted, reader),
+        Ok(None) => Ok(Err(Refused::UnknownCaller)),
+        Err(unread) => Err(unread),
+    }
+}
+
+/// What a head asks for, with what follows it.
+fn ask_by_head<D: Answering, R: Read>(
+    alloc: Global,
+    desk: &mut D,
+    head: &[u8],
+    reader: &mut R,
+) -> Result<Due, Unread>
+    ensures asked { (h : RequestHead) (q : List ℕ) → ReadsRequest head.now h q → HasFewFields h
+        → D.clean desk.new → IfOk result (λ due. IfSome (R.remaining reader.old) (λ rest.
+        Views (D.shows desk.old) (λ _ cs. due ≡ spec.due_of cs h rest))) }
+    ensures same { D.clean desk.new → result ≢ Err (Unread.Outage Outage.Store)
+        → Keeps (D.shows desk.old) (D.shows desk.new) }
+    ensures before { D.clean desk.new → D.clean desk.old }
+    ensures named { Views (D.shows desk.old) (λ _ _. IfErr result CanCome) }
+{
+    match wanted(alloc, head) {
+        Ok(wanted) => ask_as(alloc, desk, &wanted, reader),
+        Err(fault) => refuse(fault),
+    }
+}
+
+/// Reads what the input asks for, or gives `None` where it has no byte. Takes memory.
+pub(crate) fn read_due<D: Answering, R: Read>(
+    alloc: Global,
+    desk: &mut D,
+    reader: &mut R,
+) -> Result<Option<Due>, Unread>
+    ensures asked { D.clean desk.new → IfOk result (λ found. IfSome (R.remaining reader.old) (λ b.
+        Views (D.shows desk.old) (λ _ cs. MatchOption found (b ≡ []) (spec.Asks cs b)))) }
+    ensures same { D.clean desk.new → result ≢ Err (Unread.Outage Outage.Store)
+        → Keeps (D.shows desk.old) (D.shows desk.new) }
+    ensures before { D.clean desk.new → D.clean desk.old }
+    ensures named { Views (D.shows desk.old) (λ _ _. IfErr result CanCome) }
+{
+    let head = match read_head(alloc, reader) {
+        Ok(Begun::Head(head)) => head,
+        Ok(Begun::Nothing) => return Ok(None),
+        Ok(Begun::NoHead) => return Ok(Some(Err(Refused::BadHead))),
+        Err(fault) => return Err(unread(fault)),
+    };
+    let due = ask_by_head(alloc, desk, &head, reader);
+    drop(head);
+    match due {
+        Ok(due) => Ok(Some(due)),
+        Err(unread) => Err(unread),
+    }
+}

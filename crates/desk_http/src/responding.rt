@@ -1,0 +1,111 @@
+//! Responses to answers.
+ghost use Rattle.std.specs.Prelude.{◌≡◌, ◌⊎◌, IfOk, MatchResult};
+ghost use Rattle.std.specs.Io.KnownBytes.{Appends};
+ghost use Rattle.desk_bytes.specs.Output.{AppendsBeginning};
+ghost use Rattle.desk_responses.specs.Responses.{code_of, response_text};
+ghost use Rattle.desk_responses.specs.declared.content.Content.TheVariants.{Json};
+ghost use Rattle.desk_responses.specs.declared.status.Status.TheVariants as status;
+ghost use Rattle.desk_calls.specs.declared.answers.Answer.{Answer};
+ghost use Rattle.desk_http.specs.Responses as spec;
+ghost use Rattle.desk_http.specs.Sending as sending;
+
+use crate::{HttpFault, Served};
+use desk_bytes::put;
+use desk_calls::Answer;
+use desk_json::{reply_json, request_json, requests_json, verdict_json};
+use desk_responses::{
+    Content, Outage, Refused, Status, outage_response, refused_response, response,
+};
+use std::alloc::{AllocError, Global};
+use std::io::Write;
+
+/// The response of status 200 whose body is JSON, or empty where there is none.
+fn json_response(alloc: Global, json: Option<Vec<u8>>) -> Result<Vec<u8>, AllocError>
+    ensures { IfOk result (λ bytes. bytes.items ≡ response_text status.Ok Json (spec.items_or_none json)) }
+{
+    match json {
+        Some(text) => response(alloc, Status::Ok, Content::Json, &text),
+        None => response(alloc, Status::Ok, Content::Json, &[]),
+    }
+}
+
+/// The whole response to an answer. Takes memory.
+fn response_to(alloc: Global, answer: &Answer) -> Result<Vec<u8>, AllocError>
+    ensures { IfOk result (λ bytes. bytes.items ≡ spec.response_of answer.now) }
+{
+    match answer {
+        Answer::Reply(reply) => json_response(alloc, reply_json(alloc, reply)?),
+        Answer::Request(shown) => json_response(alloc, Some(request_json(alloc, shown)?)),
+        Answer::Requests(shown) => {
+            json_response(alloc, Some(requests_json(alloc, shown.as_slice())?))
+        }
+        Answer::Verdict(verdict, facts) => {
+            json_response(alloc, verdict_json(alloc, *verdict, facts)?)
+        }
+        Answer::Dbx(bytes) => response(alloc, Status::Ok, Content::Bytes, bytes.as_slice()),
+        Answer::Db(bytes) => response(alloc, Status::Ok, Content::Bytes, bytes.as_slice()),
+        Answer::Level(text) => response(alloc, Status::Ok, Content::Text, text.as_slice()),
+        Answer::Report(text) => response(alloc, Status::Ok, Content::Text, text.as_slice()),
+        Answer::Refused(refused) => refused_response(alloc, *refused),
+    }
+}
+
+/// The status of an answer, and the number of the refusal that it tells.
+fn told_by(answer: &Answer) -> Served
+    ensures { sending.IsToldBy answer.now result }
+{
+    match answer {
+        Answer::Refused(refused) => {
+            let code = refused.status().code();
+            Served::Answered(code.as_u16(), refused.refusal().number())
+        }
+        Answer::Reply(_)
+        | Answer::Request(_)
+        | Answer::Requests(_)
+        | Answer::Verdict(_, _)
+        | Answer::Dbx(_)
+        | Answer::Db(_)
+        | Answer::Level(_)
+        | Answer::Report(_) => Served::Answered(200, 0),
+    }
+}
+
+/// Writes the bytes of a response.
+fn send<W: Write>(bytes: &[u8], told: Served, writer: &mut W) -> Result<Served, HttpFault>
+    ensures { MatchResult result
+        (λ served. (served ≡ told) × Appends (W.contents writer.old) (W.contents writer.new) bytes.now)
+        (λ fault. (fault ≡ HttpFault.Write) × AppendsBeginning (W.contents writer.old) (W.contents writer.new) bytes.now) }
+{
+    match put(bytes, writer) {
+        Ok(()) => Ok(told),
+        Err(_) => Err(HttpFault::Write),
+    }
+}
+
+/// Writes the response where the desk can answer no request. Takes no memory.
+fn send_outage<W: Write>(outage: Outage, writer: &mut W) -> Result<Served, HttpFault>
+    ensures { sending.Sends (W.contents writer.old) (W.contents writer.new)
+        (Answer.Refused (Refused.Unavailable outage)) result }
+{
+    let told = Served::Answered(503, outage.refusal().number());
+    send(outage_response(outage), told, writer)
+}
+
+/// Writes the response to an answer, or that of want of memory where its text finds none. It is built whole
+/// before its first byte is written.
+pub(crate) fn send_answer<W: Write>(
+    alloc: Global,
+    answer: &Answer,
+    writer: &mut W,
+) -> Result<Served, HttpFault>
+    ensures { (told : Answer) × sending.Replaces answer.now told
+        × sending.Sends (W.contents writer.old) (W.contents writer.new) told result }
+{
+    if let Answer::Refused(Refused::Unavailable(outage)) = answer {
+        return send_outage(*outage, writer);
+    }
+    match response_to(alloc, answer) {
+        Ok(bytes) => send(&bytes, told_by(answer), writer),
+        Err(_) => send_outage(Outage::NoMemory, writer),
+    }
+}

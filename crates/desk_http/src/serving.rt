@@ -1,0 +1,89 @@
+//! One request and its response.
+ghost use Rattle.std.specs.Prelude.{◌≡◌, ◌≢◌, [], ℕ, List, IfErr, IfOk, IfSome, MatchOption, OnErr};
+ghost use Rattle.std.specs.Io.KnownBytes.{Keeps as Untouched};
+ghost use Rattle.desk_bytes.specs.Output.{AppendsBeginning};
+ghost use Rattle.desk_calls.specs.Answers.{Serves};
+ghost use Rattle.desk_calls.specs.Desks.{Keeps, Views};
+ghost use Rattle.desk_calls.specs.declared.answers.Answer.{Answer};
+ghost use Rattle.desk_http.specs.Responses.{response_of};
+ghost use Rattle.desk_http.specs.Serving as spec;
+
+use crate::reading::read_due;
+use crate::responding::send_answer;
+use crate::served::{Due, Unread};
+use crate::{HttpFault, Served};
+use desk_calls::{Answer, Answering, answer};
+use desk_responses::Refused;
+use std::alloc::Global;
+use std::io::{Read, Write};
+
+/// The answer to what is asked for.
+fn answer_due<D: Answering>(alloc: Global, desk: &mut D, due: Due) -> Answer
+    ensures served { D.clean desk.new → Views (D.shows desk.old) (λ owner cs.
+        Serves (D.shows desk.new owner) cs (spec.AnswersDue owner cs due) result) }
+    ensures before { D.clean desk.new → D.clean desk.old }
+{
+    match due {
+        Ok(call) => answer(alloc, desk, call),
+        Err(refused) => Answer::Refused(refused),
+    }
+}
+
+/// The answer to what the input asks for, or `None` where it has no byte.
+fn answer_input<D: Answering, R: Read>(
+    alloc: Global,
+    desk: &mut D,
+    reader: &mut R,
+) -> Result<Option<Answer>, HttpFault>
+    ensures answered { D.clean desk.new → IfOk result (λ found. IfSome (R.remaining reader.old) (λ b.
+        Views (D.shows desk.old) (λ owner cs. MatchOption found ((b ≡ []) × D.shows desk.new owner cs)
+        (Serves (D.shows desk.new owner) cs (spec.AnswersInput owner cs b))))) }
+    ensures unread { D.clean desk.new → OnErr result (Keeps (D.shows desk.old) (D.shows desk.new)) }
+    ensures fault { IfErr result (λ fault. fault ≢ HttpFault.Write) }
+    ensures before { D.clean desk.new → D.clean desk.old }
+{
+    match read_due(alloc, desk, reader) {
+        Ok(Some(due)) => Ok(Some(answer_due(alloc, desk, due))),
+        Ok(None) => Ok(None),
+        Err(Unread::Read) => Err(HttpFault::Read),
+        Err(Unread::NoMemory) => Err(HttpFault::NoMemory),
+        Err(Unread::Outage(outage)) => Ok(Some(Answer::Refused(Refused::Unavailable(outage)))),
+    }
+}
+
+/// Serves one connection: reads a request, asks the desk, and writes the response, which is built whole before its
+/// first byte is written. Of what follows the request nothing is read. Takes memory.
+///
+/// Where a call's answer or its text finds no memory, `Answered` has 503 and 40, and a command that was accepted
+/// stays accepted; where the store fails, 503 and 41, and where the desk needs to be opened again, 503 and 42.
+pub fn serve_one<D: Answering, R: Read, W: Write>(
+    alloc: Global,
+    desk: &mut D,
+    reader: &mut R,
+    writer: &mut W,
+) -> Result<Served, HttpFault>
+    ensures answered { D.clean desk.new → spec.WhenAnswered result (λ code number.
+        IfSome (R.remaining reader.old) (λ b. Views (D.shows desk.old) (λ owner cs. (told : Answer)
+        × spec.Responds (W.contents writer.old) (W.contents writer.new) told code number
+        × spec.Tells (D.shows desk.new owner) cs (spec.AnswersInput owner cs b) told))) }
+    ensures nothing { D.clean desk.new → spec.WhenNothing result
+        (IfSome (R.remaining reader.old) (λ b. Views (D.shows desk.old) (λ owner cs. (b ≡ [])
+        × Untouched (W.contents writer.old) (W.contents writer.new) × D.shows desk.new owner cs))) }
+
+    ensures unread { D.clean desk.new → spec.WhenUnread result
+        (Untouched (W.contents writer.old) (W.contents writer.new)
+        × Keeps (D.shows desk.old) (D.shows desk.new)) }
+    ensures unwritten { D.clean desk.new → spec.WhenUnwritten result
+        (IfSome (R.remaining reader.old) (λ b. Views (D.shows desk.old) (λ owner cs. (told : Answer)
+        × AppendsBeginning (W.contents writer.old) (W.contents writer.new) (response_of told)
+        × spec.Tells (D.shows desk.new owner) cs (spec.AnswersInput owner cs b) told))) }
+    ensures response { spec.WhenAnswered result (λ code number. (told : Answer)
+        × spec.Responds (W.contents writer.old) (W.contents writer.new) told code number) }
+    ensures before { D.clean desk.new → D.clean desk.old }
+{
+    match answer_input(alloc, desk, reader) {
+        Ok(Some(answer)) => send_answer(alloc, &answer, writer),
+        Ok(None) => Ok(Served::Nothing),
+        Err(fault) => Err(fault),
+    }
+}
