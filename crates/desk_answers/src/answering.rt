@@ -1,5 +1,5 @@
 //! A desk in a store is one that answers.
-ghost use Rattle.std.specs.Prelude.{◌≡◌};
+ghost use Rattle.std.specs.Prelude.{◌≡◌, ◌≢◌};
 ghost use Rattle.sqlite.specs.Held.{state};
 ghost use Rattle.sqlite.specs.State.{HasCleanDisk};
 ghost use Rattle.desk_store.specs.Desks.{ShowsDesk};
@@ -14,7 +14,10 @@ use sqlite::Alter;
 use std::alloc::Global;
 
 /// What an export into memory failed for: a vector takes each byte that it finds memory for.
-fn into_memory(refusal: Refusal) -> Refusal {
+fn into_memory(refusal: Refusal) -> Refusal
+    ensures write { refusal ≡ Refusal.Write → result ≡ Refusal.NoMemory }
+    ensures other { refusal ≢ Refusal.Write → result ≡ refusal }
+{
     if refusal == Refusal::Write {
         return Refusal::NoMemory;
     }

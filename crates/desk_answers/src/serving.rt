@@ -13,9 +13,11 @@ use std::alloc::Global;
 
 /// Answers a call, as `desk_calls::answer` does.
 pub fn answer<S: Alter + Drop>(alloc: Global, desk: &mut OpenDesk<S>, call: Call) -> Answer
-    ensures { HasCleanDisk (state S.Store desk.new.desk.conn) → (owner : List ℕ) (cs : History)
+    ensures served { HasCleanDisk (state S.Store desk.new.desk.conn) → (owner : List ℕ) (cs : History)
         → ShowsDesk S.Store desk.old.desk owner cs
         → Serves (ShowsDesk S.Store desk.new.desk owner) cs (Answers owner cs call) result }
+    ensures before { HasCleanDisk (state S.Store desk.new.desk.conn)
+        → HasCleanDisk (state S.Store desk.old.desk.conn) }
 {
     desk_calls::answer(alloc, desk, call)
 }
