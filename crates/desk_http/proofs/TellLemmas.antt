@@ -1,9 +1,10 @@
 -- What is told is what was served, or the want of memory in its place.
-use Rattle.std.proofs.Common.{◌≡◌, ◌⊎◌, ℕ, List, inl, inr, refl, sym, subst, true, false, Result, Ok, Err}
+use Rattle.std.proofs.Common.{◌≡◌, ◌⊎◌, ℕ, List, inl, inr, refl, sym, subst, true, false, Option, Some, None, IfSome}
 use Rattle.desk_history.specs.Calls.{History}
 use Rattle.desk_responses.specs.declared.outage.Outage.TheVariants as outage
 use Rattle.desk_responses.specs.declared.refused.Refused.TheVariants as refused
 use Rattle.desk_calls.specs.Answers.{Serves, no_memory, store_failed}
+use Rattle.desk_calls.specs.Desks.{Keeps, Views}
 use Rattle.desk_calls.specs.declared.answers.Answer.{Answer}
 use Rattle.desk_calls.specs.declared.answers.Answer.TheVariants as answer
 use Rattle.desk_http.specs.Asked.{Asks, Due}
@@ -16,10 +17,19 @@ pub serves_input : (shows : History → Type 0) (owner : List ℕ) (cs : History
 serves_input shows owner cs b due a asked (inl s) = inl (s.0, record { due = due; asked = asked; answered = s.1 }, s.2)
 serves_input shows owner cs b due a asked (inr failed) = inr failed
 
+-- the desk keeps what it shows while the request is read, and then answers it
+pub input_is_served : (known : Option (List ℕ)) (old mid new : List ℕ → History → Type 0) (due : Due) (a : Answer)
+    → IfSome known (λ b. Views old (λ _ cs. Asks cs b due)) → Keeps old mid
+    → Views mid (λ owner cs. Serves (new owner) cs (AnswersDue owner cs due) a)
+    → IfSome known (λ b. Views old (λ owner cs. Serves (new owner) cs (AnswersInput owner cs b) a))
+input_is_served None old mid new due a asked kept served = tt
+input_is_served (Some b) old mid new due a asked kept served =
+    λ owner cs shown. serves_input (new owner) owner cs b due a (asked owner cs shown) (served owner cs (kept owner cs shown))
+
 -- an answer is told as it is
 same_told : (shows : History → Type 0) (cs : History) (due : Answer → History → Type 0) (a : Answer)
     → Serves shows cs due a → Tells shows cs due a
-same_told shows cs due a (inl s) = inl (record { later = s.0; due = s.1; shown = s.2 })
+same_told shows cs due a (inl s) = inl (record { later = s.0; answered = s.1; shown = s.2 })
 same_told shows cs due a (inr (inl x)) = inr (inl (x.0, inl x.1))
 same_told shows cs due a (inr (inr e)) = inr (inr e)
 
@@ -29,7 +39,7 @@ store_is_outage a e own = let known : is_outage store_failed ≡ false = rw e at
 -- an answer whose text finds no memory
 untold : (shows : History → Type 0) (cs : History) (due : Answer → History → Type 0) (a : Answer)
     → Serves shows cs due a → is_outage a ≡ false → shows cs ⊎ ((x : Answer) × IsServed shows due x)
-untold shows cs due a (inl s) own = inr (a, record { later = s.0; due = s.1; shown = s.2 })
+untold shows cs due a (inl s) own = inr (a, record { later = s.0; answered = s.1; shown = s.2 })
 untold shows cs due a (inr (inl x)) own = inl x.1
 untold shows cs due a (inr (inr e)) own = absurd (store_is_outage a e own)
 

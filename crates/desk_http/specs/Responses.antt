@@ -79,7 +79,7 @@ number_of (Level text) = 0
 number_of (Report text) = 0
 number_of (Refused refused) = rows.number_of (refusals.refusal_of refused)
 
--- a status and a number are those of an answer
-pub record IsTold (a : Answer) (code number : ℕ) : Type 0 where
+-- a code and a number are those of an answer
+pub record IsTold (a : Answer) (code told : ℕ) : Type 0 where
   pub status : code ≡ code_of (status_of a)
-  pub number : number ≡ number_of a
+  pub number : told ≡ number_of a

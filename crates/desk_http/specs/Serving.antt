@@ -28,7 +28,7 @@ pub record AnswersInput (owner : List ℕ) (cs : History) (b : List ℕ) (a : An
 -- the desk shows the history after an answer that is due
 pub record IsServed (shows : History → Type 0) (due : Answer → History → Type 0) (a : Answer) : Type 0 where
   pub later : History
-  pub due : due a later
+  pub answered : due a later
   pub shown : shows later
 
 -- What is told is an answer that is due, or the want of memory, also for an answer whose text found none,
@@ -39,9 +39,9 @@ Tells shows cs due told =
     ⊎ (((told ≡ no_memory) × (shows cs ⊎ ((a : Answer) × IsServed shows due a))) ⊎ (told ≡ store_failed))
 
 -- the response to an answer went out, with its status and number
-pub record Responds (old new : Option (List ℕ)) (told : Answer) (code number : ℕ) : Type 0 where
-  pub written : Appends old new (response_of told)
-  pub told : IsTold told code number
+pub record Responds (old new : Option (List ℕ)) (a : Answer) (code number : ℕ) : Type 0 where
+  pub written : Appends old new (response_of a)
+  pub told : IsTold a code number
 
 -- where a response went out
 abbrev pub WhenAnswered : Result Served HttpFault → (ℕ → ℕ → Type 0) → Type 0

@@ -1,5 +1,5 @@
 //! Responses to answers.
-ghost use Rattle.std.specs.Prelude.{◌≡◌, ◌⊎◌, IfOk, MatchResult};
+ghost use Rattle.std.specs.Prelude.{◌≡◌, IfOk, MatchOption, MatchResult, false};
 ghost use Rattle.std.specs.Io.KnownBytes.{Appends};
 ghost use Rattle.desk_bytes.specs.Output.{AppendsBeginning};
 ghost use Rattle.desk_responses.specs.Responses.{code_of, response_text};
@@ -70,6 +70,25 @@ fn told_by(answer: &Answer) -> Served
     }
 }
 
+/// Why the answer tells that the desk can answer no request, if it tells that.
+fn outage_in(answer: &Answer) -> Option<Outage>
+    ensures { MatchOption result (sending.is_outage answer.now ≡ false)
+        (λ outage. answer.now ≡ Answer.Refused (Refused.Unavailable outage)) }
+{
+    match answer {
+        Answer::Refused(Refused::Unavailable(outage)) => Some(*outage),
+        Answer::Refused(_)
+        | Answer::Reply(_)
+        | Answer::Request(_)
+        | Answer::Requests(_)
+        | Answer::Verdict(_, _)
+        | Answer::Dbx(_)
+        | Answer::Db(_)
+        | Answer::Level(_)
+        | Answer::Report(_) => None,
+    }
+}
+
 /// Writes the bytes of a response.
 fn send<W: Write>(bytes: &[u8], told: Served, writer: &mut W) -> Result<Served, HttpFault>
     ensures { MatchResult result
@@ -101,8 +120,9 @@ pub(crate) fn send_answer<W: Write>(
     ensures { (told : Answer) × sending.Replaces answer.now told
         × sending.Sends (W.contents writer.old) (W.contents writer.new) told result }
 {
-    if let Answer::Refused(Refused::Unavailable(outage)) = answer {
-        return send_outage(*outage, writer);
+    match outage_in(answer) {
+        Some(outage) => return send_outage(outage, writer),
+        None => {}
     }
     match response_to(alloc, answer) {
         Ok(bytes) => send(&bytes, told_by(answer), writer),

@@ -1,9 +1,6 @@
 //! Requests one after another.
-ghost use Rattle.std.specs.Prelude.{◌≡◌, ◌≤◌, ℕ, List, length};
-ghost use Rattle.std.specs.Io.KnownBytes.{Appends};
-ghost use Rattle.desk_calls.specs.Desks.{Views};
-ghost use Rattle.desk_history.specs.Calls.{History};
-ghost use Rattle.desk_http.specs.Each.{RespondsToEach, is_outage_number};
+ghost use Rattle.std.specs.Prelude.{◌≡◌, ◌≤◌, IsTrue, length};
+ghost use Rattle.desk_http.specs.Each.{ServesEach, ServesNext, is_outage_number};
 
 use crate::Served;
 use crate::serving::serve_one;
@@ -19,6 +16,25 @@ fn is_outage(number: u8) -> bool
     number == Refusal::NoMemory.number() || number == Refusal::Store.number()
 }
 
+/// Serves an input as a connection of its own, and tells whether the desk answered it.
+fn serve_next<D: Answering, W: Write>(
+    alloc: Global,
+    desk: &mut D,
+    input: &[u8],
+    writer: &mut W,
+) -> bool
+    ensures next { D.clean desk.new → IsTrue result
+        → ServesNext (D.shows desk.old) (D.shows desk.new) (W.contents writer.old) (W.contents writer.new) input.now }
+    ensures before { D.clean desk.new → D.clean desk.old }
+{
+    let mut reader = input;
+    match serve_one(alloc, desk, &mut reader, writer) {
+        Ok(Served::Answered(_, number)) => !is_outage(number),
+        Ok(Served::Nothing) => true,
+        Err(_) => false,
+    }
+}
+
 /// Serves inputs one after another, each as a connection of its own, and writes their responses one behind
 /// another. Gives how many were served: all, or those before the first that met a fault, or whose response
 /// tells that memory or the store failed. Takes memory.
@@ -30,23 +46,13 @@ pub fn serve_each<D: Answering, W: Write>(
 ) -> usize
     ensures within { result ≤ length inputs.now }
     ensures all { D.clean desk.new → result ≡ length inputs.now
-        → Views (D.shows desk.old) (λ owner cs. (text : List ℕ) × (last : History)
-        × RespondsToEach owner cs inputs.now text last
-        × Appends (W.contents writer.old) (W.contents writer.new) text
-        × D.shows desk.new owner last) }
+        → ServesEach (D.shows desk.old) (D.shows desk.new) (W.contents writer.old) (W.contents writer.new) inputs.now }
     ensures before { D.clean desk.new → D.clean desk.old }
 {
     let mut served = 0;
     for input in inputs {
-        let mut reader = input.as_slice();
-        match serve_one(alloc, desk, &mut reader, writer) {
-            Ok(Served::Answered(_, number)) => {
-                if is_outage(number) {
-                    return served;
-                }
-            }
-            Ok(Served::Nothing) => {}
-            Err(_) => return served,
+        if !serve_next(alloc, desk, input.as_slice(), writer) {
+            return served;
         }
         served += 1;
     }

@@ -1,0 +1,66 @@
+-- What went out, and what was served by it.
+use Rattle.std.proofs.Common.{◌≡◌, ℕ, List, sym, Option, Some, None, Result, Ok, Err, IfSome, MatchResult}
+use Rattle.std.specs.Io.KnownBytes.{Appends}
+use Rattle.desk_bytes.specs.Output.{AppendsBeginning}
+use Rattle.desk_history.specs.Calls.{History}
+use Rattle.desk_calls.specs.Answers.{Serves}
+use Rattle.desk_calls.specs.Desks.{Views}
+use Rattle.desk_calls.specs.declared.answers.Answer.{Answer}
+use Rattle.desk_http.specs.Responses.{response_of}
+use Rattle.desk_http.specs.Sending.{IsToldBy, Replaces, Sends}
+use Rattle.desk_http.specs.Serving.{AnswersInput, Responds, Tells, WhenAnswered, WhenUnwritten}
+use Rattle.desk_http.specs.declared.served.HttpFault.{HttpFault}
+use Rattle.desk_http.specs.declared.served.HttpFault.TheVariants.{Read, Write, NoMemory}
+use Rattle.desk_http.specs.declared.served.Served.{Served}
+use Rattle.desk_http.specs.declared.served.Served.TheVariants.{Answered, Nothing}
+use Rattle.desk_http.proofs.TellLemmas.{told_is_served}
+
+-- the bytes of a response were sent, or a beginning of them
+pub sends_response : (old new : Option (List ℕ)) (a : Answer) (bytes : List ℕ) (told : Served) (r : Result Served HttpFault)
+    → IsToldBy a told → bytes ≡ response_of a
+    → MatchResult r (λ served. (served ≡ told) × Appends old new bytes) (λ fault. (fault ≡ Write) × AppendsBeginning old new bytes)
+    → Sends old new a r
+sends_response old new a bytes told (Ok (Answered code number)) says e sent = record {
+  written = rw (sym e) sent.1;
+  told = rw (sym sent.0) at says;
+}
+sends_response old new a bytes told (Ok Nothing) says e sent = rw (sym sent.0) at says
+sends_response old new a bytes told (Err Read) says e sent = let same : Read ≡ Write = sent.0 in cc
+sends_response old new a bytes told (Err Write) says e sent = rw (sym e) sent.1
+sends_response old new a bytes told (Err NoMemory) says e sent = let same : NoMemory ≡ Write = sent.0 in cc
+
+-- the response went out, or a beginning of it, of the answer that is told in this one's place
+abbrev pub SendsFor : (before after : Option (List ℕ)) → Answer → Result Served HttpFault → Type 0
+SendsFor before after a r = (told : Answer) × Replaces a told × Sends before after told r
+
+-- the desk answers the known input so
+abbrev pub ServesKnown : Option (List ℕ) → (old new : List ℕ → History → Type 0) → Answer → Type 0
+ServesKnown known old new a =
+    IfSome known (λ b. Views old (λ owner cs. Serves (new owner) cs (AnswersInput owner cs b) a))
+
+pub answered_is_told : (known before after : Option (List ℕ)) (old new : List ℕ → History → Type 0) (a : Answer) (r : Result Served HttpFault)
+    → ServesKnown known old new a → SendsFor before after a r
+    → WhenAnswered r (λ code number. IfSome known (λ b. Views old (λ owner cs. (told : Answer)
+    × Responds before after told code number × Tells (new owner) cs (AnswersInput owner cs b) told)))
+answered_is_told known before after old new a (Err fault) served sent = tt
+answered_is_told known before after old new a (Ok Nothing) served sent = tt
+answered_is_told None before after old new a (Ok (Answered code number)) served sent = tt
+answered_is_told (Some b) before after old new a (Ok (Answered code number)) served sent = λ owner cs shown.
+    (sent.0, sent.2, told_is_served (new owner) cs (AnswersInput owner cs b) a sent.0 (served owner cs shown) sent.1)
+
+pub unwritten_is_told : (known before after : Option (List ℕ)) (old new : List ℕ → History → Type 0) (a : Answer) (r : Result Served HttpFault)
+    → ServesKnown known old new a → SendsFor before after a r
+    → WhenUnwritten r (IfSome known (λ b. Views old (λ owner cs. (told : Answer)
+    × AppendsBeginning before after (response_of told) × Tells (new owner) cs (AnswersInput owner cs b) told)))
+unwritten_is_told known before after old new a (Ok s) served sent = tt
+unwritten_is_told known before after old new a (Err Read) served sent = tt
+unwritten_is_told known before after old new a (Err NoMemory) served sent = tt
+unwritten_is_told None before after old new a (Err Write) served sent = tt
+unwritten_is_told (Some b) before after old new a (Err Write) served sent = λ owner cs shown.
+    (sent.0, sent.2, told_is_served (new owner) cs (AnswersInput owner cs b) a sent.0 (served owner cs shown) sent.1)
+
+pub response_is_told : (before after : Option (List ℕ)) (a : Answer) (r : Result Served HttpFault) → SendsFor before after a r
+    → WhenAnswered r (λ code number. (told : Answer) × Responds before after told code number)
+response_is_told before after a (Err fault) sent = tt
+response_is_told before after a (Ok Nothing) sent = tt
+response_is_told before after a (Ok (Answered code number)) sent = (sent.0, sent.2)

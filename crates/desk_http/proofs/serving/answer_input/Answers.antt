@@ -1,0 +1,9 @@
+use Rattle.desk_http.proofs.TellLemmas.{input_is_served}
+use Rattle.desk_http.proofs.serving.answer_input.Goals as goal
+
+pub returns-in-Ok-Some-clause-answered : goal.returns-in-Ok-Some-clause-answered
+returns-in-Ok-Some-clause-answered g c = λ clean.
+    let before = c.answer_due.ensures.before clean in
+    input_is_served (g.R.Read.remaining c.args.reader.now) (g.D.Answering.shows c.args.desk.now) (g.D.Answering.shows c.read_due.new.desk)
+    (g.D.Answering.shows c.answer_due.new.desk) c.in-Ok-Some.due c.answer_due.result
+    (rw c.in-Ok-Some.field-0-is at (c.in-Ok-Some.ensures.asked before)) (c.in-Ok-Some.ensures.same before (λ e. cc)) (c.answer_due.ensures.served clean)
