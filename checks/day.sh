@@ -176,7 +176,7 @@ run 0 added '' uwe person desk.db uwe signer k7
 
 # ---- help, in the order of a day's work
 
-subcommands='init person facts ranges verdict db dbx level list pack minutes'
+subcommands='init person serve answer facts ranges verdict db dbx level list pack minutes'
 "$program" help > help
 order=$(sed -n 's/^  \([a-z]*\)  .*/\1/p' help | tr '\n' ' ')
 case $order in

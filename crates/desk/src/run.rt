@@ -1,13 +1,13 @@
 //! From what the words say to the work.
 use desk_bytes::{Guid, Refusal, WriteFailed};
 use desk_files::{
-    Ending, Export, add_person, export_from, judge_image, make_desk, print_ending, read_file,
-    read_image,
+    Ending, Export, add_person, answer_from, export_from, judge_image, make_desk, print_ending,
+    read_file, read_image, serve_from,
 };
 use desk_lines::{Fault, print_facts, print_fault, print_list, print_ranges};
 use desk_service::facts;
-use desk_values::{Stop, owner_from, person_from};
-use desk_words::{PersonWords, Words};
+use desk_values::{Stop, owner_from, person_from, place_from};
+use desk_words::{PersonWords, ServeWords, Words};
 use siglist::pack;
 use std::alloc::Global;
 use std::io::{BufWriter, Read, Write};
@@ -101,6 +101,20 @@ fn run_person(rt: &HostRuntime, words: PersonWords<'_>) -> Result<Ending, Stop> 
     Ok(add_person(rt, db, &key, person, &mut out))
 }
 
+/// Serves requests, one connection after another.
+fn run_serve(rt: &HostRuntime, words: ServeWords<'_>) -> Result<Ending, Stop> {
+    let ServeWords { db, port, count } = words;
+    match place_from(port, count) {
+        Ok(place) => Ok(serve_from(rt, db, place.port, place.count)),
+        Err(why) => Err(why),
+    }
+}
+
+/// Answers the request on the standard input.
+fn run_answer(rt: &HostRuntime, db: &str) -> Result<Ending, Stop> {
+    Ok(answer_from(rt, db, rt.stdin(), &mut rt.stdout()))
+}
+
 /// Prints a verdict.
 fn run_verdict(rt: &HostRuntime, db: &str, file: &str) -> Result<Ending, Stop> {
     let mut out = buffered(rt.alloc(), rt.stdout())?;
@@ -151,6 +165,8 @@ pub fn run(rt: &HostRuntime, line: Words<'_>) -> ExitCode {
     match line {
         Words::Init { db, owner } => status_of_ending(rt, run_init(rt, db, owner)),
         Words::Person(words) => status_of_ending(rt, run_person(rt, words)),
+        Words::Serve(words) => status_of_ending(rt, run_serve(rt, words)),
+        Words::Answer { db } => status_of_ending(rt, run_answer(rt, db)),
         Words::Facts { file } => status_of(rt, run_facts(rt, file)),
         Words::Ranges { file } => status_of(rt, run_ranges(rt, file)),
         Words::Verdict { db, file } => status_of_ending(rt, run_verdict(rt, db, file)),

@@ -14,7 +14,7 @@ IsRow P fault = (fault.place ≡ None) × P fault.refusal
 
 -- own: a file can't be opened, or memory was refused
 abbrev pub IsFileRefusal : Refusal → Type 0
-IsFileRefusal refusal = (refusal ≡ refusals.File) ⊎ (refusal ≡ refusals.NoMemory)
+IsFileRefusal refusal = (refusal ≡ refusals.NoMemory) ⊎ (refusal ≡ refusals.File)
 
 -- own: no desk is made: the file, tables that are there already, or a device
 abbrev pub IsMakingRefusal : Refusal → Type 0
@@ -39,6 +39,12 @@ IsWritingRefusal refusal = (refusal ≡ refusals.Reopen) ⊎ IsExportFailure ref
 -- own: after these the desk has to be opened again
 abbrev pub IsLasting : Refusal → Type 0
 IsLasting refusal = (refusal ≡ refusals.Store) ⊎ (refusal ≡ refusals.Reopen)
+
+-- own: what one request is told as: the desk has to be opened again, or the request itself was stopped
+abbrev pub IsToldRefusal : Refusal → Type 0
+IsToldRefusal refusal =
+    IsLasting refusal
+    ⊎ ((refusal ≡ refusals.Read) ⊎ ((refusal ≡ refusals.Write) ⊎ (refusal ≡ refusals.NoMemory)))
 
 -- own: the refusals that only an opening gives
 abbrev pub IsOfOpening : Refusal → Type 0

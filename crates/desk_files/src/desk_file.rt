@@ -1,13 +1,14 @@
 //! A desk's file: made, opened and closed.
-ghost use Rattle.std.specs.Prelude.{◌≡◌, None, IfErr, IfOk, IfSome, false, true};
+ghost use Rattle.std.specs.Prelude.{◌≡◌, None, IfErr, IfSome, true};
 ghost use Rattle.desk_files.specs.Faults.{IsClosingRefusal, IsFileRefusal, IsMakingRefusal};
 ghost use Rattle.desk_files.specs.Faults.{IsLasting, IsOpeningRefusal, IsRow};
 
 use crate::ending::{Ending, Outcome};
 use desk_bytes::{Guid, Refusal};
+use desk_connections::connect;
 use desk_lines::Fault;
 use desk_store::Desk;
-use sqlite::{Connection, Error, ErrorCode, File, FileStore};
+use sqlite::{Connection, File, FileStore, Unknown};
 use std::{fs, io};
 
 /// A connection to a file.
@@ -16,34 +17,9 @@ type FileConnection = Connection<FileStore<File>>;
 /// A desk in a file.
 pub(crate) type FileDesk = Desk<FileStore<File>>;
 
-/// Whether the database failed for want of memory.
-fn is_out_of_memory(error: &Error) -> bool {
-    match error {
-        Error::SqliteFailure(ErrorCode::OutOfMemory) => true,
-        _ => false,
-    }
-}
-
 /// Lets a connection go without closing it: nothing is written.
 fn let_go(conn: FileConnection) {
     let _ = conn;
-}
-
-/// Opens a file, or makes it. File: it can't be opened, is no database, or is in use.
-fn connect(rt: &HostRuntime, path: &str) -> Result<FileConnection, Refusal>
-    ensures outside { IfOk result (λ conn. conn.in_transaction ≡ false) }
-    ensures named { IfErr result IsFileRefusal }
-{
-    match Connection::open(rt, path) {
-        Ok(conn) => Ok(conn),
-        Err(error) => {
-            if is_out_of_memory(&error) {
-                Err(Refusal::NoMemory)
-            } else {
-                Err(Refusal::File)
-            }
-        }
-    }
 }
 
 /// Whether there is something at a path.
@@ -61,7 +37,7 @@ fn is_there(rt: &HostRuntime, path: &str) -> Result<bool, Refusal>
 pub(crate) fn make(rt: &HostRuntime, path: &str, owner: &Guid) -> Result<FileDesk, Refusal>
     ensures { IfErr result IsMakingRefusal }
 {
-    let conn = match connect(rt, path) {
+    let conn = match connect(rt, path, Unknown) {
         Ok(conn) => conn,
         Err(refusal) => return Err(refusal),
     };
@@ -78,7 +54,7 @@ pub(crate) fn make(rt: &HostRuntime, path: &str, owner: &Guid) -> Result<FileDes
 fn open_there(rt: &HostRuntime, path: &str) -> Result<FileDesk, Refusal>
     ensures { IfErr result IsOpeningRefusal }
 {
-    let conn = match connect(rt, path) {
+    let conn = match connect(rt, path, Unknown) {
         Ok(conn) => conn,
         Err(refusal) => return Err(refusal),
     };

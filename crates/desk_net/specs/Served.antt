@@ -3,10 +3,10 @@ use Rattle.std.specs.Prelude.{ℕ, Option, None, Some, Result, Ok, Err, ◌==◌
 use Rattle.desk_bytes.specs.Refusals.{number_of}
 use Rattle.desk_bytes.specs.declared.refusal.Refusal.{Refusal}
 use Rattle.desk_bytes.specs.declared.refusal.Refusal.TheVariants as refusals
-use Rattle.desk_net.specs.declared.stand_in.HttpFault.{HttpFault}
-use Rattle.desk_net.specs.declared.stand_in.HttpFault.TheVariants as fault
-use Rattle.desk_net.specs.declared.stand_in.Served.{Served}
-use Rattle.desk_net.specs.declared.stand_in.Served.TheVariants.{Answered, Nothing}
+use Rattle.desk_http.specs.declared.served.HttpFault.{HttpFault}
+use Rattle.desk_http.specs.declared.served.HttpFault.TheVariants as fault
+use Rattle.desk_http.specs.declared.served.Served.{Served}
+use Rattle.desk_http.specs.declared.served.Served.TheVariants.{Answered, Nothing}
 
 -- own: after a response with one of these numbers the desk has to be opened again
 abbrev pub lasting : ℕ → Option Refusal

@@ -3,8 +3,9 @@ ghost use Rattle.std.specs.Prelude.{IfSome};
 ghost use Rattle.desk_net.specs.Faults.{IsLasting};
 
 use crate::served::ending;
-use crate::stand_in::{Answering, HttpFault, Served, serve_one};
 use desk_bytes::Refusal;
+use desk_calls::Answering;
+use desk_http::{HttpFault, Served, serve_one};
 use std::alloc::Global;
 use std::io::{BufReader, Read, Write};
 use std::net::{Shutdown, TcpStream};

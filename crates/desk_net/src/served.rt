@@ -2,8 +2,8 @@
 ghost use Rattle.std.specs.Prelude.{◌≡◌};
 ghost use Rattle.desk_net.specs.Served as spec;
 
-use crate::stand_in::{HttpFault, Served};
 use desk_bytes::Refusal;
+use desk_http::{HttpFault, Served};
 
 /// The refusal after which the desk has to be opened again, by the number of a response.
 fn lasting(number: u8) -> Option<Refusal>

@@ -3,8 +3,8 @@ ghost use Rattle.std.specs.Prelude.{◌≡◌, IfErr};
 ghost use Rattle.desk_net.specs.Faults.{IsServingRefusal};
 
 use crate::connection::serve_stream;
-use crate::stand_in::Answering;
 use desk_bytes::Refusal;
+use desk_calls::Answering;
 use std::alloc::Global;
 use std::net::{Ipv4Addr, Net, SocketAddr, SocketAddrV4, TcpListener, TcpStream};
 

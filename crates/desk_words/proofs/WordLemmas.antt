@@ -15,7 +15,7 @@ use Rattle.clap.specs.declared.parser.matches.ArgMatches.{ArgMatches}
 use Rattle.clap.proofs.OnLiterals.{clap_on_literals}
 use Rattle.clap.proofs.WalkLemmas.{walk_stopped}
 use Rattle.desk_words.specs.Commands.{desk_app, id_of, subcommand_shape, word_rule}
-use Rattle.desk_words.specs.Lines.{Answers, IsPlainWord, Line, Spells, Takes, db, dbx, facts, init, level, line_found, line_in, line_of, list, minutes, pack, person, ranges, subcommand_name, verdict, words_after}
+use Rattle.desk_words.specs.Lines.{Answers, IsPlainWord, Line, Spells, Takes, answer, db, dbx, facts, init, level, line_found, line_in, line_of, list, minutes, pack, person, ranges, serve, subcommand_name, verdict, words_after}
 use Rattle.desk_words.specs.declared.line.Words.{Words}
 use Rattle.desk_words.specs.declared.line.WordsFault.{WordsFault}
 use Rattle.desk_words.specs.declared.line.WordsFault.TheVariants.{Missing}
@@ -125,6 +125,28 @@ takes_two name first second plain =
       ) refl;
     }
 
+takes_three : (name first second third : Text) → All IsPlainWord (first ∷ second ∷ third ∷ []) → TakesWords name (first ∷ second ∷ third ∷ [])
+unfolding walk_passes
+takes_three name first second third plain =
+    let p0 : IsPlainWord first = plain 0 [] (omega arith) in
+    let p1 : IsPlainWord second = plain 1 [] (omega arith) in
+    let p2 : IsPlainWord third = plain 2 [] (omega arith) in
+    record {
+      passes = rw (
+        turn_plain (leaf name 3) (positional 0) nothing_held 1 first p0 refl,
+        walked_plain (leaf name 3).rules (positional 0) nothing_held 1 first p0 refl,
+        turn_plain (leaf name 3) (positional 1) (held_with 3 0 nothing_held first) 2 second p1 refl,
+        walked_plain (leaf name 3).rules (positional 1) (held_with 3 0 nothing_held first) 2 second p1 refl,
+        turn_plain (leaf name 3) (positional 2) (held_two 3 first second) 3 third p2 refl,
+        walked_plain (leaf name 3).rules (positional 2) (held_two 3 first second) 3 third p2 refl,
+      ) refl;
+      rows = rw (
+        walked_plain (leaf name 3).rules (positional 0) nothing_held 1 first p0 refl,
+        walked_plain (leaf name 3).rules (positional 1) (held_with 3 0 nothing_held first) 2 second p1 refl,
+        walked_plain (leaf name 3).rules (positional 2) (held_two 3 first second) 3 third p2 refl,
+      ) refl;
+    }
+
 takes_four : (name first second third fourth : Text) → All IsPlainWord (first ∷ second ∷ third ∷ fourth ∷ [])
     → TakesWords name (first ∷ second ∷ third ∷ fourth ∷ [])
 unfolding walk_passes
@@ -216,6 +238,8 @@ begins : (line : Line) → Begins (subcommand_name line) (leaf (subcommand_name 
 unfolding clap_on_literals
 begins (init path owner) = record { walks = refl; passes = refl; found = refl }
 begins (person path name role key) = record { walks = refl; passes = refl; found = refl }
+begins (serve path port count) = record { walks = refl; passes = refl; found = refl }
+begins (answer path) = record { walks = refl; passes = refl; found = refl }
 begins (facts file) = record { walks = refl; passes = refl; found = refl }
 begins (ranges file) = record { walks = refl; passes = refl; found = refl }
 begins (verdict path file) = record { walks = refl; passes = refl; found = refl }
@@ -229,6 +253,8 @@ begins (minutes path) = record { walks = refl; passes = refl; found = refl }
 takes_words : (line : Line) → All IsPlainWord (words_after line) → TakesWords (subcommand_name line) (words_after line)
 takes_words (init path owner) plain = takes_two (codes "init") path owner plain
 takes_words (person path name role key) plain = takes_four (codes "person") path name role key plain
+takes_words (serve path port count) plain = takes_three (codes "serve") path port count plain
+takes_words (answer path) plain = takes_one (codes "answer") path plain
 takes_words (facts file) plain = takes_one (codes "facts") file plain
 takes_words (ranges file) plain = takes_one (codes "ranges") file plain
 takes_words (verdict path file) plain = takes_two (codes "verdict") path file plain
@@ -242,6 +268,8 @@ takes_words (minutes path) plain = takes_one (codes "minutes") path plain
 reads_back : (line : Line) → line_in (subcommand_name line, rows_from 0 (words_after line)) ≡ Some line
 reads_back (init path owner) = refl
 reads_back (person path name role key) = refl
+reads_back (serve path port count) = refl
+reads_back (answer path) = refl
 reads_back (facts file) = refl
 reads_back (ranges file) = refl
 reads_back (verdict path file) = refl

@@ -36,6 +36,13 @@ with_founding app =
     (subcommand_shape (codes "init") 2))
     (subcommand_shape (codes "person") 4)
 
+-- with the subcommands that take requests
+abbrev pub with_requests : App → App
+with_requests app =
+    with_subcommand (with_subcommand app
+    (subcommand_shape (codes "serve") 3))
+    (subcommand_shape (codes "answer") 1)
+
 -- with the subcommands that look at an image
 abbrev pub with_images : App → App
 with_images app =
@@ -62,5 +69,5 @@ with_lists app =
 -- own: the program's command, its subcommands in the order of a day's work
 abbrev pub desk_app : App
 desk_app =
-    with_subcommand (with_lists (with_exports (with_images (with_founding bare_app))))
+    with_subcommand (with_lists (with_exports (with_images (with_requests (with_founding bare_app)))))
     (subcommand_shape (codes "minutes") 1)

@@ -14,6 +14,8 @@ use Rattle.desk_words.specs.declared.line.WordsFault.TheVariants.{Missing, NoMem
 pub data Line : Type 0 where
   init : Text → Text → Line
   person : Text → Text → Text → Text → Line
+  serve : Text → Text → Text → Line
+  answer : Text → Line
   facts : Text → Line
   ranges : Text → Line
   verdict : Text → Text → Line
@@ -28,6 +30,8 @@ pub data Line : Type 0 where
 abbrev pub subcommand_name : Line → Text
 subcommand_name (init path owner) = codes "init"
 subcommand_name (person path name role key) = codes "person"
+subcommand_name (serve path port count) = codes "serve"
+subcommand_name (answer path) = codes "answer"
 subcommand_name (facts file) = codes "facts"
 subcommand_name (ranges file) = codes "ranges"
 subcommand_name (verdict path file) = codes "verdict"
@@ -42,6 +46,8 @@ subcommand_name (minutes path) = codes "minutes"
 abbrev pub words_after : Line → List Text
 words_after (init path owner) = path ∷ owner ∷ []
 words_after (person path name role key) = path ∷ name ∷ role ∷ key ∷ []
+words_after (serve path port count) = path ∷ port ∷ count ∷ []
+words_after (answer path) = path ∷ []
 words_after (facts file) = file ∷ []
 words_after (ranges file) = file ∷ []
 words_after (verdict path file) = path ∷ file ∷ []
@@ -56,6 +62,8 @@ words_after (minutes path) = path ∷ []
 abbrev pub line_of : Words → Line
 line_of (said.Init path owner) = init path.now owner.now
 line_of (said.Person words) = person words.db.now words.name.now words.role.now words.key.now
+line_of (said.Serve words) = serve words.db.now words.port.now words.count.now
+line_of (said.Answer path) = answer path.now
 line_of (said.Facts file) = facts file.now
 line_of (said.Ranges file) = ranges file.now
 line_of (said.Verdict path file) = verdict path.now file.now
@@ -78,6 +86,11 @@ one_in line rows = with_word rows 0 (λ word. Some (line word))
 abbrev pub two_in : (Text → Text → Line) → List Row → Option Line
 two_in line rows = with_word rows 0 (λ word. with_word rows 1 (λ other. Some (line word other)))
 
+-- what `serve` says
+abbrev pub serve_in : List Row → Option Line
+serve_in rows =
+    with_word rows 0 (λ path. with_word rows 1 (λ port. with_word rows 2 (λ count. Some (serve path port count))))
+
 -- what `person` says
 abbrev pub person_in : List Row → Option Line
 person_in rows =
@@ -89,6 +102,8 @@ abbrev pub line_in : Text × List Row → Option Line
 line_in (name, rows) =
     if bytes_eq name (codes "init") then two_in init rows
     else if bytes_eq name (codes "person") then person_in rows
+    else if bytes_eq name (codes "serve") then serve_in rows
+    else if bytes_eq name (codes "answer") then one_in answer rows
     else if bytes_eq name (codes "facts") then one_in facts rows
     else if bytes_eq name (codes "ranges") then one_in ranges rows
     else if bytes_eq name (codes "verdict") then two_in verdict rows

@@ -150,6 +150,44 @@ fn with_founding<'a>(alloc: Global, command: Command<'a>) -> Result<Command<'a>,
     with_person(alloc, command)
 }
 
+/// The command with `serve`.
+fn with_serve<'a>(alloc: Global, command: Command<'a>) -> Result<Command<'a>, AllocError>
+    ensures { IfOk result (λ c. app_of c
+        ≡ with_subcommand (app_of command.entry) (subcommand_shape (codes "serve") 3)) }
+{
+    let port = Shown {
+        name: "PORT",
+        help: "The port of 127.0.0.1, 1 to 65535",
+    };
+    let count = Shown {
+        name: "COUNT",
+        help: "How many connections are served, 1 to 1000000",
+    };
+    with_one_more(
+        alloc,
+        command,
+        "serve",
+        "Serves requests to a desk over HTTP, one connection after another",
+        help::SERVE,
+        &[db(), port, count],
+    )
+}
+
+/// The command with the subcommands that take requests.
+fn with_requests<'a>(alloc: Global, command: Command<'a>) -> Result<Command<'a>, AllocError>
+    ensures { IfOk result (λ c. app_of c ≡ spec.with_requests (app_of command.entry)) }
+{
+    let command = with_serve(alloc, command)?;
+    with_one_more(
+        alloc,
+        command,
+        "answer",
+        "Answers one request to a desk, an HTTP request on standard input",
+        help::ANSWER,
+        &[db()],
+    )
+}
+
 /// The command with `verdict`.
 fn with_verdict<'a>(alloc: Global, command: Command<'a>) -> Result<Command<'a>, AllocError>
     ensures { IfOk result (λ c. app_of c
@@ -262,6 +300,7 @@ pub fn desk_command<'a>(alloc: Global) -> Result<Command<'a>, AllocError>
     ensures { IfOk result (λ c. app_of c ≡ desk_app) }
 {
     let command = with_founding(alloc, bare(alloc)?)?;
+    let command = with_requests(alloc, command)?;
     let command = with_images(alloc, command)?;
     let command = with_exports(alloc, command)?;
     let command = with_lists(alloc, command)?;

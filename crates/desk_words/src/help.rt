@@ -17,6 +17,25 @@ Example: desk person desk.db olga officer k1 < token.txt
 
 Status: 0 done, 1 refused, 2 a word or the token is wrong, 3 a device failed, as where DB isn't there or is in use";
 
+pub const SERVE: &str = "\
+Takes COUNT connections at PORT of 127.0.0.1, one after another, and then ends. Reads one HTTP request of each, and
+writes its response: submissions, reviews, returns, what is listed and revoked, verdicts and exports. What stops a
+connection ends that connection alone; a peer that sends nothing holds all. Prints nothing.
+
+Example: desk serve desk.db 8080 1000
+
+Status: 0 done, whatever the responses were, 1 DB holds no desk, 2 a word is wrong, 3 a device failed, as where PORT is
+taken or DB isn't there or is in use; after a response with 41 Store or 42 Reopen the program ends";
+
+pub const ANSWER: &str = "\
+Reads one HTTP request from standard input, and writes its response to standard output; of no input, nothing. It
+is answered as `serve` answers it.
+
+Example: desk answer desk.db < request.txt
+
+Status: 0 done, whatever the response was, 1 DB holds no desk, 2 the words are wrong, 3 a device failed, as where DB
+isn't there or is in use, or after a response with 41 Store or 42 Reopen";
+
 pub const FACTS: &str = "\
 Reads FILE, and prints a line for its length, each digest, the gap, each certificate and each component: what
 a desk keeps of the image.

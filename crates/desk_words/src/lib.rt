@@ -6,5 +6,5 @@ mod help;
 mod line;
 mod words_reading;
 
-pub use line::{PersonWords, Words, WordsFault};
+pub use line::{PersonWords, ServeWords, Words, WordsFault};
 pub use words_reading::words;

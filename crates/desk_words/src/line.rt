@@ -10,6 +10,14 @@ pub struct PersonWords<'a> {
     pub key: &'a str,
 }
 
+/// The words of `serve`.
+#[derive(Clone, Copy, Debug, PartialEq, Eq)]
+pub struct ServeWords<'a> {
+    pub db: &'a str,
+    pub port: &'a str,
+    pub count: &'a str,
+}
+
 /// A subcommand with its words.
 #[derive(Clone, Copy, Debug, PartialEq, Eq)]
 pub enum Words<'a> {
@@ -17,6 +25,10 @@ pub enum Words<'a> {
     Init { db: &'a str, owner: &'a str },
     /// Adds a person to the desk in a file.
     Person(PersonWords<'a>),
+    /// Serves requests to the desk in a file, one connection after another.
+    Serve(ServeWords<'a>),
+    /// Answers the request on standard input, for the desk in this file.
+    Answer { db: &'a str },
     /// Prints what the desk keeps of this image's file.
     Facts { file: &'a str },
     /// Prints the ranges of this image's file that Authenticode hashes.

@@ -3,10 +3,10 @@ ghost use Rattle.std.specs.Prelude.{◌≡◌, ◌<◌, length, map, option_and_
 ghost use Rattle.clap.specs.Words.{first_of, found_of, rows_of, subcommand_rows_of};
 ghost use Rattle.desk_words.specs.Commands.{id_of, ids};
 ghost use Rattle.desk_words.specs.Lines.{Answers, Line, Spells, Takes, line_in, line_of, one_in};
-ghost use Rattle.desk_words.specs.Lines.{init, person_in, two_in, verdict};
+ghost use Rattle.desk_words.specs.Lines.{init, person_in, serve_in, two_in, verdict};
 
 use crate::command::{desk_command, id_at};
-use crate::line::{PersonWords, Words, WordsFault};
+use crate::line::{PersonWords, ServeWords, Words, WordsFault};
 use clap::ArgMatches;
 use clap::error::ErrorKind;
 use std::alloc::Global;
@@ -45,6 +45,16 @@ fn person_at<'a>(matches: &ArgMatches<'a>) -> Option<Words<'a>>
     }))
 }
 
+/// `serve` with its words.
+fn serve_at<'a>(matches: &ArgMatches<'a>) -> Option<Words<'a>>
+    ensures { option_map line_of result ≡ serve_in (rows_of (found_of matches.now)) }
+{
+    let db = word_at(matches, 0)?;
+    let port = word_at(matches, 1)?;
+    let count = word_at(matches, 2)?;
+    Some(Words::Serve(ServeWords { db, port, count }))
+}
+
 /// `verdict` with its words.
 fn verdict_at<'a>(matches: &ArgMatches<'a>) -> Option<Words<'a>>
     ensures { option_map line_of result ≡ two_in verdict (rows_of (found_of matches.now)) }
@@ -61,6 +71,11 @@ fn line_at<'a>(name: &'a str, matches: &ArgMatches<'a>) -> Option<Words<'a>>
     match name {
         "init" => init_at(matches),
         "person" => person_at(matches),
+        "serve" => serve_at(matches),
+        "answer" => {
+            let db = word_at(matches, 0)?;
+            Some(Words::Answer { db })
+        }
         "facts" => {
             let file = word_at(matches, 0)?;
             Some(Words::Facts { file })

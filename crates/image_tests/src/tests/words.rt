@@ -1,12 +1,14 @@
 //! The words of the command line.
 use super::{Call, check};
-use desk_words::{PersonWords, Words, WordsFault, words};
+use desk_words::{PersonWords, ServeWords, Words, WordsFault, words};
 use std::alloc::Global;
 use std::test::Fail;
 
 const WORDS: &str = "\
 init a.db 0011 = init of a.db for 0011
 person a.db olga officer k1 = person of a.db: olga officer k1
+serve a.db 80 5 = serve of a.db: 80 5
+answer a.db = answer of a.db
 facts a/b.efi = facts of a/b.efi
 ranges a/b.efi = ranges of a/b.efi
 verdict a.db b.efi = verdict of a.db and b.efi
@@ -21,6 +23,8 @@ minutes a.db = minutes of a.db
 help = Usage: desk <COMMAND>
 help init = Usage: desk init <DB> <OWNER>
 help person = Usage: desk person <DB> <NAME> <ROLE> <KEY>
+help serve = Usage: desk serve <DB> <PORT> <COUNT>
+help answer = Usage: desk answer <DB>
 help facts = Usage: desk facts <FILE>
 help ranges = Usage: desk ranges <FILE>
 help verdict = Usage: desk verdict <DB> <FILE>
@@ -45,6 +49,10 @@ init a.db = mistake
 init a.db 0011 more = mistake
 person a.db olga officer = mistake
 person a.db olga officer k1 more = mistake
+serve a.db 80 = mistake
+serve a.db 80 5 more = mistake
+answer = mistake
+answer a.db more = mistake
 facts = mistake
 facts a/b.efi more = mistake
 ranges = mistake
@@ -80,6 +88,8 @@ fn said(alloc: Global, line: Words<'_>) -> Result<String, Fail> {
     Ok(match line {
         Words::Init { db, owner } => format!(in alloc; "init of {db} for {owner}")?,
         Words::Person(words) => person(alloc, words)?,
+        Words::Serve(words) => serve(alloc, words)?,
+        Words::Answer { db } => format!(in alloc; "answer of {db}")?,
         Words::Facts { file } => format!(in alloc; "facts of {file}")?,
         Words::Ranges { file } => format!(in alloc; "ranges of {file}")?,
         Words::Verdict { db, file } => format!(in alloc; "verdict of {db} and {file}")?,
@@ -101,6 +111,12 @@ fn person(alloc: Global, words: PersonWords<'_>) -> Result<String, Fail> {
         key,
     } = words;
     Ok(format!(in alloc; "person of {db}: {name} {role} {key}")?)
+}
+
+/// The words of `serve`.
+fn serve(alloc: Global, words: ServeWords<'_>) -> Result<String, Fail> {
+    let ServeWords { db, port, count } = words;
+    Ok(format!(in alloc; "serve of {db}: {port} {count}")?)
 }
 
 /// What the words say.

@@ -1,0 +1,95 @@
+//! Requests over HTTP to the desk in a file.
+ghost use Rattle.std.specs.Prelude.{◌≡◌, ◌⊎◌, None, IfErr, IfOk, IfSome};
+ghost use Rattle.std.specs.Io.KnownBytes.{Keeps};
+ghost use Rattle.desk_net.specs.Faults.{IsServingRefusal};
+ghost use Rattle.desk_files.specs.Faults.{IsClosingRefusal, IsLasting, IsOfOpening};
+ghost use Rattle.desk_files.specs.Faults.{IsOpeningRefusal, IsRow, IsToldRefusal};
+ghost use Rattle.desk_files.specs.Works.{served_as};
+
+use crate::desk_file::{ended, open};
+use crate::ending::{Ending, Outcome};
+use desk_answers::OpenDesk;
+use desk_bytes::Refusal;
+use desk_lines::Fault;
+use desk_net::{answer, listen, serve, told};
+use sqlite::{File, FileStore};
+use std::io::{Read, Write};
+
+/// What was served, as a subcommand's work.
+fn work_of(served: Result<(), Refusal>) -> Result<Outcome, Fault>
+    ensures { result ≡ served_as served }
+{
+    match served {
+        Ok(()) => Ok(Outcome::Done),
+        Err(refusal) => Err(Fault::from(refusal)),
+    }
+}
+
+/// Answers one request of the reader, for the desk in a file; where the reader has no byte, nothing is written.
+/// Whatever the response is, the work is done, unless the desk has to be opened again after it: then it is told
+/// as Store or Reopen.
+///
+/// First the faults of the desk's file, as `add_person` has them. Read, NoMemory: the request wasn't read. Write:
+/// a beginning of the response was written, and what it answered stays.
+pub fn answer_from<R: Read + Drop, W: Write>(
+    rt: &HostRuntime,
+    path: &str,
+    reader: R,
+    writer: &mut W,
+) -> Ending
+    ensures done { IfOk result.work (λ outcome. outcome ≡ Outcome.Done) }
+    ensures named { IfErr result.work (IsRow (λ refusal.
+        IsOpeningRefusal refusal ⊎ IsToldRefusal refusal)) }
+    ensures first { IfErr result.work (λ fault. IsOfOpening fault.refusal
+        → (result.closing ≡ None) × Keeps (W.contents writer.old) (W.contents writer.new)) }
+    ensures closing { IfSome result.closing (IsRow IsClosingRefusal) }
+    ensures let_go { IfErr result.work (λ fault. IsLasting fault.refusal → result.closing ≡ None) }
+{
+    match open(rt, path) {
+        Ok(desk) => {
+            let mut desk = OpenDesk::new(desk);
+            let served = answer(rt.alloc(), &mut desk, reader, writer);
+            ended(desk.into_desk(), work_of(told(served)))
+        }
+        Err(refusal) => Ending::without_desk(refusal),
+    }
+}
+
+/// Takes so many connections at this port of 127.0.0.1, for a desk.
+fn serve_desk(
+    rt: &HostRuntime,
+    desk: &mut OpenDesk<FileStore<File>>,
+    port: u16,
+    count: u32,
+) -> Result<(), Refusal>
+    ensures { IfErr result IsServingRefusal }
+{
+    let listener = match listen(rt, port) {
+        Ok(listener) => listener,
+        Err(refusal) => return Err(refusal),
+    };
+    serve(rt.alloc(), desk, &listener, count)
+}
+
+/// Takes so many connections at this port of 127.0.0.1, one request each, one after another, for the desk in a
+/// file. What stops one connection ends that connection alone.
+///
+/// First the faults of the desk's file, as `add_person` has them. Read: the port can't be had, or no connection
+/// could be accepted. Store, Reopen: that response was written, and the desk has to be opened again.
+pub fn serve_from(rt: &HostRuntime, path: &str, port: u16, count: u32) -> Ending
+    ensures done { IfOk result.work (λ outcome. outcome ≡ Outcome.Done) }
+    ensures named { IfErr result.work (IsRow (λ refusal.
+        IsOpeningRefusal refusal ⊎ IsServingRefusal refusal)) }
+    ensures first { IfErr result.work (λ fault. IsOfOpening fault.refusal → result.closing ≡ None) }
+    ensures closing { IfSome result.closing (IsRow IsClosingRefusal) }
+    ensures let_go { IfErr result.work (λ fault. IsLasting fault.refusal → result.closing ≡ None) }
+{
+    match open(rt, path) {
+        Ok(desk) => {
+            let mut desk = OpenDesk::new(desk);
+            let served = serve_desk(rt, &mut desk, port, count);
+            ended(desk.into_desk(), work_of(served))
+        }
+        Err(refusal) => Ending::without_desk(refusal),
+    }
+}
