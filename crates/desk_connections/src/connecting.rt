@@ -11,9 +11,9 @@ use sqlite::{Connection, Error, ErrorCode, FileFrom, FileStore, Files, Options, 
 use sqlite_std_file::OpenError;
 use std::hash::{BuildHasher, RandomState};
 
-/// How many pages of 4,096 bytes the store keeps in memory once they were read: 128 MiB of a file. It takes memory for a
-/// page when it reads one.
-const KEPT_PAGES: usize = 32_768;
+/// How many pages of 4,096 bytes the store keeps in memory: 32 MiB of a file, which has room for some 130,000 accepted calls. It
+/// takes the memory at once.
+const KEPT_PAGES: usize = 8_192;
 
 /// A random number for the salts of the log, and the sizes that the store keeps to.
 fn options(rt: &HostRuntime) -> Result<Options, Refusal>

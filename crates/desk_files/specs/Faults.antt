@@ -40,12 +40,6 @@ IsWritingRefusal refusal = (refusal ≡ refusals.Reopen) ⊎ IsExportFailure ref
 abbrev pub IsLasting : Refusal → Type 0
 IsLasting refusal = (refusal ≡ refusals.Store) ⊎ (refusal ≡ refusals.Reopen)
 
--- own: what one request is told as: the desk has to be opened again, or the request itself was stopped
-abbrev pub IsToldRefusal : Refusal → Type 0
-IsToldRefusal refusal =
-    IsLasting refusal
-    ⊎ ((refusal ≡ refusals.Read) ⊎ ((refusal ≡ refusals.Write) ⊎ (refusal ≡ refusals.NoMemory)))
-
 -- own: the refusals that only an opening gives
 abbrev pub IsOfOpening : Refusal → Type 0
 IsOfOpening refusal = (refusal ≡ refusals.NotADesk) ⊎ (refusal ≡ refusals.Version)

@@ -1,8 +1,5 @@
 -- What a subcommand over a desk's file writes, and what its work comes to.
-use Rattle.std.specs.Prelude.{ℕ, List, ◌++◌, Result, Ok, Err, codes}
-use Rattle.desk_bytes.specs.declared.refusal.Refusal.{Refusal}
-use Rattle.desk_lines.specs.Faults.{row_of}
-use Rattle.desk_lines.specs.declared.fault.Fault.{Fault}
+use Rattle.std.specs.Prelude.{ℕ, List, ◌++◌, codes}
 use Rattle.desk_exports.specs.Exports as exports
 use Rattle.desk_history.specs.Calls.{History}
 use Rattle.desk_history.specs.declared.finding.Verdict.{Verdict}
@@ -36,8 +33,3 @@ export_of export.Db owner cs = exports.db owner cs
 export_of export.Dbx owner cs = exports.dbx owner cs
 export_of export.Level owner cs = exports.level cs
 export_of export.Minutes owner cs = exports.minutes_text cs
-
--- what was served, as a subcommand's work
-abbrev pub served_as : Result Unit Refusal → Result Outcome Fault
-served_as (Ok _) = Ok Done
-served_as (Err refusal) = Err (row_of refusal)

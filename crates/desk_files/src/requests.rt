@@ -1,10 +1,9 @@
 //! Requests over HTTP to the desk in a file.
 ghost use Rattle.std.specs.Prelude.{◌≡◌, ◌⊎◌, None, IfErr, IfOk, IfSome};
 ghost use Rattle.std.specs.Io.KnownBytes.{Keeps};
-ghost use Rattle.desk_net.specs.Faults.{IsServingRefusal};
+ghost use Rattle.desk_net.specs.Faults.{IsServingRefusal, IsToldRefusal};
 ghost use Rattle.desk_files.specs.Faults.{IsClosingRefusal, IsLasting, IsOfOpening};
-ghost use Rattle.desk_files.specs.Faults.{IsOpeningRefusal, IsRow, IsToldRefusal};
-ghost use Rattle.desk_files.specs.Works.{served_as};
+ghost use Rattle.desk_files.specs.Faults.{IsOpeningRefusal, IsRow};
 
 use crate::desk_file::{ended, open};
 use crate::ending::{Ending, Outcome};
@@ -13,13 +12,19 @@ use desk_bytes::Refusal;
 use desk_lines::Fault;
 use desk_net::{answer, listen, serve, told};
 use sqlite::{File, FileStore};
+use std::alloc::Global;
 use std::io::{Read, Write};
 
-/// What was served, as a subcommand's work.
-fn work_of(served: Result<(), Refusal>) -> Result<Outcome, Fault>
-    ensures { result ≡ served_as served }
+/// Answers one request of the reader, as a subcommand's work.
+fn answer_one<R: Read + Drop, W: Write>(
+    alloc: Global,
+    desk: &mut OpenDesk<FileStore<File>>,
+    reader: R,
+    writer: &mut W,
+) -> Result<Outcome, Fault>
+    ensures { IfErr result (IsRow IsToldRefusal) }
 {
-    match served {
+    match told(answer(alloc, desk, reader, writer)) {
         Ok(()) => Ok(Outcome::Done),
         Err(refusal) => Err(Fault::from(refusal)),
     }
@@ -48,8 +53,8 @@ pub fn answer_from<R: Read + Drop, W: Write>(
     match open(rt, path) {
         Ok(desk) => {
             let mut desk = OpenDesk::new(desk);
-            let served = answer(rt.alloc(), &mut desk, reader, writer);
-            ended(desk.into_desk(), work_of(told(served)))
+            let work = answer_one(rt.alloc(), &mut desk, reader, writer);
+            ended(desk.into_desk(), work)
         }
         Err(refusal) => Ending::without_desk(refusal),
     }
@@ -71,6 +76,21 @@ fn serve_desk(
     serve(rt.alloc(), desk, &listener, count)
 }
 
+/// The same, as a subcommand's work.
+fn serve_all(
+    rt: &HostRuntime,
+    desk: &mut OpenDesk<FileStore<File>>,
+    port: u16,
+    count: u32,
+) -> Result<Outcome, Fault>
+    ensures { IfErr result (IsRow IsServingRefusal) }
+{
+    match serve_desk(rt, desk, port, count) {
+        Ok(()) => Ok(Outcome::Done),
+        Err(refusal) => Err(Fault::from(refusal)),
+    }
+}
+
 /// Takes so many connections at this port of 127.0.0.1, one request each, one after another, for the desk in a
 /// file. What stops one connection ends that connection alone.
 ///
@@ -87,8 +107,8 @@ pub fn serve_from(rt: &HostRuntime, path: &str, port: u16, count: u32) -> Ending
     match open(rt, path) {
         Ok(desk) => {
             let mut desk = OpenDesk::new(desk);
-            let served = serve_desk(rt, &mut desk, port, count);
-            ended(desk.into_desk(), work_of(served))
+            let work = serve_all(rt, &mut desk, port, count);
+            ended(desk.into_desk(), work)
         }
         Err(refusal) => Ending::without_desk(refusal),
     }

@@ -7,6 +7,12 @@ use Rattle.desk_bytes.specs.declared.refusal.Refusal.TheVariants as refusals
 abbrev pub IsLasting : Refusal → Type 0
 IsLasting refusal = (refusal ≡ refusals.Store) ⊎ (refusal ≡ refusals.Reopen)
 
+-- own: what one request is told as: that, or the request itself was stopped
+abbrev pub IsToldRefusal : Refusal → Type 0
+IsToldRefusal refusal =
+    IsLasting refusal
+    ⊎ ((refusal ≡ refusals.Read) ⊎ ((refusal ≡ refusals.Write) ⊎ (refusal ≡ refusals.NoMemory)))
+
 -- own: what ends a program that serves one connection after another: that, or no connection could be had
 abbrev pub IsServingRefusal : Refusal → Type 0
 IsServingRefusal refusal = IsLasting refusal ⊎ (refusal ≡ refusals.Read)

@@ -1,5 +1,6 @@
 //! What a served connection comes to.
-ghost use Rattle.std.specs.Prelude.{◌≡◌};
+ghost use Rattle.std.specs.Prelude.{◌≡◌, IfErr, IfSome};
+ghost use Rattle.desk_net.specs.Faults.{IsLasting, IsToldRefusal};
 ghost use Rattle.desk_net.specs.Served as spec;
 
 use desk_bytes::Refusal;
@@ -7,7 +8,8 @@ use desk_http::{HttpFault, Served};
 
 /// The refusal after which the desk has to be opened again, by the number of a response.
 fn lasting(number: u8) -> Option<Refusal>
-    ensures { result ≡ spec.lasting number }
+    ensures value { result ≡ spec.lasting number }
+    ensures named { IfSome result IsLasting }
 {
     if number == Refusal::Store.number() {
         Some(Refusal::Store)
@@ -32,7 +34,8 @@ pub(crate) fn ending(served: Result<Served, HttpFault>) -> Option<Refusal>
 /// What is told of the one request that was served: that the desk has to be opened again, or what stopped the
 /// request itself.
 pub fn told(served: Result<Served, HttpFault>) -> Result<(), Refusal>
-    ensures { result ≡ spec.told_of served }
+    ensures value { result ≡ spec.told_of served }
+    ensures named { IfErr result IsToldRefusal }
 {
     match served {
         Ok(Served::Nothing) => Ok(()),
