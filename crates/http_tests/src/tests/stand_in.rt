@@ -1,5 +1,7 @@
 //! A desk that tells what it is asked, and answers everybody the same.
-ghost use Rattle.std.specs.Prelude.{⊤};
+ghost use Rattle.std.specs.Prelude.{◌⊎◌, ⊤, ⊥, IfSome, IsTrue};
+ghost use Rattle.desk_calls.specs.Desks.{IsOutage};
+ghost use Rattle.desk_history.specs.DecisionRefusals.{may_answer};
 
 use desk_bytes::{Digest, Refusal};
 use desk_calls::{Answering, Octets, ShownRequests};
@@ -17,6 +19,16 @@ pub(crate) struct StandIn {
     pub(crate) alloc: Global,
     /// What was asked of it.
     pub(crate) asked: String,
+}
+
+impl StandIn {
+    /// A desk of which nothing was asked.
+    pub(super) fn new(alloc: Global) -> StandIn {
+        StandIn {
+            alloc,
+            asked: String::new(alloc),
+        }
+    }
 }
 
 /// Tells the words of what is asked.
@@ -41,6 +53,19 @@ fn exported(
     let mut copy = Vec::new(alloc);
     copy.extend_from_slice(bytes)?;
     Ok(Octets::new(copy))
+}
+
+/// What is refused under the key, which names it.
+fn refusal(key: &str) -> Option<Refusal>
+    ensures { IfSome result (λ refusal. IsTrue (may_answer refusal) ⊎ IsOutage refusal) }
+{
+    match key {
+        "reused" => Some(Refusal::KeyReused),
+        "memory" => Some(Refusal::NoMemory),
+        "store" => Some(Refusal::Store),
+        "reopen" => Some(Refusal::Reopen),
+        _ => None,
+    }
 }
 
 /// What a command is answered.
@@ -73,7 +98,7 @@ impl Answering for StandIn {
     ghost clean = { λ _. ⊤ };
 
     fn person_of(&mut self, token: &Digest) -> Result<Option<Person>, Refusal> {
-        if *token != token_digest(b"a-token-of-olga1".as_slice()) {
+        if *token != token_digest(b"olga-token-000001".as_slice()) {
             return Ok(None);
         }
         match PersonName::parse(self.alloc, b"olga") {
@@ -94,7 +119,10 @@ impl Answering for StandIn {
         if tell(&mut self.asked, &words).is_err() {
             return Err(Refusal::NoMemory);
         }
-        reply(command).ok_or(Refusal::NotYourRole)
+        match refusal(key.as_str()) {
+            Some(refusal) => Err(refusal),
+            None => reply(command).ok_or(Refusal::NotYourRole),
+        }
     }
 
     fn verdict(&mut self, _facts: &Facts) -> Result<Verdict, Refusal> {
