@@ -1,5 +1,5 @@
 //! A desk that tells what it is asked, and answers everybody the same.
-ghost use Rattle.std.specs.Prelude.{◌⊎◌, ⊤, ⊥, IfSome, IsTrue};
+ghost use Rattle.std.specs.Prelude.{◌⊎◌, ⊤, IfSome, IsTrue};
 ghost use Rattle.desk_calls.specs.Desks.{IsOutage};
 ghost use Rattle.desk_history.specs.DecisionRefusals.{may_answer};
 
@@ -132,14 +132,13 @@ impl Answering for StandIn {
         }
     }
 
-    fn request(
-        &mut self,
-        caller: &Caller,
-        _number: RequestNumber,
-    ) -> Result<ShownRequest, Refusal> {
-        match tell(&mut self.asked, &["request", caller.name()]) {
-            Ok(()) => Err(Refusal::NoSuchRequest),
-            Err(AllocError) => Err(Refusal::NoMemory),
+    fn request(&mut self, caller: &Caller, number: RequestNumber) -> Result<ShownRequest, Refusal> {
+        if tell(&mut self.asked, &["request", caller.name()]).is_err() {
+            return Err(Refusal::NoMemory);
+        }
+        match number.value() {
+            7 => Err(Refusal::NoSuchRequest),
+            _ => Err(Refusal::NotYourRole),
         }
     }
 
