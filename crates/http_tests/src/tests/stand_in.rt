@@ -1,0 +1,179 @@
+//! A desk that tells what it is asked, and answers everybody the same.
+ghost use Rattle.std.specs.Prelude.{◌⊎◌, ⊤, IfSome, IsTrue};
+ghost use Rattle.desk_calls.specs.Desks.{IsOutage};
+ghost use Rattle.desk_history.specs.DecisionRefusals.{may_answer};
+
+use desk_bytes::{Digest, Refusal};
+use desk_calls::{Answering, Octets, ShownRequests};
+use desk_history::Verdict;
+use desk_service::token_digest;
+use desk_texts::{
+    Caller, Command, Counts, Facts, Key, Outcome, Person, PersonName, Reply, RequestNumber, Role,
+    ShownRequest, State, command_text,
+};
+use std::alloc::{AllocError, Global};
+
+/// A desk that shows no history. It knows one token.
+#[derive(Drop)]
+pub(crate) struct StandIn {
+    pub(crate) alloc: Global,
+    /// What was asked of it.
+    pub(crate) asked: String,
+}
+
+impl StandIn {
+    /// A desk of which nothing was asked.
+    pub(super) fn new(alloc: Global) -> StandIn {
+        StandIn {
+            alloc,
+            asked: String::new(alloc),
+        }
+    }
+}
+
+/// Tells the words of what is asked.
+fn tell(asked: &mut String, words: &[&str]) -> Result<(), AllocError> {
+    for word in words {
+        if !asked.is_empty() {
+            asked.push_str(" ")?;
+        }
+        asked.push_str(*word)?;
+    }
+    Ok(())
+}
+
+/// Tells what is asked, and gives these bytes.
+fn exported(
+    alloc: Global,
+    asked: &mut String,
+    word: &str,
+    bytes: &[u8],
+) -> Result<Octets, AllocError> {
+    tell(asked, &[word])?;
+    let mut copy = Vec::new(alloc);
+    copy.extend_from_slice(bytes)?;
+    Ok(Octets::new(copy))
+}
+
+/// What is refused under the key, which names it.
+fn refusal(key: &str) -> Option<Refusal>
+    ensures { IfSome result (λ refusal. IsTrue (may_answer refusal) ⊎ IsOutage refusal) }
+{
+    match key {
+        "reused" => Some(Refusal::KeyReused),
+        "memory" => Some(Refusal::NoMemory),
+        "store" => Some(Refusal::Store),
+        "reopen" => Some(Refusal::Reopen),
+        _ => None,
+    }
+}
+
+/// What a command is answered.
+fn reply(command: &Command) -> Option<Reply> {
+    match command {
+        Command::AddPerson(_) => None,
+        Command::Submit(_) => Some(Reply::Submitted(RequestNumber::new(1)?)),
+        Command::Review(ballot) => Some(Reply::Reviewed(Outcome {
+            request: ballot.request,
+            state: State::Open,
+        })),
+        Command::Withdraw(request) => Some(Reply::Withdrawn(*request)),
+        Command::Return(file) => Some(Reply::Returned(file.request)),
+        Command::ListCertificate(_) | Command::ListDigest(_) => Some(Reply::Listed),
+        Command::Unlist(_) => Some(Reply::Unlisted),
+        Command::RevokeDigest(_) | Command::RevokeCertificate(_) => Some(Reply::Revoked),
+        Command::RaiseLevel(_) => Some(Reply::Raised),
+        Command::ImportRevocations(_) => Some(Reply::Imported(Counts {
+            digests: 1,
+            certificates: 0,
+            components: 2,
+            passed: 3,
+        })),
+    }
+}
+
+impl Answering for StandIn {
+    ghost shows = { λ _ _ _. ⊥ };
+
+    ghost clean = { λ _. ⊤ };
+
+    fn person_of(&mut self, token: &Digest) -> Result<Option<Person>, Refusal> {
+        if *token != token_digest(b"olga-token-000001".as_slice()) {
+            return Ok(None);
+        }
+        match PersonName::parse(self.alloc, b"olga") {
+            Ok(name) => Ok(Some(Person {
+                name,
+                role: Role::Officer,
+                token: *token,
+            })),
+            Err(_) => Err(Refusal::NoMemory),
+        }
+    }
+
+    fn apply(&mut self, caller: &Caller, key: &Key, command: &Command) -> Result<Reply, Refusal> {
+        let Ok(text) = command_text(self.alloc, command) else {
+            return Err(Refusal::NoMemory);
+        };
+        let words = [caller.name(), key.as_str(), text.as_str()];
+        if tell(&mut self.asked, &words).is_err() {
+            return Err(Refusal::NoMemory);
+        }
+        match refusal(key.as_str()) {
+            Some(refusal) => Err(refusal),
+            None => reply(command).ok_or(Refusal::NotYourRole),
+        }
+    }
+
+    fn verdict(&mut self, _facts: &Facts) -> Result<Verdict, Refusal> {
+        match tell(&mut self.asked, &["verdict"]) {
+            Ok(()) => Ok(Verdict::NotListed),
+            Err(AllocError) => Err(Refusal::NoMemory),
+        }
+    }
+
+    fn request(&mut self, caller: &Caller, number: RequestNumber) -> Result<ShownRequest, Refusal> {
+        if tell(&mut self.asked, &["request", caller.name()]).is_err() {
+            return Err(Refusal::NoMemory);
+        }
+        match number.value() {
+            7 => Err(Refusal::NoSuchRequest),
+            _ => Err(Refusal::NotYourRole),
+        }
+    }
+
+    fn requests_of(&mut self, caller: &Caller) -> Result<ShownRequests, Refusal> {
+        match tell(&mut self.asked, &["requests", caller.name()]) {
+            Ok(()) => Ok(ShownRequests::new(Vec::new(self.alloc))),
+            Err(AllocError) => Err(Refusal::NoMemory),
+        }
+    }
+
+    fn dbx(&mut self, alloc: Global) -> Result<Octets, Refusal> {
+        match exported(alloc, &mut self.asked, "dbx", b"\ndbx") {
+            Ok(bytes) => Ok(bytes),
+            Err(AllocError) => Err(Refusal::NoMemory),
+        }
+    }
+
+    fn db(&mut self, alloc: Global) -> Result<Octets, Refusal> {
+        match exported(alloc, &mut self.asked, "db", b"") {
+            Ok(bytes) => Ok(bytes),
+            Err(AllocError) => Err(Refusal::NoMemory),
+        }
+    }
+
+    fn level(&mut self, alloc: Global) -> Result<Octets, Refusal> {
+        match exported(alloc, &mut self.asked, "level", b"sbat,1,2021030218\n") {
+            Ok(bytes) => Ok(bytes),
+            Err(AllocError) => Err(Refusal::NoMemory),
+        }
+    }
+
+    fn report(&mut self, alloc: Global) -> Result<Octets, Refusal> {
+        match exported(alloc, &mut self.asked, "report", b"people 1\n") {
+            Ok(bytes) => Ok(bytes),
+            Err(AllocError) => Err(Refusal::NoMemory),
+        }
+    }
+}
