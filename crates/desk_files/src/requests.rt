@@ -22,7 +22,8 @@ fn answer_one<R: Read + Drop, W: Write>(
     reader: R,
     writer: &mut W,
 ) -> Result<Outcome, Fault>
-    ensures { IfErr result (IsRow IsToldRefusal) }
+    ensures done { IfOk result (λ outcome. outcome ≡ Outcome.Done) }
+    ensures named { IfErr result (IsRow IsToldRefusal) }
 {
     match told(answer(alloc, desk, reader, writer)) {
         Ok(()) => Ok(Outcome::Done),
@@ -83,7 +84,8 @@ fn serve_all(
     port: u16,
     count: u32,
 ) -> Result<Outcome, Fault>
-    ensures { IfErr result (IsRow IsServingRefusal) }
+    ensures done { IfOk result (λ outcome. outcome ≡ Outcome.Done) }
+    ensures named { IfErr result (IsRow IsServingRefusal) }
 {
     match serve_desk(rt, desk, port, count) {
         Ok(()) => Ok(Outcome::Done),
