@@ -32,7 +32,8 @@ fn files_at<S: Start>(rt: &HostRuntime, path: &str, start: S) -> Result<Files<Fi
     ensures log { IfOk result (λ files. IsTrue (file_is_usable S.Start files.log)) }
     ensures db { IfOk result (λ files. IsTrue (file_is_usable S.Start files.db)) }
     ensures fresh { IfOk result (λ files. IsFresh true files.log × IsFresh false files.db) }
-    ensures named { IfErr result (λ refusal. (refusal ≡ Refusal.NoMemory) ⊎ (refusal ≡ Refusal.File)) }
+    ensures named { IfErr result (λ refusal.
+        (refusal ≡ Refusal.NoMemory) ⊎ (refusal ≡ Refusal.File)) }
 {
     match sqlite_std_file::open(rt, path, start) {
         Ok(files) => Ok(files),
@@ -64,7 +65,8 @@ pub fn connect<S: Start>(
     ensures found { IfOk result (λ conn. HasCleanDisk (file_state conn)
         → FindsIn (image_at S.Start) (file_state conn)) }
 
-    ensures named { IfErr result (λ refusal. (refusal ≡ Refusal.NoMemory) ⊎ (refusal ≡ Refusal.File)) }
+    ensures named { IfErr result (λ refusal.
+        (refusal ≡ Refusal.NoMemory) ⊎ (refusal ≡ Refusal.File)) }
 {
     let files = files_at(rt, path, start)?;
     let options = options(rt)?;

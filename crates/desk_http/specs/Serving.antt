@@ -1,9 +1,10 @@
 -- own: what one connection is served, and what the desk shows then.
-use Rattle.std.specs.Prelude.{◌≡◌, ◌⊎◌, ℕ, List, [], Option, Result, Ok, Err, ⊤}
+use Rattle.std.specs.Prelude.{◌≡◌, ◌⊎◌, ℕ, List, [], Option, Result, Ok, Err, IfSome, ⊤}
 use Rattle.std.specs.Io.KnownBytes.{Appends, Keeps}
 use Rattle.desk_bytes.specs.Output.{AppendsBeginning}
 use Rattle.desk_history.specs.Calls.{History}
 use Rattle.desk_calls.specs.Answers.{Answers, no_memory, store_failed}
+use Rattle.desk_calls.specs.Desks.{Keeps as Stays, Views}
 use Rattle.desk_calls.specs.declared.answers.Answer.{Answer}
 use Rattle.desk_calls.specs.declared.answers.Answer.TheVariants.{Refused}
 use Rattle.desk_http.specs.Asked.{Asks, Due}
@@ -68,3 +69,35 @@ WhenUnwritten (Ok served) holds = ⊤
 WhenUnwritten (Err fault.Read) holds = ⊤
 WhenUnwritten (Err fault.Write) holds = holds
 WhenUnwritten (Err fault.NoMemory) holds = ⊤
+
+-- In what follows old and new are what the desk showed and shows, input is what the reader had, and before and
+-- after are what the writer had and has.
+
+-- a response that went out is that of an answer to the input at the history that the desk showed, and the desk shows the
+-- history after that answer
+abbrev pub IsAnswered : (old new : List ℕ → History → Type 0) → (input before after : Option (List ℕ)) → Result Served HttpFault → Type 0
+IsAnswered old new input before after result = WhenAnswered result (λ code number.
+    IfSome input (λ b. Views old (λ owner cs. (told : Answer)
+    × Responds before after told code number
+    × Tells (new owner) cs (AnswersInput owner cs b) told)))
+
+-- an input without a byte is passed over: nothing is written, and the desk shows what it showed
+abbrev pub IsPassedOver : (old new : List ℕ → History → Type 0) → (input before after : Option (List ℕ)) → Result Served HttpFault → Type 0
+IsPassedOver old new input before after result = WhenNothing result
+    (IfSome input (λ b. Views old (λ owner cs. (b ≡ []) × Keeps before after × new owner cs)))
+
+-- where the request wasn't read, nothing is written, and the desk shows what it showed
+abbrev pub IsUnread : (old new : List ℕ → History → Type 0) → (before after : Option (List ℕ)) → Result Served HttpFault → Type 0
+IsUnread old new before after result = WhenUnread result (Keeps before after × Stays old new)
+
+-- where the writer failed, it has a beginning of the response to such an answer, and the desk shows the history after
+-- that answer
+abbrev pub IsUnwritten : (old new : List ℕ → History → Type 0) → (input before after : Option (List ℕ)) → Result Served HttpFault → Type 0
+IsUnwritten old new input before after result = WhenUnwritten result
+    (IfSome input (λ b. Views old (λ owner cs. (told : Answer)
+    × AppendsBeginning before after (response_of told)
+    × Tells (new owner) cs (AnswersInput owner cs b) told)))
+
+-- whatever the desk shows: what went out is the whole response to an answer, with its status and number
+abbrev pub HasResponded : (before after : Option (List ℕ)) → Result Served HttpFault → Type 0
+HasResponded before after result = WhenAnswered result (λ code number. (told : Answer) × Responds before after told code number)

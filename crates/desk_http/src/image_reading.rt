@@ -15,7 +15,8 @@ pub(crate) fn read_image<R: Read>(
     reader: &mut R,
     size: usize,
 ) -> Result<Option<Pieces>, Unread>
-    ensures body { IfOk result (λ image. IfSome (R.remaining reader.old) (λ b. image ≡ body_in size b)) }
+    ensures body { IfOk result (λ image.
+        IfSome (R.remaining reader.old) (λ b. image ≡ body_in size b)) }
     ensures named { IfErr result CanCome }
 {
     match Pieces::take(alloc, reader, size as u64) {

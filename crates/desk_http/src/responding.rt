@@ -93,7 +93,8 @@ fn outage_in(answer: &Answer) -> Option<Outage>
 fn send<W: Write>(bytes: &[u8], told: Served, writer: &mut W) -> Result<Served, HttpFault>
     ensures { MatchResult result
         (λ served. (served ≡ told) × Appends (W.contents writer.old) (W.contents writer.new) bytes.now)
-        (λ fault. (fault ≡ HttpFault.Write) × AppendsBeginning (W.contents writer.old) (W.contents writer.new) bytes.now) }
+        (λ fault. (fault ≡ HttpFault.Write)
+        × AppendsBeginning (W.contents writer.old) (W.contents writer.new) bytes.now) }
 {
     match put(bytes, writer) {
         Ok(()) => Ok(told),

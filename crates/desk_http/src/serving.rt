@@ -1,11 +1,8 @@
 //! One request and its response.
 ghost use Rattle.std.specs.Prelude.{◌≡◌, ◌≢◌, [], ℕ, List, IfErr, IfOk, IfSome, MatchOption, OnErr};
-ghost use Rattle.std.specs.Io.KnownBytes.{Keeps as Untouched};
-ghost use Rattle.desk_bytes.specs.Output.{AppendsBeginning};
 ghost use Rattle.desk_calls.specs.Answers.{Serves};
 ghost use Rattle.desk_calls.specs.Desks.{Keeps, Views};
 ghost use Rattle.desk_calls.specs.declared.answers.Answer.{Answer};
-ghost use Rattle.desk_http.specs.Responses.{response_of};
 ghost use Rattle.desk_http.specs.Serving as spec;
 
 use crate::reading::read_due;
@@ -62,23 +59,15 @@ pub fn serve_one<D: Answering, R: Read, W: Write>(
     reader: &mut R,
     writer: &mut W,
 ) -> Result<Served, HttpFault>
-    ensures answered { D.clean desk.new → spec.WhenAnswered result (λ code number.
-        IfSome (R.remaining reader.old) (λ b. Views (D.shows desk.old) (λ owner cs. (told : Answer)
-        × spec.Responds (W.contents writer.old) (W.contents writer.new) told code number
-        × spec.Tells (D.shows desk.new owner) cs (spec.AnswersInput owner cs b) told))) }
-    ensures nothing { D.clean desk.new → spec.WhenNothing result
-        (IfSome (R.remaining reader.old) (λ b. Views (D.shows desk.old) (λ owner cs. (b ≡ [])
-        × Untouched (W.contents writer.old) (W.contents writer.new) × D.shows desk.new owner cs))) }
-
-    ensures unread { D.clean desk.new → spec.WhenUnread result
-        (Untouched (W.contents writer.old) (W.contents writer.new)
-        × Keeps (D.shows desk.old) (D.shows desk.new)) }
-    ensures unwritten { D.clean desk.new → spec.WhenUnwritten result
-        (IfSome (R.remaining reader.old) (λ b. Views (D.shows desk.old) (λ owner cs. (told : Answer)
-        × AppendsBeginning (W.contents writer.old) (W.contents writer.new) (response_of told)
-        × spec.Tells (D.shows desk.new owner) cs (spec.AnswersInput owner cs b) told))) }
-    ensures response { spec.WhenAnswered result (λ code number. (told : Answer)
-        × spec.Responds (W.contents writer.old) (W.contents writer.new) told code number) }
+    ensures answered { D.clean desk.new → spec.IsAnswered (D.shows desk.old) (D.shows desk.new)
+        (R.remaining reader.old) (W.contents writer.old) (W.contents writer.new) result }
+    ensures nothing { D.clean desk.new → spec.IsPassedOver (D.shows desk.old) (D.shows desk.new)
+        (R.remaining reader.old) (W.contents writer.old) (W.contents writer.new) result }
+    ensures unread { D.clean desk.new → spec.IsUnread (D.shows desk.old) (D.shows desk.new)
+        (W.contents writer.old) (W.contents writer.new) result }
+    ensures unwritten { D.clean desk.new → spec.IsUnwritten (D.shows desk.old) (D.shows desk.new)
+        (R.remaining reader.old) (W.contents writer.old) (W.contents writer.new) result }
+    ensures response { spec.HasResponded (W.contents writer.old) (W.contents writer.new) result }
     ensures before { D.clean desk.new → D.clean desk.old }
 {
     match answer_input(alloc, desk, reader) {

@@ -1,5 +1,6 @@
 //! One request, from a reader or a connection.
 ghost use Rattle.std.specs.Prelude.{IfSome};
+ghost use Rattle.desk_http.specs.Serving as spec;
 ghost use Rattle.desk_net.specs.Faults.{IsLasting};
 
 use crate::served::ending;
@@ -68,13 +69,23 @@ pub(crate) fn serve_stream<D: Answering>(
     ending(served)
 }
 
-/// Serves one request of a reader, as `serve_one` does. Takes memory for a piece of the input.
+/// Serves one request of a reader, with the clauses of desk_http's `serve_one`. Takes memory for a piece of the input;
+/// NoMemory where there is none, before anything is read.
 pub fn answer<D: Answering, R: Read + Drop, W: Write>(
     alloc: Global,
     desk: &mut D,
     reader: R,
     writer: &mut W,
 ) -> Result<Served, HttpFault>
+    ensures answered { D.clean desk.new → spec.IsAnswered (D.shows desk.old) (D.shows desk.new)
+        (R.remaining reader) (W.contents writer.old) (W.contents writer.new) result }
+    ensures nothing { D.clean desk.new → spec.IsPassedOver (D.shows desk.old) (D.shows desk.new)
+        (R.remaining reader) (W.contents writer.old) (W.contents writer.new) result }
+    ensures unread { D.clean desk.new → spec.IsUnread (D.shows desk.old) (D.shows desk.new)
+        (W.contents writer.old) (W.contents writer.new) result }
+    ensures unwritten { D.clean desk.new → spec.IsUnwritten (D.shows desk.old) (D.shows desk.new)
+        (R.remaining reader) (W.contents writer.old) (W.contents writer.new) result }
+    ensures response { spec.HasResponded (W.contents writer.old) (W.contents writer.new) result }
     ensures before { D.clean desk.new → D.clean desk.old }
 {
     let Ok(mut reader) = BufReader::new(alloc, reader) else {

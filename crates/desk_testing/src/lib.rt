@@ -1,8 +1,10 @@
-//! Readers and writers that fail at a call, for tests.
+//! What tests share: readers and writers that fail at a call, and bytes written as text.
 #![tactic(auto)]
 
+mod bytes;
 mod reader;
 mod writer;
 
+pub use bytes::bytes_of;
 pub use reader::Slow;
 pub use writer::Narrow;

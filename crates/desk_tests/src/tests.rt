@@ -22,6 +22,7 @@ mod exporting;
 mod founding;
 mod line;
 mod scripts;
+mod serving;
 mod telling;
 
 type Memory = Desk<MemStore>;

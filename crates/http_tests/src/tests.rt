@@ -1,5 +1,4 @@
 //! Requests and their responses, over a desk that tells what it is asked.
-mod bytes;
 mod checks;
 mod results;
 mod routes;

@@ -1,8 +1,7 @@
 //! What `serve_one` gives.
-use super::bytes::bytes_of;
 use super::stand_in::StandIn;
 use desk_http::{HttpFault, Served, serve_one};
-use desk_testing::{Narrow, Slow};
+use desk_testing::{Narrow, Slow, bytes_of};
 use std::alloc::Global;
 use std::io::ErrorKind;
 use std::test::Fail;

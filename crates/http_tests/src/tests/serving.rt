@@ -1,7 +1,7 @@
 //! Serving a row.
-use super::bytes::bytes_of;
 use super::stand_in::StandIn;
 use desk_http::serve_one;
+use desk_testing::bytes_of;
 use std::alloc::Global;
 use std::test::Fail;
 

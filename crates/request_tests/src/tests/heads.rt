@@ -1,6 +1,6 @@
 //! What heads ask for.
-use super::bytes_of;
 use desk_requests::{Asked, asked, wanted};
+use desk_testing::bytes_of;
 use desk_texts::RequestNumber;
 use sbat::Stamp;
 use std::alloc::Global;

@@ -1,45 +1,17 @@
 //! Heads and bodies from readers.
-use super::bytes_of;
 use desk_bytes::InputFault;
 use desk_heads::{Begun, read_body, read_head};
+use desk_testing::{Slow, bytes_of};
 use std::alloc::{AllocError, Global};
-use std::io;
-use std::io::Read;
 use std::test::Fail;
 
-/// Gives one byte at a time, and fails at the read of this number.
-#[derive(Drop)]
-struct Slow<'b> {
-    bytes: &'b [u8],
-    calls: usize,
-    fails_at: usize,
-}
-
-impl<'b> Slow<'b> {
-    fn new(bytes: &'b [u8], fails_at: usize) -> Slow<'b> {
-        Slow {
-            bytes,
-            calls: 0,
-            fails_at,
-        }
-    }
-}
-
-impl<'b> Read for Slow<'b> {
-    fn read(&mut self, buf: &mut [u8]) -> io::Result<usize> {
-        let call = self.calls;
-        self.calls = self.calls.saturating_add(1);
-        if call == self.fails_at {
-            return Err(io::Error::from(io::ErrorKind::Interrupted));
-        }
-        match self.bytes {
-            [first, rest @ ..] if !buf.is_empty() => {
-                buf[0] = *first;
-                self.bytes = rest;
-                Ok(1)
-            }
-            _ => Ok(0),
-        }
+/// A reader that gives one byte at a time, and fails once it has given so many.
+fn slow(rest: &[u8], given: u64) -> Slow<'_> {
+    Slow {
+        rest,
+        most: 1,
+        calls: 0,
+        fails_at: given.saturating_add(1),
     }
 }
 
@@ -54,12 +26,12 @@ fn reads_a_head_alone(rt: HostRuntime) -> Result<(), Fail> {
         alloc,
         "|POST /level HTTP/1.1|Desk-Key: k|Content-Length: 4||body",
     )?;
-    let mut reader = Slow::new(all.as_slice(), usize::MAX);
+    let mut reader = slow(all.as_slice(), u64::MAX);
     match read_head(alloc, &mut reader) {
         Ok(Begun::Head(bytes)) => assert!(rt; bytes.as_slice() == head.as_slice(), "the head"),
         _ => panic!(rt; "a head"),
     }
-    assert!(rt; reader.bytes == b"body".as_slice(), "what follows the head");
+    assert!(rt; reader.rest == b"body".as_slice(), "what follows the head");
     Ok(())
 }
 
@@ -74,7 +46,7 @@ fn reads_no_head_where_one_is_cut(rt: HostRuntime) -> Result<(), Fail> {
             Ok(Begun::NoHead) => assert!(rt; 0 < count, "no head"),
             _ => panic!(rt; "no head in {count} bytes"),
         }
-        let mut failing = Slow::new(head.as_slice(), count);
+        let mut failing = slow(head.as_slice(), count as u64);
         match read_head(alloc, &mut failing) {
             Err(InputFault::Read) => {}
             _ => panic!(rt; "a fault at read {count}"),
@@ -124,13 +96,13 @@ fn reads_a_body_alone(rt: HostRuntime) -> Result<(), Fail> {
     let alloc = rt.alloc();
     let all = b"body and more".as_slice();
     for size in 0..14 {
-        let mut reader = Slow::new(all, usize::MAX);
+        let mut reader = slow(all, u64::MAX);
         match read_body(alloc, &mut reader, size) {
             Ok(Some(body)) => assert!(rt; Some(body.as_slice()) == all.get(..size), "{size} bytes"),
             Ok(None) => assert!(rt; size == 14, "cut short"),
             Err(_) => panic!(rt; "no fault"),
         }
-        let mut failing = Slow::new(all, size);
+        let mut failing = slow(all, size as u64);
         match read_body(alloc, &mut failing, 14) {
             Err(InputFault::Read) => {}
             _ => panic!(rt; "a fault at read {size}"),

@@ -1,9 +1,9 @@
 //! Whole responses.
-use super::bytes_of;
 use desk_bytes::Refusal;
 use desk_json::reply_json;
 use desk_requests::Methods;
 use desk_responses::{Content, Refused, Status, outage_response, refused_response, response};
+use desk_testing::bytes_of;
 use desk_texts::{Reply, RequestNumber};
 use std::test::Fail;
 
