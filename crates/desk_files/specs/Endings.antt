@@ -25,6 +25,7 @@ abbrev pub status_after : ℕ → Option Fault → ℕ
 status_after status None = status
 status_after status (Some fault) = status_of fault.refusal
 
+-- own: the status of a subcommand over a desk, by its work and its close
 abbrev pub status_of_ending : Ending → ℕ
 status_of_ending ending = status_after (status_of_work ending.work) ending.closing
 

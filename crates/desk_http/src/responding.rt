@@ -21,7 +21,8 @@ use std::io::Write;
 
 /// The response of status 200 whose body is JSON, or empty where there is none.
 fn json_response(alloc: Global, json: Option<Vec<u8>>) -> Result<Vec<u8>, AllocError>
-    ensures { IfOk result (λ bytes. bytes.items ≡ response_text status.Ok Json (spec.items_or_none json)) }
+    ensures { IfOk result (λ bytes.
+        bytes.items ≡ response_text status.Ok Json (spec.items_or_none json)) }
 {
     match json {
         Some(text) => response(alloc, Status::Ok, Content::Json, &text),

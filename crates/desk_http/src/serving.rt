@@ -32,8 +32,9 @@ fn answer_input<D: Answering, R: Read>(
     desk: &mut D,
     reader: &mut R,
 ) -> Result<Option<Answer>, HttpFault>
-    ensures answered { D.clean desk.new → IfOk result (λ found. IfSome (R.remaining reader.old) (λ b.
-        Views (D.shows desk.old) (λ owner cs. MatchOption found ((b ≡ []) × D.shows desk.new owner cs)
+    ensures answered { D.clean desk.new → IfOk result (λ found.
+        IfSome (R.remaining reader.old) (λ b. Views (D.shows desk.old) (λ owner cs.
+        MatchOption found ((b ≡ []) × D.shows desk.new owner cs)
         (Serves (D.shows desk.new owner) cs (spec.AnswersInput owner cs b))))) }
     ensures unread { D.clean desk.new → OnErr result (Keeps (D.shows desk.old) (D.shows desk.new)) }
     ensures fault { IfErr result (λ fault. fault ≢ HttpFault.Write) }

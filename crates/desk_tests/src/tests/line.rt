@@ -14,6 +14,7 @@ impl Line {
         }
     }
 
+    /// A word, after a space where it isn't the first.
     pub(super) fn put(&mut self, word: &str) -> Result<(), AllocError> {
         if !self.text.is_empty() {
             self.text.push_str(" ")?;
@@ -21,6 +22,7 @@ impl Line {
         self.text.push_str(word)
     }
 
+    /// A number, as a word.
     pub(super) fn number(&mut self, number: u64) -> Result<(), AllocError> {
         let mut buffer = Buffer::new();
         self.put(buffer.format(number))
