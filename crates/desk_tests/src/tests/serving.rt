@@ -19,7 +19,8 @@ sid signer sid-token-000004
 olga officer olga-token-000005";
 
 /// Requests and the whole responses.
-const DAY: &str = r#"POST /requests HTTP/1.1|Desk-Token: ann-token-000001|Desk-Key: k1|Desk-Title: Boot loader|Content-Length: 1024||@ => HTTP/1.1 200 OK|Content-Type: application/json|Content-Length: 33|Connection: close||{"reply":"submitted","request":1}
+const DAY: &str =
+    r#"POST /requests HTTP/1.1|Desk-Token: ann-token-000001|Desk-Key: k1|Desk-Title: Boot loader|Content-Length: 1024||@ => HTTP/1.1 200 OK|Content-Type: application/json|Content-Length: 33|Connection: close||{"reply":"submitted","request":1}
 POST /requests/1/review HTTP/1.1|Desk-Token: rita-token-000002|Desk-Key: k1|Content-Length: 28||{"note":"fine","vote":"yes"} => HTTP/1.1 200 OK|Content-Type: application/json|Content-Length: 47|Connection: close||{"reply":"reviewed","request":1,"state":"open"}
 POST /requests/1/review HTTP/1.1|Desk-Token: raul-token-000003|Desk-Key: k1|Content-Length: 24||{"note":"","vote":"yes"} => HTTP/1.1 200 OK|Content-Type: application/json|Content-Length: 51|Connection: close||{"reply":"reviewed","request":1,"state":"approved"}
 POST /requests/1/return HTTP/1.1|Desk-Token: sid-token-000004|Desk-Key: k1|Content-Length: 1024||@ => HTTP/1.1 409 Conflict|Content-Type: application/json|Content-Length: 33|Connection: close||{"name":"NotListed","refused":29}
