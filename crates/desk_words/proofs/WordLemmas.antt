@@ -1,24 +1,16 @@
--- What `clap` makes of a subcommand and plain words after it.
-use Rattle.std.proofs.Common.{◌≡◌, ◌≢◌, ◌∙◌, ℕ, Bool, true, false, ◌+◌, List, [], ◌∷◌, ◌++◌, Option, Some, None, codes, length, fold, refl, sym, subst, ap, ap₂, inl, inr, arith}
-use Rattle.std.specs.Prelude.{◌&&◌, ◌==◌, is_some, find, option_and_then, option_map, unwrap_or, Result}
+-- What `clap` makes of the name of a subcommand and of plain words after it.
+use Rattle.std.proofs.Common.{◌≡◌, ◌≢◌, ◌∙◌, ℕ, Bool, true, false, ◌+◌, List, [], ◌∷◌, ◌++◌, Option, Some, None, length, fold, refl, sym, ap, arith}
+use Rattle.std.specs.Prelude.{◌&&◌, ◌==◌, is_some, find, option_map}
 use Rattle.std.specs.List.{All, list_all}
-use Rattle.std.specs.Option.{ok_or, option_map_or}
+use Rattle.std.specs.Option.{option_map_or}
 use Rattle.std.proofs.lemmas.Bool.Decides.{nat_tests}
 use Rattle.clap.specs.Walk.{Held, Names, Row, Rule, Text, Walk, answers_to, arg_by_index, finished, idle, nothing_held, reading_by, rows_after, to_positional, value, walk, walk_from, walked, word_met}
 use Rattle.clap.specs.Takes.{default_passes, entered_passes, is_valid, level_passes, positional_passes, settle_passes, takes, turn_passes, walk_passes, word_passes}
-use Rattle.clap.specs.Simple.{App, HasMatchesOf, Shape, built, built_leaf, entered, filled, inherited, is_simple, label_of, names_of, rows_at, subcommand_of, subcommand_rows_of, with_index}
+use Rattle.clap.specs.Simple.{Shape, built, built_leaf, entered, filled, inherited, label_of, names_of, rows_at, subcommand_of, with_index}
 use Rattle.clap.specs.declared.parser.matches.ValueSource.TheVariants.{CommandLine}
-use Rattle.clap.specs.Words.{HasKind, IsAmong, fault_of, is_simple_and_free, kind_of}
-use Rattle.clap.specs.declared.error.Error.{Error}
-use Rattle.clap.specs.declared.error.kind.ErrorKind.TheVariants.{OutOfMemory}
-use Rattle.clap.specs.declared.parser.matches.ArgMatches.{ArgMatches}
-use Rattle.clap.proofs.OnLiterals.{clap_on_literals}
 use Rattle.clap.proofs.WalkLemmas.{walk_stopped}
 use Rattle.desk_words.specs.Commands.{desk_app, id_of, subcommand_shape, word_rule}
-use Rattle.desk_words.specs.Lines.{Answers, IsPlainWord, Line, Spells, Takes, answer, db, dbx, facts, init, level, line_found, line_in, line_of, list, minutes, pack, person, ranges, serve, subcommand_name, verdict, words_after}
-use Rattle.desk_words.specs.declared.line.Words.{Words}
-use Rattle.desk_words.specs.declared.line.WordsFault.{WordsFault}
-use Rattle.desk_words.specs.declared.line.WordsFault.TheVariants.{Missing}
+use Rattle.desk_words.specs.Lines.{IsPlainWord}
 
 -- ---- one plain word, in a command that has no subcommand
 
@@ -60,14 +52,14 @@ turn_plain s a h position word plain found =
 -- ---- the words of a subcommand, by their number
 
 -- the subcommand as building leaves it
-abbrev leaf : Text → ℕ → Shape
+abbrev pub leaf : Text → ℕ → Shape
 leaf name count = built_leaf (inherited (built desk_app).top (subcommand_shape name count))
 
 -- the positional of a place, as building leaves it
-abbrev positional : ℕ → Rule
+abbrev pub positional : ℕ → Rule
 positional place = with_index (place + 1) (filled (word_rule (id_of place)))
 
-abbrev row_at : ℕ → Text → Row
+abbrev pub row_at : ℕ → Text → Row
 row_at place word = record {
   id = id_of place;
   values = word ∷ [];
@@ -77,16 +69,16 @@ row_at place word = record {
 }
 
 -- what is found of the words, from this place on
-abbrev rows_from : ℕ → List Text → List Row
+abbrev pub rows_from : ℕ → List Text → List Row
 rows_from place [] = []
 rows_from place (word ∷ words) = row_at place word ∷ rows_from (place + 1) words
 
 -- the subcommand takes the words, each at its place
-record TakesWords (name : Text) (words : List Text) : Type 0 where
-  passes : level_passes (leaf name (length words)) [] nothing_held words false ≡ true
-  rows : rows_after (leaf name (length words)).rules [] words ≡ rows_from 0 words
+pub record TakesWords (name : Text) (words : List Text) : Type 0 where
+  pub passes : level_passes (leaf name (length words)) [] nothing_held words false ≡ true
+  pub rows : rows_after (leaf name (length words)).rules [] words ≡ rows_from 0 words
 
-takes_one : (name first : Text) → All IsPlainWord (first ∷ []) → TakesWords name (first ∷ [])
+pub takes_one : (name first : Text) → All IsPlainWord (first ∷ []) → TakesWords name (first ∷ [])
 unfolding walk_passes
 takes_one name first plain = record {
   passes = rw (
@@ -107,7 +99,7 @@ held_two count first second = held_with count 1 (held_with count 0 nothing_held 
 abbrev held_three : ℕ → Text → Text → Text → Held
 held_three count first second third = held_with count 2 (held_two count first second) third
 
-takes_two : (name first second : Text) → All IsPlainWord (first ∷ second ∷ []) → TakesWords name (first ∷ second ∷ [])
+pub takes_two : (name first second : Text) → All IsPlainWord (first ∷ second ∷ []) → TakesWords name (first ∷ second ∷ [])
 unfolding walk_passes
 takes_two name first second plain =
     let p0 : IsPlainWord first = plain 0 [] (omega arith) in
@@ -125,7 +117,7 @@ takes_two name first second plain =
       ) refl;
     }
 
-takes_three : (name first second third : Text) → All IsPlainWord (first ∷ second ∷ third ∷ []) → TakesWords name (first ∷ second ∷ third ∷ [])
+pub takes_three : (name first second third : Text) → All IsPlainWord (first ∷ second ∷ third ∷ []) → TakesWords name (first ∷ second ∷ third ∷ [])
 unfolding walk_passes
 takes_three name first second third plain =
     let p0 : IsPlainWord first = plain 0 [] (omega arith) in
@@ -147,7 +139,7 @@ takes_three name first second third plain =
       ) refl;
     }
 
-takes_four : (name first second third fourth : Text) → All IsPlainWord (first ∷ second ∷ third ∷ fourth ∷ [])
+pub takes_four : (name first second third fourth : Text) → All IsPlainWord (first ∷ second ∷ third ∷ fourth ∷ [])
     → TakesWords name (first ∷ second ∷ third ∷ fourth ∷ [])
 unfolding walk_passes
 takes_four name first second third fourth plain =
@@ -177,11 +169,11 @@ takes_four name first second third fourth plain =
 -- ---- the subcommand's name, whatever follows it
 
 -- the name is met as that of this subcommand
-record Begins (name : Text) (subcommand : Shape) : Type 0 where
-  walks : walked (built desk_app).top.rules (names_of (built desk_app)) (walk_from nothing_held) name
+pub record Begins (name : Text) (subcommand : Shape) : Type 0 where
+  pub walks : walked (built desk_app).top.rules (names_of (built desk_app)) (walk_from nothing_held) name
       ≡ record (walk_from nothing_held) { stopped = Some (name, []) }
-  passes : turn_passes (built desk_app).top (names_of (built desk_app)) (walk_from nothing_held) name ≡ true
-  found : find (λ s. answers_to name (label_of s)) (built desk_app).subs ≡ Some subcommand
+  pub passes : turn_passes (built desk_app).top (names_of (built desk_app)) (walk_from nothing_held) name ≡ true
+  pub found : find (λ s. answers_to name (label_of s)) (built desk_app).subs ≡ Some subcommand
 
 walk_is : (name : Text) (subcommand : Shape) (words : List Text) → Begins name subcommand
     → walk (built desk_app).top.rules (names_of (built desk_app)) nothing_held (name ∷ words)
@@ -208,7 +200,7 @@ passes_above name subcommand words begins =
     (ap (λ (w : Walk). walk_passes (built desk_app).top (names_of (built desk_app)) w words) begins.walks
     ∙ stopped_passes (built desk_app).top (names_of (built desk_app)) (walk_from nothing_held) (name, []) words)
 
-takes_after : (name : Text) (subcommand : Shape) (words : List Text) → Begins name subcommand
+pub takes_after : (name : Text) (subcommand : Shape) (words : List Text) → Begins name subcommand
     → level_passes subcommand [] nothing_held words false ≡ true → takes desk_app (name ∷ words) ≡ true
 takes_after name subcommand words begins below =
     ap (λ (w : Walk). entered_passes (built desk_app) w.stopped
@@ -226,103 +218,8 @@ takes_after name subcommand words begins below =
         && (list_all default_passes (built desk_app).top.rules && is_valid (built desk_app).top (finished (built desk_app).top.rules w.held) true))
         (walk_is name subcommand words begins))
 
-rows_after_name : (name : Text) (subcommand : Shape) (words : List Text) → Begins name subcommand
+pub rows_after_name : (name : Text) (subcommand : Shape) (words : List Text) → Begins name subcommand
     → subcommand_of desk_app (name ∷ words) ≡ Some (rows_at subcommand words)
 rows_after_name name subcommand words begins =
     ap (λ (w : Walk). entered (built desk_app) w.stopped) (walk_is name subcommand words begins)
     ∙ ap (option_map (λ s. rows_at s words)) begins.found
-
--- ---- the lines of the program, a clause for each subcommand
-
-begins : (line : Line) → Begins (subcommand_name line) (leaf (subcommand_name line) (length (words_after line)))
-unfolding clap_on_literals
-begins (init path owner) = record { walks = refl; passes = refl; found = refl }
-begins (person path name role key) = record { walks = refl; passes = refl; found = refl }
-begins (serve path port count) = record { walks = refl; passes = refl; found = refl }
-begins (answer path) = record { walks = refl; passes = refl; found = refl }
-begins (facts file) = record { walks = refl; passes = refl; found = refl }
-begins (ranges file) = record { walks = refl; passes = refl; found = refl }
-begins (verdict path file) = record { walks = refl; passes = refl; found = refl }
-begins (db path) = record { walks = refl; passes = refl; found = refl }
-begins (dbx path) = record { walks = refl; passes = refl; found = refl }
-begins (level path) = record { walks = refl; passes = refl; found = refl }
-begins (list file) = record { walks = refl; passes = refl; found = refl }
-begins (pack owner) = record { walks = refl; passes = refl; found = refl }
-begins (minutes path) = record { walks = refl; passes = refl; found = refl }
-
-takes_words : (line : Line) → All IsPlainWord (words_after line) → TakesWords (subcommand_name line) (words_after line)
-takes_words (init path owner) plain = takes_two (codes "init") path owner plain
-takes_words (person path name role key) plain = takes_four (codes "person") path name role key plain
-takes_words (serve path port count) plain = takes_three (codes "serve") path port count plain
-takes_words (answer path) plain = takes_one (codes "answer") path plain
-takes_words (facts file) plain = takes_one (codes "facts") file plain
-takes_words (ranges file) plain = takes_one (codes "ranges") file plain
-takes_words (verdict path file) plain = takes_two (codes "verdict") path file plain
-takes_words (db path) plain = takes_one (codes "db") path plain
-takes_words (dbx path) plain = takes_one (codes "dbx") path plain
-takes_words (level path) plain = takes_one (codes "level") path plain
-takes_words (list file) plain = takes_one (codes "list") file plain
-takes_words (pack owner) plain = takes_one (codes "pack") owner plain
-takes_words (minutes path) plain = takes_one (codes "minutes") path plain
-
-reads_back : (line : Line) → line_in (subcommand_name line, rows_from 0 (words_after line)) ≡ Some line
-reads_back (init path owner) = refl
-reads_back (person path name role key) = refl
-reads_back (serve path port count) = refl
-reads_back (answer path) = refl
-reads_back (facts file) = refl
-reads_back (ranges file) = refl
-reads_back (verdict path file) = refl
-reads_back (db path) = refl
-reads_back (dbx path) = refl
-reads_back (level path) = refl
-reads_back (list file) = refl
-reads_back (pack owner) = refl
-reads_back (minutes path) = refl
-
--- ---- what `words` cites
-
--- the command takes the line
-pub line_taken : (line : Line) (app : App) (words : List Text) → app ≡ desk_app → Spells words line → takes app words ≡ true
-line_taken line app words is spells =
-    ap₂ takes is spells.same
-    ∙ takes_after (subcommand_name line) _ (words_after line) (begins line) (takes_words line spells.plain).passes
-
--- and finds it in the words
-pub line_read : (line : Line) (words : List Text) → Spells words line → line_found words ≡ Some line
-line_read line words spells =
-    ap (option_and_then line_in)
-    (ap (subcommand_of desk_app) spells.same
-    ∙ rows_after_name (subcommand_name line) _ (words_after line) (begins line)
-    ∙ ap (λ (rows : List Row). Some (subcommand_name line, rows)) (takes_words line spells.plain).rows)
-    ∙ reads_back line
-
--- what is found is what the matches say
-pub line_met : (app : App) (words : List Text) (m : ArgMatches) → app ≡ desk_app → HasMatchesOf app words m
-    → option_and_then line_in (subcommand_rows_of m) ≡ line_found words
-line_met app words m is matches =
-    ap (option_and_then line_in) ((matches (ap is_simple is)).1 ∙ ap (λ (a : App). subcommand_of a words) is)
-
--- a parse that succeeds has no fault
-pub no_fault : (app : App) (words : List Text) → app ≡ desk_app → (is_simple_and_free app ≡ true → fault_of app words ≡ [])
-    → fault_of desk_app words ≡ []
-no_fault app words is known = ap (λ (a : App). fault_of a words) (sym is) ∙ known (ap is_simple_and_free is)
-
--- so that is what `words` answers
-pub line_given : (words : List Text) (o : Option Words) (r : Result Words WordsFault) → r ≡ ok_or o Missing
-    → fault_of desk_app words ≡ [] → option_map line_of o ≡ line_found words → Answers words r
-line_given words None r is whole said = rw is (whole, sym said)
-line_given words (Some w) r is whole said = rw is (whole, sym said)
-
-pub line_kept : (line : Line) (o : Option Words) (r : Result Words WordsFault) → r ≡ ok_or o Missing
-    → option_map line_of o ≡ Some line → Takes line r
-line_kept line None r is said = cc
-line_kept line (Some w) r is said = rw is (ap (λ (o : Option Line). unwrap_or o line) said)
-
--- a fault other than want of memory is among those that are found
-pub fault_among : (app : App) (words : List Text) (e : Error) → app ≡ desk_app → (kind_of e ≡ OutOfMemory → ⊥)
-    → (is_simple_and_free app ≡ true → HasKind (fault_of app words) e) → IsAmong (kind_of e) (fault_of desk_app words)
-fault_among app words e is enough known = elim (known (ap is_simple_and_free is)) [
-  | inl memory ↦ absurd (enough memory)
-  | inr among ↦ subst (λ (a : App). IsAmong (kind_of e) (fault_of a words)) is among
-]

@@ -1,6 +1,6 @@
 use Rattle.std.proofs.Common.{◌≡◌, ◌∙◌, false, map, true}
 use Rattle.std.specs.Prelude.{string_bytes}
-use Rattle.desk_words.proofs.WordLemmas.{fault_among, line_given, line_kept, line_met, line_read, line_taken, no_fault}
+use Rattle.desk_words.proofs.LineLemmas.{fault_among, line_given, line_kept, line_met, line_read, line_taken, no_fault}
 use Rattle.desk_words.proofs.words_reading.words.Goals as goal
 
 -- a line of plain words is refused only for want of memory
