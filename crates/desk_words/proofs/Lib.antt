@@ -1,3 +1,2 @@
-pub mod CommandLemmas
 pub mod LineLemmas
 pub mod WordLemmas

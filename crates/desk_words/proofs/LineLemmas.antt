@@ -11,7 +11,7 @@ use Rattle.clap.specs.declared.error.Error.{Error}
 use Rattle.clap.specs.declared.error.kind.ErrorKind.TheVariants.{OutOfMemory}
 use Rattle.clap.specs.declared.parser.matches.ArgMatches.{ArgMatches}
 use Rattle.clap.proofs.OnLiterals.{clap_on_literals}
-use Rattle.desk_words.specs.Commands.{desk_app}
+use Rattle.desk_commands.specs.Commands.{desk_app}
 use Rattle.desk_words.specs.Lines.{Answers, IsPlainWord, Line, Spells, Takes, answer, db, dbx, facts, init, level, line_found, line_in, line_of, list, minutes, pack, person, ranges, serve, subcommand_name, verdict, words_after}
 use Rattle.desk_words.specs.declared.line.Words.{Words}
 use Rattle.desk_words.specs.declared.line.WordsFault.{WordsFault}

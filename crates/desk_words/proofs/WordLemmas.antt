@@ -9,7 +9,7 @@ use Rattle.clap.specs.Takes.{default_passes, entered_passes, is_valid, level_pas
 use Rattle.clap.specs.Simple.{Shape, built, built_leaf, entered, filled, inherited, label_of, names_of, rows_at, subcommand_of, with_index}
 use Rattle.clap.specs.declared.parser.matches.ValueSource.TheVariants.{CommandLine}
 use Rattle.clap.proofs.WalkLemmas.{walk_stopped}
-use Rattle.desk_words.specs.Commands.{desk_app, id_of, subcommand_shape, word_rule}
+use Rattle.desk_commands.specs.Commands.{desk_app, id_of, subcommand_shape, word_rule}
 use Rattle.desk_words.specs.Lines.{IsPlainWord}
 
 -- ---- one plain word, in a command that has no subcommand

@@ -4,7 +4,7 @@ use Rattle.std.specs.Prelude.{⊤, Some, if◌then◌else◌, option_and_then}
 use Rattle.std.specs.List.{All}
 use Rattle.std.specs.Str.{bytes_eq}
 use Rattle.clap.specs.Words.{IsAmong, Row, Text, fault_of, first_of, kind_of, subcommand_of}
-use Rattle.desk_words.specs.Commands.{desk_app, id_of}
+use Rattle.desk_commands.specs.Commands.{desk_app, id_of}
 use Rattle.desk_words.specs.declared.line.Words.{Words}
 use Rattle.desk_words.specs.declared.line.Words.TheVariants as said
 use Rattle.desk_words.specs.declared.line.WordsFault.{WordsFault}

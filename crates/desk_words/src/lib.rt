@@ -1,8 +1,6 @@
 //! The words of the program's command line, and what they say.
 #![tactic(auto)]
 
-mod command;
-mod help;
 mod line;
 mod words_reading;
 

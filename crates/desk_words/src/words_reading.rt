@@ -1,14 +1,14 @@
 //! From the program's words to what they say.
 ghost use Rattle.std.specs.Prelude.{◌≡◌, ◌<◌, length, map, option_and_then, option_map, string_bytes};
 ghost use Rattle.clap.specs.Words.{first_of, found_of, rows_of, subcommand_rows_of};
-ghost use Rattle.desk_words.specs.Commands.{id_of, ids};
+ghost use Rattle.desk_commands.specs.Commands.{id_of, ids};
 ghost use Rattle.desk_words.specs.Lines.{Answers, Line, Spells, Takes, line_in, line_of, one_in};
 ghost use Rattle.desk_words.specs.Lines.{init, person_in, serve_in, two_in, verdict};
 
-use crate::command::{desk_command, id_at};
 use crate::line::{PersonWords, ServeWords, Words, WordsFault};
 use clap::ArgMatches;
 use clap::error::ErrorKind;
+use desk_commands::{desk_command, id_at};
 use std::alloc::Global;
 
 /// The word at this place of a subcommand.

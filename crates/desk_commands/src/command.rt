@@ -2,8 +2,8 @@
 ghost use Rattle.std.specs.Prelude.{◌≡◌, ◌<◌, ◌≤◌, IfOk, codes, false, length};
 ghost use Rattle.clap.specs.Words.{app_of, rule_of, shape_of, with_subcommand};
 ghost use Rattle.clap.specs.declared.builder.command.Command.TheViews.{out-Command};
-ghost use Rattle.desk_words.specs.Commands.{desk_app, id_of, ids, subcommand_shape, word_rule};
-ghost use Rattle.desk_words.specs.Commands as spec;
+ghost use Rattle.desk_commands.specs.Commands.{desk_app, id_of, ids, subcommand_shape, word_rule};
+ghost use Rattle.desk_commands.specs.Commands as spec;
 
 use crate::help;
 use clap::{Arg, Command};

@@ -1,7 +1,7 @@
 -- How a subcommand gains its words.
 use Rattle.std.proofs.Common.{◌≡◌, ◌∙◌, ℕ, ◌+◌, ◌<◌, zero, suc, List, [], ◌∷◌, ◌++◌, map, take, ap, arith}
 use Rattle.clap.specs.Words.{App, Rule, Shape, Text, with_rule}
-use Rattle.desk_words.specs.Commands.{id_of, ids, subcommand_shape, word_rule}
+use Rattle.desk_commands.specs.Commands.{id_of, ids, subcommand_shape, word_rule}
 
 -- the rules of the words so far, with that of the word at this place
 rules_more : (place : ℕ) (id : Text) → place < 4 → id ≡ id_of place

@@ -1,8 +1,8 @@
 use Rattle.std.proofs.Common.{◌≡◌, false}
 use Rattle.clap.specs.Words.{shape_of}
 use Rattle.clap.specs.declared.builder.command.Command.TheViews.{out-Command}
-use Rattle.desk_words.specs.Commands.{subcommand_shape}
-use Rattle.desk_words.proofs.command.subcommand.Given as goal
+use Rattle.desk_commands.specs.Commands.{subcommand_shape}
+use Rattle.desk_commands.proofs.command.subcommand.Given as goal
 
 abbrev pub invariant-loop-place : goal.invariant-loop-place
 invariant-loop-place l = record {

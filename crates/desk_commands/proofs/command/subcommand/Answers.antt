@@ -1,7 +1,7 @@
 use Rattle.std.proofs.Common.{◌∙◌, ◌||◌, Bool, ap₂, rules}
 use Rattle.clap.specs.Words.{app_of, rule_of}
-use Rattle.desk_words.proofs.CommandLemmas.{shape_more}
-use Rattle.desk_words.proofs.command.subcommand.Goals as goal
+use Rattle.desk_commands.proofs.CommandLemmas.{shape_more}
+use Rattle.desk_commands.proofs.command.subcommand.Goals as goal
 
 pub loop-place-preserved : goal.loop-place-preserved
 loop-place-preserved c = record {
