@@ -5,8 +5,9 @@ use Rattle.desk_bytes.specs.declared.refusal.Refusal.{Refusal}
 use Rattle.desk_bytes.specs.declared.refusal.Refusal.TheVariants as refusals
 use Rattle.desk_lines.specs.declared.fault.Fault.{Fault}
 use Rattle.desk_reads.specs.Failures.{IsFailure}
-use Rattle.desk_files.specs.Faults.{IsClosingRefusal, IsLasting}
-use Rattle.desk_files.specs.declared.ending.Outcome.{Outcome}
+use Rattle.desk_files.specs.Faults.{IsLasting}
+use Rattle.desk_works.specs.Faults.{IsClosingRefusal}
+use Rattle.desk_works.specs.declared.ending.Outcome.{Outcome}
 
 -- a desk that needs opening answers Reopen, and another a device
 pub closing_refusal : (needs_reopening : Bool) (refusal : Refusal)

@@ -1,3 +1,2 @@
 mod EndingLemmas
-mod LineLemmas
 mod ServingLemmas

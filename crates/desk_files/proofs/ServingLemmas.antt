@@ -5,8 +5,9 @@ use Rattle.desk_bytes.specs.declared.refusal.Refusal.{Refusal}
 use Rattle.desk_bytes.specs.declared.refusal.Refusal.TheVariants as refusals
 use Rattle.desk_lines.specs.declared.fault.Fault.{Fault}
 use Rattle.desk_net.specs.Faults.{IsServingRefusal, IsToldRefusal}
-use Rattle.desk_files.specs.Faults.{IsOfOpening, IsOpeningRefusal, IsRow}
-use Rattle.desk_files.specs.declared.ending.Outcome.{Outcome}
+use Rattle.desk_files.specs.Faults.{IsOfOpening, IsOpeningRefusal}
+use Rattle.desk_works.specs.Faults.{IsRow}
+use Rattle.desk_works.specs.declared.ending.Outcome.{Outcome}
 
 -- a row of these refusals is one of these and more
 pub also : (P : Refusal → Type 0) (work : Result Outcome Fault) → IfErr work (IsRow P)

@@ -1,3 +1,1 @@
-pub mod Endings
 pub mod Faults
-pub mod Works

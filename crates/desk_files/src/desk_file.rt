@@ -1,13 +1,14 @@
 //! A desk's file: made, opened and closed.
 ghost use Rattle.std.specs.Prelude.{◌≡◌, None, IfErr, IfSome, true};
-ghost use Rattle.desk_files.specs.Faults.{IsClosingRefusal, IsFileRefusal, IsMakingRefusal};
-ghost use Rattle.desk_files.specs.Faults.{IsLasting, IsOpeningRefusal, IsRow};
+ghost use Rattle.desk_files.specs.Faults.{IsFileRefusal, IsLasting, IsMakingRefusal};
+ghost use Rattle.desk_files.specs.Faults.{IsOpeningRefusal};
+ghost use Rattle.desk_works.specs.Faults.{IsClosingRefusal, IsRow};
 
-use crate::ending::{Ending, Outcome};
 use desk_bytes::{Guid, Refusal};
 use desk_connections::connect;
 use desk_lines::Fault;
 use desk_store::Desk;
+use desk_works::{Ending, Outcome};
 use sqlite::{Connection, File, FileStore, Unknown};
 use std::{fs, io};
 

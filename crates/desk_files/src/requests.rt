@@ -2,15 +2,15 @@
 ghost use Rattle.std.specs.Prelude.{◌≡◌, ◌⊎◌, None, IfErr, IfOk, IfSome};
 ghost use Rattle.std.specs.Io.KnownBytes.{Keeps};
 ghost use Rattle.desk_net.specs.Faults.{IsServingRefusal, IsToldRefusal};
-ghost use Rattle.desk_files.specs.Faults.{IsClosingRefusal, IsLasting, IsOfOpening};
-ghost use Rattle.desk_files.specs.Faults.{IsOpeningRefusal, IsRow};
+ghost use Rattle.desk_files.specs.Faults.{IsLasting, IsOfOpening, IsOpeningRefusal};
+ghost use Rattle.desk_works.specs.Faults.{IsClosingRefusal, IsRow};
 
 use crate::desk_file::{ended, open};
-use crate::ending::{Ending, Outcome};
 use desk_answers::OpenDesk;
 use desk_bytes::Refusal;
 use desk_lines::Fault;
 use desk_net::{answer, listen, serve, told};
+use desk_works::{Ending, Outcome};
 use sqlite::{File, FileStore};
 use std::alloc::Global;
 use std::io::{Read, Write};

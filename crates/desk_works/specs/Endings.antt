@@ -6,9 +6,9 @@ use Rattle.desk_lines.specs.FaultLines.{fault_line}
 use Rattle.desk_lines.specs.Faults.{row_of}
 use Rattle.desk_lines.specs.Statuses.{status_of}
 use Rattle.desk_lines.specs.declared.fault.Fault.{Fault}
-use Rattle.desk_files.specs.declared.ending.Ending.{Ending}
-use Rattle.desk_files.specs.declared.ending.Outcome.{Outcome}
-use Rattle.desk_files.specs.declared.ending.Outcome.TheVariants.{Done, Refused}
+use Rattle.desk_works.specs.declared.ending.Ending.{Ending}
+use Rattle.desk_works.specs.declared.ending.Outcome.{Outcome}
+use Rattle.desk_works.specs.declared.ending.Outcome.TheVariants.{Done, Refused}
 
 -- own: where no desk is opened, its refusal is the end, and nothing is closed
 abbrev pub unopened : Refusal → Ending

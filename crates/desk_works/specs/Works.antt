@@ -6,10 +6,10 @@ use Rattle.desk_history.specs.declared.finding.Verdict.{Verdict}
 use Rattle.desk_history.specs.declared.finding.Verdict.TheVariants.{Allowed, DbxCertificate, DbxDigest, NotListed, Sbat}
 use Rattle.desk_texts.specs.ReplyTexts.{reply_text_of}
 use Rattle.desk_texts.specs.declared.reply.Reply.{Reply}
-use Rattle.desk_files.specs.declared.ending.Outcome.{Outcome}
-use Rattle.desk_files.specs.declared.ending.Outcome.TheVariants.{Done, Refused}
-use Rattle.desk_files.specs.declared.working.Export.{Export}
-use Rattle.desk_files.specs.declared.working.Export.TheVariants as export
+use Rattle.desk_works.specs.declared.ending.Outcome.{Outcome}
+use Rattle.desk_works.specs.declared.ending.Outcome.TheVariants.{Done, Refused}
+use Rattle.desk_works.specs.declared.work.Export.{Export}
+use Rattle.desk_works.specs.declared.work.Export.TheVariants as export
 
 -- a text and LF
 abbrev pub line_of : List ℕ → List ℕ

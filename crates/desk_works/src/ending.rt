@@ -1,6 +1,6 @@
 //! How a subcommand over a desk's file ends.
 ghost use Rattle.std.specs.Prelude.{◌≡◌};
-ghost use Rattle.desk_files.specs.Endings.{unopened};
+ghost use Rattle.desk_works.specs.Endings.{unopened};
 
 use desk_bytes::Refusal;
 use desk_lines::Fault;
@@ -25,7 +25,7 @@ pub struct Ending {
 
 impl Ending {
     /// The end of a subcommand that has no desk to close.
-    pub(crate) fn without_desk(refusal: Refusal) -> Ending
+    pub fn without_desk(refusal: Refusal) -> Ending
         ensures { result ≡ unopened refusal }
     {
         Ending {

@@ -1,7 +1,7 @@
 //! Laws of how a subcommand ends.
 ghost use Rattle.std.specs.Prelude.{◌≡◌, Some};
-ghost use Rattle.desk_files.specs.Endings.{status_of_ending};
-ghost use Rattle.desk_files.specs.Faults.{IsClosingRefusal, IsRow};
+ghost use Rattle.desk_works.specs.Endings.{status_of_ending};
+ghost use Rattle.desk_works.specs.Faults.{IsClosingRefusal, IsRow};
 
 use crate::ending::Ending;
 use desk_lines::Fault;

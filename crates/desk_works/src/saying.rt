@@ -4,7 +4,7 @@ ghost use Rattle.std.specs.Io.KnownBytes.{Appends, Keeps};
 ghost use Rattle.desk_bytes.specs.Output.{AppendsBeginning};
 ghost use Rattle.desk_lines.specs.Faults.{row_of};
 ghost use Rattle.desk_lines.specs.VerdictLines.{verdict_line};
-ghost use Rattle.desk_files.specs.Works.{line_of, outcome_of, reply_line};
+ghost use Rattle.desk_works.specs.Works.{line_of, outcome_of, reply_line};
 
 use crate::ending::Outcome;
 use desk_bytes::{Refusal, WriteFailed, put};

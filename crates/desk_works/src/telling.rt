@@ -1,8 +1,8 @@
 //! What a subcommand over a desk's file tells of its end.
 ghost use Rattle.std.specs.Prelude.{◌≡◌};
 ghost use Rattle.desk_bytes.specs.Output.{AppendsBeginning};
-ghost use Rattle.desk_files.specs.Endings.{TellsEnding, closing_line, status_after};
-ghost use Rattle.desk_files.specs.Endings.{status_of_ending, status_of_work, work_line};
+ghost use Rattle.desk_works.specs.Endings.{TellsEnding, closing_line, status_after};
+ghost use Rattle.desk_works.specs.Endings.{status_of_ending, status_of_work, work_line};
 
 use crate::ending::{Ending, Outcome};
 use desk_lines::{Fault, print_fault};

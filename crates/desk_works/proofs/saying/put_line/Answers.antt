@@ -1,7 +1,7 @@
 use Rattle.std.proofs.Common.{codes}
 use Rattle.desk_bytes.proofs.OutputLemmas.{AppendsBeginning-before, OnErr-after, OnErr-fact}
 use Rattle.desk_lines.proofs.LineLemmas.{Appends-same, AppendsBeginning-same}
-use Rattle.desk_files.proofs.saying.put_line.Goals as goal
+use Rattle.desk_works.proofs.saying.put_line.Goals as goal
 
 pub returns-in_err-put-clause-err : goal.returns-in_err-put-clause-err
 returns-in_err-put-clause-err g c =

@@ -1,9 +1,9 @@
 use Rattle.std.proofs.Common.{◌∙◌, ap}
 use Rattle.desk_bytes.proofs.OutputLemmas.{OnErr-fact}
 use Rattle.desk_lines.proofs.LineLemmas.{Appends-same}
-use Rattle.desk_files.specs.Works.{line_of}
-use Rattle.desk_files.proofs.LineLemmas.{whole_kept}
-use Rattle.desk_files.proofs.saying.say_reply.Goals as goal
+use Rattle.desk_works.specs.Works.{line_of}
+use Rattle.desk_works.proofs.LineLemmas.{whole_kept}
+use Rattle.desk_works.proofs.saying.say_reply.Goals as goal
 
 pub returns-in_err-flush-clause-err : goal.returns-in_err-flush-clause-err
 returns-in_err-flush-clause-err g c =

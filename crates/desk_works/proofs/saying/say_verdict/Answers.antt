@@ -1,6 +1,6 @@
 use Rattle.desk_bytes.proofs.OutputLemmas.{OnErr-fact}
-use Rattle.desk_files.proofs.LineLemmas.{whole_kept}
-use Rattle.desk_files.proofs.saying.say_verdict.Goals as goal
+use Rattle.desk_works.proofs.LineLemmas.{whole_kept}
+use Rattle.desk_works.proofs.saying.say_verdict.Goals as goal
 
 pub returns-in_err-flush-clause-err : goal.returns-in_err-flush-clause-err
 returns-in_err-flush-clause-err g c =

@@ -1,4 +1,4 @@
-use Rattle.desk_files.proofs.working.put_export.Goals as goal
+use Rattle.desk_works.proofs.work.put_export.Goals as goal
 
 pub returns-in-Level-clause-ok : goal.returns-in-Level-clause-ok
 returns-in-Level-clause-ok g c = rw c.in-Level.is c.export_level.ensures.ok

@@ -1,0 +1,13 @@
+//! What each subcommand does with an open desk, and how it ends.
+#![tactic(auto)]
+
+mod ending;
+mod laws;
+mod saying;
+mod telling;
+mod work;
+
+pub use ending::{Ending, Outcome};
+pub use laws::a_failed_close_is_a_device;
+pub use telling::print_ending;
+pub use work::{Export, add, judge, write_export};
