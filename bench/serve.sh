@@ -1,0 +1,326 @@
+#!/bin/sh
+# bench/serve.sh [PROGRAM] [REQUESTS] [ROUNDS]: what requests over HTTP cost, 2,000 of a kind or as many as are given, in one run.
+# One client on loopback makes one after another, a connection each. A line tells what, the desk's figure, its peer's and the
+# ratio of the two, by medians over the rounds (9), in which the processes take turns:
+#   GET /level          beside python3's own http.server, which answers the same client with the same bytes
+#   POST /dbx/digests   a new digest, key and commit each, beside sqlite3's shell, which puts the same rows as text into a file
+#                       of the same tables, one transaction a call, with WAL and synchronous=FULL
+#   memory              the most that a server had (VmHWM) after 1,000 GET /level, beside http.server's; and what an image of
+#                       128 MiB by POST /verdict then adds, beside the image's length
+# Times are those of whole processes, and then the same less an idle one of the same round: a server whose one connection has
+# no request, a shell that counts one table. The processor's time is without the client's; the clock has the client's too.
+# Fails where a response isn't the one that it has to be, or where the desk and the shell hold other rows. The desks stand in
+# TMPDIR or /tmp, whose disk is measured. It takes ports from 20000 on, and ends after half an hour at most.
+# Not part of the gate: it needs python3, sqlite3 and xxd.
+set -eu
+root=$(CDPATH='' cd -- "$(dirname -- "$(readlink -f -- "$0")")/.." && pwd -P)
+if [ $# -gt 0 ]; then
+    program=$(readlink -f -- "$1")
+else
+    "$root/desk" --version > /dev/null
+    program=$root/crates/desk/out/desk
+fi
+for tool in python3 sqlite3 xxd; do
+    command -v "$tool" > /dev/null || { echo "bench/serve.sh: $tool is needed" >&2; exit 1; }
+done
+room=$(mktemp -d)
+# The process that is being timed is ended with this script.
+leave() {
+    if [ -s "$room/live" ]; then kill "$(cat "$room/live")" 2> /dev/null || :; fi
+    rm -rf "$room"
+}
+trap leave EXIT
+trap 'exit 1' HUP INT TERM
+
+# ---- a desk of one officer, and an image of 128 MiB: its one section is as long as the file allows
+
+"$program" init "$room/desk.db" 00112233-4455-6677-8899-aabbccddeeff
+echo olga-token-000006 | "$program" person "$room/desk.db" olga officer k1 > "$room/person"
+"$program" level "$room/desk.db" > "$room/level"
+cp "$root/examples/tiny.efi" "$room/image.efi"
+printf 00feff07 | xxd -r -p | dd of="$room/image.efi" bs=1 seek=344 conv=notrunc 2> "$room/dd.err"
+truncate -s 134217728 "$room/image.efi"
+
+# ---- the plain server: plain.py ANSWER PORT COUNT
+
+cat > "$room/plain.py" << 'PYTHON'
+import http.server
+import sys
+
+with open(sys.argv[1], "rb") as file:
+    ANSWER = file.read()
+PORT, COUNT = map(int, sys.argv[2:])
+
+
+class Handler(http.server.BaseHTTPRequestHandler):
+    def do_GET(self):
+        self.wfile.write(ANSWER)
+
+
+with http.server.HTTPServer(("127.0.0.1", PORT), Handler) as server:
+    for _ in range(COUNT):
+        server.handle_request()
+PYTHON
+
+# ---- the client
+
+python3 - "$program" "$room" "${2:-2000}" "${3:-9}" << 'PYTHON'
+import hashlib
+import os
+import shutil
+import signal
+import socket
+import statistics
+import subprocess
+import sys
+import time
+
+PROGRAM, ROOM = sys.argv[1:3]
+COUNT, ROUNDS = map(int, sys.argv[3:])
+GETS = 1_000
+SECONDS = 60
+PORTS = iter(range(20_000 + os.getpid() % 9_000, 32_000))
+
+signal.alarm(1_800)
+sys.stdout.reconfigure(line_buffering=True)
+
+
+def content(name):
+    with open(f"{ROOM}/{name}", "rb") as file:
+        return file.read()
+
+
+def write(name, data):
+    with open(f"{ROOM}/{name}", "wb") as file:
+        file.write(data)
+
+
+class Child:
+    """A process, timed from its start to its end. Until then its number stands in the file `live`."""
+
+    def __init__(self, words, given=subprocess.DEVNULL):
+        self.words = words
+        self.start = time.perf_counter()
+        self.child = subprocess.Popen(words, stdin=given, stdout=subprocess.DEVNULL)
+        write("live", b"%d" % self.child.pid)
+
+    def end(self):
+        """Waits for its end, and gives the seconds of clock and processor."""
+        _, status, used = os.wait4(self.child.pid, 0)
+        clock = time.perf_counter() - self.start
+        self.child.returncode = os.waitstatus_to_exitcode(status)
+        os.remove(f"{ROOM}/live")
+        if self.child.returncode:
+            sys.exit(f"{self.words} ended with {self.child.returncode}")
+        return clock, used.ru_utime + used.ru_stime
+
+    def most_memory(self):
+        """The most bytes that it had."""
+        with open(f"/proc/{self.child.pid}/status") as lines:
+            return next(int(line.split()[1]) for line in lines if line.startswith("VmHWM:")) * 1024
+
+
+class Server(Child):
+    """A process that takes so many connections at a port of its own."""
+
+    def __init__(self, words, count):
+        self.port = free_port()
+        super().__init__([*words, str(self.port), str(count)])
+
+    def connect(self):
+        """A connection, once it listens."""
+        last = time.monotonic() + SECONDS
+        while self.child.poll() is None and time.monotonic() < last:
+            peer = socket.socket()
+            peer.settimeout(SECONDS)
+            try:
+                peer.connect(("127.0.0.1", self.port))
+                return peer
+            except ConnectionRefusedError:
+                peer.close()
+            time.sleep(0.001)
+        sys.exit(f"{self.words}: nobody listens")
+
+    def ask(self, request, wanted):
+        """Sends the request, or none, and reads to the connection's end."""
+        with self.connect() as peer:
+            peer.sendall(request)
+            if not request:
+                peer.shutdown(socket.SHUT_WR)
+            found = b"".join(iter(lambda: peer.recv(65_536), b""))
+        if found != wanted:
+            sys.exit(f"{self.words}: {found[:300]} in place of {wanted[:300]}")
+
+
+def free_port():
+    """A port that nobody has, below those that clients are given."""
+    for port in PORTS:
+        with socket.socket() as probe:
+            try:
+                probe.bind(("127.0.0.1", port))
+                return port
+            except OSError:
+                pass
+    sys.exit("no port is free")
+
+
+# ---- requests and their responses
+
+
+def head(line, *fields):
+    lines = [f"{line} HTTP/1.1", "Host: 127.0.0.1", "Desk-Token: olga-token-000006", *fields, ""]
+    return "".join(f"{text}\r\n" for text in lines).encode()
+
+
+def post(path, body, *fields):
+    return head(f"POST {path}", f"Content-Length: {len(body)}", *fields) + body
+
+
+def ok(kind, body):
+    return f"HTTP/1.1 200 OK\r\nContent-Type: {kind}\r\nContent-Length: {len(body)}\r\nConnection: close\r\n\r\n".encode() + body
+
+
+GET = head("GET /level")
+LEVEL = ok("text/plain", content("level"))
+DIGESTS = [hashlib.sha256(b"%d" % n).hexdigest() for n in range(COUNT)]
+POSTS = [post("/dbx/digests", b'{"digest":"%s"}' % digest.encode(), f"Desk-Key: k{n}") for n, digest in enumerate(DIGESTS)]
+REVOKED = ok("application/json", b'{"reply":"revoked"}')
+VERDICT = ok("application/json", b'{"verdict":"not-listed"}')
+
+# ---- what is timed
+
+
+def fresh(name):
+    """A copy of the desk's file, without a log beside it."""
+    path = f"{ROOM}/{name}.db"
+    for end in ("-wal", "-shm"):
+        if os.path.exists(path + end):
+            os.remove(path + end)
+    return shutil.copyfile(f"{ROOM}/desk.db", path)
+
+
+def desk(name):
+    return [PROGRAM, "serve", fresh(name)]
+
+
+def plain():
+    return [sys.executable, f"{ROOM}/plain.py", f"{ROOM}/answer"]
+
+
+def served(words, requests, wanted):
+    """What a server takes for these requests."""
+    server = Server(words, len(requests))
+    for request in requests:
+        server.ask(request, wanted)
+    return server.end()
+
+
+def idle(words):
+    return served(words, [b""], b"")
+
+
+def shell(script):
+    """What sqlite3's shell takes for a script, on a desk's file of its own."""
+    path = fresh("shell")
+    with open(f"{ROOM}/{script}", "rb") as given:
+        return Child(["sqlite3", "-batch", path], given).end()
+
+
+def transaction(n, digest):
+    """The rows of one POST; the desk's first call is that of its officer."""
+    call = f"INSERT INTO calls VALUES ({n + 2}, 'olga', 'k{n}', 'revoke-digest {digest}', 'revoked');"
+    return f"BEGIN;\nINSERT INTO revoked_digests VALUES (X'{digest}');\n{call}\nCOMMIT;\n"
+
+
+PRAGMAS = "PRAGMA journal_mode=WAL;\nPRAGMA synchronous=FULL;\n"
+write("answer", LEVEL)
+write("idle.sql", f"{PRAGMAS}SELECT count(*) FROM desk;\n".encode())
+write("rows.sql", (PRAGMAS + "".join(transaction(n, digest) for n, digest in enumerate(DIGESTS))).encode())
+RUNS = {
+    "desk idle": lambda: idle(desk("read")),
+    "desk GET": lambda: served(desk("read"), [GET] * COUNT, LEVEL),
+    "plain idle": lambda: idle(plain()),
+    "plain GET": lambda: served(plain(), [GET] * COUNT, LEVEL),
+    "desk POST": lambda: served(desk("ours"), POSTS, REVOKED),
+    "shell idle": lambda: shell("idle.sql"),
+    "shell POST": lambda: shell("rows.sql"),
+}
+
+
+def same_rows():
+    """After the last round the desk's file is sound, and holds the shell's rows."""
+    dumps = []
+    for name in ("ours", "shell"):
+        words = ["sqlite3", "-batch", f"{ROOM}/{name}.db"]
+        found = subprocess.run(words, input=b"PRAGMA integrity_check;\n.dump\n", capture_output=True, check=True, timeout=SECONDS)
+        dumps.append(found.stdout)
+    ours, theirs = dumps
+    return ours == theirs and ours.startswith(b"ok\n") and ours.count(b"'revoke-digest ") == COUNT
+
+
+# ---- what is told
+
+
+def tell(what, ours, theirs, places=3):
+    print(f"{what:56} {ours:>15,.{places}f} {theirs:>15,.{places}f} {ours / theirs:>7.2f}")
+
+
+def middle(costs, name, is_less):
+    """The medians of clock and processor, whole or less the idle run of the same round."""
+    pairs = costs[name]
+    if is_less:
+        empty = costs[f"{name.split()[0]} idle"]
+        pairs = [(a - c, b - d) for (a, b), (c, d) in zip(pairs, empty)]
+    return [statistics.median(column) for column in zip(*pairs)]
+
+
+def tell_times(costs, what, ours, theirs):
+    for is_less in (False, True):
+        how = f"{what}, less idle" if is_less else what
+        (clock, processor), (other_clock, other_processor) = middle(costs, ours, is_less), middle(costs, theirs, is_less)
+        tell(f"{how}: requests a second", COUNT / clock, COUNT / other_clock, 0)
+        tell(f"{how}: clock, s", clock, other_clock)
+        tell(f"{how}: processor, s", processor, other_processor)
+
+
+def asked_often(words, more):
+    """A server that was asked for the level a thousand times, and takes so many connections more."""
+    server = Server(words, GETS + more)
+    for _ in range(GETS):
+        server.ask(GET, LEVEL)
+    return server
+
+
+def leave(server):
+    """Gives a server its last connection, which has no request."""
+    server.ask(b"", b"")
+    server.end()
+
+
+def tell_memory():
+    other = asked_often(plain(), 1)
+    theirs = other.most_memory()
+    leave(other)
+    server = asked_often(desk("read"), 2)
+    before = server.most_memory()
+    image = content("image.efi")
+    server.ask(post("/verdict", image), VERDICT)
+    after = server.most_memory()
+    leave(server)
+    tell(f"{GETS:,} GET /level, http.server: memory, bytes", before, theirs, 0)
+    tell("an image, its length: more memory, bytes", after - before, len(image), 0)
+
+
+print(f"{COUNT:,} requests, {ROUNDS} rounds; load {os.getloadavg()[0]:.1f} on {os.cpu_count()} processors")
+COSTS = {name: [] for name in RUNS}
+for _ in range(ROUNDS):
+    for name, run in RUNS.items():
+        COSTS[name].append(run())
+if not same_rows():
+    sys.exit("the desk and the shell hold other rows")
+print(f"{'what, beside its peer':56} {'desk':>15} {'peer':>15} {'ratio':>7}")
+tell_times(COSTS, "GET /level, http.server", "desk GET", "plain GET")
+tell_times(COSTS, "POST /dbx/digests, sqlite3", "desk POST", "shell POST")
+tell_memory()
+print(f"load {os.getloadavg()[0]:.1f}")
+PYTHON
