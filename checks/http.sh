@@ -3,7 +3,8 @@
 # a day of requests over every route, and each status, field and body of a response is compared with what has to be there; the
 # same requests with the same keys a second time are answered the same and leave the same minutes. Then what HTTP itself is
 # refused for, a body that is cut short, `Expect`, an image of 64 MiB, three clients at once, the faults of `serve` and `answer`,
-# and a connection that ends without a request. It takes ports from 20000 on. Not part of the gate: it needs curl.
+# and a connection that ends without a request. Each run of the program, of curl and of the raw client ends after a stated time,
+# so the script ends by itself. It takes ports from 20000 to 32000. Not part of the gate: it needs curl, python3 and xxd.
 set -eu
 root=$(CDPATH='' cd -- "$(dirname -- "$(readlink -f -- "$0")")/.." && pwd -P)
 if [ $# -gt 0 ]; then
@@ -12,31 +13,42 @@ else
     "$root/desk" --version > /dev/null
     program=$root/crates/desk/out/desk
 fi
+for needed in curl python3 xxd; do
+    command -v "$needed" > /dev/null || { echo "checks/http.sh: $needed is needed" >&2; exit 1; }
+done
 owner=00112233-4455-6677-8899-aabbccddeeff
 stored=33221100554477668899aabbccddeeff
 room=$(mktemp -d)
 server=
-# The server that this script started is ended with it.
+# The server that this script started is ended with it, by a signal too.
 leave() {
-    if [ -n "$server" ]; then kill "$server" 2> /dev/null || :; fi
+    if [ -n "$server" ]; then
+        kill "$server" 2> /dev/null || :
+        wait "$server" || :
+    fi
     rm -rf "$room"
 }
 trap leave EXIT
+trap 'exit 1' HUP INT TERM
 cd "$room"
-port=$((20000 + $$ % 20000))
+# Twenty ports for each script that runs, below those that the system gives to clients.
+port=$((20000 + $$ % 600 * 20))
 requests=0
 
 fail() {
-    echo "http.sh: $*" >&2
+    echo "checks/http.sh: $*" >&2
     exit 1
 }
+# desk WORD..: the program, ended after five minutes.
+desk() { timeout -k 5 300 "$program" "$@"; }
 
 # ---- the server
 
-# serve COUNT: serves so many connections of the desk in the background.
+# serve COUNT [ZEROS]: serves so many connections of the desk in the background, for five minutes at most; zeros may lead
+# the port.
 serve() {
     port=$((port + 1))
-    "$program" serve desk.db "$port" "$1" > served 2> served.err &
+    timeout -k 5 300 "$program" serve desk.db "${2-}$port" "$1" > served 2> served.err &
     server=$!
 }
 # served STATUS [LINE]: the server has ended so.
@@ -157,16 +169,16 @@ hex lists 2616c4c14c509240aca941f936934328 4c000000 00000000 30000000 "$stored" 
     "$stored" 30000000 00000000 14000000 "$stored" 01020304
 printf 'kind,value,generation\nsha256,%s,\nsbat,shim,2\nsbat,shim,3\n' "$(of dd)" > csv
 printf 'sbat,1,2024010102\ngrub,4\nshim,4\n' > level_text
-digest_of() { "$program" facts "$1" | sed -n "s/^$2 //p"; }
+digest_of() { desk facts "$1" | sed -n "s/^$2 //p"; }
 
 # ---- a day
 
 people() {
-    "$program" init desk.db "$owner"
+    desk init desk.db "$owner"
     number=0
     for person in ann/submitter rita/reviewer raul/reviewer rosa/reviewer sid/signer olga/officer; do
         name=${person%/*} number=$((number + 1))
-        token_of "$name" | "$program" person desk.db "$name" "${person#*/}" "k$number" > person
+        token_of "$name" | desk person desk.db "$name" "${person#*/}" "k$number" > person
         [ "$(cat person)" = "added $name" ] || fail "person $name: $(cat person)"
     done
 }
@@ -219,12 +231,12 @@ day() {
 serve "$commands"
 day
 served 0
-"$program" minutes desk.db > minutes
+desk minutes desk.db > minutes
 [ "$(wc -l < minutes)" -eq $((6 + commands)) ] || fail "minutes: $(cat minutes)"
 serve "$commands"
 day
 served 0
-"$program" minutes desk.db > again
+desk minutes desk.db > again
 cmp -s minutes again || fail 'the minutes of the same day, twice'
 
 # ---- what is read
@@ -243,9 +255,9 @@ first=$(request 1 "$returned" signed ann A "$(vote fine raul yes),$(vote fine ri
 second=$(request 2 null rejected rita B "$(vote '' rosa no)")
 third=$(request 3 null withdrawn ann C '')
 fourth=$(request 4 null open ann D '')
-"$program" dbx desk.db > dbx
-"$program" db desk.db > db
-"$program" level desk.db > level
+desk dbx desk.db > dbx
+desk db desk.db > db
+desk level desk.db > level
 serve 19
 get ann /requests/1
 with json '200 OK' "$first"
@@ -287,7 +299,7 @@ with refused '409 Conflict' 30 AlreadyRevoked
 post olga k13 /level raise_grub
 with refused '409 Conflict' 31 NotHigher
 served 0
-"$program" minutes desk.db > minutes
+desk minutes desk.db > minutes
 [ "$(wc -l < minutes)" -eq $((6 + commands + 1)) ] || fail "minutes: $(cat minutes)"
 
 # ---- what HTTP is refused for
@@ -340,39 +352,61 @@ served 0
 
 # ---- a body that is cut short, and a connection without a request
 
-# raw FILE: sends the file's bytes, ends its side, and keeps what comes back.
+cat > raw.py << 'end'
+import socket, sys, time
+
+port, name = int(sys.argv[1]), sys.argv[2]
+tried_until = time.monotonic() + 10
+while True:
+    try:
+        peer = socket.create_connection(('127.0.0.1', port), timeout=60)
+        break
+    except ConnectionRefusedError:
+        if time.monotonic() > tried_until:
+            sys.exit('nobody listens')
+        time.sleep(0.1)
+with peer, open(name, 'rb') as given, open('body', 'wb') as body:
+    peer.sendall(given.read())
+    peer.shutdown(socket.SHUT_WR)
+    for piece in iter(lambda: peer.recv(65536), b''):
+        body.write(piece)
+end
+# raw FILE: sends the file's bytes, ends its side, and keeps in `body` what comes until the other side ends.
 raw() {
-    tries=0
-    until curl -sS --max-time 60 -o body "telnet://127.0.0.1:$port" < "$1" 2> curl.err; do
-        tries=$((tries + 1))
-        [ "$tries" -le 100 ] || fail "nobody listens: $(cat served.err curl.err)"
-        sleep 0.1
-    done
+    timeout -k 5 80 python3 raw.py "$port" "$1" 2> raw.err || fail "a connection of $1: $(cat raw.err served.err)"
     requests=$((requests + 1))
 }
-printf 'POST /requests HTTP/1.1\r\nDesk-Token: ann-token-000001\r\nDesk-Key: k30\r\nDesk-Title: cut\r\nContent-Length: 1024\r\n\r\n' > cut
-head -c 1023 "$plain" >> cut
-"$program" answer desk.db < cut > answered 2> err || fail "answer: $(cat err)"
-printf 'HTTP/1.1 400 Bad Request\r\nContent-Type: application/json\r\nContent-Length: 31\r\nConnection: close\r\n\r\n%s' \
-    '{"name":"BadHead","refused":50}' > want
-cmp -s answered want && [ ! -s err ] || fail "answer to a cut body: $(cat answered err)"
-"$program" answer desk.db < nothing > answered 2> err || fail "answer to nothing: $(cat err)"
-[ ! -s answered ] && [ ! -s err ] || fail "answer to nothing: $(cat answered err)"
+# Three inputs, and the response that is due to each.
+: > nothing_due
+{
+    printf 'POST /requests HTTP/1.1\r\nDesk-Token: ann-token-000001\r\nDesk-Key: k30\r\n'
+    printf 'Desk-Title: cut\r\nContent-Length: 1024\r\n\r\n'
+    head -c 1023 "$plain"
+} > cut_short
+{
+    printf 'HTTP/1.1 400 Bad Request\r\nContent-Type: application/json\r\nContent-Length: 31\r\nConnection: close\r\n\r\n'
+    printf '{"name":"BadHead","refused":50}'
+} > cut_short_due
 printf 'GET /level HTTP/1.1\r\nDesk-Token: olga-token-000006\r\n\r\n' > whole
-"$program" answer desk.db < whole > answered 2> err || fail "answer: $(cat err)"
 {
     printf 'HTTP/1.1 200 OK\r\nContent-Type: text/plain\r\nContent-Length: %s\r\nConnection: close\r\n\r\n' "$(wc -c < level)"
     cat level
-} > want
-cmp -s answered want && [ ! -s err ] || fail "answer: $(cat answered err)"
-serve 3
-raw nothing
+} > whole_due
+for input in nothing cut_short whole; do
+    desk answer desk.db < "$input" > answered 2> err || fail "answer to $input: $(cat err)"
+    cmp -s answered "${input}_due" && [ ! -s err ] || fail "answer to $input: $(cat answered err)"
+done
+serve 5
+for input in nothing cut_short whole; do
+    raw "$input"
+    cmp -s body "${input}_due" || fail "a connection of $input: $(cat body)"
+done
 get ann /level
 with ask '200 OK' text/plain level
 get ann /level
 with ask '200 OK' text/plain level
 served 0
-"$program" minutes desk.db > again
+desk minutes desk.db > again
 cmp -s minutes again || fail 'a refused request changed the minutes'
 
 # ---- an image of 64 MiB, with and without `Expect`
@@ -390,7 +424,8 @@ served 0
 
 serve 3
 with_one() {
-    curl -sS --retry 20 --retry-connrefused --retry-delay 1 -H "Desk-Token: $(token_of "$1")" -o "level_$1" "$(at /level)"
+    curl -sS --max-time 60 --retry 20 --retry-connrefused --retry-delay 1 --retry-max-time 60 \
+        -H "Desk-Token: $(token_of "$1")" -o "level_$1" "$(at /level)"
 }
 with_one ann & one=$!
 with_one rita & two=$!
@@ -407,7 +442,7 @@ told() {
     status=$1 line=$2 input=$3
     shift 3
     got=0
-    "$program" "$@" < "$input" > out 2> err || got=$?
+    desk "$@" < "$input" > out 2> err || got=$?
     [ "$got" -eq "$status" ] && [ "$(cat err)" = "$line" ] && [ ! -s out ] || fail "desk $*: status $got, $(cat out err)"
 }
 for word in 0 00 65536 +80 8o 99999999999999999999 ''; do
@@ -421,18 +456,13 @@ told 3 'device 45 File' whole answer missing.db
 [ ! -e missing.db ] || fail 'a file that was missing was made'
 : > empty.db
 told 1 'refused 43 NotADesk' whole answer empty.db
-port=$((port + 1))
-"$program" serve desk.db "000$port" 001 > served 2> served.err &
-server=$!
-# The port is taken: another desk's server can't have it, and its desk is closed as it was.
-cp desk.db other.db 2> /dev/null || fail 'no copy of the desk'
-tries=0
-until got=0; "$program" verdict desk.db "$plain" > out 2> err || got=$?; [ "$(cat err)" = 'device 45 File' ]; do
-    tries=$((tries + 1))
-    [ "$tries" -le 100 ] || fail "the desk was never in use: status $got, $(cat out err)"
-    sleep 0.1
-done
-sleep 1
+# The port is taken: another desk's server can't have it, and its desk is closed as it was. The first of the two requests is
+# answered once the server has its desk and the port.
+cp desk.db other.db
+serve 002 000
+get ann /level
+with ask '200 OK' text/plain level
+told 3 'device 45 File' nothing verdict desk.db "$plain"
 told 3 'device 14 Read' nothing serve other.db "$port" 1
 get ann /level
 with ask '200 OK' text/plain level
@@ -440,9 +470,11 @@ served 0
 
 # ---- the desk is closed, and all is read back
 
-"$program" list dbx > lists_read
-"$program" minutes desk.db > minutes
+desk list dbx > lists_read
+desk minutes desk.db > minutes
 [ "$(wc -l < minutes)" -eq $((6 + commands + 2)) ] || fail "minutes: $(cat minutes)"
+desk minutes other.db > again
+cmp -s minutes again || fail "the other desk's minutes: $(cat again)"
 if command -v sqlite3 > /dev/null; then
     [ "$(sqlite3 desk.db 'PRAGMA integrity_check')" = ok ] || fail 'sqlite3 finds a fault'
 fi
