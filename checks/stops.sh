@@ -1,9 +1,17 @@
 #!/bin/sh
 # Stops of the program at each write to a real file: stops.sh [PROGRAM]. The program runs under strace, which kills it at the
-# k-th system call that writes, cuts or syncs, or lets that one and every later one fail; k goes up until a run ends without a
-# stop. First `init` and one `person`, then ten lives of one desk, each with a person whose call is stopped and whose key is given
-# again. After each stop the desk is opened again: it has the calls that were answered, and at most the stopped one; the key
-# given again has its answer; at the end the minutes have each key once, in order. Not part of the gate: it needs strace.
+# k-th system call that writes, cuts or syncs, or lets that one and every later one fail. strace counts each kind of call by
+# itself; so a run without a stop is listed first, and the k-th of the list is met by its kind and its number in its kind. An
+# answer is written by such a call too. It fails only where it is the k-th: else it goes out, whatever of the files fails.
+#
+# First `init`, and a person on a new desk. Then each of the twelve commands on a desk that is ready for it: a person by
+# the command line, all others by `answer`. Each is stopped at k = 1, 2, .. up to the last call of its run; in a run of a hundred
+# calls or more, behind k = 20 a stride passes over some, so that some hundred stops are left. After each stop the desk opens,
+# and its minutes, dbx, db and level are those of the desk without the call, or of the desk with it; where the answer went out,
+# of the desk with it. The same call with the same key has the same answer again, and the minutes have its key once.
+#
+# Then ten lives of one desk, each with a person whose call is stopped; and ten lives of a desk that revoked an image's digest:
+# other commands are stopped, dbx keeps the digest, and the image stays refused. Not part of the gate: it needs strace.
 set -eu
 root=$(CDPATH='' cd -- "$(dirname -- "$(readlink -f -- "$0")")/.." && pwd -P)
 if [ $# -gt 0 ]; then
@@ -14,89 +22,349 @@ else
 fi
 command -v strace > /dev/null || { echo 'checks/stops.sh: strace is needed' >&2; exit 1; }
 owner=00112233-4455-6677-8899-aabbccddeeff
+plain=$root/examples/tiny.efi
+signed=$root/examples/signed.efi
 room=$(mktemp -d)
 trap 'rm -rf "$room"' EXIT
+trap 'exit 1' HUP INT TERM
 cd "$room"
-calls=pwrite64,pwritev,ftruncate,fdatasync,fsync
+mkdir before after found
+calls='pwrite64 pwritev ftruncate fdatasync fsync'
+traced=$(echo "$calls write" | tr ' ' ,)
+exports='minutes dbx db level'
 stops=0
 
 fail() { echo "checks/stops.sh: $*" >&2; cat out err >&2; exit 1; }
 
-# stopped HOW K WORD..: runs the program, stopped at its K-th such call by HOW; its status.
-stopped() {
-    how=$1 k=$2
-    shift 2
-    case $how in kill) inject=signal=KILL:when=$k ;; *) inject=error=EIO:when=$k+ ;; esac
+# ---- calls of the desk
+
+# given DB [WORD..]: runs the call that is set on this desk, behind these words; its status. It reads `input`.
+given() {
+    desk=$1
+    shift
+    case $call in
+        init) set -- "$@" "$program" init "$desk" "$owner" ;;
+        person) set -- "$@" "$program" person "$desk" "$name" submitter "$key" ;;
+        answer) set -- "$@" "$program" answer "$desk" ;;
+    esac
     got=0
-    strace -f -o trace -e trace="$calls" -e inject="$calls:$inject" "$program" "$@" < token > out 2> err || got=$?
+    { "$@" < input > out 2> err; } 2> killed || got=$?
     return "$got"
 }
 
-# keys FILE: the keys of the minutes of this desk, in order, on one line.
+# adds NAME KEY: sets the call that adds a person at the command line.
+adds() {
+    call=person name=$1 key=$2
+    token_of "$name" > input
+}
+
+# request NAME KEY PATH BODY-FILE [FIELD..]: sets the call of this person over HTTP.
+request() {
+    call=answer caller=$1 key=$2 path=$3 body=$4
+    shift 4
+    {
+        printf 'POST %s HTTP/1.1\r\nDesk-Token: %s\r\nDesk-Key: %s\r\n' "$path" "$(token_of "$caller")" "$key"
+        for field in "$@"; do printf '%s\r\n' "$field"; done
+        printf 'Content-Length: %s\r\n\r\n' "$(wc -c < "$body")"
+        cat "$body"
+    } > input
+}
+
+token_of() { echo "$1-token-for-the-stops"; }
+
+# takes DB [WORD..]: the desk takes the call that is set, behind these words, and answers it.
+takes() {
+    given "$@" || fail "$call with key $key, not stopped: status $got"
+    case $call in
+        answer) grep -q '^HTTP/1\.1 200 OK' out || fail "$path of $caller with key $key is refused" ;;
+        person) [ "$(cat out)" = "added $name" ] || fail "$name isn't added" ;;
+    esac
+}
+
+# ---- stops
+
+# lists DB: the call without a stop. `order` has the kinds of its system calls in their order, `answer` what it answers.
+lists() {
+    takes "$1" strace -f -o trace -e "trace=$traced"
+    cp out answer
+    sed -n 's/^[0-9 ]*\([a-z0-9]*\)(.*/\1/p' trace > order
+    length=$(wc -l < order)
+    [ "$length" -gt 0 ] || fail "$call: strace lists nothing"
+}
+
+# nth KIND K: the number, in its kind, of the first call of this kind that isn't before the K-th of `order`.
+nth() { echo $(($(head -n $(($2 - 1)) order | grep -c -x "$1") + 1)); }
+
+# stopped HOW K DB: the call, stopped so at the K-th of `order`; whether it was stopped.
+stopped() {
+    way=$1 place=$2 on=$3
+    at=$(sed -n "${place}p" order)
+    set --
+    case $way,$at in
+        *,) ;;
+        kill,*) set -- -e "inject=$at:signal=KILL:when=$(nth "$at" "$place")" ;;
+        fail,*)
+            for kind in $calls; do set -- "$@" -e "inject=$kind:error=EIO:when=$(nth "$kind" "$place")+"; done
+            [ "$at" != write ] || set -- "$@" -e "inject=write:error=EIO:when=$(nth write "$place")+"
+            ;;
+    esac
+    rm -f trace
+    given "$on" strace -f -o trace -e "trace=$traced" "$@" || :
+    [ "$got" -gt 128 ] || grep -q '(INJECTED)' trace
+}
+
+# next K: the place of the next stop.
+next() {
+    if [ "$1" -lt 20 ]; then echo $(($1 + 1)); else echo $(($1 + 1 + length / 100)); fi
+}
+
+# ---- what a desk has
+
+# copy FROM TO: the files of one desk are those of another.
+copy() {
+    rm -f "$2".db*
+    for file in "$1".db*; do cp "$file" "$2${file#"$1"}"; done
+}
+
+# exported DB FOLDER: the folder has what the desk exports.
+exported() {
+    for export in $exports; do "$program" "$export" "$1" > "$2/$export" 2> err || return 1; done
+}
+
+# same FOLDER FOLDER: they have the same exports.
+same() {
+    for export in $exports; do cmp -s "$1/$export" "$2/$export" || return 1; done
+}
+
+# keys DB: the keys of the minutes of this desk, in order, on one line.
 keys() {
     "$program" minutes "$1" > minutes 2> err || return 1
     cut -f3 minutes | tr '\n' ' '
 }
 
-# person FILE NAME KEY: the person is added now, or was.
-person() { "$program" person "$1" "$2" submitter "$3" < token > out 2> err && [ "$(cat out)" = "added $2" ]; }
+# compares DESK: `before` has what this desk exports without the call, `after` what it exports with it: one minute more.
+compares() {
+    exported "$1.db" before || fail "$1: no exports"
+    copy "$1" two
+    lists two.db
+    exported two.db after || fail "$1: no exports after $call with key $key"
+    lines=$(wc -l < before/minutes)
+    head -n "$lines" after/minutes > minutes
+    cmp -s minutes before/minutes || fail "$call with key $key: other minutes before it"
+    [ "$(wc -l < after/minutes)" -eq $((lines + 1)) ] || fail "$call with key $key: not one minute more"
+    [ "$(tail -n 1 after/minutes | cut -f3)" = "$key" ] || fail "$call with key $key: a minute of another key"
+}
 
-says() { printf '%s\n' "$1" > token; }
+# kept DB WHEN: the desk opens, and is that without the call or that with it; that with it where the answer went out.
+kept() {
+    answered=no
+    if cmp -s out answer; then answered=yes; fi
+    exported "$1" found || fail "$2: no desk after it"
+    if same found after; then return 0; fi
+    same found before || fail "$2: neither the desk without the call nor the desk with it"
+    [ "$answered" = no ] || fail "$2: an answered call isn't there"
+}
 
-# ---- init, and one person
+# again DB WHEN: the same call with the same key has the same answer, and its key is there once.
+again() {
+    given "$1" || fail "$2: status $got for its key"
+    cmp -s out answer || fail "$2: another answer to its key"
+    "$program" minutes "$1" > minutes 2> err || fail "$2: no minutes after its key"
+    cmp -s minutes after/minutes || fail "$2: its key isn't there once"
+}
 
+# meets WHAT DESK: the call that is set meets each stop, on copies of this desk.
+meets() {
+    compares "$2"
+    for how in kill fail; do
+        k=1
+        while [ "$k" -le "$length" ]; do
+            copy "$2" two
+            stopped "$how" "$k" two.db || fail "$1: no stop at $k by $how"
+            stops=$((stops + 1))
+            kept two.db "$1, stopped at $k by $how"
+            again two.db "$1, stopped at $k by $how"
+            k=$(next "$k")
+        done
+    done
+}
+
+# lives DESK LIFE HOW: the call that is set is stopped on this desk itself, later in each life; in the tenth it isn't.
+lives() {
+    compares "$1"
+    k=$(($2 * length / 9))
+    if stopped "$3" "$k" "$1.db"; then
+        stops=$((stops + 1))
+    else
+        [ "$k" -gt "$length" ] || fail "life $2: no stop at $k by $3"
+        cmp -s out answer || fail "life $2: another answer without a stop"
+    fi
+    kept "$1.db" "life $2, stopped at $k by $3"
+}
+
+# ---- init, and a person on a new desk
+
+call=init key=-
+: > input
+lists new.db
 for how in kill fail; do
-    says token-of-nobody
     k=1
-    while :; do
+    while [ "$k" -le "$length" ]; do
         rm -f new.db*
-        if stopped "$how" "$k" init new.db "$owner"; then break; fi
+        stopped "$how" "$k" new.db || fail "init: no stop at $k by $how"
         stops=$((stops + 1))
         if found=$(keys new.db); then
             [ -z "$found" ] || fail "init stopped at $k by $how: minutes of $found"
         else
             "$program" init new.db "$owner" > out 2> err || fail "init stopped at $k by $how: no desk after it"
         fi
-        [ -z "$(keys new.db)" ] || fail "init stopped at $k by $how: minutes"
-        k=$((k + 1))
-    done
-    says ann-token-000001
-    rm -f one.db*
-    "$program" init one.db "$owner" > out 2> err
-    k=1
-    while :; do
-        rm -f two.db*
-        for file in one.db*; do cp "$file" "two${file#one}"; done
-        if stopped "$how" "$k" person two.db ann submitter k1; then break; fi
-        stops=$((stops + 1))
-        found=$(keys two.db) || fail "person stopped at $k by $how: no desk after it"
-        case $found in '' | 'k1 ') ;; *) fail "person stopped at $k by $how: minutes of $found" ;; esac
-        person two.db ann k1 || fail "person stopped at $k by $how: another answer to its key"
-        [ "$(keys two.db)" = 'k1 ' ] || fail "person stopped at $k by $how: its key isn't there once"
-        k=$((k + 1))
+        found=$(keys new.db) || fail "init stopped at $k by $how: no desk in the end"
+        [ -z "$found" ] || fail "init stopped at $k by $how: minutes in the end"
+        k=$(next "$k")
     done
 done
+"$program" init one.db "$owner" > out 2> err || fail 'init'
+adds ann k1
+meets 'the first person' one
+
+# ---- a desk that is ready for each command
+
+# body FILE TEXT: the file has this text.
+body() { printf '%s' "$2" > "$1"; }
+# of BYTE: a digest of this byte alone.
+of() { printf "%064d" 0 | sed "s/00/$1/g"; }
+# table: a CSV file of 300 digests.
+table() {
+    echo kind,value,generation
+    number=1
+    while [ "$number" -le 300 ]; do
+        printf 'sha256,%064x,\n' "$number"
+        number=$((number + 1))
+    done
+}
+: > nothing
+body yes '{"note":"fine","vote":"yes"}'
+for byte in aa bb cc dd; do body "digest_$byte" "{\"digest\":\"$(of "$byte")\"}"; done
+body unlist_aa "{\"digest\":\"$(of aa)\",\"kind\":\"digest\"}"
+body raise_grub '{"component":"grub","generation":3,"stamp":2024010100}'
+printf '\060\005\060\003\002\001\001' > certificate
+printf '\060\005\060\003\002\001\002' > another
+table > csv
+barred=$("$program" facts "$plain" | sed -n 's/^digest //p')
+[ -n "$barred" ] || fail 'no digest of the image'
+body digest_barred "{\"digest\":\"$barred\"}"
+body unlist_barred "{\"digest\":\"$barred\",\"kind\":\"digest\"}"
+
+"$program" init ready.db "$owner" > out 2> err || fail 'init'
+for person in ann/submitter rita/reviewer raul/reviewer sid/signer olga/officer; do
+    name=${person%/*}
+    token_of "$name" > input
+    "$program" person ready.db "$name" "${person#*/}" "k-$name" < input > out 2> err || fail "$name isn't added"
+done
+request ann k1 /requests "$signed" 'Desk-Title: open'
+takes ready.db
+request ann k2 /requests "$signed" 'Desk-Title: approved'
+takes ready.db
+for name in rita raul; do
+    request "$name" k1 /requests/2/review yes
+    takes ready.db
+done
+request olga k1 /db/certificates certificate
+takes ready.db
+request olga k2 /db/digests digest_aa
+takes ready.db
+request olga k3 /db/digests digest_barred
+takes ready.db
+
+# ---- the twelve commands
+
+adds eva k-eva
+meets 'a person' ready
+request ann k9 /requests "$plain" 'Desk-Title: stopped'
+meets 'a submission' ready
+request rita k9 /requests/1/review yes
+meets 'a review' ready
+request ann k9 /requests/1/withdraw nothing
+meets 'a withdrawal' ready
+request sid k9 /requests/2/return "$signed"
+meets 'a return' ready
+request olga k9 /db/certificates another
+meets 'a listed certificate' ready
+request olga k9 /db/digests digest_bb
+meets 'a listed digest' ready
+request olga k9 /db/unlist unlist_aa
+meets 'an entry off the list' ready
+request olga k9 /dbx/digests digest_barred
+meets 'a revoked digest' ready
+request olga k9 /dbx/certificates digest_cc
+meets 'a revoked certificate' ready
+request olga k9 /level raise_grub
+meets 'a raised level' ready
+request olga k9 /imports/csv csv
+meets 'an import' ready
 
 # ---- ten lives
 
 for how in kill fail; do
     rm -f desk.db*
-    "$program" init desk.db "$owner" > out 2> err
+    "$program" init desk.db "$owner" > out 2> err || fail 'init'
     wanted=
     life=1
     while [ "$life" -le 10 ]; do
-        says "token-of-life-$life-000"
-        before=$wanted
+        adds "name$life" "k$life"
         wanted="${wanted}k$life "
-        if stopped "$how" "$((life % 5 + 1))" person desk.db "name$life" submitter "k$life"; then
-            [ "$(keys desk.db)" = "$wanted" ] || fail "life $life by $how: an answered call isn't there"
-        else
-            stops=$((stops + 1))
-            found=$(keys desk.db) || fail "life $life by $how: no desk after it"
-            [ "$found" = "$before" ] || [ "$found" = "$wanted" ] || fail "life $life by $how: minutes of $found"
-        fi
-        person desk.db "name$life" "k$life" || fail "life $life by $how: another answer to its key"
+        lives desk "$life" "$how"
+        again desk.db "life $life by $how"
         [ "$(keys desk.db)" = "$wanted" ] || fail "life $life by $how: its key isn't there once"
+        life=$((life + 1))
+    done
+done
+
+# ---- ten lives in which a barred image stays barred
+
+# judged DB STATUS LINE WHEN: the desk's verdict on the image.
+judged() {
+    got=0
+    "$program" verdict "$1" "$plain" > out 2> err || got=$?
+    [ "$got" -eq "$2" ] || fail "$4: the verdict's status is $got"
+    [ "$(cat out)" = "$3" ] || fail "$4: another verdict"
+}
+
+# bars DB WHEN: the desk's dbx has the digest of the image, and the image is refused for it.
+bars() {
+    "$program" dbx "$1" > dbx 2> err || fail "$2: no dbx"
+    od -An -v -tx1 dbx | tr -d ' \n' | grep -q "$barred" || fail "$2: dbx doesn't have the revoked digest"
+    judged "$1" 1 'refused dbx-digest' "$2"
+}
+
+# gives LIFE: sets the call of this life.
+gives() {
+    case $1 in
+        1) request olga life-1 /db/digests digest_bb ;;
+        2) request olga life-2 /db/unlist unlist_barred ;;
+        3) request olga life-3 /dbx/digests digest_cc ;;
+        4) request olga life-4 /imports/csv csv ;;
+        5) request olga life-5 /level raise_grub ;;
+        6) request ann life-6 /requests "$signed" 'Desk-Title: a life' ;;
+        7) request rita life-7 /requests/1/review yes ;;
+        8) request olga life-8 /dbx/certificates digest_dd ;;
+        9) request olga life-9 /db/certificates another ;;
+        10) adds eva life-10 ;;
+    esac
+}
+
+for how in kill fail; do
+    copy ready bar
+    judged bar.db 0 allowed 'before the image is revoked'
+    request olga life-0 /dbx/digests digest_barred
+    takes bar.db
+    life=1
+    while [ "$life" -le 10 ]; do
+        gives "$life"
+        lives bar "$life" "$how"
+        bars bar.db "life $life by $how"
+        again bar.db "life $life by $how"
+        bars bar.db "life $life by $how, its key given again"
         life=$((life + 1))
     done
 done
