@@ -75,7 +75,7 @@ __attribute__((destructor)) static void tell(void) { fprintf(stderr, "heap %ld %
 C
 cc -shared -fPIC -O1 -o "$room/count.so" "$room/count.c" -ldl
 "$program" init "$room/desk.db" 00112233-4455-6677-8899-aabbccddeeff
-exec python3 - "$program" "$room" "${2:-100000}" "${3:-9}" << 'PYTHON'
+python3 - "$program" "$room" "${2:-100000}" "${3:-9}" << 'PYTHON'
 import hashlib, os, shlex, statistics, subprocess, sys, time
 
 PROGRAM, ROOM = sys.argv[1:3]

@@ -1,10 +1,14 @@
 #!/bin/sh
-# Runs each subcommand of the built program, on the examples and on words and files that are wrong, and compares
-# every byte of both outputs and the status. Not part of the gate.
+# Runs each subcommand of the built program, or of the one that is named, on the examples and on words and files that are wrong,
+# and compares every byte of both outputs and the status: runs.sh [PROGRAM]. Not part of the gate.
 set -eu
 root=$(CDPATH='' cd -- "$(dirname -- "$(readlink -f -- "$0")")/.." && pwd -P)
-"$root/desk" --version > /dev/null
-program=$root/crates/desk/out/desk
+if [ $# -gt 0 ]; then
+    program=$(readlink -f -- "$1")
+else
+    "$root/desk" --version > /dev/null
+    program=$root/crates/desk/out/desk
+fi
 owner=00112233-4455-6677-8899-aabbccddeeff
 room=$(mktemp -d)
 trap 'rm -rf "$room"' EXIT
