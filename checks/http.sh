@@ -3,8 +3,8 @@
 # a day of requests over every route, and each status, field and body of a response is compared with what has to be there; the
 # same requests with the same keys a second time are answered the same and leave the same minutes. Then what HTTP itself is
 # refused for, a body that is cut short, `Expect`, an image of 64 MiB, three clients at once, the faults of `serve` and `answer`,
-# and a connection that ends without a request. Each run of the program, of curl and of the raw client ends after a stated time,
-# so the script ends by itself. It takes ports from 20000 to 32000. Not part of the gate: it needs curl, python3 and xxd.
+# a connection that ends without a request and one that pauses. Each run of the program, of curl and of the raw client ends after a
+# stated time, so the script ends by itself. It takes ports from 20000 to 32000. Not part of the gate: it needs curl, python3 and xxd.
 set -eu
 root=$(CDPATH='' cd -- "$(dirname -- "$(readlink -f -- "$0")")/.." && pwd -P)
 if [ $# -gt 0 ]; then
@@ -355,7 +355,7 @@ served 0
 cat > raw.py << 'end'
 import socket, sys, time
 
-port, name = int(sys.argv[1]), sys.argv[2]
+port, name, ends = int(sys.argv[1]), sys.argv[2], sys.argv[3] == 'ends'
 tried_until = time.monotonic() + 10
 while True:
     try:
@@ -367,13 +367,14 @@ while True:
         time.sleep(0.1)
 with peer, open(name, 'rb') as given, open('body', 'wb') as body:
     peer.sendall(given.read())
-    peer.shutdown(socket.SHUT_WR)
+    if ends:
+        peer.shutdown(socket.SHUT_WR)
     for piece in iter(lambda: peer.recv(65536), b''):
         body.write(piece)
 end
-# raw FILE: sends the file's bytes, ends its side, and keeps in `body` what comes until the other side ends.
+# raw FILE WHAT: sends the file's bytes, `ends` its side or `pauses`, and keeps in `body` what comes until the other side ends.
 raw() {
-    timeout -k 5 80 python3 raw.py "$port" "$1" 2> raw.err || fail "a connection of $1: $(cat raw.err served.err)"
+    timeout -k 5 80 python3 raw.py "$port" "$1" "$2" 2> raw.err || fail "a connection of $1: $(cat raw.err served.err)"
     requests=$((requests + 1))
 }
 # Three inputs, and the response that is due to each.
@@ -396,11 +397,14 @@ for input in nothing cut_short whole; do
     desk answer desk.db < "$input" > answered 2> err || fail "answer to $input: $(cat err)"
     cmp -s answered "${input}_due" && [ ! -s err ] || fail "answer to $input: $(cat answered err)"
 done
-serve 5
+serve 6
 for input in nothing cut_short whole; do
-    raw "$input"
+    raw "$input" ends
     cmp -s body "${input}_due" || fail "a connection of $input: $(cat body)"
 done
+# A peer that pauses for 30 seconds is let go without a response.
+raw cut_short pauses
+[ ! -s body ] || fail "a connection that pauses: $(cat body)"
 get ann /level
 with ask '200 OK' text/plain level
 get ann /level

@@ -12,11 +12,20 @@ use std::io::{BufReader, Read, Write};
 use std::net::{Shutdown, TcpStream};
 use std::time::Duration;
 
+/// How long a peer may take between two pieces of its request, or before it takes a piece of the response, in seconds.
+const LONGEST_PAUSE: u64 = 30;
+
 /// How long a peer that was refused may take between two pieces of what it still sends, in milliseconds.
 const PATIENCE: u64 = 500;
 
 /// The most pieces that are read of a peer that was refused: an image and its head fit.
 const MOST_PIECES: u32 = 20_000;
+
+/// Bounds how long the peer may pause, and tells whether that could be had.
+fn bounds_pauses(stream: &TcpStream) -> bool {
+    let pause = Duration::from_secs(LONGEST_PAUSE);
+    stream.set_read_timeout(Some(pause)).is_ok() && stream.set_write_timeout(Some(pause)).is_ok()
+}
 
 /// Reads what a peer still sends, and drops it. A connection that is closed before is reset, and the peer may
 /// lose the response (RFC 9112, section 9.6).
@@ -48,8 +57,8 @@ fn was_refused(served: &Result<Served, HttpFault>) -> bool {
     }
 }
 
-/// Serves one request of a connection, and gives what ends the program. Where there is no memory for the reader,
-/// this connection ends without a response.
+/// Serves one request of a connection, and gives what ends the program. Where there is no memory for the reader, or
+/// the peer pauses too long, this connection ends without a response.
 pub(crate) fn serve_stream<D: Answering>(
     alloc: Global,
     desk: &mut D,
@@ -58,6 +67,9 @@ pub(crate) fn serve_stream<D: Answering>(
     ensures lasting { IfSome result IsLasting }
     ensures before { D.clean desk.new → D.clean desk.old }
 {
+    if !bounds_pauses(stream) {
+        return None;
+    }
     let Ok(mut reader) = BufReader::new(alloc, stream) else {
         return None;
     };

@@ -23,7 +23,7 @@ pub fn listen<N: Net<Listener = TcpListener, Stream = TcpStream>>(
 }
 
 /// Serves so many connections, one request each, one after another. What stops one connection ends that
-/// connection alone; a peer that sends nothing holds all. Takes memory for each.
+/// connection alone; a peer that pauses for 30 seconds is let go. Takes memory for each.
 ///
 /// Read: a connection couldn't be accepted. Store, Reopen: that response was written, and the desk has to be
 /// opened again.
