@@ -1,0 +1,74 @@
+#!/bin/sh
+# The day at the desk in README.md, run as it is printed, with the built program or the one that is named: readme.sh [PROGRAM].
+# What each command writes to standard output is compared with the lines below it. Not part of the gate: it needs bash, curl,
+# python3 and port 8080.
+set -eu
+root=$(CDPATH='' cd -- "$(dirname -- "$(readlink -f -- "$0")")/.." && pwd -P)
+if [ $# -gt 0 ]; then
+    program=$(readlink -f -- "$1")
+else
+    "$root/desk" --version > /dev/null
+    program=$root/crates/desk/out/desk
+fi
+for tool in bash curl python3; do
+    command -v "$tool" > /dev/null || { echo "checks/readme.sh: $tool is needed" >&2; exit 1; }
+done
+room=$(mktemp -d)
+trap 'rm -rf "$room"' EXIT
+ln -s "$program" "$room/desk"
+ln -s "$root/examples" "$room/examples"
+cd "$room"
+timeout -k 5 120 python3 - "$root/README.md" << 'PYTHON'
+import subprocess, sys, time
+
+MARK = "-- that was all of it --"
+PORT = "1F90"  # 8080, as /proc/net/tcp writes it
+
+
+def day(readme):
+    """The commands under `A day at the desk`, each with the lines that have to come of it."""
+    part = readme.split("\n## A day at the desk\n", 1)[1].split("\n## ", 1)[0]
+    found = []
+    for line in part.split("\n"):
+        if line.startswith("    $ "):
+            found.append(([line[6:]], []))
+        elif line.startswith("    > "):
+            found[-1][0].append(line[6:])
+        elif line.startswith("    "):
+            found[-1][1].append(line[4:])
+    return [("\n".join(command), lines) for command, lines in found]
+
+
+def listens():
+    """Whether somebody listens at the port; a connection to find out would be one of those that are counted."""
+    rows = [line.split() for line in open("/proc/net/tcp")][1:]
+    return any(row[1].endswith(":" + PORT) and row[3] == "0A" for row in rows)
+
+
+if listens():
+    sys.exit("checks/readme.sh: port 8080 is taken")
+shell = subprocess.Popen(["bash"], stdin=subprocess.PIPE, stdout=subprocess.PIPE, text=True, bufsize=1)
+commands = day(open(sys.argv[1]).read())
+for command, wanted in commands:
+    shell.stdin.write(f"{command}\necho\necho '{MARK}'\n")
+    shell.stdin.flush()
+    got = []
+    for line in iter(shell.stdout.readline, MARK + "\n"):
+        if not line:
+            sys.exit(f"checks/readme.sh: the shell ended at: {command}")
+        got.append(line.rstrip("\n"))
+    got = [line for line in got if line]
+    if got != wanted:
+        sys.exit(f"checks/readme.sh: {command}\nin place of\n" + "\n".join(wanted) + "\ncame\n" + "\n".join(got))
+    if command.endswith("&"):
+        until = time.monotonic() + 20
+        while not listens():
+            if time.monotonic() > until:
+                sys.exit("checks/readme.sh: nobody listens")
+            time.sleep(0.05)
+shell.stdin.write("wait \"$!\"\necho \"$?\"\n")
+shell.stdin.close()
+if shell.stdout.readline() != "0\n":
+    sys.exit("checks/readme.sh: serve didn't end with status 0")
+print(f"{len(commands)} commands, each with the lines that README.md has")
+PYTHON
