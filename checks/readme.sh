@@ -66,9 +66,8 @@ for command, wanted in commands:
             if time.monotonic() > until:
                 sys.exit("checks/readme.sh: nobody listens")
             time.sleep(0.05)
-shell.stdin.write("wait \"$!\"\necho \"$?\"\n")
 shell.stdin.close()
-if shell.stdout.readline() != "0\n":
-    sys.exit("checks/readme.sh: serve didn't end with status 0")
+if shell.wait() != 0 or listens():
+    sys.exit("checks/readme.sh: the shell failed, or serve goes on")
 print(f"{len(commands)} commands, each with the lines that README.md has")
 PYTHON
