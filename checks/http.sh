@@ -428,7 +428,7 @@ served 0
 
 serve 3
 with_one() {
-    curl -sS --max-time 60 --retry 20 --retry-connrefused --retry-delay 1 --retry-max-time 60 \
+    curl -s --max-time 60 --retry 20 --retry-connrefused --retry-delay 1 --retry-max-time 60 \
         -H "Desk-Token: $(token_of "$1")" -o "level_$1" "$(at /level)"
 }
 with_one ann & one=$!

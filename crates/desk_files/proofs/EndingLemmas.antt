@@ -1,5 +1,5 @@
 -- What a close that fails is told as, and when a desk is let go.
-use Rattle.std.proofs.Common.{◌≡◌, ◌∙◌, ◌⊎◌, Bool, true, false, Option, None, Result, Ok, Err, refl, sym, inl, inr}
+use Rattle.std.proofs.Common.{◌≡◌, ◌∙◌, Bool, true, false, Option, None, Result, Ok, Err, refl, sym, inl, inr}
 use Rattle.std.specs.Prelude.{IfErr}
 use Rattle.desk_bytes.specs.declared.refusal.Refusal.{Refusal}
 use Rattle.desk_bytes.specs.declared.refusal.Refusal.TheVariants as refusals

@@ -1,5 +1,5 @@
 -- A line that was written whole and then written out.
-use Rattle.std.proofs.Common.{◌≡◌, ℕ, List, length, Option, sym, subst, arith}
+use Rattle.std.proofs.Common.{ℕ, List, length, Option, sym, subst, arith}
 use Rattle.std.specs.Io.KnownBytes.{Appends, Keeps}
 use Rattle.std.proofs.KnownBytes.{Appends-kept}
 use Rattle.std.proofs.lemmas.List.{take_all}
