@@ -10,6 +10,7 @@ use desk_bytes::Refusal;
 use sqlite::{Connection, Error, ErrorCode, FileFrom, FileStore, Files, Options, Start};
 use sqlite_std_file::OpenError;
 use std::hash::{BuildHasher, RandomState};
+use std::io::ErrorKind;
 
 /// How many pages of 4,096 bytes the store keeps in memory: 32 MiB of a file, which has room for some 130,000 accepted calls. It
 /// takes the memory at once.
@@ -38,6 +39,9 @@ fn files_at<S: Start>(rt: &HostRuntime, path: &str, start: S) -> Result<Files<Fi
     match sqlite_std_file::open(rt, path, start) {
         Ok(files) => Ok(files),
         Err(OpenError::OutOfMemory) => Err(Refusal::NoMemory),
+        Err(OpenError::Io(error)) if error.kind() == ErrorKind::OutOfMemory => {
+            Err(Refusal::NoMemory)
+        }
         Err(OpenError::Io(_) | OpenError::Busy | OpenError::HotJournal) => Err(Refusal::File),
     }
 }

@@ -1,11 +1,12 @@
 //! A stop of the machine, and the opening after it.
-ghost use Rattle.std.specs.Prelude.{◌≢◌, ℕ, All, List, IfErr, IfOk, length};
+ghost use Rattle.std.specs.Prelude.{◌≡◌, ◌⊎◌, ℕ, All, List, IfErr, IfOk};
 ghost use Rattle.sqlite.specs.Files.{file_state, over_files};
 ghost use Rattle.sqlite.specs.State.{HasCleanDisk};
 ghost use Rattle.desk_texts.specs.Formed.{IsCall};
 ghost use Rattle.desk_history.specs.Calls.{History};
 ghost use Rattle.desk_history.specs.Lives.{Life, events_of};
 ghost use Rattle.desk_store.specs.Reopening.{Keeps, LeavesLives};
+ghost use Rattle.desk_store.specs.Steps.{IsReadRefusal};
 
 use desk_bytes::Refusal;
 use desk_store::Desk;
@@ -29,6 +30,7 @@ pub fn restart<D: Crash + Drop>(
         → (owner : List ℕ) (lives : List Life) → All (λ e. IsCall e.call) (events_of lives)
         → LeavesLives (file_state desk.conn) owner lives
         → ∥ ((cs : History) × Keeps over_files again owner lives cs) ∥₁) }
+    ensures named { IfErr result (λ refusal. (refusal ≡ Refusal.Version) ⊎ IsReadRefusal refusal) }
 {
     let mut files = desk.release().into_store().close();
     files.log.crash();

@@ -10,16 +10,17 @@ use Rattle.sqlite_wal.specs.Reads.{AreClean}
 use Rattle.desk_lives.proofs.RestartLemmas.{both_clean, found_again}
 use Rattle.desk_lives.proofs.restarting.restart.Goals as goal
 
-pub returns-in-Ok-open : goal.returns-in-Ok-open
-returns-in-Ok-open g c = record {
-  keeps = λ clean owner lives formed leaves.
-      let given = c.close-files.result in
-      let new : Files _ = record { log = c.crash.new.self; db = c.crash-2.new.self } in
-      let it = c.into_store.result in
-      let quiet : IsQuiet view faults recovers is_shielded c.args.desk.conn.store it =
-      subst (λ (h : Held (FileStore _ g.D.Disk)). IsQuiet view faults recovers is_shielded h.store it) c.release.ensures c.into_store.ensures.quiet in
-      let honest : AreClean g.D.Disk new.log new.db → AreClean g.D.Disk given.log given.db = both_clean g.D.Disk given new c.crash.ensures.clean c.crash-2.ensures.clean in
-      c.in-Ok-open.ensures.lives clean owner lives formed
-      (found_again g.D.Disk c.args.desk.conn it quiet c.into_store.ensures.numbered c.into_store.ensures.sound given new (sym c.close-files.ensures) honest
-      (c.crash.ensures.left, c.crash-2.ensures.left) c.in-Ok.conn c.in-Ok.ensures.found owner lives leaves);
-}
+pub returns-in-Ok-open-clause-keeps : goal.returns-in-Ok-open-clause-keeps
+returns-in-Ok-open-clause-keeps g c clean owner lives formed leaves =
+    let given = c.close-files.result in
+    let new : Files _ = record { log = c.crash.new.self; db = c.crash-2.new.self } in
+    let it = c.into_store.result in
+    let quiet : IsQuiet view faults recovers is_shielded c.args.desk.conn.store it =
+    subst (λ (h : Held (FileStore _ g.D.Disk)). IsQuiet view faults recovers is_shielded h.store it) c.release.ensures c.into_store.ensures.quiet in
+    let honest : AreClean g.D.Disk new.log new.db → AreClean g.D.Disk given.log given.db = both_clean g.D.Disk given new c.crash.ensures.clean c.crash-2.ensures.clean in
+    c.in-Ok-open.ensures.lives clean owner lives formed
+    (found_again g.D.Disk c.args.desk.conn it quiet c.into_store.ensures.numbered c.into_store.ensures.sound given new (sym c.close-files.ensures) honest
+    (c.crash.ensures.left, c.crash-2.ensures.left) c.in-Ok.conn c.in-Ok.ensures.found owner lives leaves)
+
+pub returns-in-Ok-clause-named : goal.returns-in-Ok-clause-named
+returns-in-Ok-clause-named g c = c.in-Err-open.ensures.named
