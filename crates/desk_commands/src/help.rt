@@ -20,7 +20,7 @@ Status: 0 done, 1 refused, 2 a word or the token is wrong, 3 a device failed, as
 pub const SERVE: &str = "\
 Takes COUNT connections at PORT of 127.0.0.1, one after another, and then ends. Reads one HTTP request of each, and
 writes its response: submissions, reviews, returns, what is listed and revoked, verdicts and exports. What stops a
-connection ends that connection alone; a peer that sends nothing holds all. Prints nothing.
+connection ends that connection alone; a peer that pauses for 30 seconds is let go. Prints nothing.
 
 Example: desk serve desk.db 8080 1000
 
