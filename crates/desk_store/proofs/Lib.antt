@@ -1,5 +1,6 @@
 mod FoundingLemmas
 mod SizeLemmas
+mod StampLemmas
 mod OpeningLemmas
 mod ActingLemmas
 mod CommitLemmas

@@ -24,6 +24,7 @@ use Rattle.desk_statements.specs.Tables.{desk, desk_schema}
 use Rattle.desk_statements.specs.declared.selecting.TheConstants.{SELECT_DESK}
 use Rattle.desk_statements.proofs.SelectFacts.{select_desk}
 use Rattle.desk_history.specs.Calls.{History}
+use Rattle.desk_history.specs.Formed.{IsHistory}
 use Rattle.desk_history.specs.Level.{stamp}
 use Rattle.desk_history.specs.Tables.{tables}
 use Rattle.desk_contents.specs.Values.{desk_values}
@@ -77,11 +78,11 @@ module _ {S : Type 0} (g : store.Ghosts S) (old last end : Held S) (owner : List
   begun = state g (record old { in_transaction = true })
 
   -- what is told inside a transaction, of what the connection shows before it
-  pub told_before : (result : Result ℕ Refusal) → HasCleanDisk (state g old) → TellsOf begun result → length owner ≡ 16 → ShowsHistory (state g old) owner cs
+  pub told_before : (result : Result ℕ Refusal) → HasCleanDisk (state g old) → TellsOf begun result → length owner ≡ 16 → IsHistory cs → ShowsHistory (state g old) owner cs
       → MatchResult result (λ version. version ≡ 1) IsFailure
-  told_before (Ok version) clean told long shows = told.1 owner cs long (record { inside = refl; holds = (shows.holds clean told.0).0 })
-  told_before (Err refusal) clean (inl failed) long shows = failed
-  told_before (Err refusal) clean (inr told) long shows = absurd (told.1.1 owner cs long (record { inside = refl; holds = (shows.holds clean told.1.0).0 }))
+  told_before (Ok version) clean told long history shows = told.1 owner cs long history (record { inside = refl; holds = (shows.holds clean told.0).0 })
+  told_before (Err refusal) clean (inl failed) long history shows = failed
+  told_before (Err refusal) clean (inr told) long history shows = absurd (told.1.1 owner cs long history (record { inside = refl; holds = (shows.holds clean told.1.0).0 }))
 
   pub read_before : (result : Result ℕ Refusal) → HasCleanDisk (state g old) → TellsOf begun result → ReadsInside begun result → IfOk result (AreShownAs (state g old))
   read_before (Ok version) clean told reads = λ c rows shows has. reads c rows (record { inside = refl; holds = (shows.holds clean told.0).0 }) has

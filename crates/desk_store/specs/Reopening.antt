@@ -47,5 +47,6 @@ Recovers g conn desk =
 -- the refusal of an opening isn't that the store has no desk, nor one of another version, where it was opened over such tables
 abbrev pub FindsADesk : {S : Type 0} → Ghosts S → Held S → Refusal → Type 0
 FindsADesk g conn refusal =
-    (owner : List ℕ) (lives : List Life) → length owner ≡ 16 → FindsLives (state g conn) owner lives
+    (owner : List ℕ) (lives : List Life) → length owner ≡ 16 → All (λ e. IsCall e.call) (events_of lives)
+    → FindsLives (state g conn) owner lives
     → (refusal ≢ refusals.NotADesk) × (refusal ≢ refusals.Version)

@@ -1,8 +1,9 @@
 -- The row of the table `desk`, as a SELECT shows it.
-use Rattle.std.specs.Prelude.{◌≡◌, ℕ, pos, List, [], ◌∷◌, length, codes}
+use Rattle.std.specs.Prelude.{◌≡◌, ℕ, pos, List, [], ◌∷◌, length, codes, true}
 use Rattle.sqlite.specs.declared.types.Value.{Value}
 use Rattle.sqlite.specs.declared.types.Value.TheVariants.{Int, Text, Blob}
 use Rattle.sqlite.specs.Order.{Row}
+use Rattle.sbat.specs.Fields.{is_stamp}
 use Rattle.desk_sql.specs.Effects.{IsSelected}
 use Rattle.desk_statements.specs.Columns.{by_first, columns_after}
 use Rattle.desk_statements.specs.Tables.{desk}
@@ -15,9 +16,9 @@ desk_columns owner version stamp = Int (pos 1) ∷ Text (codes "boot-desk") ∷ 
 abbrev pub IsGuid : Value → Type 0
 IsGuid value = (guid : List ℕ) × (value ≡ Blob guid) × (length guid ≡ 16)
 
--- own: the answer is one row, which reads as that of a desk of this version
+-- own: the answer is one row, which reads as that of a desk of this version: the owner has 16 bytes, the stamp ten digits
 abbrev pub ReadsAs : List Row → ℕ → Type 0
-ReadsAs answer version = (owner : List ℕ) × (stamp : ℕ) × (length owner ≡ 16) × (answer ≡ desk_columns owner version stamp ∷ [])
+ReadsAs answer version = (owner : List ℕ) × (stamp : ℕ) × (length owner ≡ 16) × (is_stamp stamp ≡ true) × (answer ≡ desk_columns owner version stamp ∷ [])
 
 -- what a SELECT of whole rows shows of these rows of the table `desk` reads as a desk of this version
 abbrev pub AreOf : List Row → ℕ → Type 0

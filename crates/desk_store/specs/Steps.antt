@@ -9,6 +9,7 @@ use Rattle.sqlite_resolve.specs.declared.error.CompileError.{CompileError}
 use Rattle.desk_bytes.specs.declared.refusal.Refusal.{Refusal}
 use Rattle.desk_bytes.specs.declared.refusal.Refusal.TheVariants as refusals
 use Rattle.desk_history.specs.Calls.{History}
+use Rattle.desk_history.specs.Formed.{IsHistory}
 use Rattle.desk_reads.specs.Failures.{IsFailure}
 use Rattle.desk_sql.specs.Contents.{Contents}
 use Rattle.desk_sql.specs.States.{Sees, Shows}
@@ -35,9 +36,9 @@ RefusesColumns s refusal = IsFailure refusal ⊎ ((refusal ≡ refusals.NotADesk
 abbrev pub IsReadRefusal : Refusal → Type 0
 IsReadRefusal refusal = (refusal ≡ refusals.NotADesk) ⊎ IsFailure refusal
 
--- the store is open, and this is told of each history whose tables it holds
+-- the store is open, and this is told of each history of a desk whose tables it holds
 abbrev pub TellsAll : State → Type 0 → Type 0
-TellsAll s told = IsTrue s.is_open × ((owner : List ℕ) (cs : History) → length owner ≡ 16 → Sees desk_schema s (rows_of owner cs) → told)
+TellsAll s told = IsTrue s.is_open × ((owner : List ℕ) (cs : History) → length owner ≡ 16 → IsHistory cs → Sees desk_schema s (rows_of owner cs) → told)
 
 -- the version is that of these tables, or a device failed, or the tables are no desk's
 abbrev pub TellsOf : State → Result ℕ Refusal → Type 0

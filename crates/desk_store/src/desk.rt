@@ -94,7 +94,8 @@ impl<S: Alter + Drop> Desk<S> {
     /// has to be in no transaction (`is_autocommit`); a refusal hands it back. Takes memory for that
     /// row.
     ///
-    /// `NotADesk`: the store has no row that reads as a desk's. `Version`: it has one, of a version
+    /// `NotADesk`: the store has no row that reads as a desk's, with an owner of 16 bytes and a stamp of
+    /// ten digits. `Version`: it has one, of a version
     /// that this program doesn't know. `NoMemory`: memory was refused. `Store`: the store failed.
     pub fn open(alloc: Global, mut conn: Connection<S>) -> Result<Desk<S>, (Refusal, Connection<S>)>
         requires outside { conn.in_transaction ≡ false }
@@ -108,7 +109,7 @@ impl<S: Alter + Drop> Desk<S> {
         ensures other { IfErr result (λ e. HasCleanDisk (state S.Store e.1) → e.0 ≡ Refusal.Version
             → (version : ℕ) × (version ≢ 1) × AreShownAs (state S.Store conn) version) }
         ensures known { IfErr result (λ e. HasCleanDisk (state S.Store e.1)
-            → (owner : List ℕ) (cs : History) → length owner ≡ 16
+            → (owner : List ℕ) (cs : History) → length owner ≡ 16 → IsHistory cs
             → ShowsHistory (state S.Store conn) owner cs
             → IsFailure e.0 × ShowsHistory (state S.Store e.1) owner cs) }
         ensures lives { IfOk result (λ desk. HasCleanDisk (state S.Store desk.conn)
@@ -122,12 +123,12 @@ impl<S: Alter + Drop> Desk<S> {
     {
         found_is_shown(&conn);
         stop_leaves_what_is_shown(&conn);
+        lives_keep_what_was_answered();
         match read_version(&mut conn) {
             Ok(version) => {
                 if version != VERSION {
                     return Err((Refusal::Version, conn));
                 }
-                lives_keep_what_was_answered();
                 keys_stand_once();
                 Ok(Desk {
                     alloc,

@@ -6,6 +6,7 @@ ghost use Rattle.sqlite.specs.State.{HasCleanDisk, IsUnchanged};
 ghost use Rattle.sqlite.specs.declared.types.Value.TheVariants.{Blob, Int, Text};
 ghost use Rattle.sqlite_value.specs.Order.{column};
 ghost use Rattle.desk_history.specs.Calls.{History};
+ghost use Rattle.desk_history.specs.Formed.{IsHistory};
 ghost use Rattle.desk_sql.specs.States.{Keeps, Spares};
 ghost use Rattle.desk_contents.specs.Histories.{HoldsHistory, ShowsHistory};
 ghost use Rattle.desk_store.specs.Rows.{IsGuid, ReadsAs};
@@ -18,6 +19,7 @@ use desk_catalog::catalog_lists_one_schema;
 use desk_sql::select;
 use desk_statements::SELECT_DESK;
 use desk_tables::WriteFault;
+use sbat::Stamp;
 use sqlite::types::ValueRef;
 use sqlite::{Alter, Connection, Error, Row, Transaction};
 
@@ -67,7 +69,7 @@ fn has_guid(row: &Row, at: usize) -> bool
 }
 
 /// The version in the only row, if it reads as a desk's: the id 1, the mark, a version, an owner
-/// of 16 bytes, a stamp.
+/// of 16 bytes, a stamp of ten digits.
 fn version_in(rows: &[Row]) -> Option<u64>
     ensures found { (version : ℕ) → ReadsAs rows.now version → result ≡ Some version }
     ensures read { IfSome result (ReadsAs rows.now) }
@@ -80,7 +82,8 @@ fn version_in(rows: &[Row]) -> Option<u64>
     }
     let id = number_at(row, 0)?;
     let version = number_at(row, 2)?;
-    let _stamp = number_at(row, 4)?;
+    let stamp = number_at(row, 4)?;
+    let _stamp = Stamp::new(stamp)?;
     if id == 1 && has_mark(row, 1) && has_guid(row, 3) {
         Some(version)
     } else {
@@ -152,7 +155,7 @@ pub(crate) fn read_version<S: Alter>(conn: &mut Connection<S>) -> Result<u64, Re
     requires outside { conn.old.in_transaction ≡ false }
     ensures outside { conn.new.in_transaction ≡ false }
     ensures told { HasCleanDisk (state S.Store conn.new) → (owner : List ℕ) (cs : History)
-        → length owner ≡ 16 → ShowsHistory (state S.Store conn.old) owner cs
+        → length owner ≡ 16 → IsHistory cs → ShowsHistory (state S.Store conn.old) owner cs
         → MatchResult result (λ version. version ≡ 1) IsFailure }
     ensures shown { HasCleanDisk (state S.Store conn.new) → (owner : List ℕ) (cs : History)
         → ShowsHistory (state S.Store conn.old) owner cs

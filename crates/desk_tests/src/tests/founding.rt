@@ -70,7 +70,11 @@ UPDATE desk SET version = 3
 open : Version
 UPDATE desk SET version = 1, mark = 'boot'
 open : NotADesk
-UPDATE desk SET mark = 'boot-desk'
+UPDATE desk SET mark = 'boot-desk', stamp = 202103021
+open : NotADesk
+UPDATE desk SET stamp = 20210302180
+open : NotADesk
+UPDATE desk SET stamp = 2021030218
 open : a desk";
 
 #[test]

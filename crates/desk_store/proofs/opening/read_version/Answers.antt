@@ -3,6 +3,7 @@ use Rattle.std.specs.Prelude.{IfOk, MatchResult}
 use Rattle.sqlite.specs.Held.{Held, state}
 use Rattle.sqlite.specs.State.{HasCleanDisk, KeepsCommit, Survives}
 use Rattle.desk_history.specs.Calls.{History}
+use Rattle.desk_history.specs.Formed.{IsHistory}
 use Rattle.desk_contents.specs.Histories.{ShowsHistory}
 use Rattle.desk_reads.specs.Failures.{IsFailure}
 use Rattle.desk_store.specs.Steps.{AreShownAs, ReadsInside, TellsOf, TellsOpen}
@@ -19,10 +20,10 @@ returns-clause-told g c =
     let spared : Survives begun (state g.S.Store last) (λ _. ⊥) = rw c.transaction-tx.ensures.begun at did.survives in
     let told : HasCleanDisk (state g.S.Store last) → TellsOf begun c.version_of-read.result = λ clean. (rw c.transaction-tx.ensures.begun at (did.told clean)) refl in
     let same : end ≡ c.conn-1.given.0 = search rules in
-    subst (λ (x : Held _). HasCleanDisk (state g.S.Store x) → (owner : List ℕ) (cs : History) → length owner ≡ 16 → ShowsHistory (state g.S.Store old) owner cs → MatchResult c.version_of-read.result (λ version. version ≡ 1) IsFailure)
-    same (λ clean owner cs long shows.
+    subst (λ (x : Held _). HasCleanDisk (state g.S.Store x) → (owner : List ℕ) (cs : History) → length owner ≡ 16 → IsHistory cs → ShowsHistory (state g.S.Store old) owner cs → MatchResult c.version_of-read.result (λ version. version ≡ 1) IsFailure)
+    same (λ clean owner cs long history shows.
     let late : HasCleanDisk (state g.S.Store last) = omega (arith, c.rollback.ensures.survives.clean, clean) in
-    told_before g.S.Store old last end owner cs c.version_of-read.result (omega (arith, spared.clean, late)) (told late) long shows)
+    told_before g.S.Store old last end owner cs c.version_of-read.result (omega (arith, spared.clean, late)) (told late) long history shows)
 
 pub returns-clause-shown : goal.returns-clause-shown
 returns-clause-shown g c =

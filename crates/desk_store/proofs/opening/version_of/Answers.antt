@@ -3,6 +3,7 @@ use Rattle.sqlite.specs.Held.{state}
 use Rattle.sqlite.specs.State.{HasCleanDisk, IsUnchanged}
 use Rattle.desk_history.specs.Level.{stamp}
 use Rattle.desk_store.proofs.OpeningLemmas.{one_row, selected}
+use Rattle.desk_store.proofs.StampLemmas.{stamp_is_formed}
 use Rattle.desk_store.specs.Rows.{ReadsAs}
 use Rattle.desk_store.proofs.opening.version_of.Goals as goal
 
@@ -14,9 +15,9 @@ returns-in-Some-clause-told g c clean inside =
     let late : HasCleanDisk mid = omega (arith, c.in-Ok-select.ensures.survives.clean, clean) in
     let same : IsUnchanged old mid = c.in-Ok.ensures.same late in (
       same.0.was_open,
-      λ owner cs long sees.
+      λ owner cs long history sees.
           let rows = one_row old mid new c.in-Ok-select.rows.items same (c.in-Ok-select.ensures.value clean (same.0.mode ∙ inside)) owner cs sees in
-          let told : c.version_in.result ≡ Some 1 = c.version_in.ensures.found 1 (owner, stamp cs, long, c.deref.ensures.value ∙ rows) in
+          let told : c.version_in.result ≡ Some 1 = c.version_in.ensures.found 1 (owner, stamp cs, long, stamp_is_formed cs history.formed, c.deref.ensures.value ∙ rows) in
           let is : Some c.in-Some.version ≡ Some 1 = sym c.in-Some.is ∙ told in
           cc,
     )
@@ -32,9 +33,9 @@ returns-in-Ok-select-clause-told g c clean inside =
       refl,
       (
         same.0.was_open,
-        λ owner cs long sees.
+        λ owner cs long history sees.
             let rows = one_row old mid new c.in-Ok-select.rows.items same (c.in-Ok-select.ensures.value clean (same.0.mode ∙ inside)) owner cs sees in
-            let told : c.version_in.result ≡ Some 1 = c.version_in.ensures.found 1 (owner, stamp cs, long, c.deref.ensures.value ∙ rows) in
+            let told : c.version_in.result ≡ Some 1 = c.version_in.ensures.found 1 (owner, stamp cs, long, stamp_is_formed cs history.formed, c.deref.ensures.value ∙ rows) in
             let none = c.in-None.is in
             cc,
       ),

@@ -43,15 +43,15 @@ returns-else-version-ne-VERSION-clause-lives g c clean owner lives formed finds 
     ))
 
 pub returns-then-version-ne-VERSION-clause-found : goal.returns-then-version-ne-VERSION-clause-found
-returns-then-version-ne-VERSION-clause-found g c clean owner lives long finds =
+returns-then-version-ne-VERSION-clause-found g c clean owner lives long formed finds =
     let before : HasCleanDisk (state g.S.Store c.args.conn) = omega (arith, c.read_version.ensures.survives.clean, clean) in
     let live : IsTrue (state g.S.Store c.args.conn).is_open = c.in-Ok.ensures.open clean in
     let other : c.in-Ok.version ≢ 1 = search rules in
-    (λ is. cc, λ _. not_missing (finds before live) (λ it. other (c.in-Ok.ensures.told clean owner it.0 long (c.found_is_shown.ensures owner it.0 it.2))))
+    (λ is. cc, λ _. not_missing (finds before live) (λ it. other (c.in-Ok.ensures.told clean owner it.0 long (c.lives_keep_what_was_answered.ensures lives it.0 it.1 formed).0 (c.found_is_shown.ensures owner it.0 it.2))))
 
 pub returns-in-Err-clause-found : goal.returns-in-Err-clause-found
-returns-in-Err-clause-found g c clean owner lives long finds =
+returns-in-Err-clause-found g c clean owner lives long formed finds =
     let before : HasCleanDisk (state g.S.Store c.args.conn) = omega (arith, c.read_version.ensures.survives.clean, clean) in (
-      λ is. not_missing (finds before (c.in-Err.ensures.open clean is)) (λ it. no_failure c.in-Err.refusal is (c.in-Err.ensures.told clean owner it.0 long (c.found_is_shown.ensures owner it.0 it.2))),
+      λ is. not_missing (finds before (c.in-Err.ensures.open clean is)) (λ it. no_failure c.in-Err.refusal is (c.in-Err.ensures.told clean owner it.0 long (c.lives_keep_what_was_answered.ensures lives it.0 it.1 formed).0 (c.found_is_shown.ensures owner it.0 it.2))),
       λ is. never_version c.in-Err.refusal is c.in-Err.ensures.named,
     )
