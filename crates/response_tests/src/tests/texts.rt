@@ -43,16 +43,22 @@ fn vote(alloc: Global, reviewer: &str, vote: Vote, note: &str) -> Result<ShownVo
     })
 }
 
-/// A request without a vote, of which nothing was returned.
-fn request(alloc: Global, number: u64, state: State) -> Result<ShownRequest, Fail> {
+/// A request with these votes, of which this was returned.
+fn request(
+    alloc: Global,
+    number: u64,
+    state: State,
+    votes: Vec<ShownVote>,
+    returned: Option<ShownReturn>,
+) -> Result<ShownRequest, Fail> {
     Ok(ShownRequest {
         number: RequestNumber::new(number).ok_or("a number")?,
         submitter: PersonName::parse(alloc, b"ann")?,
         title: Title::parse(alloc, br#" a "b" \ ~"#)?,
         facts: facts(alloc)?,
         state,
-        votes: ShownVotes::new(Vec::new(alloc)),
-        returned: None,
+        votes: ShownVotes::new(votes),
+        returned,
     })
 }
 
@@ -64,35 +70,46 @@ const OPEN: &str =
 const SIGNED: &str =
     r#"{"carried":["0101010101010101010101010101010101010101010101010101010101010101","0202020202020202020202020202020202020202020202020202020202020202"],"components":[["sbat",1],["shim",4]],"digest":"aaaaaaaaaaaaaaaaaaaaaaaaaaaaaaaaaaaaaaaaaaaaaaaaaaaaaaaaaaaaaaaa","file":"ffffffffffffffffffffffffffffffffffffffffffffffffffffffffffffffff","gap":0,"length":1024,"number":1,"returned":"cccccccccccccccccccccccccccccccccccccccccccccccccccccccccccccccc","signing":"bbbbbbbbbbbbbbbbbbbbbbbbbbbbbbbbbbbbbbbbbbbbbbbbbbbbbbbbbbbbbbbb","state":"signed","submitter":"ann","title":" a \"b\" \\ ~","votes":[]}"#;
 
-#[test]
-fn writes_requests(rt: HostRuntime) -> Result<(), Fail> {
-    let alloc = rt.alloc();
+fn open(alloc: Global) -> Result<ShownRequest, Fail> {
     let mut votes = Vec::new(alloc);
     votes.push(vote(alloc, "rita", Vote::Yes, "")?)?;
     votes.push(vote(alloc, "raul", Vote::No, r#"no "x" \ ~ "#)?)?;
-    let mut open = request(alloc, 999_999, State::Open)?;
-    open.votes = ShownVotes::new(votes);
-    assert!(rt;
-        request_json(alloc, &open)?.as_slice() == OPEN.as_bytes(),
-        "two votes"
-    );
-    let mut signed = request(alloc, 1, State::Signed)?;
-    signed.returned = Some(ShownReturn {
+    request(alloc, 999_999, State::Open, votes, None)
+}
+
+fn signed(alloc: Global) -> Result<ShownRequest, Fail> {
+    let returned = ShownReturn {
         length: 2048,
         file: Digest::from([0xcc; 32]),
         digest: Digest::from([0xaa; 32]),
-    });
-    assert!(rt;
-        request_json(alloc, &signed)?.as_slice() == SIGNED.as_bytes(),
-        "a return"
-    );
+    };
+    request(alloc, 1, State::Signed, Vec::new(alloc), Some(returned))
+}
+
+#[test]
+fn writes_a_request(rt: HostRuntime) -> Result<(), Fail> {
+    let open = open(rt.alloc())?;
+    let text = request_json(rt.alloc(), &open)?;
+    assert!(rt; text.as_slice() == OPEN.as_bytes(), "two votes");
+    Ok(())
+}
+
+#[test]
+fn writes_a_request_with_a_return(rt: HostRuntime) -> Result<(), Fail> {
+    let signed = signed(rt.alloc())?;
+    let text = request_json(rt.alloc(), &signed)?;
+    assert!(rt; text.as_slice() == SIGNED.as_bytes(), "a return");
+    Ok(())
+}
+
+#[test]
+fn writes_lists_of_requests(rt: HostRuntime) -> Result<(), Fail> {
+    let alloc = rt.alloc();
     let mut requests = Vec::new(alloc);
-    assert!(rt;
-        requests_json(alloc, requests.as_slice())?.as_slice() == b"[]".as_slice(),
-        "none"
-    );
-    requests.push(open)?;
-    requests.push(signed)?;
+    let none = requests_json(alloc, requests.as_slice())?;
+    assert!(rt; none.as_slice() == b"[]".as_slice(), "none");
+    requests.push(open(alloc)?)?;
+    requests.push(signed(alloc)?)?;
     let text = requests_json(alloc, requests.as_slice())?;
     let both = format!(in alloc; "[{OPEN},{SIGNED}]")?;
     assert!(rt; text.as_slice() == both.as_bytes(), "two requests");
