@@ -251,9 +251,6 @@ UPDATE calls SET reply = 'taken' WHERE no = 2
 ann a1 list 1 : Store
 UPDATE calls SET reply = 'listed' WHERE no = 2
 ann a1 list 1 : listed
-UPDATE desk SET stamp = 5
-alone ann a2 list 2 : Store
-UPDATE desk SET stamp = 2021030218
 ann a2 list 2 : listed
 UPDATE calls SET no = 4 WHERE no = 3
 alone ann a3 list 3 : Store
@@ -278,9 +275,6 @@ UPDATE people SET token = x'02' WHERE name = 'bob'
 shows bob 1 : Store
 who 1 : Reopen
 UPDATE people SET token = x'0202020202020202020202020202020202020202020202020202020202020202' WHERE name = 'bob'
-UPDATE desk SET stamp = 202401010
-report : Store
-UPDATE desk SET stamp = 2024010100
 shows bob 1 : 1 bob shim open 1024 8 240 1 1 certificate 20 component shim 4
 verdict 1 1 0 1 shim 4 : allowed
 who 2 : bob submitter 2";
