@@ -1,5 +1,6 @@
 //! From what the words say to the work.
 use desk_bytes::{Guid, Refusal, WriteFailed};
+use desk_exports::Export;
 use desk_files::{
     add_person, answer_from, export_from, judge_image, make_desk, read_file, read_image, serve_from,
 };
@@ -7,7 +8,7 @@ use desk_lines::{Fault, print_facts, print_fault, print_list, print_ranges};
 use desk_service::facts;
 use desk_values::{Stop, owner_from, person_from, place_from};
 use desk_words::{PersonWords, ServeWords, Words};
-use desk_works::{Ending, Export, print_ending};
+use desk_works::{Ending, print_ending};
 use siglist::pack;
 use std::alloc::Global;
 use std::io::{BufWriter, Read, Write};

@@ -1,14 +1,18 @@
 //! A desk in a store is one that answers.
-ghost use Rattle.std.specs.Prelude.{◌≡◌, ◌≢◌};
+ghost use Rattle.std.specs.Prelude.{◌≡◌, ◌≢◌, Err, IfErr, IfOk, false, true};
 ghost use Rattle.sqlite.specs.Held.{state};
 ghost use Rattle.sqlite.specs.State.{HasCleanDisk};
-ghost use Rattle.desk_store.specs.Desks.{ShowsDesk};
+ghost use Rattle.desk_calls.specs.Desks.{IsOutage};
+ghost use Rattle.desk_exports.specs.Exports.{exported};
+ghost use Rattle.desk_store.specs.Desks.{KeepsDesk, ShowsDesk, Views};
 
 use crate::open_desk::OpenDesk;
 use desk_bytes::{Digest, Refusal};
 use desk_calls::{Answering, Octets, ShownRequests};
+use desk_exports::Export;
 use desk_history::Verdict;
 use desk_reports::{report, report_is_the_history};
+use desk_store::Desk;
 use desk_texts::{Caller, Command, Facts, Key, Person, Reply, RequestNumber, ShownRequest};
 use sqlite::Alter;
 use std::alloc::Global;
@@ -22,6 +26,28 @@ fn into_memory(refusal: Refusal) -> Refusal
         return Refusal::NoMemory;
     }
     refusal
+}
+
+/// The bytes of an export.
+fn octets_of<S: Alter + Drop>(
+    alloc: Global,
+    desk: &mut Desk<S>,
+    what: Export,
+) -> Result<Octets, Refusal>
+    ensures given { HasCleanDisk (state S.Store desk.new.conn) → IfOk result (λ bytes.
+        Views S.Store desk.old desk.new (λ owner cs. bytes ≡ exported what owner cs)) }
+    ensures same { HasCleanDisk (state S.Store desk.new.conn) → result ≢ Err Refusal.Store
+        → KeepsDesk S.Store desk.old desk.new }
+    ensures before { HasCleanDisk (state S.Store desk.new.conn)
+        → HasCleanDisk (state S.Store desk.old.conn) }
+    ensures named { desk.old.needs_reopening ≡ false → IfErr result IsOutage }
+    ensures reopen { desk.old.needs_reopening ≡ true → result ≡ Err Refusal.Reopen }
+{
+    let mut bytes = Vec::new(alloc);
+    match desk.export(what, &mut bytes) {
+        Ok(()) => Ok(Octets::new(bytes)),
+        Err(refusal) => Err(into_memory(refusal)),
+    }
 }
 
 impl<S: Alter + Drop> Answering for OpenDesk<S> {
@@ -53,27 +79,15 @@ impl<S: Alter + Drop> Answering for OpenDesk<S> {
     }
 
     fn dbx(&mut self, alloc: Global) -> Result<Octets, Refusal> {
-        let mut bytes = Vec::new(alloc);
-        match self.desk.export_dbx(&mut bytes) {
-            Ok(()) => Ok(Octets::new(bytes)),
-            Err(refusal) => Err(into_memory(refusal)),
-        }
+        octets_of(alloc, &mut self.desk, Export::Dbx)
     }
 
     fn db(&mut self, alloc: Global) -> Result<Octets, Refusal> {
-        let mut bytes = Vec::new(alloc);
-        match self.desk.export_db(&mut bytes) {
-            Ok(()) => Ok(Octets::new(bytes)),
-            Err(refusal) => Err(into_memory(refusal)),
-        }
+        octets_of(alloc, &mut self.desk, Export::Db)
     }
 
     fn level(&mut self, alloc: Global) -> Result<Octets, Refusal> {
-        let mut bytes = Vec::new(alloc);
-        match self.desk.export_level(&mut bytes) {
-            Ok(()) => Ok(Octets::new(bytes)),
-            Err(refusal) => Err(into_memory(refusal)),
-        }
+        octets_of(alloc, &mut self.desk, Export::Level)
     }
 
     fn report(&mut self, alloc: Global) -> Result<Octets, Refusal> {

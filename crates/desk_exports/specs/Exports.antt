@@ -18,6 +18,8 @@ use Rattle.desk_history.specs.Replies.{minutes}
 use Rattle.desk_history.specs.Revocations.{revocations}
 use Rattle.desk_history.specs.Tables.{level_rows}
 use Rattle.desk_exports.specs.Orders.{ascending, ascending_by}
+use Rattle.desk_exports.specs.declared.export.Export.{Export}
+use Rattle.desk_exports.specs.declared.export.Export.TheVariants as exports
 
 -- the revoked digests of this kind, each once, ascending
 abbrev pub revoked : ListedKind → History → List (List ℕ)
@@ -62,3 +64,10 @@ minute_line m =
 -- the minutes, the first call first
 abbrev pub minutes_text : History → List ℕ
 minutes_text cs = flat_map minute_line (reverse (minutes cs))
+
+-- the bytes of an export, by the desk's owner and history
+abbrev pub exported : Export → List ℕ → History → List ℕ
+exported exports.Db owner cs = db owner cs
+exported exports.Dbx owner cs = dbx owner cs
+exported exports.Level owner cs = level cs
+exported exports.Minutes owner cs = minutes_text cs

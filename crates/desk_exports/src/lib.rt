@@ -2,6 +2,8 @@
 //! definitions, and worked examples of them.
 #![tactic(auto)]
 
+mod export;
 mod laws;
 
+pub use export::Export;
 pub use laws::{exports_are_their_parts, exports_are_written};

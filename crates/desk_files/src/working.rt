@@ -9,10 +9,11 @@ ghost use Rattle.desk_works.specs.Faults.{IsWritingRefusal};
 use crate::desk_file::{FileDesk, ended, make, open};
 use crate::file::read_image;
 use desk_bytes::Guid;
+use desk_exports::Export;
 use desk_lines::Fault;
 use desk_service::facts;
 use desk_texts::{Key, Person};
-use desk_works::{Ending, Export, Outcome, add, judge, write_export};
+use desk_works::{Ending, Outcome, add, judge, write_export};
 use std::io::Write;
 
 /// Makes a desk with this owner and without calls in a file, which is made where it isn't there.

@@ -75,7 +75,7 @@ fn put_certificates<S: Alter, W: Write>(
 }
 
 /// Writes all of these lists.
-fn put_db<S: Alter, W: Write>(
+pub(crate) fn put_db<S: Alter, W: Write>(
     alloc: Global,
     conn: &mut Connection<S>,
     writer: &mut W,
@@ -86,34 +86,4 @@ fn put_db<S: Alter, W: Write>(
     let row = own(alloc, conn)?;
     put_digest_list(alloc, conn, row.owner, writer)?;
     put_certificates(alloc, conn, row.owner, writer)
-}
-
-/// Writes db: one SHA256 list of the listed digests of images, or none where there is no digest, and then an
-/// X509 list for each listed certificate (UEFI 2.10, section 32.4.1), ascending by their digests. Each row is
-/// written as the store gives it, and none is kept. Takes memory for the desk's own row and for one row of
-/// the list.
-///
-/// `Write`: the writer failed. `NoMemory`: memory was refused, also to the store. `Store`: the store failed,
-/// or isn't as a desk left it. Each leaves a beginning of db in the writer, which may be empty.
-pub fn export_db<S: Alter, W: Write>(
-    alloc: Global,
-    conn: &mut Connection<S>,
-    writer: &mut W,
-) -> Result<(), Refusal>
-    ensures ok { HasCleanDisk (state S.Store conn.new)
-        → OnOk result (WritesOf (state S.Store conn.old)
-        (W.contents writer.old) (W.contents writer.new) db) }
-    ensures beginning { HasCleanDisk (state S.Store conn.new)
-        → OnErr result (BeginsOf (state S.Store conn.old)
-        (W.contents writer.old) (W.contents writer.new) db) }
-    ensures named { IfErr result IsExportFailure }
-
-    ensures same { StaysOf (state S.Store conn.old) (state S.Store conn.new) }
-    ensures spares { SparesOf S.Store conn.old conn.new }
-    ensures clean { HasCleanDisk (state S.Store conn.new) → HasCleanDisk (state S.Store conn.old) }
-{
-    match put_db(alloc, conn, writer) {
-        Ok(()) => Ok(()),
-        Err(fault) => Err(fault.refusal()),
-    }
 }

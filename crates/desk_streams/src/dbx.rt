@@ -92,7 +92,7 @@ fn put_certificate_list<S: Alter, W: Write>(
 }
 
 /// Writes both lists.
-fn put_dbx<S: Alter, W: Write>(
+pub(crate) fn put_dbx<S: Alter, W: Write>(
     alloc: Global,
     conn: &mut Connection<S>,
     writer: &mut W,
@@ -103,34 +103,4 @@ fn put_dbx<S: Alter, W: Write>(
     let row = own(alloc, conn)?;
     put_digest_list(alloc, conn, row.owner, writer)?;
     put_certificate_list(alloc, conn, row.owner, writer)
-}
-
-/// Writes dbx: one SHA256 list of the revoked digests of images, and one X509_SHA256 list of the revoked
-/// certificates (UEFI 2.10, section 32.4.1), each ascending; a kind that has none has no list. Each row is
-/// written as the store gives it, and none is kept. Takes memory for the desk's own row and for one row of
-/// the lists.
-///
-/// `Write`: the writer failed. `NoMemory`: memory was refused, also to the store. `Store`: the store failed,
-/// or isn't as a desk left it. Each leaves a beginning of dbx in the writer, which may be empty.
-pub fn export_dbx<S: Alter, W: Write>(
-    alloc: Global,
-    conn: &mut Connection<S>,
-    writer: &mut W,
-) -> Result<(), Refusal>
-    ensures ok { HasCleanDisk (state S.Store conn.new)
-        → OnOk result (WritesOf (state S.Store conn.old)
-        (W.contents writer.old) (W.contents writer.new) dbx) }
-    ensures beginning { HasCleanDisk (state S.Store conn.new)
-        → OnErr result (BeginsOf (state S.Store conn.old)
-        (W.contents writer.old) (W.contents writer.new) dbx) }
-    ensures named { IfErr result IsExportFailure }
-
-    ensures same { StaysOf (state S.Store conn.old) (state S.Store conn.new) }
-    ensures spares { SparesOf S.Store conn.old conn.new }
-    ensures clean { HasCleanDisk (state S.Store conn.new) → HasCleanDisk (state S.Store conn.old) }
-{
-    match put_dbx(alloc, conn, writer) {
-        Ok(()) => Ok(()),
-        Err(fault) => Err(fault.refusal()),
-    }
 }

@@ -33,7 +33,7 @@ fn put_components<S: Alter, W: Write>(
 }
 
 /// Writes the first line and the components' lines.
-fn put_level<S: Alter, W: Write>(
+pub(crate) fn put_level<S: Alter, W: Write>(
     alloc: Global,
     conn: &mut Connection<S>,
     writer: &mut W,
@@ -44,33 +44,4 @@ fn put_level<S: Alter, W: Write>(
     let row = own(alloc, conn)?;
     level_head(row.stamp, writer)?;
     put_components(alloc, conn, writer)
-}
-
-/// Writes the level: `sbat,1,` and its stamp, and then a line for each component, ascending by name (shim's
-/// SBAT.md). Each row is written as the store gives it, and none is kept. Takes memory for the desk's own row
-/// and for one row of the level.
-///
-/// `Write`: the writer failed. `NoMemory`: memory was refused, also to the store. `Store`: the store failed,
-/// or isn't as a desk left it. Each leaves a beginning of the level in the writer, which may be empty.
-pub fn export_level<S: Alter, W: Write>(
-    alloc: Global,
-    conn: &mut Connection<S>,
-    writer: &mut W,
-) -> Result<(), Refusal>
-    ensures ok { HasCleanDisk (state S.Store conn.new)
-        → OnOk result (WritesOf (state S.Store conn.old)
-        (W.contents writer.old) (W.contents writer.new) (λ _ cs. level cs)) }
-    ensures beginning { HasCleanDisk (state S.Store conn.new)
-        → OnErr result (BeginsOf (state S.Store conn.old)
-        (W.contents writer.old) (W.contents writer.new) (λ _ cs. level cs)) }
-    ensures named { IfErr result IsExportFailure }
-
-    ensures same { StaysOf (state S.Store conn.old) (state S.Store conn.new) }
-    ensures spares { SparesOf S.Store conn.old conn.new }
-    ensures clean { HasCleanDisk (state S.Store conn.new) → HasCleanDisk (state S.Store conn.old) }
-{
-    match put_level(alloc, conn, writer) {
-        Ok(()) => Ok(()),
-        Err(fault) => Err(fault.refusal()),
-    }
 }

@@ -3,6 +3,7 @@
 
 mod db;
 mod dbx;
+mod exporting;
 mod fault;
 mod forms;
 mod heads;
@@ -11,7 +12,4 @@ mod lines;
 mod listed_forms;
 mod taking;
 
-pub use db::export_db;
-pub use dbx::export_dbx;
-pub use level::export_level;
-pub use lines::minutes;
+pub use exporting::export;

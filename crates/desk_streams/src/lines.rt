@@ -120,7 +120,7 @@ impl RowForm for MinuteLine {
 }
 
 /// Writes a line for each call, the first first.
-fn put_minutes<S: Alter, W: Write>(
+pub(crate) fn put_minutes<S: Alter, W: Write>(
     alloc: Global,
     conn: &mut Connection<S>,
     writer: &mut W,
@@ -129,33 +129,4 @@ fn put_minutes<S: Alter, W: Write>(
         (W.contents writer.old) (W.contents writer.new) result (λ _ cs. minutes_text cs) }
 {
     put_rows(alloc, conn, SELECT_CALLS, &[], &MinuteLine, writer)
-}
-
-/// Writes the minutes: a line for each accepted call, the first call first, of its number, caller, key, text and
-/// reply, parted by tabs and ended by LF. Each row is written as the store gives it, and none is kept. Takes
-/// no memory of its own.
-///
-/// `Write`: the writer failed. `NoMemory`: memory was refused to the store. `Store`: the store failed, or
-/// isn't as a desk left it. Each leaves a beginning of the minutes in the writer, which may be empty.
-pub fn minutes<S: Alter, W: Write>(
-    alloc: Global,
-    conn: &mut Connection<S>,
-    writer: &mut W,
-) -> Result<(), Refusal>
-    ensures ok { HasCleanDisk (state S.Store conn.new)
-        → OnOk result (WritesOf (state S.Store conn.old)
-        (W.contents writer.old) (W.contents writer.new) (λ _ cs. minutes_text cs)) }
-    ensures beginning { HasCleanDisk (state S.Store conn.new)
-        → OnErr result (BeginsOf (state S.Store conn.old)
-        (W.contents writer.old) (W.contents writer.new) (λ _ cs. minutes_text cs)) }
-    ensures named { IfErr result IsExportFailure }
-
-    ensures same { StaysOf (state S.Store conn.old) (state S.Store conn.new) }
-    ensures spares { SparesOf S.Store conn.old conn.new }
-    ensures clean { HasCleanDisk (state S.Store conn.new) → HasCleanDisk (state S.Store conn.old) }
-{
-    match put_minutes(alloc, conn, writer) {
-        Ok(()) => Ok(()),
-        Err(fault) => Err(fault.refusal()),
-    }
 }

@@ -1,5 +1,6 @@
 //! Desks over stores in memory, asked by the lines of scripts.
 use desk_bytes::{Digest, Guid, Refusal};
+use desk_exports::Export;
 use desk_history::Verdict;
 use desk_reports::report;
 use desk_rules::{ListView, View, decide, verdict};

@@ -1,15 +1,11 @@
 -- What a subcommand over a desk's file writes, and what its work comes to.
 use Rattle.std.specs.Prelude.{ℕ, List, ◌++◌, codes}
-use Rattle.desk_exports.specs.Exports as exports
-use Rattle.desk_history.specs.Calls.{History}
 use Rattle.desk_history.specs.declared.finding.Verdict.{Verdict}
 use Rattle.desk_history.specs.declared.finding.Verdict.TheVariants.{Allowed, DbxCertificate, DbxDigest, NotListed, Sbat}
 use Rattle.desk_texts.specs.ReplyTexts.{reply_text_of}
 use Rattle.desk_texts.specs.declared.reply.Reply.{Reply}
 use Rattle.desk_works.specs.declared.ending.Outcome.{Outcome}
 use Rattle.desk_works.specs.declared.ending.Outcome.TheVariants.{Done, Refused}
-use Rattle.desk_works.specs.declared.work.Export.{Export}
-use Rattle.desk_works.specs.declared.work.Export.TheVariants as export
 
 -- a text and LF
 abbrev pub line_of : List ℕ → List ℕ
@@ -26,10 +22,3 @@ outcome_of DbxDigest = Refused
 outcome_of DbxCertificate = Refused
 outcome_of NotListed = Refused
 outcome_of (Sbat below) = Refused
-
--- the bytes of an export, by the desk's owner and history
-abbrev pub export_of : Export → List ℕ → History → List ℕ
-export_of export.Db owner cs = exports.db owner cs
-export_of export.Dbx owner cs = exports.dbx owner cs
-export_of export.Level owner cs = exports.level cs
-export_of export.Minutes owner cs = exports.minutes_text cs

@@ -10,4 +10,4 @@ mod work;
 pub use ending::{Ending, Outcome};
 pub use laws::a_failed_close_is_a_device;
 pub use telling::print_ending;
-pub use work::{Export, add, judge, write_export};
+pub use work::{add, judge, write_export};

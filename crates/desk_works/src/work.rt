@@ -3,6 +3,7 @@ ghost use Rattle.std.specs.Prelude.{◌≡◌, IfErr, IfOk, OnErr, OnOk};
 ghost use Rattle.std.specs.Io.KnownBytes.{Appends};
 ghost use Rattle.sqlite.specs.Held.{state};
 ghost use Rattle.sqlite.specs.State.{HasCleanDisk};
+ghost use Rattle.desk_exports.specs.Exports.{exported};
 ghost use Rattle.desk_history.specs.Verdicts as verdicts;
 ghost use Rattle.desk_history.specs.declared.finding.Verdict.{Verdict};
 ghost use Rattle.desk_lines.specs.VerdictLines.{verdict_line};
@@ -11,30 +12,17 @@ ghost use Rattle.desk_store.specs.Desks.{MayStop, Replies, Views};
 ghost use Rattle.desk_store.specs.Exports.{Writes, WritesBeginning};
 ghost use Rattle.desk_texts.specs.declared.reply.Reply.{Reply};
 ghost use Rattle.desk_works.specs.Faults.{IsAddingRefusal, IsRow, IsWritingRefusal};
-ghost use Rattle.desk_works.specs.Works.{export_of, outcome_of, reply_line};
+ghost use Rattle.desk_works.specs.Works.{outcome_of, reply_line};
 
 use crate::ending::Outcome;
 use crate::saying::{flush, say_reply, say_verdict};
-use desk_bytes::Refusal;
+use desk_exports::Export;
 use desk_lines::Fault;
 use desk_store::Desk;
 use desk_texts::{Caller, Command, Facts, Key, Person};
 use sqlite::Alter;
 use std::alloc::Global;
 use std::io::Write;
-
-/// What is exported of a desk.
-#[derive(Clone, Copy, Debug, PartialEq, Eq)]
-pub enum Export {
-    /// The list of allowed images, as signature lists.
-    Db,
-    /// The list of revoked images, as signature lists.
-    Dbx,
-    /// The SBAT level, as text.
-    Level,
-    /// The minutes, as text.
-    Minutes,
-}
 
 /// Has the console add the person, and writes the reply's text.
 pub fn add<S: Alter + Drop, W: Write>(
@@ -82,28 +70,6 @@ pub fn judge<S: Alter + Drop, W: Write>(
     say_verdict(&said, found, writer)
 }
 
-/// Writes an export of the desk.
-fn put_export<S: Alter + Drop, W: Write>(
-    desk: &mut Desk<S>,
-    what: Export,
-    writer: &mut W,
-) -> Result<(), Refusal>
-    ensures ok { HasCleanDisk (state S.Store desk.new.conn) → OnOk result
-        (Views S.Store desk.old desk.new
-        (Writes (W.contents writer.old) (W.contents writer.new) (export_of what))) }
-    ensures beginning { HasCleanDisk (state S.Store desk.new.conn) → OnErr result
-        (Views S.Store desk.old desk.new
-        (WritesBeginning (W.contents writer.old) (W.contents writer.new) (export_of what))) }
-    ensures named { IfErr result IsWritingRefusal }
-{
-    match what {
-        Export::Db => desk.export_db(writer),
-        Export::Dbx => desk.export_dbx(writer),
-        Export::Level => desk.export_level(writer),
-        Export::Minutes => desk.minutes(writer),
-    }
-}
-
 /// Writes an export of the desk, and writes out what is buffered.
 pub fn write_export<S: Alter + Drop, W: Write>(
     desk: &mut Desk<S>,
@@ -112,11 +78,11 @@ pub fn write_export<S: Alter + Drop, W: Write>(
 ) -> Result<Outcome, Fault>
     ensures ok { HasCleanDisk (state S.Store desk.new.conn) → OnOk result
         (Views S.Store desk.old desk.new
-        (Writes (W.contents writer.old) (W.contents writer.new) (export_of what))) }
+        (Writes (W.contents writer.old) (W.contents writer.new) (exported what))) }
     ensures done { IfOk result (λ outcome. outcome ≡ Outcome.Done) }
     ensures named { IfErr result (IsRow IsWritingRefusal) }
 {
-    match put_export(desk, what, writer) {
+    match desk.export(what, writer) {
         Ok(()) => {}
         Err(refusal) => return Err(Fault::from(refusal)),
     }

@@ -16,10 +16,10 @@ fn writer(alloc: Global, fails_at: u64) -> Narrow {
 /// Writes an export: `db`, `level`, `minutes`, or else dbx.
 fn write(desk: &mut Memory, what: &str, writer: &mut Narrow) -> Result<(), Refusal> {
     match what {
-        "db" => desk.export_db(writer),
-        "level" => desk.export_level(writer),
-        "minutes" => desk.minutes(writer),
-        _ => desk.export_dbx(writer),
+        "db" => desk.export(Export::Db, writer),
+        "level" => desk.export(Export::Level, writer),
+        "minutes" => desk.export(Export::Minutes, writer),
+        _ => desk.export(Export::Dbx, writer),
     }
 }
 

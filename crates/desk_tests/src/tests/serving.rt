@@ -130,7 +130,7 @@ fn served_each(alloc: Global, desk: &mut Served, inputs: &[Octets]) -> Option<Ve
 /// The desk's minutes.
 fn minutes(alloc: Global, desk: &mut Memory) -> Option<Vec<u8>> {
     let mut text = Vec::new(alloc);
-    desk.minutes(&mut text).ok()?;
+    desk.export(Export::Minutes, &mut text).ok()?;
     Some(text)
 }
 
