@@ -1,10 +1,10 @@
 //! A desk in a store is one that answers.
-ghost use Rattle.std.specs.Prelude.{◌≡◌, ◌≢◌, Err, IfErr, IfOk, false, true};
+ghost use Rattle.std.specs.Prelude.{◌≡◌, ◌≢◌, Err, IfErr, IfOk};
 ghost use Rattle.sqlite.specs.Held.{state};
 ghost use Rattle.sqlite.specs.State.{HasCleanDisk};
-ghost use Rattle.desk_calls.specs.Desks.{IsOutage};
+ghost use Rattle.desk_calls.specs.Desks.{IsOutage, Keeps, Views};
 ghost use Rattle.desk_exports.specs.Exports.{exported};
-ghost use Rattle.desk_store.specs.Desks.{KeepsDesk, ShowsDesk, Views};
+ghost use Rattle.desk_store.specs.Desks.{ShowsDesk};
 
 use crate::open_desk::OpenDesk;
 use desk_bytes::{Digest, Refusal};
@@ -35,13 +35,13 @@ fn octets_of<S: Alter + Drop>(
     what: Export,
 ) -> Result<Octets, Refusal>
     ensures given { HasCleanDisk (state S.Store desk.new.conn) → IfOk result (λ bytes.
-        Views S.Store desk.old desk.new (λ owner cs. bytes ≡ exported what owner cs)) }
+        Views (ShowsDesk S.Store desk.old) (λ owner cs. bytes ≡ exported what owner cs)) }
     ensures same { HasCleanDisk (state S.Store desk.new.conn) → result ≢ Err Refusal.Store
-        → KeepsDesk S.Store desk.old desk.new }
+        → Keeps (ShowsDesk S.Store desk.old) (ShowsDesk S.Store desk.new) }
     ensures before { HasCleanDisk (state S.Store desk.new.conn)
         → HasCleanDisk (state S.Store desk.old.conn) }
-    ensures named { desk.old.needs_reopening ≡ false → IfErr result IsOutage }
-    ensures reopen { desk.old.needs_reopening ≡ true → result ≡ Err Refusal.Reopen }
+    ensures named { IfErr result IsOutage }
+    ensures usable { Views (ShowsDesk S.Store desk.old) (λ _ _. result ≢ Err Refusal.Reopen) }
 {
     let mut bytes = Vec::new(alloc);
     match desk.export(what, &mut bytes) {

@@ -1,7 +1,7 @@
 use Rattle.std.proofs.Common.{◌≡◌, ◌≢◌, Err, ap}
 use Rattle.desk_bytes.specs.declared.refusal.Refusal.TheVariants as refusals
 use Rattle.desk_answers.proofs.DeskLemmas.{export_named, export_same, export_usable}
-use Rattle.desk_answers.proofs.answering.OpenDeskAnswering.dbx.Goals as goal
+use Rattle.desk_answers.proofs.answering.octets_of.Goals as goal
 
 pub returns-in-Err-clause-same : goal.returns-in-Err-clause-same
 returns-in-Err-clause-same g c clean differs owner cs was =
@@ -11,7 +11,7 @@ returns-in-Err-clause-same g c clean differs owner cs was =
 
 pub returns-in-Err-clause-named : goal.returns-in-Err-clause-named
 returns-in-Err-clause-named g c =
-    export_named c.in-Err.refusal c.into_memory.result c.into_memory.ensures.write c.into_memory.ensures.other c.args.self.now.desk.needs_reopening
+    export_named c.in-Err.refusal c.into_memory.result c.into_memory.ensures.write c.into_memory.ensures.other c.args.desk.now.needs_reopening
     c.in-Err.ensures.named (λ closed. let h = (c.in-Err.ensures.closed closed).0 in cc)
 
 pub returns-in-Err-clause-usable : goal.returns-in-Err-clause-usable
