@@ -2,5 +2,6 @@ pub mod RowLemmas
 pub mod ValueLemmas
 pub mod FindLemmas
 pub mod KeyLemmas
+pub mod CountLemmas
 pub mod CallLemmas
 pub mod TellsLemmas

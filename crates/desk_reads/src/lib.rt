@@ -17,10 +17,7 @@ mod request_rows;
 mod requests;
 
 pub use calls::call_of;
-pub use counts::{
-    count_calls, count_components, count_listed, count_listed_of, count_people, count_requests,
-    count_requests_in, count_revoked_certificates, count_revoked_digests,
-};
+pub use counts::{Counted, count};
 pub use desk_row::{DeskRow, Mark};
 pub use fault::ReadFault;
 pub use from_row::FromRow;
