@@ -21,7 +21,7 @@ pub use counts::{Counted, count};
 pub use desk_row::{DeskRow, Mark};
 pub use fault::ReadFault;
 pub use from_row::FromRow;
-pub use lists::{component_named, entry_of, revoked_certificate, revoked_digest};
+pub use lists::{component_named, entry_of, revoked_of};
 pub use own::own_row;
 pub use people::{person_named, person_of_token};
 pub use requests::{
