@@ -8,5 +8,3 @@ returns-clause-value g c clean inside = record {
   selects = c.in_ok-rows.ensures.value clean inside;
   read = subst (λ l. AreRead g.T.FromRow.shown l c.in_ok-values.values.items) c.deref.ensures.value c.in_ok-values.ensures;
 }
-
--- .

@@ -15,5 +15,3 @@ pub returns : goal.returns
 returns g c =
     let whole : take c.loop-row.row-index c.args.rows.now ≡ c.args.rows.now = take_all c.loop-row.row-index c.args.rows.now c.loop-row-test.false in
     are_read g.T.FromRow.shown c.args.rows.now c.loop-row.values.items (subst (λ l. AllZip (IsValue g.T.FromRow.shown) l c.loop-row.values.items) whole c.loop-row.invariant)
-
--- .

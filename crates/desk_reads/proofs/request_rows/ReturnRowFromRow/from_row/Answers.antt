@@ -6,5 +6,3 @@ pub returns-clause-only : goal.returns-clause-only
 returns-clause-only c =
     let count : length c.args.row.now ≡ 5 = search rules in
     whole_row _ c.args.row.now (c.in_ok-request.ensures, (c.in_ok-signer.ensures, (c.in_ok-length.ensures.value, (c.in_ok-file.ensures, (c.in_ok-digest.ensures, count)))))
-
--- .
