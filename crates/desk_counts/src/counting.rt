@@ -6,10 +6,7 @@ ghost use Rattle.desk_reads.specs.Reads.{Tells};
 ghost use Rattle.desk_sql.specs.States.{DoesInside, Keeps, Spares, StaysInside};
 
 use crate::numbers::{Counts, KindCounts, ListCounts, RequestCounts};
-use desk_reads::{
-    ReadFault, count_calls, count_components, count_listed_of, count_people, count_requests,
-    count_requests_in, count_revoked_certificates, count_revoked_digests, own_row,
-};
+use desk_reads::{Counted, ReadFault, count, own_row};
 use desk_texts::{ListedKind, State};
 use sqlite::{Alter, Transaction};
 use std::alloc::Global;
@@ -38,8 +35,8 @@ fn count_waiting<S: Alter>(tx: &mut Transaction<'_, S>) -> Result<Waiting, ReadF
     ensures kept { Keeps S.Store tx.old.conn.now tx.new.conn.now }
     ensures survives { Spares S.Store tx.old.conn.now tx.new.conn.now }
 {
-    let still_open = count_requests_in(tx, State::Open)?;
-    let approved = count_requests_in(tx, State::Approved)?;
+    let still_open = count(tx, Counted::RequestsIn(State::Open))?;
+    let approved = count(tx, Counted::RequestsIn(State::Approved))?;
     Ok(Waiting {
         still_open,
         approved,
@@ -55,9 +52,9 @@ fn count_ended<S: Alter>(tx: &mut Transaction<'_, S>) -> Result<Ended, ReadFault
     ensures kept { Keeps S.Store tx.old.conn.now tx.new.conn.now }
     ensures survives { Spares S.Store tx.old.conn.now tx.new.conn.now }
 {
-    let rejected = count_requests_in(tx, State::Rejected)?;
-    let withdrawn = count_requests_in(tx, State::Withdrawn)?;
-    let signed = count_requests_in(tx, State::Signed)?;
+    let rejected = count(tx, Counted::RequestsIn(State::Rejected))?;
+    let withdrawn = count(tx, Counted::RequestsIn(State::Withdrawn))?;
+    let signed = count(tx, Counted::RequestsIn(State::Signed))?;
     Ok(Ended {
         rejected,
         withdrawn,
@@ -74,7 +71,7 @@ fn count_by_state<S: Alter>(tx: &mut Transaction<'_, S>) -> Result<RequestCounts
     ensures kept { Keeps S.Store tx.old.conn.now tx.new.conn.now }
     ensures survives { Spares S.Store tx.old.conn.now tx.new.conn.now }
 {
-    let all = count_requests(tx)?;
+    let all = count(tx, Counted::Requests)?;
     let waiting = count_waiting(tx)?;
     let ended = count_ended(tx)?;
     Ok(RequestCounts {
@@ -96,8 +93,8 @@ fn count_entries<S: Alter>(tx: &mut Transaction<'_, S>) -> Result<KindCounts, Re
     ensures kept { Keeps S.Store tx.old.conn.now tx.new.conn.now }
     ensures survives { Spares S.Store tx.old.conn.now tx.new.conn.now }
 {
-    let digests = count_listed_of(tx, ListedKind::Digest)?;
-    let certificates = count_listed_of(tx, ListedKind::Certificate)?;
+    let digests = count(tx, Counted::ListedOf(ListedKind::Digest))?;
+    let certificates = count(tx, Counted::ListedOf(ListedKind::Certificate))?;
     Ok(KindCounts {
         digests,
         certificates,
@@ -113,8 +110,8 @@ fn count_revoked<S: Alter>(tx: &mut Transaction<'_, S>) -> Result<KindCounts, Re
     ensures kept { Keeps S.Store tx.old.conn.now tx.new.conn.now }
     ensures survives { Spares S.Store tx.old.conn.now tx.new.conn.now }
 {
-    let images = count_revoked_digests(tx)?;
-    let certificates = count_revoked_certificates(tx)?;
+    let images = count(tx, Counted::RevokedDigests)?;
+    let certificates = count(tx, Counted::RevokedCertificates)?;
     Ok(KindCounts {
         digests: images,
         certificates,
@@ -135,7 +132,7 @@ fn count_lists<S: Alter>(
 {
     let listed = count_entries(tx)?;
     let revoked = count_revoked(tx)?;
-    let components = count_components(tx)?;
+    let components = count(tx, Counted::Components)?;
     let own = own_row(alloc, tx)?;
     Ok(ListCounts {
         listed,
@@ -156,8 +153,8 @@ pub fn counts<S: Alter>(alloc: Global, tx: &mut Transaction<'_, S>) -> Result<Co
     ensures kept { Keeps S.Store tx.old.conn.now tx.new.conn.now }
     ensures survives { Spares S.Store tx.old.conn.now tx.new.conn.now }
 {
-    let people = count_people(tx)?;
-    let calls = count_calls(tx)?;
+    let people = count(tx, Counted::People)?;
+    let calls = count(tx, Counted::Calls)?;
     let requests = count_by_state(tx)?;
     let lists = count_lists(alloc, tx)?;
     Ok(Counts {

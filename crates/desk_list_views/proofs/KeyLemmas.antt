@@ -10,7 +10,10 @@ use Rattle.desk_history.specs.declared.rows.Entry.{Entry}
 use Rattle.desk_history.specs.Calls.{is_same_kind}
 use Rattle.desk_history.specs.Listing.{is_entry}
 use Rattle.desk_history.specs.Writes.{is_named}
+use Rattle.desk_history.specs.Tables.{Tables}
 use Rattle.desk_history.proofs.ListLemmas.{same_text}
+use Rattle.desk_list_views.specs.Gathering.{revocations_of}
+use Rattle.desk_reads.specs.Reads.{revoked_in}
 use Rattle.desk_rules.specs.Shown.{key_of}
 
 passes : {X : Type 0} (p : X → Bool) (xs : List X) (x : X) → filter p xs ≡ x ∷ [] → p x ≡ true
@@ -29,6 +32,11 @@ same_kind kinds.Certificate kinds.Certificate h = refl
 pub only_digest : (digest : List ℕ) (xs : List (List ℕ)) (x : List ℕ) → filter (bytes_eq digest) xs ≡ x ∷ []
     → filter (bytes_eq digest) xs ≡ digest ∷ []
 only_digest digest xs x h = h ∙ ap (λ y. y ∷ []) (sym (same_text digest x (passes (bytes_eq digest) xs x h)))
+
+-- what is revoked of a kind, as a read tells it
+pub told_revoked : (kind : ListedKind) (t : Tables) (digest : List ℕ) (xs : List (List ℕ)) → filter (bytes_eq digest) (revoked_in kind t) ≡ xs → revocations_of kind t digest ≡ xs
+told_revoked kinds.Digest t digest xs h = h
+told_revoked kinds.Certificate t digest xs h = h
 
 abbrev listing : ListedKind → List ℕ → Listing
 listing kind digest = record { kind = kind; digest = digest }

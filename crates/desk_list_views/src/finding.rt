@@ -6,7 +6,7 @@ ghost use Rattle.desk_reads.specs.Reads.{Tells, listed};
 ghost use Rattle.desk_sql.specs.States.{DoesInside, Keeps, Spares};
 
 use desk_bytes::Digest;
-use desk_reads::{ReadFault, component_named, entry_of, revoked_certificate, revoked_digest};
+use desk_reads::{ReadFault, component_named, entry_of, revoked_of};
 use desk_texts::{ListedKind, Listing};
 use sbat::{Component, ComponentName};
 use sqlite::{Alter, Transaction};
@@ -37,25 +37,6 @@ pub(crate) fn find_listed<S: Alter>(
     }))
 }
 
-/// The row of the revoked digest of this kind, if there is one. Takes memory for it.
-fn revoked<S: Alter>(
-    alloc: Global,
-    tx: &mut Transaction<'_, S>,
-    kind: ListedKind,
-    digest: &Digest,
-) -> Result<Option<Digest>, ReadFault>
-    ensures same_reference { tx.new.conn.ghost_name ≡ tx.old.conn.ghost_name }
-    ensures value { DoesInside S.Store tx.old.conn.now tx.new.conn.now result
-        (λ row. Tells (λ t. revocations_of kind t digest.now ≡ listed row)) }
-    ensures kept { Keeps S.Store tx.old.conn.now tx.new.conn.now }
-    ensures survives { Spares S.Store tx.old.conn.now tx.new.conn.now }
-{
-    match kind {
-        ListedKind::Digest => revoked_digest(alloc, tx, digest),
-        ListedKind::Certificate => revoked_certificate(alloc, tx, digest),
-    }
-}
-
 /// The digest of this kind, if it is revoked. Takes memory for the row.
 pub(crate) fn find_revoked<S: Alter>(
     alloc: Global,
@@ -70,7 +51,7 @@ pub(crate) fn find_revoked<S: Alter>(
     ensures kept { Keeps S.Store tx.old.conn.now tx.new.conn.now }
     ensures survives { Spares S.Store tx.old.conn.now tx.new.conn.now }
 {
-    let found = revoked(alloc, tx, kind, digest)?;
+    let found = revoked_of(alloc, tx, kind, digest)?;
     let Some(_row) = found else {
         return Ok(None);
     };

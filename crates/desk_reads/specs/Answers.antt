@@ -1,8 +1,11 @@
--- Rows as a SELECT of whole rows shows them.
-use Rattle.std.specs.Prelude.{pos, [], ◌∷◌}
+-- Rows as a SELECT of whole rows shows them, and what asks for those of a kind.
+use Rattle.std.specs.Prelude.{ℕ, pos, List, [], ◌∷◌}
 use Rattle.sqlite.specs.declared.types.Value.TheVariants.{Int, Text, Blob}
 use Rattle.sqlite.specs.Order.{Row}
+use Rattle.desk_statements.specs.declared.selecting.TheConstants as texts
 use Rattle.desk_texts.specs.Words.{state_text}
+use Rattle.desk_texts.specs.declared.kind.ListedKind.{ListedKind}
+use Rattle.desk_texts.specs.declared.kind.ListedKind.TheVariants as kinds
 use Rattle.desk_history.specs.declared.rows.RequestRow.{RequestRow}
 use Rattle.desk_history.specs.declared.rows.ReturnRow.{ReturnRow}
 use Rattle.desk_history.specs.Tables.{DeskRow}
@@ -29,3 +32,8 @@ request_columns r =
 -- own: the columns of a returned file: request, signer, length, file, digest
 abbrev pub return_columns : ReturnRow → Row
 return_columns r = Int (pos r.request) ∷ Text r.signer ∷ Int (pos r.length) ∷ Blob r.file ∷ Blob r.digest ∷ []
+
+-- the text that looks among what is revoked of a kind
+abbrev pub select_revoked : ListedKind → List ℕ
+select_revoked kinds.Digest = texts.SELECT_REVOKED_DIGEST.now
+select_revoked kinds.Certificate = texts.SELECT_REVOKED_CERTIFICATE.now

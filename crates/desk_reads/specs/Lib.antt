@@ -3,3 +3,4 @@ pub mod Answers
 pub mod Reads
 pub mod CallColumns
 pub mod Failures
+pub mod Counting

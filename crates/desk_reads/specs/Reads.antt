@@ -4,6 +4,8 @@ use Rattle.std.specs.List.Sorted.{IsPermutation, IsSorted}
 use Rattle.sqlite.specs.Order.{Row}
 use Rattle.sqlite.specs.State.{State}
 use Rattle.sqlite.specs.Table.{Table}
+use Rattle.desk_texts.specs.declared.kind.ListedKind.{ListedKind}
+use Rattle.desk_texts.specs.declared.kind.ListedKind.TheVariants as kinds
 use Rattle.desk_history.specs.Tables.{Tables}
 use Rattle.desk_contents.specs.Contents.{contents}
 use Rattle.desk_sql.specs.Effects.{Counts, Selects}
@@ -32,6 +34,11 @@ pub record Tells (told : Tables → Type 0) (old new : State) : Type 0 where
 abbrev pub listed : {T : Type 0} → Option T → List T
 listed None = []
 listed (Some x) = x ∷ []
+
+-- what is revoked of a kind: the digests of images, or the certificates
+abbrev pub revoked_in : ListedKind → Tables → List (List ℕ)
+revoked_in kinds.Digest t = t.revoked_digests
+revoked_in kinds.Certificate t = t.revoked_certificates
 
 -- these are the rows of the table that meet the condition, all and only those, in the order of its first columns
 pub record AreFound {T : Type 0} (shown : T → Row) (table : Table) (ordered : ℕ) (is_asked : T → Bool) (rows : List T) (values : List T) : Type 0 where

@@ -1,5 +1,7 @@
 //! Calls, by caller and key.
-ghost use Rattle.std.specs.Prelude.{◌≡◌, All, IfOk, filter, string_bytes};
+ghost use Rattle.std.specs.Prelude.{◌≡◌, All, IfOk, filter};
+ghost use Rattle.sqlite.specs.declared.types.Value.TheVariants.{Text};
+ghost use Rattle.sqlite_value.specs.Order.{column};
 ghost use Rattle.desk_texts.specs.Callers.{caller_name};
 ghost use Rattle.desk_texts.specs.ReplyTexts.{reply_text_of};
 ghost use Rattle.desk_history.specs.Formed.{IsReadable};
@@ -20,15 +22,32 @@ use desk_texts::{Caller, Key, Reply, TextFault};
 use sqlite::{Alter, Row, Transaction, params};
 use std::alloc::Global;
 
-/// The key that the text is. `Row`: it is none.
-fn key_of(alloc: Global, text: &String) -> Result<Key, ReadFault>
-    ensures { IfOk result (λ key. key ≡ string_bytes text.now) }
+/// The text in a column. Takes memory for it.
+fn text_at(row: &Row, at: usize) -> Result<ColumnText, ReadFault>
+    ensures { IfOk result (λ text. column row.now at ≡ Text text) }
 {
+    let text: String = column_of(row, at)?;
+    Ok(ColumnText::new(text))
+}
+
+/// The key in a column. Takes memory for it. `Row`: the text is no key.
+fn key_at(alloc: Global, row: &Row, at: usize) -> Result<Key, ReadFault>
+    ensures { IfOk result (λ key. column row.now at ≡ Text key) }
+{
+    let text: String = column_of(row, at)?;
     match Key::parse(alloc, text.as_bytes()) {
         Ok(key) => Ok(key),
         Err(TextFault::NoMemory) => Err(ReadFault::NoMemory),
         Err(TextFault::Form) => Err(ReadFault::Row),
     }
+}
+
+/// The text of a command in a column. Takes memory for it.
+fn command_at(row: &Row, at: usize) -> Result<CommandText, ReadFault>
+    ensures { IfOk result (λ text. column row.now at ≡ Text text) }
+{
+    let text: String = column_of(row, at)?;
+    Ok(CommandText::new(text))
 }
 
 impl FromRow for CallTexts {
@@ -38,18 +57,17 @@ impl FromRow for CallTexts {
         if row.column_count() != 5 {
             return Err(ReadFault::Row);
         }
-        let number: u64 = column_of(row, 0)?;
-        let caller: String = column_of(row, 1)?;
-        let key: String = column_of(row, 2)?;
-        let text: String = column_of(row, 3)?;
-        let reply: String = column_of(row, 4)?;
-        let key = key_of(alloc, &key)?;
+        let number = column_of(row, 0)?;
+        let caller = text_at(row, 1)?;
+        let key = key_at(alloc, row, 2)?;
+        let text = command_at(row, 3)?;
+        let reply = text_at(row, 4)?;
         Ok(CallTexts {
             number,
-            caller: ColumnText::new(caller),
+            caller,
             key,
-            text: CommandText::new(text),
-            reply: ColumnText::new(reply),
+            text,
+            reply,
         })
     }
 }

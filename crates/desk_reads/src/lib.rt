@@ -17,14 +17,11 @@ mod request_rows;
 mod requests;
 
 pub use calls::call_of;
-pub use counts::{
-    count_calls, count_components, count_listed, count_listed_of, count_people, count_requests,
-    count_requests_in, count_revoked_certificates, count_revoked_digests,
-};
+pub use counts::{Counted, count};
 pub use desk_row::{DeskRow, Mark};
 pub use fault::ReadFault;
 pub use from_row::FromRow;
-pub use lists::{component_named, entry_of, revoked_certificate, revoked_digest};
+pub use lists::{component_named, entry_of, revoked_of};
 pub use own::own_row;
 pub use people::{person_named, person_of_token};
 pub use requests::{

@@ -2,7 +2,8 @@
 ghost use Rattle.std.specs.Prelude.{◌≡◌, bytes_eq, filter};
 ghost use Rattle.desk_history.specs.Listing.{is_entry};
 ghost use Rattle.desk_history.specs.Writes.{is_named};
-ghost use Rattle.desk_reads.specs.Reads.{Tells, listed};
+ghost use Rattle.desk_reads.specs.Answers.{select_revoked};
+ghost use Rattle.desk_reads.specs.Reads.{Tells, listed, revoked_in};
 ghost use Rattle.desk_sql.specs.States.{DoesInside, Keeps, Spares, StaysInside};
 
 use crate::ReadFault;
@@ -40,42 +41,32 @@ pub fn entry_of<S: Alter>(
     Ok(row)
 }
 
-/// The digest of an image, if it is revoked. Takes memory for the row.
-pub fn revoked_digest<S: Alter>(
-    alloc: Global,
-    tx: &mut Transaction<'_, S>,
-    digest: &Digest,
-) -> Result<Option<Digest>, ReadFault>
-    ensures same_reference { tx.new.conn.ghost_name ≡ tx.old.conn.ghost_name }
-    ensures value { DoesInside S.Store tx.old.conn.now tx.new.conn.now result
-        (λ row. Tells (λ t. filter (bytes_eq digest.now) t.revoked_digests ≡ listed row)) }
-    ensures inside { StaysInside S.Store tx.old.conn.now tx.new.conn.now result }
-    ensures kept { Keeps S.Store tx.old.conn.now tx.new.conn.now }
-    ensures survives { Spares S.Store tx.old.conn.now tx.new.conn.now }
+/// The text that looks among what is revoked of a kind.
+fn revoked_text(kind: ListedKind) -> &'static str
+    ensures { result.now ≡ select_revoked kind }
 {
-    let row = row_of(alloc, tx, SELECT_REVOKED_DIGEST, params![digest.as_bytes()])?;
-    Ok(row)
+    match kind {
+        ListedKind::Digest => SELECT_REVOKED_DIGEST,
+        ListedKind::Certificate => SELECT_REVOKED_CERTIFICATE,
+    }
 }
 
-/// The digest of a certificate, if it is revoked. Takes memory for the row.
-pub fn revoked_certificate<S: Alter>(
+/// The digest of an image or of a certificate, by the kind, if it is revoked. Takes memory for the row.
+pub fn revoked_of<S: Alter>(
     alloc: Global,
     tx: &mut Transaction<'_, S>,
+    kind: ListedKind,
     digest: &Digest,
 ) -> Result<Option<Digest>, ReadFault>
     ensures same_reference { tx.new.conn.ghost_name ≡ tx.old.conn.ghost_name }
     ensures value { DoesInside S.Store tx.old.conn.now tx.new.conn.now result
-        (λ row. Tells (λ t. filter (bytes_eq digest.now) t.revoked_certificates ≡ listed row)) }
+        (λ row. Tells (λ t. filter (bytes_eq digest.now) (revoked_in kind t) ≡ listed row)) }
     ensures inside { StaysInside S.Store tx.old.conn.now tx.new.conn.now result }
     ensures kept { Keeps S.Store tx.old.conn.now tx.new.conn.now }
     ensures survives { Spares S.Store tx.old.conn.now tx.new.conn.now }
 {
-    let row = row_of(
-        alloc,
-        tx,
-        SELECT_REVOKED_CERTIFICATE,
-        params![digest.as_bytes()],
-    )?;
+    let sql = revoked_text(kind);
+    let row = row_of(alloc, tx, sql, params![digest.as_bytes()])?;
     Ok(row)
 }
 

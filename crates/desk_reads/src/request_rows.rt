@@ -4,11 +4,11 @@ ghost use Rattle.desk_reads.specs.Answers.{request_columns, return_columns};
 
 use crate::ReadFault;
 use crate::columns::{
-    column_of, component_name_of, digest_of, generation_of, name_of, note_of, request_of, title_of,
+    column_of, component_name_at, digest_at, generation_at, name_at, note_at, request_at, state_at,
+    title_at, vote_at,
 };
 use crate::from_row::FromRow;
 use desk_history::{RequestCertificateRow, RequestComponentRow, RequestRow, ReturnRow, VoteRow};
-use desk_texts::{State, Vote};
 use sqlite::Row;
 use std::alloc::Global;
 
@@ -19,27 +19,24 @@ impl FromRow for RequestRow {
         if row.column_count() != 9 {
             return Err(ReadFault::Row);
         }
-        let number: u64 = column_of(row, 0)?;
-        let submitter: String = column_of(row, 1)?;
-        let title: String = column_of(row, 2)?;
-        let length: u64 = column_of(row, 3)?;
-        let gap: u64 = column_of(row, 4)?;
-        let file: Vec<u8> = column_of(row, 5)?;
-        let digest: Vec<u8> = column_of(row, 6)?;
-        let signing: Vec<u8> = column_of(row, 7)?;
-        let state: String = column_of(row, 8)?;
-        let Some(state) = State::parse(state.as_bytes()) else {
-            return Err(ReadFault::Row);
-        };
+        let number = request_at(row, 0)?;
+        let submitter = name_at(alloc, row, 1)?;
+        let title = title_at(alloc, row, 2)?;
+        let length = column_of(row, 3)?;
+        let gap = column_of(row, 4)?;
+        let file = digest_at(row, 5)?;
+        let digest = digest_at(row, 6)?;
+        let signing = digest_at(row, 7)?;
+        let state = state_at(row, 8)?;
         Ok(RequestRow {
-            number: request_of(number)?,
-            submitter: name_of(alloc, &submitter)?,
-            title: title_of(alloc, &title)?,
+            number,
+            submitter,
+            title,
             length,
             gap,
-            file: digest_of(&file)?,
-            digest: digest_of(&digest)?,
-            signing: digest_of(&signing)?,
+            file,
+            digest,
+            signing,
             state,
         })
     }
@@ -52,12 +49,9 @@ impl FromRow for RequestCertificateRow {
         if row.column_count() != 2 {
             return Err(ReadFault::Row);
         }
-        let request: u64 = column_of(row, 0)?;
-        let digest: Vec<u8> = column_of(row, 1)?;
-        Ok(RequestCertificateRow {
-            request: request_of(request)?,
-            digest: digest_of(&digest)?,
-        })
+        let request = request_at(row, 0)?;
+        let digest = digest_at(row, 1)?;
+        Ok(RequestCertificateRow { request, digest })
     }
 }
 
@@ -68,15 +62,15 @@ impl FromRow for RequestComponentRow {
         if row.column_count() != 4 {
             return Err(ReadFault::Row);
         }
-        let request: u64 = column_of(row, 0)?;
-        let place: u64 = column_of(row, 1)?;
-        let name: String = column_of(row, 2)?;
-        let generation: u32 = column_of(row, 3)?;
+        let request = request_at(row, 0)?;
+        let place = column_of(row, 1)?;
+        let name = component_name_at(alloc, row, 2)?;
+        let generation = generation_at(row, 3)?;
         Ok(RequestComponentRow {
-            request: request_of(request)?,
+            request,
             place,
-            name: component_name_of(alloc, &name)?,
-            generation: generation_of(generation)?,
+            name,
+            generation,
         })
     }
 }
@@ -88,18 +82,15 @@ impl FromRow for VoteRow {
         if row.column_count() != 4 {
             return Err(ReadFault::Row);
         }
-        let request: u64 = column_of(row, 0)?;
-        let reviewer: String = column_of(row, 1)?;
-        let vote: String = column_of(row, 2)?;
-        let note: String = column_of(row, 3)?;
-        let Some(vote) = Vote::parse(vote.as_bytes()) else {
-            return Err(ReadFault::Row);
-        };
+        let request = request_at(row, 0)?;
+        let reviewer = name_at(alloc, row, 1)?;
+        let vote = vote_at(row, 2)?;
+        let note = note_at(alloc, row, 3)?;
         Ok(VoteRow {
-            request: request_of(request)?,
-            reviewer: name_of(alloc, &reviewer)?,
+            request,
+            reviewer,
             vote,
-            note: note_of(alloc, &note)?,
+            note,
         })
     }
 }
@@ -111,17 +102,17 @@ impl FromRow for ReturnRow {
         if row.column_count() != 5 {
             return Err(ReadFault::Row);
         }
-        let request: u64 = column_of(row, 0)?;
-        let signer: String = column_of(row, 1)?;
-        let length: u64 = column_of(row, 2)?;
-        let file: Vec<u8> = column_of(row, 3)?;
-        let digest: Vec<u8> = column_of(row, 4)?;
+        let request = request_at(row, 0)?;
+        let signer = name_at(alloc, row, 1)?;
+        let length = column_of(row, 2)?;
+        let file = digest_at(row, 3)?;
+        let digest = digest_at(row, 4)?;
         Ok(ReturnRow {
-            request: request_of(request)?,
-            signer: name_of(alloc, &signer)?,
+            request,
+            signer,
             length,
-            file: digest_of(&file)?,
-            digest: digest_of(&digest)?,
+            file,
+            digest,
         })
     }
 }

@@ -1,5 +1,5 @@
 -- A list whose head counts its entries.
-use Rattle.std.proofs.Common.{◌≡◌, ◌≤◌, ℕ, List, [], ◌++◌, flat_map, length, Option, Result, Ok, Err, refl, sym, ap, subst, ◌∙◌, arith}
+use Rattle.std.proofs.Common.{◌≡◌, ◌≤◌, ℕ, List, [], ◌++◌, flat_map, length, Option, Result, Ok, Err, sym, subst, ◌∙◌}
 use Rattle.std.specs.Io.KnownBytes.{Appends}
 use Rattle.sqlite.specs.Held.{Held, state}
 use Rattle.sqlite.specs.State.{HasCleanDisk, Survives}
@@ -8,16 +8,16 @@ use Rattle.desk_bytes.specs.Output.{AppendsBeginning}
 use Rattle.desk_bytes.proofs.OutputLemmas.{AppendsBeginning-before}
 use Rattle.desk_history.specs.Calls.{History}
 use Rattle.desk_history.specs.Tables.{tables}
-use Rattle.desk_contents.specs.Histories.{ShowsHistory}
-use Rattle.desk_streams.specs.Exporting.{Exports, IsSizeOf, StaysOf, size_of}
-use Rattle.desk_streams.specs.declared.heads.Counted.{Counted}
+use Rattle.desk_streams.specs.Exporting.{Exports, IsSizeOf, StaysOf}
+use Rattle.desk_reads.specs.Counting.{counted}
+use Rattle.desk_reads.specs.declared.counts.Counted.{Counted}
 use Rattle.desk_streams.proofs.StepLemmas.{after_read, after_write, nothing, stopped_read}
 
 module _ {S X E : Type 0} (g : store.Ghosts S) (head : ℕ → List ℕ) (entry : List ℕ → List ℕ) (parts : List (List ℕ) → List ℕ)
     (none : (ds : List (List ℕ)) → 0 ≡ length ds → parts ds ≡ [])
     (some : (ds : List (List ℕ)) (n : ℕ) → 1 ≤ n → n ≡ length ds → head n ++ flat_map entry ds ≡ parts ds)
-    (list : Counted) (ds : History → List (List ℕ)) (sized : (owner : List ℕ) (cs : History) → size_of list (tables owner cs) ≡ length (ds cs))
-    (a b : Held S) (stays : StaysOf (state g a) (state g b)) (spared : Survives (state g a) (state g b) (λ _. ⊥)) (n : ℕ) (size : HasCleanDisk (state g b) → IsSizeOf (state g a) list n) where
+    (what : Counted) (ds : History → List (List ℕ)) (sized : (owner : List ℕ) (cs : History) → counted what (tables owner cs) ≡ length (ds cs))
+    (a b : Held S) (stays : StaysOf (state g a) (state g b)) (spared : Survives (state g a) (state g b) (λ _. ⊥)) (n : ℕ) (size : HasCleanDisk (state g b) → IsSizeOf (state g a) what n) where
   pub empty : (x : Option (List ℕ)) (v : X) → n ≡ 0 → Exports {E = E} g a b x x (Ok v) (λ _ cs. parts (ds cs))
   empty x v zero = nothing g a b x v (λ _ cs. parts (ds cs)) stays spared (λ clean owner cs was. none (ds cs) (sym zero ∙ size clean owner cs was ∙ sized owner cs))
 

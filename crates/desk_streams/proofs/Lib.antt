@@ -4,7 +4,6 @@ pub mod ListLemmas
 pub mod RowLemmas
 pub mod AnswerLemmas
 pub mod ExportLemmas
-pub mod KindLemmas
 pub mod PartLemmas
 pub mod StepLemmas
 pub mod CountedLemmas

@@ -1,26 +1,22 @@
 -- What the queries for the level, for entries and for calls write, by the lists of the histories that the connection shows.
-use Rattle.std.proofs.Common.{◌≡◌, ℕ, pos, List, [], ◌∷◌, ◌++◌, map, filter, flat_map, length, reverse, Bool, true, Some, refl, sym, ap, ap₂, ◌∙◌, bytes_eq, codes, decimal}
+use Rattle.std.proofs.Common.{◌≡◌, ℕ, pos, List, [], ◌∷◌, map, reverse, true, Some, refl, sym, ap, ap₂}
 use Rattle.sqlite.specs.Order.{Row}
 use Rattle.sqlite.specs.State.{State, HasCleanDisk}
-use Rattle.sqlite.specs.declared.types.Value.TheVariants.{Null, Int, Text, Blob}
+use Rattle.sqlite.specs.declared.types.Value.TheVariants.{Null, Int, Text}
 use Rattle.sbat.specs.declared.component.Component.{Component}
 use Rattle.sbat.specs.Writing.{row_text}
 use Rattle.siglist.specs.SignatureLists.{spelling}
 use Rattle.siglist.specs.Writing.{sha256_entry_bytes, x509_row}
-use Rattle.desk_texts.specs.Callers.{caller_name}
-use Rattle.desk_texts.specs.ReplyTexts.{reply_text_of}
 use Rattle.desk_texts.specs.Words.{kind_text}
 use Rattle.desk_texts.specs.declared.kind.ListedKind.{ListedKind}
 use Rattle.desk_texts.specs.declared.kind.ListedKind.TheVariants as kinds
 use Rattle.desk_history.specs.declared.rows.Entry.{Entry}
-use Rattle.desk_history.specs.declared.rows.Minute.{Minute}
 use Rattle.desk_history.specs.Calls.{History, is_same_kind}
 use Rattle.desk_history.specs.Level.{generations}
-use Rattle.desk_history.specs.Replies.{minutes}
 use Rattle.desk_history.specs.Tables.{Tables}
 use Rattle.desk_contents.specs.Histories.{ShowsHistory}
-use Rattle.desk_contents.specs.Values.{call_values, component_values, entry_values}
-use Rattle.desk_exports.specs.Exports.{entries_of, level_components, minute_line}
+use Rattle.desk_contents.specs.Values.{component_values, entry_values}
+use Rattle.desk_exports.specs.Exports.{entries_of, level_components}
 use Rattle.desk_statements.specs.Columns.{columns_after, equals, names_of}
 use Rattle.desk_statements.specs.Tables as tables
 use Rattle.desk_statements.specs.declared.selecting.TheConstants.{SELECT_CALLS, SELECT_COMPONENTS, SELECT_LISTED_OF}
@@ -29,7 +25,7 @@ use Rattle.sqlite_trees.proofs.ListLemmas.{map-map}
 use Rattle.desk_streams.specs.Lines.{Columns, columns_of, columns_row, line, line_of}
 use Rattle.desk_streams.proofs.AnswerLemmas.{told}
 use Rattle.desk_streams.proofs.ExportLemmas.{Told}
-use Rattle.desk_streams.proofs.KindLemmas.{is_of_kind}
+use Rattle.desk_reads.proofs.KeyLemmas.{is_of_kind}
 use Rattle.desk_streams.proofs.ListLemmas.{called, calls_in_order, components_in_order, entries_in_order}
 
 one_line : (x y : Component) → component_values x ≡ component_values y → row_text x.name x.generation ≡ row_text y.name y.generation

@@ -1,17 +1,16 @@
 -- What an export of a desk writes, and what it leaves of the connection.
-use Rattle.std.specs.Prelude.{◌≡◌, ℕ, List, Option, Result, MatchResult, length, filter}
+use Rattle.std.specs.Prelude.{◌≡◌, ℕ, List, Option, Result, MatchResult}
 use Rattle.std.specs.Io.KnownBytes.{Appends}
 use Rattle.sqlite.specs.Held.{Held, state}
 use Rattle.sqlite.specs.State.{State, HasCleanDisk}
 use Rattle.sqlite.specs.Store.{Ghosts}
 use Rattle.desk_bytes.specs.Output.{AppendsBeginning}
-use Rattle.desk_texts.specs.declared.kind.ListedKind.TheVariants as kinds
-use Rattle.desk_history.specs.Calls.{History, is_same_kind}
-use Rattle.desk_history.specs.Tables.{Tables, tables}
+use Rattle.desk_history.specs.Calls.{History}
+use Rattle.desk_history.specs.Tables.{tables}
 use Rattle.desk_contents.specs.Histories.{ShowsHistory}
+use Rattle.desk_reads.specs.Counting.{counted}
+use Rattle.desk_reads.specs.declared.counts.Counted.{Counted}
 use Rattle.desk_sql.specs.States.{Spares}
-use Rattle.desk_streams.specs.declared.heads.Counted.{Counted}
-use Rattle.desk_streams.specs.declared.heads.Counted.TheVariants as counted
 
 -- the bytes of each history that the connection showed are written
 abbrev pub WritesOf : State → Option (List ℕ) → Option (List ℕ) → (List ℕ → History → List ℕ) → Type 0
@@ -36,15 +35,9 @@ pub record Exports {S X E : Type 0} (g : Ghosts S) (old new : Held S) (before af
   pub spares : SparesOf g old new
   pub clean : HasCleanDisk (state g new) → HasCleanDisk (state g old)
 
--- how many rows the list has
-abbrev pub size_of : Counted → Tables → ℕ
-size_of counted.RevokedDigests t = length t.revoked_digests
-size_of counted.RevokedCertificates t = length t.revoked_certificates
-size_of counted.ListedDigests t = length (filter (λ e. is_same_kind kinds.Digest e.kind) t.listed)
-
--- the number is that of the rows of each history that the connection showed
+-- the number is that of the tables of each history that the connection showed
 abbrev pub IsSizeOf : State → Counted → ℕ → Type 0
-IsSizeOf old list n = (owner : List ℕ) (cs : History) → ShowsHistory old owner cs → n ≡ size_of list (tables owner cs)
+IsSizeOf old what n = (owner : List ℕ) (cs : History) → ShowsHistory old owner cs → n ≡ counted what (tables owner cs)
 
 -- the owner and the stamp are those of each such history
 abbrev pub AreOwn : State → List ℕ → ℕ → Type 0

@@ -11,10 +11,11 @@ ghost use Rattle.desk_streams.specs.Exporting.{BeginsOf, Exports, SparesOf, Stay
 ghost use Rattle.desk_streams.specs.Faults.{IsExportFailure};
 
 use crate::fault::ExportFault;
-use crate::heads::{Counted, head_count, own, size};
+use crate::heads::{head_count, own, size};
 use crate::listed_forms::{ListedCertificate, ListedDigest};
 use crate::taking::put_rows;
 use desk_bytes::{Guid, Refusal};
+use desk_reads::Counted;
 use desk_statements::SELECT_LISTED_OF;
 use desk_texts::ListedKind;
 use siglist::sha256_head;
@@ -49,7 +50,7 @@ fn put_digest_list<S: Alter, W: Write>(
         (W.contents writer.old) (W.contents writer.new) result
         (λ _ cs. sha256_parts owner (map (λ e. e.digest) (entries_of kinds.Digest cs))) }
 {
-    let counted = size(conn, Counted::ListedDigests)?;
+    let counted = size(conn, Counted::ListedOf(ListedKind::Digest))?;
     if counted == 0 {
         return Ok(());
     }

@@ -12,9 +12,10 @@ ghost use Rattle.desk_streams.specs.Faults.{IsExportFailure};
 
 use crate::fault::ExportFault;
 use crate::forms::{RevokedCertificate, RevokedDigest};
-use crate::heads::{Counted, head_count, own, size};
+use crate::heads::{head_count, own, size};
 use crate::taking::put_rows;
 use desk_bytes::{Guid, Refusal};
+use desk_reads::Counted;
 use desk_statements::{SELECT_REVOKED_CERTIFICATES, SELECT_REVOKED_DIGESTS};
 use siglist::{sha256_head, x509_sha256_head};
 use sqlite::{Alter, Connection};

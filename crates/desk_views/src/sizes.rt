@@ -1,5 +1,7 @@
 //! The sizes that a command needs: counted where they aren't known.
 ghost use Rattle.std.specs.Prelude.{◌≡◌, ◌&&◌, [], ◌∷◌, IfOk, is_some, not};
+ghost use Rattle.desk_history.specs.Tables.{Tables};
+ghost use Rattle.desk_reads.specs.Counting.{counted};
 ghost use Rattle.desk_reads.specs.Reads.{Tells};
 ghost use Rattle.desk_rules.specs.Shown as spec;
 ghost use Rattle.desk_sizes.specs.Sizes.{AreRight, known};
@@ -7,14 +9,25 @@ ghost use Rattle.desk_sql.specs.States.{DoesInside, Keeps, Spares, StaysInside};
 ghost use Rattle.desk_views.specs.Learning.{Learns};
 ghost use Rattle.desk_views.specs.Steps.{LearnsCalls, LearnsOf};
 
-use desk_reads::{
-    ReadFault, count_calls, count_components, count_listed, count_people, count_requests,
-    count_revoked_certificates, count_revoked_digests,
-};
+use desk_reads::{Counted as Told, ReadFault, count};
 use desk_rules::Counted;
 use desk_sizes::{KeptSizes, may_put};
 use desk_texts::Command;
 use sqlite::{Alter, Transaction};
+
+/// What is counted where the table's size is asked for.
+fn told_of(table: Counted) -> Told
+    ensures { (t : Tables) → counted result t ≡ spec.rows_in t table }
+{
+    match table {
+        Counted::People => Told::People,
+        Counted::Requests => Told::Requests,
+        Counted::Listed => Told::Listed,
+        Counted::RevokedDigests => Told::RevokedDigests,
+        Counted::RevokedCertificates => Told::RevokedCertificates,
+        Counted::Components => Told::Components,
+    }
+}
 
 /// How many rows the table has.
 fn count_of<S: Alter>(tx: &mut Transaction<'_, S>, table: Counted) -> Result<u64, ReadFault>
@@ -24,14 +37,8 @@ fn count_of<S: Alter>(tx: &mut Transaction<'_, S>, table: Counted) -> Result<u64
     ensures kept { Keeps S.Store tx.old.conn.now tx.new.conn.now }
     ensures survives { Spares S.Store tx.old.conn.now tx.new.conn.now }
 {
-    match table {
-        Counted::People => count_people(tx),
-        Counted::Requests => count_requests(tx),
-        Counted::Listed => count_listed(tx),
-        Counted::RevokedDigests => count_revoked_digests(tx),
-        Counted::RevokedCertificates => count_revoked_certificates(tx),
-        Counted::Components => count_components(tx),
-    }
+    let counted = count(tx, told_of(table))?;
+    Ok(counted)
 }
 
 /// Whether the command needs the table's size and it isn't known.
@@ -98,7 +105,7 @@ fn learn_calls<S: Alter>(
     if sizes.calls().is_some() {
         return Ok(sizes);
     }
-    let counted = count_calls(tx)?;
+    let counted = count(tx, Told::Calls)?;
     Ok(sizes.with_calls(counted))
 }
 

@@ -9,7 +9,7 @@ use Rattle.desk_counts.proofs.counting.count_by_state.Goals as goal
 pub returns-clause-value : goal.returns-clause-value
 returns-clause-value g c clean inside =
     let s0 = state g.S.Store c.args.tx.now.conn.now in
-    let s1 = state g.S.Store c.count_requests.new.tx.conn.now in
+    let s1 = state g.S.Store c.count.new.tx.conn.now in
     let s2 = state g.S.Store c.count_waiting.new.tx.conn.now in
     let s3 = state g.S.Store c.count_ended.new.tx.conn.now in
     let c2 : HasCleanDisk s2 = omega (arith, c.in_ok-ended.ensures.survives.clean, clean) in

@@ -9,9 +9,9 @@ use Rattle.desk_counts.proofs.counting.count_ended.Goals as goal
 pub returns-clause-value : goal.returns-clause-value
 returns-clause-value g c clean inside =
     let s0 = state g.S.Store c.args.tx.now.conn.now in
-    let s1 = state g.S.Store c.count_requests_in.new.tx.conn.now in
-    let s2 = state g.S.Store c.count_requests_in-2.new.tx.conn.now in
-    let s3 = state g.S.Store c.count_requests_in-3.new.tx.conn.now in
+    let s1 = state g.S.Store c.count.new.tx.conn.now in
+    let s2 = state g.S.Store c.count-2.new.tx.conn.now in
+    let s3 = state g.S.Store c.count-3.new.tx.conn.now in
     let c2 : HasCleanDisk s2 = omega (arith, c.in_ok-signed.ensures.survives.clean, clean) in
     let c1 : HasCleanDisk s1 = omega (arith, c.in_ok-withdrawn.ensures.survives.clean, c2) in
     let a = c.in_ok-rejected.ensures.value c1 inside in

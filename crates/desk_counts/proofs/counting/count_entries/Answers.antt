@@ -9,8 +9,8 @@ use Rattle.desk_counts.proofs.counting.count_entries.Goals as goal
 pub returns-clause-value : goal.returns-clause-value
 returns-clause-value g c clean inside =
     let s0 = state g.S.Store c.args.tx.now.conn.now in
-    let s1 = state g.S.Store c.count_listed_of.new.tx.conn.now in
-    let s2 = state g.S.Store c.count_listed_of-2.new.tx.conn.now in
+    let s1 = state g.S.Store c.count.new.tx.conn.now in
+    let s2 = state g.S.Store c.count-2.new.tx.conn.now in
     let c1 : HasCleanDisk s1 = omega (arith, c.in_ok-certificates.ensures.survives.clean, clean) in
     let a = c.in_ok-digests.ensures.value c1 inside in
     let b = c.in_ok-certificates.ensures.value clean a.kept.inside in

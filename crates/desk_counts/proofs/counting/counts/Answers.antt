@@ -9,8 +9,8 @@ use Rattle.desk_counts.proofs.counting.counts.Goals as goal
 pub returns-clause-value : goal.returns-clause-value
 returns-clause-value g c clean inside =
     let s0 = state g.S.Store c.args.tx.now.conn.now in
-    let s1 = state g.S.Store c.count_people.new.tx.conn.now in
-    let s2 = state g.S.Store c.count_calls.new.tx.conn.now in
+    let s1 = state g.S.Store c.count.new.tx.conn.now in
+    let s2 = state g.S.Store c.count-2.new.tx.conn.now in
     let s3 = state g.S.Store c.count_by_state.new.tx.conn.now in
     let s4 = state g.S.Store c.count_lists.new.tx.conn.now in
     let c3 : HasCleanDisk s3 = omega (arith, c.in_ok-lists.ensures.survives.clean, clean) in
