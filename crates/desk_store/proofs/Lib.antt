@@ -9,3 +9,5 @@ mod ClosingLemmas
 mod ShowingLemmas
 mod QuestionLemmas
 mod ReopeningLemmas
+mod LivingLemmas
+mod RestartLemmas

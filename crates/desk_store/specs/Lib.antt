@@ -8,3 +8,4 @@ pub mod Acts
 pub mod Closed
 pub mod Exports
 pub mod Showing
+pub mod Living

@@ -1,4 +1,4 @@
-//! A desk in a store of SQLite.
+//! A desk in a store of SQLite, and what any number of its lives leave to the next opening.
 #![tactic(auto)]
 
 mod acting;
@@ -9,9 +9,13 @@ mod desk;
 mod exports;
 mod forms;
 mod founding;
+mod living;
 mod opening;
 mod questions;
+mod restarting;
 mod showing;
 
 pub use desk::Desk;
 pub use desk_counts::{Counts, KindCounts, ListCounts, RequestCounts};
+pub use living::{calls_make_lives, openings_begin_lives};
+pub use restarting::restart;

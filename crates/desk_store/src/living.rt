@@ -1,8 +1,8 @@
 //! Laws of a desk's life: what its openings and its calls make of it.
-ghost use Rattle.desk_lives.specs.Living.{BeginsLiving, GoesOnLiving, LivesAgain, MayEndLiving};
-ghost use Rattle.desk_lives.specs.Living.{MayStopLiving};
+ghost use Rattle.desk_store.specs.Living.{BeginsLiving, GoesOnLiving, LivesAgain, MayEndLiving};
+ghost use Rattle.desk_store.specs.Living.{MayStopLiving};
 
-use desk_store::Desk;
+use crate::desk::Desk;
 use sqlite::Alter;
 
 /// A desk that was made begins the first life, one that was opened the next; whenever no call is

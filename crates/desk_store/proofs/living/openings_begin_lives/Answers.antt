@@ -1,5 +1,5 @@
-use Rattle.desk_lives.proofs.LivingLemmas.{begins_living, lives_again, may_stop_living}
-use Rattle.desk_lives.proofs.living.openings_begin_lives.Goals as goal
+use Rattle.desk_store.proofs.LivingLemmas.{begins_living, lives_again, may_stop_living}
+use Rattle.desk_store.proofs.living.openings_begin_lives.Goals as goal
 
 pub returns-clause-first : goal.returns-clause-first
 returns-clause-first g c = begins_living g.S.Store c.args.desk.now

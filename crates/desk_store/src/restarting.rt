@@ -8,8 +8,8 @@ ghost use Rattle.desk_history.specs.Lives.{Life, events_of};
 ghost use Rattle.desk_store.specs.Reopening.{Keeps, LeavesLives};
 ghost use Rattle.desk_store.specs.Steps.{IsReadRefusal};
 
+use crate::desk::Desk;
 use desk_bytes::Refusal;
-use desk_store::Desk;
 use sqlite::{Connection, FileStore, Files, Options};
 use sqlite_disk::{Crash, Disk};
 use std::alloc::Global;

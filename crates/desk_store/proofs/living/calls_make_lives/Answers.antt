@@ -1,5 +1,5 @@
-use Rattle.desk_lives.proofs.LivingLemmas.{goes_on_living, may_end_living}
-use Rattle.desk_lives.proofs.living.calls_make_lives.Goals as goal
+use Rattle.desk_store.proofs.LivingLemmas.{goes_on_living, may_end_living}
+use Rattle.desk_store.proofs.living.calls_make_lives.Goals as goal
 
 pub returns-clause-on : goal.returns-clause-on
 returns-clause-on g c = goes_on_living g.S.Store c.args.old.now c.args.new.now

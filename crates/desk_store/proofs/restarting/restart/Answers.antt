@@ -7,8 +7,8 @@ use Rattle.sqlite_store.specs.FileStore.{faults, is_shielded, recovers, view}
 use Rattle.sqlite_store.specs.declared.store.FileStore.{FileStore}
 use Rattle.sqlite_trees.specs.View.{IsQuiet}
 use Rattle.sqlite_wal.specs.Reads.{AreClean}
-use Rattle.desk_lives.proofs.RestartLemmas.{both_clean, found_again}
-use Rattle.desk_lives.proofs.restarting.restart.Goals as goal
+use Rattle.desk_store.proofs.RestartLemmas.{both_clean, found_again}
+use Rattle.desk_store.proofs.restarting.restart.Goals as goal
 
 pub returns-in-Ok-open-clause-keeps : goal.returns-in-Ok-open-clause-keeps
 returns-in-Ok-open-clause-keeps g c clean owner lives formed leaves =

@@ -15,7 +15,7 @@ use Rattle.desk_texts.specs.declared.reply.Reply.{Reply}
 use Rattle.desk_history.specs.Calls.{History}
 use Rattle.desk_history.specs.Lives.{Answered, Ends, Event, Fate, Life, MayLeave, MayTurn, Opened, Refused, Stopped, ends_at_a_stop, events_of, is_life}
 use Rattle.desk_store.specs.Desks.{MayStop, Refuses, Replies, ShowsDesk}
-use Rattle.desk_lives.specs.Living.{BeginsLiving, GoesOnLiving, LivesAgain, LivesOn, MayEndLiving, MayStopLiving, and_now, and_then, is_told}
+use Rattle.desk_store.specs.Living.{BeginsLiving, GoesOnLiving, LivesAgain, LivesOn, MayEndLiving, MayStopLiving, and_now, and_then, is_told}
 use Rattle.desk_store.specs.declared.desk.Desk.{Desk}
 
 -- the events of the lives are those before, and then those of the last

@@ -1,2 +1,0 @@
-mod LivingLemmas
-mod RestartLemmas
