@@ -1,4 +1,8 @@
-//! Tests.
+//! What a desk decides.
+mod days;
+mod limits;
+mod tables;
+
 use desk_bytes::{Digest, Refusal};
 use desk_history::{CommandText, Entry, Minute, RequestRow, VoteRow, Write};
 use desk_rules::{Changes, ListView, Sizes, View, decide, verdict};
@@ -8,10 +12,6 @@ use sbat::{Component, Stamp};
 use std::alloc::Global;
 use std::process::Abort;
 use std::test::Fail;
-
-mod days;
-mod limits;
-mod tables;
 
 /// A digest of this byte alone.
 fn digest(byte: u8) -> Digest {

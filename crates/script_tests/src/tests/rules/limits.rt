@@ -1,5 +1,5 @@
 //! What a desk may hold: the last call that fits, and the first that doesn't.
-use super::days::told;
+use super::days::tell_decision;
 use super::tables::{NONE, new_tables};
 use super::*;
 
@@ -18,18 +18,23 @@ const CALLS: &str = "\
 3 certificates 9999 components 9999 calls 999999 olga k import 2024010100 0 0 1 1 1 grub 1 : imported 0 1 1 0
 3 certificates 9999 components 9999 calls 999999 olga k import 2024010100 0 0 2 1 2 1 grub 1 : Full
 3 certificates 9999 components 9999 calls 999999 olga k import 2024010100 0 0 1 1 2 grub 1 shim 1 : Full
-1 calls 1000000 olga k revoke 1 : Full";
+1 calls 1000000 olga k revoke 1 : Full
+";
+
+/// A person of this name and role.
+fn person(alloc: Global, name: &[u8], role: Role) -> Result<Person, Fail> {
+    Ok(Person {
+        name: PersonName::parse(alloc, name)?,
+        role,
+        token: digest(1),
+    })
+}
 
 /// A desk with an officer and a submitter.
 fn tables(alloc: Global) -> Result<View, Fail> {
     let mut tables = new_tables(alloc)?;
-    for (name, role) in [("olga", Role::Officer), ("ann", Role::Submitter)] {
-        tables.people.push(Person {
-            name: PersonName::parse(alloc, name.as_bytes())?,
-            role,
-            token: digest(1),
-        })?;
-    }
+    tables.people.push(person(alloc, b"olga", Role::Officer)?)?;
+    tables.people.push(person(alloc, b"ann", Role::Submitter)?)?;
     Ok(tables)
 }
 
@@ -57,25 +62,42 @@ fn sizes(words: &mut Words) -> Result<Sizes, Fail> {
     Ok(sizes)
 }
 
-/// The answer to the call that the words say.
-fn answer(alloc: Global, tables: &View, words: &mut Words) -> Result<String, Fail> {
+/// Tells the answer to the call that the words say.
+fn answer(
+    alloc: Global,
+    tables: &View,
+    told: &mut String,
+    words: &mut Words<'_>,
+) -> Result<(), Fail> {
     let call = words.call().ok_or("a call")?;
-    told(
-        alloc,
-        &decide(alloc, tables, &call.caller, &call.key, &call.command),
-    )
+    let decision = decide(alloc, tables, &call.caller, &call.key, &call.command);
+    tell_decision(alloc, told, &decision)
+}
+
+/// Tells a line with what is answered on a desk of the line's sizes.
+fn answer_line(
+    alloc: Global,
+    tables: &mut View,
+    told: &mut String,
+    line: &str,
+) -> Result<(), Fail> {
+    let (given, _) = line.split_once(" : ").ok_or("an answer")?;
+    let mut words = Words::new(alloc, given);
+    tables.sizes = sizes(&mut words)?;
+    told.push_str(given)?;
+    told.push_str(" : ")?;
+    answer(alloc, tables, told, &mut words)?;
+    told.push('\n')?;
+    Ok(())
 }
 
 #[test]
 fn takes_what_a_desk_may_hold_and_no_more(rt: HostRuntime) -> Result<(), Fail> {
-    let alloc = rt.alloc();
-    let mut tables = tables(alloc)?;
+    let mut tables = tables(rt.alloc())?;
+    let mut told = String::new(rt.alloc());
     for line in CALLS.lines() {
-        let (given, wanted) = line.split_once(" : ").ok_or("an answer")?;
-        let mut words = Words::new(alloc, given);
-        tables.sizes = sizes(&mut words)?;
-        let answer = answer(alloc, &tables, &mut words)?;
-        assert!(rt; answer.as_str() == wanted, "{line}: {answer}");
+        answer_line(rt.alloc(), &mut tables, &mut told, line)?;
     }
+    assert!(rt; told.as_str() == CALLS, "{told}");
     Ok(())
 }

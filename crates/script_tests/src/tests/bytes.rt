@@ -1,9 +1,12 @@
 //! Lines, GUIDs, digests and DER elements.
-use super::{Call, check, refused, unbarred};
-use desk_bytes::{Digest, Guid, InputFault, WriteFailed, element, parted, put, read_all, tbs};
-use desk_testing::{Narrow, Slow};
+use super::inputs::unbarred;
+use super::{Call, check, narrow, refuse, tell_hex};
+use desk_bytes::{
+    Digest, Element, Guid, InputFault, WriteFailed, element, parted, put, read_all, tbs,
+};
+use desk_testing::Slow;
 use std::alloc::Global;
-use std::io::ErrorKind;
+use std::fmt::Write;
 use std::str;
 use std::test::Fail;
 
@@ -13,16 +16,20 @@ one\r||two\r\r|three\r = 1 one;3 two\r;4 three\r;
 a|\0b = 1 a;2 \0b;
 ";
 
-/// The number and the bytes of each line.
-pub fn of_lines(alloc: Global, input: &str) -> Result<String, Fail> {
+/// Tells the number and the bytes of each line.
+pub fn of_lines(alloc: Global, told: &mut String, input: &str) -> Result<(), Fail> {
     let bytes = unbarred(alloc, input)?;
-    let mut told = String::new(alloc);
     for line in parted(&bytes) {
-        let number = line.number;
-        let text = str::from_utf8(line.text)?;
-        told.push_str(format!(in alloc; "{number} {text};")?.as_str())?;
+        tell_line(told, line.number, line.text)?;
     }
-    Ok(told)
+    Ok(())
+}
+
+/// Tells a line's number and bytes.
+fn tell_line(told: &mut String, number: u64, line: &[u8]) -> Result<(), Fail> {
+    let text = str::from_utf8(line)?;
+    write!(told, "{number} {text};")?;
+    Ok(())
 }
 
 #[test]
@@ -40,14 +47,16 @@ c1c41626x504c-4092-aca9-41f936934328 = no GUID
 {c1c41626-504c-4092-aca9-41f93693432} = no GUID
 ";
 
-/// The bytes and the text of a GUID.
-pub fn of_guid(alloc: Global, input: &str) -> Result<String, Fail> {
+/// Tells the bytes and the text of a GUID.
+pub fn of_guid(alloc: Global, told: &mut String, input: &str) -> Result<(), Fail> {
     let Ok(guid) = Guid::parse(input) else {
-        return Ok(String::from_str(alloc, "no GUID")?);
+        told.push_str("no GUID")?;
+        return Ok(());
     };
-    let bytes = hex::encode(alloc, guid.as_bytes())?;
-    let text = guid.text(alloc)?;
-    Ok(format!(in alloc; "{bytes} {text}")?)
+    tell_hex(alloc, told, guid.as_bytes())?;
+    told.push(' ')?;
+    told.push_str(guid.text(alloc)?.as_str())?;
+    Ok(())
 }
 
 #[test]
@@ -63,12 +72,13 @@ const DIGESTS: &str = "\
 00112233445566778899aabbccddeeff00112233445566778899aabbccddeefg = no digest
 ";
 
-/// The text of a digest.
-pub fn of_digest(alloc: Global, input: &str) -> Result<String, Fail> {
+/// Tells the text of a digest.
+pub fn of_digest(told: &mut String, input: &str) -> Result<(), Fail> {
     match Digest::parse(input.as_bytes()) {
-        Ok(digest) => Ok(format!(in alloc; "{digest}")?),
-        Err(_) => Ok(String::from_str(alloc, "no digest")?),
+        Ok(digest) => write!(told, "{digest}")?,
+        Err(_) => told.push_str("no digest")?,
     }
+    Ok(())
 }
 
 #[test]
@@ -106,19 +116,29 @@ ff00 = Der
 30ff = Der
 ";
 
-/// The parts of the element at the front.
-pub fn of_element(alloc: Global, input: &str) -> Result<String, Fail> {
+/// Tells the parts of the element at the front.
+pub fn of_element(alloc: Global, told: &mut String, input: &str) -> Result<(), Fail> {
     let bytes = hex::decode(alloc, input)?;
     match element(&bytes) {
-        Err(fault) => Ok(refused(alloc, fault.refusal(), None)?),
-        Ok((found, rest)) => {
-            let tag = found.tag;
-            let whole = hex::encode(alloc, found.whole)?;
-            let content = hex::encode(alloc, found.content)?;
-            let rest = hex::encode(alloc, rest)?;
-            Ok(format!(in alloc; "{tag} {whole}.{content}.{rest}")?)
-        }
+        Err(fault) => refuse(told, fault.refusal(), None),
+        Ok((found, rest)) => tell_element(alloc, told, &found, rest),
     }
+}
+
+/// Tells an element's tag, all of it, its content, and what follows.
+fn tell_element(
+    alloc: Global,
+    told: &mut String,
+    found: &Element<'_>,
+    rest: &[u8],
+) -> Result<(), Fail> {
+    let tag = found.tag;
+    write!(told, "{tag} ")?;
+    tell_hex(alloc, told, found.whole)?;
+    told.push('.')?;
+    tell_hex(alloc, told, found.content)?;
+    told.push('.')?;
+    tell_hex(alloc, told, rest)
 }
 
 #[test]
@@ -141,12 +161,12 @@ const CERTIFICATES: &str = "\
 30053103020101 = Der
 ";
 
-/// The TBSCertificate.
-pub fn of_tbs(alloc: Global, input: &str) -> Result<String, Fail> {
+/// Tells the TBSCertificate.
+pub fn of_tbs(alloc: Global, told: &mut String, input: &str) -> Result<(), Fail> {
     let bytes = hex::decode(alloc, input)?;
     match tbs(&bytes) {
-        Err(fault) => Ok(refused(alloc, fault.refusal(), None)?),
-        Ok(found) => Ok(hex::encode(alloc, found)?),
+        Err(fault) => refuse(told, fault.refusal(), None),
+        Ok(found) => tell_hex(alloc, told, found),
     }
 }
 
@@ -157,13 +177,7 @@ fn gives_the_tbs_certificate(rt: HostRuntime) -> Result<(), Fail> {
 
 #[test]
 fn puts_a_beginning_before_a_fault(rt: HostRuntime) {
-    let mut writer = Narrow {
-        taken: Vec::new(rt.alloc()),
-        most: 2,
-        calls: 0,
-        fails_at: 3,
-        kind: ErrorKind::Interrupted,
-    };
+    let mut writer = narrow(rt.alloc(), 2, 3);
     assert!(rt; put(b"abcde", &mut writer) == Err(WriteFailed));
     assert!(rt; writer.taken.as_slice() == b"abcd".as_slice());
     writer.most = 0;
@@ -176,21 +190,21 @@ fn puts_a_beginning_before_a_fault(rt: HostRuntime) {
     assert!(rt; writer.taken.as_slice() == b"abcde".as_slice());
 }
 
-#[test]
-fn reads_an_input_up_to_a_limit(rt: HostRuntime) {
+/// How many bytes are read of these, 9,999 a call, of which one may fail.
+fn count_read(alloc: Global, fails_at: u64, most: u32) -> Result<usize, InputFault> {
     let long = [7; 70_000];
     let mut reader = Slow {
         rest: &long,
         most: 9_999,
         calls: 0,
-        fails_at: 12,
+        fails_at,
     };
-    let bytes = read_all(rt.alloc(), &mut reader, 70_000);
-    assert!(rt; bytes.map(|some| some.len()) == Ok(70_000));
-    reader.rest = &long;
-    let bytes = read_all(rt.alloc(), &mut reader, 70_000);
-    assert!(rt; bytes.err() == Some(InputFault::Read), "the twelfth read");
-    reader.rest = &long;
-    let bytes = read_all(rt.alloc(), &mut reader, 69_999);
-    assert!(rt; bytes.err() == Some(InputFault::TooLong));
+    Ok(read_all(alloc, &mut reader, most as usize)?.len())
+}
+
+#[test]
+fn reads_an_input_up_to_a_limit(rt: HostRuntime) {
+    assert!(rt; count_read(rt.alloc(), 0, 70_000) == Ok(70_000));
+    assert!(rt; count_read(rt.alloc(), 4, 70_000) == Err(InputFault::Read));
+    assert!(rt; count_read(rt.alloc(), 0, 69_999) == Err(InputFault::TooLong));
 }

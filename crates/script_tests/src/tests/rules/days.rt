@@ -1,51 +1,65 @@
 //! Two days of a desk: who calls with which key and command, and the answer, or an image and what the desk says of it.
 use super::tables::{new_tables, write_all};
 use super::*;
+use std::fmt::Write as _;
 
-/// The decision in words: a reply's text, with `again` before one that writes nothing, or a refusal's name.
-pub(super) fn told(alloc: Global, decision: &Result<Changes, Refusal>) -> Result<String, Fail> {
-    match decision {
-        Ok(changes) => {
-            let mut text = String::new(alloc);
-            if changes.writes.is_empty() {
-                text.push_str("again ")?;
-            }
-            text.push_str(reply_text(alloc, &changes.reply)?.as_str())?;
-            Ok(text)
-        }
-        Err(refusal) => Ok(String::from_str(alloc, refusal.name())?),
+/// Tells a decision: a reply's text, with `again` before one that writes nothing, or a refusal's name.
+pub(super) fn tell_decision(
+    alloc: Global,
+    told: &mut String,
+    decision: &Result<Changes, Refusal>,
+) -> Result<(), Fail> {
+    let changes = match decision {
+        Ok(changes) => changes,
+        Err(refusal) => return Ok(told.push_str(refusal.name())?),
+    };
+    if changes.writes.is_empty() {
+        told.push_str("again ")?;
     }
+    told.push_str(reply_text(alloc, &changes.reply)?.as_str())?;
+    Ok(())
 }
 
-/// Gives one call, writes what was decided, and tells the answer.
-fn ask(alloc: Global, tables: &mut View, given: &str) -> Result<String, Fail> {
+/// Gives one call, tells the answer, and writes what was decided.
+fn ask(alloc: Global, tables: &mut View, told: &mut String, given: &str) -> Result<(), Fail> {
     let call = Words::new(alloc, given).call().ok_or("a call")?;
     let decision = decide(alloc, tables, &call.caller, &call.key, &call.command);
-    let answer = told(alloc, &decision)?;
-    if let Ok(changes) = &decision {
-        write_all(alloc, tables, &changes.writes)?;
+    tell_decision(alloc, told, &decision)?;
+    match &decision {
+        Ok(changes) => write_all(alloc, tables, &changes.writes),
+        Err(_) => Ok(()),
     }
-    Ok(answer)
 }
 
-/// What the desk says of an image, in words.
-fn said(alloc: Global, tables: &View, given: &str) -> Result<String, Fail> {
+/// Tells what the desk says of an image.
+fn judge(alloc: Global, tables: &View, told: &mut String, given: &str) -> Result<(), Fail> {
     let facts = Words::new(alloc, given).facts().ok_or("facts")?;
     let verdict = verdict(&tables.lists, &facts);
-    Ok(format!(in alloc; "{verdict:?}")?)
+    write!(told, "{verdict:?}")?;
+    Ok(())
 }
 
-/// Plays the lines of a script, each `WHO KEY VERB .. : ANSWER` or `verdict IMAGE : VERDICT`.
+/// Plays a line, `WHO KEY VERB .. : ANSWER` or `verdict IMAGE : VERDICT`, and tells it with what is answered.
+fn play_line(alloc: Global, tables: &mut View, told: &mut String, line: &str) -> Result<(), Fail> {
+    let (given, _) = line.split_once(" : ").ok_or("an answer")?;
+    told.push_str(given)?;
+    told.push_str(" : ")?;
+    match given.strip_prefix("verdict ") {
+        Some(image) => judge(alloc, tables, told, image)?,
+        None => ask(alloc, tables, told, given)?,
+    }
+    told.push('\n')?;
+    Ok(())
+}
+
+/// Plays the lines of a script on a new desk, and compares all answers.
 fn play(rt: &impl Abort, alloc: Global, script: &str) -> Result<(), Fail> {
     let mut tables = new_tables(alloc)?;
+    let mut told = String::new(alloc);
     for line in script.lines() {
-        let (given, wanted) = line.split_once(" : ").ok_or("an answer")?;
-        let answer = match given.strip_prefix("verdict ") {
-            Some(image) => said(alloc, &tables, image)?,
-            None => ask(alloc, &mut tables, given)?,
-        };
-        assert!(rt; answer.as_str() == wanted, "{line}: {answer}");
+        play_line(alloc, &mut tables, &mut told, line)?;
     }
+    assert!(rt; told.as_str() == script, "{told}");
     Ok(())
 }
 
@@ -127,7 +141,8 @@ verdict 160 160 1 204 0 : DbxCertificate
 ann b4 submit shim 160 160 1 204 0 : Revoked
 olga b5 revoke 162 : revoked
 verdict 164 162 0 0 : DbxDigest
-ann b4 submit shim 162 163 0 0 : Revoked";
+ann b4 submit shim 162 163 0 0 : Revoked
+";
 
 /// The level rises, and revocations are imported.
 const LEVELS: &str = "\
@@ -174,7 +189,8 @@ verdict 32 32 1 187 0 : DbxCertificate
 sid v2 return 1 33 33 0 1 grub 4 : Revoked
 sid v2 return 1 33 33 0 1 grub 5 : NotListed
 olga v10 list 33 : listed
-sid v2 return 1 33 33 0 1 grub 5 : returned 1";
+sid v2 return 1 33 33 0 1 grub 5 : returned 1
+";
 
 #[test]
 fn a_day_of_requests(rt: HostRuntime) -> Result<(), Fail> {

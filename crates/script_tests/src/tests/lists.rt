@@ -1,13 +1,14 @@
 //! Signature lists, read and written.
-use super::{Call, check, refused};
-use desk_bytes::{Digest, Guid};
+use super::inputs::spelt;
+use super::{Call, check, is_beginning, narrow, refuse, tell_hex};
+use desk_bytes::{Digest, Guid, WriteFailed};
 use desk_testing::Narrow;
 use siglist::{
-    Kind, lists, sha256_entry, sha256_head, write_sha256, write_x509, write_x509_sha256,
-    x509_sha256_entry, x509_sha256_head,
+    Entry, Kind, ListsFault, SignatureList, lists, sha256_entry, sha256_head, write_sha256,
+    write_x509, write_x509_sha256, x509_sha256_entry, x509_sha256_head,
 };
 use std::alloc::Global;
-use std::io::ErrorKind;
+use std::fmt::Write;
 use std::test::Fail;
 
 pub const OWNER: &str = "00112233-4455-6677-8899-aabbccddeeff";
@@ -22,44 +23,42 @@ fn word(kind: Kind) -> &'static str {
     }
 }
 
-/// The offset, kind, count, header, owners and bodies of each list.
-fn told_of(alloc: Global, bytes: &[u8]) -> Result<String, Fail> {
-    let all = match lists(bytes) {
-        Ok(all) => all,
-        Err(fault) => return Ok(refused(alloc, fault.refusal(), Some(fault.place()))?),
-    };
-    let mut told = String::new(alloc);
-    for list in all {
-        let offset = list.offset();
-        let kind = word(list.kind());
-        let count = list.count();
-        let header = hex::encode(alloc, list.header())?;
-        told.push_str(format!(in alloc; "{offset} {kind} {count} {header}")?.as_str())?;
-        for entry in list.entries() {
-            let owner = hex::encode(alloc, &entry.owner.as_bytes()[..3])?;
-            let body = hex::encode(alloc, entry.body)?;
-            told.push_str(format!(in alloc; "[{owner} {body}]")?.as_str())?;
-        }
-        told.push(';')?;
-    }
-    Ok(told)
+/// Tells the beginning of an entry's owner, and its body.
+fn tell_entry(alloc: Global, told: &mut String, entry: &Entry<'_>) -> Result<(), Fail> {
+    told.push('[')?;
+    tell_hex(alloc, told, &entry.owner.as_bytes()[..3])?;
+    told.push(' ')?;
+    tell_hex(alloc, told, entry.body)?;
+    told.push(']')?;
+    Ok(())
 }
 
-/// What the bytes are; the input is hexadecimal in words, of which `G` stands for a type of no kind and
-/// `S`, `X`, `D` for those of SHA-256, X.509 and X.509 with SHA-256.
-pub fn of_lists(alloc: Global, input: &str) -> Result<String, Fail> {
-    let mut bytes = Vec::new(alloc);
-    for word in input.split_whitespace() {
-        let digits = match word {
-            "G" => "33221100554477668899aabbccddeeff",
-            "S" => "2616c4c14c509240aca941f936934328",
-            "X" => "a159c0a5e494a74a87b5ab155c2bf072",
-            "D" => "92a4d23bc0967940b420fcf98ef103ed",
-            _ => word,
-        };
-        bytes.extend_from_slice(&hex::decode(alloc, digits)?)?;
+/// Tells a list's offset, kind, count, header and entries.
+fn tell_list(alloc: Global, told: &mut String, list: &SignatureList<'_>) -> Result<(), Fail> {
+    let offset = list.offset();
+    let kind = word(list.kind());
+    let count = list.count();
+    write!(told, "{offset} {kind} {count} ")?;
+    tell_hex(alloc, told, list.header())?;
+    for entry in list.entries() {
+        tell_entry(alloc, told, &entry)?;
     }
-    told_of(alloc, &bytes)
+    told.push(';')?;
+    Ok(())
+}
+
+/// Tells what the bytes are that the words spell.
+pub fn of_lists(alloc: Global, told: &mut String, input: &str) -> Result<(), Fail> {
+    let bytes = spelt(alloc, input)?;
+    match lists(&bytes) {
+        Ok(all) => {
+            for list in all {
+                tell_list(alloc, told, &list)?;
+            }
+            Ok(())
+        }
+        Err(fault) => refuse(told, fault.refusal(), Some(fault.place())),
+    }
 }
 
 /// Lists of the least sizes, and those that are none, each with the three sizes behind its type.
@@ -114,34 +113,23 @@ e8070b16000000000000000000000000\
 33221100554477668899aabbccddeeff300000000000000014000000\
 33221100554477668899aabbccddeeff01020304";
 
-/// From which length on its beginnings are what.
-const CUTS: &str = "\
-0 lists
-1 List at 0
-76 lists
-77 List at 76
-168 lists
-169 List at 168
-216 lists
-";
+/// The fault of its beginning of this length: the first lists end at 0, 76, 168 and 216.
+fn fault_of(size: usize) -> Option<ListsFault> {
+    match size {
+        0 | 76 | 168 | 216 => None,
+        1..76 => Some(ListsFault::List { offset: 0 }),
+        77..168 => Some(ListsFault::List { offset: 76 }),
+        _ => Some(ListsFault::List { offset: 168 }),
+    }
+}
 
 #[test]
 fn refuses_each_truncation_at_its_list(rt: HostRuntime) -> Result<(), Fail> {
     let bytes = hex::decode(rt.alloc(), THREE)?;
-    let mut told = String::new(rt.alloc());
-    let mut before = String::new(rt.alloc());
     for size in 0..217 {
-        let part = bytes.get(..size).unwrap_or(&[]);
-        let now = match lists(part) {
-            Ok(_) => String::from_str(rt.alloc(), "lists")?,
-            Err(fault) => refused(rt.alloc(), fault.refusal(), Some(fault.place()))?,
-        };
-        if now != before {
-            told.push_str(format!(in rt.alloc(); "{size} {now}\n")?.as_str())?;
-            before = now;
-        }
+        let fault = lists(bytes.get(..size).unwrap_or(&[])).err();
+        assert!(rt; fault == fault_of(size), "{size}");
     }
-    assert!(rt; told.as_str() == CUTS, "{told}");
     Ok(())
 }
 
@@ -162,49 +150,52 @@ const WRITTEN: &str = "\
 a159c0a5e494a74a87b5ab155c2bf072330000000000000017000000\
 33221100554477668899aabbccddeeff30053003020101";
 
+/// The two digests, out of order.
+fn digests() -> [Digest; 2] {
+    [Digest::from([2; 32]), Digest::from([1; 32])]
+}
+
+/// Writes these lists.
+fn write_all(owner: &Guid, writer: &mut Narrow) -> Result<(), WriteFailed> {
+    let digests = digests();
+    write_sha256(owner, &digests, writer)?;
+    write_x509_sha256(owner, &digests, writer)?;
+    write_x509(owner, b"\x30\x05\x30\x03\x02\x01\x01", writer)
+}
+
 #[test]
 fn writes_lists_up_to_a_failed_write(rt: HostRuntime) -> Result<(), Fail> {
     let want = hex::decode(rt.alloc(), WRITTEN)?;
     let owner = Guid::parse(OWNER)?;
-    let digests = [Digest::from([2; 32]), Digest::from([1; 32])];
+    let mut last = 0;
     for fails_at in 1..200 {
-        let mut writer = Narrow {
-            taken: Vec::new(rt.alloc()),
-            most: 5,
-            calls: 0,
-            fails_at,
-            kind: ErrorKind::Interrupted,
-        };
-        let first = write_sha256(&owner, &digests, &mut writer);
-        let second = first.and_then(|()| write_x509_sha256(&owner, &digests, &mut writer));
-        let third = second.and_then(|()| write_x509(
-            &owner,
-            b"\x30\x05\x30\x03\x02\x01\x01",
-            &mut writer,
-        ));
-        assert!(rt; want.starts_with(&writer.taken));
-        if third.is_ok() {
-            assert!(rt; writer.taken.len() == want.len() && fails_at > 66);
-            return Ok(());
+        let mut writer = narrow(rt.alloc(), 5, fails_at);
+        let is_whole = write_all(&owner, &mut writer).is_ok();
+        assert!(rt; is_beginning(&writer.taken, &want, is_whole));
+        if !is_whole {
+            last = fails_at;
         }
-        assert!(rt; writer.taken.len() < want.len());
     }
-    assert!(rt; false, "200 writes are enough");
+    assert!(rt; 66 <= last && last < 199, "so many writes");
     Ok(())
+}
+
+/// Writes the first two lists part by part.
+fn write_parts(owner: &Guid, taken: &mut Vec<u8>) -> Result<(), WriteFailed> {
+    let [first, second] = digests();
+    sha256_head(2, taken)?;
+    sha256_entry(owner, &first, taken)?;
+    sha256_entry(owner, &second, taken)?;
+    x509_sha256_head(2, taken)?;
+    x509_sha256_entry(owner, &first, taken)?;
+    x509_sha256_entry(owner, &second, taken)
 }
 
 #[test]
 fn writes_lists_part_by_part(rt: HostRuntime) -> Result<(), Fail> {
     let want = hex::decode(rt.alloc(), WRITTEN)?;
-    let owner = Guid::parse(OWNER)?;
-    let (first, second) = (Digest::from([2; 32]), Digest::from([1; 32]));
     let mut taken = Vec::new(rt.alloc());
-    sha256_head(2, &mut taken)?;
-    sha256_entry(&owner, &first, &mut taken)?;
-    sha256_entry(&owner, &second, &mut taken)?;
-    x509_sha256_head(2, &mut taken)?;
-    x509_sha256_entry(&owner, &first, &mut taken)?;
-    x509_sha256_entry(&owner, &second, &mut taken)?;
+    write_parts(&Guid::parse(OWNER)?, &mut taken)?;
     assert!(rt; taken.len() == 280 && want.starts_with(&taken));
     Ok(())
 }
