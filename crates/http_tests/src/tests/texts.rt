@@ -17,21 +17,34 @@ fn component(alloc: Global, name: &str, generation: u32) -> Result<Component, Fa
     })
 }
 
-/// An image with two certificates and two components.
-fn facts(alloc: Global) -> Result<Facts, Fail> {
-    let mut carried = Vec::new(alloc);
-    carried.push(Digest::from([2; 32]))?;
-    carried.push(Digest::from([1; 32]))?;
+/// Two certificates.
+fn carried(alloc: Global) -> Result<Carried, Fail> {
+    let mut digests = Vec::new(alloc);
+    digests.push(Digest::from([2; 32]))?;
+    digests.push(Digest::from([1; 32]))?;
+    Ok(Carried::new(digests).ok_or("certificates")?)
+}
+
+/// Two components.
+fn components(alloc: Global) -> Result<Components, Fail> {
     let mut components = Vec::new(alloc);
     components.push(component(alloc, "sbat", 1)?)?;
     components.push(component(alloc, "shim", 4)?)?;
+    Ok(Components::new(components).ok_or("components")?)
+}
+
+/// An image with two certificates and two components.
+fn facts(alloc: Global) -> Result<Facts, Fail> {
+    let extent = Extent::new(1024, 0).ok_or("an extent")?;
+    let carried = carried(alloc)?;
+    let components = components(alloc)?;
     Ok(Facts {
-        extent: Extent::new(1024, 0).ok_or("an extent")?,
+        extent,
         file: Digest::from([0xff; 32]),
         digest: Digest::from([0xaa; 32]),
         signing: Digest::from([0xbb; 32]),
-        carried: Carried::new(carried).ok_or("certificates")?,
-        components: Components::new(components).ok_or("components")?,
+        carried,
+        components,
     })
 }
 
@@ -46,18 +59,21 @@ fn vote(alloc: Global, reviewer: &str, vote: Vote, note: &str) -> Result<ShownVo
 /// A request with these votes, of which this was returned.
 fn request(
     alloc: Global,
-    number: u64,
+    number: RequestNumber,
     state: State,
-    votes: Vec<ShownVote>,
+    votes: ShownVotes,
     returned: Option<ShownReturn>,
 ) -> Result<ShownRequest, Fail> {
+    let submitter = PersonName::parse(alloc, b"ann")?;
+    let title = Title::parse(alloc, br#" a "b" \ ~"#)?;
+    let facts = facts(alloc)?;
     Ok(ShownRequest {
-        number: RequestNumber::new(number).ok_or("a number")?,
-        submitter: PersonName::parse(alloc, b"ann")?,
-        title: Title::parse(alloc, br#" a "b" \ ~"#)?,
-        facts: facts(alloc)?,
+        number,
+        submitter,
+        title,
+        facts,
         state,
-        votes: ShownVotes::new(votes),
+        votes,
         returned,
     })
 }
@@ -70,20 +86,27 @@ const OPEN: &str =
 const SIGNED: &str =
     r#"{"carried":["0101010101010101010101010101010101010101010101010101010101010101","0202020202020202020202020202020202020202020202020202020202020202"],"components":[["sbat",1],["shim",4]],"digest":"aaaaaaaaaaaaaaaaaaaaaaaaaaaaaaaaaaaaaaaaaaaaaaaaaaaaaaaaaaaaaaaa","file":"ffffffffffffffffffffffffffffffffffffffffffffffffffffffffffffffff","gap":0,"length":1024,"number":1,"returned":"cccccccccccccccccccccccccccccccccccccccccccccccccccccccccccccccc","signing":"bbbbbbbbbbbbbbbbbbbbbbbbbbbbbbbbbbbbbbbbbbbbbbbbbbbbbbbbbbbbbbbb","state":"signed","submitter":"ann","title":" a \"b\" \\ ~","votes":[]}"#;
 
-fn open(alloc: Global) -> Result<ShownRequest, Fail> {
+fn votes(alloc: Global) -> Result<ShownVotes, Fail> {
     let mut votes = Vec::new(alloc);
     votes.push(vote(alloc, "rita", Vote::Yes, "")?)?;
     votes.push(vote(alloc, "raul", Vote::No, r#"no "x" \ ~ "#)?)?;
-    request(alloc, 999_999, State::Open, votes, None)
+    Ok(ShownVotes::new(votes))
+}
+
+fn open(alloc: Global) -> Result<ShownRequest, Fail> {
+    let number = RequestNumber::new(999_999).ok_or("a number")?;
+    request(alloc, number, State::Open, votes(alloc)?, None)
 }
 
 fn signed(alloc: Global) -> Result<ShownRequest, Fail> {
+    let number = RequestNumber::new(1).ok_or("a number")?;
     let returned = ShownReturn {
         length: 2048,
         file: Digest::from([0xcc; 32]),
         digest: Digest::from([0xaa; 32]),
     };
-    request(alloc, 1, State::Signed, Vec::new(alloc), Some(returned))
+    let none = ShownVotes::new(Vec::new(alloc));
+    request(alloc, number, State::Signed, none, Some(returned))
 }
 
 #[test]
@@ -102,16 +125,21 @@ fn writes_a_request_with_a_return(rt: HostRuntime) -> Result<(), Fail> {
     Ok(())
 }
 
-#[test]
-fn writes_lists_of_requests(rt: HostRuntime) -> Result<(), Fail> {
-    let alloc = rt.alloc();
+/// The two requests.
+fn two(alloc: Global) -> Result<Vec<ShownRequest>, Fail> {
     let mut requests = Vec::new(alloc);
-    let none = requests_json(alloc, requests.as_slice())?;
-    assert!(rt; none.as_slice() == b"[]".as_slice(), "none");
     requests.push(open(alloc)?)?;
     requests.push(signed(alloc)?)?;
-    let text = requests_json(alloc, requests.as_slice())?;
-    let both = format!(in alloc; "[{OPEN},{SIGNED}]")?;
+    Ok(requests)
+}
+
+#[test]
+fn writes_lists_of_requests(rt: HostRuntime) -> Result<(), Fail> {
+    let none = requests_json(rt.alloc(), &[])?;
+    assert!(rt; none.as_slice() == b"[]".as_slice(), "none");
+    let requests = two(rt.alloc())?;
+    let text = requests_json(rt.alloc(), requests.as_slice())?;
+    let both = format!(in rt.alloc(); "[{OPEN},{SIGNED}]")?;
     assert!(rt; text.as_slice() == both.as_bytes(), "two requests");
     Ok(())
 }
@@ -150,18 +178,22 @@ fn reply(name: &str, request: RequestNumber) -> Reply {
     }
 }
 
+/// Whether the reply that the line names is its text.
+fn is_reply(alloc: Global, line: &str) -> Result<bool, Fail> {
+    let (name, wanted) = line.split_once(' ').ok_or("a name and a text")?;
+    let request = RequestNumber::new(7).ok_or("a number")?;
+    let text = reply_json(alloc, &reply(name, request))?.ok_or("a text")?;
+    Ok(text.as_slice() == wanted.as_bytes())
+}
+
 #[test]
 fn writes_replies(rt: HostRuntime) -> Result<(), Fail> {
-    let alloc = rt.alloc();
-    let request = RequestNumber::new(7).ok_or("a number")?;
     for line in REPLIES.lines() {
-        let (name, wanted) = line.split_once(' ').ok_or("a name and a text")?;
-        let text = reply_json(alloc, &reply(name, request))?.ok_or("a text")?;
-        assert!(rt; text.as_slice() == wanted.as_bytes(), "{line}");
+        assert!(rt; is_reply(rt.alloc(), line)?, "{line}");
     }
-    let added = Reply::Added(PersonName::parse(alloc, b"ann")?);
+    let added = Reply::Added(PersonName::parse(rt.alloc(), b"ann")?);
     assert!(rt;
-        reply_json(alloc, &added)?.is_none(),
+        reply_json(rt.alloc(), &added)?.is_none(),
         "a person who was added"
     );
     Ok(())
@@ -186,15 +218,19 @@ fn verdict(name: &str, needs: Generation) -> Verdict {
     }
 }
 
+/// Whether the verdict that the line names is its text.
+fn is_verdict(alloc: Global, facts: &Facts, line: &str) -> Result<bool, Fail> {
+    let (name, wanted) = line.split_once(' ').ok_or("a name and a text")?;
+    let needs = Generation::new(5).ok_or("a generation")?;
+    let text = verdict_json(alloc, verdict(name, needs), facts)?.ok_or("a text")?;
+    Ok(text.as_slice() == wanted.as_bytes())
+}
+
 #[test]
 fn writes_verdicts(rt: HostRuntime) -> Result<(), Fail> {
-    let alloc = rt.alloc();
-    let facts = facts(alloc)?;
-    let needs = Generation::new(5).ok_or("a generation")?;
+    let facts = facts(rt.alloc())?;
     for line in VERDICTS.lines() {
-        let (name, wanted) = line.split_once(' ').ok_or("a name and a text")?;
-        let text = verdict_json(alloc, verdict(name, needs), &facts)?.ok_or("a text")?;
-        assert!(rt; text.as_slice() == wanted.as_bytes(), "{line}");
+        assert!(rt; is_verdict(rt.alloc(), &facts, line)?, "{line}");
     }
     Ok(())
 }

@@ -168,38 +168,64 @@ fn name_of(asked: &Asked) -> &'static str {
     }
 }
 
+/// Whether the line's head gives what its first word names.
+fn is_told(alloc: Global, line: &str) -> Result<bool, Fail> {
+    let (name, head) = line.split_once(' ').ok_or("a name and a head")?;
+    let bytes = bytes_of(alloc, head)?;
+    Ok(outcome(alloc, bytes.as_slice()) == name)
+}
+
 #[test]
 fn tells_the_first_check_that_fails(rt: HostRuntime) -> Result<(), Fail> {
     for line in HEADS.lines() {
-        let (name, head) = line.split_once(' ').ok_or("a name and a head")?;
-        let bytes = bytes_of(rt.alloc(), head)?;
-        assert!(rt; outcome(rt.alloc(), bytes.as_slice()) == name, "{line}");
+        assert!(rt; is_told(rt.alloc(), line)?, "{line}");
     }
     Ok(())
 }
+
+/// A head with each field but the title.
+const CSV: &str = "POST /imports/csv HTTP/1.1|desk-KEY: k1\t|Content-Length: 0042|Desk-Token:  a b|\
+Desk-Stamp: 2024010100||rest";
 
 #[test]
 fn gives_the_values_of_fields(rt: HostRuntime) -> Result<(), Fail> {
-    let alloc = rt.alloc();
-    let head = bytes_of(
-        alloc,
-        "POST /imports/csv HTTP/1.1|desk-KEY: k1\t|Content-Length: 0042|Desk-Token:  a b|Desk-Stamp: 2024010100||rest",
-    )?;
-    let wanted = wanted(alloc, head.as_slice()).ok().ok_or("a head")?;
+    let head = bytes_of(rt.alloc(), CSV)?;
+    let wanted = wanted(rt.alloc(), head.as_slice()).ok().ok_or("a head")?;
     assert!(rt; wanted.size == 42, "the length");
     assert!(rt; wanted.token == Some(b"a b".as_slice()), "the token");
     assert!(rt; wanted.title.is_none(), "no title");
-    match asked(alloc, &wanted) {
-        Ok(Asked::ImportCsv(key, stamp)) => {
-            assert!(rt; key.as_str() == "k1", "the key");
-            assert!(rt; stamp == Stamp::new(2_024_010_100), "the stamp");
-        }
-        _ => panic!(rt; "an import of CSV"),
-    }
     Ok(())
 }
 
-/// Whether a read of the request of this number is asked for.
+/// What a head asks for.
+fn asked_by(alloc: Global, head: &str) -> Option<Asked> {
+    let head = bytes_of(alloc, head).ok()?;
+    let wanted = wanted(alloc, head.as_slice()).ok()?;
+    asked(alloc, &wanted).ok()
+}
+
+/// Whether this head asks for an import of CSV with its key and stamp.
+fn asks_for_csv(alloc: Global) -> bool {
+    match asked_by(alloc, CSV) {
+        Some(Asked::ImportCsv(key, stamp)) => {
+            key.as_str() == "k1" && stamp == Stamp::new(2_024_010_100)
+        }
+        _ => false,
+    }
+}
+
+/// A head with a title.
+const TITLE: &str = "POST /requests HTTP/1.1|Desk-Key: k|Desk-Title: shim 15.8|Content-Length: 1||";
+
+/// Whether this head asks for a request with its title.
+fn asks_for_title(alloc: Global) -> bool {
+    match asked_by(alloc, TITLE) {
+        Some(Asked::Submit(_, title)) => title.as_str() == "shim 15.8",
+        _ => false,
+    }
+}
+
+/// Whether the request of this number is asked for.
 fn is_request(asked: &Asked, number: u64) -> bool {
     match asked {
         Asked::Request(found) => Some(*found) == RequestNumber::new(number),
@@ -207,21 +233,17 @@ fn is_request(asked: &Asked, number: u64) -> bool {
     }
 }
 
-#[test]
-fn gives_titles_and_numbers(rt: HostRuntime) -> Result<(), Fail> {
-    let alloc = rt.alloc();
-    let head = bytes_of(
-        alloc,
-        "POST /requests HTTP/1.1|Desk-Key: k|Desk-Title: shim 15.8|Content-Length: 1||",
-    )?;
-    let submit = wanted(alloc, head.as_slice()).ok().ok_or("a head")?;
-    match asked(alloc, &submit) {
-        Ok(Asked::Submit(_, title)) => assert!(rt; title.as_str() == "shim 15.8", "the title"),
-        _ => panic!(rt; "a new request"),
+/// Whether a head with a number asks for the request of that number.
+fn asks_for_number(alloc: Global) -> bool {
+    match asked_by(alloc, "GET /requests/120 HTTP/1.1||") {
+        Some(asked) => is_request(&asked, 120),
+        None => false,
     }
-    let head = bytes_of(alloc, "GET /requests/120 HTTP/1.1||")?;
-    let read = wanted(alloc, head.as_slice()).ok().ok_or("a head")?;
-    let asked = asked(alloc, &read).ok().ok_or("a request")?;
-    assert!(rt; is_request(&asked, 120), "the number");
-    Ok(())
+}
+
+#[test]
+fn gives_keys_stamps_titles_and_numbers(rt: HostRuntime) {
+    assert!(rt; asks_for_csv(rt.alloc()), "a key and a stamp");
+    assert!(rt; asks_for_title(rt.alloc()), "a title");
+    assert!(rt; asks_for_number(rt.alloc()), "a number");
 }

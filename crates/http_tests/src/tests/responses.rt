@@ -1,10 +1,9 @@
 //! Whole responses.
 use desk_bytes::Refusal;
-use desk_json::reply_json;
 use desk_requests::Methods;
 use desk_responses::{Content, Refused, Status, outage_response, refused_response, response};
 use desk_testing::bytes_of;
-use desk_texts::{Reply, RequestNumber};
+use std::alloc::Global;
 use std::test::Fail;
 
 /// Responses, each behind the name of what the request is refused for, or the methods of its path.
@@ -65,46 +64,61 @@ fn written(refused: Refused) -> Option<&'static [u8]> {
     }
 }
 
+/// Whether the line's response is what its first word is answered, also without memory.
+fn is_answered(alloc: Global, line: &str) -> Result<bool, Fail> {
+    let (name, text) = line.split_once(' ').ok_or("a name and a response")?;
+    let refused = refused(name).ok_or("what is refused")?;
+    let wanted = bytes_of(alloc, text)?;
+    let bytes = refused_response(alloc, refused)?;
+    let written = written(refused).unwrap_or(wanted.as_slice());
+    Ok(bytes.as_slice() == wanted.as_slice() && written == wanted.as_slice())
+}
+
 #[test]
 fn answers_what_is_refused(rt: HostRuntime) -> Result<(), Fail> {
-    let alloc = rt.alloc();
     for line in REFUSALS.lines() {
-        let (name, text) = line.split_once(' ').ok_or("a name and a response")?;
-        let wanted = bytes_of(alloc, text)?;
-        let refused = refused(name).ok_or("what is refused")?;
-        let bytes = refused_response(alloc, refused)?;
-        assert!(rt; bytes.as_slice() == wanted.as_slice(), "{line}");
-        let written = written(refused).unwrap_or(wanted.as_slice());
-        assert!(rt; written == wanted.as_slice(), "{line}, without memory");
+        assert!(rt; is_answered(rt.alloc(), line)?, "{line}");
     }
     assert!(rt; Refused::of(Refusal::Write).is_none(), "a write");
     assert!(rt; Refused::of(Refusal::List).is_none(), "a place is told");
     Ok(())
 }
 
+/// Whether the response with this content is the text.
+fn is_response(alloc: Global, content: Content, body: &[u8], text: &str) -> Result<bool, Fail> {
+    let wanted = bytes_of(alloc, text)?;
+    let bytes = response(alloc, Status::Ok, content, body)?;
+    Ok(bytes.as_slice() == wanted.as_slice())
+}
+
+/// The response with a level.
+const LEVEL: &str =
+    "HTTP/1.1 200 OK|Content-Type: text/plain|Content-Length: 18|Connection: close||\
+sbat,1,2021030218~";
+
+/// The response with a reply.
+const REPLY: &str =
+    r#"HTTP/1.1 200 OK|Content-Type: application/json|Content-Length: 33|Connection: close||{"reply":"submitted","request":1}"#;
+
+/// The response with no byte.
+const EMPTY: &str =
+    "HTTP/1.1 200 OK|Content-Type: application/octet-stream|Content-Length: 0|Connection: close||";
+
 #[test]
 fn answers_what_is_accepted(rt: HostRuntime) -> Result<(), Fail> {
-    let alloc = rt.alloc();
     let level = b"sbat,1,2021030218\n".as_slice();
-    let bytes = response(alloc, Status::Ok, Content::Text, level)?;
-    let wanted = bytes_of(
-        alloc,
-        "HTTP/1.1 200 OK|Content-Type: text/plain|Content-Length: 18|Connection: close||sbat,1,2021030218~",
-    )?;
-    assert!(rt; bytes.as_slice() == wanted.as_slice(), "a level");
-    let request = RequestNumber::new(1).ok_or("a request's number")?;
-    let reply = reply_json(alloc, &Reply::Submitted(request))?.ok_or("a reply")?;
-    let bytes = response(alloc, Status::Ok, Content::Json, reply.as_slice())?;
-    let wanted = bytes_of(
-        alloc,
-        r#"HTTP/1.1 200 OK|Content-Type: application/json|Content-Length: 33|Connection: close||{"reply":"submitted","request":1}"#,
-    )?;
-    assert!(rt; bytes.as_slice() == wanted.as_slice(), "a reply");
-    let bytes = response(alloc, Status::Ok, Content::Bytes, b"".as_slice())?;
-    let wanted = bytes_of(
-        alloc,
-        "HTTP/1.1 200 OK|Content-Type: application/octet-stream|Content-Length: 0|Connection: close||",
-    )?;
-    assert!(rt; bytes.as_slice() == wanted.as_slice(), "an empty dbx");
+    assert!(rt;
+        is_response(rt.alloc(), Content::Text, level, LEVEL)?,
+        "a level"
+    );
+    let reply = br#"{"reply":"submitted","request":1}"#.as_slice();
+    assert!(rt;
+        is_response(rt.alloc(), Content::Json, reply, REPLY)?,
+        "a reply"
+    );
+    assert!(rt;
+        is_response(rt.alloc(), Content::Bytes, b"", EMPTY)?,
+        "an empty dbx"
+    );
     Ok(())
 }
