@@ -1,4 +1,4 @@
-//! Tests of one request and its response.
+//! Tests of requests and their responses.
 #![tactic(auto)]
 
 #[cfg(test)]

@@ -1,6 +1,11 @@
-//! Requests and their responses, over a desk that tells what it is asked.
+//! Requests, from their bytes to what is answered.
+mod bodies;
 mod checks;
+mod heads;
+mod reading;
+mod responses;
 mod results;
 mod routes;
 mod serving;
 mod stand_in;
+mod texts;

@@ -8,7 +8,7 @@ mod pieces;
 mod tokens;
 mod words;
 
-use std::alloc::{AllocError, Global};
+use std::alloc::Global;
 use std::process::Abort;
 use std::str;
 use std::test::Fail;
@@ -51,8 +51,10 @@ const TABLE: &str = "2b00000000020200302106092a864886f70d010702a0143012020101310
 
 /// Writes over the bytes from a place on, where there is room.
 fn put(image: &mut [u8], at: usize, bytes: &[u8]) {
-    if at <= image.len() && bytes.len() <= image.len() - at {
-        image[at..at + bytes.len()].copy_from_slice(bytes);
+    if let Some(rest) = image.get_mut(at..) {
+        if let Some(part) = rest.get_mut(..bytes.len()) {
+            part.copy_from_slice(bytes);
+        }
     }
 }
 
@@ -66,76 +68,85 @@ fn change(alloc: Global, image: &mut [u8], words: &str) -> Result<(), Fail> {
     Ok(())
 }
 
-/// The image that the words describe: its length, `+` for PE32+ or `-` for PE32, and changes. With `*` it is
-/// one of PE32+ that tools sign, whose bytes from 512 on count up to 250 again and again; with `^` the
-/// headers of PE32+ stand further up.
-fn image(alloc: Global, words: &str) -> Result<Vec<u8>, Fail> {
-    let (length, words) = words.split_once(' ').ok_or("no length")?;
-    let (form, changes) = words.split_once(' ').unwrap_or((words, ""));
-    let length: usize = length.parse()?;
-    let mut bytes = vec![in alloc; 0; length]?;
+/// Writes over zeros what a form has: `+` PE32+, `-` PE32, `*` PE32+ that tools sign, whose bytes from 512 on count up to 250
+/// again and again, `^` PE32+ whose headers stand further up.
+fn form(alloc: Global, bytes: &mut [u8], form: &str) -> Result<(), Fail> {
     if form == "*" {
-        for at in 512..length {
+        for at in 512..bytes.len() {
             bytes[at] = (at % 251) as u8;
         }
-        change(alloc, &mut bytes, SIGNABLE)?;
+        change(alloc, bytes, SIGNABLE)?;
     }
-    change(alloc, &mut bytes, HEADERS)?;
-    change(
-        alloc,
-        &mut bytes,
-        if form == "-" { PE32 } else { PE32_PLUS },
-    )?;
+    change(alloc, bytes, HEADERS)?;
+    change(alloc, bytes, if form == "-" { PE32 } else { PE32_PLUS })?;
     if form == "^" {
-        change(alloc, &mut bytes, MOVED)?;
+        change(alloc, bytes, MOVED)?;
     }
+    Ok(())
+}
+
+/// The image that the words describe: its length, its form, and changes.
+fn image(alloc: Global, words: &str) -> Result<Vec<u8>, Fail> {
+    let (length, words) = words.split_once(' ').ok_or("no length")?;
+    let (kind, changes) = words.split_once(' ').unwrap_or((words, ""));
+    let length: usize = length.parse()?;
+    let mut bytes = vec![in alloc; 0; length]?;
+    form(alloc, &mut bytes, kind)?;
     change(alloc, &mut bytes, changes)?;
     Ok(bytes)
 }
 
-/// The lines that were written, parted by semicolons.
-fn parted(alloc: Global, out: &[u8]) -> Result<String, Fail> {
-    let mut told = String::new(alloc);
-    for line in str::from_utf8(out)?.lines() {
-        told.push_str(line)?;
-        told.push(';')?;
+/// Tells the lines that were written, each ended by a semicolon.
+fn tell_lines(told: &mut String, out: &mut [u8]) -> Result<(), Fail> {
+    for byte in out.iter_mut() {
+        if *byte == b'\n' {
+            *byte = b';';
+        }
     }
-    Ok(told)
+    told.push_str(str::from_utf8(out)?)?;
+    Ok(())
 }
 
-/// What a call answers to an input.
-fn answer(alloc: Global, call: Call, input: &str) -> Result<String, Fail> {
+/// Tells bytes in hexadecimal.
+fn tell_hex(alloc: Global, told: &mut String, bytes: &[u8]) -> Result<(), Fail> {
+    told.push_str(hex::encode(alloc, bytes)?.as_str())?;
+    Ok(())
+}
+
+/// Tells what a call answers to an input.
+fn answer(alloc: Global, told: &mut String, call: Call, input: &str) -> Result<(), Fail> {
     match call {
-        Call::Carried => certificates::of_carried(alloc, input),
-        Call::Digests => digests::of_digests(alloc, input),
-        Call::Facts => lines::of_facts(alloc, input),
-        Call::List => lines::of_list(alloc, input),
-        Call::Parts => layouts::of_parts(alloc, input),
-        Call::Ranges => layouts::of_ranges(alloc, input),
-        Call::Token => tokens::of_token(alloc, input),
-        Call::Words => words::of_words(alloc, input),
+        Call::Carried => certificates::of_carried(alloc, told, input),
+        Call::Digests => digests::of_digests(alloc, told, input),
+        Call::Facts => lines::of_facts(alloc, told, input),
+        Call::List => lines::of_list(alloc, told, input),
+        Call::Parts => layouts::of_parts(alloc, told, input),
+        Call::Ranges => layouts::of_ranges(alloc, told, input),
+        Call::Token => tokens::of_token(alloc, told, input),
+        Call::Words => words::of_words(alloc, told, input),
     }
 }
 
-/// The script with what the call answers in place of each answer.
-fn answered(alloc: Global, call: Call, script: &str) -> Result<String, Fail> {
-    let mut told = String::new(alloc);
-    for line in script.lines() {
-        let (input, _) = line.split_once(" = ").ok_or("a line without an answer")?;
-        let answer = answer(alloc, call, input)?;
-        let answer = if answer.is_empty() {
-            "nothing"
-        } else {
-            answer.as_str()
-        };
-        told.push_str(format!(in alloc; "{input} = {answer}\n")?.as_str())?;
+/// Tells the line with what the call answers in place of the answer.
+fn answer_line(alloc: Global, told: &mut String, call: Call, line: &str) -> Result<(), Fail> {
+    let (input, _) = line.split_once(" = ").ok_or("a line without an answer")?;
+    told.push_str(input)?;
+    told.push_str(" = ")?;
+    let before = told.len();
+    answer(alloc, told, call, input)?;
+    if told.len() == before {
+        told.push_str("nothing")?;
     }
-    Ok(told)
+    told.push('\n')?;
+    Ok(())
 }
 
 /// Compares all answers of a script.
 fn check(rt: &impl Abort, alloc: Global, call: Call, script: &str) -> Result<(), Fail> {
-    let told = answered(alloc, call, script)?;
+    let mut told = String::new(alloc);
+    for line in script.lines() {
+        answer_line(alloc, &mut told, call, line)?;
+    }
     assert!(rt; told.as_str() == script, "{told}");
     Ok(())
 }

@@ -1,5 +1,5 @@
 //! Certificates that a table carries.
-use super::{Call, TABLE, check};
+use super::{Call, TABLE, check, tell_hex};
 use authenticode::{CarriedFault, carried};
 use desk_bytes::Digest;
 use sha2::{Digest as _, Sha256};
@@ -41,38 +41,38 @@ a broken body before a broken header: 0900000000020200050000000000000001 = Der
 a broken header before a broken body: 070000000000000009000000000202000500000000000000 = Table
 ";
 
-/// The first four bytes of each digest that a table carries.
-fn told_of(alloc: Global, table: &[u8]) -> Result<String, Fail> {
-    let found = match carried(alloc, table) {
-        Ok(found) => found,
-        Err(fault) => {
-            let refusal = fault.refusal();
-            return Ok(format!(in alloc; "{refusal}")?);
-        }
-    };
-    if found.is_empty() {
-        return Ok(String::from_str(alloc, "none")?);
+/// Tells the first four bytes of each digest.
+fn tell_digests(alloc: Global, told: &mut String, digests: &[Digest]) -> Result<(), Fail> {
+    let mut before = "";
+    for digest in digests {
+        told.push_str(before)?;
+        tell_hex(alloc, told, &digest.as_bytes()[..4])?;
+        before = " ";
     }
-    let mut told = String::new(alloc);
-    for digest in &found {
-        if !told.is_empty() {
-            told.push(' ')?;
-        }
-        let front = hex::encode(alloc, &digest.as_bytes()[..4])?;
-        told.push_str(front.as_str())?;
-    }
-    Ok(told)
+    Ok(())
 }
 
-/// What a table carries; what stands before the colon is its name.
-pub fn of_carried(alloc: Global, input: &str) -> Result<String, Fail> {
+/// Tells what a table carries.
+fn tell_carried(alloc: Global, told: &mut String, table: &[u8]) -> Result<(), Fail> {
+    let found = match carried(alloc, table) {
+        Ok(found) => found,
+        Err(fault) => return Ok(told.push_str(fault.refusal().name())?),
+    };
+    if found.is_empty() {
+        return Ok(told.push_str("none")?);
+    }
+    tell_digests(alloc, told, &found)
+}
+
+/// Tells what a table carries; what stands before the colon is its name.
+pub fn of_carried(alloc: Global, told: &mut String, input: &str) -> Result<(), Fail> {
     let (_, words) = input.split_once(':').ok_or("no name")?;
     let mut table = Vec::new(alloc);
     for word in words.split_whitespace() {
         let digits = if word == "T" { TABLE } else { word };
         table.extend_from_slice(&hex::decode(alloc, digits)?)?;
     }
-    told_of(alloc, &table)
+    tell_carried(alloc, told, &table)
 }
 
 #[test]
@@ -80,65 +80,58 @@ fn gives_the_certificates_that_a_table_carries(rt: HostRuntime) -> Result<(), Fa
     check(&rt, rt.alloc(), Call::Carried, CARRIED)
 }
 
-/// From which length on the beginnings of a table are what.
-const CUTS: &str = "\
-0 none
-1 Table
-43 1b65f68a
-";
+/// The first certificate that a table carries.
+fn first_of(alloc: Global, table: &[u8]) -> Result<Option<Digest>, CarriedFault> {
+    Ok(carried(alloc, table)?.first().copied())
+}
 
 #[test]
 fn takes_a_cut_table_only_where_the_entry_is_whole(rt: HostRuntime) -> Result<(), Fail> {
     let table = hex::decode(rt.alloc(), TABLE)?;
-    let mut told = String::new(rt.alloc());
-    let mut before = String::new(rt.alloc());
+    let whole = first_of(rt.alloc(), &table);
     for size in 0..49 {
-        let now = told_of(rt.alloc(), table.get(..size).unwrap_or(&[]))?;
-        if now != before {
-            told.push_str(format!(in rt.alloc(); "{size} {now}\n")?.as_str())?;
-            before = now;
-        }
+        let wanted = match size {
+            0 => Ok(None),
+            1..43 => Err(CarriedFault::Table),
+            _ => whole,
+        };
+        assert!(rt; first_of(rt.alloc(), table.get(..size).unwrap_or(&[])) == wanted);
     }
-    assert!(rt; told.as_str() == CUTS, "{told}");
     Ok(())
 }
 
-/// An element of a tag, with its length in four bytes.
-fn wrapped(alloc: Global, tag: u8, parts: &[&[u8]]) -> Result<Vec<u8>, AllocError> {
-    let mut content = Vec::new(alloc);
-    for part in parts {
-        content.extend_from_slice(part)?;
-    }
+/// An element of a tag, with its length in four bytes and its content in two parts.
+fn wrapped(alloc: Global, tag: u8, front: &[u8], rest: &[u8]) -> Result<Vec<u8>, AllocError> {
+    let size = front.len().min(0xff) + rest.len().min(0xff_ffff);
     let mut element = Vec::new(alloc);
-    element.push(tag)?;
-    element.push(0x84)?;
-    element.extend_from_slice(&(content.len().min(0xff_ffff) as u32).to_be_bytes())?;
-    element.extend_from_slice(&content)?;
+    element.extend_from_slice(&[tag, 0x84])?;
+    element.extend_from_slice(&(size as u32).to_be_bytes())?;
+    element.extend_from_slice(front)?;
+    element.extend_from_slice(rest)?;
     Ok(element)
 }
 
-/// A table whose one entry carries so many certificates, no two of them alike, with some bytes behind.
-fn table_of(alloc: Global, count: u8, behind: &[u8]) -> Result<Vec<u8>, AllocError> {
+/// The body of an entry that carries so many certificates, no two of them alike.
+fn body_of(alloc: Global, count: u8) -> Result<Vec<u8>, AllocError> {
     let mut row = Vec::new(alloc);
     for number in 0..count {
         row.extend_from_slice(&[0x30, 5, 0x30, 3, 2, 1, number])?;
     }
-    let certificates = wrapped(alloc, 0xa0, &[&row])?;
-    let signed = wrapped(
-        alloc,
-        0x30,
-        &[b"\x02\x01\x01\x31\x00\x30\x00", &certificates],
-    )?;
-    let content = wrapped(alloc, 0xa0, &[&signed])?;
-    let body = wrapped(alloc, 0x30, &[b"\x06\x00", &content])?;
+    let certificates = wrapped(alloc, 0xa0, b"", &row)?;
+    let signed = wrapped(alloc, 0x30, b"\x02\x01\x01\x31\x00\x30\x00", &certificates)?;
+    let content = wrapped(alloc, 0xa0, b"", &signed)?;
+    wrapped(alloc, 0x30, b"\x06\x00", &content)
+}
+
+/// A table whose one entry carries so many certificates, with some bytes behind.
+fn table_of(alloc: Global, count: u8, behind: &[u8]) -> Result<Vec<u8>, AllocError> {
+    let body = body_of(alloc, count)?;
     let size = body.len().min(0xff_ffff) + 8;
     let mut table = Vec::new(alloc);
     table.extend_from_slice(&(size as u32).to_le_bytes())?;
     table.extend_from_slice(b"\x00\x02\x02\x00")?;
     table.extend_from_slice(&body)?;
-    for _ in 0..(8 - table.len() % 8) % 8 {
-        table.push(0)?;
-    }
+    table.resize(size.next_multiple_of(8), 0)?;
     table.extend_from_slice(behind)?;
     Ok(table)
 }
@@ -146,18 +139,29 @@ fn table_of(alloc: Global, count: u8, behind: &[u8]) -> Result<Vec<u8>, AllocErr
 /// What sha256sum gives for the 64 digests, sorted and joined.
 const JOINED: &str = "460f51759b16601ed216fbb877b089bc74c198d35a1fd4498284005b4697fc82";
 
-#[test]
-fn takes_64_different_certificates_and_no_more(rt: HostRuntime) -> Result<(), Fail> {
-    let found = carried(rt.alloc(), &table_of(rt.alloc(), 64, &[])?)?;
+/// The digest of digests, joined.
+fn digest_of(digests: &[Digest]) -> Digest {
     let mut hasher = Sha256::new();
-    for digest in &found {
+    for digest in digests {
         hasher.update(digest.as_bytes());
     }
-    let joined = Digest::from(hasher.finalize());
-    assert!(rt; found.len() == 64 && joined.text().as_slice() == JOINED.as_bytes());
+    Digest::from(hasher.finalize())
+}
+
+#[test]
+fn takes_64_different_certificates(rt: HostRuntime) -> Result<(), Fail> {
+    let table = table_of(rt.alloc(), 64, &[])?;
+    let found = carried(rt.alloc(), &table)?;
+    assert!(rt; found.len() == 64);
+    assert!(rt; digest_of(&found).text().as_slice() == JOINED.as_bytes());
+    Ok(())
+}
+
+#[test]
+fn takes_no_65_certificates(rt: HostRuntime) -> Result<(), Fail> {
     let long = table_of(rt.alloc(), 65, &[])?;
-    assert!(rt; carried(rt.alloc(), &long).err() == Some(CarriedFault::TooLong));
+    assert!(rt; first_of(rt.alloc(), &long) == Err(CarriedFault::TooLong));
     let broken = table_of(rt.alloc(), 65, b"\x08\x00\x00\x00\x00\x02\x02\x00")?;
-    assert!(rt; carried(rt.alloc(), &broken).err() == Some(CarriedFault::Der));
+    assert!(rt; first_of(rt.alloc(), &broken) == Err(CarriedFault::Der));
     Ok(())
 }

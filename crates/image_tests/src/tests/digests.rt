@@ -6,6 +6,7 @@ use desk_testing::Slow;
 use pe_image::{Pieces, Ranges, layout, ranges};
 use sha2::{Digest as Hasher, Sha256};
 use std::alloc::Global;
+use std::fmt::Write;
 use std::test::Fail;
 
 /// Images, their digests and those that a signature holds. The digests are those that pesign 0.112 computes;
@@ -49,9 +50,9 @@ fn digest_joined(alloc: Global, bytes: &[u8], spans: Ranges) -> Result<Digest, F
     Ok(Digest::from(Sha256::digest(&joined)))
 }
 
-/// The digest of an image in pieces and that to be signed, where the calls agree with one another
+/// Tells the digest of an image in pieces and that to be signed, where the calls agree with one another
 /// and with hashes of whole lists.
-pub fn of_digests(alloc: Global, input: &str) -> Result<String, Fail> {
+pub fn of_digests(alloc: Global, told: &mut String, input: &str) -> Result<(), Fail> {
     let bytes = image(alloc, input)?;
     let mut reader = Slow {
         rest: &bytes,
@@ -65,13 +66,14 @@ pub fn of_digests(alloc: Global, input: &str) -> Result<String, Fail> {
     let hashed = digest(&mut source, &places)?;
     let signed = signing_digest(&mut source, &places)?;
     if found.digest != hashed || found.signing != signed {
-        return Ok(String::from_str(alloc, "two calls differ")?);
+        return Ok(told.push_str("two calls differ")?);
     }
     let whole = Digest::from(Sha256::digest(&bytes));
     if found.file != whole || hashed != digest_joined(alloc, &bytes, ranges(&places))? {
-        return Ok(String::from_str(alloc, "a hash of a whole list differs")?);
+        return Ok(told.push_str("a hash of a whole list differs")?);
     }
-    Ok(format!(in alloc; "{hashed} {signed}")?)
+    write!(told, "{hashed} {signed}")?;
+    Ok(())
 }
 
 #[test]

@@ -2,12 +2,13 @@
 ghost use Rattle.std.specs.Prelude.{ℕ, List, ◌≡◌, ◌+◌, ◌≤◌, length, replicate, slice_range, OnOk, OnErr};
 ghost use Rattle.pe_image.specs.Sources.{HaveRisen};
 
-use super::{TABLE, image};
+use super::image;
 use authenticode::sums;
 use desk_bytes::Refusal;
 use desk_lines::{Fault, print_ranges};
 use desk_service::facts;
 use pe_image::{Bytes, LayoutFault, ReadFailed, Source, layout};
+use std::alloc::Global;
 use std::test::Fail;
 
 /// A source that fails once so many reads were made, and then always.
@@ -45,50 +46,68 @@ impl Source for Failing<'_> {
     }
 }
 
+/// An image with a table and a text.
+const WHOLE: &str =
+    "1584 + 70:0200 232:0006000030000000 368:2e73626174 376:0f000000 384:0002000000040000 \
+    1024:677275622c332c612c622c312c750a 1536:T";
+
+/// What is told of an image whose reads fail once so many were made.
+fn fault_after(alloc: Global, bytes: &[u8], left: u64) -> Option<Refusal> {
+    let mut source = Failing {
+        bytes,
+        left,
+        failures: 0,
+    };
+    let fault = facts(alloc, &mut source).err()?;
+    if source.failures == 1 {
+        Some(fault.refusal())
+    } else {
+        Some(Refusal::File)
+    }
+}
+
 /// Every read that fails is told of, at that call: within the layout, the digests, the table and the text.
 #[test]
 fn tells_of_each_read_that_fails(rt: HostRuntime) -> Result<(), Fail> {
-    let words = format!(in rt.alloc();
-        "1584 + 70:0200 232:0006000030000000 368:2e73626174 \
-        376:0f000000 384:0002000000040000 1024:677275622c332c612c622c312c750a 1536:{TABLE}"
-    )?;
-    let bytes = image(rt.alloc(), words.as_str())?;
+    let bytes = image(rt.alloc(), WHOLE)?;
+    let mut last = 0;
     for left in 0..200 {
-        let mut source = Failing {
-            bytes: &bytes,
-            left,
-            failures: 0,
-        };
-        let Err(fault) = facts(rt.alloc(), &mut source) else {
-            assert!(rt; source.failures() == 0 && left > 10);
-            return Ok(());
-        };
-        assert!(rt; fault.refusal() == Refusal::Read && source.failures() == 1);
+        match fault_after(rt.alloc(), &bytes, left) {
+            Some(refusal) => {
+                assert!(rt; refusal == Refusal::Read);
+                last = left;
+            }
+            None => {}
+        }
     }
-    assert!(rt; false, "200 reads are enough");
+    assert!(rt; 10 <= last && last < 199, "so many reads");
     Ok(())
 }
 
-/// Images with the reads that hashing them takes: two pieces; three of a file whose last range is
-/// read again, from 41024 on, which are three more.
-const READS: [(&str, u64); 2] = [("66560 ^", 2), ("140000 * 70:0200 384:409c0000a0860100", 6)];
+/// Whether hashing an image takes so many reads, and one fewer isn't enough.
+fn takes_reads(alloc: Global, words: &str, reads: u64) -> Result<bool, Fail> {
+    let bytes = image(alloc, words)?;
+    let places = layout(&mut Bytes(&bytes))?;
+    let mut enough = Failing {
+        bytes: &bytes,
+        left: reads,
+        failures: 0,
+    };
+    let mut fewer = Failing {
+        bytes: &bytes,
+        left: reads.saturating_sub(1),
+        failures: 0,
+    };
+    let is_hashed = sums(&mut enough, &places).is_ok();
+    let is_refused = sums(&mut fewer, &places).is_err();
+    Ok(is_hashed && is_refused && enough.left == 0 && enough.failures == 0 && fewer.failures == 1)
+}
 
+/// Two pieces; and three of a file whose last range is read again, from 41024 on, which are three more.
 #[test]
 fn hashes_an_image_by_one_read_of_a_piece(rt: HostRuntime) -> Result<(), Fail> {
-    for (words, reads) in READS {
-        let bytes = image(rt.alloc(), words)?;
-        let places = layout(&mut Bytes(&bytes))?;
-        for left in 0..10 {
-            let mut source = Failing {
-                bytes: &bytes,
-                left,
-                failures: 0,
-            };
-            let hashed = sums(&mut source, &places).is_ok();
-            assert!(rt; hashed == (left >= reads) && source.left == left.saturating_sub(reads));
-            assert!(rt; hashed == (source.failures() == 0));
-        }
-    }
+    assert!(rt; takes_reads(rt.alloc(), "66560 ^", 2)?);
+    assert!(rt; takes_reads(rt.alloc(), "140000 * 70:0200 384:409c0000a0860100", 6)?);
     Ok(())
 }
 

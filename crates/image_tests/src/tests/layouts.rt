@@ -1,8 +1,9 @@
 //! Layouts of images.
-use super::{Call, change, check, image, parted};
+use super::{Call, check, image, put, tell_lines};
 use desk_lines::{print_fault, print_ranges};
 use pe_image::{Bytes, LayoutFault, Span, gap, layout, ranges, sbat_range, table};
 use std::alloc::Global;
+use std::fmt::Write;
 use std::test::Fail;
 
 /// What is printed of an image's ranges: as it is, of EFI's last subsystem; PE32; its second section first;
@@ -44,14 +45,14 @@ const RANGES: &str = "\
 70000 + 328:2e73626174 344:01000100 = refused 13 TooLong;
 ";
 
-/// What is printed of an image's ranges.
-pub fn of_ranges(alloc: Global, input: &str) -> Result<String, Fail> {
+/// Tells what is printed of an image's ranges.
+pub fn of_ranges(alloc: Global, told: &mut String, input: &str) -> Result<(), Fail> {
     let bytes = image(alloc, input)?;
     let mut out = Vec::new(alloc);
     if let Err(fault) = print_ranges(&mut Bytes(&bytes), &mut out) {
         print_fault(fault.refusal, fault.place, &mut out);
     }
-    parted(alloc, &out)
+    tell_lines(told, &mut out)
 }
 
 #[test]
@@ -73,18 +74,22 @@ const PARTS: &str = "\
 70000 + 328:2e73626174 344:00000100 = no table, 512 to 66048
 ";
 
-/// Where the table and the text of `.sbat` stand.
-pub fn of_parts(alloc: Global, input: &str) -> Result<String, Fail> {
+/// Tells where the table and the text of `.sbat` stand.
+pub fn of_parts(alloc: Global, told: &mut String, input: &str) -> Result<(), Fail> {
     let bytes = image(alloc, input)?;
     let places = layout(&mut Bytes(&bytes))?;
-    let table = match table(&places) {
-        Some(span) => format!(in alloc; "{} to {}", span.from, span.to)?,
-        None => String::from_str(alloc, "no table")?,
-    };
-    match sbat_range(&places) {
-        Some(span) => Ok(format!(in alloc; "{table}, {} to {}", span.from, span.to)?),
-        None => Ok(format!(in alloc; "{table}, no text")?),
+    tell_span(told, table(&places), "no table")?;
+    told.push_str(", ")?;
+    tell_span(told, sbat_range(&places), "no text")
+}
+
+/// Tells a range, or the words where there is none.
+fn tell_span(told: &mut String, span: Option<Span>, none: &str) -> Result<(), Fail> {
+    match span {
+        Some(Span { from, to }) => write!(told, "{from} to {to}")?,
+        None => told.push_str(none)?,
     }
+    Ok(())
 }
 
 #[test]
@@ -92,63 +97,65 @@ fn gives_the_table_and_the_text(rt: HostRuntime) -> Result<(), Fail> {
     check(&rt, rt.alloc(), Call::Parts, PARTS)
 }
 
-/// From which length on the beginnings of an image are what.
-const CUTS: &str = "\
-0 Some(Short)
-88 Some(Magic)
-90 Some(Headers)
-512 Some(Sections)
-1024 None
-";
+/// What the beginning of an image of this length is refused for.
+fn fault_of(size: usize) -> Option<LayoutFault> {
+    match size {
+        ..88 => Some(LayoutFault::Short),
+        88..90 => Some(LayoutFault::Magic),
+        90..512 => Some(LayoutFault::Headers),
+        512..1024 => Some(LayoutFault::Sections),
+        _ => None,
+    }
+}
 
 #[test]
 fn refuses_every_truncation(rt: HostRuntime) -> Result<(), Fail> {
     let bytes = image(rt.alloc(), "1024 +")?;
-    let mut told = String::new(rt.alloc());
-    let mut before = Some(LayoutFault::Read);
     for size in 0..1025 {
-        let now = layout(&mut Bytes(bytes.get(..size).unwrap_or(&[]))).err();
-        if now != before {
-            told.push_str(format!(in rt.alloc(); "{size} {now:?}\n")?.as_str())?;
-            before = now;
-        }
+        let fault = layout(&mut Bytes(bytes.get(..size).unwrap_or(&[]))).err();
+        assert!(rt; fault == fault_of(size), "{size}");
     }
-    assert!(rt; told.as_str() == CUTS, "{told}");
     Ok(())
 }
 
-/// An image with so many sections of one byte each, the last first, and a byte between any two.
-fn with_sections(alloc: Global, count: u16) -> Result<Vec<u8>, Fail> {
+/// Writes a row of the section table: one byte, the last row's first, and a byte between any two.
+fn put_section(image: &mut [u8], row: u8, count: u8) {
+    let at = 5120 + 2 * u32::from(count.saturating_sub(row));
+    let place = 344 + 40 * usize::from(row);
+    put(image, place, &1u32.to_le_bytes());
+    put(image, place + 4, &at.to_le_bytes());
+}
+
+/// An image with so many sections.
+fn with_sections(alloc: Global, count: u8) -> Result<Vec<u8>, Fail> {
     let mut bytes = image(alloc, "8192 + 148:00140000")?;
-    change(alloc, &mut bytes, "")?;
-    super::put(&mut bytes, 70, &count.to_le_bytes());
-    for i in 0..count {
-        let at = 5120 + 2 * u32::from(count - i);
-        super::put(&mut bytes, 344 + 40 * usize::from(i), &1u32.to_le_bytes());
-        super::put(&mut bytes, 348 + 40 * usize::from(i), &at.to_le_bytes());
+    put(&mut bytes, 70, &[count, 0]);
+    for row in 0..count {
+        put_section(&mut bytes, row, count);
     }
     Ok(bytes)
 }
 
 #[test]
-fn takes_96_sections_and_no_more(rt: HostRuntime) -> Result<(), Fail> {
+fn takes_96_sections(rt: HostRuntime) -> Result<(), Fail> {
     let bytes = with_sections(rt.alloc(), 96)?;
     let places = layout(&mut Bytes(&bytes))?;
     assert!(rt; ranges(&places).count() == 100 && gap(&places) == 97);
-    assert!(rt;
-        ranges(&places).skip(3).next()
-            == Some(Span {
-                from: 5122,
-                to: 5123
-            })
-    );
-    assert!(rt;
-        ranges(&places).skip(98).next()
-            == Some(Span {
-                from: 5312,
-                to: 5313
-            })
-    );
+    let first = Span {
+        from: 5122,
+        to: 5123,
+    };
+    assert!(rt; ranges(&places).skip(3).next() == Some(first));
+    let last = Span {
+        from: 5312,
+        to: 5313,
+    };
+    assert!(rt; ranges(&places).skip(98).next() == Some(last));
+    Ok(())
+}
+
+#[test]
+fn takes_no_97_sections(rt: HostRuntime) -> Result<(), Fail> {
     let more = with_sections(rt.alloc(), 97)?;
     assert!(rt; layout(&mut Bytes(&more)).err() == Some(LayoutFault::Sections));
     Ok(())

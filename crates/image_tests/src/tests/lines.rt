@@ -1,10 +1,11 @@
 //! The lines that are printed of facts, of lists and of a fault.
-use super::{Call, check, image, parted};
+use super::{Call, check, image, tell_lines};
 use desk_bytes::{Guid, Refusal, WriteFailed};
 use desk_history::{Below, Verdict};
 use desk_lines::{Fault, MOST_BYTES, print_facts, print_fault, print_list, print_verdict};
 use desk_service::facts;
 use desk_testing::Narrow;
+use desk_texts::Facts;
 use pe_image::Bytes;
 use sbat::Generation;
 use siglist::pack;
@@ -35,8 +36,8 @@ refused 12 SbatRow at 1;
 refused 12 SbatRow at 3;
 ";
 
-/// What is printed of an image's facts.
-pub fn of_facts(alloc: Global, input: &str) -> Result<String, Fail> {
+/// Tells what is printed of an image's facts.
+pub fn of_facts(alloc: Global, told: &mut String, input: &str) -> Result<(), Fail> {
     let bytes = image(alloc, input)?;
     let mut out = Vec::new(alloc);
     match facts(alloc, &mut Bytes(&bytes)) {
@@ -46,7 +47,7 @@ pub fn of_facts(alloc: Global, input: &str) -> Result<String, Fail> {
             print_fault(fault.refusal, fault.place, &mut out);
         }
     }
-    parted(alloc, &out)
+    tell_lines(told, &mut out)
 }
 
 #[test]
@@ -54,29 +55,40 @@ fn prints_the_facts_of_an_image(rt: HostRuntime) -> Result<(), Fail> {
     check(&rt, rt.alloc(), Call::Facts, FACTS)
 }
 
+/// A writer that takes 50 bytes a call and fails at this call.
+fn narrow(alloc: Global, fails_at: u64) -> Narrow {
+    Narrow {
+        taken: Vec::new(alloc),
+        most: 50,
+        calls: 0,
+        fails_at,
+        kind: ErrorKind::BrokenPipe,
+    }
+}
+
+/// The image whose facts are printed in part.
+const CUT: &str = "1072 + 232:0004000030000000 1024:T";
+
+/// Whether these are the first bytes of all, and all of them just where the whole was written.
+fn is_beginning(taken: &[u8], all: &[u8], is_whole: bool) -> bool {
+    all.starts_with(taken) && (taken.len() == all.len()) == is_whole
+}
+
 #[test]
 fn prints_a_beginning_of_the_facts_before_a_failed_write(rt: HostRuntime) -> Result<(), Fail> {
-    let bytes = image(rt.alloc(), "1072 + 232:0004000030000000 1024:T")?;
-    let found = facts(rt.alloc(), &mut Bytes(&bytes))?;
+    let found = facts(rt.alloc(), &mut Bytes(&image(rt.alloc(), CUT)?))?;
     let mut whole = Vec::new(rt.alloc());
     print_facts(&found, &mut whole)?;
+    let mut last = 0;
     for fails_at in 1..200 {
-        let mut writer = Narrow {
-            taken: Vec::new(rt.alloc()),
-            most: 50,
-            calls: 0,
-            fails_at,
-            kind: ErrorKind::BrokenPipe,
-        };
-        let answer = print_facts(&found, &mut writer);
-        assert!(rt; whole.starts_with(&writer.taken));
-        if answer == Ok(()) {
-            assert!(rt; writer.taken.len() == whole.len() && fails_at > 8);
-            return Ok(());
+        let mut writer = narrow(rt.alloc(), fails_at);
+        let is_whole = print_facts(&found, &mut writer).is_ok();
+        assert!(rt; is_beginning(&writer.taken, &whole, is_whole));
+        if !is_whole {
+            last = fails_at;
         }
-        assert!(rt; answer == Err(WriteFailed) && writer.taken.len() < whole.len());
     }
-    assert!(rt; false, "200 writes are enough");
+    assert!(rt; 8 <= last && last < 199, "so many writes");
     Ok(())
 }
 
@@ -100,18 +112,19 @@ e8070101000000000000000000000000\
 33221100554477668899aabbccddeeff1c000000000000000f000000 = refused 16 EntrySize at 0;
 ";
 
-/// What is printed of lists.
-fn told_of(alloc: Global, bytes: &[u8]) -> Result<String, Fail> {
+/// Tells what is printed of lists.
+fn tell_list(alloc: Global, told: &mut String, bytes: &[u8]) -> Result<(), Fail> {
     let mut out = Vec::new(alloc);
     if let Err(fault) = print_list(alloc, bytes, &mut out) {
         print_fault(fault.refusal, fault.place, &mut out);
     }
-    parted(alloc, &out)
+    tell_lines(told, &mut out)
 }
 
-/// What is printed of lists in hexadecimal.
-pub fn of_list(alloc: Global, input: &str) -> Result<String, Fail> {
-    told_of(alloc, &hex::decode(alloc, input)?)
+/// Tells what is printed of lists in hexadecimal.
+pub fn of_list(alloc: Global, told: &mut String, input: &str) -> Result<(), Fail> {
+    let bytes = hex::decode(alloc, input)?;
+    tell_list(alloc, told, &bytes)
 }
 
 #[test]
@@ -119,53 +132,42 @@ fn prints_the_lists_of_a_file(rt: HostRuntime) -> Result<(), Fail> {
     check(&rt, rt.alloc(), Call::List, LISTS)
 }
 
+/// Whether zeros, so many, are refused by this fault.
+fn is_refused(alloc: Global, size: usize, fault: Fault) -> Result<bool, Fail> {
+    let bytes = vec![in alloc; 0u8; size]?;
+    Ok(print_list(alloc, &bytes, &mut Vec::new(alloc)) == Err(fault))
+}
+
 #[test]
 fn prints_no_list_of_a_file_past_128_mib(rt: HostRuntime) -> Result<(), Fail> {
-    let bytes = vec![in rt.alloc(); 0u8; MOST_BYTES + 1]?;
-    assert!(rt; told_of(rt.alloc(), &bytes)?.as_str() == "refused 13 TooLong;");
-    let longest = bytes.get(1..).unwrap_or(&[]);
-    assert!(rt; told_of(rt.alloc(), longest)?.as_str() == "refused 15 List at 0;");
+    let long = Fault::from(Refusal::TooLong);
+    let first = Fault {
+        refusal: Refusal::List,
+        place: Some(0),
+    };
+    assert!(rt; is_refused(rt.alloc(), MOST_BYTES + 1, long)?);
+    assert!(rt; is_refused(rt.alloc(), MOST_BYTES, first)?);
     Ok(())
 }
 
-/// The lines of faults, each behind its status.
-const FAULTS: &str = "\
-1 refused 18 Line at 2
-1 refused 13 TooLong
-1 refused 43 NotADesk
-3 device 14 Read
-3 device 17 Write
-3 device 40 NoMemory
-3 device 41 Store
-3 device 42 Reopen
-3 device 45 File
-";
-
-/// Puts the status and the line of a fault behind what was told.
-fn tell(told: &mut Vec<u8>, refusal: Refusal, place: Option<u64>) -> Result<(), Fail> {
-    let at = told.len();
-    told.extend_from_slice(b"0 ")?;
-    let status = print_fault(refusal, place, told);
-    if at < told.len() {
-        told[at] = b'0'.saturating_add(status);
-    }
-    Ok(())
+/// Whether a fault gives this status and this line.
+fn is_line(alloc: Global, refusal: Refusal, place: Option<u64>, status: u8, line: &str) -> bool {
+    let mut out = Vec::new(alloc);
+    print_fault(refusal, place, &mut out) == status && out.as_slice() == line.as_bytes()
 }
 
 #[test]
-fn prints_the_line_of_a_fault(rt: HostRuntime) -> Result<(), Fail> {
-    let mut told = Vec::new(rt.alloc());
-    tell(&mut told, Refusal::Line, Some(2))?;
-    tell(&mut told, Refusal::TooLong, None)?;
-    tell(&mut told, Refusal::NotADesk, None)?;
-    tell(&mut told, Refusal::Read, None)?;
-    tell(&mut told, Refusal::Write, None)?;
-    tell(&mut told, Refusal::NoMemory, None)?;
-    tell(&mut told, Refusal::Store, None)?;
-    tell(&mut told, Refusal::Reopen, None)?;
-    tell(&mut told, Refusal::File, None)?;
-    assert!(rt; told.as_slice() == FAULTS.as_bytes());
-    Ok(())
+fn prints_the_line_of_a_fault(rt: HostRuntime) {
+    let alloc = rt.alloc();
+    assert!(rt; is_line(alloc, Refusal::Line, Some(2), 1, "refused 18 Line at 2\n"));
+    assert!(rt; is_line(alloc, Refusal::TooLong, None, 1, "refused 13 TooLong\n"));
+    assert!(rt; is_line(alloc, Refusal::NotADesk, None, 1, "refused 43 NotADesk\n"));
+    assert!(rt; is_line(alloc, Refusal::Read, None, 3, "device 14 Read\n"));
+    assert!(rt; is_line(alloc, Refusal::Write, None, 3, "device 17 Write\n"));
+    assert!(rt; is_line(alloc, Refusal::NoMemory, None, 3, "device 40 NoMemory\n"));
+    assert!(rt; is_line(alloc, Refusal::Store, None, 3, "device 41 Store\n"));
+    assert!(rt; is_line(alloc, Refusal::Reopen, None, 3, "device 42 Reopen\n"));
+    assert!(rt; is_line(alloc, Refusal::File, None, 3, "device 45 File\n"));
 }
 
 /// 64 digits, and twice 63.
@@ -175,15 +177,28 @@ const SHORT: &str = "\
 000000000000000000000000000000000000000000000000000000000000000
 ";
 
+/// Why it isn't packed.
+fn pack_short(alloc: Global, list: &mut Vec<u8>) -> Option<Fault> {
+    let owner = Guid::parse("00112233-4455-6677-8899-aabbccddeeff").ok()?;
+    let fault = pack(alloc, &owner, &mut SHORT.as_bytes(), list).err()?;
+    Some(Fault::from(fault))
+}
+
 #[test]
 fn prints_why_a_text_is_not_packed(rt: HostRuntime) -> Result<(), Fail> {
-    let owner = Guid::parse("00112233-4455-6677-8899-aabbccddeeff")?;
     let mut list = Vec::new(rt.alloc());
-    let mut out = Vec::new(rt.alloc());
-    let answer = pack(rt.alloc(), &owner, &mut SHORT.as_bytes(), &mut list);
-    let fault = Fault::from(answer.err().ok_or("it is packed")?);
-    assert!(rt; print_fault(fault.refusal, fault.place, &mut out) == 1);
-    assert!(rt; out.as_slice() == b"refused 18 Line at 2\n".as_slice() && list.is_empty());
+    let fault = pack_short(rt.alloc(), &mut list).ok_or("it is packed")?;
+    assert!(rt; list.is_empty());
+    let place = fault.place;
+    assert!(rt;
+        is_line(
+            rt.alloc(),
+            fault.refusal,
+            place,
+            1,
+            "refused 18 Line at 2\n"
+        )
+    );
     Ok(())
 }
 
@@ -200,17 +215,21 @@ refused sbat grub 3 4294967295
 const WITH_COMPONENTS: &str = "1536 + 70:02 368:2e73626174 376:24000000 384:0002000000040000 \
     1024:736261742c312c612c622c312c750d0a0d0a677275622c30332c612c622c322c750a";
 
+/// Prints each verdict on an image of these facts.
+fn print_verdicts(found: &Facts, needs: Generation, out: &mut Vec<u8>) -> Result<(), WriteFailed> {
+    print_verdict(&Verdict::Allowed, found, out)?;
+    print_verdict(&Verdict::DbxDigest, found, out)?;
+    print_verdict(&Verdict::DbxCertificate, found, out)?;
+    print_verdict(&Verdict::NotListed, found, out)?;
+    print_verdict(&Verdict::Sbat(Below { place: 1, needs }), found, out)
+}
+
 #[test]
 fn prints_the_line_of_a_verdict(rt: HostRuntime) -> Result<(), Fail> {
-    let bytes = image(rt.alloc(), WITH_COMPONENTS)?;
-    let found = facts(rt.alloc(), &mut Bytes(&bytes))?;
     let needs = Generation::new(u32::MAX).ok_or("a generation")?;
+    let found = facts(rt.alloc(), &mut Bytes(&image(rt.alloc(), WITH_COMPONENTS)?))?;
     let mut out = Vec::new(rt.alloc());
-    print_verdict(&Verdict::Allowed, &found, &mut out)?;
-    print_verdict(&Verdict::DbxDigest, &found, &mut out)?;
-    print_verdict(&Verdict::DbxCertificate, &found, &mut out)?;
-    print_verdict(&Verdict::NotListed, &found, &mut out)?;
-    print_verdict(&Verdict::Sbat(Below { place: 1, needs }), &found, &mut out)?;
+    print_verdicts(&found, needs, &mut out)?;
     assert!(rt; out.as_slice() == VERDICTS.as_bytes());
     Ok(())
 }

@@ -4,6 +4,7 @@ use desk_bytes::InputFault;
 use desk_service::read_token;
 use desk_testing::Slow;
 use std::alloc::Global;
+use std::fmt::Write;
 use std::test::Fail;
 
 /// Inputs in hexadecimal, and what is kept of the token in them: the SHA-256 of its bytes, as Python's hashlib
@@ -25,15 +26,16 @@ a space: 6f6c676120746f6b656e203030303030310a = none
 a byte above 0x7E: 6f6c67612d746f6b656e2d30303030307f0a = none
 ";
 
-/// What is kept of the token in an input.
-pub fn of_token(alloc: Global, input: &str) -> Result<String, Fail> {
+/// Tells what is kept of the token in an input.
+pub fn of_token(alloc: Global, told: &mut String, input: &str) -> Result<(), Fail> {
     let (_, digits) = input.split_once(": ").ok_or("no name")?;
     let bytes = hex::decode(alloc, digits)?;
     match read_token(alloc, &mut bytes.as_slice()) {
-        Ok(Some(token)) => Ok(format!(in alloc; "{token}")?),
-        Ok(None) => Ok(String::from_str(alloc, "none")?),
-        Err(fault) => Ok(String::from_str(alloc, fault.refusal().name())?),
+        Ok(Some(token)) => write!(told, "{token}")?,
+        Ok(None) => told.push_str("none")?,
+        Err(fault) => told.push_str(fault.refusal().name())?,
     }
+    Ok(())
 }
 
 #[test]

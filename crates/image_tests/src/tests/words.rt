@@ -1,7 +1,8 @@
 //! The words of the command line.
 use super::{Call, check};
 use desk_words::{PersonWords, ServeWords, Words, WordsFault, words};
-use std::alloc::Global;
+use std::alloc::{AllocError, Global};
+use std::fmt::Write;
 use std::test::Fail;
 
 const WORDS: &str = "\
@@ -73,70 +74,77 @@ minutes = mistake
 minutes a.db more = mistake
 ";
 
-/// The line that begins with `Usage:`, or else the first.
-fn usage(alloc: Global, text: &str) -> Result<String, Fail> {
+/// Tells the line that begins with `Usage:`, or else the first.
+fn tell_usage(told: &mut String, text: &str) -> Result<(), AllocError> {
     for line in text.lines() {
         if line.starts_with("Usage: ") {
-            return Ok(String::from_str(alloc, line)?);
+            return told.push_str(line);
         }
     }
-    Ok(String::from_str(alloc, text.lines().next().unwrap_or(""))?)
+    told.push_str(text.lines().next().unwrap_or(""))
 }
 
-/// A subcommand with its words.
-fn said(alloc: Global, line: Words<'_>) -> Result<String, Fail> {
-    Ok(match line {
-        Words::Init { db, owner } => format!(in alloc; "init of {db} for {owner}")?,
-        Words::Person(words) => person(alloc, words)?,
-        Words::Serve(words) => serve(alloc, words)?,
-        Words::Answer { db } => format!(in alloc; "answer of {db}")?,
-        Words::Facts { file } => format!(in alloc; "facts of {file}")?,
-        Words::Ranges { file } => format!(in alloc; "ranges of {file}")?,
-        Words::Verdict { db, file } => format!(in alloc; "verdict of {db} and {file}")?,
-        Words::Db { db } => format!(in alloc; "db of {db}")?,
-        Words::Dbx { db } => format!(in alloc; "dbx of {db}")?,
-        Words::Level { db } => format!(in alloc; "level of {db}")?,
-        Words::List { file } => format!(in alloc; "list of {file}")?,
-        Words::Pack { owner } => format!(in alloc; "pack of {owner}")?,
-        Words::Minutes { db } => format!(in alloc; "minutes of {db}")?,
-    })
+/// Tells a subcommand with its words.
+fn tell_words(told: &mut String, line: Words<'_>) -> Result<(), AllocError> {
+    match line {
+        Words::Init { db, owner } => write!(told, "init of {db} for {owner}"),
+        Words::Person(words) => tell_person(told, words),
+        Words::Serve(words) => tell_serve(told, words),
+        Words::Answer { db } => write!(told, "answer of {db}"),
+        Words::Facts { file } => write!(told, "facts of {file}"),
+        Words::Ranges { file } => write!(told, "ranges of {file}"),
+        Words::Verdict { db, file } => write!(told, "verdict of {db} and {file}"),
+        Words::Db { db } => write!(told, "db of {db}"),
+        Words::Dbx { db } => write!(told, "dbx of {db}"),
+        Words::Level { db } => write!(told, "level of {db}"),
+        Words::List { file } => write!(told, "list of {file}"),
+        Words::Pack { owner } => write!(told, "pack of {owner}"),
+        Words::Minutes { db } => write!(told, "minutes of {db}"),
+    }
 }
 
-/// The words of `person`.
-fn person(alloc: Global, words: PersonWords<'_>) -> Result<String, Fail> {
+/// Tells the words of `person`.
+fn tell_person(told: &mut String, words: PersonWords<'_>) -> Result<(), AllocError> {
     let PersonWords {
         db,
         name,
         role,
         key,
     } = words;
-    Ok(format!(in alloc; "person of {db}: {name} {role} {key}")?)
+    write!(told, "person of {db}: ")?;
+    write!(told, "{name} {role} {key}")
 }
 
-/// The words of `serve`.
-fn serve(alloc: Global, words: ServeWords<'_>) -> Result<String, Fail> {
+/// Tells the words of `serve`.
+fn tell_serve(told: &mut String, words: ServeWords<'_>) -> Result<(), AllocError> {
     let ServeWords { db, port, count } = words;
-    Ok(format!(in alloc; "serve of {db}: {port} {count}")?)
+    write!(told, "serve of {db}: {port} {count}")
 }
 
-/// What the words say.
-pub fn of_words(alloc: Global, input: &str) -> Result<String, Fail> {
-    let mut given = Vec::new(alloc);
+/// The words of a line.
+fn words_of(alloc: Global, input: &str) -> Result<Vec<String>, AllocError> {
+    let mut words = Vec::new(alloc);
     for word in input.split_whitespace() {
-        given.push(String::from_str(alloc, word)?)?;
+        words.push(String::from_str(alloc, word)?)?;
     }
+    Ok(words)
+}
+
+/// Tells what the words say.
+pub fn of_words(alloc: Global, told: &mut String, input: &str) -> Result<(), Fail> {
+    let given = words_of(alloc, input)?;
     match words(alloc, given.as_slice()) {
-        Ok(line) => said(alloc, line),
+        Ok(line) => tell_words(told, line)?,
         Err(WordsFault::Refused(error)) => {
             if error.use_stderr() {
-                return Ok(String::from_str(alloc, "mistake")?);
+                return Ok(told.push_str("mistake")?);
             }
-            let text = error.to_string(alloc)?;
-            usage(alloc, text.as_str())
+            tell_usage(told, error.to_string(alloc)?.as_str())?;
         }
-        Err(WordsFault::NoMemory) => Ok(String::from_str(alloc, "NoMemory")?),
-        Err(WordsFault::Missing) => Ok(String::from_str(alloc, "Missing")?),
+        Err(WordsFault::NoMemory) => told.push_str("NoMemory")?,
+        Err(WordsFault::Missing) => told.push_str("Missing")?,
     }
+    Ok(())
 }
 
 #[test]

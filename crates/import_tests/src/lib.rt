@@ -1,5 +1,0 @@
-//! What imports answer. Tests alone.
-#![tactic(auto)]
-
-#[cfg(test)]
-mod tests;

@@ -1,3 +1,0 @@
-//! Responses, and the texts in them.
-mod responses;
-mod texts;

@@ -1,0 +1,203 @@
+//! Two days of a desk: who calls with which key and command, and the answer, or an image and what the desk says of it.
+use super::tables::{new_tables, write_all};
+use super::*;
+use std::fmt::Write as _;
+
+/// Tells a decision: a reply's text, with `again` before one that writes nothing, or a refusal's name.
+pub(super) fn tell_decision(
+    alloc: Global,
+    told: &mut String,
+    decision: &Result<Changes, Refusal>,
+) -> Result<(), Fail> {
+    let changes = match decision {
+        Ok(changes) => changes,
+        Err(refusal) => return Ok(told.push_str(refusal.name())?),
+    };
+    if changes.writes.is_empty() {
+        told.push_str("again ")?;
+    }
+    told.push_str(reply_text(alloc, &changes.reply)?.as_str())?;
+    Ok(())
+}
+
+/// Gives one call, tells the answer, and writes what was decided.
+fn ask(alloc: Global, tables: &mut View, told: &mut String, given: &str) -> Result<(), Fail> {
+    let call = Words::new(alloc, given).call().ok_or("a call")?;
+    let decision = decide(alloc, tables, &call.caller, &call.key, &call.command);
+    tell_decision(alloc, told, &decision)?;
+    match &decision {
+        Ok(changes) => write_all(alloc, tables, &changes.writes),
+        Err(_) => Ok(()),
+    }
+}
+
+/// Tells what the desk says of an image.
+fn judge(alloc: Global, tables: &View, told: &mut String, given: &str) -> Result<(), Fail> {
+    let facts = Words::new(alloc, given).facts().ok_or("facts")?;
+    let verdict = verdict(&tables.lists, &facts);
+    write!(told, "{verdict:?}")?;
+    Ok(())
+}
+
+/// Plays a line, `WHO KEY VERB .. : ANSWER` or `verdict IMAGE : VERDICT`, and tells it with what is answered.
+fn play_line(alloc: Global, tables: &mut View, told: &mut String, line: &str) -> Result<(), Fail> {
+    let (given, _) = line.split_once(" : ").ok_or("an answer")?;
+    told.push_str(given)?;
+    told.push_str(" : ")?;
+    match given.strip_prefix("verdict ") {
+        Some(image) => judge(alloc, tables, told, image)?,
+        None => ask(alloc, tables, told, given)?,
+    }
+    told.push('\n')?;
+    Ok(())
+}
+
+/// Plays the lines of a script on a new desk, and compares all answers.
+fn play(rt: &impl Abort, alloc: Global, script: &str) -> Result<(), Fail> {
+    let mut tables = new_tables(alloc)?;
+    let mut told = String::new(alloc);
+    for line in script.lines() {
+        play_line(alloc, &mut tables, &mut told, line)?;
+    }
+    assert!(rt; told.as_str() == script, "{told}");
+    Ok(())
+}
+
+/// A desk with a submitter, three reviewers, a signer and an officer takes requests, reviews, returns, listings and
+/// revocations. The certificate is 204; 160 is an image whose length needs no padding, 162 one whose padded form is 163.
+const REQUESTS: &str = "\
+console p1 add ann submitter 1 : added ann
+console p2 add rita reviewer 2 : added rita
+console p3 add raul reviewer 3 : added raul
+console p4 add rosa reviewer 4 : added rosa
+console p5 add sid signer 5 : added sid
+console p6 add olga officer 6 : added olga
+eve e1 list 1 : UnknownCaller
+console e1 list 1 : NotYourRole
+console e2 add console signer 9 : NameTaken
+console e2 add ann signer 9 : NameTaken
+console e2 add eve signer 6 : NameTaken
+console e2 add eve officer 9 : added eve
+console e2 add eve officer 9 : again added eve
+console e2 add eve officer 8 : KeyReused
+eve e1 add bob officer 8 : NotYourRole
+eve e1 list 1 : listed
+eve e1 submit shim 160 160 0 0 : KeyReused
+eve e3 submit shim 160 160 0 0 : NotYourRole
+olga e1 unlist 1 : unlisted
+eve e1 list 1 : again listed
+rita r1 yes 1 : NoSuchRequest
+ann r1 submit shim 160 160 0 0 : submitted 1
+ann r1 submit shim 160 160 0 0 : again submitted 1
+ann r1 submit grub 160 160 0 0 : KeyReused
+ann r2 submit shim 160 160 0 0 : submitted 2
+rita r1 submit shim 160 160 0 0 : submitted 3
+ann r3 yes 1 : NotYourRole
+rita r2 yes 1 : reviewed 1 open
+rita r3 yes 1 : AlreadyReviewed
+rita r3 no 1 : AlreadyReviewed
+rita r3 yes 3 : OwnRequest
+raul r1 yes 1 : reviewed 1 approved
+rosa r1 no 1 : WrongState
+rosa r1 yes 2 : reviewed 2 open
+raul r2 no 2 : reviewed 2 rejected
+rita r3 yes 2 : WrongState
+ann r3 withdraw 2 : WrongState
+ann r3 withdraw 3 : NoSuchRequest
+ann r3 withdraw 4 : NoSuchRequest
+sid r1 withdraw 3 : NotYourRole
+rita r3 withdraw 3 : withdrawn 3
+rita r4 withdraw 3 : WrongState
+raul r1 yes 1 : again reviewed 1 approved
+sid b1 return 9 160 160 1 204 0 : NoSuchRequest
+sid b1 return 2 160 160 1 204 0 : WrongState
+sid b1 return 3 160 160 1 204 0 : WrongState
+ann b1 return 1 160 160 1 204 0 : NotYourRole
+sid b1 return 1 2 2 1 204 0 : DigestDiffers
+sid b1 return 1 160 160 1 204 0 : NotListed
+olga b1 list-certificate 204 : listed
+olga b2 list-certificate 204 : AlreadyListed
+verdict 160 160 1 204 0 : Allowed
+verdict 160 160 0 0 : NotListed
+sid b1 return 1 160 160 0 0 : NotListed
+sid b1 return 1 160 160 1 204 0 : returned 1
+sid b2 return 1 160 160 1 204 0 : WrongState
+sid b1 return 1 160 160 1 204 0 : again returned 1
+ann b1 withdraw 1 : WrongState
+ann b2 submit pad 162 163 0 0 : submitted 4
+rita b1 yes 4 : reviewed 4 open
+rosa b1 yes 4 : reviewed 4 approved
+ann b3 submit pad 162 163 0 0 : submitted 5
+rita b2 yes 5 : reviewed 5 open
+rosa b2 yes 5 : reviewed 5 approved
+sid b2 return 4 162 162 1 204 0 : returned 4
+sid b3 return 5 163 163 1 204 0 : returned 5
+olga b3 revoke-certificate 204 : revoked
+olga b4 revoke-certificate 204 : AlreadyRevoked
+verdict 160 160 1 204 0 : DbxCertificate
+olga b4 unlist-certificate 204 : unlisted
+olga b5 unlist-certificate 204 : NotThere
+verdict 160 160 1 204 0 : DbxCertificate
+ann b4 submit shim 160 160 1 204 0 : Revoked
+olga b5 revoke 162 : revoked
+verdict 164 162 0 0 : DbxDigest
+ann b4 submit shim 162 163 0 0 : Revoked
+";
+
+/// The level rises, and revocations are imported.
+const LEVELS: &str = "\
+console p1 add ann submitter 1 : added ann
+console p2 add rita reviewer 2 : added rita
+console p3 add raul reviewer 3 : added raul
+console p4 add sid signer 4 : added sid
+console p5 add olga officer 5 : added olga
+olga v1 list 32 : listed
+olga v2 list 32 : AlreadyListed
+olga v2 unlist-certificate 32 : NotThere
+olga v2 raise grub 3 2024010100 : raised
+olga v3 raise grub 2 2024010101 : NotHigher
+olga v3 raise grub 3 2024010101 : NotHigher
+olga v3 raise grub 4 2024010100 : StampNotLater
+olga v3 raise sbat 2 2024010101 : NotHigher
+verdict 32 32 0 1 grub 2 : Sbat(Below { place: 0, needs: Generation(3) })
+verdict 32 32 0 2 sbat 1 grub 3 : Allowed
+verdict 32 32 0 1 grub 4294967295 : Allowed
+olga v4 raise shim 9 2024010101 : raised
+olga v5 raise shim 10 2024010102 : raised
+olga v6 raise shim 9 2024010103 : NotHigher
+verdict 32 32 0 1 shim 9 : Sbat(Below { place: 0, needs: Generation(10) })
+verdict 32 32 0 1 shim 100 : Allowed
+olga v5 raise shim 10 2024010102 : again raised
+olga v5 raise shim 11 2024010102 : KeyReused
+sid v1 revoke 33 : NotYourRole
+ann v1 submit shim 33 33 0 1 grub 2 : Revoked
+ann v1 submit shim 33 33 0 1 grub 3 : submitted 1
+rita v1 yes 1 : reviewed 1 open
+raul v1 yes 1 : reviewed 1 approved
+olga v6 import 0 1 1 170 1 187 0 : imported 1 1 0 1
+olga v7 import 0 1 1 170 1 187 0 : imported 0 0 0 1
+olga v8 import 0 0 2 171 171 0 2 grub 2 grub 3 : imported 1 0 0 0
+olga v9 import 0 0 0 0 1 grub 4 : StampNotLater
+olga v9 import 2024010102 0 0 0 1 grub 4 : StampNotLater
+olga v9 import 2024010103 0 1 172 0 3 grub 4 peimage 2 grub 5 : imported 1 0 2 0
+olga v9 import 2024010103 0 1 172 0 3 grub 4 peimage 2 grub 5 : again imported 1 0 2 0
+olga v9 import 2024010104 0 1 172 0 3 grub 4 peimage 2 grub 5 : KeyReused
+olga v10 raise grub 5 2024010104 : NotHigher
+verdict 32 32 0 2 peimage 2 grub 4 : Sbat(Below { place: 1, needs: Generation(5) })
+verdict 171 34 0 0 : DbxDigest
+verdict 32 32 1 187 0 : DbxCertificate
+sid v2 return 1 33 33 0 1 grub 4 : Revoked
+sid v2 return 1 33 33 0 1 grub 5 : NotListed
+olga v10 list 33 : listed
+sid v2 return 1 33 33 0 1 grub 5 : returned 1
+";
+
+#[test]
+fn a_day_of_requests(rt: HostRuntime) -> Result<(), Fail> {
+    play(&rt, rt.alloc(), REQUESTS)
+}
+
+#[test]
+fn a_day_of_levels(rt: HostRuntime) -> Result<(), Fail> {
+    play(&rt, rt.alloc(), LEVELS)
+}
