@@ -50,10 +50,20 @@ fn tell_answer(
     }
 }
 
-/// Tells what is imported of a CSV file.
+/// Tells what is imported of a CSV file that has no stamp of its own.
 pub fn of_csv(alloc: Global, told: &mut String, input: &str) -> Result<(), Fail> {
+    tell_csv(alloc, told, input, None)
+}
+
+/// Tells what is imported of a CSV file with this stamp.
+fn tell_csv(
+    alloc: Global,
+    told: &mut String,
+    input: &str,
+    stamp: Option<Stamp>,
+) -> Result<(), Fail> {
     let text = expanded(alloc, input)?;
-    tell_answer(alloc, told, &import_csv(alloc, &text, None))
+    tell_answer(alloc, told, &import_csv(alloc, &text, stamp))
 }
 
 /// Tells what is imported of signature lists.
@@ -122,23 +132,23 @@ fn imports_lists_files_and_levels(rt: HostRuntime) -> Result<(), Fail> {
 
 #[test]
 fn keeps_the_stamp_of_a_file(rt: HostRuntime) -> Result<(), Fail> {
-    let text = expanded(rt.alloc(), "#|sbat,grub,2|")?;
-    let answer = import_csv(rt.alloc(), &text, Stamp::new(2_024_010_100));
     let mut told = String::new(rt.alloc());
-    tell_answer(rt.alloc(), &mut told, &answer)?;
+    let stamp = Stamp::new(2_024_010_100);
+    tell_csv(rt.alloc(), &mut told, "#|sbat,grub,2|", stamp)?;
     assert!(rt; told.as_str() == "2024010100 0 [ ] [ ] grub:2");
     Ok(())
 }
 
 /// How many digests and components an import names, and how many entries it passes over.
-fn counts(answer: Result<Command, ImportFault>) -> Result<(usize, usize, u64), ImportFault> {
-    match answer? {
-        Command::ImportRevocations(import) => Ok((
+fn counts(answer: &Result<Command, ImportFault>) -> Result<(usize, usize, u64), ImportFault> {
+    match answer {
+        Ok(Command::ImportRevocations(import)) => Ok((
             import.digests().as_slice().len(),
             import.components().as_slice().len(),
             import.passed(),
         )),
-        _ => Ok((0, 0, 0)),
+        Ok(_) => Ok((0, 0, 0)),
+        Err(fault) => Err(*fault),
     }
 }
 
@@ -182,7 +192,7 @@ fn counted_lists(
         return Err(ImportFault::NoMemory);
     };
     let kept = bytes.len().saturating_sub(cut);
-    counts(import_dbx(alloc, bytes.get(..kept).unwrap_or(&[])))
+    counts(&import_dbx(alloc, bytes.get(..kept).unwrap_or(&[])))
 }
 
 /// A CSV file of that many records, with others behind them.
@@ -205,7 +215,7 @@ fn counted_records(
     let Ok(text) = records(alloc, count, behind) else {
         return Err(ImportFault::NoMemory);
     };
-    counts(import_csv(alloc, &text, None))
+    counts(&import_csv(alloc, &text, None))
 }
 
 /// What a level of that many names imports.
@@ -214,7 +224,7 @@ fn counted_names(alloc: Global, count: u32) -> Result<(usize, usize, u64), Impor
     if put_names(&mut text, count, "").is_err() {
         return Err(ImportFault::NoMemory);
     }
-    counts(import_level(alloc, text.as_bytes()))
+    counts(&import_level(alloc, text.as_bytes()))
 }
 
 /// The refusal of what is too much.

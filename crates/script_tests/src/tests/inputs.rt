@@ -14,18 +14,15 @@ pub fn unbarred(alloc: Global, text: &str) -> Result<Vec<u8>, AllocError> {
     Ok(bytes)
 }
 
-/// 65 digits.
-const DIGITS: &[u8] = b"aaaaaaaaaaaaaaaaaaaaaaaaaaaaaaaaaaaaaaaaaaaaaaaaaaaaaaaaaaaaaaaaa";
-
 /// What stands for a letter: `A`, `B` and `U` are digests, `U` that of `A` with digits of either case, `T` has a digit too
 /// few and `L` one too many; `#` is the header of a CSV file, `|` a line feed, `^` a carriage return, `~` the mark EF BB BF.
 fn meaning(letter: &u8) -> &[u8] {
     match *letter {
-        b'A' => &DIGITS[..64],
+        b'A' => b"aaaaaaaaaaaaaaaaaaaaaaaaaaaaaaaaaaaaaaaaaaaaaaaaaaaaaaaaaaaaaaaa",
         b'B' => b"bbbbbbbbbbbbbbbbbbbbbbbbbbbbbbbbbbbbbbbbbbbbbbbbbbbbbbbbbbbbbbbb",
         b'U' => b"aAaAaAaAaAaAaAaAaAaAaAaAaAaAaAaAaAaAaAaAaAaAaAaAaAaAaAaAaAaAaAaA",
-        b'T' => &DIGITS[..63],
-        b'L' => DIGITS,
+        b'T' => b"aaaaaaaaaaaaaaaaaaaaaaaaaaaaaaaaaaaaaaaaaaaaaaaaaaaaaaaaaaaaaaa",
+        b'L' => b"aaaaaaaaaaaaaaaaaaaaaaaaaaaaaaaaaaaaaaaaaaaaaaaaaaaaaaaaaaaaaaaaa",
         b'#' => b"kind,value,generation",
         b'|' => b"\n",
         b'^' => b"\r",
@@ -46,13 +43,13 @@ pub fn expanded(alloc: Global, input: &str) -> Result<Vec<u8>, AllocError> {
 /// The digits that a word stands for: `G` for a type of no kind and for an owner, `S`, `X` and `D` for the types of SHA-256,
 /// X.509 and X.509 with SHA-256, `A` and `B` for digests.
 fn digits(word: &str) -> &str {
-    match word {
-        "G" => "33221100554477668899aabbccddeeff",
-        "S" => "2616c4c14c509240aca941f936934328",
-        "X" => "a159c0a5e494a74a87b5ab155c2bf072",
-        "D" => "92a4d23bc0967940b420fcf98ef103ed",
-        "A" => "aaaaaaaaaaaaaaaaaaaaaaaaaaaaaaaaaaaaaaaaaaaaaaaaaaaaaaaaaaaaaaaa",
-        "B" => "bbbbbbbbbbbbbbbbbbbbbbbbbbbbbbbbbbbbbbbbbbbbbbbbbbbbbbbbbbbbbbbb",
+    match word.as_bytes() {
+        b"G" => "33221100554477668899aabbccddeeff",
+        b"S" => "2616c4c14c509240aca941f936934328",
+        b"X" => "a159c0a5e494a74a87b5ab155c2bf072",
+        b"D" => "92a4d23bc0967940b420fcf98ef103ed",
+        b"A" => "aaaaaaaaaaaaaaaaaaaaaaaaaaaaaaaaaaaaaaaaaaaaaaaaaaaaaaaaaaaaaaaa",
+        b"B" => "bbbbbbbbbbbbbbbbbbbbbbbbbbbbbbbbbbbbbbbbbbbbbbbbbbbbbbbbbbbbbbbb",
         _ => word,
     }
 }

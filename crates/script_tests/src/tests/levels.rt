@@ -89,12 +89,10 @@ fn takes_10000_names_and_no_more(rt: HostRuntime) {
 
 /// Raises the level's grub to this generation.
 fn raise(alloc: Global, level: &mut Level, generation: u32) -> Result<(), Fail> {
-    let grub = Component {
-        name: ComponentName::parse(alloc, b"grub")?,
-        generation: Generation::new(generation).ok_or("a generation")?,
-    };
-    level.raise(&grub)?;
-    Ok(())
+    let generation = Generation::new(generation).ok_or("a generation")?;
+    let name = ComponentName::parse(alloc, b"grub")?;
+    let grub = Component { name, generation };
+    Ok(level.raise(&grub)?)
 }
 
 /// The generation of a name, or 0.

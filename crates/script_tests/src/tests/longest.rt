@@ -2,7 +2,7 @@
 use desk_bytes::Digest;
 use desk_texts::{Carried, Command, Components, Extent, Facts, Submission, Title, command_text};
 use sbat::{Component, ComponentName, Generation};
-use std::alloc::Global;
+use std::alloc::{AllocError, Global};
 use std::test::Fail;
 
 /// 64 different digests.
@@ -56,10 +56,24 @@ fn submission(alloc: Global) -> Result<Command, Fail> {
 /// The length of its text: the word and two numbers, three digests, 64 digests, 256 components, the title.
 const LENGTH: usize = 14 + 3 * 65 + 64 * 65 + 256 * 131 + 120;
 
+/// The text of a copy of a command.
+fn text_of_copy(alloc: Global, command: &Command) -> Result<String, AllocError> {
+    let copy = command.clone()?;
+    command_text(alloc, &copy)
+}
+
+/// The text of the submission.
+fn longest_text(alloc: Global) -> Result<String, Fail> {
+    let text = {
+        let command = submission(alloc)?;
+        text_of_copy(alloc, &command)
+    };
+    Ok(text?)
+}
+
 #[test]
 fn writes_the_longest_submission(rt: HostRuntime) -> Result<(), Fail> {
-    let command = submission(rt.alloc())?.clone()?;
-    let text = command_text(rt.alloc(), &command)?;
+    let text = longest_text(rt.alloc())?;
     assert!(rt; text.len() == LENGTH, "64 certificates and 256 components");
     assert!(rt;
         text.as_str().starts_with("submit 1024 0 0101"),

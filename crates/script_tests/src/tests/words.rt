@@ -2,7 +2,7 @@
 use desk_texts::{
     Caller, Command, Key, Note, PersonName, Reply, RequestNumber, Title, command_text, reply_text,
 };
-use std::alloc::Global;
+use std::alloc::{AllocError, Global};
 use std::test::Fail;
 
 /// Whether a name is taken and copied, also as a caller's.
@@ -57,10 +57,15 @@ fn names_the_console(rt: HostRuntime) -> Result<(), Fail> {
     Ok(())
 }
 
+/// The text of a withdrawal.
+fn withdrawal(alloc: Global, request: RequestNumber) -> Result<String, AllocError> {
+    command_text(alloc, &Command::Withdraw(request))
+}
+
 #[test]
 fn writes_a_command(rt: HostRuntime) -> Result<(), Fail> {
     let request = RequestNumber::new(12).ok_or("a request's number")?;
-    let text = command_text(rt.alloc(), &Command::Withdraw(request))?;
+    let text = withdrawal(rt.alloc(), request)?;
     assert!(rt; text.as_str() == "withdraw 12", "a withdrawal");
     Ok(())
 }

@@ -1,42 +1,67 @@
 //! Two days of a desk: who calls with which key and command, and the answer, or an image and what the desk says of it.
 use super::tables::{new_tables, write_all};
 use super::*;
+use desk_texts::{Facts, Reply};
 use std::fmt::Write as _;
 
-/// Tells a decision: a reply's text, with `again` before one that writes nothing, or a refusal's name.
+/// Tells a reply's text, with `again` before one that writes nothing.
+fn tell_reply(alloc: Global, told: &mut String, is_new: bool, reply: &Reply) -> Result<(), Fail> {
+    if !is_new {
+        told.push_str("again ")?;
+    }
+    told.push_str(reply_text(alloc, reply)?.as_str())?;
+    Ok(())
+}
+
+/// Tells a decision: its reply, or a refusal's name.
 pub(super) fn tell_decision(
     alloc: Global,
     told: &mut String,
     decision: &Result<Changes, Refusal>,
 ) -> Result<(), Fail> {
-    let changes = match decision {
-        Ok(changes) => changes,
-        Err(refusal) => return Ok(told.push_str(refusal.name())?),
-    };
-    if changes.writes.is_empty() {
-        told.push_str("again ")?;
+    match decision {
+        Ok(changes) => tell_reply(alloc, told, !changes.writes.is_empty(), &changes.reply),
+        Err(refusal) => tell_name(told, *refusal),
     }
-    told.push_str(reply_text(alloc, &changes.reply)?.as_str())?;
-    Ok(())
 }
 
-/// Gives one call, tells the answer, and writes what was decided.
-fn ask(alloc: Global, tables: &mut View, told: &mut String, given: &str) -> Result<(), Fail> {
-    let call = Words::new(alloc, given).call().ok_or("a call")?;
-    let decision = decide(alloc, tables, &call.caller, &call.key, &call.command);
-    tell_decision(alloc, told, &decision)?;
-    match &decision {
+/// Tells a refusal's name.
+fn tell_name(told: &mut String, refusal: Refusal) -> Result<(), Fail> {
+    Ok(told.push_str(refusal.name())?)
+}
+
+/// Tells a decision, and writes what was decided.
+fn record(
+    alloc: Global,
+    tables: &mut View,
+    told: &mut String,
+    decision: &Result<Changes, Refusal>,
+) -> Result<(), Fail> {
+    tell_decision(alloc, told, decision)?;
+    match decision {
         Ok(changes) => write_all(alloc, tables, &changes.writes),
         Err(_) => Ok(()),
     }
 }
 
+/// Gives one call.
+fn ask(alloc: Global, tables: &mut View, told: &mut String, given: &str) -> Result<(), Fail> {
+    let call = Words::new(alloc, given).call().ok_or("a call")?;
+    let decision = decide(alloc, tables, &call.caller, &call.key, &call.command);
+    record(alloc, tables, told, &decision)
+}
+
+/// Tells what the desk says of these facts.
+fn tell_verdict(tables: &View, told: &mut String, facts: &Facts) -> Result<(), Fail> {
+    let verdict = verdict(&tables.lists, facts);
+    write!(told, "{verdict:?}")?;
+    Ok(())
+}
+
 /// Tells what the desk says of an image.
 fn judge(alloc: Global, tables: &View, told: &mut String, given: &str) -> Result<(), Fail> {
     let facts = Words::new(alloc, given).facts().ok_or("facts")?;
-    let verdict = verdict(&tables.lists, &facts);
-    write!(told, "{verdict:?}")?;
-    Ok(())
+    tell_verdict(tables, told, &facts)
 }
 
 /// Plays a line, `WHO KEY VERB .. : ANSWER` or `verdict IMAGE : VERDICT`, and tells it with what is answered.

@@ -3,8 +3,9 @@ use super::*;
 
 /// The tables of a new desk.
 pub(super) fn new_tables(alloc: Global) -> Result<View, Fail> {
+    let stamp = Stamp::new(2_021_030_218).ok_or("a stamp")?;
     Ok(View {
-        stamp: Stamp::new(2_021_030_218).ok_or("a stamp")?,
+        stamp,
         sizes: NONE,
         people: Vec::new(alloc),
         calls: Vec::new(alloc),
@@ -88,12 +89,16 @@ fn set_generation(components: &mut Vec<Component>, component: &Component) {
 
 /// A copy of the minute.
 fn minute(alloc: Global, row: &Minute) -> Result<Minute, Fail> {
+    let text = String::from_str(alloc, row.text.as_str())?;
+    let reply = row.reply.clone()?;
+    let key = row.key.clone()?;
+    let caller = row.caller.clone()?;
     Ok(Minute {
         number: row.number,
-        caller: row.caller.clone()?,
-        key: row.key.clone()?,
-        text: CommandText::new(String::from_str(alloc, row.text.as_str())?),
-        reply: row.reply.clone()?,
+        caller,
+        key,
+        text: CommandText::new(text),
+        reply,
     })
 }
 
