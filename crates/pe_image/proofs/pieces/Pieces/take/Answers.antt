@@ -1,4 +1,5 @@
 use Rattle.std.proofs.Common.{◌≡◌, ℕ, length, length-append, arith, rules}
+use Rattle.std.proofs.lemmas.Grind.{common_steps}
 use Rattle.std.specs.List.{flat_map}
 use Rattle.pe_image.proofs.PiecesLemmas.{length-pieces}
 use Rattle.pe_image.proofs.pieces.Pieces.take.Goals as goal
@@ -16,3 +17,6 @@ returns-then-len-lt-PIECE-clause-end g c = λ short.
     let size : c.len.result ≡ length c.in_ok-piece.piece.items = search rules in
     let both = length-append {A = ℕ} (flat_map (λ piece. piece.items) c.loop-full.full.items) c.in_ok-piece.piece.items in
     c.in_ok-piece.ensures.end (omega (arith, c.min-room.ensures))
+
+pub loop-full-preserved : goal.loop-full-preserved
+loop-full-preserved g c = grind (arith, common_steps)
