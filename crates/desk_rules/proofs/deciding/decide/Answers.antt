@@ -15,3 +15,6 @@ returns-clause-exact c owner cs legal shown =
 
 pub returns-clause-only : goal.returns-clause-only
 returns-clause-only c = appends_only c.join.result c.args.view.now c.in_ok-own.own (record { number = c.args.view.now.sizes.calls + 1; caller = c.args.caller.now; key = c.args.key.now; text = c.in_ok-text.text; reply = c.in_ok-own.own.reply }) c.join.ensures
+
+pub returns-then-not-may_give-clause-exact : goal.returns-then-not-may_give-clause-exact
+returns-then-not-may_give-clause-exact c = search rules
