@@ -80,3 +80,6 @@ returns-in-Err-clause-spares g c =
     let call = called c.args.caller.now c.args.key.now c.args.command.now in
     let new : Desk _ = record c.args.self.now { conn = c.run.new.conn; needs_reopening = c.eq-self.result } in
     spares g.S.Store old new call c.in-Err.ensures.survives
+
+pub returns-in-Err-clause-poisons : goal.returns-in-Err-clause-poisons
+returns-in-Err-clause-poisons g c = search rules

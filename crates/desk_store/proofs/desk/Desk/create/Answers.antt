@@ -21,3 +21,6 @@ returns-in-Ok-clause-ok g c clean =
       sizes = unknown_are_right c.unknown.result (tables owner []) c.unknown.ensures;
       left = c.stop_leaves_what_is_shown.ensures desk_schema (rows_of owner []) shows made.0;
     }
+
+pub returns-then-not-has_no_tables-clause-taken : goal.returns-then-not-has_no_tables-clause-taken
+returns-then-not-has_no_tables-clause-taken g c = search rules

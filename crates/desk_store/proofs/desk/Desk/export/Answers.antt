@@ -23,3 +23,6 @@ returns-in-Ok-clause-spares g c owner cs was = c.in-Ok.ensures.spares owner cs w
 
 pub returns-in-Err-clause-spares : goal.returns-in-Err-clause-spares
 returns-in-Err-clause-spares g c owner cs was = c.in-Err.ensures.spares owner cs was.shows
+
+pub returns-in-Ok-clause-ok : goal.returns-in-Ok-clause-ok
+returns-in-Ok-clause-ok g c = search rules
