@@ -16,3 +16,6 @@ returns-in-Err-Form-clause-err c =
 pub loop-number-preserved : goal.loop-number-preserved
 loop-number-preserved c = λ rows h.
     Reading-next _ _ _ _ _ _ _ _ _ (c.loop-number.invariant rows h) c.in-Record.ensures c.in-Ok.ensures.ok (search rules)
+
+pub returns-in-Err-Form-clause-ok : goal.returns-in-Err-Form-clause-ok
+returns-in-Err-Form-clause-ok c = search rules

@@ -8,3 +8,6 @@ loop-list-init c = Reading-begins _ _ _ _ c.in-Ok.ensures.found c.into_iter-list
 pub loop-list-preserved : goal.loop-list-preserved
 loop-list-preserved c =
     Reading-next _ _ _ c.in-Some.list _ _ c.loop-list.invariant c.in-Some.ensures.steps (search rules)
+
+pub returns-in-Some-into_command-clause-exact : goal.returns-in-Some-into_command-clause-exact
+returns-in-Some-into_command-clause-exact c = search rules
