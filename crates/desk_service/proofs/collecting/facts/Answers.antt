@@ -16,3 +16,6 @@ returns-clause-exact g c =
       carried = search rules;
       components = search rules;
     }
+
+pub read_components-requires-clause-carries : goal.read_components-requires-clause-carries
+read_components-requires-clause-carries g c = search rules
