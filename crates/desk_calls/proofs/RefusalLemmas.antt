@@ -1,5 +1,7 @@
 -- Which refusals of the desk are told, and that none of these has a place.
-use Rattle.std.proofs.Common.{◌≡◌, ◌≢◌, ◌⊎◌, inl, inr, Some, None, IsSome, IsTrue, false, refl, sym, ap, subst}
+use denote.Enum.Bare.{same_false, same_true, sameb}
+use Rattle.std.proofs.Common.{◌≡◌, ◌≢◌, ◌⊎◌, inl, inr, Bool, Some, None, IsSome, IsTrue, true, false, refl, sym, ap, subst}
+use Rattle.desk_bytes.specs.contracts.refusal.Refusal.{the_type}
 use Rattle.desk_bytes.specs.declared.refusal.Refusal.{Refusal}
 use Rattle.desk_bytes.specs.declared.refusal.Refusal.TheVariants as refusals
 use Rattle.desk_history.specs.DecisionRefusals.{may_answer}
@@ -10,59 +12,20 @@ use Rattle.desk_responses.specs.declared.refused.Refused.TheVariants as refused
 use Rattle.desk_calls.specs.Bodies.{Tells}
 use Rattle.desk_calls.specs.Desks.{IsOutage, IsReadingRefusal}
 
+-- two refusals are one or differ, by the tags of the enum
+same_or_not : (x y : Refusal) (flag : Bool) → sameb the_type x y ≡ flag → (x ≡ y) ⊎ (x ≢ y)
+same_or_not x y true e = inl (same_true the_type tt x y e)
+same_or_not x y false e = inr (same_false the_type x y e)
+
 -- want of memory, a failed store, or neither
 pub apart : (r : Refusal) → (r ≡ refusals.NoMemory) ⊎ ((r ≡ refusals.Store) ⊎ ((r ≢ refusals.NoMemory) × (r ≢ refusals.Store)))
-apart refusals.Short = inr (inr ((λ e. cc), (λ e. cc)))
-apart refusals.NoMz = inr (inr ((λ e. cc), (λ e. cc)))
-apart refusals.NoPe = inr (inr ((λ e. cc), (λ e. cc)))
-apart refusals.Magic = inr (inr ((λ e. cc), (λ e. cc)))
-apart refusals.NotEfi = inr (inr ((λ e. cc), (λ e. cc)))
-apart refusals.Headers = inr (inr ((λ e. cc), (λ e. cc)))
-apart refusals.Sections = inr (inr ((λ e. cc), (λ e. cc)))
-apart refusals.Overlap = inr (inr ((λ e. cc), (λ e. cc)))
-apart refusals.Table = inr (inr ((λ e. cc), (λ e. cc)))
-apart refusals.Der = inr (inr ((λ e. cc), (λ e. cc)))
-apart refusals.TwoSbat = inr (inr ((λ e. cc), (λ e. cc)))
-apart refusals.SbatRow = inr (inr ((λ e. cc), (λ e. cc)))
-apart refusals.TooLong = inr (inr ((λ e. cc), (λ e. cc)))
-apart refusals.Read = inr (inr ((λ e. cc), (λ e. cc)))
-apart refusals.List = inr (inr ((λ e. cc), (λ e. cc)))
-apart refusals.EntrySize = inr (inr ((λ e. cc), (λ e. cc)))
-apart refusals.Write = inr (inr ((λ e. cc), (λ e. cc)))
-apart refusals.Line = inr (inr ((λ e. cc), (λ e. cc)))
-apart refusals.CsvRow = inr (inr ((λ e. cc), (λ e. cc)))
-apart refusals.UnknownCaller = inr (inr ((λ e. cc), (λ e. cc)))
-apart refusals.NotYourRole = inr (inr ((λ e. cc), (λ e. cc)))
-apart refusals.KeyReused = inr (inr ((λ e. cc), (λ e. cc)))
-apart refusals.NoSuchRequest = inr (inr ((λ e. cc), (λ e. cc)))
-apart refusals.WrongState = inr (inr ((λ e. cc), (λ e. cc)))
-apart refusals.OwnRequest = inr (inr ((λ e. cc), (λ e. cc)))
-apart refusals.AlreadyReviewed = inr (inr ((λ e. cc), (λ e. cc)))
-apart refusals.DigestDiffers = inr (inr ((λ e. cc), (λ e. cc)))
-apart refusals.Revoked = inr (inr ((λ e. cc), (λ e. cc)))
-apart refusals.NotListed = inr (inr ((λ e. cc), (λ e. cc)))
-apart refusals.AlreadyRevoked = inr (inr ((λ e. cc), (λ e. cc)))
-apart refusals.NotHigher = inr (inr ((λ e. cc), (λ e. cc)))
-apart refusals.StampNotLater = inr (inr ((λ e. cc), (λ e. cc)))
-apart refusals.AlreadyListed = inr (inr ((λ e. cc), (λ e. cc)))
-apart refusals.NotThere = inr (inr ((λ e. cc), (λ e. cc)))
-apart refusals.NameTaken = inr (inr ((λ e. cc), (λ e. cc)))
-apart refusals.Full = inr (inr ((λ e. cc), (λ e. cc)))
-apart refusals.NoMemory = inl refl
-apart refusals.Store = inr (inl refl)
-apart refusals.Reopen = inr (inr ((λ e. cc), (λ e. cc)))
-apart refusals.NotADesk = inr (inr ((λ e. cc), (λ e. cc)))
-apart refusals.Version = inr (inr ((λ e. cc), (λ e. cc)))
-apart refusals.File = inr (inr ((λ e. cc), (λ e. cc)))
-apart refusals.Exists = inr (inr ((λ e. cc), (λ e. cc)))
-apart refusals.BadHead = inr (inr ((λ e. cc), (λ e. cc)))
-apart refusals.BadField = inr (inr ((λ e. cc), (λ e. cc)))
-apart refusals.BadBody = inr (inr ((λ e. cc), (λ e. cc)))
-apart refusals.NoRoute = inr (inr ((λ e. cc), (λ e. cc)))
-apart refusals.BadMethod = inr (inr ((λ e. cc), (λ e. cc)))
-apart refusals.LengthNeeded = inr (inr ((λ e. cc), (λ e. cc)))
-apart refusals.TooLarge = inr (inr ((λ e. cc), (λ e. cc)))
-apart refusals.NotSupported = inr (inr ((λ e. cc), (λ e. cc)))
+apart r = elim (same_or_not r refusals.NoMemory _ refl) [
+  | inl memory ↦ inl memory
+  | inr no_memory ↦ elim (same_or_not r refusals.Store _ refl) [
+    | inl store ↦ inr (inl store)
+    | inr no_store ↦ inr (inr (no_memory, no_store))
+  ]
+]
 
 not_true : IsTrue false → ⊥
 not_true h = cc
