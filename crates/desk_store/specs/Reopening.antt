@@ -1,9 +1,13 @@
 -- What a desk answers for that is opened again, after any number of lives and of stops.
 use Rattle.std.specs.Prelude.{◌≡◌, ◌≢◌, ℕ, length, All, List, IsTrue}
+use Rattle.sqlite.specs.Files.{Finds, file_state}
 use Rattle.sqlite.specs.Store.{Ghosts}
 use Rattle.sqlite.specs.Held.{Held, state}
 use Rattle.sqlite.specs.State.{State, HasCleanDisk}
 use Rattle.sqlite.specs.Tree.{Trees}
+use Rattle.sqlite_disk.specs.declared.Disk as disk
+use Rattle.sqlite_disk.specs.declared.Files.{Files}
+use Rattle.sqlite_store.specs.declared.store.FileStore.{FileStore}
 use Rattle.desk_bytes.specs.declared.refusal.Refusal.{Refusal}
 use Rattle.desk_bytes.specs.declared.refusal.Refusal.TheVariants as refusals
 use Rattle.desk_texts.specs.Formed.{IsCall}
@@ -26,6 +30,12 @@ LeavesLives s owner lives = ∥ Leaves s (λ db. HoldsLives db owner lives) ∥�
 -- the connection has such tables as its last commit
 abbrev pub FindsLives : State → List ℕ → List Life → Type 0
 FindsLives s owner lives = HasCleanDisk s → IsTrue s.is_open → ∥ HoldsLives s.committed.trees owner lives ∥₁
+
+-- a connection over these files finds what a stop may have left of the connection before
+abbrev pub FoundAgain : {D : Type 0} (g : disk.Ghosts D) → Held (FileStore D g) → Files D → Type 0
+FoundAgain g old new =
+    (conn : Held (FileStore _ g)) → (HasCleanDisk (file_state conn) → Finds new conn)
+    → (owner : List ℕ) (lives : List Life) → LeavesLives (file_state old) owner lives → FindsLives (file_state conn) owner lives
 
 -- What a desk that was opened after these lives answers for. `ends`: the history is what the lives' calls leave one after
 -- another, where of each life at most the call that was stopped may be missing. `shows`: answers, verdicts and exports of

@@ -1,11 +1,11 @@
 //! A stop of the machine, and the opening after it.
-ghost use Rattle.std.specs.Prelude.{◌≡◌, ◌⊎◌, ℕ, All, List, IfErr, IfOk};
+ghost use Rattle.std.specs.Prelude.{◌≡◌, ◌⊎◌, ℕ, All, List, IfErr, IfOk, IsTrue};
 ghost use Rattle.sqlite.specs.Files.{file_state, over_files};
 ghost use Rattle.sqlite.specs.State.{HasCleanDisk};
 ghost use Rattle.desk_texts.specs.Formed.{IsCall};
 ghost use Rattle.desk_history.specs.Calls.{History};
 ghost use Rattle.desk_history.specs.Lives.{Life, events_of};
-ghost use Rattle.desk_store.specs.Reopening.{Keeps, LeavesLives};
+ghost use Rattle.desk_store.specs.Reopening.{FoundAgain, Keeps, LeavesLives};
 ghost use Rattle.desk_store.specs.Steps.{IsReadRefusal};
 
 use crate::desk::Desk;
@@ -13,6 +13,18 @@ use desk_bytes::Refusal;
 use sqlite::{Connection, FileStore, Files, Options};
 use sqlite_disk::{Crash, Disk};
 use std::alloc::Global;
+
+/// The files of a desk at which the machine stops: of each stands there what its disk leaves.
+fn crashed<D: Crash + Drop>(desk: Desk<FileStore<D>>) -> Files<D>
+    ensures log { IsTrue (D.Disk.is_usable result.log) }
+    ensures db { IsTrue (D.Disk.is_usable result.db) }
+    ensures found { FoundAgain D.Disk desk.conn result }
+{
+    let mut files = desk.release().into_store().close();
+    files.log.crash();
+    files.db.crash();
+    files
+}
 
 /// The machine stops here, at whatever point of its life the desk is, and its files are opened
 /// again: of each file stands there what its disk leaves. The desk that is then opened keeps all that
@@ -32,10 +44,7 @@ pub fn restart<D: Crash + Drop>(
         → ∥ ((cs : History) × Keeps over_files again owner lives cs) ∥₁) }
     ensures named { IfErr result (λ refusal. (refusal ≡ Refusal.Version) ⊎ IsReadRefusal refusal) }
 {
-    let mut files = desk.release().into_store().close();
-    files.log.crash();
-    files.db.crash();
-    match Connection::open_files(alloc, files, options) {
+    match Connection::open_files(alloc, crashed(desk), options) {
         Ok(conn) => match Desk::open(alloc, conn) {
             Ok(again) => Ok(again),
             Err((refusal, _)) => Err(refusal),
