@@ -1,12 +1,13 @@
--- What stops a subcommand that serves isn't what its opening is refused for.
-use Rattle.std.proofs.Common.{◌≡◌, ◌∙◌, ◌⊎◌, Result, Ok, Err, sym, inl, inr}
+-- What stops a subcommand at an open desk isn't what its opening is refused for.
+use Rattle.std.proofs.Common.{◌≡◌, ◌∙◌, ◌⊎◌, IsTrue, Result, Ok, Err, false, sym, subst, inl, inr}
 use Rattle.std.specs.Prelude.{IfErr}
 use Rattle.desk_bytes.specs.declared.refusal.Refusal.{Refusal}
 use Rattle.desk_bytes.specs.declared.refusal.Refusal.TheVariants as refusals
 use Rattle.desk_lines.specs.declared.fault.Fault.{Fault}
 use Rattle.desk_net.specs.Faults.{IsServingRefusal, IsToldRefusal}
 use Rattle.desk_files.specs.Faults.{IsOfOpening, IsOpeningRefusal}
-use Rattle.desk_works.specs.Faults.{IsRow}
+use Rattle.desk_history.specs.DecisionRefusals.{may_answer}
+use Rattle.desk_works.specs.Faults.{IsAddingRefusal, IsRow, IsWritingRefusal}
 use Rattle.desk_works.specs.declared.ending.Outcome.{Outcome}
 
 -- a row of these refusals is one of these and more
@@ -36,3 +37,16 @@ told_apart refusal (inr (inr (inl w))) (inl n) = let bad : refusals.Write ≡ re
 told_apart refusal (inr (inr (inl w))) (inr v) = let bad : refusals.Write ≡ refusals.Version = sym w ∙ v in absurd (cc)
 told_apart refusal (inr (inr (inr m))) (inl n) = let bad : refusals.NoMemory ≡ refusals.NotADesk = sym m ∙ n in absurd (cc)
 told_apart refusal (inr (inr (inr m))) (inr v) = let bad : refusals.NoMemory ≡ refusals.Version = sym m ∙ v in absurd (cc)
+
+pub adding_apart : {X : Type 0} (refusal : Refusal) → IsAddingRefusal refusal → IsOfOpening refusal → X
+adding_apart refusal (inl o) opening = served_apart refusal (inl (inr o)) opening
+adding_apart refusal (inr (inl (inl told))) (inl n) = let bad : IsTrue false = subst (λ r. IsTrue (may_answer r)) n told in absurd (cc)
+adding_apart refusal (inr (inl (inl told))) (inr v) = let bad : IsTrue false = subst (λ r. IsTrue (may_answer r)) v told in absurd (cc)
+adding_apart refusal (inr (inl (inr s))) opening = served_apart refusal (inl (inl s)) opening
+adding_apart refusal (inr (inr w)) opening = told_apart refusal (inr (inr (inl w))) opening
+
+pub writing_apart : {X : Type 0} (refusal : Refusal) → IsWritingRefusal refusal → IsOfOpening refusal → X
+writing_apart refusal (inl o) opening = served_apart refusal (inl (inr o)) opening
+writing_apart refusal (inr (inl (inl m))) opening = told_apart refusal (inr (inr (inr m))) opening
+writing_apart refusal (inr (inl (inr s))) opening = served_apart refusal (inl (inl s)) opening
+writing_apart refusal (inr (inr w)) opening = told_apart refusal (inr (inr (inl w))) opening

@@ -1,5 +1,5 @@
 //! A desk's file: made, opened and closed.
-ghost use Rattle.std.specs.Prelude.{◌≡◌, None, IfErr, IfSome, true};
+ghost use Rattle.std.specs.Prelude.{◌≡◌, None, IfErr, IfSome, false, true};
 ghost use Rattle.desk_files.specs.Faults.{IsFileRefusal, IsLasting, IsMakingRefusal};
 ghost use Rattle.desk_files.specs.Faults.{IsOpeningRefusal};
 ghost use Rattle.desk_works.specs.Faults.{IsClosingRefusal, IsRow};
@@ -9,17 +9,16 @@ use desk_connections::connect;
 use desk_lines::Fault;
 use desk_store::Desk;
 use desk_works::{Ending, Outcome};
-use sqlite::{Connection, File, FileStore, Unknown};
+use sqlite::{Alter, Connection, File, FileStore, Unknown};
+use sqlite_disk::Disk;
+use std::alloc::Global;
 use std::{fs, io};
-
-/// A connection to a file.
-type FileConnection = Connection<FileStore<File>>;
 
 /// A desk in a file.
 pub(crate) type FileDesk = Desk<FileStore<File>>;
 
 /// Lets a connection go without closing it: nothing is written.
-fn let_go(conn: FileConnection) {
+fn let_go<S: Alter + Drop>(conn: Connection<S>) {
     let _ = conn;
 }
 
@@ -34,15 +33,40 @@ fn is_there(rt: &HostRuntime, path: &str) -> Result<bool, Refusal>
     }
 }
 
+/// Makes a desk over a connection, which is let go where none is made.
+fn make_over<S: Alter + Drop>(
+    alloc: Global,
+    conn: Connection<S>,
+    owner: &Guid,
+) -> Result<Desk<S>, Refusal>
+    requires { conn.in_transaction ≡ false }
+    ensures { IfErr result IsMakingRefusal }
+{
+    match Desk::create(alloc, conn, owner) {
+        Ok(desk) => Ok(desk),
+        Err((refusal, conn)) => {
+            let_go(conn);
+            Err(refusal)
+        }
+    }
+}
+
 /// Makes a desk in a file, which is made where it isn't there.
 pub(crate) fn make(rt: &HostRuntime, path: &str, owner: &Guid) -> Result<FileDesk, Refusal>
     ensures { IfErr result IsMakingRefusal }
 {
-    let conn = match connect(rt, path, Unknown) {
-        Ok(conn) => conn,
-        Err(refusal) => return Err(refusal),
-    };
-    match Desk::create(rt.alloc(), conn, owner) {
+    match connect(rt, path, Unknown) {
+        Ok(conn) => make_over(rt.alloc(), conn, owner),
+        Err(refusal) => Err(refusal),
+    }
+}
+
+/// Opens the desk that a connection leads to. The connection is let go where there is none.
+fn open_over<S: Alter + Drop>(alloc: Global, conn: Connection<S>) -> Result<Desk<S>, Refusal>
+    requires { conn.in_transaction ≡ false }
+    ensures { IfErr result IsOpeningRefusal }
+{
+    match Desk::open(alloc, conn) {
         Ok(desk) => Ok(desk),
         Err((refusal, conn)) => {
             let_go(conn);
@@ -55,16 +79,9 @@ pub(crate) fn make(rt: &HostRuntime, path: &str, owner: &Guid) -> Result<FileDes
 fn open_there(rt: &HostRuntime, path: &str) -> Result<FileDesk, Refusal>
     ensures { IfErr result IsOpeningRefusal }
 {
-    let conn = match connect(rt, path, Unknown) {
-        Ok(conn) => conn,
-        Err(refusal) => return Err(refusal),
-    };
-    match Desk::open(rt.alloc(), conn) {
-        Ok(desk) => Ok(desk),
-        Err((refusal, conn)) => {
-            let_go(conn);
-            Err(refusal)
-        }
+    match connect(rt, path, Unknown) {
+        Ok(conn) => open_over(rt.alloc(), conn),
+        Err(refusal) => Err(refusal),
     }
 }
 
@@ -81,7 +98,7 @@ pub(crate) fn open(rt: &HostRuntime, path: &str) -> Result<FileDesk, Refusal>
 
 /// Closes a desk's file: what stands in its log is copied into it. A failure leaves both together as
 /// the desk.
-fn close(desk: FileDesk) -> Result<(), Refusal>
+fn close<D: Disk + Drop>(desk: Desk<FileStore<D>>) -> Result<(), Refusal>
     ensures { IfErr result IsClosingRefusal }
 {
     match desk.close() {
@@ -99,13 +116,16 @@ fn needs_reopening(work: &Result<Outcome, Fault>) -> bool
 {
     match work {
         Ok(_) => false,
-        Err(fault) => fault.refusal == Refusal::Store || fault.refusal == Refusal::Reopen,
+        Err(fault) => matches!(fault.refusal, Refusal::Store | Refusal::Reopen),
     }
 }
 
 /// Closes the desk behind the work that was done on it. A desk that failed is let go: its next opening
 /// finds what it kept.
-pub(crate) fn ended(desk: FileDesk, work: Result<Outcome, Fault>) -> Ending
+pub(crate) fn ended<D: Disk + Drop>(
+    desk: Desk<FileStore<D>>,
+    work: Result<Outcome, Fault>,
+) -> Ending
     ensures work { result.work ≡ work }
     ensures closing { IfSome result.closing (IsRow IsClosingRefusal) }
     ensures let_go { IfErr work (λ fault. IsLasting fault.refusal → result.closing ≡ None) }

@@ -8,17 +8,20 @@ ghost use Rattle.desk_works.specs.Faults.{IsClosingRefusal, IsRow};
 use crate::desk_file::{ended, open};
 use desk_answers::OpenDesk;
 use desk_bytes::Refusal;
+use desk_calls::Answering;
 use desk_lines::Fault;
 use desk_net::{answer, listen, serve, told};
+use desk_store::Desk;
 use desk_works::{Ending, Outcome};
-use sqlite::{File, FileStore};
+use sqlite::FileStore;
+use sqlite_disk::Disk;
 use std::alloc::Global;
 use std::io::{Read, Write};
 
 /// Answers one request of the reader, as a subcommand's work.
-fn answer_one<R: Read + Drop, W: Write>(
+fn answer_one<D: Answering, R: Read + Drop, W: Write>(
     alloc: Global,
-    desk: &mut OpenDesk<FileStore<File>>,
+    desk: &mut D,
     reader: R,
     writer: &mut W,
 ) -> Result<Outcome, Fault>
@@ -29,6 +32,23 @@ fn answer_one<R: Read + Drop, W: Write>(
         Ok(()) => Ok(Outcome::Done),
         Err(refusal) => Err(Fault::from(refusal)),
     }
+}
+
+/// Answers one request of the reader, for an open desk over files, and closes it.
+fn answer_at<D: Disk + Drop, R: Read + Drop, W: Write>(
+    alloc: Global,
+    desk: Desk<FileStore<D>>,
+    reader: R,
+    writer: &mut W,
+) -> Ending
+    ensures done { IfOk result.work (λ outcome. outcome ≡ Outcome.Done) }
+    ensures named { IfErr result.work (IsRow IsToldRefusal) }
+    ensures closing { IfSome result.closing (IsRow IsClosingRefusal) }
+    ensures let_go { IfErr result.work (λ fault. IsLasting fault.refusal → result.closing ≡ None) }
+{
+    let mut desk = OpenDesk::new(desk);
+    let work = answer_one(alloc, &mut desk, reader, writer);
+    ended(desk.into_desk(), work)
 }
 
 /// Answers one request of the reader, for the desk in a file; where the reader has no byte, nothing is written.
@@ -52,19 +72,15 @@ pub fn answer_from<R: Read + Drop, W: Write>(
     ensures let_go { IfErr result.work (λ fault. IsLasting fault.refusal → result.closing ≡ None) }
 {
     match open(rt, path) {
-        Ok(desk) => {
-            let mut desk = OpenDesk::new(desk);
-            let work = answer_one(rt.alloc(), &mut desk, reader, writer);
-            ended(desk.into_desk(), work)
-        }
+        Ok(desk) => answer_at(rt.alloc(), desk, reader, writer),
         Err(refusal) => Ending::without_desk(refusal),
     }
 }
 
 /// Takes so many connections at this port of 127.0.0.1, for a desk.
-fn serve_desk(
+fn serve_desk<D: Answering>(
     rt: &HostRuntime,
-    desk: &mut OpenDesk<FileStore<File>>,
+    desk: &mut D,
     port: u16,
     count: u32,
 ) -> Result<(), Refusal>
@@ -78,9 +94,9 @@ fn serve_desk(
 }
 
 /// The same, as a subcommand's work.
-fn serve_all(
+fn serve_all<D: Answering>(
     rt: &HostRuntime,
-    desk: &mut OpenDesk<FileStore<File>>,
+    desk: &mut D,
     port: u16,
     count: u32,
 ) -> Result<Outcome, Fault>
@@ -91,6 +107,23 @@ fn serve_all(
         Ok(()) => Ok(Outcome::Done),
         Err(refusal) => Err(Fault::from(refusal)),
     }
+}
+
+/// Takes so many connections at this port of 127.0.0.1, for an open desk over files, and closes it.
+fn serve_at<D: Disk + Drop>(
+    rt: &HostRuntime,
+    desk: Desk<FileStore<D>>,
+    port: u16,
+    count: u32,
+) -> Ending
+    ensures done { IfOk result.work (λ outcome. outcome ≡ Outcome.Done) }
+    ensures named { IfErr result.work (IsRow IsServingRefusal) }
+    ensures closing { IfSome result.closing (IsRow IsClosingRefusal) }
+    ensures let_go { IfErr result.work (λ fault. IsLasting fault.refusal → result.closing ≡ None) }
+{
+    let mut desk = OpenDesk::new(desk);
+    let work = serve_all(rt, &mut desk, port, count);
+    ended(desk.into_desk(), work)
 }
 
 /// Takes so many connections at this port of 127.0.0.1, one request each, one after another, for the desk in a
@@ -107,11 +140,7 @@ pub fn serve_from(rt: &HostRuntime, path: &str, port: u16, count: u32) -> Ending
     ensures let_go { IfErr result.work (λ fault. IsLasting fault.refusal → result.closing ≡ None) }
 {
     match open(rt, path) {
-        Ok(desk) => {
-            let mut desk = OpenDesk::new(desk);
-            let work = serve_all(rt, &mut desk, port, count);
-            ended(desk.into_desk(), work)
-        }
+        Ok(desk) => serve_at(rt, desk, port, count),
         Err(refusal) => Ending::without_desk(refusal),
     }
 }

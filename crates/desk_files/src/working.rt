@@ -6,14 +6,18 @@ ghost use Rattle.desk_files.specs.Faults.{IsLasting, IsMakingRefusal, IsOfOpenin
 ghost use Rattle.desk_works.specs.Faults.{IsAddingRefusal, IsClosingRefusal, IsRow};
 ghost use Rattle.desk_works.specs.Faults.{IsWritingRefusal};
 
-use crate::desk_file::{FileDesk, ended, make, open};
+use crate::desk_file::{ended, make, open};
 use crate::file::read_image;
 use desk_bytes::Guid;
 use desk_exports::Export;
 use desk_lines::Fault;
 use desk_service::facts;
+use desk_store::Desk;
 use desk_texts::{Key, Person};
 use desk_works::{Ending, Outcome, add, judge, write_export};
+use sqlite::{Alter, FileStore};
+use sqlite_disk::Disk;
+use std::alloc::Global;
 use std::io::Write;
 
 /// Makes a desk with this owner and without calls in a file, which is made where it isn't there.
@@ -29,6 +33,23 @@ pub fn make_desk(rt: &HostRuntime, path: &str, owner: &Guid) -> Ending
         Ok(desk) => ended(desk, Ok(Outcome::Done)),
         Err(refusal) => Ending::without_desk(refusal),
     }
+}
+
+/// Adds a person to an open desk over files, and closes it.
+fn add_at<D: Disk + Drop, W: Write>(
+    alloc: Global,
+    mut desk: Desk<FileStore<D>>,
+    key: &Key,
+    person: Person,
+    writer: &mut W,
+) -> Ending
+    ensures done { IfOk result.work (λ outcome. outcome ≡ Outcome.Done) }
+    ensures named { IfErr result.work (IsRow IsAddingRefusal) }
+    ensures closing { IfSome result.closing (IsRow IsClosingRefusal) }
+    ensures let_go { IfErr result.work (λ fault. IsLasting fault.refusal → result.closing ≡ None) }
+{
+    let work = add(alloc, &mut desk, key, person, writer);
+    ended(desk, work)
 }
 
 /// Adds a person to the desk in a file, as the console's call under this key, and writes the reply's
@@ -53,24 +74,35 @@ pub fn add_person<W: Write>(
     ensures let_go { IfErr result.work (λ fault. IsLasting fault.refusal → result.closing ≡ None) }
 {
     match open(rt, path) {
-        Ok(mut desk) => {
-            let work = add(rt.alloc(), &mut desk, key, person, writer);
-            ended(desk, work)
-        }
+        Ok(desk) => add_at(rt.alloc(), desk, key, person, writer),
         Err(refusal) => Ending::without_desk(refusal),
     }
 }
 
 /// Writes the line of the desk's verdict on the image in a file.
-fn judge_file<W: Write>(
+fn judge_file<S: Alter + Drop, W: Write>(
     rt: &HostRuntime,
-    desk: &mut FileDesk,
+    desk: &mut Desk<S>,
     file: &str,
     writer: &mut W,
 ) -> Result<Outcome, Fault> {
     let mut image = read_image(rt, file)?;
     let found = facts(rt.alloc(), &mut image)?;
     judge(desk, &found, writer)
+}
+
+/// Writes what an open desk over files says of the image in a file, and closes it.
+fn judge_at<D: Disk + Drop, W: Write>(
+    rt: &HostRuntime,
+    mut desk: Desk<FileStore<D>>,
+    file: &str,
+    writer: &mut W,
+) -> Ending
+    ensures closing { IfSome result.closing (IsRow IsClosingRefusal) }
+    ensures let_go { IfErr result.work (λ fault. IsLasting fault.refusal → result.closing ≡ None) }
+{
+    let work = judge_file(rt, &mut desk, file, writer);
+    ended(desk, work)
 }
 
 /// Writes what the desk in a file says of the image in another, `allowed` or `refused` and why, and LF.
@@ -81,12 +113,24 @@ pub fn judge_image<W: Write>(rt: &HostRuntime, path: &str, file: &str, writer: &
     ensures let_go { IfErr result.work (λ fault. IsLasting fault.refusal → result.closing ≡ None) }
 {
     match open(rt, path) {
-        Ok(mut desk) => {
-            let work = judge_file(rt, &mut desk, file, writer);
-            ended(desk, work)
-        }
+        Ok(desk) => judge_at(rt, desk, file, writer),
         Err(refusal) => Ending::without_desk(refusal),
     }
+}
+
+/// Writes an export of an open desk over files, and closes it.
+fn export_at<D: Disk + Drop, W: Write>(
+    mut desk: Desk<FileStore<D>>,
+    what: Export,
+    writer: &mut W,
+) -> Ending
+    ensures done { IfOk result.work (λ outcome. outcome ≡ Outcome.Done) }
+    ensures named { IfErr result.work (IsRow IsWritingRefusal) }
+    ensures closing { IfSome result.closing (IsRow IsClosingRefusal) }
+    ensures let_go { IfErr result.work (λ fault. IsLasting fault.refusal → result.closing ≡ None) }
+{
+    let work = write_export(&mut desk, what, writer);
+    ended(desk, work)
 }
 
 /// Writes an export of the desk in a file, whose faults are told as `add_person` tells them. What stops
@@ -101,10 +145,7 @@ pub fn export_from<W: Write>(rt: &HostRuntime, path: &str, what: Export, writer:
     ensures let_go { IfErr result.work (λ fault. IsLasting fault.refusal → result.closing ≡ None) }
 {
     match open(rt, path) {
-        Ok(mut desk) => {
-            let work = write_export(&mut desk, what, writer);
-            ended(desk, work)
-        }
+        Ok(desk) => export_at(desk, what, writer),
         Err(refusal) => Ending::without_desk(refusal),
     }
 }

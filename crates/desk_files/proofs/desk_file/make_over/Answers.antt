@@ -1,5 +1,5 @@
 use Rattle.std.proofs.Common.{inr}
-use Rattle.desk_files.proofs.desk_file.make.Goals as goal
+use Rattle.desk_files.proofs.desk_file.make_over.Goals as goal
 
-pub returns-in-Err-create : goal.returns-in-Err-create
-returns-in-Err-create c = inr c.in-Err-create.ensures.named
+pub returns-in-Err : goal.returns-in-Err
+returns-in-Err g c = inr c.in-Err.ensures.named
