@@ -11,7 +11,7 @@ fn apply<S: Alter + Drop>(desk: &mut Desk<S>, call: &Call) -> Result<Reply, Refu
 }
 
 /// The desk's view for a call.
-fn viewed(desk: &mut Memory, call: &Call) -> Result<View, Refusal> {
+fn viewed<S: Alter + Drop>(desk: &mut Desk<S>, call: &Call) -> Result<View, Refusal> {
     desk.view(&call.caller, &call.key, &call.command)
 }
 
@@ -24,7 +24,11 @@ fn decided_by(alloc: Global, view: &View, call: &Call) -> Result<Reply, Refusal>
 }
 
 /// What is decided on a call by the desk's view for it.
-fn decided(alloc: Global, desk: &mut Memory, call: &Call) -> Result<Reply, Refusal> {
+fn decided<S: Alter + Drop>(
+    alloc: Global,
+    desk: &mut Desk<S>,
+    call: &Call,
+) -> Result<Reply, Refusal> {
     match viewed(desk, call) {
         Ok(view) => decided_by(alloc, &view, call),
         Err(refusal) => Err(refusal),
@@ -37,7 +41,7 @@ fn replied<S: Alter + Drop>(alloc: Global, desk: &mut Desk<S>, call: &Call) -> O
 }
 
 /// What is decided on a call by the desk's view for it, in words.
-fn foretold(alloc: Global, desk: &mut Memory, call: &Call) -> Option<String> {
+fn foretold<S: Alter + Drop>(alloc: Global, desk: &mut Desk<S>, call: &Call) -> Option<String> {
     told(alloc, &decided(alloc, desk, call)).ok()
 }
 
@@ -59,7 +63,7 @@ fn agreed(alloc: Global, expected: String, answer: &str) -> Option<String> {
 }
 
 /// The answer to a call that is decided first by the desk's view for it.
-fn both(alloc: Global, desk: &mut Memory, call: &Call) -> Option<String> {
+fn both<S: Alter + Drop>(alloc: Global, desk: &mut Desk<S>, call: &Call) -> Option<String> {
     let expected = foretold(alloc, desk, call)?;
     if expected.as_str() == "NoMemory" {
         return Some(expected);
@@ -79,13 +83,13 @@ pub(super) fn answered<S: Alter + Drop>(
 }
 
 /// The same, of a call that is decided first by the desk's view for it.
-fn asked(alloc: Global, desk: &mut Memory, given: &str) -> Option<String> {
+fn asked<S: Alter + Drop>(alloc: Global, desk: &mut Desk<S>, given: &str) -> Option<String> {
     let call = Words::new(alloc, given).call()?;
     both(alloc, desk, &call)
 }
 
 /// The rows of lists that the desk's view for a call has.
-fn rows(desk: &mut Memory, words: &mut Words, line: &mut Line) -> Option<()> {
+fn rows<S: Alter + Drop>(desk: &mut Desk<S>, words: &mut Words, line: &mut Line) -> Option<()> {
     match viewed(desk, &words.call()?) {
         Ok(view) => put_rows(line, &view.lists).ok(),
         Err(refusal) => line.put(refusal.name()).ok(),
@@ -93,7 +97,7 @@ fn rows(desk: &mut Memory, words: &mut Words, line: &mut Line) -> Option<()> {
 }
 
 /// What a verdict on the image is by the rows that the desk gives for it, and those rows.
-fn seen(desk: &mut Memory, words: &mut Words, line: &mut Line) -> Option<()> {
+fn seen<S: Alter + Drop>(desk: &mut Desk<S>, words: &mut Words, line: &mut Line) -> Option<()> {
     let facts = words.facts()?;
     match desk.list_view(&facts) {
         Ok(view) => {
@@ -105,7 +109,7 @@ fn seen(desk: &mut Memory, words: &mut Words, line: &mut Line) -> Option<()> {
 }
 
 /// What the desk says of an image.
-fn judged(desk: &mut Memory, words: &mut Words, line: &mut Line) -> Option<()> {
+fn judged<S: Alter + Drop>(desk: &mut Desk<S>, words: &mut Words, line: &mut Line) -> Option<()> {
     let facts = words.facts()?;
     match desk.verdict(&facts) {
         Ok(verdict) => put_verdict(line, verdict).ok(),
@@ -114,7 +118,7 @@ fn judged(desk: &mut Memory, words: &mut Words, line: &mut Line) -> Option<()> {
 }
 
 /// A request, as the caller is shown it.
-fn shown(desk: &mut Memory, words: &mut Words, line: &mut Line) -> Option<()> {
+fn shown<S: Alter + Drop>(desk: &mut Desk<S>, words: &mut Words, line: &mut Line) -> Option<()> {
     let caller = words.caller()?;
     let number = words.request()?;
     match desk.request(&caller, number) {
@@ -124,7 +128,11 @@ fn shown(desk: &mut Memory, words: &mut Words, line: &mut Line) -> Option<()> {
 }
 
 /// All requests that the caller is shown.
-fn all_shown(desk: &mut Memory, words: &mut Words, line: &mut Line) -> Option<()> {
+fn all_shown<S: Alter + Drop>(
+    desk: &mut Desk<S>,
+    words: &mut Words,
+    line: &mut Line,
+) -> Option<()> {
     let caller = words.caller()?;
     match desk.requests_of(&caller) {
         Ok(requests) => put_requests(line, &requests).ok(),
@@ -133,7 +141,7 @@ fn all_shown(desk: &mut Memory, words: &mut Words, line: &mut Line) -> Option<()
 }
 
 /// Who has a token.
-fn who(desk: &mut Memory, words: &mut Words, line: &mut Line) -> Option<()> {
+fn who<S: Alter + Drop>(desk: &mut Desk<S>, words: &mut Words, line: &mut Line) -> Option<()> {
     let token = words.digest()?;
     match desk.person_of(&token) {
         Ok(person) => put_person(line, &person).ok(),
@@ -142,7 +150,7 @@ fn who(desk: &mut Memory, words: &mut Words, line: &mut Line) -> Option<()> {
 }
 
 /// The desk's report.
-fn counted(alloc: Global, desk: &mut Memory, line: &mut Line) -> Option<()> {
+fn counted<S: Alter + Drop>(alloc: Global, desk: &mut Desk<S>, line: &mut Line) -> Option<()> {
     match desk.counts() {
         Ok(counts) => line.marked(report(alloc, &counts).ok()?.as_bytes()).ok(),
         Err(refusal) => line.put(refusal.name()).ok(),
@@ -160,7 +168,11 @@ fn revocation(alloc: Global, who: &str, number: u64) -> Result<Line, AllocError>
 }
 
 /// `revoked`, after so many calls of the caller, each of which revokes a digest of its own; or the first other answer.
-fn revoked(alloc: Global, desk: &mut Memory, words: &mut Words) -> Option<String> {
+fn revoked<S: Alter + Drop>(
+    alloc: Global,
+    desk: &mut Desk<S>,
+    words: &mut Words,
+) -> Option<String> {
     let who = words.text()?;
     for number in 1..=words.number()? {
         let line = revocation(alloc, who, number).ok()?;
@@ -178,7 +190,12 @@ fn put_told(line: &mut Line, told: Option<String>) -> Option<()> {
 }
 
 /// Puts the answer to a line.
-fn put_answer(alloc: Global, desk: &mut Memory, given: &str, line: &mut Line) -> Option<()> {
+fn put_answer<S: Alter + Drop>(
+    alloc: Global,
+    desk: &mut Desk<S>,
+    given: &str,
+    line: &mut Line,
+) -> Option<()> {
     let (verb, rest) = given.split_once(" ").unwrap_or((given, ""));
     let mut words = Words::new(alloc, rest);
     match verb {
@@ -197,14 +214,18 @@ fn put_answer(alloc: Global, desk: &mut Memory, given: &str, line: &mut Line) ->
 }
 
 /// The answer to a line.
-fn answer(alloc: Global, desk: &mut Memory, given: &str) -> Option<String> {
+fn answer<S: Alter + Drop>(alloc: Global, desk: &mut Desk<S>, given: &str) -> Option<String> {
     let mut line = Line::new(alloc);
     put_answer(alloc, desk, given, &mut line)?;
     Some(line.text)
 }
 
 /// The answer to a line, which is asked once more where memory was refused.
-pub(super) fn answer_at_last(alloc: Global, desk: &mut Memory, given: &str) -> Option<String> {
+pub(super) fn answer_at_last<S: Alter + Drop>(
+    alloc: Global,
+    desk: &mut Desk<S>,
+    given: &str,
+) -> Option<String> {
     let told = answer(alloc, desk, given)?;
     if told.ends_with("NoMemory") {
         return answer(alloc, desk, given);

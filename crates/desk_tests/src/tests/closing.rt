@@ -3,12 +3,10 @@ use super::asking::answered;
 use super::founding::{make, open};
 use super::*;
 use sqlite::{FileStore, Files, Options};
-use sqlite_disk::Memory as MemoryFile;
-
-type Store = FileStore<MemoryFile>;
+use sqlite_disk::{Disk, Memory as MemoryFile};
 
 /// A connection to the files.
-fn connected(alloc: Global, files: Files<MemoryFile>) -> Option<Connection<Store>> {
+fn connected<D: Disk + Drop>(alloc: Global, files: Files<D>) -> Option<Connection<FileStore<D>>> {
     if !files.may_be_used() {
         return None;
     }
@@ -16,58 +14,62 @@ fn connected(alloc: Global, files: Files<MemoryFile>) -> Option<Connection<Store
 }
 
 /// The files of the desk, once it is closed.
-fn closed(desk: Desk<Store>) -> Option<Files<MemoryFile>> {
+fn closed<D: Disk + Drop>(desk: Desk<FileStore<D>>) -> Option<Files<D>> {
     desk.close().ok()
 }
 
-/// Two empty files.
-fn empty_files(alloc: Global) -> Files<MemoryFile> {
-    Files {
-        log: MemoryFile::new(alloc),
-        db: MemoryFile::new(alloc),
-    }
-}
-
-/// The database file alone, with an empty log.
-fn without_log(alloc: Global, files: Files<MemoryFile>) -> Files<MemoryFile> {
+/// The database file alone, with this log.
+fn with_log<D: Disk + Drop>(files: Files<D>, log: D) -> Files<D> {
     let Files { log: _, db } = files;
-    Files {
-        log: MemoryFile::new(alloc),
-        db,
-    }
+    Files { log, db }
 }
 
 /// A desk without calls over two files.
-fn new_desk(alloc: Global) -> Option<Desk<Store>> {
-    make(alloc, connected(alloc, empty_files(alloc))?).ok()
+fn new_desk<D: Disk + Drop>(alloc: Global, files: Files<D>) -> Option<Desk<FileStore<D>>> {
+    make(alloc, connected(alloc, files)?).ok()
 }
 
-/// The desk of the database file that the closed desk leaves.
-fn opened_again(alloc: Global, desk: Desk<Store>) -> Option<Desk<Store>> {
-    let files = without_log(alloc, closed(desk)?);
+/// The desk of the database file that the closed desk leaves, with this log.
+fn opened_again<D: Disk + Drop>(
+    alloc: Global,
+    desk: Desk<FileStore<D>>,
+    log: D,
+) -> Option<Desk<FileStore<D>>> {
+    let files = with_log(closed(desk)?, log);
     open(alloc, connected(alloc, files)?).ok()
 }
 
 /// Whether the desk gives the call this answer.
-fn answers(alloc: Global, desk: &mut Desk<Store>, given: &str, wanted: &str) -> bool {
+fn answers<S: Alter + Drop>(alloc: Global, desk: &mut Desk<S>, given: &str, wanted: &str) -> bool {
     match answered(alloc, desk, given) {
         Some(told) => told.as_str() == wanted,
         None => false,
     }
 }
 
-#[test]
-fn a_closed_desk_opens_again_without_its_log(rt: HostRuntime) -> Result<(), Fail> {
-    let mut desk = new_desk(rt.alloc()).ok_or("a desk over files")?;
-    let is_added = answers(
-        rt.alloc(),
+/// Whether a desk in these files has the person whom it was given before its close, when it is opened with an empty log.
+fn goes_on<D: Disk + Drop>(alloc: Global, files: Files<D>, log: D) -> Option<bool> {
+    let mut desk = new_desk(alloc, files)?;
+    if !answers(
+        alloc,
         &mut desk,
         "console p1 add ann officer 1",
         "added ann",
-    );
-    assert!(rt; is_added, "a person is added");
-    let mut desk = opened_again(rt.alloc(), desk).ok_or("a desk that was closed")?;
-    let is_listed = answers(rt.alloc(), &mut desk, "ann a1 list 1", "listed");
-    assert!(rt; is_listed, "the person is there");
+    ) {
+        return Some(false);
+    }
+    let mut desk = opened_again(alloc, desk, log)?;
+    Some(answers(alloc, &mut desk, "ann a1 list 1", "listed"))
+}
+
+#[test]
+fn a_closed_desk_opens_again_without_its_log(rt: HostRuntime) -> Result<(), Fail> {
+    let alloc = rt.alloc();
+    let files = Files {
+        log: MemoryFile::new(alloc),
+        db: MemoryFile::new(alloc),
+    };
+    let is_there = goes_on(alloc, files, MemoryFile::new(alloc)).ok_or("a desk over files")?;
+    assert!(rt; is_there, "the person is there");
     Ok(())
 }

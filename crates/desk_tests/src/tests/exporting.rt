@@ -14,7 +14,11 @@ fn writer(alloc: Global, fails_at: u64) -> Narrow {
 }
 
 /// Writes an export: `db`, `level`, `minutes`, or else dbx.
-fn write(desk: &mut Memory, what: &str, writer: &mut Narrow) -> Result<(), Refusal> {
+fn write<S: Alter + Drop>(
+    desk: &mut Desk<S>,
+    what: &str,
+    writer: &mut Narrow,
+) -> Result<(), Refusal> {
     match what {
         "db" => desk.export(Export::Db, writer),
         "level" => desk.export(Export::Level, writer),
@@ -33,7 +37,12 @@ fn put_ends(line: &mut Line, bytes: &[u8]) -> Option<()> {
 
 /// Writes dbx into a writer that fails at this call: nothing where it fails as it has to, leaving a beginning of dbx; else what
 /// became of it.
-fn fault(alloc: Global, desk: &mut Memory, fails_at: u64, whole: &[u8]) -> Option<&'static str> {
+fn fault<S: Alter + Drop>(
+    alloc: Global,
+    desk: &mut Desk<S>,
+    fails_at: u64,
+    whole: &[u8],
+) -> Option<&'static str> {
     let mut part = writer(alloc, fails_at);
     let written = write(desk, "dbx", &mut part);
     let is_whole = part.taken.as_slice() == whole;
@@ -46,7 +55,12 @@ fn fault(alloc: Global, desk: &mut Memory, fails_at: u64, whole: &[u8]) -> Optio
 }
 
 /// Writes dbx into writers that fail at each of their calls in turn, and into the first that doesn't.
-fn put_faults(alloc: Global, desk: &mut Memory, line: &mut Line, whole: &[u8]) -> Option<()> {
+fn put_faults<S: Alter + Drop>(
+    alloc: Global,
+    desk: &mut Desk<S>,
+    line: &mut Line,
+    whole: &[u8],
+) -> Option<()> {
     for fails_at in 1..u64::MAX {
         if let Some(word) = fault(alloc, desk, fails_at, whole) {
             return line.put(word).ok();
@@ -69,9 +83,9 @@ fn put_export(line: &mut Line, what: &str, bytes: &[u8]) -> Option<()> {
 
 /// An export of the desk; `faults` for one of dbx into writers that fail. One that is refused tells how many bytes went out
 /// before.
-pub(super) fn exported(
+pub(super) fn exported<S: Alter + Drop>(
     alloc: Global,
-    desk: &mut Memory,
+    desk: &mut Desk<S>,
     words: &mut Words,
     line: &mut Line,
 ) -> Option<()> {

@@ -2,7 +2,7 @@
 use super::founding::make;
 use super::*;
 use desk_answers::OpenDesk;
-use desk_calls::{Answer, Call as Asked, Octets, Task};
+use desk_calls::{Answer, Answering, Call as Asked, Octets, Task};
 use desk_http::{serve_each, serve_one};
 use desk_service::token_digest;
 use desk_testing::bytes_of;
@@ -44,15 +44,17 @@ GET /report HTTP/1.1|Desk-Token: ann-token-000001|| => HTTP/1.1 403 Forbidden|Co
 fn person(alloc: Global, line: &str) -> Option<Person> {
     let (name, rest) = line.split_once(" ")?;
     let (role, token) = rest.split_once(" ")?;
+    let role = Role::parse(role.as_bytes())?;
+    let name = PersonName::parse(alloc, name.as_bytes()).ok()?;
     Some(Person {
-        name: PersonName::parse(alloc, name.as_bytes()).ok()?,
-        role: Role::parse(role.as_bytes())?,
+        name,
+        role,
         token: token_digest(token.as_bytes()),
     })
 }
 
 /// Adds the person of a line, under the name as its key.
-fn add(alloc: Global, desk: &mut Memory, line: &str) -> Option<()> {
+fn add<S: Alter + Drop>(alloc: Global, desk: &mut Desk<S>, line: &str) -> Option<()> {
     let person = person(alloc, line)?;
     let key = Key::parse(alloc, person.name.as_str().as_bytes()).ok()?;
     desk.apply(&Caller::Console, &key, &Command::AddPerson(person))
@@ -70,7 +72,7 @@ fn founded(alloc: Global) -> Option<Served> {
 }
 
 /// The response to an input.
-fn served(alloc: Global, desk: &mut Served, input: &[u8]) -> Option<Vec<u8>> {
+fn served<D: Answering>(alloc: Global, desk: &mut D, input: &[u8]) -> Option<Vec<u8>> {
     let mut reader = input;
     let mut writer = Vec::new(alloc);
     serve_one(alloc, desk, &mut reader, &mut writer).ok()?;
@@ -78,7 +80,7 @@ fn served(alloc: Global, desk: &mut Served, input: &[u8]) -> Option<Vec<u8>> {
 }
 
 /// Whether the request of a row gets its response.
-fn answers(alloc: Global, desk: &mut Served, row: &str) -> Option<bool> {
+fn answers<D: Answering>(alloc: Global, desk: &mut D, row: &str) -> Option<bool> {
     let (request, response) = row.split_once(" => ")?;
     let input = bytes_of(alloc, request).ok()?;
     let wanted = bytes_of(alloc, response).ok()?;
@@ -119,7 +121,7 @@ fn replies(alloc: Global) -> Result<Vec<u8>, AllocError> {
 }
 
 /// What the requests are answered that come one after another, where each is served.
-fn served_each(alloc: Global, desk: &mut Served, inputs: &[Octets]) -> Option<Vec<u8>> {
+fn served_each<D: Answering>(alloc: Global, desk: &mut D, inputs: &[Octets]) -> Option<Vec<u8>> {
     let mut writer = Vec::new(alloc);
     if serve_each(alloc, desk, inputs, &mut writer) < inputs.len() {
         return None;
@@ -128,21 +130,24 @@ fn served_each(alloc: Global, desk: &mut Served, inputs: &[Octets]) -> Option<Ve
 }
 
 /// The desk's minutes.
-fn minutes(alloc: Global, desk: &mut Memory) -> Option<Vec<u8>> {
+fn minutes<S: Alter + Drop>(alloc: Global, desk: &mut Desk<S>) -> Option<Vec<u8>> {
     let mut text = Vec::new(alloc);
     desk.export(Export::Minutes, &mut text).ok()?;
     Some(text)
 }
 
 /// The desk, and its minutes.
-fn with_minutes(alloc: Global, desk: Served) -> Option<(Served, Vec<u8>)> {
+fn with_minutes<S: Alter + Drop>(
+    alloc: Global,
+    desk: OpenDesk<S>,
+) -> Option<(OpenDesk<S>, Vec<u8>)> {
     let mut desk = desk.into_desk();
     let text = minutes(alloc, &mut desk)?;
     Some((OpenDesk::new(desk), text))
 }
 
 /// The level that a call of this line's person is answered.
-fn level(alloc: Global, desk: &mut Served, line: &str) -> Option<Octets> {
+fn level<S: Alter + Drop>(alloc: Global, desk: &mut OpenDesk<S>, line: &str) -> Option<Octets> {
     let call = Asked {
         person: person(alloc, line)?,
         task: Task::Level,
