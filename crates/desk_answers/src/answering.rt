@@ -78,16 +78,8 @@ impl<S: Alter + Drop> Answering for OpenDesk<S> {
         }
     }
 
-    fn dbx(&mut self, alloc: Global) -> Result<Octets, Refusal> {
-        octets_of(alloc, &mut self.desk, Export::Dbx)
-    }
-
-    fn db(&mut self, alloc: Global) -> Result<Octets, Refusal> {
-        octets_of(alloc, &mut self.desk, Export::Db)
-    }
-
-    fn level(&mut self, alloc: Global) -> Result<Octets, Refusal> {
-        octets_of(alloc, &mut self.desk, Export::Level)
+    fn export(&mut self, alloc: Global, what: Export) -> Result<Octets, Refusal> {
+        octets_of(alloc, &mut self.desk, what)
     }
 
     fn report(&mut self, alloc: Global) -> Result<Octets, Refusal> {

@@ -1,6 +1,6 @@
 //! Desks that answer.
 ghost use Rattle.std.specs.Prelude.{◌≡◌, ◌≢◌, ◌⊎◌, ℕ, List, Err, IfErr, IfOk, IsSome, IsTrue, MatchResult, Some};
-ghost use Rattle.desk_exports.specs.Exports as exports;
+ghost use Rattle.desk_exports.specs.Exports.{exported};
 ghost use Rattle.desk_exports.specs.Reports.{report};
 ghost use Rattle.desk_history.specs.Calls.{History};
 ghost use Rattle.desk_history.specs.DecisionRefusals.{may_answer};
@@ -13,6 +13,7 @@ ghost use Rattle.desk_calls.specs.Desks.{IsOutage, IsReadingRefusal, Keeps, View
 use crate::octets::Octets;
 use crate::shown_requests::ShownRequests;
 use desk_bytes::{Digest, Refusal};
+use desk_exports::Export;
 use desk_history::Verdict;
 use desk_texts::{Caller, Command, Facts, Key, Person, Reply, RequestNumber, ShownRequest};
 use std::alloc::Global;
@@ -91,30 +92,10 @@ pub trait Answering {
         ensures named { IfErr result IsReadingRefusal }
         ensures usable { Views (shows self.old) (λ _ _. result ≢ Err Refusal.Reopen) };
 
-    /// The bytes of dbx.
-    fn dbx(&mut self, alloc: Global) -> Result<Octets, Refusal>
+    /// The bytes of an export.
+    fn export(&mut self, alloc: Global, what: Export) -> Result<Octets, Refusal>
         ensures given { clean self.new → IfOk result (λ bytes. Views (shows self.old)
-            (λ owner cs. bytes ≡ exports.dbx owner cs)) }
-        ensures same { clean self.new → result ≢ Err Refusal.Store
-            → Keeps (shows self.old) (shows self.new) }
-        ensures before { clean self.new → clean self.old }
-        ensures named { IfErr result IsOutage }
-        ensures usable { Views (shows self.old) (λ _ _. result ≢ Err Refusal.Reopen) };
-
-    /// The bytes of db.
-    fn db(&mut self, alloc: Global) -> Result<Octets, Refusal>
-        ensures given { clean self.new → IfOk result (λ bytes. Views (shows self.old)
-            (λ owner cs. bytes ≡ exports.db owner cs)) }
-        ensures same { clean self.new → result ≢ Err Refusal.Store
-            → Keeps (shows self.old) (shows self.new) }
-        ensures before { clean self.new → clean self.old }
-        ensures named { IfErr result IsOutage }
-        ensures usable { Views (shows self.old) (λ _ _. result ≢ Err Refusal.Reopen) };
-
-    /// The text of the level.
-    fn level(&mut self, alloc: Global) -> Result<Octets, Refusal>
-        ensures given { clean self.new → IfOk result (λ bytes. Views (shows self.old)
-            (λ _ cs. bytes ≡ exports.level cs)) }
+            (λ owner cs. bytes ≡ exported what owner cs)) }
         ensures same { clean self.new → result ≢ Err Refusal.Store
             → Keeps (shows self.old) (shows self.new) }
         ensures before { clean self.new → clean self.old }

@@ -10,6 +10,7 @@ use crate::answering::Answering;
 use crate::answers::Answer;
 use crate::bodies::read_facts;
 use crate::refusing::told;
+use desk_exports::Export;
 use desk_responses::Refused;
 use desk_texts::{Caller, PersonName, RequestNumber, Role};
 use pe_image::Pieces;
@@ -68,7 +69,7 @@ pub(crate) fn dbx<D: Answering>(alloc: Global, desk: &mut D) -> Answer
         (λ a. a ≡ Answer.Dbx (exports.dbx owner cs))) result }
     ensures before { D.clean desk.new → D.clean desk.old }
 {
-    match desk.dbx(alloc) {
+    match desk.export(alloc, Export::Dbx) {
         Ok(bytes) => Answer::Dbx(bytes),
         Err(refusal) => Answer::Refused(told(refusal)),
     }
@@ -82,7 +83,7 @@ pub(crate) fn db<D: Answering>(alloc: Global, desk: &mut D) -> Answer
         (λ a. a ≡ Answer.Db (exports.db owner cs))) result }
     ensures before { D.clean desk.new → D.clean desk.old }
 {
-    match desk.db(alloc) {
+    match desk.export(alloc, Export::Db) {
         Ok(bytes) => Answer::Db(bytes),
         Err(refusal) => Answer::Refused(told(refusal)),
     }
@@ -96,7 +97,7 @@ pub(crate) fn level<D: Answering>(alloc: Global, desk: &mut D) -> Answer
         (λ a. a ≡ Answer.Level (exports.level cs))) result }
     ensures before { D.clean desk.new → D.clean desk.old }
 {
-    match desk.level(alloc) {
+    match desk.export(alloc, Export::Level) {
         Ok(text) => Answer::Level(text),
         Err(refusal) => Answer::Refused(told(refusal)),
     }

@@ -5,6 +5,7 @@ ghost use Rattle.desk_history.specs.DecisionRefusals.{may_answer};
 
 use desk_bytes::{Digest, Refusal};
 use desk_calls::{Answering, Octets, ShownRequests};
+use desk_exports::Export;
 use desk_history::Verdict;
 use desk_service::token_digest;
 use desk_texts::{
@@ -53,6 +54,16 @@ fn exported(
     let mut copy = Vec::new(alloc);
     copy.extend_from_slice(bytes)?;
     Ok(Octets::new(copy))
+}
+
+/// The word of an export, and its bytes.
+fn told_of(what: Export) -> (&'static str, &'static [u8]) {
+    match what {
+        Export::Db => ("db", b""),
+        Export::Dbx => ("dbx", b"\ndbx"),
+        Export::Level => ("level", b"sbat,1,2021030218\n"),
+        Export::Minutes => ("minutes", b""),
+    }
 }
 
 /// What is refused under the key, which names it.
@@ -149,22 +160,9 @@ impl Answering for StandIn {
         }
     }
 
-    fn dbx(&mut self, alloc: Global) -> Result<Octets, Refusal> {
-        match exported(alloc, &mut self.asked, "dbx", b"\ndbx") {
-            Ok(bytes) => Ok(bytes),
-            Err(AllocError) => Err(Refusal::NoMemory),
-        }
-    }
-
-    fn db(&mut self, alloc: Global) -> Result<Octets, Refusal> {
-        match exported(alloc, &mut self.asked, "db", b"") {
-            Ok(bytes) => Ok(bytes),
-            Err(AllocError) => Err(Refusal::NoMemory),
-        }
-    }
-
-    fn level(&mut self, alloc: Global) -> Result<Octets, Refusal> {
-        match exported(alloc, &mut self.asked, "level", b"sbat,1,2021030218\n") {
+    fn export(&mut self, alloc: Global, what: Export) -> Result<Octets, Refusal> {
+        let (word, bytes) = told_of(what);
+        match exported(alloc, &mut self.asked, word, bytes) {
             Ok(bytes) => Ok(bytes),
             Err(AllocError) => Err(Refusal::NoMemory),
         }
