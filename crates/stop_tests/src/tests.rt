@@ -1,0 +1,28 @@
+//! Desks over two files in memory, of which one stops after so many of its calls, and is opened again.
+use desk_bytes::{Guid, Refusal};
+use desk_exports::Export;
+use desk_history::Verdict;
+use desk_scripts::Words;
+use desk_store::{Desk, restart};
+use desk_texts::{Call, Reply, reply_text};
+use sqlite::{Alter, Connection, FileStore, Files, Options};
+use sqlite_disk::{Crash, Disk, Fuse, Memory};
+use std::alloc::Global;
+use std::test::Fail;
+
+mod asking;
+mod calls;
+mod disks;
+mod lives;
+mod making;
+
+/// Two pages are kept in memory, so that each call reads the database file, and the log is copied into it as soon as it has eight.
+const OPTIONS: Options = Options {
+    cache_pages: 2,
+    spill_pages: 8,
+    checkpoint_frames: 8,
+    seed: 1,
+};
+
+/// The owner of the entries that the desks export.
+const OWNER: [u8; 16] = [7; 16];

@@ -1,0 +1,75 @@
+//! What a desk is asked here, over any store. A function makes one call of the desk.
+use super::*;
+
+/// Gives the desk one call.
+fn apply<S: Alter + Drop>(desk: &mut Desk<S>, call: &Call) -> Result<Reply, Refusal> {
+    desk.apply(&call.caller, &call.key, &call.command)
+}
+
+/// A reply's text, or a refusal's name.
+fn told(alloc: Global, answer: &Result<Reply, Refusal>) -> Option<String> {
+    match answer {
+        Ok(reply) => String::from_str(alloc, reply_text(alloc, reply).ok()?.as_str()).ok(),
+        Err(refusal) => String::from_str(alloc, refusal.name()).ok(),
+    }
+}
+
+/// The desk's answer to the call of a line.
+pub(super) fn answered<S: Alter + Drop>(
+    alloc: Global,
+    desk: &mut Desk<S>,
+    line: &str,
+) -> Option<String> {
+    let call = Words::new(alloc, line).call()?;
+    told(alloc, &apply(desk, &call))
+}
+
+/// Whether that answer is this one.
+pub(super) fn answers<S: Alter + Drop>(
+    alloc: Global,
+    desk: &mut Desk<S>,
+    line: &str,
+    wanted: &str,
+) -> Option<bool> {
+    Some(answered(alloc, desk, line)?.as_str() == wanted)
+}
+
+/// What stands before the mark, and after it.
+pub(super) fn parted<'a>(text: &'a str, mark: &str) -> (&'a str, &'a str) {
+    text.split_once(mark).unwrap_or((text, ""))
+}
+
+/// Whether the desk gives a call the answer behind it.
+pub(super) fn does<S: Alter + Drop>(alloc: Global, desk: &mut Desk<S>, told: &str) -> Option<bool> {
+    let (line, answer) = parted(told, " : ");
+    answers(alloc, desk, line, answer)
+}
+
+/// Whether the desk has to be opened again.
+pub(super) fn is_closed<S: Alter + Drop>(desk: &mut Desk<S>) -> bool {
+    match desk.counts() {
+        Ok(_) => false,
+        Err(refusal) => refusal.name() == "Reopen",
+    }
+}
+
+/// The desk's minutes: its history.
+pub(super) fn minutes<S: Alter + Drop>(alloc: Global, desk: &mut Desk<S>) -> Option<Vec<u8>> {
+    let mut text = Vec::new(alloc);
+    desk.export(Export::Minutes, &mut text).ok()?;
+    Some(text)
+}
+
+/// Whether the desk refuses an image for a certificate that it revoked.
+pub(super) fn bars<S: Alter + Drop>(
+    alloc: Global,
+    desk: &mut Desk<S>,
+    image: &str,
+) -> Option<bool> {
+    let facts = Words::new(alloc, image).facts()?;
+    match desk.verdict(&facts) {
+        Ok(Verdict::DbxCertificate) => Some(true),
+        Ok(_) => Some(false),
+        Err(_) => None,
+    }
+}

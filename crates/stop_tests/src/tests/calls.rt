@@ -1,0 +1,177 @@
+//! One call of a desk, where a file stops at each of its calls in turn.
+use super::asking::{answered, answers, is_closed, minutes};
+use super::disks::{NEVER, Stops, Which, bytes_of, calls_to, files, new_desk, opened};
+use super::*;
+
+/// A day with each of the twelve commands.
+const DAY: &str = "\
+console p1 add ann submitter 1
+console p2 add rita reviewer 2
+console p3 add raul reviewer 3
+console p4 add sid signer 4
+console p5 add olga officer 5
+ann a1 submit shim 160 161 1 204 1 shim 4
+ann a2 submit grub 162 162 0 0
+rita r1 yes 1
+raul r1 yes 1 looked
+ann a3 withdraw 2
+olga o1 list-certificate 204
+olga o2 list 33
+sid s1 return 1 160 161 1 204 0
+olga o3 unlist 33
+olga o4 revoke 35
+olga o5 revoke-certificate 206
+olga o6 raise grub 3 2024010100
+olga o7 import-digests 300
+olga o8 unlist-certificate 204";
+
+/// What became of a call on files that stop.
+#[derive(Drop)]
+enum Ended {
+    /// The desk wasn't opened.
+    Unopened,
+    /// The call was stopped.
+    Stopped,
+    /// It was answered as without a stop.
+    Answered,
+}
+
+/// A call, its answer, and the desk's minutes before and after it, where no file stops.
+#[derive(Drop)]
+struct Wanted<'a> {
+    line: &'a str,
+    answer: String,
+    before: Vec<u8>,
+    after: Vec<u8>,
+}
+
+impl<'a> Wanted<'a> {
+    /// Whether these are the minutes after the call, or those before it where it may be missing.
+    fn is_found(&self, minutes: &[u8], may_miss: bool) -> bool {
+        minutes == self.after.as_slice() || may_miss && minutes == self.before.as_slice()
+    }
+}
+
+/// Whether the call was answered as without a stop; nothing where it was answered in another way, or where after Store the desk
+/// answers on.
+fn is_answered<S: Alter + Drop>(
+    alloc: Global,
+    desk: &mut Desk<S>,
+    wanted: &Wanted,
+) -> Option<bool> {
+    let answer = answered(alloc, desk, wanted.line)?;
+    if answer == wanted.answer {
+        return Some(true);
+    }
+    if answer.as_str() == "Store" && is_closed(desk) {
+        return Some(false);
+    }
+    None
+}
+
+/// Whether a desk that was opened again has the call, or not where it may be missing; and whether the call then has its answer,
+/// and the desk the minutes with it.
+fn goes_on<S: Alter + Drop>(
+    alloc: Global,
+    desk: &mut Desk<S>,
+    wanted: &Wanted,
+    may_miss: bool,
+) -> Option<bool> {
+    let found = minutes(alloc, desk)?;
+    if !wanted.is_found(found.as_slice(), may_miss) {
+        return Some(false);
+    }
+    if !answers(alloc, desk, wanted.line, wanted.answer.as_str())? {
+        return Some(false);
+    }
+    let found = minutes(alloc, desk)?;
+    Some(wanted.is_found(found.as_slice(), false))
+}
+
+/// What becomes of the call at this desk; nothing where the desk that is opened after a crash isn't as it has to be.
+fn outcome<D: Crash + Drop>(
+    alloc: Global,
+    desk: Desk<FileStore<D>>,
+    wanted: &Wanted,
+) -> Option<Ended> {
+    let mut desk = desk;
+    let is_whole = is_answered(alloc, &mut desk, wanted)?;
+    let mut again = restart(alloc, desk, OPTIONS).ok()?;
+    if !goes_on(alloc, &mut again, wanted, !is_whole)? {
+        return None;
+    }
+    Some(if is_whole {
+        Ended::Answered
+    } else {
+        Ended::Stopped
+    })
+}
+
+/// The same over the files.
+fn tried<D: Crash + Drop>(alloc: Global, files: Files<D>, wanted: &Wanted) -> Option<Ended> {
+    match opened(alloc, files) {
+        Ok(desk) => outcome(alloc, desk, wanted),
+        Err(_) => Some(Ended::Unopened),
+    }
+}
+
+/// How often the call is stopped where the file stops after each number of its calls, from the first with which the desk opens
+/// to the sixty-fourth with which the call is answered: what follows its commit is stopped too.
+fn stopped(alloc: Global, bytes: &[u8], wanted: &Wanted, which: Which) -> Option<u64> {
+    let mut stopped = 0u64;
+    let mut answered = 0u64;
+    for calls in calls_to(alloc, bytes, which, "")?..100_000 {
+        match tried(alloc, files(alloc, bytes, Stops::at(which, calls))?, wanted)? {
+            Ended::Unopened => return None,
+            Ended::Stopped => stopped = stopped.saturating_add(1),
+            Ended::Answered => answered = answered.saturating_add(1),
+        }
+        if answered == 64 {
+            return Some(stopped);
+        }
+    }
+    None
+}
+
+/// The call of a line at the desk of the files without a stop, and the files after it.
+fn played<'a, D: Disk + Drop>(
+    alloc: Global,
+    files: Files<D>,
+    line: &'a str,
+) -> Option<(Wanted<'a>, Files<D>)> {
+    let mut desk = opened(alloc, files).ok()?;
+    let before = minutes(alloc, &mut desk)?;
+    let answer = answered(alloc, &mut desk, line)?;
+    let after = minutes(alloc, &mut desk)?;
+    let files = desk.close().ok()?;
+    Some((
+        Wanted {
+            line,
+            answer,
+            before,
+            after,
+        },
+        files,
+    ))
+}
+
+/// The database file after the call of a line, which is stopped at each call of the log and then at each of the database file.
+fn outlived(alloc: Global, bytes: &[u8], line: &str) -> Option<Vec<u8>> {
+    let (wanted, left) = played(alloc, files(alloc, bytes, NEVER)?, line)?;
+    for which in [Which::Log, Which::Db] {
+        if stopped(alloc, bytes, &wanted, which)? == 0 {
+            return None;
+        }
+    }
+    bytes_of(alloc, &left)
+}
+
+#[test]
+fn a_desk_outlives_each_stop_of_each_command(rt: HostRuntime) -> Result<(), Fail> {
+    let alloc = rt.alloc();
+    let mut bytes = new_desk(alloc).ok_or("a new desk")?;
+    for line in DAY.lines() {
+        bytes = outlived(alloc, bytes.as_slice(), line).ok_or(line)?;
+    }
+    Ok(())
+}

@@ -1,0 +1,162 @@
+//! Files that stop, and the desks in them.
+use super::asking::does;
+use super::*;
+
+/// One of the two files.
+#[derive(Clone, Copy)]
+pub(super) enum Which {
+    Log,
+    Db,
+}
+
+/// After how many of its calls each of the two files stops.
+#[derive(Clone, Copy)]
+pub(super) struct Stops {
+    log: u64,
+    db: u64,
+}
+
+/// Files that never stop.
+pub(super) const NEVER: Stops = Stops {
+    log: u64::MAX,
+    db: u64::MAX,
+};
+
+impl Stops {
+    /// This file stops after so many calls, the other never.
+    pub(super) fn at(which: Which, calls: u64) -> Stops {
+        match which {
+            Which::Log => Stops {
+                log: calls,
+                ..NEVER
+            },
+            Which::Db => Stops { db: calls, ..NEVER },
+        }
+    }
+}
+
+/// A file with these bytes, all synced.
+fn file(alloc: Global, bytes: &[u8]) -> Option<Memory> {
+    let mut file = Memory::new(alloc);
+    file.write_at(0, bytes).ok()?;
+    file.sync().ok()?;
+    Some(file)
+}
+
+/// A database file with these bytes and an empty log, which stop so.
+pub(super) fn files(alloc: Global, bytes: &[u8], stops: Stops) -> Option<Files<Fuse<Memory>>> {
+    let db = file(alloc, bytes)?;
+    Some(Files {
+        log: Fuse::new(Memory::new(alloc), stops.log),
+        db: Fuse::new(db, stops.db),
+    })
+}
+
+/// The bytes of the database file.
+pub(super) fn bytes_of(alloc: Global, files: &Files<Fuse<Memory>>) -> Option<Vec<u8>> {
+    Vec::from_slice(alloc, files.db.inner().bytes()).ok()
+}
+
+/// A connection to the files, or the files, where they don't open.
+fn connected<D: Disk + Drop>(
+    alloc: Global,
+    files: Files<D>,
+) -> Result<Connection<FileStore<D>>, Files<D>> {
+    if !files.may_be_used() {
+        return Err(files);
+    }
+    match Connection::open_files(alloc, files, OPTIONS) {
+        Ok(conn) => Ok(conn),
+        Err((_, left)) => Err(left.into_files()),
+    }
+}
+
+/// The desk of the connection, or its files.
+fn found<D: Disk + Drop>(
+    alloc: Global,
+    conn: Connection<FileStore<D>>,
+) -> Result<Desk<FileStore<D>>, Files<D>> {
+    if !conn.is_autocommit() {
+        return Err(conn.into_store().close());
+    }
+    match Desk::open(alloc, conn) {
+        Ok(desk) => Ok(desk),
+        Err((_, conn)) => Err(conn.into_store().close()),
+    }
+}
+
+/// A new desk in the connection's files, or these.
+fn founded<D: Disk + Drop>(
+    alloc: Global,
+    conn: Connection<FileStore<D>>,
+) -> Result<Desk<FileStore<D>>, Files<D>> {
+    if !conn.is_autocommit() {
+        return Err(conn.into_store().close());
+    }
+    match Desk::create(alloc, conn, &Guid::from(OWNER)) {
+        Ok(desk) => Ok(desk),
+        Err((_, conn)) => Err(conn.into_store().close()),
+    }
+}
+
+/// The desk that the files hold, or the files.
+pub(super) fn opened<D: Disk + Drop>(
+    alloc: Global,
+    files: Files<D>,
+) -> Result<Desk<FileStore<D>>, Files<D>> {
+    match connected(alloc, files) {
+        Ok(conn) => found(alloc, conn),
+        Err(files) => Err(files),
+    }
+}
+
+/// A desk that is made in the files, or the files.
+pub(super) fn made<D: Disk + Drop>(
+    alloc: Global,
+    files: Files<D>,
+) -> Result<Desk<FileStore<D>>, Files<D>> {
+    match connected(alloc, files) {
+        Ok(conn) => founded(alloc, conn),
+        Err(files) => Err(files),
+    }
+}
+
+/// The files after the machine stopped.
+pub(super) fn crashed<D: Crash>(files: Files<D>) -> Files<D> {
+    let Files { mut log, mut db } = files;
+    log.crash();
+    db.crash();
+    Files { log, db }
+}
+
+/// The bytes of a new desk's file.
+pub(super) fn new_desk(alloc: Global) -> Option<Vec<u8>> {
+    let desk = made(alloc, files(alloc, b"", NEVER)?).ok()?;
+    bytes_of(alloc, &desk.close().ok()?)
+}
+
+/// Whether a desk is opened in the files, and then gives a call the answer behind it, if there is one.
+fn reaches<D: Disk + Drop>(alloc: Global, files: Files<D>, told: &str) -> Option<bool> {
+    let Ok(mut desk) = opened(alloc, files) else {
+        return Some(false);
+    };
+    if told.is_empty() {
+        return Some(true);
+    }
+    does(alloc, &mut desk, told)
+}
+
+/// The least number of calls with which that is so of the database file with these bytes: of the 65,536 from 0 on by halves, since it
+/// stays so with more.
+pub(super) fn calls_to(alloc: Global, bytes: &[u8], which: Which, told: &str) -> Option<u64> {
+    let mut calls = 0u64;
+    let mut half = 32_768u64;
+    for _ in 0..16 {
+        let most = calls.saturating_add(half).saturating_sub(1);
+        if !reaches(alloc, files(alloc, bytes, Stops::at(which, most))?, told)? {
+            calls = calls.saturating_add(half);
+        }
+        half /= 2;
+    }
+    Some(calls)
+}

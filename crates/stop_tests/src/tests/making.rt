@@ -1,0 +1,52 @@
+//! A desk that is made, where a file stops at each of its calls in turn.
+use super::asking::minutes;
+use super::disks::{Stops, Which, crashed, files, made, opened};
+use super::*;
+
+/// The desk of the files of a machine that stopped while one was made: the one that they hold, or else a new one.
+fn at_last<D: Crash + Drop>(alloc: Global, files: Files<D>) -> Option<Desk<FileStore<D>>> {
+    match opened(alloc, crashed(files)) {
+        Ok(desk) => Some(desk),
+        Err(files) => made(alloc, files).ok(),
+    }
+}
+
+/// Whether a desk is made in the files at once. After a crash it is there; else there is one or none, and then one is made. It has
+/// no calls.
+fn is_made<D: Crash + Drop>(alloc: Global, files: Files<D>) -> Option<bool> {
+    let (is_whole, mut desk) = match made(alloc, files) {
+        Ok(desk) => (true, restart(alloc, desk, OPTIONS).ok()?),
+        Err(files) => (false, at_last(alloc, files)?),
+    };
+    if !minutes(alloc, &mut desk)?.is_empty() {
+        return None;
+    }
+    Some(is_whole)
+}
+
+/// How often a desk wasn't made at once where the file stops after 0, 1, 2 .. calls, until it was made 64 times.
+fn stopped(alloc: Global, which: Which) -> Option<u64> {
+    let mut stopped = 0u64;
+    let mut made = 0u64;
+    for calls in 0..100_000u64 {
+        if is_made(alloc, files(alloc, b"", Stops::at(which, calls))?)? {
+            made = made.saturating_add(1);
+        } else {
+            stopped = stopped.saturating_add(1);
+        }
+        if made == 64 {
+            return Some(stopped);
+        }
+    }
+    None
+}
+
+#[test]
+fn a_desk_is_there_or_not_after_each_stop_of_its_making(rt: HostRuntime) -> Result<(), Fail> {
+    for which in [Which::Log, Which::Db] {
+        if stopped(rt.alloc(), which).ok_or("a desk or none")? == 0 {
+            return Err("a stop")?;
+        }
+    }
+    Ok(())
+}
