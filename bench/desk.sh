@@ -1,6 +1,7 @@
 #!/bin/sh
-# bench/desk.sh [SIZE ..]: what a desk in a file costs, in one run, against sqlite3's shell on the same files. Not part of
-# the gate. For desks of 1,000, 10,000 and 100,000 accepted calls, or those given:
+# bench/desk.sh [SIZE ..]: what a desk in a file costs, in one run, against sqlite3's shell on the same files. With the word
+# `instructions` before the sizes: how many instructions a view takes, by valgrind's callgrind, which neither other work nor the
+# processor's cache changes. Not part of the gate. For desks of 1,000, 10,000 and 100,000 accepted calls, or those given:
 #   views    each command's view and a verdict's: microseconds a call, and the ratio to the first size
 #   apply    one RevokeDigest, committed; and 2,000 of them on a new desk beside the shell, which commits the same rows
 #            one call at a time under WAL and synchronous=FULL
@@ -17,8 +18,21 @@ disk=${DESK_BENCH_DISK:-${TMPDIR:-/tmp}}
 command -v sqlite3 > /dev/null || { echo 'bench/desk.sh: sqlite3 is needed' >&2; exit 1; }
 mkdir -p "$room/crates/desk_bench/src"
 : > "$room/crates.txt"
-for crate in desk_connections desk_store $(sed -n 's/^desk_store://p' "$root/crates.txt"); do
-    [ -d "$root/crates/$crate" ] || continue
+# The crates that these two stand on, at whatever depth.
+below() {
+    awk '
+        function take(name,    count, words, i) {
+            if (name in taken || !(name in needs)) return
+            taken[name] = 1
+            count = split(needs[name], words, " ")
+            for (i = 1; i <= count; i++) take(words[i])
+            print name
+        }
+        /^[^#:]+:/ { split($0, half, ":"); split(half[1], head, " "); needs[head[1]] = half[2] }
+        END { take("desk_connections"); take("desk_store") }
+    ' "$root/crates.txt"
+}
+for crate in $(below); do
     mkdir -p "$room/crates/$crate"
     (cd "$root/crates/$crate" && tar -cf - --exclude=out --exclude=must-fail .) | (cd "$room/crates/$crate" && tar -xf -)
     if [ -d "$root/crates/$crate/out" ] && [ ! -d "$room/crates/$crate/out" ]; then
@@ -31,4 +45,9 @@ echo 'desk_bench: desk_connections desk_store desk_rules desk_texts sbat desk_by
 (cd "$room/crates/desk_bench" && rt run > "$room/build.log" 2>&1) || true
 program="$room/crates/desk_bench/out/desk_bench"
 test -x "$program" || { tail -20 "$room/build.log" >&2; exit 1; }
-exec python3 "$root/bench/desk/measure.py" "$program" "$disk" "$@"
+measure=measure
+if [ "${1:-}" = instructions ]; then
+    measure=instructions
+    shift
+fi
+exec python3 "$root/bench/desk/$measure.py" "$program" "$disk" "$@"
