@@ -1,6 +1,6 @@
 //! One call of a desk, where a file stops at each of its calls in turn.
 use super::asking::{answered, answers, is_closed, minutes};
-use super::disks::{NEVER, Stops, Which, bytes_of, calls_to, files, new_desk, opened};
+use super::disks::{NEVER, Stopping, Stops, Which, bytes_of, calls_to, files, new_desk, opened};
 use super::*;
 
 /// A day with each of the twelve commands.
@@ -117,11 +117,12 @@ fn tried<D: Crash + Drop>(alloc: Global, files: Files<D>, wanted: &Wanted) -> Op
 
 /// How often the call is stopped where the file stops after each number of its calls, from the first with which the desk opens
 /// to the sixty-fourth with which the call is answered: what follows its commit is stopped too.
-fn stopped(alloc: Global, bytes: &[u8], wanted: &Wanted, which: Which) -> Option<u64> {
+fn stopped<D: Stopping>(alloc: Global, bytes: &[u8], wanted: &Wanted, which: Which) -> Option<u64> {
     let mut stopped = 0u64;
     let mut answered = 0u64;
-    for calls in calls_to(alloc, bytes, which, "")?..100_000 {
-        match tried(alloc, files(alloc, bytes, Stops::at(which, calls))?, wanted)? {
+    for calls in calls_to::<D>(alloc, bytes, which, "")?..100_000 {
+        let stopping: Files<D> = files(alloc, bytes, Stops::at(which, calls))?;
+        match tried(alloc, stopping, wanted)? {
             Ended::Unopened => return None,
             Ended::Stopped => stopped = stopped.saturating_add(1),
             Ended::Answered => answered = answered.saturating_add(1),
@@ -156,22 +157,27 @@ fn played<'a, D: Disk + Drop>(
 }
 
 /// The database file after the call of a line, which is stopped at each call of the log and then at each of the database file.
-fn outlived(alloc: Global, bytes: &[u8], line: &str) -> Option<Vec<u8>> {
-    let (wanted, left) = played(alloc, files(alloc, bytes, NEVER)?, line)?;
+fn outlived<D: Stopping>(alloc: Global, bytes: &[u8], line: &str) -> Option<Vec<u8>> {
+    let whole: Files<D> = files(alloc, bytes, NEVER)?;
+    let (wanted, left) = played(alloc, whole, line)?;
     for which in [Which::Log, Which::Db] {
-        if stopped(alloc, bytes, &wanted, which)? == 0 {
+        if stopped::<D>(alloc, bytes, &wanted, which)? == 0 {
             return None;
         }
     }
     bytes_of(alloc, &left)
 }
 
-#[test]
-fn a_desk_outlives_each_stop_of_each_command(rt: HostRuntime) -> Result<(), Fail> {
-    let alloc = rt.alloc();
-    let mut bytes = new_desk(alloc).ok_or("a new desk")?;
+/// Plays the day, each call with all its stops.
+fn play<D: Stopping>(alloc: Global) -> Result<(), Fail> {
+    let mut bytes = new_desk::<D>(alloc).ok_or("a new desk")?;
     for line in DAY.lines() {
-        bytes = outlived(alloc, bytes.as_slice(), line).ok_or(line)?;
+        bytes = outlived::<D>(alloc, bytes.as_slice(), line).ok_or(line)?;
     }
     Ok(())
+}
+
+#[test]
+fn a_desk_outlives_each_stop_of_each_command(rt: HostRuntime) -> Result<(), Fail> {
+    play::<Fuse<Memory>>(rt.alloc())
 }

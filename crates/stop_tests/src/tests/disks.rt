@@ -35,26 +35,38 @@ impl Stops {
     }
 }
 
-/// A file with these bytes, all synced.
-fn file(alloc: Global, bytes: &[u8]) -> Option<Memory> {
-    let mut file = Memory::new(alloc);
-    file.write_at(0, bytes).ok()?;
-    file.sync().ok()?;
-    Some(file)
+/// A file in memory that stops.
+pub(super) trait Stopping: Crash + Drop {
+    /// A file with these bytes, all synced, which stops after so many calls.
+    fn with(alloc: Global, bytes: &[u8], calls: u64) -> Option<Self>;
+
+    /// The bytes of the file.
+    fn bytes(&self) -> &[u8];
+}
+
+impl Stopping for Fuse<Memory> {
+    fn with(alloc: Global, bytes: &[u8], calls: u64) -> Option<Fuse<Memory>> {
+        let mut file = Memory::new(alloc);
+        file.write_at(0, bytes).ok()?;
+        file.sync().ok()?;
+        Some(Fuse::new(file, calls))
+    }
+
+    fn bytes(&self) -> &[u8] {
+        self.inner().bytes()
+    }
 }
 
 /// A database file with these bytes and an empty log, which stop so.
-pub(super) fn files(alloc: Global, bytes: &[u8], stops: Stops) -> Option<Files<Fuse<Memory>>> {
-    let db = file(alloc, bytes)?;
-    Some(Files {
-        log: Fuse::new(Memory::new(alloc), stops.log),
-        db: Fuse::new(db, stops.db),
-    })
+pub(super) fn files<D: Stopping>(alloc: Global, bytes: &[u8], stops: Stops) -> Option<Files<D>> {
+    let log = D::with(alloc, b"", stops.log)?;
+    let db = D::with(alloc, bytes, stops.db)?;
+    Some(Files { log, db })
 }
 
 /// The bytes of the database file.
-pub(super) fn bytes_of(alloc: Global, files: &Files<Fuse<Memory>>) -> Option<Vec<u8>> {
-    Vec::from_slice(alloc, files.db.inner().bytes()).ok()
+pub(super) fn bytes_of<D: Stopping>(alloc: Global, files: &Files<D>) -> Option<Vec<u8>> {
+    Vec::from_slice(alloc, files.db.bytes()).ok()
 }
 
 /// A connection to the files, or the files, where they don't open.
@@ -130,8 +142,9 @@ pub(super) fn crashed<D: Crash>(files: Files<D>) -> Files<D> {
 }
 
 /// The bytes of a new desk's file.
-pub(super) fn new_desk(alloc: Global) -> Option<Vec<u8>> {
-    let desk = made(alloc, files(alloc, b"", NEVER)?).ok()?;
+pub(super) fn new_desk<D: Stopping>(alloc: Global) -> Option<Vec<u8>> {
+    let empty: Files<D> = files(alloc, b"", NEVER)?;
+    let desk = made(alloc, empty).ok()?;
     bytes_of(alloc, &desk.close().ok()?)
 }
 
@@ -148,12 +161,18 @@ fn reaches<D: Disk + Drop>(alloc: Global, files: Files<D>, told: &str) -> Option
 
 /// The least number of calls with which that is so of the database file with these bytes: of the 65,536 from 0 on by halves, since it
 /// stays so with more.
-pub(super) fn calls_to(alloc: Global, bytes: &[u8], which: Which, told: &str) -> Option<u64> {
+pub(super) fn calls_to<D: Stopping>(
+    alloc: Global,
+    bytes: &[u8],
+    which: Which,
+    told: &str,
+) -> Option<u64> {
     let mut calls = 0u64;
     let mut half = 32_768u64;
     for _ in 0..16 {
         let most = calls.saturating_add(half).saturating_sub(1);
-        if !reaches(alloc, files(alloc, bytes, Stops::at(which, most))?, told)? {
+        let tried: Files<D> = files(alloc, bytes, Stops::at(which, most))?;
+        if !reaches(alloc, tried, told)? {
             calls = calls.saturating_add(half);
         }
         half /= 2;

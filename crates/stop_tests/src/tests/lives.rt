@@ -1,6 +1,6 @@
 //! Ten lives of a desk, in each of which one call is answered Ok and the next is stopped.
 use super::asking::{bars, does, is_closed, minutes, parted};
-use super::disks::{NEVER, Stops, Which, bytes_of, calls_to, files, new_desk, opened};
+use super::disks::{NEVER, Stopping, Stops, Which, bytes_of, calls_to, files, new_desk, opened};
 use super::*;
 
 /// A life a line: the call that is answered Ok, and the one that is stopped. The first call is an officer's adding, in the
@@ -55,14 +55,11 @@ fn after<D: Crash + Drop>(alloc: Global, files: Files<D>, life: &str) -> Option<
 }
 
 /// The database file after a life, in which the log stops at the next of its calls once the first call of the desk is answered.
-fn outlived(alloc: Global, bytes: &[u8], life: &str) -> Option<Vec<u8>> {
+fn outlived<D: Stopping>(alloc: Global, bytes: &[u8], life: &str) -> Option<Vec<u8>> {
     let (first, _) = parted(life, " => ");
-    let calls = calls_to(alloc, bytes, Which::Log, first)?;
-    let left = after(
-        alloc,
-        files(alloc, bytes, Stops::at(Which::Log, calls))?,
-        life,
-    )?;
+    let calls = calls_to::<D>(alloc, bytes, Which::Log, first)?;
+    let stopping: Files<D> = files(alloc, bytes, Stops::at(Which::Log, calls))?;
+    let left = after(alloc, stopping, life)?;
     bytes_of(alloc, &left)
 }
 
@@ -79,8 +76,9 @@ fn play<S: Alter + Drop>(alloc: Global, desk: &mut Desk<S>) -> Option<bool> {
 }
 
 /// The minutes of a desk that was given the calls of all lives without a stop.
-fn whole(alloc: Global, bytes: &[u8]) -> Option<Vec<u8>> {
-    let mut desk = opened(alloc, files(alloc, bytes, NEVER)?).ok()?;
+fn whole<D: Stopping>(alloc: Global, bytes: &[u8]) -> Option<Vec<u8>> {
+    let all: Files<D> = files(alloc, bytes, NEVER)?;
+    let mut desk = opened(alloc, all).ok()?;
     if !play(alloc, &mut desk)? {
         return None;
     }
@@ -88,21 +86,26 @@ fn whole(alloc: Global, bytes: &[u8]) -> Option<Vec<u8>> {
 }
 
 /// The minutes of the desk in this file.
-fn minutes_of(alloc: Global, bytes: &[u8]) -> Option<Vec<u8>> {
-    let mut desk = opened(alloc, files(alloc, bytes, NEVER)?).ok()?;
+fn minutes_of<D: Stopping>(alloc: Global, bytes: &[u8]) -> Option<Vec<u8>> {
+    let all: Files<D> = files(alloc, bytes, NEVER)?;
+    let mut desk = opened(alloc, all).ok()?;
     minutes(alloc, &mut desk)
+}
+
+/// Lives all lives, and compares the minutes at their end.
+fn live<D: Stopping>(alloc: Global) -> Result<(), Fail> {
+    let mut bytes = new_desk::<D>(alloc).ok_or("a new desk")?;
+    let wanted = whole::<D>(alloc, bytes.as_slice()).ok_or("a desk without a stop")?;
+    for life in LIVES.lines() {
+        bytes = outlived::<D>(alloc, bytes.as_slice(), life).ok_or(life)?;
+    }
+    if minutes_of::<D>(alloc, bytes.as_slice()).ok_or("minutes")? != wanted {
+        return Err("each call once, in order")?;
+    }
+    Ok(())
 }
 
 #[test]
 fn ten_lives_hold_each_call_once_and_bar_what_was_revoked(rt: HostRuntime) -> Result<(), Fail> {
-    let alloc = rt.alloc();
-    let mut bytes = new_desk(alloc).ok_or("a new desk")?;
-    let wanted = whole(alloc, bytes.as_slice()).ok_or("a desk without a stop")?;
-    for life in LIVES.lines() {
-        bytes = outlived(alloc, bytes.as_slice(), life).ok_or(life)?;
-    }
-    if minutes_of(alloc, bytes.as_slice()).ok_or("minutes")? != wanted {
-        return Err("each call once, in order")?;
-    }
-    Ok(())
+    live::<Fuse<Memory>>(rt.alloc())
 }

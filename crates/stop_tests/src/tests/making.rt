@@ -1,6 +1,6 @@
 //! A desk that is made, where a file stops at each of its calls in turn.
 use super::asking::minutes;
-use super::disks::{Stops, Which, crashed, files, made, opened};
+use super::disks::{Stopping, Stops, Which, crashed, files, made, opened};
 use super::*;
 
 /// The desk of the files of a machine that stopped while one was made: the one that they hold, or else a new one.
@@ -25,11 +25,12 @@ fn is_made<D: Crash + Drop>(alloc: Global, files: Files<D>) -> Option<bool> {
 }
 
 /// How often a desk wasn't made at once where the file stops after 0, 1, 2 .. calls, until it was made 64 times.
-fn stopped(alloc: Global, which: Which) -> Option<u64> {
+fn stopped<D: Stopping>(alloc: Global, which: Which) -> Option<u64> {
     let mut stopped = 0u64;
     let mut made = 0u64;
     for calls in 0..100_000u64 {
-        if is_made(alloc, files(alloc, b"", Stops::at(which, calls))?)? {
+        let empty: Files<D> = files(alloc, b"", Stops::at(which, calls))?;
+        if is_made(alloc, empty)? {
             made = made.saturating_add(1);
         } else {
             stopped = stopped.saturating_add(1);
@@ -41,12 +42,17 @@ fn stopped(alloc: Global, which: Which) -> Option<u64> {
     None
 }
 
-#[test]
-fn a_desk_is_there_or_not_after_each_stop_of_its_making(rt: HostRuntime) -> Result<(), Fail> {
+/// Makes desks in files of which one stops, the log and then the database file.
+fn make_each<D: Stopping>(alloc: Global) -> Result<(), Fail> {
     for which in [Which::Log, Which::Db] {
-        if stopped(rt.alloc(), which).ok_or("a desk or none")? == 0 {
+        if stopped::<D>(alloc, which).ok_or("a desk or none")? == 0 {
             return Err("a stop")?;
         }
     }
     Ok(())
+}
+
+#[test]
+fn a_desk_is_there_or_not_after_each_stop_of_its_making(rt: HostRuntime) -> Result<(), Fail> {
+    make_each::<Fuse<Memory>>(rt.alloc())
 }
