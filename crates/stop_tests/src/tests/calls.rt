@@ -88,6 +88,19 @@ fn goes_on<S: Alter + Drop>(
     Some(wanted.is_found(found.as_slice(), false))
 }
 
+/// Whether the desk goes on after a crash.
+fn outlives<D: Crash + Drop>(
+    alloc: Global,
+    desk: Desk<FileStore<D>>,
+    wanted: &Wanted,
+    may_miss: bool,
+) -> Option<bool> {
+    match restart(alloc, desk, OPTIONS) {
+        Ok(mut again) => goes_on(alloc, &mut again, wanted, may_miss),
+        Err(_) => None,
+    }
+}
+
 /// What becomes of the call at this desk; nothing where the desk that is opened after a crash isn't as it has to be.
 fn outcome<D: Crash + Drop>(
     alloc: Global,
@@ -96,8 +109,7 @@ fn outcome<D: Crash + Drop>(
 ) -> Option<Ended> {
     let mut desk = desk;
     let is_whole = is_answered(alloc, &mut desk, wanted)?;
-    let mut again = restart(alloc, desk, OPTIONS).ok()?;
-    if !goes_on(alloc, &mut again, wanted, !is_whole)? {
+    if !outlives(alloc, desk, wanted, !is_whole)? {
         return None;
     }
     Some(if is_whole {
@@ -134,6 +146,23 @@ fn stopped<D: Stopping>(alloc: Global, bytes: &[u8], wanted: &Wanted, which: Whi
     None
 }
 
+/// The call of a line at the desk.
+fn given<'a, S: Alter + Drop>(
+    alloc: Global,
+    desk: &mut Desk<S>,
+    line: &'a str,
+) -> Option<Wanted<'a>> {
+    let before = minutes(alloc, desk)?;
+    let answer = answered(alloc, desk, line)?;
+    let after = minutes(alloc, desk)?;
+    Some(Wanted {
+        line,
+        answer,
+        before,
+        after,
+    })
+}
+
 /// The call of a line at the desk of the files without a stop, and the files after it.
 fn played<'a, D: Disk + Drop>(
     alloc: Global,
@@ -141,19 +170,9 @@ fn played<'a, D: Disk + Drop>(
     line: &'a str,
 ) -> Option<(Wanted<'a>, Files<D>)> {
     let mut desk = opened(alloc, files).ok()?;
-    let before = minutes(alloc, &mut desk)?;
-    let answer = answered(alloc, &mut desk, line)?;
-    let after = minutes(alloc, &mut desk)?;
+    let wanted = given(alloc, &mut desk, line);
     let files = desk.close().ok()?;
-    Some((
-        Wanted {
-            line,
-            answer,
-            before,
-            after,
-        },
-        files,
-    ))
+    Some((wanted?, files))
 }
 
 /// The database file after the call of a line, which is stopped at each call of the log and then at each of the database file.

@@ -83,17 +83,22 @@ fn connected<D: Disk + Drop>(
     }
 }
 
+/// The files of the connection.
+fn files_of<D: Disk + Drop>(conn: Connection<FileStore<D>>) -> Files<D> {
+    conn.into_store().close()
+}
+
 /// The desk of the connection, or its files.
 fn found<D: Disk + Drop>(
     alloc: Global,
     conn: Connection<FileStore<D>>,
 ) -> Result<Desk<FileStore<D>>, Files<D>> {
     if !conn.is_autocommit() {
-        return Err(conn.into_store().close());
+        return Err(files_of(conn));
     }
     match Desk::open(alloc, conn) {
         Ok(desk) => Ok(desk),
-        Err((_, conn)) => Err(conn.into_store().close()),
+        Err((_, conn)) => Err(files_of(conn)),
     }
 }
 
@@ -103,11 +108,11 @@ fn founded<D: Disk + Drop>(
     conn: Connection<FileStore<D>>,
 ) -> Result<Desk<FileStore<D>>, Files<D>> {
     if !conn.is_autocommit() {
-        return Err(conn.into_store().close());
+        return Err(files_of(conn));
     }
     match Desk::create(alloc, conn, &Guid::from(OWNER)) {
         Ok(desk) => Ok(desk),
-        Err((_, conn)) => Err(conn.into_store().close()),
+        Err((_, conn)) => Err(files_of(conn)),
     }
 }
 
@@ -148,15 +153,24 @@ pub(super) fn new_desk<D: Stopping>(alloc: Global) -> Option<Vec<u8>> {
     bytes_of(alloc, &desk.close().ok()?)
 }
 
-/// Whether a desk is opened in the files, and then gives a call the answer behind it, if there is one.
-fn reaches<D: Disk + Drop>(alloc: Global, files: Files<D>, told: &str) -> Option<bool> {
-    let Ok(mut desk) = opened(alloc, files) else {
-        return Some(false);
-    };
+/// Whether the desk gives a call the answer behind it, if there is one.
+fn does_or_is_there<S: Alter + Drop>(
+    alloc: Global,
+    desk: &mut Desk<S>,
+    told: &str,
+) -> Option<bool> {
     if told.is_empty() {
         return Some(true);
     }
-    does(alloc, &mut desk, told)
+    does(alloc, desk, told)
+}
+
+/// Whether a desk is opened in the files, and then gives a call the answer behind it, if there is one.
+fn reaches<D: Disk + Drop>(alloc: Global, files: Files<D>, told: &str) -> Option<bool> {
+    match opened(alloc, files) {
+        Ok(mut desk) => does_or_is_there(alloc, &mut desk, told),
+        Err(_) => Some(false),
+    }
 }
 
 /// The least number of calls with which that is so of the database file with these bytes: of the 65,536 from 0 on by halves, since it

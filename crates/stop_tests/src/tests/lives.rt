@@ -20,6 +20,14 @@ ann a9 withdraw 1 : withdrawn 1 => olga b9 list-certificate 59 : listed";
 /// The image that carries the certificate.
 const IMAGE: &str = "160 160 1 204 0";
 
+/// Whether the desk answers the first call of a life, and the second is stopped.
+fn is_stopped<S: Alter + Drop>(alloc: Global, desk: &mut Desk<S>, life: &str) -> Option<bool> {
+    let (first, second) = parted(life, " => ");
+    let is_first = does(alloc, desk, first)?;
+    let is_second = does(alloc, desk, second)?;
+    Some(is_first && !is_second && is_closed(desk))
+}
+
 /// The desk that is opened after a life, in which the first call is answered and the second stopped.
 fn lived<D: Crash + Drop>(
     alloc: Global,
@@ -27,13 +35,11 @@ fn lived<D: Crash + Drop>(
     life: &str,
 ) -> Option<Desk<FileStore<D>>> {
     let mut desk = desk;
-    let (first, second) = parted(life, " => ");
-    let is_first = does(alloc, &mut desk, first)?;
-    let is_second = does(alloc, &mut desk, second)?;
-    if !is_first || is_second || !is_closed(&mut desk) {
-        return None;
+    if is_stopped(alloc, &mut desk, life)? {
+        restart(alloc, desk, OPTIONS).ok()
+    } else {
+        None
     }
-    restart(alloc, desk, OPTIONS).ok()
 }
 
 /// Whether the desk bars the image, if the life is one of those that follow its revocation, and gives the stopped call its
@@ -75,21 +81,31 @@ fn play<S: Alter + Drop>(alloc: Global, desk: &mut Desk<S>) -> Option<bool> {
     Some(true)
 }
 
+/// The desk's minutes, once it was given the calls of all lives.
+fn minutes_after<S: Alter + Drop>(alloc: Global, desk: &mut Desk<S>) -> Option<Vec<u8>> {
+    if play(alloc, desk)? {
+        minutes(alloc, desk)
+    } else {
+        None
+    }
+}
+
 /// The minutes of a desk that was given the calls of all lives without a stop.
 fn whole<D: Stopping>(alloc: Global, bytes: &[u8]) -> Option<Vec<u8>> {
     let all: Files<D> = files(alloc, bytes, NEVER)?;
-    let mut desk = opened(alloc, all).ok()?;
-    if !play(alloc, &mut desk)? {
-        return None;
+    match opened(alloc, all) {
+        Ok(mut desk) => minutes_after(alloc, &mut desk),
+        Err(_) => None,
     }
-    minutes(alloc, &mut desk)
 }
 
 /// The minutes of the desk in this file.
 fn minutes_of<D: Stopping>(alloc: Global, bytes: &[u8]) -> Option<Vec<u8>> {
     let all: Files<D> = files(alloc, bytes, NEVER)?;
-    let mut desk = opened(alloc, all).ok()?;
-    minutes(alloc, &mut desk)
+    match opened(alloc, all) {
+        Ok(mut desk) => minutes(alloc, &mut desk),
+        Err(_) => None,
+    }
 }
 
 /// Lives all lives, and compares the minutes at their end.
