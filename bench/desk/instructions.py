@@ -17,6 +17,7 @@ VIEWS = [
     ).split()),
     ("import of 10", 100),
     ("import of 10,000", 1),
+    ("the same in order", 1),
     ("a key given before", 100),
     ("list_view", 100),
 ]
