@@ -1,5 +1,6 @@
 mod FindLemmas
 mod GatherLemmas
 mod KeyLemmas
+mod OrderLemmas
 mod ShownLemmas
 mod StepLemmas

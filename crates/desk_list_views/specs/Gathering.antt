@@ -36,17 +36,21 @@ listed_keys kind digest = record no_keys { listed = one_key kind digest }
 abbrev pub revoked_keys : ListedKind → List ℕ → Keys
 revoked_keys kind digest = record no_keys { revoked = one_key kind digest }
 
+-- these keys in what is revoked, the names of these components in the level, and no other key
+abbrev pub barring_keys : EntryKeys → List Component → Keys
+barring_keys revoked components = record no_keys {
+  revoked = revoked;
+  names = map
+      (λ x. x.name) components;
+}
+
 -- all that an import names
 abbrev pub import_keys : Imported → Keys
-import_keys i = record no_keys {
-  revoked = record { digests = i.digests; certificates = i.certificates };
-  names = map
-      (λ x. x.name) i.components;
-}
+import_keys i = barring_keys (record { digests = i.digests; certificates = i.certificates }) i.components
 
 -- all that these facts name, but for what is listed
 abbrev pub submission_keys : Facts → Keys
-submission_keys x = record no_keys { revoked = views.revoked_keys x; names = views.component_names x }
+submission_keys x = barring_keys (views.revoked_keys x) x.components
 
 -- the key of the listed entry of this kind and digest, if there is one
 abbrev pub listings_of : ListedKind → Tables → List ℕ → List Listing

@@ -1,6 +1,8 @@
 //! The rows of the lists that commands of one kind name.
-ghost use Rattle.std.specs.Prelude.{◌≡◌, IfOk};
-ghost use Rattle.desk_list_views.specs.Gathering.{import_keys, listed_keys, revoked_keys, submission_keys};
+ghost use Rattle.std.specs.Prelude.{◌≡◌, IfErr, IfOk};
+ghost use Rattle.desk_bytes.specs.Digests.{IsArranged};
+ghost use Rattle.desk_list_views.specs.Gathering.{barring_keys, entry_keys, import_keys};
+ghost use Rattle.desk_list_views.specs.Gathering.{listed_keys, revoked_keys, submission_keys};
 ghost use Rattle.desk_list_views.specs.Lists.{HoldsNoOther};
 ghost use Rattle.desk_reads.specs.Reads.{Tells};
 ghost use Rattle.desk_rules.specs.Views.{ShowsLists};
@@ -8,10 +10,11 @@ ghost use Rattle.desk_sql.specs.States.{DoesInside, Keeps, Spares, StaysInside};
 
 use crate::keys::Digests;
 use crate::reading::rows_of;
-use desk_bytes::Digest;
+use desk_bytes::{Digest, arrange};
 use desk_reads::ReadFault;
 use desk_rules::ListView;
 use desk_texts::{Facts, Import, ListedKind};
+use sbat::Component;
 use sqlite::{Alter, Transaction};
 use std::alloc::Global;
 
@@ -53,7 +56,39 @@ pub(crate) fn revoked_view<S: Alter>(
     rows_of(alloc, tx, Digests::none(), revoked, &[])
 }
 
-/// The rows of what an import names.
+/// The rows of what bars an image: those of these keys in what is revoked, and those of these components' names in the level.
+fn barring_view<S: Alter>(
+    alloc: Global,
+    tx: &mut Transaction<'_, S>,
+    revoked: Digests<'_>,
+    named: &[Component],
+) -> Result<ListView, ReadFault>
+    ensures same_reference { tx.new.conn.ghost_name ≡ tx.old.conn.ghost_name }
+    ensures value { DoesInside S.Store tx.old.conn.now tx.new.conn.now result
+        (λ view. Tells (λ t. ShowsLists view t (barring_keys (entry_keys revoked.entry) named.now))) }
+    ensures only { IfOk result (λ view.
+        HoldsNoOther view (barring_keys (entry_keys revoked.entry) named.now)) }
+    ensures inside { StaysInside S.Store tx.old.conn.now tx.new.conn.now result }
+    ensures kept { Keeps S.Store tx.old.conn.now tx.new.conn.now }
+    ensures survives { Spares S.Store tx.old.conn.now tx.new.conn.now }
+{
+    rows_of(alloc, tx, Digests::none(), revoked, named)
+}
+
+/// The digests, ascending, each once: what stands side by side in a table is then looked up one after another. Takes memory for
+/// them.
+fn in_order(alloc: Global, digests: &[Digest]) -> Result<Vec<Digest>, ReadFault>
+    ensures arranged { IfOk result (λ ordered. IsArranged digests.now ordered.items) }
+    ensures named { IfErr result (λ fault. fault ≡ ReadFault.NoMemory) }
+{
+    let Ok(mut ordered) = Vec::from_slice(alloc, digests) else {
+        return Err(ReadFault::NoMemory);
+    };
+    arrange(&mut ordered);
+    Ok(ordered)
+}
+
+/// The rows of what an import names. A digest that it names twice is looked up once.
 pub(crate) fn import_view<S: Alter>(
     alloc: Global,
     tx: &mut Transaction<'_, S>,
@@ -67,12 +102,14 @@ pub(crate) fn import_view<S: Alter>(
     ensures kept { Keeps S.Store tx.old.conn.now tx.new.conn.now }
     ensures survives { Spares S.Store tx.old.conn.now tx.new.conn.now }
 {
+    let images = in_order(alloc, import.digests().as_slice())?;
+    let certificates = in_order(alloc, import.certificates().as_slice())?;
     let revoked = Digests {
-        images: import.digests().as_slice(),
-        certificates: import.certificates().as_slice(),
+        images: &images,
+        certificates: &certificates,
     };
-    let named = import.components().as_slice();
-    rows_of(alloc, tx, Digests::none(), revoked, named)
+    let view = barring_view(alloc, tx, revoked, import.components().as_slice())?;
+    Ok(view)
 }
 
 /// The rows of what a submission of these facts names: of what is revoked and of the level.
@@ -94,11 +131,5 @@ pub(crate) fn submission_view<S: Alter>(
         images: &digests,
         certificates: facts.carried.as_slice(),
     };
-    rows_of(
-        alloc,
-        tx,
-        Digests::none(),
-        revoked,
-        facts.components.as_slice(),
-    )
+    barring_view(alloc, tx, revoked, facts.components.as_slice())
 }

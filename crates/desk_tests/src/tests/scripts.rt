@@ -155,7 +155,7 @@ rows olga x revoke 3 : none
 rows olga x revoke-certificate 2 : revoked-certificate 2
 rows olga x revoke-certificate 1 : none
 rows olga x raise grub 5 2021030218 : level grub 2
-rows olga x import 0 0 3 4 3 4 2 2 1 2 grub 5 kernel 5 : revoked 4 revoked 4 revoked-certificate 2 level grub 2";
+rows olga x import 0 0 3 4 1 4 2 2 1 2 grub 5 kernel 5 : revoked 1 revoked 4 revoked-certificate 2 level grub 2";
 
 /// Each kind of write once, and each column of each table.
 pub(super) const TABLES: &str = "\
