@@ -15,7 +15,7 @@ use Rattle.desk_history.proofs.ListLemmas.{bytes_eq-refl}
 use Rattle.desk_reads.specs.Reads.{Tells, listed}
 use Rattle.desk_list_views.specs.Gathering.{Gathers, PutsOnly}
 use Rattle.desk_list_views.proofs.FindLemmas.{any_map}
-use Rattle.desk_list_views.proofs.StepLemmas.{tells_so, tells_then}
+use Rattle.desk_reads.proofs.TellsLemmas.{tells_so, tells_then}
 
 module _ {K X : Type 0} (rows_of : Tables → K → List X) (keys : List K) where
   pub gathers_none : (rows : List X) (t : Tables) → Gathers rows_of [] rows rows t

@@ -4,7 +4,7 @@ use Rattle.sqlite.specs.Held.{state}
 use Rattle.desk_history.specs.Writes.{is_named}
 use Rattle.desk_reads.specs.Reads.{Tells}
 use Rattle.desk_list_views.proofs.KeyLemmas.{only_component}
-use Rattle.desk_list_views.proofs.StepLemmas.{tells_so}
+use Rattle.desk_reads.proofs.TellsLemmas.{tells_so}
 use Rattle.desk_list_views.proofs.finding.find_component.Goals as goal
 
 pub returns-clause-value : goal.returns-clause-value

@@ -4,7 +4,7 @@ use Rattle.sqlite.specs.Held.{state}
 use Rattle.desk_history.specs.Listing.{is_entry}
 use Rattle.desk_list_views.specs.Gathering.{listings_of}
 use Rattle.desk_list_views.proofs.KeyLemmas.{only_listing}
-use Rattle.desk_list_views.proofs.StepLemmas.{tells_so}
+use Rattle.desk_reads.proofs.TellsLemmas.{tells_so}
 use Rattle.desk_list_views.proofs.finding.find_listed.Goals as goal
 
 pub returns-clause-value : goal.returns-clause-value

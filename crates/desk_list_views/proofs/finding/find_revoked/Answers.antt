@@ -4,7 +4,7 @@ use Rattle.desk_rules.specs.Views.{revoked_rows}
 use Rattle.desk_reads.specs.Reads.{revoked_in}
 use Rattle.desk_list_views.specs.Gathering.{revocations_of}
 use Rattle.desk_list_views.proofs.KeyLemmas.{only_digest, told_revoked}
-use Rattle.desk_list_views.proofs.StepLemmas.{tells_so}
+use Rattle.desk_reads.proofs.TellsLemmas.{tells_so}
 use Rattle.desk_list_views.proofs.finding.find_revoked.Goals as goal
 
 pub returns-in_default-clause-value : goal.returns-in_default-clause-value

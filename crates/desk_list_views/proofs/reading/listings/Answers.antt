@@ -4,7 +4,7 @@ use Rattle.sqlite.specs.State.{HasCleanDisk}
 use Rattle.desk_texts.specs.declared.kind.ListedKind.TheVariants as kinds
 use Rattle.desk_list_views.specs.Gathering.{Gathers, ShowsListed, entry_keys, listings_of}
 use Rattle.desk_list_views.proofs.ShownLemmas.{gathered_listed, only_listed}
-use Rattle.desk_list_views.proofs.StepLemmas.{tells_so, tells_then}
+use Rattle.desk_reads.proofs.TellsLemmas.{tells_so, tells_then}
 use Rattle.desk_list_views.proofs.reading.listings.Goals as goal
 
 pub returns-clause-value : goal.returns-clause-value

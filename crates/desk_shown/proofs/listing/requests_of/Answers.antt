@@ -9,7 +9,8 @@ use Rattle.desk_history.specs.Shown.{AreShown, IsGiven, requests_for}
 use Rattle.desk_reads.specs.Reads.{Tells, listed}
 use Rattle.desk_shown.specs.Steps.{AreInOrder, AreRowsFor, IsShownIn}
 use Rattle.desk_shown.proofs.ListingLemmas.{gives_all, gives_nobody}
-use Rattle.desk_shown.proofs.TellsLemmas.{tells_of, tells_then}
+use Rattle.desk_reads.proofs.TellsLemmas.{tells_then}
+use Rattle.desk_shown.proofs.TellsLemmas.{tells_of}
 use Rattle.desk_shown.proofs.listing.requests_of.Goals as goal
 
 pub returns-in_default-clause-value : goal.returns-in_default-clause-value

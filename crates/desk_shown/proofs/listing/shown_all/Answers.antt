@@ -7,7 +7,7 @@ use Rattle.sqlite.proofs.StateLemmas.{survives_then}
 use Rattle.desk_reads.specs.Reads.{Tells}
 use Rattle.desk_shown.specs.Steps.{IsShownIn}
 use Rattle.desk_shown.proofs.LoopLemmas.{nothing_left, zip_more}
-use Rattle.desk_shown.proofs.TellsLemmas.{tells_so, tells_then}
+use Rattle.desk_reads.proofs.TellsLemmas.{tells_so, tells_then}
 use Rattle.desk_shown.proofs.listing.shown_all.Goals as goal
 
 pub loop-row-preserved : goal.loop-row-preserved

@@ -8,7 +8,8 @@ use Rattle.desk_history.specs.Shown.{GivesRequest}
 use Rattle.desk_reads.specs.Reads.{Tells, listed}
 use Rattle.desk_shown.specs.Steps.{IsShownIn, visible_row}
 use Rattle.desk_shown.proofs.GivingLemmas.{gives_nobody, gives_none, gives_shown}
-use Rattle.desk_shown.proofs.TellsLemmas.{tells_of, tells_then}
+use Rattle.desk_reads.proofs.TellsLemmas.{tells_then}
+use Rattle.desk_shown.proofs.TellsLemmas.{tells_of}
 use Rattle.desk_shown.proofs.showing.request.Goals as goal
 
 pub returns-in_default-clause-value : goal.returns-in_default-clause-value
