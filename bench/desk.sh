@@ -1,7 +1,8 @@
 #!/bin/sh
 # bench/desk.sh [SIZE ..]: what a desk in a file costs, in one run, against sqlite3's shell on the same files. With the word
 # `instructions` before the sizes: how many instructions a view takes, by valgrind's callgrind, which neither other work nor the
-# processor's cache changes. Not part of the gate. For desks of 1,000, 10,000 and 100,000 accepted calls, or those given:
+# processor's cache changes. With the word `views`: the views alone, in thirty rounds in place of six. Not part of the gate.
+# For desks of 1,000, 10,000 and 100,000 accepted calls, or those given:
 #   views    each command's view and a verdict's: microseconds a call, and the ratio to the first size
 #   apply    one RevokeDigest, committed; and 2,000 of them on a new desk beside the shell, which commits the same rows
 #            one call at a time under WAL and synchronous=FULL

@@ -10,8 +10,10 @@ import time
 sys.stdout.reconfigure(line_buffering=True)
 PROGRAM, DISK = sys.argv[1:3]
 KEPT = os.environ.get("DESK_BENCH_KEPT", "")
-SIZES = [int(size) for size in sys.argv[3:]] or [1_000, 10_000, 100_000]
+VIEWS_ALONE = sys.argv[3:4] == ["views"]
+SIZES = [int(size) for size in sys.argv[3 + VIEWS_ALONE :]] or [1_000, 10_000, 100_000]
 ROUNDS = 9
+VIEW_ROUNDS = 30 if VIEWS_ALONE else 6
 MANY = 2_000
 
 
@@ -124,7 +126,7 @@ def views(paths):
     """Each view by keys out of all calls, and by keys out of one hundred calls, again and again."""
     for title, blocks in (("views, keys out of all calls", None), ("views, keys out of one hundred calls", 1)):
         times, memory = gathered(
-            6, lambda size: desk("view", copy(paths[size], "view.db"), blocks or max(1, size // 100))
+            VIEW_ROUNDS, lambda size: desk("view", copy(paths[size], "view.db"), blocks or max(1, size // 100))
         )
         table(title, times)
     return memory
@@ -250,17 +252,22 @@ def judge(paths):
         print(f"{name:16} {answer}  {counts} {'as wanted' if counts == wanted else f'WANTED {wanted}'}")
 
 
+def everything(paths):
+    opening, viewing, applying = opens(paths), views(paths), applies(paths)
+    print("\nVmHWM, kB: after opening, after the views, after 1,000 applies")
+    for size in SIZES:
+        pages = os.path.getsize(paths[size]) // 4_096
+        print(f"{size:>9,}  {opening[size]:>8,} {viewing[size]:>8,} {applying[size]:>8,}  (the file has {pages:,} pages)")
+    peers(paths)
+    judge(paths)
+
+
 with tempfile.TemporaryDirectory(dir=DISK, prefix="desk_bench.") as ROOM:
     print(f"desks in {DISK} ({subprocess.run(['stat', '-f', '-c', '%T', DISK], capture_output=True, text=True).stdout.strip()})")
     print(f"load {os.getloadavg()[0]:.1f} on {os.cpu_count()} processors")
     FILES = fill()
-    OPENING = opens(FILES)
-    VIEWING = views(FILES)
-    APPLYING = applies(FILES)
-    print("\nVmHWM, kB: after opening, after the views, after 1,000 applies")
-    for SIZE in SIZES:
-        pages = os.path.getsize(FILES[SIZE]) // 4_096
-        print(f"{SIZE:>9,}  {OPENING[SIZE]:>8,} {VIEWING[SIZE]:>8,} {APPLYING[SIZE]:>8,}  (the file has {pages:,} pages)")
-    peers(FILES)
-    judge(FILES)
+    if VIEWS_ALONE:
+        views(FILES)
+    else:
+        everything(FILES)
     print(f"load {os.getloadavg()[0]:.1f}")
