@@ -46,6 +46,9 @@ echo 'desk_bench: desk_connections desk_store desk_rules desk_texts sbat desk_by
 (cd "$room/crates/desk_bench" && rt run > "$room/build.log" 2>&1) || true
 program="$room/crates/desk_bench/out/desk_bench"
 test -x "$program" || { tail -20 "$room/build.log" >&2; exit 1; }
+# As ./desk runs the program, but where the variable is set: with `glibc.malloc.hugetlb=0` it is without large pages.
+GLIBC_TUNABLES=${GLIBC_TUNABLES:-glibc.malloc.hugetlb=1}
+export GLIBC_TUNABLES
 measure=measure
 if [ "${1:-}" = instructions ]; then
     measure=instructions
