@@ -2,28 +2,26 @@
 use Rattle.std.proofs.Common.{◌≡◌, ℕ, Bool, true, false, not, ◌||◌, List, [], ◌∷◌, None, refl, sym, ◌∙◌, ap}
 use Rattle.std.specs.Prelude.{if◌then◌else◌, bytes_eq, codes, find, is_some}
 use Rattle.std.specs.List.{list_any, list_all}
-use Rattle.std.proofs.lemmas.Bool.{and_parts}
 use Rattle.desk_bytes.specs.declared.refusal.Refusal.TheVariants as refusals
 use Rattle.desk_texts.specs.declared.caller.Caller.{Caller}
 use Rattle.desk_texts.specs.declared.caller.Caller.TheVariants.{Console, Person as Named}
-use Rattle.desk_texts.specs.declared.command.Call.{Call}
 use Rattle.desk_texts.specs.declared.command.Command.{Command}
 use Rattle.desk_texts.specs.declared.command.Command.TheVariants as command
 use Rattle.desk_texts.specs.declared.command.Person.{Person}
 use Rattle.desk_texts.specs.Callers.{caller_name, is_told_by_name}
 use Rattle.desk_texts.specs.CommandTexts.{text_of}
 use Rattle.desk_texts.proofs.FormLemmas.{joined}
-use Rattle.desk_history.specs.Calls.{History, item}
+use Rattle.desk_history.specs.Calls.{History, Item}
 use Rattle.desk_history.specs.FormLaws.{CallersAreTold}
 use Rattle.desk_history.specs.People.{has_name, has_token, people}
-use Rattle.desk_history.specs.Refusals.{is_known, is_one_of, own_refusal, refusal}
-use Rattle.desk_history.specs.Replies.{reply}
-use Rattle.desk_history.specs.Runs.{answer, answer_known, earlier, is_accepted, is_legal}
+use Rattle.desk_history.specs.Refusals.{is_known, is_one_of, own_refusal, refusal_of}
+use Rattle.desk_history.specs.Replies.{reply_to}
+use Rattle.desk_history.specs.Runs.{answer_known, earlier, is_accepted, is_legal, ruling}
 use Rattle.desk_history.specs.declared.answer.Answer.{Answer}
 use Rattle.desk_history.specs.declared.answer.Answer.TheVariants.{Refused}
 use Rattle.desk_history.proofs.ListLemmas.{bytes_eq-refl, none_left, none_right, or_none, same_text}
 use Rattle.desk_history.proofs.RefusalLemmas.{unrefused}
-use Rattle.desk_history.proofs.RunLemmas.{IsNew, accepted_parts}
+use Rattle.desk_history.proofs.RunLemmas.{giving, newest}
 
 abbrev console : List ℕ
 console = codes "console"
@@ -40,8 +38,8 @@ none_found p [] h = refl
 none_found p (x ∷ xs) h = rw (none_left (p x) (list_any p xs) h) (none_found p xs (none_right (p x) (list_any p xs) h))
 
 -- nobody is added under the name
-unnamed : (cs : History) (old : Call) (name : List ℕ) (given : Command) → own_refusal cs name given ≡ None → list_any (has_name console) (people cs) ≡ false
-    → list_any (has_name console) (people (item (record old { command = given }) ∷ cs)) ≡ false
+unnamed : (cs : History) (old : Item) (name : List ℕ) (given : Command) → own_refusal cs name given ≡ None → list_any (has_name console) (people cs) ≡ false
+    → list_any (has_name console) (people (giving old given ∷ cs)) ≡ false
 unnamed cs old name (command.AddPerson p) own h =
     let taken : (bytes_eq p.name console || list_any (has_name p.name) (people cs) || list_any (has_token p.token) (people cs)) ≡ false =
     unrefused (bytes_eq p.name console || list_any (has_name p.name) (people cs) || list_any (has_token p.token) (people cs)) refusals.NameTaken own in
@@ -54,9 +52,8 @@ unnamed cs old name _ own h = h
 nobody : (cs : History) → is_legal cs ≡ true → list_any (has_name console) (people cs) ≡ false
 nobody [] h = refl
 nobody (i ∷ cs) h =
-    let both : (is_accepted (answer cs i.call) ≡ true) × (is_legal cs ≡ true) = and_parts (is_accepted (answer cs i.call)) (is_legal cs) h in
-    let new : IsNew cs i.call = accepted_parts cs i.call both.0 in
-    unnamed cs i.call (caller_name i.call.caller) i.call.command new.own (nobody cs both.1)
+    let here = newest cs i h in
+    unnamed cs i (caller_name i.call.caller) i.call.command here.new.own (nobody cs here.before)
 
 no_parts : {A : Type 0} → false ≡ true → A
 no_parts e = cc
@@ -65,8 +62,8 @@ known_by : (known : Bool) (told : Answer) → is_accepted (if not known then Ref
 known_by true told h = refl
 known_by false told h = no_parts h
 
-accepted_known : (cs : History) (c : Call) → is_accepted (answer cs c) ≡ true → is_known cs c.caller ≡ true
-accepted_known cs c h = known_by (is_known cs c.caller) (answer_known (earlier cs c) (text_of c.command) (refusal cs c) (reply cs c)) h
+accepted_known : (cs : History) (i : Item) → is_accepted (ruling cs i) ≡ true → is_known cs i.call.caller ≡ true
+accepted_known cs i h = known_by (is_known cs i.call.caller) (answer_known (earlier cs i.call) (text_of i.call.command) (refusal_of cs i) (reply_to cs i)) h
 
 told_known : (ps : List Person) (caller : Caller) → list_any (has_name console) ps ≡ false → is_one_of ps caller ≡ true → is_told_by_name caller ≡ true
 told_known ps Console h k = refl
@@ -81,16 +78,16 @@ pub known_told : (cs : History) (caller : Caller) → is_legal cs ≡ true → i
 known_told cs caller h k = told_known (people cs) caller (nobody cs h) k
 
 -- and so is whoever gave a call of it
-pub newest_told : (cs : History) (c : Call) → is_legal (item c ∷ cs) ≡ true → is_told_by_name c.caller ≡ true
-newest_told cs c h =
-    let both : (is_accepted (answer cs c) ≡ true) × (is_legal cs ≡ true) = and_parts (is_accepted (answer cs c)) (is_legal cs) h in
-    known_told cs c.caller both.1 (accepted_known cs c both.0)
+pub newest_told : (cs : History) (i : Item) → is_legal (i ∷ cs) ≡ true → is_told_by_name i.call.caller ≡ true
+newest_told cs i h =
+    let here = newest cs i h in
+    known_told cs i.call.caller here.before (accepted_known cs i here.accepted)
 
 pub callers_are_told : CallersAreTold
 callers_are_told [] h = refl
 callers_are_told (i ∷ cs) h =
-    joined (is_told_by_name i.call.caller) (list_all (λ a. is_told_by_name a.call.caller) cs) (newest_told cs i.call h)
-    (callers_are_told cs (and_parts (is_accepted (answer cs i.call)) (is_legal cs) h).1)
+    joined (is_told_by_name i.call.caller) (list_all (λ a. is_told_by_name a.call.caller) cs) (newest_told cs i h)
+    (callers_are_told cs (newest cs i h).before)
 
 unequal : (b : Bool) → not b ≡ true → b ≡ true → {A : Type 0} → A
 unequal true h k = no_parts h

@@ -2,7 +2,6 @@
 use Rattle.std.proofs.Common.{◌≡◌, ℕ, Bool, true, false, not, ◌&&◌, ◌||◌, List, [], ◌∷◌, map, Option, Some, None, refl, ◌∙◌, ap}
 use Rattle.std.specs.Prelude.{if◌then◌else◌, bytes_eq, nat_lt, reverse}
 use Rattle.std.specs.List.{list_all}
-use Rattle.std.proofs.lemmas.Bool.{and_parts}
 use Rattle.std.proofs.lemmas.List.{reverse-append}
 use Rattle.std.proofs.lemmas.List.Elements.{All-head}
 use Rattle.std.proofs.lemmas.List.Folds.{list_all-append}
@@ -19,14 +18,13 @@ use Rattle.desk_texts.proofs.FormLemmas.{both, joined}
 use Rattle.desk_history.specs.Calls.{History, distinct, is_among}
 use Rattle.desk_history.specs.Formed.{IsHistory, IsItem}
 use Rattle.desk_history.specs.FormLaws.{LevelHasNoSbat}
-use Rattle.desk_history.specs.Forces.{into_force}
+use Rattle.desk_history.specs.Forces.{forced_by, into_force}
 use Rattle.desk_history.specs.Level.{generations, greatest, is_above, is_sbat, names, stamp}
 use Rattle.desk_history.specs.Refusals.{own_refusal, refuse_if}
-use Rattle.desk_history.specs.Runs.{answer, is_accepted, is_legal}
 use Rattle.desk_history.specs.Tables.{level_row}
 use Rattle.desk_history.proofs.FormedLemmas.{history_rest}
 use Rattle.desk_history.proofs.RefusalLemmas.{no_refusal}
-use Rattle.desk_history.proofs.RunLemmas.{IsNew, accepted_parts}
+use Rattle.desk_history.proofs.RunLemmas.{newest}
 
 -- the name isn't `sbat`
 abbrev is_other : List ℕ → Bool
@@ -44,7 +42,7 @@ raised_other false lower rest h = refl
 raised_other true lower rest h = no_refusal h
 
 -- what an accepted call puts into force
-put_other : (cs : History) (name : List ℕ) (given : Command) → IsWithin given → own_refusal cs name given ≡ None → names_no_sbat (into_force cs given).components ≡ true
+put_other : (cs : History) (name : List ℕ) (given : Command) → IsWithin given → own_refusal cs name given ≡ None → names_no_sbat (forced_by given).components ≡ true
 put_other cs name (command.RaiseLevel r) w own =
     joined (is_other r.component.name) true
     (raised_other (is_sbat r.component.name) (not (is_above r.component.generation (greatest (generations cs) r.component.name)))
@@ -65,11 +63,9 @@ put_other cs name (command.RevokeCertificate _) w own = refl
 others_named : (cs : History) → IsHistory cs → names_no_sbat (generations cs) ≡ true
 others_named [] h = refl
 others_named (i ∷ cs) h =
-    let accepted : (is_accepted (answer cs i.call) ≡ true) × (is_legal cs ≡ true) = and_parts (is_accepted (answer cs i.call)) (is_legal cs) h.legal in
-    let new : IsNew cs i.call = accepted_parts cs i.call accepted.0 in
-    let here = put_other cs (caller_name i.call.caller) i.call.command (All-head IsItem i cs h.formed).limits new.own in
-    list_all-append (λ (x : Component). is_other x.name) (into_force cs i.call.command).components (generations cs)
-    ∙ joined (names_no_sbat (into_force cs i.call.command).components) (names_no_sbat (generations cs)) here (others_named cs (history_rest cs i.call h))
+    let here = put_other cs (caller_name i.call.caller) i.call.command (All-head IsItem i cs h.formed).limits (newest cs i h.legal).new.own in
+    list_all-append (λ (x : Component). is_other x.name) (into_force cs i).components (generations cs)
+    ∙ joined (names_no_sbat (into_force cs i).components) (names_no_sbat (generations cs)) here (others_named cs (history_rest cs i h))
 
 others_once : (ts : List (List ℕ)) → list_all is_other ts ≡ true → list_all is_other (distinct ts) ≡ true
 others_once [] h = refl

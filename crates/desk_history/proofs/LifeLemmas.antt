@@ -1,46 +1,71 @@
 -- Series of lives.
 use Rattle.std.proofs.Common.{◌≡◌, ℕ, Bool, true, false, not, List, [], ◌∷◌, ◌++◌, Option, Some, None, refl, sym, ◌∙◌, ap, subst, inl, inr}
 use Rattle.std.specs.Prelude.{if◌then◌else◌, bytes_eq, find}
+use Rattle.std.specs.List.{list_all}
 use Rattle.std.proofs.lemmas.Bool.{and_parts}
+use Rattle.std.proofs.lemmas.List.Folds.{list_all-append}
+use Rattle.desk_texts.proofs.FormLemmas.{joined}
 use Rattle.desk_bytes.specs.declared.refusal.Refusal.{Refusal}
 use Rattle.desk_bytes.specs.declared.refusal.Refusal.TheVariants as refusals
 use Rattle.desk_texts.specs.declared.command.Call.{Call}
 use Rattle.desk_texts.specs.declared.reply.Reply.{Reply}
 use Rattle.desk_texts.specs.Callers.{caller_name}
-use Rattle.desk_history.specs.Calls.{GoesOnFrom, History, item}
+use Rattle.desk_history.specs.Calls.{First, GoesOnFrom, History, Item, Rules, Second}
 use Rattle.desk_texts.specs.CommandTexts.{text_of}
 use Rattle.desk_history.specs.declared.rows.Minute.{Minute}
-use Rattle.desk_history.specs.Replies.{minute, minutes, reply}
+use Rattle.desk_history.specs.Replies.{minute_of, minutes, reply_to}
 use Rattle.desk_history.specs.declared.answer.Answer.TheVariants.{Refused as IsRefused, Repeated}
 use Rattle.desk_history.specs.Laws.{AnswersAreKept, AnswersHaveHistories, EndsAreLegal}
-use Rattle.desk_history.specs.Lives.{Answered, Event, Fate, Holds, MayLeave, MayTurn, Refused, Stopped, events_of}
-use Rattle.desk_history.specs.Refusals.{is_known, refusal}
-use Rattle.desk_history.specs.Runs.{answer, answer_known, earlier, has_key, is_accepted, is_legal, next, reply_in}
+use Rattle.desk_history.specs.Lives.{Answered, Event, Fate, Holds, Life, MayLeave, MayTurn, Refused, Stopped, are_by, are_rules, ends_at_a_stop, events_of, is_empty, is_life, NotOpened, Opened}
+use Rattle.desk_history.specs.Refusals.{is_known, refusal_of}
+use Rattle.desk_history.specs.Runs.{answer_known, earlier, has_key, is_accepted, is_legal, may_follow, next_item, reply_in, ruling}
 use Rattle.desk_history.proofs.ListLemmas.{bytes_eq-refl, same_text}
 use Rattle.desk_history.proofs.RunLemmas.{accepted_parts, by_next, goes_on-trans, next_goes_on, next_legal}
 
 -- what holds before an event and is kept by its call holds after the event
-pub turned : (P : History → Type 0) (cs : History) (c : Call) (fate : Fate) (later : History) → P cs → P (next cs c) → MayTurn cs c fate later → P later
-turned P cs c (Answered reply) later same more t = subst P (sym t.1) more
-turned P cs c Refused later same more t = subst P (sym t) same
-turned P cs c Stopped later same more (inl e) = subst P (sym e) same
-turned P cs c Stopped later same more (inr e) = subst P (sym e) more
+pub turned : (P : History → Type 0) (cs : History) (i : Item) (fate : Fate) (later : History) → P cs → P (next_item cs i) → MayTurn cs i fate later → P later
+turned P cs i (Answered reply) later same more t = subst P (sym t.1) more
+turned P cs i Refused later same more t = subst P (sym t) same
+turned P cs i Stopped later same more (inl e) = subst P (sym e) same
+turned P cs i Stopped later same more (inr e) = subst P (sym e) more
 
 -- what each call keeps, events keep
-left_kept : (P : History → Type 0) → ((h : History) (c : Call) → P h → P (next h c)) → (cs : History) (events : List Event) (end : History) → P cs → MayLeave cs events end → P end
+left_kept : (P : History → Type 0) → ((h : History) (i : Item) → P h → P (next_item h i)) → (cs : History) (events : List Event) (end : History) → P cs → MayLeave cs events end → P end
 left_kept P each cs [] end h left = subst P (sym left) h
 left_kept P each cs (e ∷ events) end h left =
-    left_kept P each left.0 events end (turned P cs e.call e.fate left.0 h (each cs e.call h) left.1) left.2
-
-pub left_legal : (cs : History) (events : List Event) (end : History) → is_legal cs ≡ true → MayLeave cs events end → is_legal end ≡ true
-left_legal cs events end h left = left_kept (λ h. is_legal h ≡ true) next_legal cs events end h left
+    left_kept P each left.0 events end (turned P cs e.item e.fate left.0 h (each cs e.item h) left.1) left.2
 
 pub left_goes_on : (cs : History) (events : List Event) (end : History) → MayLeave cs events end → GoesOnFrom cs end
 left_goes_on cs events end left =
-    left_kept (GoesOnFrom cs) (λ h c g. goes_on-trans cs h (next h c) g (next_goes_on h c)) cs events end ([], refl) left
+    left_kept (GoesOnFrom cs) (λ h i g. goes_on-trans cs h (next_item h i) g (next_goes_on h i)) cs events end ([], refl) left
+
+no_rules : {A : Type 0} → false ≡ true → A
+no_rules e = cc
+
+-- a call by the second rules may follow any
+second_follows : (cs : History) (c : Call) (rules : Rules) → are_rules Second rules ≡ true → may_follow cs (record { call = c; rules = rules }) ≡ true
+second_follows cs c Second e = refl
+second_follows cs c First e = no_rules e
+
+-- calls by the second rules leave a legal history
+pub left_legal : (cs : History) (events : List Event) (end : History) → is_legal cs ≡ true → are_by Second events ≡ true → MayLeave cs events end → is_legal end ≡ true
+left_legal cs [] end h by left = subst (λ h. is_legal h ≡ true) (sym left) h
+left_legal cs (e ∷ events) end h by left =
+    let parts = and_parts (are_rules Second e.item.rules) (are_by Second events) by in
+    let follows = second_follows cs e.item.call e.item.rules parts.0 in
+    left_legal left.0 events end (turned (λ h. is_legal h ≡ true) cs e.item e.fate left.0 h (next_legal cs e.item follows h) left.1) parts.1 left.2
+
+-- each call of lives is by the second rules
+pub lives_by : (lives : List Life) → list_all is_life lives ≡ true → are_by Second (events_of lives) ≡ true
+lives_by [] h = refl
+lives_by (life ∷ lives) h =
+    let parts = and_parts (is_life life) (list_all is_life lives) h in
+    let mine = and_parts (are_by Second life.events) (elim life.opening [ Opened ↦ ends_at_a_stop life.events | NotOpened ↦ is_empty life.events ]) parts.0 in
+    list_all-append (λ (e : Event). are_rules Second e.item.rules) life.events (events_of lives)
+    ∙ joined (are_by Second life.events) (are_by Second (events_of lives)) mine.0 (lives_by lives parts.1)
 
 pub series_are_legal : EndsAreLegal
-series_are_legal lives cs ends = left_legal [] (events_of lives) cs refl ends.1
+series_are_legal lives cs ends = left_legal [] (events_of lives) cs refl (lives_by lives ends.0) ends.1
 
 -- events in two parts
 record Halves (cs : History) (earlier later : List Event) (end : History) : Type 0 where
@@ -55,9 +80,9 @@ halves cs (e ∷ earlier) later end left =
     record { middle = rest.middle; first = (left.0, left.1, rest.first); second = rest.second }
 
 pub answers_have_histories : AnswersHaveHistories
-answers_have_histories lives cs ends c reply earlier later is =
-    let two : Halves [] earlier (record { call = c; fate = Answered reply } ∷ later) cs =
-    halves [] earlier (record { call = c; fate = Answered reply } ∷ later) cs (subst (λ events. MayLeave [] events cs) is ends.1) in
+answers_have_histories lives cs ends i reply earlier later is =
+    let two : Halves [] earlier (record { item = i; fate = Answered reply } ∷ later) cs =
+    halves [] earlier (record { item = i; fate = Answered reply } ∷ later) cs (subst (λ events. MayLeave [] events cs) is ends.1) in
     (two.second.0, record { earlier = earlier; later = later; is = is; before = two.middle; reached = two.first; answered = two.second.1; left = two.second.2 })
 
 -- a call that is answered Ok is held from then on
@@ -97,43 +122,44 @@ accepted_reply true (Some m) text refused new given a h =
       | false ↦ λ e. cc
     ] a
 
-own_key : (cs : History) (c : Call) → has_key (caller_name c.caller) c.key (minute cs c) ≡ true
-own_key cs c = rw (bytes_eq-refl (caller_name c.caller), bytes_eq-refl c.key) refl
+own_key : (cs : History) (i : Item) → has_key (caller_name i.call.caller) i.call.key (minute_of cs i) ≡ true
+own_key cs i = rw (bytes_eq-refl (caller_name i.call.caller), bytes_eq-refl i.call.key) refl
 
-held_at : (cs : History) (c : Call) (given : Reply) → reply_in (answer cs c) ≡ Some given → Holds (next cs c) c given
-held_at cs c given h =
-    elim (is_accepted (answer cs c)) as (λ b. is_accepted (answer cs c) ≡ b → Holds (if b then item c ∷ cs else cs) c given) [
+held_at : (cs : History) (i : Item) (given : Reply) → reply_in (ruling cs i) ≡ Some given → Holds (next_item cs i) i.call given
+held_at cs i given h =
+    let c = i.call in
+    elim (is_accepted (ruling cs i)) as (λ b. is_accepted (ruling cs i) ≡ b → Holds (if b then i ∷ cs else cs) i.call given) [
       | true ↦ λ e. record {
-        minute = minute cs c;
-        found = rw (own_key cs c) refl;
+        minute = minute_of cs i;
+        found = rw (own_key cs i) refl;
         text = refl;
-        same = accepted_reply (is_known cs c.caller) (earlier cs c) (text_of c.command) (refusal cs c) (reply cs c) given e h;
+        same = accepted_reply (is_known cs c.caller) (earlier cs c) (text_of c.command) (refusal_of cs i) (reply_to cs i) given e h;
       }
-      | false ↦ λ e. (let t : Told (earlier cs c) (text_of c.command) given = told (is_known cs c.caller) (earlier cs c) (text_of c.command) (refusal cs c) (reply cs c) given e h in
+      | false ↦ λ e. (let t : Told (earlier cs c) (text_of c.command) given = told (is_known cs c.caller) (earlier cs c) (text_of c.command) (refusal_of cs i) (reply_to cs i) given e h in
           record { minute = t.found_minute; found = t.is_found; text = t.has_text; same = t.has_reply })
     ] refl
 
 -- a new call doesn't take a key that stands
-other_key : (cs : History) (c new : Call) (m : Minute) → earlier cs c ≡ Some m → earlier cs new ≡ None → has_key (caller_name c.caller) c.key (minute cs new) ≡ false
+other_key : (cs : History) (c : Call) (new : Item) (m : Minute) → earlier cs c ≡ Some m → earlier cs new.call ≡ None → has_key (caller_name c.caller) c.key (minute_of cs new) ≡ false
 other_key cs c new m found fresh =
-    elim (has_key (caller_name c.caller) c.key (minute cs new)) as (λ b. has_key (caller_name c.caller) c.key (minute cs new) ≡ b → b ≡ false) [
-      | true ↦ λ e. (let both : (bytes_eq (caller_name c.caller) (caller_name new.caller) ≡ true) × (bytes_eq c.key new.key ≡ true) = and_parts (bytes_eq (caller_name c.caller) (caller_name new.caller)) (bytes_eq c.key new.key) e in
-          clash m (sym found ∙ (ap (λ n. find (has_key n c.key) (minutes cs)) (same_text (caller_name c.caller) (caller_name new.caller) both.0)
-          ∙ (ap (λ k. find (has_key (caller_name new.caller) k) (minutes cs)) (same_text c.key new.key both.1) ∙ fresh))))
+    elim (has_key (caller_name c.caller) c.key (minute_of cs new)) as (λ b. has_key (caller_name c.caller) c.key (minute_of cs new) ≡ b → b ≡ false) [
+      | true ↦ λ e. (let both : (bytes_eq (caller_name c.caller) (caller_name new.call.caller) ≡ true) × (bytes_eq c.key new.call.key ≡ true) = and_parts (bytes_eq (caller_name c.caller) (caller_name new.call.caller)) (bytes_eq c.key new.call.key) e in
+          clash m (sym found ∙ (ap (λ n. find (has_key n c.key) (minutes cs)) (same_text (caller_name c.caller) (caller_name new.call.caller) both.0)
+          ∙ (ap (λ k. find (has_key (caller_name new.call.caller) k) (minutes cs)) (same_text c.key new.call.key both.1) ∙ fresh))))
       | false ↦ λ e. refl
     ] refl
   where
     clash : (m : Minute) {A : Type 0} → Some m ≡ None → A
     clash m e = cc
 
-kept_by_next : (c : Call) (given : Reply) (h : History) (new : Call) → Holds h c given → Holds (next h new) c given
+kept_by_next : (c : Call) (given : Reply) (h : History) (new : Item) → Holds h c given → Holds (next_item h new) c given
 kept_by_next c given h new held =
     by_next (λ later. Holds later c given) h new held (λ e.
-    (let fresh : earlier h new ≡ None = (accepted_parts h new e).fresh in
-    let unlike : has_key (caller_name c.caller) c.key (minute h new) ≡ false = other_key h c new held.minute held.found fresh in
+    (let fresh : earlier h new.call ≡ None = (accepted_parts h new e).fresh in
+    let unlike : has_key (caller_name c.caller) c.key (minute_of h new) ≡ false = other_key h c new held.minute held.found fresh in
     record { minute = held.minute; found = rw unlike held.found; text = held.text; same = held.same }))
 
 pub answers_are_kept : AnswersAreKept
-answers_are_kept lives cs ends c reply at was =
-    let held : Holds at c reply = subst (λ h. Holds h c reply) (sym was.answered.1) (held_at was.before c reply was.answered.0) in
-    (left_kept (λ h. Holds h c reply) (kept_by_next c reply) at was.later cs held was.left, left_goes_on at was.later cs was.left)
+answers_are_kept lives cs ends i reply at was =
+    let held : Holds at i.call reply = subst (λ h. Holds h i.call reply) (sym was.answered.1) (held_at was.before i reply was.answered.0) in
+    (left_kept (λ h. Holds h i.call reply) (kept_by_next i.call reply) at was.later cs held was.left, left_goes_on at was.later cs was.left)

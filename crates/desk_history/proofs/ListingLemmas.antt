@@ -3,16 +3,16 @@ use Rattle.std.proofs.Common.{◌≡◌, ℕ, Bool, true, false, not, ◌&&◌, 
 use Rattle.std.specs.Prelude.{if◌then◌else◌, bytes_eq, find}
 use Rattle.std.specs.Option.{option_map_or}
 use Rattle.std.proofs.lemmas.Bool.{and_parts}
-use Rattle.desk_texts.specs.declared.command.Call.{Call}
 use Rattle.desk_texts.specs.declared.command.Command.{Command}
 use Rattle.desk_texts.specs.declared.command.Command.TheVariants as command
 use Rattle.desk_texts.specs.declared.kind.ListedKind.{ListedKind}
 use Rattle.desk_texts.specs.declared.kind.ListedKind.TheVariants as kinds
-use Rattle.desk_history.specs.Calls.{History, are_apart, is_same_kind, item, Item}
+use Rattle.desk_history.specs.Calls.{History, Item, are_apart, is_same_kind}
 use Rattle.desk_history.specs.declared.rows.Entry.{Entry}
 use Rattle.desk_history.specs.Listing.{has_entry, is_about, is_entry, is_listed, listed, lists, relisted, without}
 use Rattle.desk_history.specs.Laws.{ListsListed}
 use Rattle.desk_history.proofs.ListLemmas.{apart-more, bytes_eq-refl, same_text}
+use Rattle.desk_history.proofs.RunLemmas.{giving}
 
 -- the kind and the digest of one entry are those of the other
 abbrev is_one : ListedKind → List ℕ → ListedKind → List ℕ → Bool
@@ -60,10 +60,10 @@ without_other kind other digest d (x ∷ rows) h =
         ap (λ v. is_one kind digest v t) (sym (same_kind other k both.0)) ∙ (ap (λ v. is_one kind digest other v) (sym (same_text d t both.1)) ∙ h)
 
 -- what a call about another or this entry leaves
-taken_off : (kind other : ListedKind) (digest d : List ℕ) (rows : List Entry) (c : Call) (rest : Bool) → lists c.command ≡ false → has_entry kind digest rows ≡ rest →
-    has_entry kind digest (without other d rows) ≡ (if is_one kind digest other d then lists c.command else rest)
+taken_off : (kind other : ListedKind) (digest d : List ℕ) (rows : List Entry) (c : Item) (rest : Bool) → lists c.call.command ≡ false → has_entry kind digest rows ≡ rest →
+    has_entry kind digest (without other d rows) ≡ (if is_one kind digest other d then lists c.call.command else rest)
 taken_off kind other digest d rows c rest off h =
-    elim (is_one kind digest other d) as (λ b. is_one kind digest other d ≡ b → has_entry kind digest (without other d rows) ≡ (if b then lists c.command else rest)) [
+    elim (is_one kind digest other d) as (λ b. is_one kind digest other d ≡ b → has_entry kind digest (without other d rows) ≡ (if b then lists c.call.command else rest)) [
       | true ↦ λ e. same_without kind other digest d rows e ∙ sym off
       | false ↦ λ e. without_other kind other digest d rows e ∙ h
     ] refl
@@ -74,30 +74,30 @@ taken_off kind other digest d rows c rest off h =
         ap (λ v. has_entry kind digest (without v d rows)) (sym (same_kind kind other both.0))
         ∙ (ap (λ v. has_entry kind digest (without kind v rows)) (sym (same_text digest d both.1)) ∙ without_one kind digest rows)
 
-put_on : (kind other : ListedKind) (digest d : List ℕ) (body : List ℕ) (rows : List Entry) (c : Call) (rest : Bool) → lists c.command ≡ true → has_entry kind digest rows ≡ rest →
-    has_entry kind digest (record { kind = other; digest = d; body = body } ∷ without other d rows) ≡ (if is_one kind digest other d then lists c.command else rest)
+put_on : (kind other : ListedKind) (digest d : List ℕ) (body : List ℕ) (rows : List Entry) (c : Item) (rest : Bool) → lists c.call.command ≡ true → has_entry kind digest rows ≡ rest →
+    has_entry kind digest (record { kind = other; digest = d; body = body } ∷ without other d rows) ≡ (if is_one kind digest other d then lists c.call.command else rest)
 put_on kind other digest d body rows c rest on h =
-    elim (is_one kind digest other d) as (λ b. is_one kind digest other d ≡ b → (b || has_entry kind digest (without other d rows)) ≡ (if b then lists c.command else rest)) [
+    elim (is_one kind digest other d) as (λ b. is_one kind digest other d ≡ b → (b || has_entry kind digest (without other d rows)) ≡ (if b then lists c.call.command else rest)) [
       | true ↦ λ e. sym on
       | false ↦ λ e. without_other kind other digest d rows e ∙ h
     ] refl
 
 -- the test of the last call about an entry, by whether this is one
-chosen : (b : Bool) (c : Call) (found : History) (p : Item → Bool) → option_map_or (λ (x : Item). lists x.call.command) (if b then Some (item c) else find p found) false ≡ (if b then lists c.command else option_map_or (λ (x : Item). lists x.call.command) (find p found) false)
+chosen : (b : Bool) (c : Item) (found : History) (p : Item → Bool) → option_map_or (λ (x : Item). lists x.call.command) (if b then Some c else find p found) false ≡ (if b then lists c.call.command else option_map_or (λ (x : Item). lists x.call.command) (find p found) false)
 chosen true c found p = refl
 chosen false c found p = refl
 
-one_call : (kind : ListedKind) (cs : History) (digest : List ℕ) → has_entry kind digest (listed cs) ≡ is_listed kind cs digest → (old : Call) (given : Command) →
-    has_entry kind digest (relisted given (listed cs)) ≡ is_listed kind (item (record old { command = given }) ∷ cs) digest
+one_call : (kind : ListedKind) (cs : History) (digest : List ℕ) → has_entry kind digest (listed cs) ≡ is_listed kind cs digest → (old : Item) (given : Command) →
+    has_entry kind digest (relisted given (listed cs)) ≡ is_listed kind (giving old given ∷ cs) digest
 one_call kind cs digest h old (command.ListDigest d) =
-    put_on kind kinds.Digest digest d [] (listed cs) (record old { command = command.ListDigest d }) (is_listed kind cs digest) refl h
-    ∙ sym (chosen (is_one kind digest kinds.Digest d) (record old { command = command.ListDigest d }) cs (λ (x : Item). is_about kind digest x.call.command))
+    put_on kind kinds.Digest digest d [] (listed cs) (giving old (command.ListDigest d)) (is_listed kind cs digest) refl h
+    ∙ sym (chosen (is_one kind digest kinds.Digest d) (giving old (command.ListDigest d)) cs (λ (x : Item). is_about kind digest x.call.command))
 one_call kind cs digest h old (command.ListCertificate c) =
-    put_on kind kinds.Certificate digest c.tbs c.body (listed cs) (record old { command = command.ListCertificate c }) (is_listed kind cs digest) refl h
-    ∙ sym (chosen (is_one kind digest kinds.Certificate c.tbs) (record old { command = command.ListCertificate c }) cs (λ (x : Item). is_about kind digest x.call.command))
+    put_on kind kinds.Certificate digest c.tbs c.body (listed cs) (giving old (command.ListCertificate c)) (is_listed kind cs digest) refl h
+    ∙ sym (chosen (is_one kind digest kinds.Certificate c.tbs) (giving old (command.ListCertificate c)) cs (λ (x : Item). is_about kind digest x.call.command))
 one_call kind cs digest h old (command.Unlist l) =
-    taken_off kind l.kind digest l.digest (listed cs) (record old { command = command.Unlist l }) (is_listed kind cs digest) refl h
-    ∙ sym (chosen (is_one kind digest l.kind l.digest) (record old { command = command.Unlist l }) cs (λ (x : Item). is_about kind digest x.call.command))
+    taken_off kind l.kind digest l.digest (listed cs) (giving old (command.Unlist l)) (is_listed kind cs digest) refl h
+    ∙ sym (chosen (is_one kind digest l.kind l.digest) (giving old (command.Unlist l)) cs (λ (x : Item). is_about kind digest x.call.command))
 one_call kind cs digest h old (command.AddPerson _) = h
 one_call kind cs digest h old (command.Submit _) = h
 one_call kind cs digest h old (command.Review _) = h
@@ -110,7 +110,7 @@ one_call kind cs digest h old (command.ImportRevocations _) = h
 
 pub listed_rows_are_listed : ListsListed
 listed_rows_are_listed [] kind digest = refl
-listed_rows_are_listed (i ∷ cs) kind digest = one_call kind cs digest (listed_rows_are_listed cs kind digest) i.call i.call.command
+listed_rows_are_listed (i ∷ cs) kind digest = one_call kind cs digest (listed_rows_are_listed cs kind digest) i i.call.command
 
 -- no entry stands twice
 

@@ -13,11 +13,10 @@ use Rattle.std.proofs.lemmas.List.Folds.{list_any-append}
 use Rattle.std.proofs.lemmas.Map.Text.{is_eq-slice_cmp}
 use Rattle.sbat.specs.declared.component.Component.{Component}
 use Rattle.desk_bytes.specs.Digests.{IsAscending}
-use Rattle.desk_texts.specs.declared.command.Call.{Call}
 use Rattle.desk_texts.specs.declared.command.Command.{Command}
 use Rattle.desk_texts.specs.declared.command.Command.TheVariants as command
 use Rattle.desk_texts.specs.Formed.{IsWithin}
-use Rattle.desk_history.specs.Calls.{History, are_apart, item}
+use Rattle.desk_history.specs.Calls.{History, Item, are_apart}
 use Rattle.desk_history.specs.Formed.{IsItem}
 use Rattle.desk_history.specs.FormLaws.{AllRowsStandOnce, is_certificate_key, is_place_key}
 use Rattle.desk_history.specs.Requests.{Request, Submitted, numbered, requests, submitted}
@@ -26,6 +25,7 @@ use Rattle.desk_history.specs.declared.rows.RequestCertificateRow.{RequestCertif
 use Rattle.desk_history.specs.declared.rows.RequestComponentRow.{RequestComponentRow}
 use Rattle.desk_history.proofs.ListLemmas.{apart-more, number_is, or_none}
 use Rattle.desk_history.proofs.RowLemmas.{rows_stand_once}
+use Rattle.desk_history.proofs.RunLemmas.{giving}
 
 unlike : (b : Bool) → not b ≡ true → b ≡ false
 unlike true h = sym h
@@ -164,7 +164,7 @@ ascending_apart k (d ∷ ds) h = apart-more is_certificate_key (row_of k d) (map
 abbrev HasApart : Request → Type 0
 HasApart r = are_apart is_certificate_key (certificate_rows r) ≡ true
 
-one_request : (cs : History) (old : Call) (given : Command) → IsWithin given → All HasApart (requests cs) → All HasApart (requests (item (record old { command = given }) ∷ cs))
+one_request : (cs : History) (old : Item) (given : Command) → IsWithin given → All HasApart (requests cs) → All HasApart (requests (giving old given ∷ cs))
 one_request cs old (command.Submit s) w h = All-cons HasApart _ (requests cs) (ascending_apart (length (submitted cs) + 1) s.facts.carried w.ascending) h
 one_request cs old (command.AddPerson _) w h = h
 one_request cs old (command.Review _) w h = h
@@ -180,7 +180,7 @@ one_request cs old (command.ImportRevocations _) w h = h
 
 requests_apart : (cs : History) → All IsItem cs → All HasApart (requests cs)
 requests_apart [] h = All-nil HasApart
-requests_apart (i ∷ cs) h = one_request cs i.call i.call.command (All-head IsItem i cs h).limits (requests_apart cs (All-tail IsItem i cs h))
+requests_apart (i ∷ cs) h = one_request cs i i.call.command (All-head IsItem i cs h).limits (requests_apart cs (All-tail IsItem i cs h))
 
 pub all_rows_stand_once : AllRowsStandOnce
 all_rows_stand_once owner cs h = record {

@@ -5,7 +5,6 @@ use Rattle.std.specs.List.{list_any}
 use Rattle.std.proofs.lemmas.Bool.{and_parts}
 use Rattle.sbat.specs.declared.component.Component.{Component}
 use Rattle.desk_bytes.specs.declared.refusal.Refusal.TheVariants as refusals
-use Rattle.desk_texts.specs.declared.command.Call.{Call}
 use Rattle.desk_texts.specs.declared.command.Command.{Command}
 use Rattle.desk_texts.specs.declared.command.Command.TheVariants as command
 use Rattle.desk_texts.specs.declared.command.Person.{Person}
@@ -14,10 +13,10 @@ use Rattle.desk_texts.specs.declared.kind.ListedKind.TheVariants as kinds
 use Rattle.desk_texts.specs.declared.state.State.{State}
 use Rattle.desk_texts.specs.declared.state.State.TheVariants as states
 use Rattle.desk_texts.specs.Callers.{caller_name}
-use Rattle.desk_history.specs.Calls.{History, are_apart, item}
+use Rattle.desk_history.specs.Calls.{History, Item, are_apart}
 use Rattle.desk_history.specs.Level.{generations, names}
 use Rattle.desk_history.specs.People.{has_name, has_token, people}
-use Rattle.desk_history.specs.Replies.{minute, minutes}
+use Rattle.desk_history.specs.Replies.{minute_of, minutes}
 use Rattle.desk_history.specs.declared.rows.VoteRow.{VoteRow}
 use Rattle.desk_history.specs.Requests.{Request, Returned, Submitted, is_returned, is_vote_of, is_withdrawn, numbered, request, returns, state, state_by, submitted, votes, votes_on}
 use Rattle.desk_history.specs.Revocations.{revocations}
@@ -27,13 +26,13 @@ use Rattle.desk_history.specs.declared.rows.ReturnRow.{ReturnRow}
 use Rattle.desk_history.specs.Tables.{level_row, request_row, return_row}
 use Rattle.desk_history.specs.Laws.{RowsStandOnce, is_vote_key}
 use Rattle.desk_history.specs.Refusals.{own_refusal, refuse_if, return_refusal, review_refusal}
-use Rattle.desk_history.specs.Runs.{answer, is_accepted, is_legal}
+use Rattle.desk_history.specs.Runs.{is_legal}
 use Rattle.desk_history.specs.Verdicts.{is_barred, stands_in_db}
 use Rattle.desk_history.proofs.KeyLemmas.{key_rows, keys_stand_once}
 use Rattle.desk_history.proofs.ListLemmas.{apart-more, none_left, none_right, number_above, once_apart, or_none}
 use Rattle.desk_history.proofs.ListingLemmas.{listed_apart}
 use Rattle.desk_history.proofs.RefusalLemmas.{no_refusal, unrefused}
-use Rattle.desk_history.proofs.RunLemmas.{IsNew, accepted_parts}
+use Rattle.desk_history.proofs.RunLemmas.{giving, newest}
 
 -- numbers of calls: those of the calls before are lower
 
@@ -45,7 +44,7 @@ any_number n (i ∷ cs) h =
 numbers_apart : (cs : History) → are_apart (λ (a b : Minute). a.number == b.number) (minutes cs) ≡ true
 numbers_apart [] = refl
 numbers_apart (i ∷ cs) =
-    apart-more (λ (a b : Minute). a.number == b.number) (minute cs i.call) (minutes cs) (any_number (length cs + 1) cs (omega arith)) (numbers_apart cs)
+    apart-more (λ (a b : Minute). a.number == b.number) (minute_of cs i) (minutes cs) (any_number (length cs + 1) cs (omega arith)) (numbers_apart cs)
 
 -- numbers of requests, as those of calls
 
@@ -64,8 +63,8 @@ requests_apart at (s ∷ ss) =
 
 -- people
 
-one_name : (cs : History) (old : Call) (name : List ℕ) (given : Command) → own_refusal cs name given ≡ None → are_apart (λ (a b : Person). bytes_eq a.name b.name) (people cs) ≡ true →
-    are_apart (λ (a b : Person). bytes_eq a.name b.name) (people (item (record old { command = given }) ∷ cs)) ≡ true
+one_name : (cs : History) (old : Item) (name : List ℕ) (given : Command) → own_refusal cs name given ≡ None → are_apart (λ (a b : Person). bytes_eq a.name b.name) (people cs) ≡ true →
+    are_apart (λ (a b : Person). bytes_eq a.name b.name) (people (giving old given ∷ cs)) ≡ true
 one_name cs old name (command.AddPerson p) own h =
     let taken : (bytes_eq p.name (codes "console") || list_any (has_name p.name) (people cs) || list_any (has_token p.token) (people cs)) ≡ false =
     unrefused (bytes_eq p.name (codes "console") || list_any (has_name p.name) (people cs) || list_any (has_token p.token) (people cs)) refusals.NameTaken own in
@@ -74,8 +73,8 @@ one_name cs old name (command.AddPerson p) own h =
     apart-more (λ (a b : Person). bytes_eq a.name b.name) p (people cs) (none_right (bytes_eq p.name (codes "console")) (list_any (has_name p.name) (people cs)) named) h
 one_name cs old name _ own h = h
 
-one_token : (cs : History) (old : Call) (name : List ℕ) (given : Command) → own_refusal cs name given ≡ None → are_apart (λ (a b : Person). bytes_eq a.token b.token) (people cs) ≡ true →
-    are_apart (λ (a b : Person). bytes_eq a.token b.token) (people (item (record old { command = given }) ∷ cs)) ≡ true
+one_token : (cs : History) (old : Item) (name : List ℕ) (given : Command) → own_refusal cs name given ≡ None → are_apart (λ (a b : Person). bytes_eq a.token b.token) (people cs) ≡ true →
+    are_apart (λ (a b : Person). bytes_eq a.token b.token) (people (giving old given ∷ cs)) ≡ true
 one_token cs old name (command.AddPerson p) own h =
     let taken : (bytes_eq p.name (codes "console") || list_any (has_name p.name) (people cs) || list_any (has_token p.token) (people cs)) ≡ false =
     unrefused (bytes_eq p.name (codes "console") || list_any (has_name p.name) (people cs) || list_any (has_token p.token) (people cs)) refusals.NameTaken own in
@@ -101,11 +100,11 @@ votes_first (Some r) states.Open vs name h =
     ] h
 votes_first (Some r) _ vs name h = no_refusal h
 
-one_vote : (cs : History) (old : Call) (given : Command) → own_refusal cs (caller_name old.caller) given ≡ None → are_apart is_vote_key (votes cs) ≡ true →
-    are_apart is_vote_key (votes (item (record old { command = given }) ∷ cs)) ≡ true
+one_vote : (cs : History) (old : Item) (given : Command) → own_refusal cs (caller_name old.call.caller) given ≡ None → are_apart is_vote_key (votes cs) ≡ true →
+    are_apart is_vote_key (votes (giving old given ∷ cs)) ≡ true
 one_vote cs old (command.Review b) own h =
-    let v : VoteRow = record { request = b.request; reviewer = caller_name old.caller; vote = b.vote; note = b.note } in
-    apart-more is_vote_key v (votes cs) (sym (any_vote v (votes cs)) ∙ votes_first (request cs b.request) (state cs b.request) (votes_on (votes cs) b.request) (caller_name old.caller) own) h
+    let v : VoteRow = record { request = b.request; reviewer = caller_name old.call.caller; vote = b.vote; note = b.note } in
+    apart-more is_vote_key v (votes cs) (sym (any_vote v (votes cs)) ∙ votes_first (request cs b.request) (state cs b.request) (votes_on (votes cs) b.request) (caller_name old.call.caller) own) h
 one_vote cs old _ own h = h
 
 -- returns
@@ -119,10 +118,10 @@ unsigned r false is_taken vs x barred listed h = refl
 unsigned None true is_taken vs x barred listed h = no_refusal h
 unsigned (Some r) true is_taken vs x barred listed h = no_refusal h
 
-one_return : (cs : History) (old : Call) (given : Command) → own_refusal cs (caller_name old.caller) given ≡ None → are_apart (λ (a b : ReturnRow). a.request == b.request) (map return_row (returns cs)) ≡ true →
-    are_apart (λ (a b : ReturnRow). a.request == b.request) (map return_row (returns (item (record old { command = given }) ∷ cs))) ≡ true
+one_return : (cs : History) (old : Item) (given : Command) → own_refusal cs (caller_name old.call.caller) given ≡ None → are_apart (λ (a b : ReturnRow). a.request == b.request) (map return_row (returns cs)) ≡ true →
+    are_apart (λ (a b : ReturnRow). a.request == b.request) (map return_row (returns (giving old given ∷ cs))) ≡ true
 one_return cs old (command.Return g) own h =
-    let r : Returned = record { request = g.request; signer = caller_name old.caller; facts = g.facts } in
+    let r : Returned = record { request = g.request; signer = caller_name old.call.caller; facts = g.facts } in
     let first : is_returned cs g.request ≡ false = unsigned (request cs g.request) (is_returned cs g.request) (is_withdrawn cs g.request) (votes_on (votes cs) g.request) g.facts (is_barred cs g.facts) (stands_in_db cs g.facts) own in
     apart-more (λ (a b : ReturnRow). a.request == b.request) (return_row r) (map return_row (returns cs)) (any_return g.request (returns cs) ∙ first) h
 one_return cs old _ own h = h
@@ -138,14 +137,13 @@ record Rows (cs : History) : Type 0 where
 rows : (cs : History) → is_legal cs ≡ true → Rows cs
 rows [] h = record { by_name = refl; by_token = refl; by_vote = refl; by_return = refl }
 rows (i ∷ cs) h =
-    let both : (is_accepted (answer cs i.call) ≡ true) × (is_legal cs ≡ true) = and_parts (is_accepted (answer cs i.call)) (is_legal cs) h in
-    let new : IsNew cs i.call = accepted_parts cs i.call both.0 in
-    let before : Rows cs = rows cs both.1 in
+    let here = newest cs i h in
+    let before : Rows cs = rows cs here.before in
     record {
-      by_name = one_name cs i.call (caller_name i.call.caller) i.call.command new.own before.by_name;
-      by_token = one_token cs i.call (caller_name i.call.caller) i.call.command new.own before.by_token;
-      by_vote = one_vote cs i.call i.call.command new.own before.by_vote;
-      by_return = one_return cs i.call i.call.command new.own before.by_return;
+      by_name = one_name cs i (caller_name i.call.caller) i.call.command here.new.own before.by_name;
+      by_token = one_token cs i (caller_name i.call.caller) i.call.command here.new.own before.by_token;
+      by_vote = one_vote cs i i.call.command here.new.own before.by_vote;
+      by_return = one_return cs i i.call.command here.new.own before.by_return;
     }
 
 -- components

@@ -1,18 +1,20 @@
 -- Runs, and the calls that they accept.
 use Rattle.std.proofs.Common.{◌≡◌, ℕ, Bool, true, false, not, ◌&&◌, List, [], ◌∷◌, ◌++◌, Option, Some, None, refl, sym, ◌∙◌, ap, subst, append_assoc, ◌≤◌, length, arith}
 use Rattle.std.specs.Prelude.{if◌then◌else◌, bytes_eq, nat_le}
+use Rattle.std.specs.List.{list_all}
 use Rattle.std.specs.Option.{option_or}
 use Rattle.std.proofs.lemmas.Bool.{and_parts}
 use Rattle.std.proofs.lemmas.Bool.Decides.{nat_tests}
 use Rattle.desk_bytes.specs.declared.refusal.Refusal.{Refusal}
 use Rattle.desk_bytes.specs.declared.refusal.Refusal.TheVariants as refusals
 use Rattle.desk_texts.specs.declared.command.Call.{Call}
+use Rattle.desk_texts.specs.declared.command.Command.{Command}
 use Rattle.desk_texts.specs.declared.reply.Reply.{Reply}
 use Rattle.desk_texts.specs.Callers.{caller_name}
-use Rattle.desk_history.specs.Calls.{GoesOnFrom, History, distinct, item}
+use Rattle.desk_history.specs.Calls.{First, GoesOnFrom, History, Item, Rules, Second, distinct, is_first, item}
 use Rattle.desk_texts.specs.CommandTexts.{text_of}
 use Rattle.desk_history.specs.declared.rows.Minute.{Minute}
-use Rattle.desk_history.specs.Replies.{reply}
+use Rattle.desk_history.specs.Replies.{reply_to}
 use Rattle.desk_history.specs.Level.{generations, names}
 use Rattle.desk_history.specs.Listing.{listed}
 use Rattle.desk_history.specs.People.{people}
@@ -22,14 +24,18 @@ use Rattle.desk_texts.specs.declared.kind.ListedKind.TheVariants as kinds
 use Rattle.desk_history.specs.declared.answer.Answer.TheVariants.{Refused, Repeated}
 use Rattle.desk_history.specs.Laws.{LegalIsRun, RunsGoOn}
 use Rattle.desk_history.specs.Limits.{is_within, most_calls, most_level_components, most_listed, most_people, most_requests, most_revoked_certificates, most_revoked_digests}
-use Rattle.desk_history.specs.Refusals.{is_known, may_give, own_refusal, refusal, refuse_if}
-use Rattle.desk_history.specs.Runs.{answer, answer_known, earlier, is_accepted, is_legal, next, run}
+use Rattle.desk_history.specs.Refusals.{is_known, may_give, own_refusal, refusal_of, refuse_if}
+use Rattle.desk_history.specs.Runs.{answer_known, earlier, is_accepted, is_legal, joins, may_follow, next_item, run, run_by, ruling}
 
--- what is true of a call that is accepted
-pub record IsNew (cs : History) (c : Call) : Type 0 where
-  pub fresh : earlier cs c ≡ None
-  pub own : own_refusal cs (caller_name c.caller) c.command ≡ None
-  pub within : is_within (item c ∷ cs) ≡ true
+-- the item with this command
+abbrev pub giving : Item → Command → Item
+giving i given = record i { call = record i.call { command = given } }
+
+-- what is true of an item that is accepted
+pub record IsNew (cs : History) (i : Item) : Type 0 where
+  pub fresh : earlier cs i.call ≡ None
+  pub own : own_refusal cs (caller_name i.call.caller) i.call.command ≡ None
+  pub within : is_within (i ∷ cs) ≡ true
 
 record Parts (m : Option Minute) (own : Option Refusal) (within : Bool) : Type 0 where
   is_fresh : m ≡ None
@@ -49,56 +55,118 @@ parts true None text true (Some refusal) within reply h = no_parts h
 parts true None text true None false reply h = no_parts h
 parts true None text true None true reply h = record { is_fresh = refl; is_right = refl; has_room = refl }
 
-pub accepted_parts : (cs : History) (c : Call) → is_accepted (answer cs c) ≡ true → IsNew cs c
-accepted_parts cs c h =
-    let p : Parts (earlier cs c) (own_refusal cs (caller_name c.caller) c.command) (is_within (item c ∷ cs)) =
-    parts (is_known cs c.caller) (earlier cs c) (text_of c.command) (may_give cs c.caller c.command) (own_refusal cs (caller_name c.caller) c.command) (is_within (item c ∷ cs)) (reply cs c) h in
+pub accepted_parts : (cs : History) (i : Item) → is_accepted (ruling cs i) ≡ true → IsNew cs i
+accepted_parts cs i h =
+    let p : Parts (earlier cs i.call) (own_refusal cs (caller_name i.call.caller) i.call.command) (is_within (i ∷ cs)) =
+    parts (is_known cs i.call.caller) (earlier cs i.call) (text_of i.call.command) (may_give cs i.call.caller i.call.command) (own_refusal cs (caller_name i.call.caller) i.call.command) (is_within (i ∷ cs)) (reply_to cs i) h in
     record { fresh = p.is_fresh; own = p.is_right; within = p.has_room }
 
--- the history after a call is the one before it, or the call was accepted
-pub by_next : (P : History → Type 0) (cs : History) (c : Call) → P cs → (is_accepted (answer cs c) ≡ true → P (item c ∷ cs)) → P (next cs c)
-by_next P cs c same more =
-    elim (is_accepted (answer cs c)) as (λ b. is_accepted (answer cs c) ≡ b → P (if b then item c ∷ cs else cs)) [ true ↦ more | false ↦ λ _. same ] refl
+-- what is true of the newest of a legal history
+pub record IsNewest (cs : History) (i : Item) : Type 0 where
+  pub accepted : is_accepted (ruling cs i) ≡ true
+  pub follows : may_follow cs i ≡ true
+  pub new : IsNew cs i
+  pub before : is_legal cs ≡ true
 
-pub next_goes_on : (cs : History) (c : Call) → GoesOnFrom cs (next cs c)
-next_goes_on cs c = by_next (GoesOnFrom cs) cs c ([], refl) (λ _. (item c ∷ [], refl))
+pub newest : (cs : History) (i : Item) → is_legal (i ∷ cs) ≡ true → IsNewest cs i
+newest cs i h =
+    let both : (joins cs i ≡ true) × (is_legal cs ≡ true) = and_parts (joins cs i) (is_legal cs) h in
+    let here : (is_accepted (ruling cs i) ≡ true) × (may_follow cs i ≡ true) = and_parts (is_accepted (ruling cs i)) (may_follow cs i) both.0 in
+    record { accepted = here.0; follows = here.1; new = accepted_parts cs i here.0; before = both.1 }
 
-pub next_legal : (cs : History) (c : Call) → is_legal cs ≡ true → is_legal (next cs c) ≡ true
-next_legal cs c h = by_next (λ later. is_legal later ≡ true) cs c h (λ e. rw e h)
+legal_more : (cs : History) (i : Item) → is_accepted (ruling cs i) ≡ true → may_follow cs i ≡ true → is_legal cs ≡ true → is_legal (i ∷ cs) ≡ true
+legal_more cs i a f h = rw (a, f) h
+
+-- the history after an item is the one before it, or the item was accepted
+pub by_next : (P : History → Type 0) (cs : History) (i : Item) → P cs → (is_accepted (ruling cs i) ≡ true → P (i ∷ cs)) → P (next_item cs i)
+by_next P cs i same more =
+    elim (is_accepted (ruling cs i)) as (λ b. is_accepted (ruling cs i) ≡ b → P (if b then i ∷ cs else cs)) [ true ↦ more | false ↦ λ _. same ] refl
+
+pub next_goes_on : (cs : History) (i : Item) → GoesOnFrom cs (next_item cs i)
+next_goes_on cs i = by_next (GoesOnFrom cs) cs i ([], refl) (λ _. (i ∷ [], refl))
+
+pub next_legal : (cs : History) (i : Item) → may_follow cs i ≡ true → is_legal cs ≡ true → is_legal (next_item cs i) ≡ true
+next_legal cs i f h = by_next (λ later. is_legal later ≡ true) cs i h (λ e. legal_more cs i e f h)
 
 pub goes_on-trans : (a b c : History) → GoesOnFrom a b → GoesOnFrom b c → GoesOnFrom a c
 goes_on-trans a b c f g = (g.0 ++ f.0, g.1 ∙ ap (λ r. g.0 ++ r) f.1 ∙ sym (append_assoc g.0 f.0 a))
 
-run_goes_on : (cs : History) (calls : List Call) → GoesOnFrom cs (run cs calls)
-run_goes_on cs [] = ([], refl)
-run_goes_on cs (c ∷ calls) = goes_on-trans cs (next cs c) (run (next cs c) calls) (next_goes_on cs c) (run_goes_on (next cs c) calls)
+-- the call by these rules
+abbrev by : Rules → Call → Item
+by rules c = record { call = c; rules = rules }
 
-run-append : (cs : History) (calls more : List Call) → run cs (calls ++ more) ≡ run (run cs calls) more
-run-append cs [] more = refl
-run-append cs (c ∷ calls) more = run-append (next cs c) calls more
+run_goes_on : (rules : Rules) (cs : History) (calls : List Call) → GoesOnFrom cs (run_by rules cs calls)
+run_goes_on rules cs [] = ([], refl)
+run_goes_on rules cs (c ∷ calls) =
+    goes_on-trans cs (next_item cs (by rules c)) (run_by rules (next_item cs (by rules c)) calls) (next_goes_on cs (by rules c)) (run_goes_on rules (next_item cs (by rules c)) calls)
+
+run-append : (rules : Rules) (cs : History) (calls more : List Call) → run_by rules cs (calls ++ more) ≡ run_by rules (run_by rules cs calls) more
+run-append rules cs [] more = refl
+run-append rules cs (c ∷ calls) more = run-append rules (next_item cs (by rules c)) calls more
 
 pub runs_go_on : RunsGoOn
-runs_go_on cs calls more = subst (GoesOnFrom (run cs calls)) (sym (run-append cs calls more)) (run_goes_on (run cs calls) more)
+runs_go_on cs calls more = subst (GoesOnFrom (run cs calls)) (sym (run-append Second cs calls more)) (run_goes_on Second (run cs calls) more)
 
+-- a run by the second rules keeps legal what is
 run_legal : (cs : History) (calls : List Call) → is_legal cs ≡ true → is_legal (run cs calls) ≡ true
 run_legal cs [] h = h
-run_legal cs (c ∷ calls) h = run_legal (next cs c) calls (next_legal cs c h)
+run_legal cs (c ∷ calls) h = run_legal (next_item cs (item c)) calls (next_legal cs (item c) refl h)
 
-legal_run : (cs : History) → is_legal cs ≡ true → (calls : List Call) × (cs ≡ run [] calls)
-legal_run [] h = ([], refl)
-legal_run (i ∷ cs) h =
-    let both : (is_accepted (answer cs i.call) ≡ true) × (is_legal cs ≡ true) = and_parts (is_accepted (answer cs i.call)) (is_legal cs) h in
-    let before : (calls : List Call) × (cs ≡ run [] calls) = legal_run cs both.1 in
-    let step : next cs i.call ≡ i ∷ cs = rw both.0 refl in
-    (before.0 ++ i.call ∷ [], sym (run-append [] before.0 (i.call ∷ []) ∙ ap (λ h. next h i.call) (sym before.1) ∙ step))
+-- and one by the first rules, where all was by them
+record AreFirst (cs : History) : Type 0 where
+  legal : is_legal cs ≡ true
+  first : list_all is_first cs ≡ true
+
+first_next : (cs : History) (c : Call) → AreFirst cs → AreFirst (next_item cs (by First c))
+first_next cs c h = by_next AreFirst cs (by First c) h (λ e. record { legal = legal_more cs (by First c) e h.first h.legal; first = h.first })
+
+first_legal : (cs : History) (calls : List Call) → AreFirst cs → AreFirst (run_by First cs calls)
+first_legal cs [] h = h
+first_legal cs (c ∷ calls) h = first_legal (next_item cs (by First c)) calls (first_next cs c h)
+
+stepped : (cs : History) (i : Item) → is_accepted (ruling cs i) ≡ true → next_item cs i ≡ i ∷ cs
+stepped cs i h = rw h refl
+
+-- a history of the first rules alone is a run by them
+first_run : (cs : History) → is_legal cs ≡ true → list_all is_first cs ≡ true → (calls : List Call) × (cs ≡ run_by First [] calls)
+first_run [] h f = ([], refl)
+first_run (i ∷ cs) h f =
+    let here = newest cs i h in
+    let all : (is_first i ≡ true) × (list_all is_first cs ≡ true) = and_parts (is_first i) (list_all is_first cs) f in
+    let before : (calls : List Call) × (cs ≡ run_by First [] calls) = first_run cs here.before all.1 in
+    let mine : by First i.call ≡ i = first_item i.call i.rules all.0 in
+    (before.0 ++ i.call ∷ [],
+    sym (run-append First [] before.0 (i.call ∷ []) ∙ ap (λ l. next_item l (by First i.call)) (sym before.1) ∙ ap (next_item cs) mine ∙ stepped cs i here.accepted))
+  where
+    first_item : (c : Call) (rules : Rules) → is_first (by rules c) ≡ true → by First c ≡ by rules c
+    first_item c First e = refl
+    first_item c Second e = no_parts e
+
+abbrev IsRun : History → Type 0
+IsRun cs = (first more : List Call) × (cs ≡ run (run_by First [] first) more)
+
+one_more : (cs : History) (c : Call) (rules : Rules) → is_legal (by rules c ∷ cs) ≡ true → IsRun cs → IsRun (by rules c ∷ cs)
+one_more cs c First h r =
+    let here = newest cs (by First c) h in
+    let alone = first_run (by First c ∷ cs) h here.follows in
+    (alone.0, [], alone.1)
+one_more cs c Second h r =
+    let here = newest cs (by Second c) h in
+    (r.0, r.1 ++ c ∷ [],
+    sym (run-append Second (run_by First [] r.0) r.1 (c ∷ []) ∙ ap (λ l. next_item l (by Second c)) (sym r.2) ∙ stepped cs (by Second c) here.accepted))
+
+legal_run : (cs : History) → is_legal cs ≡ true → IsRun cs
+legal_run [] h = ([], [], refl)
+legal_run (i ∷ cs) h = one_more cs i.call i.rules h (legal_run cs (newest cs i h).before)
 
 pub legal_histories_are_runs : LegalIsRun
-legal_histories_are_runs cs = (legal_run cs, λ r. subst (λ h. is_legal h ≡ true) (sym r.1) (run_legal [] r.0 refl))
+legal_histories_are_runs cs =
+    (legal_run cs, λ r. subst (λ h. is_legal h ≡ true) (sym r.2) (run_legal (run_by First [] r.0) r.1 (first_legal [] r.0 (record { legal = refl; first = refl })).legal))
 
 -- a legal history keeps within what a desk may hold
 legal_within : (cs : History) → is_legal cs ≡ true → is_within cs ≡ true
 legal_within [] h = refl
-legal_within (i ∷ cs) h = (accepted_parts cs i.call (and_parts (is_accepted (answer cs i.call)) (is_legal cs) h).0).within
+legal_within (i ∷ cs) h = (newest cs i h).new.within
 
 -- a history keeps within each limit
 pub record Within (cs : History) : Type 0 where
@@ -140,6 +208,5 @@ pub legal_room : (cs : History) → is_legal cs ≡ true → length (requests cs
 legal_room cs h = let within : nat_le (length (requests cs)) 100000 ≡ true = (legal_parts cs h).requests in grind (arith, nat_tests, within)
 
 -- those before the newest of a legal history are legal
-pub legal_rest : (cs : History) (c : Call) (rest : History) → cs ≡ item c ∷ rest → is_legal cs ≡ true → is_legal rest ≡ true
-legal_rest cs c rest is h =
-    (and_parts (is_accepted (answer rest c)) (is_legal rest) (subst (λ l. is_legal l ≡ true) is h)).1
+pub legal_rest : (cs : History) (i : Item) (rest : History) → cs ≡ i ∷ rest → is_legal cs ≡ true → is_legal rest ≡ true
+legal_rest cs i rest is h = (newest rest i (subst (λ l. is_legal l ≡ true) is h)).before

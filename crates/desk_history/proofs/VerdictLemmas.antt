@@ -50,7 +50,7 @@ allows_exactly cs x =
 pub revoked_after : (kind : ListedKind) (cs new : History) (digest : List ℕ) → is_revoked kind cs digest ≡ true → is_revoked kind (new ++ cs) digest ≡ true
 revoked_after kind cs [] digest h = h
 revoked_after kind cs (c ∷ new) digest h =
-    any_after (bytes_eq digest) (revoked_in kind (into_force (new ++ cs) c.call.command)) (revocations kind (new ++ cs)) (revoked_after kind cs new digest h)
+    any_after (bytes_eq digest) (revoked_in kind (into_force (new ++ cs) c)) (revocations kind (new ++ cs)) (revoked_after kind cs new digest h)
 
 more_asked : (n m : ℕ) (asked : Option ℕ) → is_less n asked ≡ true → is_less n (Some (greater_of m asked)) ≡ true
 more_asked n m None h = cc
@@ -67,7 +67,7 @@ greatest_after n name (x ∷ xs) ys h =
 
 asked_after : (cs new : History) (n : ℕ) (name : List ℕ) → is_less n (greatest (generations cs) name) ≡ true → is_less n (greatest (generations (new ++ cs)) name) ≡ true
 asked_after cs [] n name h = h
-asked_after cs (c ∷ new) n name h = greatest_after n name (into_force (new ++ cs) c.call.command).components (generations (new ++ cs)) (asked_after cs new n name h)
+asked_after cs (c ∷ new) n name h = greatest_after n name (into_force (new ++ cs) c).components (generations (new ++ cs)) (asked_after cs new n name h)
 
 below_after : (cs new : History) (x : Component) → is_below (standing cs) x ≡ true → is_below (standing (new ++ cs)) x ≡ true
 below_after cs new x h =

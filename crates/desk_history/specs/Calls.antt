@@ -6,13 +6,23 @@ use Rattle.desk_texts.specs.declared.command.Call.{Call}
 use Rattle.desk_texts.specs.declared.kind.ListedKind.{ListedKind}
 use Rattle.desk_texts.specs.declared.kind.ListedKind.TheVariants as kinds
 
+-- By which rules a call was accepted: those of one officer, or those of two.
+pub data Rules : Type 0 where
+  First : Rules
+  Second : Rules
+
 -- What a history has of each accepted call.
 pub record Item : Type 0 where
   pub call : Call
+  pub rules : Rules
 
--- the item of a call
+-- the item of a call that is accepted now
 abbrev pub item : Call → Item
-item c = record { call = c }
+item c = record { call = c; rules = Second }
+
+-- the call was accepted by the first rules
+abbrev pub is_first : Item → Bool
+is_first i = elim i.rules [ First ↦ true | Second ↦ false ]
 
 -- The calls that were accepted, the newest first.
 abbrev pub History : Type 0

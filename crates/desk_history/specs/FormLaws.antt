@@ -2,17 +2,16 @@
 use Rattle.std.specs.Prelude.{◌≡◌, ℕ, ◌==◌, Bool, ◌&&◌, IsTrue, All, List, ◌++◌, ◌∷◌, bytes_eq}
 use Rattle.std.specs.List.{Contains, list_all}
 use Rattle.desk_texts.specs.Callers.{caller_name, is_told_by_name}
-use Rattle.desk_texts.specs.Formed.{IsCall}
 use Rattle.desk_texts.specs.Raising.{names_no_sbat}
 use Rattle.desk_texts.specs.ReplyTexts.{reply_text_of}
 use Rattle.desk_texts.specs.declared.command.Call.{Call}
 use Rattle.desk_texts.specs.declared.facts.Facts.{Facts}
 use Rattle.desk_texts.specs.declared.reply.Reply.{Reply}
-use Rattle.desk_history.specs.Calls.{GoesOnFrom, History, are_apart, item}
-use Rattle.desk_history.specs.Formed.{IsHistory, IsReadable}
+use Rattle.desk_history.specs.Calls.{GoesOnFrom, History, Item, Rules, are_apart}
+use Rattle.desk_history.specs.Formed.{IsHistory, IsItem, IsReadable}
 use Rattle.desk_history.specs.Laws.{StandOnce}
 use Rattle.desk_history.specs.Lives.{Ends, Event, Life, WasAnswered, events_of}
-use Rattle.desk_history.specs.Replies.{minutes, reply}
+use Rattle.desk_history.specs.Replies.{minutes, reply_to}
 use Rattle.desk_history.specs.Runs.{is_legal}
 use Rattle.desk_history.specs.Tables.{Tables, tables}
 use Rattle.desk_history.specs.Verdicts.{is_barred}
@@ -60,34 +59,35 @@ abbrev pub MinutesDiffer : Type 0
 MinutesDiffer =
     (cs : History) → IsHistory cs → (a b : Minute) → Contains (minutes cs) a → Contains (minutes cs) b → AreAlike a b
 
--- the call itself stands in the history, and was given this reply when it was accepted
+-- the call itself stands in the history, and was given this reply when it was accepted, by whichever rules
 pub record Stands (cs : History) (c : Call) (given : Reply) : Type 0 where
+  pub rules : Rules
   pub later : History
   pub before : History
-  pub is : cs ≡ later ++ item c ∷ before
-  pub same : reply before c ≡ given
+  pub is : cs ≡ later ++ record { call = c; rules = rules } ∷ before
+  pub same : reply_to before (record { call = c; rules = rules }) ≡ given
 
 -- what a series of lives may leave is a desk's history, where each of its calls was in its forms
 abbrev pub EndsAreHistories : Type 0
 EndsAreHistories =
-    (lives : List Life) (cs : History) → Ends lives cs → All (λ e. IsCall e.call) (events_of lives) → IsHistory cs
+    (lives : List Life) (cs : History) → Ends lives cs → All (λ e. IsItem e.item) (events_of lives) → IsHistory cs
 
 -- and each call that was answered Ok stands in it with its reply
 abbrev pub AnsweredCallsStand : Type 0
 AnsweredCallsStand =
-    (lives : List Life) (cs : History) → Ends lives cs → All (λ e. IsCall e.call) (events_of lives)
-    → (c : Call) (reply : Reply) (at : History) → WasAnswered (events_of lives) cs c reply at → Stands cs c reply
+    (lives : List Life) (cs : History) → Ends lives cs → All (λ e. IsItem e.item) (events_of lives)
+    → (i : Item) (reply : Reply) (at : History) → WasAnswered (events_of lives) cs i reply at → Stands cs i.call reply
 
 -- What a series of lives left keeps all that was answered Ok: the call stands in it with its reply, it goes on from the
 -- history of that time, and each image that was barred then is barred.
 pub record KeepsAnswered (events : List Event) (cs : History) : Type 0 where
-  pub stands : (c : Call) (reply : Reply) (at : History) → WasAnswered events cs c reply at → Stands cs c reply
-  pub goes_on : (c : Call) (reply : Reply) (at : History) → WasAnswered events cs c reply at → GoesOnFrom at cs
-  pub barred : (c : Call) (reply : Reply) (at : History) → WasAnswered events cs c reply at
+  pub stands : (i : Item) (reply : Reply) (at : History) → WasAnswered events cs i reply at → Stands cs i.call reply
+  pub goes_on : (i : Item) (reply : Reply) (at : History) → WasAnswered events cs i reply at → GoesOnFrom at cs
+  pub barred : (i : Item) (reply : Reply) (at : History) → WasAnswered events cs i reply at
       → (x : Facts) → IsTrue (is_barred at x) → IsTrue (is_barred cs x)
 
 -- any number of lives leave a desk's history that keeps all that was answered in them, where each call was in its forms
 abbrev pub LivesKeepAnswered : Type 0
 LivesKeepAnswered =
-    (lives : List Life) (cs : History) → Ends lives cs → All (λ e. IsCall e.call) (events_of lives)
+    (lives : List Life) (cs : History) → Ends lives cs → All (λ e. IsItem e.item) (events_of lives)
     → IsHistory cs × KeepsAnswered (events_of lives) cs

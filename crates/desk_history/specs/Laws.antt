@@ -6,7 +6,7 @@ use Rattle.desk_texts.specs.declared.facts.Facts.{Facts}
 use Rattle.desk_texts.specs.declared.kind.ListedKind.{ListedKind}
 use Rattle.desk_texts.specs.declared.command.Person.{Person}
 use Rattle.desk_texts.specs.declared.reply.Reply.{Reply}
-use Rattle.desk_history.specs.Calls.{GoesOnFrom, History, are_apart, is_same_item}
+use Rattle.desk_history.specs.Calls.{First, GoesOnFrom, History, Item, are_apart, is_same_item}
 use Rattle.desk_history.specs.declared.rows.Entry.{Entry}
 use Rattle.desk_history.specs.Listing.{has_entry, is_entry, is_listed, listed}
 use Rattle.desk_history.specs.declared.rows.VoteRow.{VoteRow}
@@ -17,7 +17,7 @@ use Rattle.desk_history.specs.Tables.{Tables, tables}
 use Rattle.desk_texts.specs.Callers.{caller_name}
 use Rattle.desk_history.specs.declared.finding.Verdict.TheVariants.{Allowed}
 use Rattle.desk_history.specs.Lives.{Answered, Ends, Event, Holds, Life, WasAnswered, events_of}
-use Rattle.desk_history.specs.Runs.{is_legal, run}
+use Rattle.desk_history.specs.Runs.{is_legal, run, run_by}
 use Rattle.desk_history.specs.Verdicts.{is_barred, stands_in_db, verdict}
 
 -- an image is allowed exactly where it isn't barred and stands in db
@@ -35,9 +35,10 @@ StaysBarred =
 abbrev pub RunsGoOn : Type 0
 RunsGoOn = (cs : History) (calls more : List Call) → GoesOnFrom (run cs calls) (run cs (calls ++ more))
 
--- the legal histories are those that runs from nothing leave
+-- the legal histories are those that runs from nothing leave, of which the first calls may be by the first rules
 abbrev pub LegalIsRun : Type 0
-LegalIsRun = (cs : History) → IsTrue (is_legal cs) ↔ ((calls : List Call) × (cs ≡ run [] calls))
+LegalIsRun =
+    (cs : History) → IsTrue (is_legal cs) ↔ ((first more : List Call) × (cs ≡ run (run_by First [] first) more))
 
 -- each listed row is of an entry that is listed, and each listed entry has a row
 abbrev pub ListsListed : Type 0
@@ -80,12 +81,12 @@ EndsAreLegal = (lives : List Life) (cs : History) → Ends lives cs → IsTrue (
 -- each call of a series that was answered Ok was answered at some history
 abbrev pub AnswersHaveHistories : Type 0
 AnswersHaveHistories =
-    (lives : List Life) (cs : History) → Ends lives cs → (c : Call) (reply : Reply) (earlier later : List Event)
-    → events_of lives ≡ earlier ++ record { call = c; fate = Answered reply } ∷ later
-    → (at : History) × WasAnswered (events_of lives) cs c reply at
+    (lives : List Life) (cs : History) → Ends lives cs → (i : Item) (reply : Reply) (earlier later : List Event)
+    → events_of lives ≡ earlier ++ record { item = i; fate = Answered reply } ∷ later
+    → (at : History) × WasAnswered (events_of lives) cs i reply at
 
 -- what a series leaves holds each call that was answered Ok with its reply, and goes on from the history of that time
 abbrev pub AnswersAreKept : Type 0
 AnswersAreKept =
-    (lives : List Life) (cs : History) → Ends lives cs → (c : Call) (reply : Reply) (at : History)
-    → WasAnswered (events_of lives) cs c reply at → Holds cs c reply × GoesOnFrom at cs
+    (lives : List Life) (cs : History) → Ends lives cs → (i : Item) (reply : Reply) (at : History)
+    → WasAnswered (events_of lives) cs i reply at → Holds cs i.call reply × GoesOnFrom at cs

@@ -1,16 +1,15 @@
 -- The SBAT level (shim's SBAT.md, "Generation-Based Revocation Overview"): the least generation asked of each component.
 use Rattle.std.specs.Prelude.{ℕ, Bool, true, nat_lt, if◌then◌else◌, max, List, [], ◌∷◌, ◌++◌, map, Option, Some, None, unwrap_or, bytes_eq}
 use Rattle.std.specs.List.{list_any}
-use Rattle.desk_texts.specs.declared.command.Command.{Command}
 use Rattle.sbat.specs.declared.component.Component.{Component}
 use Rattle.sbat.specs.Fields.{sbat}
 use Rattle.desk_history.specs.Calls.{History, distinct}
-use Rattle.desk_history.specs.Forces.{into_force}
+use Rattle.desk_history.specs.Forces.{InForce, into_force}
 
 -- the components whose generation some call names, each as often as it is named
 abbrev pub generations : History → List Component
 generations [] = []
-generations (i ∷ cs) = (into_force cs i.call.command).components ++ generations cs
+generations (i ∷ cs) = (into_force cs i).components ++ generations cs
 
 -- the greater of a number and one that may be missing
 abbrev pub greater_of : ℕ → Option ℕ → ℕ
@@ -44,12 +43,12 @@ is_above n (Some m) = nat_lt m n
 abbrev pub raises : History → Component → Bool
 raises cs x = is_above x.generation (greatest (generations cs) x.name)
 
--- the command raises some generation
-abbrev pub raises_some : History → Command → Bool
-raises_some cs command = list_any (raises cs) (into_force cs command).components
+-- what is put into force raises some generation
+abbrev pub raises_some : History → InForce → Bool
+raises_some cs f = list_any (raises cs) f.components
 
 -- the level's stamp: that of the last call that raised a generation. own: before any it is that of shim's first level
 abbrev pub stamp : History → ℕ
 stamp [] = 2021030218
 stamp (i ∷ cs) =
-    if raises_some cs i.call.command then unwrap_or (into_force cs i.call.command).stamp (stamp cs) else stamp cs
+    if raises_some cs (into_force cs i) then unwrap_or (into_force cs i).stamp (stamp cs) else stamp cs

@@ -1,12 +1,12 @@
 -- Lives of a desk, and what stops leave of its history.
-use Rattle.std.specs.Prelude.{◌≡◌, ◌⊎◌, Bool, true, false, IsTrue, List, [], ◌∷◌, ◌++◌, Some, flat_map}
+use Rattle.std.specs.Prelude.{◌≡◌, ◌⊎◌, Bool, true, false, ◌&&◌, IsTrue, List, [], ◌∷◌, ◌++◌, Some, flat_map}
 use Rattle.std.specs.List.{list_all}
 use Rattle.desk_texts.specs.declared.command.Call.{Call}
 use Rattle.desk_texts.specs.declared.reply.Reply.{Reply}
-use Rattle.desk_history.specs.Calls.{History}
+use Rattle.desk_history.specs.Calls.{First, History, Item, Rules, Second, item}
 use Rattle.desk_history.specs.declared.rows.Minute.{Minute}
 use Rattle.desk_texts.specs.CommandTexts.{text_of}
-use Rattle.desk_history.specs.Runs.{answer, earlier, next, reply_in}
+use Rattle.desk_history.specs.Runs.{earlier, next_item, reply_in, ruling}
 
 -- What became of a call: it was answered Ok with a reply, it was refused, or it was stopped, which is also what a
 -- call answered with the failure of the store is.
@@ -15,25 +15,39 @@ pub data Fate : Type 0 where
   Refused : Fate
   Stopped : Fate
 
--- a call, and what became of it
+-- a call with the rules by which it was judged, and what became of it
 pub record Event : Type 0 where
-  pub call : Call
+  pub item : Item
   pub fate : Fate
 
--- what a stop during a call leaves: the history before it, or the one after it
+-- what a stop during an item's call leaves: the history before it, or the one after it
+abbrev pub LeavesEither : History → Item → History → Type 0
+LeavesEither cs i later = (later ≡ cs) ⊎ (later ≡ next_item cs i)
+
+-- what a stop during a call leaves
 abbrev pub IsLeft : History → Call → History → Type 0
-IsLeft cs c later = (later ≡ cs) ⊎ (later ≡ next cs c)
+IsLeft cs c later = LeavesEither cs (item c) later
 
 -- the history that an event may leave
-abbrev pub MayTurn : History → Call → Fate → History → Type 0
-MayTurn cs c (Answered reply) later = (reply_in (answer cs c) ≡ Some reply) × (later ≡ next cs c)
-MayTurn cs c Refused later = later ≡ cs
-MayTurn cs c Stopped later = IsLeft cs c later
+abbrev pub MayTurn : History → Item → Fate → History → Type 0
+MayTurn cs i (Answered reply) later = (reply_in (ruling cs i) ≡ Some reply) × (later ≡ next_item cs i)
+MayTurn cs i Refused later = later ≡ cs
+MayTurn cs i Stopped later = LeavesEither cs i later
 
 -- the history that events may leave, the first of them first
 abbrev pub MayLeave : History → List Event → History → Type 0
 MayLeave cs [] end = end ≡ cs
-MayLeave cs (e ∷ events) end = (later : History) × MayTurn cs e.call e.fate later × MayLeave later events end
+MayLeave cs (e ∷ events) end = (later : History) × MayTurn cs e.item e.fate later × MayLeave later events end
+
+-- both are the same rules
+abbrev pub are_rules : Rules → Rules → Bool
+are_rules First First = true
+are_rules Second Second = true
+are_rules _ _ = false
+
+-- each call was judged by these rules
+abbrev pub are_by : Rules → List Event → Bool
+are_by rules events = list_all (λ e. are_rules rules e.item.rules) events
 
 -- the call was refused
 abbrev pub is_refused : Event → Bool
@@ -64,9 +78,11 @@ pub record Life : Type 0 where
   pub opening : Opening
   pub events : List Event
 
--- a desk that isn't open has no calls
+-- a desk that isn't open has no calls; each call is judged by the rules of the program
 abbrev pub is_life : Life → Bool
-is_life life = elim life.opening [ Opened ↦ ends_at_a_stop life.events | NotOpened ↦ is_empty life.events ]
+is_life life =
+    are_by Second life.events
+    && elim life.opening [ Opened ↦ ends_at_a_stop life.events | NotOpened ↦ is_empty life.events ]
 
 -- the events of lives, one life after another
 abbrev pub events_of : List Life → List Event
@@ -76,15 +92,15 @@ events_of lives = flat_map (λ life. life.events) lives
 abbrev pub Ends : List Life → History → Type 0
 Ends lives cs = IsTrue (list_all is_life lives) × MayLeave [] (events_of lives) cs
 
--- In the events that led from a new desk to this history, the call was answered Ok with the reply, and the desk's
+-- In the events that led from a new desk to this history, the item's call was answered Ok with the reply, and the desk's
 -- history was then `at`.
-pub record WasAnswered (events : List Event) (cs : History) (c : Call) (reply : Reply) (at : History) : Type 0 where
+pub record WasAnswered (events : List Event) (cs : History) (i : Item) (reply : Reply) (at : History) : Type 0 where
   pub earlier : List Event
   pub later : List Event
-  pub is : events ≡ earlier ++ record { call = c; fate = Answered reply } ∷ later
+  pub is : events ≡ earlier ++ record { item = i; fate = Answered reply } ∷ later
   pub before : History
   pub reached : MayLeave [] earlier before
-  pub answered : MayTurn before c (Answered reply) at
+  pub answered : MayTurn before i (Answered reply) at
   pub left : MayLeave at later cs
 
 -- the minutes hold the caller's key with the call's text and this reply

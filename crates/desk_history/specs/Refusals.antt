@@ -16,7 +16,8 @@ use Rattle.desk_texts.specs.declared.command.Raise.{Raise}
 use Rattle.desk_texts.specs.declared.state.State.{State}
 use Rattle.desk_texts.specs.declared.state.State.TheVariants as states
 use Rattle.desk_texts.specs.Callers.{caller_name}
-use Rattle.desk_history.specs.Calls.{History, item}
+use Rattle.desk_history.specs.Calls.{History, Item, item}
+use Rattle.desk_history.specs.Forces.{forced_by}
 use Rattle.desk_history.specs.Level.{generations, greatest, is_above, is_sbat, raises_some, stamp}
 use Rattle.desk_history.specs.Listing.{is_listed}
 use Rattle.desk_history.specs.People.{has_name, has_token, people}
@@ -128,10 +129,15 @@ own_refusal cs name (command.RevokeCertificate d) =
     refuse_if (is_revoked kinds.Certificate cs d) refusals.AlreadyRevoked
 own_refusal cs name (command.RaiseLevel r) = raise_refusal (greatest (generations cs) r.component.name) (stamp cs) r
 own_refusal cs name (command.ImportRevocations i) =
-    import_refusal (raises_some cs (command.ImportRevocations i)) (stamp cs) i.stamp
+    import_refusal (raises_some cs (forced_by (command.ImportRevocations i))) (stamp cs) i.stamp
 
 -- own: the caller's role comes first, then the command's own conditions, and at the end how much a desk may hold
+abbrev pub refusal_of : History → Item → Option Refusal
+refusal_of cs i =
+    if not (may_give cs i.call.caller i.call.command) then Some refusals.NotYourRole
+    else option_or (own_refusal cs (caller_name i.call.caller) i.call.command)
+    (refuse_if (not (is_within (i ∷ cs))) refusals.Full)
+
+-- why a call is refused now
 abbrev pub refusal : History → Call → Option Refusal
-refusal cs c =
-    if not (may_give cs c.caller c.command) then Some refusals.NotYourRole
-    else option_or (own_refusal cs (caller_name c.caller) c.command) (refuse_if (not (is_within (item c ∷ cs))) refusals.Full)
+refusal cs c = refusal_of cs (item c)

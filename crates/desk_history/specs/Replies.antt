@@ -8,56 +8,64 @@ use Rattle.desk_texts.specs.declared.kind.ListedKind.TheVariants as kinds
 use Rattle.desk_texts.specs.declared.reply.Reply.{Reply}
 use Rattle.desk_texts.specs.declared.reply.Reply.TheVariants as replies
 use Rattle.desk_history.specs.declared.rows.Minute.{Minute}
-use Rattle.desk_history.specs.Calls.{History, distinct, item}
-use Rattle.desk_history.specs.Forces.{into_force}
+use Rattle.desk_history.specs.Calls.{History, Item, distinct, item}
+use Rattle.desk_history.specs.Forces.{InForce, into_force}
 use Rattle.desk_history.specs.Level.{names, raises}
 use Rattle.desk_history.specs.Requests.{requests, state}
 use Rattle.desk_history.specs.Revocations.{revocations}
 use Rattle.desk_texts.specs.CommandTexts.{text_of}
 
 -- how many different digests of this kind are revoked after the call and weren't before
-abbrev pub gained : ListedKind → History → Call → ℕ
-gained kind cs c = length (distinct (revocations kind (item c ∷ cs))) - length (distinct (revocations kind cs))
+abbrev pub gained : ListedKind → History → Item → ℕ
+gained kind cs i = length (distinct (revocations kind (i ∷ cs))) - length (distinct (revocations kind cs))
 
--- how many different names have their generations raised by a command
-abbrev pub raised_count : History → Command → ℕ
-raised_count cs command = length (names (filter (raises cs) (into_force cs command).components))
+-- how many different names have their generations raised by what is put into force
+abbrev pub raised_count : History → InForce → ℕ
+raised_count cs f = length (names (filter (raises cs) f.components))
 
 -- the reply to a command that is accepted in this call
-abbrev pub reply_to : History → Call → Command → Reply
-reply_to cs c (command.AddPerson person) = replies.Added person.name
-reply_to cs c (command.Submit submission) = replies.Submitted (length (requests cs) + 1)
-reply_to cs c (command.Review b) = replies.Reviewed (record { request = b.request; state = state (item c ∷ cs) b.request })
-reply_to cs c (command.Withdraw number) = replies.Withdrawn number
-reply_to cs c (command.Return h) = replies.Returned h.request
-reply_to cs c (command.ListCertificate certificate) = replies.Listed
-reply_to cs c (command.ListDigest digest) = replies.Listed
-reply_to cs c (command.Unlist listing) = replies.Unlisted
-reply_to cs c (command.RevokeDigest digest) = replies.Revoked
-reply_to cs c (command.RevokeCertificate digest) = replies.Revoked
-reply_to cs c (command.RaiseLevel raise) = replies.Raised
-reply_to cs c (command.ImportRevocations i) = replies.Imported (record {
-  digests = gained kinds.Digest cs c;
-  certificates = gained kinds.Certificate cs c;
-  components = raised_count cs (command.ImportRevocations i);
-  passed = i.passed;
+abbrev pub reply_by : History → Item → Command → Reply
+reply_by cs i (command.AddPerson person) = replies.Added person.name
+reply_by cs i (command.Submit submission) = replies.Submitted (length (requests cs) + 1)
+reply_by cs i (command.Review b) = replies.Reviewed (record { request = b.request; state = state (i ∷ cs) b.request })
+reply_by cs i (command.Withdraw number) = replies.Withdrawn number
+reply_by cs i (command.Return h) = replies.Returned h.request
+reply_by cs i (command.ListCertificate certificate) = replies.Listed
+reply_by cs i (command.ListDigest digest) = replies.Listed
+reply_by cs i (command.Unlist listing) = replies.Unlisted
+reply_by cs i (command.RevokeDigest digest) = replies.Revoked
+reply_by cs i (command.RevokeCertificate digest) = replies.Revoked
+reply_by cs i (command.RaiseLevel raise) = replies.Raised
+reply_by cs i (command.ImportRevocations named) = replies.Imported (record {
+  digests = gained kinds.Digest cs i;
+  certificates = gained kinds.Certificate cs i;
+  components = raised_count cs (into_force cs i);
+  passed = named.passed;
 })
 
 -- own: the reply to a call that is accepted after these
+abbrev pub reply_to : History → Item → Reply
+reply_to cs i = reply_by cs i i.call.command
+
+-- the reply to a call that is accepted now
 abbrev pub reply : History → Call → Reply
-reply cs c = reply_to cs c c.command
+reply cs c = reply_to cs (item c)
 
 -- the minute of a call that is accepted after these
-abbrev pub minute : History → Call → Minute
-minute cs c = record {
+abbrev pub minute_of : History → Item → Minute
+minute_of cs i = record {
   number = length cs + 1;
-  caller = c.caller;
-  key = c.key;
-  text = text_of c.command;
-  reply = reply cs c;
+  caller = i.call.caller;
+  key = i.call.key;
+  text = text_of i.call.command;
+  reply = reply_to cs i;
 }
+
+-- the minute of a call that is accepted now
+abbrev pub minute : History → Call → Minute
+minute cs c = minute_of cs (item c)
 
 -- the minutes, the newest first
 abbrev pub minutes : History → List Minute
 minutes [] = []
-minutes (i ∷ cs) = minute cs i.call ∷ minutes cs
+minutes (i ∷ cs) = minute_of cs i ∷ minutes cs

@@ -7,7 +7,7 @@ use Rattle.desk_history.specs.Forces.{into_force, revoked_in}
 -- the digests that some call revokes, each as often as it is named. own: no call takes a revocation back
 abbrev pub revocations : ListedKind → History → List (List ℕ)
 revocations kind [] = []
-revocations kind (i ∷ cs) = revoked_in kind (into_force cs i.call.command) ++ revocations kind cs
+revocations kind (i ∷ cs) = revoked_in kind (into_force cs i) ++ revocations kind cs
 
 -- some call revokes the digest
 abbrev pub is_revoked : ListedKind → History → List ℕ → Bool

@@ -1,17 +1,18 @@
 -- What a call is answered, and runs of calls.
 use Rattle.std.specs.Prelude.{ℕ, Bool, true, false, not, ◌&&◌, if◌then◌else◌, List, [], ◌∷◌, find, Option, Some, None, bytes_eq}
+use Rattle.std.specs.List.{list_all}
 use Rattle.desk_bytes.specs.declared.refusal.Refusal.{Refusal}
 use Rattle.desk_bytes.specs.declared.refusal.Refusal.TheVariants as refusals
 use Rattle.desk_texts.specs.declared.command.Call.{Call}
 use Rattle.desk_texts.specs.declared.reply.Reply.{Reply}
 use Rattle.desk_texts.specs.Callers.{caller_name}
-use Rattle.desk_history.specs.Calls.{History, item}
+use Rattle.desk_history.specs.Calls.{First, History, Item, Rules, Second, is_first, item}
 use Rattle.desk_history.specs.declared.rows.Minute.{Minute}
-use Rattle.desk_history.specs.Replies.{minutes, reply}
+use Rattle.desk_history.specs.Replies.{minutes, reply_to}
 use Rattle.desk_texts.specs.CommandTexts.{text_of}
 use Rattle.desk_history.specs.declared.answer.Answer.{Answer}
 use Rattle.desk_history.specs.declared.answer.Answer.TheVariants.{Accepted, Refused, Repeated}
-use Rattle.desk_history.specs.Refusals.{is_known, refusal}
+use Rattle.desk_history.specs.Refusals.{is_known, refusal_of}
 
 -- the minute is of a call with this caller and key
 abbrev pub has_key : List ℕ → List ℕ → Minute → Bool
@@ -35,11 +36,16 @@ abbrev pub answer_known : Option Minute → List ℕ → Option Refusal → Repl
 answer_known (Some m) text refusal reply = repeated m text
 answer_known None text refusal reply = answer_new_key refusal reply
 
--- own: what the call is answered after these: who calls, then the key, then the refusals of a call with a new key
+-- own: what the item's call is answered after these, by the item's rules: who calls, then the key, then the refusals of a
+-- call with a new key
+abbrev pub ruling : History → Item → Answer
+ruling cs i =
+    if not (is_known cs i.call.caller) then Refused refusals.UnknownCaller
+    else answer_known (earlier cs i.call) (text_of i.call.command) (refusal_of cs i) (reply_to cs i)
+
+-- what a call is answered now
 abbrev pub answer : History → Call → Answer
-answer cs c =
-    if not (is_known cs c.caller) then Refused refusals.UnknownCaller
-    else answer_known (earlier cs c) (text_of c.command) (refusal cs c) (reply cs c)
+answer cs c = ruling cs (item c)
 
 -- the call joins the history
 abbrev pub is_accepted : Answer → Bool
@@ -52,21 +58,37 @@ reply_in (Accepted reply) = Some reply
 reply_in (Repeated reply) = Some reply
 reply_in (Refused refusal) = None
 
--- the history after a call: a repeated and a refused one leave no trace
-abbrev pub next : History → Call → History
-next cs c = if is_accepted (answer cs c) then item c ∷ cs else cs
+-- the history after an item's call: a repeated and a refused one leave no trace
+abbrev pub next_item : History → Item → History
+next_item cs i = if is_accepted (ruling cs i) then i ∷ cs else cs
 
--- the history after calls, the first of them first
+-- the history after a call
+abbrev pub next : History → Call → History
+next cs c = next_item cs (item c)
+
+-- the history after calls by these rules, the first of them first
+abbrev pub run_by : Rules → History → List Call → History
+run_by rules cs [] = cs
+run_by rules cs (c ∷ calls) = run_by rules (next_item cs (record { call = c; rules = rules })) calls
+
+-- the history after calls
 abbrev pub run : History → List Call → History
-run cs [] = cs
-run cs (c ∷ calls) = run (next cs c) calls
+run cs calls = run_by Second cs calls
 
 -- what the calls are answered, each after those before it
 abbrev pub answers : History → List Call → List Answer
 answers cs [] = []
 answers cs (c ∷ calls) = answer cs c ∷ answers (next cs c) calls
 
+-- own: no call by the first rules follows one by the second
+abbrev pub may_follow : History → Item → Bool
+may_follow cs i = elim i.rules [ First ↦ list_all is_first cs | Second ↦ true ]
+
+-- the item's call is accepted after these
+abbrev pub joins : History → Item → Bool
+joins cs i = is_accepted (ruling cs i) && may_follow cs i
+
 -- each call was accepted after those before it
 abbrev pub is_legal : History → Bool
 is_legal [] = true
-is_legal (i ∷ cs) = is_accepted (answer cs i.call) && is_legal cs
+is_legal (i ∷ cs) = joins cs i && is_legal cs

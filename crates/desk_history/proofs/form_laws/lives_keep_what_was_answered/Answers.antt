@@ -7,8 +7,8 @@ pub returns : goal.returns
 returns c lives cs ends formed = (
   ends_are_histories lives cs ends formed,
   record {
-    stands = λ call reply at was. answered_calls_stand lives cs ends formed call reply at was;
-    goes_on = λ call reply at was. (answers_are_kept lives cs ends call reply at was).1;
-    barred = λ call reply at was x is. what_is_barred_stays_barred at cs x (answers_are_kept lives cs ends call reply at was).1 is;
+    stands = λ i reply at was. answered_calls_stand lives cs ends formed i reply at was;
+    goes_on = λ i reply at was. (answers_are_kept lives cs ends i reply at was).1;
+    barred = λ i reply at was x is. what_is_barred_stays_barred at cs x (answers_are_kept lives cs ends i reply at was).1 is;
   },
 )
