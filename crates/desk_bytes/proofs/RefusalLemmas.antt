@@ -43,6 +43,9 @@ refusal_at n =
     else if n == 34 then refusal.NotThere
     else if n == 35 then refusal.NameTaken
     else if n == 36 then refusal.Full
+    else if n == 37 then refusal.NoSuchProposal
+    else if n == 38 then refusal.OwnProposal
+    else if n == 39 then refusal.ProposalClosed
     else if n == 40 then refusal.NoMemory
     else if n == 41 then refusal.Store
     else if n == 42 then refusal.Reopen
@@ -96,6 +99,9 @@ refusal_at-number_of refusal.AlreadyListed = refl
 refusal_at-number_of refusal.NotThere = refl
 refusal_at-number_of refusal.NameTaken = refl
 refusal_at-number_of refusal.Full = refl
+refusal_at-number_of refusal.NoSuchProposal = refl
+refusal_at-number_of refusal.OwnProposal = refl
+refusal_at-number_of refusal.ProposalClosed = refl
 refusal_at-number_of refusal.NoMemory = refl
 refusal_at-number_of refusal.Store = refl
 refusal_at-number_of refusal.Reopen = refl

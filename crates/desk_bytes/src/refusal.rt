@@ -86,6 +86,12 @@ pub enum Refusal {
     NameTaken,
     /// The desk has reached a stated limit.
     Full,
+    /// No proposal has that number.
+    NoSuchProposal,
+    /// Nobody confirms a proposal of their own.
+    OwnProposal,
+    /// The proposal was confirmed or dropped before.
+    ProposalClosed,
     /// A device: memory was refused.
     NoMemory,
     /// A device: the database failed.
@@ -168,6 +174,9 @@ impl Refusal {
             Refusal::NotThere => 34,
             Refusal::NameTaken => 35,
             Refusal::Full => 36,
+            Refusal::NoSuchProposal => 37,
+            Refusal::OwnProposal => 38,
+            Refusal::ProposalClosed => 39,
             Refusal::NoMemory => 40,
             Refusal::Store => 41,
             Refusal::Reopen => 42,
@@ -227,6 +236,9 @@ impl Refusal {
             Refusal::NotThere => "NotThere",
             Refusal::NameTaken => "NameTaken",
             Refusal::Full => "Full",
+            Refusal::NoSuchProposal => "NoSuchProposal",
+            Refusal::OwnProposal => "OwnProposal",
+            Refusal::ProposalClosed => "ProposalClosed",
             Refusal::NoMemory => "NoMemory",
             Refusal::Store => "Store",
             Refusal::Reopen => "Reopen",
@@ -290,6 +302,9 @@ impl Refusal {
             | Refusal::NotThere
             | Refusal::NameTaken
             | Refusal::Full
+            | Refusal::NoSuchProposal
+            | Refusal::OwnProposal
+            | Refusal::ProposalClosed
             | Refusal::NotADesk
             | Refusal::Version
             | Refusal::Exists
