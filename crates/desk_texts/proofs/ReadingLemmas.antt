@@ -6,7 +6,7 @@ use Rattle.sbat.specs.Fields.{decimal_of}
 use Rattle.desk_texts.specs.Commands.{IsCommand}
 use Rattle.desk_texts.specs.CommandTexts.{text_of}
 use Rattle.desk_texts.specs.declared.command.Command.{Command}
-use Rattle.desk_texts.specs.declared.command.Command.TheVariants.{AddPerson, Submit, Review, Withdraw, Return, ListCertificate, ListDigest, Unlist, RevokeDigest, RevokeCertificate, RaiseLevel, ImportRevocations}
+use Rattle.desk_texts.specs.declared.command.Command.TheVariants.{AddPerson, Submit, Review, Withdraw, Return, ListCertificate, ListDigest, Unlist, RevokeDigest, RevokeCertificate, RaiseLevel, ImportRevocations, Confirm, Drop}
 use Rattle.desk_texts.proofs.FieldLemmas.{after, before, fields}
 use Rattle.desk_texts.proofs.PartLemmas.{ballot_of, ballot_read, certificate_of, certificate_read, handback_of, handback_read, import_of, import_read, listing_of, listing_read, person_of, person_read, raise_of, raise_read, request_small, submission_of, submission_read}
 use Rattle.desk_texts.proofs.ValueLemmas.{decimal_read, hex_in, hex_read}
@@ -24,7 +24,9 @@ chosen word rest =
     (cond (bytes_eq word (codes "revoke-digest")) (RevokeDigest (hex_in rest))
     (cond (bytes_eq word (codes "revoke-certificate")) (RevokeCertificate (hex_in rest))
     (cond (bytes_eq word (codes "raise")) (RaiseLevel (raise_of (fields 2 rest)))
-    (ImportRevocations (import_of (fields 4 rest)))))))))))))
+    (cond (bytes_eq word (codes "confirm")) (Confirm (decimal_of rest))
+    (cond (bytes_eq word (codes "drop")) (Drop (decimal_of rest))
+    (ImportRevocations (import_of (fields 4 rest)))))))))))))))
 
 -- the command of a text
 abbrev command_in : List ℕ → Command
@@ -43,6 +45,8 @@ command_read (RevokeDigest digest) h = ap RevokeDigest (hex_read digest h.bytes)
 command_read (RevokeCertificate digest) h = ap RevokeCertificate (hex_read digest h.bytes)
 command_read (RaiseLevel r) h = ap RaiseLevel (raise_read r h)
 command_read (ImportRevocations i) h = ap ImportRevocations (import_read i h)
+command_read (Confirm proposal) h = ap Confirm (decimal_read proposal (request_small proposal h))
+command_read (Drop proposal) h = ap Drop (decimal_read proposal (request_small proposal h))
 
 -- commands of one text are one command
 pub text_of-same : (a b : Command) → IsCommand a → IsCommand b → text_of a ≡ text_of b → a ≡ b

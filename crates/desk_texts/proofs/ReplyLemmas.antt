@@ -1,18 +1,19 @@
 -- Replies read back from their texts.
-use Rattle.std.proofs.Common.{◌≡◌, ℕ, cond, List, [], ◌∷◌, decimal, refl, sym, ap, ap₂, ◌∙◌}
+use Rattle.std.proofs.Common.{◌≡◌, ℕ, cond, List, [], ◌∷◌, ◌++◌, decimal, refl, sym, ap, ap₂, ◌∙◌}
 use Rattle.std.specs.Prelude.{codes}
 use Rattle.std.specs.Str.{bytes_eq}
 use Rattle.sbat.specs.Fields.{decimal_of}
-use Rattle.desk_texts.specs.Commands.{IsCount, IsReply}
+use Rattle.desk_texts.specs.Commands.{AreCounts, IsCount, IsReply}
 use Rattle.desk_texts.specs.Items.{spaced}
 use Rattle.desk_texts.specs.ReplyTexts.{reply_text_of}
 use Rattle.desk_texts.specs.Words.{state_text}
+use Rattle.desk_texts.specs.declared.reply.Confirmation.{Confirmation}
 use Rattle.desk_texts.specs.declared.reply.Counts.{Counts}
 use Rattle.desk_texts.specs.declared.reply.Outcome.{Outcome}
 use Rattle.desk_texts.specs.declared.reply.Reply.{Reply}
-use Rattle.desk_texts.specs.declared.reply.Reply.TheVariants.{Added, Submitted, Reviewed, Withdrawn, Returned, Listed, Unlisted, Revoked, Raised, Imported}
+use Rattle.desk_texts.specs.declared.reply.Reply.TheVariants.{Added, Submitted, Reviewed, Withdrawn, Returned, Listed, Unlisted, Revoked, Raised, Imported, Proposed, Confirmed, Dropped}
 use Rattle.desk_texts.specs.declared.state.State.{State}
-use Rattle.desk_texts.proofs.FieldLemmas.{after, before, field, fields, fields-more}
+use Rattle.desk_texts.proofs.FieldLemmas.{after, after-is, before, before-is, field, fields, fields-more}
 use Rattle.desk_texts.proofs.PartLemmas.{request_small}
 use Rattle.desk_texts.proofs.WordLemmas.{state_in, state_read}
 use Rattle.desk_texts.proofs.ValueLemmas.{decimal_free, decimal_read}
@@ -42,7 +43,7 @@ counts_same a b c d e f g h i j k l = cc
 abbrev counts_of : List (List ℕ) → Counts
 counts_of parts = counts (decimal_of (field parts 0)) (decimal_of (field parts 1)) (decimal_of (field parts 2)) (decimal_of (field parts 3))
 
-counts_read : (c : Counts) → IsReply (Imported c)
+counts_read : (c : Counts) → AreCounts c
     → counts_of (fields 3 (spaced (decimal c.digests ∷ decimal c.certificates ∷ decimal c.components ∷ decimal c.passed ∷ []))) ≡ c
 counts_read c h =
     let third = fields-more 0 (decimal c.components) (decimal c.passed) _ (decimal_free c.components h.2) refl in
@@ -52,6 +53,22 @@ counts_read c h =
     ap counts_of parts
     ∙ counts_same _ _ _ _ c.digests c.certificates c.components c.passed (decimal_read c.digests h.0) (decimal_read c.certificates h.1)
     (decimal_read c.components h.2) (decimal_read c.passed h.3)
+
+abbrev confirmation : ℕ → Counts → Confirmation
+confirmation proposal counted = record { proposal = proposal; counts = counted }
+
+abbrev confirmation_of : List ℕ → Confirmation
+confirmation_of text = confirmation (decimal_of (before 32 text)) (counts_of (fields 3 (after 32 text)))
+
+abbrev pub four : Counts → List ℕ
+four c = spaced (decimal c.digests ∷ decimal c.certificates ∷ decimal c.components ∷ decimal c.passed ∷ [])
+
+confirmation_read : (c : Confirmation) → IsReply (Confirmed c) → confirmation_of (decimal c.proposal ++ (32 ∷ four c.counts)) ≡ c
+confirmation_read c h =
+    let small = request_small c.proposal h.0 in
+    let free = decimal_free c.proposal small in
+    ap₂ (λ n t. confirmation (decimal_of n) (counts_of (fields 3 t))) (before-is 32 (decimal c.proposal) (four c.counts) free) (after-is 32 (decimal c.proposal) (four c.counts) free)
+    ∙ ap₂ confirmation (decimal_read c.proposal small) (counts_read c.counts h.1)
 
 abbrev chosen : List ℕ → List ℕ → Reply
 chosen word rest =
@@ -64,7 +81,10 @@ chosen word rest =
     (cond (bytes_eq word (codes "unlisted")) Unlisted
     (cond (bytes_eq word (codes "revoked")) Revoked
     (cond (bytes_eq word (codes "raised")) Raised
-    (Imported (counts_of (fields 3 rest)))))))))))
+    (cond (bytes_eq word (codes "proposed")) (Proposed (decimal_of rest))
+    (cond (bytes_eq word (codes "confirmed")) (Confirmed (confirmation_of rest))
+    (cond (bytes_eq word (codes "dropped")) (Dropped (decimal_of rest))
+    (Imported (counts_of (fields 3 rest))))))))))))))
 
 -- the reply of a text
 abbrev reply_in : List ℕ → Reply
@@ -81,6 +101,9 @@ reply_read Unlisted h = refl
 reply_read Revoked h = refl
 reply_read Raised h = refl
 reply_read (Imported c) h = ap Imported (counts_read c h)
+reply_read (Proposed proposal) h = ap Proposed (decimal_read proposal (request_small proposal h))
+reply_read (Confirmed c) h = ap Confirmed (confirmation_read c h)
+reply_read (Dropped proposal) h = ap Dropped (decimal_read proposal (request_small proposal h))
 
 -- replies of one text are one reply
 pub reply_text_of-same : (a b : Reply) → IsReply a → IsReply b → reply_text_of a ≡ reply_text_of b → a ≡ b

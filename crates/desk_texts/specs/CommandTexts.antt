@@ -5,7 +5,7 @@ use Rattle.hex.specs.Hex.{encode_lower}
 use Rattle.desk_texts.specs.Words.{role_text, vote_text, kind_text}
 use Rattle.desk_texts.specs.Items.{spaced, digests_text, components_text, stamp_text, facts_text}
 use Rattle.desk_texts.specs.declared.command.Command.{Command}
-use Rattle.desk_texts.specs.declared.command.Command.TheVariants.{AddPerson, Submit, Review, Withdraw, Return, ListCertificate, ListDigest, Unlist, RevokeDigest, RevokeCertificate, RaiseLevel, ImportRevocations}
+use Rattle.desk_texts.specs.declared.command.Command.TheVariants.{AddPerson, Submit, Review, Withdraw, Return, ListCertificate, ListDigest, Unlist, RevokeDigest, RevokeCertificate, RaiseLevel, ImportRevocations, Confirm, Drop}
 
 -- the word and the parts of a command
 abbrev pub parts_of : Command → List (List ℕ)
@@ -23,6 +23,8 @@ parts_of (RaiseLevel r) = codes "raise" ∷ r.component.name ∷ decimal r.compo
 parts_of (ImportRevocations i) =
     codes "import" ∷ stamp_text i.stamp ∷ decimal i.passed ∷ digests_text i.digests ∷ digests_text i.certificates
     ∷ components_text i.components ∷ []
+parts_of (Confirm proposal) = codes "confirm" ∷ decimal proposal ∷ []
+parts_of (Drop proposal) = codes "drop" ∷ decimal proposal ∷ []
 
 -- the text of a command
 abbrev pub text_of : Command → List ℕ

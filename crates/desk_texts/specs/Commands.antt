@@ -3,15 +3,16 @@ use Rattle.std.specs.Prelude.{◌≡◌, ℕ, ◌<◌, ◌^◌, List, Option, So
 use Rattle.hex.specs.Hex.{IsBytes}
 use Rattle.sbat.specs.declared.component.Component.{Component}
 use Rattle.sbat.specs.Fields.{is_generation, is_name, is_stamp}
-use Rattle.desk_texts.specs.Forms.{is_note, is_person_name, is_request_number, is_title}
+use Rattle.desk_texts.specs.Forms.{is_note, is_person_name, is_proposal_number, is_request_number, is_title}
 use Rattle.desk_texts.specs.Imports.{Imported}
 use Rattle.desk_texts.specs.declared.facts.Facts.{Facts}
 use Rattle.desk_texts.specs.declared.caller.Caller.{Caller}
 use Rattle.desk_texts.specs.declared.caller.Caller.TheVariants.{Console, Person}
 use Rattle.desk_texts.specs.declared.command.Command.{Command}
-use Rattle.desk_texts.specs.declared.command.Command.TheVariants.{AddPerson, Submit, Review, Withdraw, Return, ListCertificate, ListDigest, Unlist, RevokeDigest, RevokeCertificate, RaiseLevel, ImportRevocations}
+use Rattle.desk_texts.specs.declared.command.Command.TheVariants.{AddPerson, Submit, Review, Withdraw, Return, ListCertificate, ListDigest, Unlist, RevokeDigest, RevokeCertificate, RaiseLevel, ImportRevocations, Confirm, Drop}
+use Rattle.desk_texts.specs.declared.reply.Counts.{Counts}
 use Rattle.desk_texts.specs.declared.reply.Reply.{Reply}
-use Rattle.desk_texts.specs.declared.reply.Reply.TheVariants.{Added, Submitted, Reviewed, Withdrawn, Returned, Imported as Counted}
+use Rattle.desk_texts.specs.declared.reply.Reply.TheVariants.{Added, Submitted, Reviewed, Withdrawn, Returned, Imported as Counted, Proposed, Confirmed, Dropped}
 
 -- 32 bytes
 pub record IsDigest (digest : List ℕ) : Type 0 where
@@ -64,11 +65,17 @@ IsCommand (RevokeDigest digest) = IsDigest digest
 IsCommand (RevokeCertificate digest) = IsDigest digest
 IsCommand (RaiseLevel r) = IsComponent r.component × (is_stamp r.stamp ≡ true)
 IsCommand (ImportRevocations i) = IsImport i
+IsCommand (Confirm proposal) = is_proposal_number proposal ≡ true
+IsCommand (Drop proposal) = is_proposal_number proposal ≡ true
 
 -- a person who calls has a person's name
 abbrev pub IsCaller : Caller → Type 0
 IsCaller Console = Unit {0}
 IsCaller (Person name) = is_person_name name ≡ true
+
+-- four numbers of a program
+abbrev pub AreCounts : Counts → Type 0
+AreCounts c = IsCount c.digests × IsCount c.certificates × IsCount c.components × IsCount c.passed
 
 -- the values of the reply are in the forms that their texts need
 abbrev pub IsReply : Reply → Type 0
@@ -77,5 +84,8 @@ IsReply (Submitted request) = is_request_number request ≡ true
 IsReply (Reviewed o) = is_request_number o.request ≡ true
 IsReply (Withdrawn request) = is_request_number request ≡ true
 IsReply (Returned request) = is_request_number request ≡ true
-IsReply (Counted c) = IsCount c.digests × IsCount c.certificates × IsCount c.components × IsCount c.passed
+IsReply (Counted c) = AreCounts c
+IsReply (Proposed proposal) = is_proposal_number proposal ≡ true
+IsReply (Confirmed c) = (is_proposal_number c.proposal ≡ true) × AreCounts c.counts
+IsReply (Dropped proposal) = is_proposal_number proposal ≡ true
 IsReply _ = Unit {0}

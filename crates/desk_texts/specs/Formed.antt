@@ -9,7 +9,7 @@ use Rattle.desk_texts.specs.Imports.{Imported, named_count}
 use Rattle.desk_texts.specs.Raising.{names_no_sbat}
 use Rattle.desk_texts.specs.declared.command.Call.{Call}
 use Rattle.desk_texts.specs.declared.command.Command.{Command}
-use Rattle.desk_texts.specs.declared.command.Command.TheVariants.{AddPerson, Submit, Review, Withdraw, Return, ListCertificate, ListDigest, Unlist, RevokeDigest, RevokeCertificate, RaiseLevel, ImportRevocations}
+use Rattle.desk_texts.specs.declared.command.Command.TheVariants.{AddPerson, Submit, Review, Withdraw, Return, ListCertificate, ListDigest, Unlist, RevokeDigest, RevokeCertificate, RaiseLevel, ImportRevocations, Confirm, Drop}
 use Rattle.desk_texts.specs.declared.facts.Facts.{Facts}
 
 -- own: how long an image's file is and how much of it no section holds; its certificates ascend, each once
@@ -39,6 +39,8 @@ IsWithin (RevokeDigest _) = Unit {0}
 IsWithin (RevokeCertificate _) = Unit {0}
 IsWithin (RaiseLevel _) = Unit {0}
 IsWithin (ImportRevocations i) = IsImportWithin i
+IsWithin (Confirm _) = Unit {0}
+IsWithin (Drop _) = Unit {0}
 
 -- Who calls, the key, and all that the command names are in their forms and within their limits.
 pub record IsCall (c : Call) : Type 0 where

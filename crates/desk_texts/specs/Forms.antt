@@ -1,4 +1,4 @@
--- The forms of the desk's texts: own: names, keys, titles and notes; and of request numbers.
+-- The forms of the desk's texts: own: names, keys, titles and notes; and of the numbers of requests and proposals.
 use Rattle.std.specs.Prelude.{ℕ, Bool, ◌&&◌, ◌||◌, ◌==◌, nat_le, length, slice_index, not, List}
 use Rattle.std.specs.Char.{is_ascii_digit, is_ascii_lowercase}
 use Rattle.std.specs.List.{list_all}
@@ -27,11 +27,11 @@ longest_title = 120
 abbrev pub longest_note : ℕ
 longest_note = 200
 
--- own: the greatest number of a request
+-- own: the greatest number of a request or a proposal
 abbrev pub greatest_number : ℕ
 greatest_number = 999999
 
--- own: the most digits of a request's number
+-- own: the most digits of such a number
 abbrev pub most_digits : ℕ
 most_digits = 6
 
@@ -52,9 +52,17 @@ is_title text = nat_le 1 (length text) && nat_le (length text) longest_title && 
 abbrev pub is_note : List ℕ → Bool
 is_note text = nat_le (length text) longest_note && list_all (is_between 32 126) text
 
--- own: request numbers are 1 to 999,999
+-- own: requests and proposals are numbered from 1 to 999,999
+abbrev pub is_ordinal : ℕ → Bool
+is_ordinal number = is_between 1 greatest_number number
+
+-- a request's number
 abbrev pub is_request_number : ℕ → Bool
-is_request_number number = is_between 1 greatest_number number
+is_request_number number = is_ordinal number
+
+-- a proposal's number
+abbrev pub is_proposal_number : ℕ → Bool
+is_proposal_number number = is_ordinal number
 
 -- the decimal text of a number of 1 to 6 digits, without leading zeros
 abbrev pub is_decimal : List ℕ → Bool

@@ -3,7 +3,7 @@ use Rattle.std.specs.Prelude.{ℕ, List, [], ◌∷◌, codes, decimal}
 use Rattle.desk_texts.specs.Words.{state_text}
 use Rattle.desk_texts.specs.Items.{spaced}
 use Rattle.desk_texts.specs.declared.reply.Reply.{Reply}
-use Rattle.desk_texts.specs.declared.reply.Reply.TheVariants.{Added, Submitted, Reviewed, Withdrawn, Returned, Listed, Unlisted, Revoked, Raised, Imported}
+use Rattle.desk_texts.specs.declared.reply.Reply.TheVariants.{Added, Submitted, Reviewed, Withdrawn, Returned, Listed, Unlisted, Revoked, Raised, Imported, Proposed, Confirmed, Dropped}
 
 -- the word and the parts of a reply
 abbrev pub reply_parts : Reply → List (List ℕ)
@@ -18,6 +18,11 @@ reply_parts Revoked = codes "revoked" ∷ []
 reply_parts Raised = codes "raised" ∷ []
 reply_parts (Imported c) =
     codes "imported" ∷ decimal c.digests ∷ decimal c.certificates ∷ decimal c.components ∷ decimal c.passed ∷ []
+reply_parts (Proposed proposal) = codes "proposed" ∷ decimal proposal ∷ []
+reply_parts (Confirmed c) =
+    codes "confirmed" ∷ decimal c.proposal ∷ decimal c.counts.digests ∷ decimal c.counts.certificates
+    ∷ decimal c.counts.components ∷ decimal c.counts.passed ∷ []
+reply_parts (Dropped proposal) = codes "dropped" ∷ decimal proposal ∷ []
 
 -- the text of a reply
 abbrev pub reply_text_of : Reply → List ℕ

@@ -69,6 +69,8 @@ WritesCommands =
     ≡ codes "import 0 2 bbbb,aaaa - -")
     × (text_of (command.ImportRevocations (record { stamp = Some 2024010100; passed = 0; digests = []; certificates = cc1 ∷ []; components = grub ∷ [] }))
     ≡ codes "import 2024010100 0 - 0cc1 3:grub")
+    × (text_of (command.Confirm 1) ≡ codes "confirm 1")
+    × (text_of (command.Drop 999999) ≡ codes "drop 999999")
 
 -- the text of each reply
 abbrev pub WritesReplies : Type 0
@@ -85,3 +87,7 @@ WritesReplies =
     × (reply_text_of replies.Revoked ≡ codes "revoked")
     × (reply_text_of replies.Raised ≡ codes "raised")
     × (reply_text_of (replies.Imported (record { digests = 10; certificates = 2; components = 0; passed = 1 })) ≡ codes "imported 10 2 0 1")
+    × (reply_text_of (replies.Proposed 1) ≡ codes "proposed 1")
+    × (reply_text_of (replies.Confirmed (record { proposal = 1; counts = record { digests = 1; certificates = 1; components = 0; passed = 1 } }))
+    ≡ codes "confirmed 1 1 1 0 1")
+    × (reply_text_of (replies.Dropped 2) ≡ codes "dropped 2")

@@ -2,8 +2,8 @@
 ghost use Rattle.std.specs.Prelude.{◌≡◌};
 
 use crate::{
-    Caller, Certificate, Facts, Import, Key, ListedKind, Note, PersonName, RequestNumber, Role,
-    Title, Vote,
+    Caller, Certificate, Facts, Import, Key, ListedKind, Note, PersonName, ProposalNumber,
+    RequestNumber, Role, Title, Vote,
 };
 use desk_bytes::Digest;
 use sbat::{Component, Stamp};
@@ -68,6 +68,8 @@ pub enum Command {
     RevokeCertificate(Digest),
     RaiseLevel(Raise),
     ImportRevocations(Import),
+    Confirm(ProposalNumber),
+    Drop(ProposalNumber),
 }
 
 /// A command, who gives it, and the key under which the caller gives it.

@@ -99,5 +99,13 @@ pub fn command_text(alloc: Global, command: &Command) -> Result<String, AllocErr
         Command::RevokeCertificate(digest) => format!(in alloc; "revoke-certificate {digest}"),
         Command::RaiseLevel(level) => raise(alloc, level),
         Command::ImportRevocations(entries) => import(alloc, entries),
+        Command::Confirm(proposal) => {
+            let proposal = proposal.value();
+            format!(in alloc; "confirm {proposal}")
+        }
+        Command::Drop(proposal) => {
+            let proposal = proposal.value();
+            format!(in alloc; "drop {proposal}")
+        }
     }
 }

@@ -95,6 +95,8 @@ impl Clone for Command {
             Command::RevokeCertificate(digest) => Ok(Command::RevokeCertificate(*digest)),
             Command::RaiseLevel(raise) => Ok(Command::RaiseLevel(raise.clone()?)),
             Command::ImportRevocations(import) => Ok(Command::ImportRevocations(import.clone()?)),
+            Command::Confirm(proposal) => Ok(Command::Confirm(*proposal)),
+            Command::Drop(proposal) => Ok(Command::Drop(*proposal)),
         }
     }
 }
@@ -129,6 +131,9 @@ impl Clone for Reply {
             Reply::Revoked => Ok(Reply::Revoked),
             Reply::Raised => Ok(Reply::Raised),
             Reply::Imported(counts) => Ok(Reply::Imported(*counts)),
+            Reply::Proposed(proposal) => Ok(Reply::Proposed(*proposal)),
+            Reply::Confirmed(confirmation) => Ok(Reply::Confirmed(*confirmation)),
+            Reply::Dropped(proposal) => Ok(Reply::Dropped(*proposal)),
         }
     }
 }

@@ -1,16 +1,25 @@
 //! That what a program holds is in its form.
 ghost use Rattle.std.specs.Prelude.{All};
 ghost use Rattle.hex.specs.Hex.{IsBytes};
-ghost use Rattle.desk_texts.specs.Commands.{IsCaller, IsCommand, IsComponent, IsCount, IsDigest, IsFacts, IsImport, IsReply};
+ghost use Rattle.desk_texts.specs.Commands.{AreCounts, IsCaller, IsCommand, IsComponent, IsCount, IsDigest, IsFacts, IsImport, IsReply};
 ghost use Rattle.desk_texts.specs.Formed.{AreFactsWithin, IsCall, IsImportWithin, IsWithin};
 
-use crate::{Call, Caller, Command, Facts, Import, Reply};
+use crate::{Call, Caller, Command, Counts, Facts, Import, Reply};
 use desk_bytes::Digest;
 use sbat::Component;
 
 fn show_count(number: u64)
     ensures { IsCount number }
 {}
+
+fn show_counts(counts: Counts)
+    ensures { AreCounts counts }
+{
+    show_count(counts.digests);
+    show_count(counts.certificates);
+    show_count(counts.components);
+    show_count(counts.passed);
+}
 
 fn show_bytes(bytes: &[u8])
     ensures { IsBytes bytes.now }
@@ -108,6 +117,9 @@ pub fn commands_are_formed(command: &Command)
             let _stamp = raise.stamp.value();
         }
         Command::ImportRevocations(import) => show_import(import),
+        Command::Confirm(proposal) | Command::Drop(proposal) => {
+            let _proposal = proposal.value();
+        }
     }
 }
 
@@ -144,7 +156,9 @@ fn show_within(command: &Command)
         | Command::Unlist(_)
         | Command::RevokeDigest(_)
         | Command::RevokeCertificate(_)
-        | Command::RaiseLevel(_) => {}
+        | Command::RaiseLevel(_)
+        | Command::Confirm(_)
+        | Command::Drop(_) => {}
     }
 }
 
@@ -185,11 +199,13 @@ pub fn replies_are_formed(reply: &Reply)
             let _request = outcome.request.value();
         }
         Reply::Listed | Reply::Unlisted | Reply::Revoked | Reply::Raised => {}
-        Reply::Imported(counts) => {
-            show_count(counts.digests);
-            show_count(counts.certificates);
-            show_count(counts.components);
-            show_count(counts.passed);
+        Reply::Imported(counts) => show_counts(*counts),
+        Reply::Proposed(proposal) | Reply::Dropped(proposal) => {
+            let _proposal = proposal.value();
+        }
+        Reply::Confirmed(confirmation) => {
+            let _proposal = confirmation.proposal.value();
+            show_counts(confirmation.counts);
         }
     }
 }

@@ -1,7 +1,7 @@
 //! Replies to accepted calls.
-use crate::{PersonName, RequestNumber, State};
+use crate::{PersonName, ProposalNumber, RequestNumber, State};
 
-/// What an import changed, and how many entries it passed over.
+/// What was put into force, and how many entries of an import were passed over.
 #[derive(Clone, Copy, Debug, PartialEq, Eq)]
 pub struct Counts {
     /// Digests of images that weren't revoked before.
@@ -21,6 +21,13 @@ pub struct Outcome {
     pub state: State,
 }
 
+/// What a proposal changed when it was confirmed.
+#[derive(Clone, Copy, Debug, PartialEq, Eq)]
+pub struct Confirmation {
+    pub proposal: ProposalNumber,
+    pub counts: Counts,
+}
+
 /// What the desk answers to a call that it accepts.
 #[derive(Debug, Drop)]
 pub enum Reply {
@@ -34,4 +41,7 @@ pub enum Reply {
     Revoked,
     Raised,
     Imported(Counts),
+    Proposed(ProposalNumber),
+    Confirmed(Confirmation),
+    Dropped(ProposalNumber),
 }

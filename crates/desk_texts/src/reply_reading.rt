@@ -1,27 +1,32 @@
 //! Replies read back from their canonical texts.
 ghost use Rattle.std.specs.Prelude.{◌≡◌, ◌≢◌, ◌∷◌, ◌++◌, [], ℕ, List, IfNone, IfOk, IfSome, MatchResult, codes, decimal, true};
-ghost use Rattle.desk_texts.specs.Commands.{IsReply};
-ghost use Rattle.desk_texts.specs.Forms.{is_request_number};
+ghost use Rattle.desk_texts.specs.Commands.{AreCounts, IsReply};
+ghost use Rattle.desk_texts.specs.Forms.{is_ordinal};
 ghost use Rattle.desk_texts.specs.Items.{spaced};
 ghost use Rattle.desk_texts.specs.ReplyTexts.{reply_text_of};
 ghost use Rattle.desk_texts.specs.Words.{state_text};
+ghost use Rattle.desk_texts.specs.declared.reply.Confirmation.{Confirmation};
 ghost use Rattle.desk_texts.specs.declared.reply.Counts.{Counts};
 ghost use Rattle.desk_texts.specs.declared.reply.Outcome.{Outcome};
 ghost use Rattle.desk_texts.specs.declared.reply.Reply.{Reply};
-ghost use Rattle.desk_texts.specs.declared.reply.Reply.TheVariants.{Added, Submitted, Reviewed, Withdrawn, Returned, Imported};
+ghost use Rattle.desk_texts.specs.declared.reply.Reply.TheVariants.{Added, Submitted, Reviewed, Withdrawn, Returned, Imported, Confirmed};
 
 use crate::counting::{count_before, count_of};
 use crate::forms::parted_at_space;
-use crate::{Counts, Outcome, PersonName, Reply, RequestNumber, State, TextFault};
+use crate::ordinal::Ordinal;
+use crate::{
+    Confirmation, Counts, Outcome, PersonName, ProposalNumber, Reply, RequestNumber, State,
+    TextFault,
+};
 use std::alloc::Global;
 
 /// The number that stands behind this beginning.
-fn number_behind(beginning: &[u8], text: &[u8]) -> Option<RequestNumber>
+fn number_behind(beginning: &[u8], text: &[u8]) -> Option<Ordinal>
     ensures found { IfSome result (λ number. text.now ≡ beginning.now ++ decimal number) }
-    ensures only { IfNone result ((number : ℕ) → is_request_number number ≡ true
+    ensures only { IfNone result ((number : ℕ) → is_ordinal number ≡ true
         → text.now ≢ beginning.now ++ decimal number) }
 {
-    RequestNumber::parse(text.strip_prefix(beginning)?)
+    Ordinal::parse(text.strip_prefix(beginning)?)
 }
 
 /// The number and the state of a review's reply, behind its word.
@@ -37,11 +42,11 @@ fn outcome_of(text: &[u8]) -> Option<Outcome>
     Some(Outcome { request, state })
 }
 
-/// The four numbers of an import's reply, behind its word.
+/// The four numbers of what was put into force.
 fn counts_of(text: &[u8]) -> Option<Counts>
-    ensures found { IfSome result (λ c. IsReply (Imported c)
+    ensures found { IfSome result (λ c. AreCounts c
         × (text.now ≡ spaced (decimal c.digests ∷ decimal c.certificates ∷ decimal c.components ∷ decimal c.passed ∷ []))) }
-    ensures only { IfNone result ((c : Counts) → IsReply (Imported c)
+    ensures only { IfNone result ((c : Counts) → AreCounts c
         → text.now ≢ spaced (decimal c.digests ∷ decimal c.certificates ∷ decimal c.components ∷ decimal c.passed ∷ [])) }
 {
     let (digests, text) = count_before(text)?;
@@ -54,6 +59,21 @@ fn counts_of(text: &[u8]) -> Option<Counts>
         components,
         passed,
     })
+}
+
+/// The numbers of a confirmation's reply, behind its word.
+fn confirmation_of(text: &[u8]) -> Option<Confirmation>
+    ensures found { IfSome result (λ c. IsReply (Confirmed c)
+        × (text.now ≡ decimal c.proposal ++ (32 ∷ spaced (decimal c.counts.digests
+        ∷ decimal c.counts.certificates ∷ decimal c.counts.components ∷ decimal c.counts.passed ∷ [])))) }
+    ensures only { IfNone result ((c : Confirmation) → IsReply (Confirmed c)
+        → text.now ≢ decimal c.proposal ++ (32 ∷ spaced (decimal c.counts.digests
+        ∷ decimal c.counts.certificates ∷ decimal c.counts.components ∷ decimal c.counts.passed ∷ []))) }
+{
+    let (number, counts) = parted_at_space(text)?;
+    let proposal = ProposalNumber::parse(number)?;
+    let counts = counts_of(counts)?;
+    Some(Confirmation { proposal, counts })
 }
 
 /// A review's reply.
@@ -74,6 +94,16 @@ fn imported(text: &[u8]) -> Option<Counts>
         → text.now ≢ reply_text_of (Imported c)) }
 {
     counts_of(text.strip_prefix(b"imported ".as_slice())?)
+}
+
+/// A confirmation's reply.
+fn confirmed(text: &[u8]) -> Option<Confirmation>
+    ensures found { IfSome result (λ c. IsReply (Confirmed c)
+        × (text.now ≡ reply_text_of (Confirmed c))) }
+    ensures only { IfNone result ((c : Confirmation) → IsReply (Confirmed c)
+        → text.now ≢ reply_text_of (Confirmed c)) }
+{
+    confirmation_of(text.strip_prefix(b"confirmed ".as_slice())?)
 }
 
 /// A reply of one word.
@@ -98,19 +128,28 @@ fn without_name(text: &[u8]) -> Option<Reply>
         → (name : List ℕ) × (reply ≡ Added name)) }
 {
     if let Some(request) = number_behind(b"submitted ", text) {
-        return Some(Reply::Submitted(request));
+        return Some(Reply::Submitted(RequestNumber::of(request)));
     }
     if let Some(request) = number_behind(b"withdrawn ", text) {
-        return Some(Reply::Withdrawn(request));
+        return Some(Reply::Withdrawn(RequestNumber::of(request)));
     }
     if let Some(request) = number_behind(b"returned ", text) {
-        return Some(Reply::Returned(request));
+        return Some(Reply::Returned(RequestNumber::of(request)));
     }
     if let Some(outcome) = reviewed(text) {
         return Some(Reply::Reviewed(outcome));
     }
     if let Some(counts) = imported(text) {
         return Some(Reply::Imported(counts));
+    }
+    if let Some(proposal) = number_behind(b"proposed ", text) {
+        return Some(Reply::Proposed(ProposalNumber::of(proposal)));
+    }
+    if let Some(confirmation) = confirmed(text) {
+        return Some(Reply::Confirmed(confirmation));
+    }
+    if let Some(proposal) = number_behind(b"dropped ", text) {
+        return Some(Reply::Dropped(ProposalNumber::of(proposal)));
     }
     word_alone(text)
 }

@@ -2,10 +2,9 @@
 ghost use Rattle.std.specs.Prelude.{◌≡◌, IfOk, List, [], ◌∷◌, decimal, string_bytes};
 ghost use Rattle.desk_texts.specs.ReplyTexts.{reply_text_of};
 ghost use Rattle.desk_texts.specs.Items.{spaced};
-ghost use Rattle.desk_texts.specs.declared.reply.Reply.TheVariants.{Reviewed, Imported};
+ghost use Rattle.desk_texts.specs.declared.reply.Reply.TheVariants.{Confirmed, Reviewed, Imported};
 
-use crate::RequestNumber;
-use crate::reply::{Counts, Outcome, Reply};
+use crate::reply::{Confirmation, Counts, Outcome, Reply};
 use std::alloc::{AllocError, Global};
 
 fn reviewed(alloc: Global, outcome: Outcome) -> Result<String, AllocError>
@@ -28,12 +27,24 @@ fn imported(alloc: Global, counts: Counts) -> Result<String, AllocError>
     format!(in alloc; "imported {digests} {certificates} {components} {passed}")
 }
 
-/// A word and a request's number.
-fn numbered(alloc: Global, word: &str, request: RequestNumber) -> Result<String, AllocError>
-    ensures { IfOk result (λ text. string_bytes text ≡ spaced (word.now ∷ decimal request ∷ [])) }
+fn confirmed(alloc: Global, confirmation: Confirmation) -> Result<String, AllocError>
+    ensures { IfOk result (λ text. string_bytes text ≡ reply_text_of (Confirmed confirmation)) }
 {
-    let request = request.value();
-    format!(in alloc; "{word} {request}")
+    let proposal = confirmation.proposal.value();
+    let Counts {
+        digests,
+        certificates,
+        components,
+        passed,
+    } = confirmation.counts;
+    format!(in alloc; "confirmed {proposal} {digests} {certificates} {components} {passed}")
+}
+
+/// A word and the number of a request or a proposal.
+fn numbered(alloc: Global, word: &str, number: u64) -> Result<String, AllocError>
+    ensures { IfOk result (λ text. string_bytes text ≡ spaced (word.now ∷ decimal number ∷ [])) }
+{
+    format!(in alloc; "{word} {number}")
 }
 
 /// The canonical text of a reply: its word and its parts, joined by one space. Takes memory for the text.
@@ -45,14 +56,17 @@ pub fn reply_text(alloc: Global, reply: &Reply) -> Result<String, AllocError>
             let name = name.as_str();
             format!(in alloc; "added {name}")
         }
-        Reply::Submitted(request) => numbered(alloc, "submitted", *request),
+        Reply::Submitted(request) => numbered(alloc, "submitted", request.value()),
         Reply::Reviewed(outcome) => reviewed(alloc, *outcome),
-        Reply::Withdrawn(request) => numbered(alloc, "withdrawn", *request),
-        Reply::Returned(request) => numbered(alloc, "returned", *request),
+        Reply::Withdrawn(request) => numbered(alloc, "withdrawn", request.value()),
+        Reply::Returned(request) => numbered(alloc, "returned", request.value()),
         Reply::Listed => String::from_str(alloc, "listed"),
         Reply::Unlisted => String::from_str(alloc, "unlisted"),
         Reply::Revoked => String::from_str(alloc, "revoked"),
         Reply::Raised => String::from_str(alloc, "raised"),
         Reply::Imported(counts) => imported(alloc, *counts),
+        Reply::Proposed(proposal) => numbered(alloc, "proposed", proposal.value()),
+        Reply::Confirmed(confirmation) => confirmed(alloc, *confirmation),
+        Reply::Dropped(proposal) => numbered(alloc, "dropped", proposal.value()),
     }
 }

@@ -1,28 +1,22 @@
 //! Numbers of requests.
-ghost use Rattle.std.specs.Prelude.{◌≡◌, ◌≤◌, ℕ, List, IfSome, IfNone, MatchOption, false, decimal, length, true};
+ghost use Rattle.std.specs.Prelude.{◌≡◌, ℕ, List, IfSome, IfNone, MatchOption, false, decimal, true};
 ghost use Rattle.desk_texts.specs.Forms.{is_request_number};
 
-use crate::forms;
-use sbat::decimal;
+use crate::ordinal::Ordinal;
 use std::marker::Model;
-
-/// The greatest number of a request.
-pub const GREATEST_NUMBER: u64 = 999_999;
 
 /// A request's number: 1 to `GREATEST_NUMBER`. A contract sees the number.
 #[derive(Clone, Copy, Debug, PartialEq, Eq, PartialOrd, Ord)]
 pub struct RequestNumber {
-    number: u64,
+    ordinal: Ordinal,
 }
 
 impl Model for RequestNumber {
     ghost Value = { ℕ };
 
-    ghost view = { λ n. n.number };
+    ghost view = { λ n. n.ordinal };
 
-    ghost invariant = { λ n. is_request_number n.number ≡ true };
-
-    ghost inverse = { λ number. record { number = number } };
+    ghost inverse = { λ number. record { ordinal = number } };
 }
 
 impl RequestNumber {
@@ -31,10 +25,15 @@ impl RequestNumber {
         ensures { MatchOption result (is_request_number number ≡ false)
             (λ request. (request ≡ number) × (is_request_number number ≡ true)) }
     {
-        if number < 1 || GREATEST_NUMBER < number {
-            return None;
-        }
-        Some(RequestNumber { number })
+        let ordinal = Ordinal::new(number)?;
+        Some(RequestNumber { ordinal })
+    }
+
+    /// The number that is this.
+    pub(crate) fn of(ordinal: Ordinal) -> RequestNumber
+        ensures { result ≡ ordinal }
+    {
+        RequestNumber { ordinal }
     }
 
     /// The number.
@@ -42,7 +41,7 @@ impl RequestNumber {
         ensures value { result ≡ self }
         ensures form { is_request_number self ≡ true }
     {
-        self.number
+        self.ordinal.value()
     }
 
     /// The number whose decimal text this is, without a leading zero. Takes no memory.
@@ -51,9 +50,7 @@ impl RequestNumber {
         ensures only { IfNone result ((number : ℕ) → is_request_number number ≡ true
             → text.now ≡ decimal number → ⊥) }
     {
-        if !forms::is_decimal(text) {
-            return None;
-        }
-        RequestNumber::new(decimal(text))
+        let ordinal = Ordinal::parse(text)?;
+        Some(RequestNumber { ordinal })
     }
 }

@@ -5,8 +5,11 @@ ghost use Rattle.desk_texts.specs.declared.role.Role.{Role};
 ghost use Rattle.desk_texts.specs.declared.vote.Vote.{Vote};
 ghost use Rattle.desk_texts.specs.declared.state.State.{State};
 ghost use Rattle.desk_texts.specs.declared.kind.ListedKind.{ListedKind};
+ghost use Rattle.desk_texts.specs.declared.proposal.ItemKind.{ItemKind};
+ghost use Rattle.desk_texts.specs.declared.proposal.ProposalKind.{ProposalKind};
+ghost use Rattle.desk_texts.specs.declared.proposal.ProposalState.{ProposalState};
 
-use crate::{ListedKind, Role, State, Vote};
+use crate::{ItemKind, ListedKind, ProposalKind, ProposalState, Role, State, Vote};
 
 impl Role {
     /// Its word: `submitter`, `reviewer`, `officer` or `signer`.
@@ -109,6 +112,86 @@ impl ListedKind {
         match text {
             b"digest" => Some(ListedKind::Digest),
             b"certificate" => Some(ListedKind::Certificate),
+            _ => None,
+        }
+    }
+}
+
+impl ProposalKind {
+    /// Its word: `digest`, `certificate`, `level` or `import`.
+    pub fn text(self) -> &'static str
+        ensures { result.now ≡ spec.proposal_kind_text self }
+    {
+        match self {
+            ProposalKind::Digest => "digest",
+            ProposalKind::Certificate => "certificate",
+            ProposalKind::Level => "level",
+            ProposalKind::Import => "import",
+        }
+    }
+
+    /// The kind whose word this is. Takes no memory.
+    pub fn parse(text: &[u8]) -> Option<ProposalKind>
+        ensures found { IfSome result (λ kind. text.now ≡ spec.proposal_kind_text kind) }
+        ensures only { IfNone result ((kind : ProposalKind) → text.now ≢ spec.proposal_kind_text kind) }
+    {
+        match text {
+            b"digest" => Some(ProposalKind::Digest),
+            b"certificate" => Some(ProposalKind::Certificate),
+            b"level" => Some(ProposalKind::Level),
+            b"import" => Some(ProposalKind::Import),
+            _ => None,
+        }
+    }
+}
+
+impl ProposalState {
+    /// Its word: `open`, `confirmed` or `dropped`.
+    pub fn text(self) -> &'static str
+        ensures { result.now ≡ spec.proposal_state_text self }
+    {
+        match self {
+            ProposalState::Open => "open",
+            ProposalState::Confirmed => "confirmed",
+            ProposalState::Dropped => "dropped",
+        }
+    }
+
+    /// The state whose word this is. Takes no memory.
+    pub fn parse(text: &[u8]) -> Option<ProposalState>
+        ensures found { IfSome result (λ state. text.now ≡ spec.proposal_state_text state) }
+        ensures only { IfNone result ((state : ProposalState) → text.now ≢ spec.proposal_state_text state) }
+    {
+        match text {
+            b"open" => Some(ProposalState::Open),
+            b"confirmed" => Some(ProposalState::Confirmed),
+            b"dropped" => Some(ProposalState::Dropped),
+            _ => None,
+        }
+    }
+}
+
+impl ItemKind {
+    /// Its word: `digest`, `certificate` or `component`.
+    pub fn text(self) -> &'static str
+        ensures { result.now ≡ spec.item_kind_text self }
+    {
+        match self {
+            ItemKind::Digest => "digest",
+            ItemKind::Certificate => "certificate",
+            ItemKind::Component => "component",
+        }
+    }
+
+    /// The kind whose word this is. Takes no memory.
+    pub fn parse(text: &[u8]) -> Option<ItemKind>
+        ensures found { IfSome result (λ kind. text.now ≡ spec.item_kind_text kind) }
+        ensures only { IfNone result ((kind : ItemKind) → text.now ≢ spec.item_kind_text kind) }
+    {
+        match text {
+            b"digest" => Some(ItemKind::Digest),
+            b"certificate" => Some(ItemKind::Certificate),
+            b"component" => Some(ItemKind::Component),
             _ => None,
         }
     }

@@ -2,7 +2,7 @@ use Rattle.std.proofs.Common.{sym, ap, ◌∙◌}
 use Rattle.sbat.specs.Fields.{decimal_of}
 use Rattle.desk_texts.specs.Forms.{is_decimal}
 use Rattle.desk_texts.proofs.NumberLemmas.{is_decimal-digits, is_decimal-few, some_false, is_decimal-decimal, decimal_of-read, read_found, read_only}
-use Rattle.desk_texts.proofs.request_number.RequestNumber.parse.Goals as goal
+use Rattle.desk_texts.proofs.ordinal.Ordinal.parse.Goals as goal
 
 pub returns-then-not-is_decimal-clause-only : goal.returns-then-not-is_decimal-clause-only
 returns-then-not-is_decimal-clause-only c = λ number form same.

@@ -1,0 +1,56 @@
+//! Proposals of what is to be revoked, and of the level.
+use crate::{PersonName, ProposalNumber};
+
+/// What a proposal names.
+#[derive(Clone, Copy, Debug, PartialEq, Eq)]
+pub enum ProposalKind {
+    /// An image's digest.
+    Digest,
+    /// A certificate, by the digest of its TBSCertificate.
+    Certificate,
+    /// A generation of a component.
+    Level,
+    /// All of an import.
+    Import,
+}
+
+/// Where a proposal stands.
+#[derive(Clone, Copy, Debug, PartialEq, Eq)]
+pub enum ProposalState {
+    /// Neither of the others yet.
+    Open,
+    /// A second officer confirmed it.
+    Confirmed,
+    /// An officer dropped it.
+    Dropped,
+}
+
+/// What an item of a proposal is.
+#[derive(Clone, Copy, Debug, PartialEq, Eq)]
+pub enum ItemKind {
+    /// An image's digest.
+    Digest,
+    /// A certificate, by the digest of its TBSCertificate.
+    Certificate,
+    /// A component with a generation.
+    Component,
+}
+
+/// What became of a proposal.
+#[derive(Clone, Copy, Debug, PartialEq, Eq)]
+pub struct ProposalOutcome {
+    pub proposal: ProposalNumber,
+    pub state: ProposalState,
+}
+
+/// What a reading of proposals shows of one: who proposed it, where it stands, and how many digests of images, digests
+/// of certificates and components it names, repeats included.
+#[derive(Debug, Drop)]
+pub struct Proposal {
+    pub number: ProposalNumber,
+    pub officer: PersonName,
+    pub state: ProposalState,
+    pub digests: u64,
+    pub certificates: u64,
+    pub components: u64,
+}
