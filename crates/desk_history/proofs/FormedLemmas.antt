@@ -1,6 +1,7 @@
 -- Minutes of calls in their forms.
-use Rattle.std.proofs.Common.{◌≡◌, ℕ, ◌+◌, ◌<◌, ◌≤◌, ◌^◌, leb, Bool, true, false, cond, List, [], ◌∷◌, length, map, filter, arith}
+use Rattle.std.proofs.Common.{◌≡◌, ℕ, ◌+◌, ◌<◌, ◌≤◌, leb, Bool, true, false, cond, IfSome, Option, Some, None, List, [], ◌∷◌, length, map, filter, arith}
 use Rattle.std.specs.Prelude.{if◌then◌else◌, nat_le, reverse}
+use Rattle.std.specs.Option.{option_map_or}
 use Rattle.std.proofs.lemmas.Bool.Decides.{nat_tests}
 use Rattle.std.proofs.lemmas.List.{length-map, length-reverse}
 use Rattle.std.proofs.lemmas.List.Elements.{All-cons, All-contains, All-head, All-nil, All-tail}
@@ -9,21 +10,24 @@ use Rattle.desk_texts.specs.declared.command.Command.{Command}
 use Rattle.desk_texts.specs.declared.command.Command.TheVariants as command
 use Rattle.desk_texts.specs.declared.kind.ListedKind.{ListedKind}
 use Rattle.desk_texts.specs.declared.kind.ListedKind.TheVariants as kinds
-use Rattle.desk_texts.specs.Commands.{IsCommand, IsCount, IsReply}
-use Rattle.desk_texts.specs.Formed.{IsWithin}
+use Rattle.desk_texts.specs.Commands.{AreCounts, IsCommand, IsCount, IsReply}
+use Rattle.desk_texts.specs.Imports.{Imported}
+use Rattle.desk_texts.specs.declared.reply.Reply.{Reply}
+use Rattle.desk_texts.specs.declared.reply.Reply.TheVariants as replies
 use Rattle.desk_texts.specs.Forms.{greatest_number, is_request_number}
 use Rattle.desk_texts.proofs.FormLemmas.{joined}
 use Rattle.desk_texts.proofs.ReplyLemmas.{reply_text_of-same}
-use Rattle.desk_history.specs.Calls.{History, Item, distinct, is_among}
+use Rattle.desk_history.specs.Calls.{First, History, Item, Rules, Second, distinct, is_among}
 use Rattle.desk_history.specs.Formed.{IsHistory, IsItem, IsReadable}
 use Rattle.desk_history.specs.FormLaws.{MinutesAreReadable, MinutesDiffer}
-use Rattle.desk_history.specs.Forces.{forced_by}
+use Rattle.desk_history.specs.Forces.{enforced_by, forced, nothing}
 use Rattle.desk_history.specs.Level.{names, raises}
-use Rattle.desk_history.specs.Replies.{gained, minute_of, minutes, raised_count, reply_to}
+use Rattle.desk_history.specs.Replies.{counted, gained, minute_of, minutes, or_proposed, raised_count, reply_by}
 use Rattle.desk_history.specs.Revocations.{revocations}
 use Rattle.desk_history.specs.Runs.{is_legal}
 use Rattle.desk_history.proofs.CallerLemmas.{newest_told, same_caller}
-use Rattle.desk_history.proofs.RunLemmas.{Within, giving, legal_parts, legal_room, newest}
+use Rattle.desk_history.proofs.ProposalLemmas.{AreFew, enforced_few}
+use Rattle.desk_history.proofs.RunLemmas.{Within, legal_parts, legal_proposals, legal_room, newest}
 
 -- a desk's history before its newest call
 pub history_rest : (cs : History) (i : Item) → IsHistory (i ∷ cs) → IsHistory cs
@@ -66,35 +70,53 @@ number_formed n h =
     let high : leb (n + 1) greatest_number ≡ true = grind (arith, nat_tests) in
     joined (leb 1 (n + 1)) (leb (n + 1) greatest_number) low high
 
+raised_small : (cs : History) (o : Option Imported) → IfSome o AreFew → IsCount (raised_count cs (option_map_or forced o nothing))
+raised_small cs None h = omega arith
+raised_small cs (Some n) h = let raised = raised_fewer cs n.components in omega arith
+
+passed_small : (o : Option Imported) → IfSome o AreFew → IsCount (option_map_or (λ (n : Imported). n.passed) o 0)
+passed_small None h = omega arith
+passed_small (Some n) h = omega arith
+
+counted_formed : (cs : History) (i : Item) → IfSome (enforced_by cs i) AreFew → Within (i ∷ cs) → AreCounts (counted cs i)
+counted_formed cs i few within = (
+  gained_few 100000 kinds.Digest cs i (omega arith) within.digests,
+  gained_few 10000 kinds.Certificate cs i (omega arith) within.certificates,
+  raised_small cs (enforced_by cs i) few,
+  passed_small (enforced_by cs i) few,
+)
+
+proposed_formed : (cs : History) (rules : Rules) (reply : Reply) → is_legal cs ≡ true → IsReply reply → IsReply (or_proposed cs rules reply)
+proposed_formed cs First reply h f = f
+proposed_formed cs Second reply h f = number_formed _ (legal_proposals cs h)
+
 -- the reply to a command in its forms, in a call with which the desk keeps within its limits
-reply_formed : (cs : History) (i : Item) (given : Command) → IsCommand given → IsWithin given → is_legal cs ≡ true → Within (giving i given ∷ cs) → IsReply (reply_to cs (giving i given))
-reply_formed cs i (command.AddPerson p) f w h within = f.0
-reply_formed cs i (command.Submit s) f w h within = number_formed _ (legal_room cs h)
-reply_formed cs i (command.Review b) f w h within = f.0
-reply_formed cs i (command.Withdraw number) f w h within = f
-reply_formed cs i (command.Return g) f w h within = f.0
-reply_formed cs i (command.ListCertificate certificate) f w h within = tt
-reply_formed cs i (command.ListDigest digest) f w h within = tt
-reply_formed cs i (command.Unlist listing) f w h within = tt
-reply_formed cs i (command.RevokeDigest digest) f w h within = tt
-reply_formed cs i (command.RevokeCertificate digest) f w h within = tt
-reply_formed cs i (command.RaiseLevel raise) f w h within = tt
-reply_formed cs i (command.ImportRevocations n) f w h within =
-    let entries = w.entries in
-    let raised = raised_fewer cs n.components in
-    let few : raised_count cs (forced_by (command.ImportRevocations n)) < 2 ^ 64 = omega arith in
-    let over : n.passed < 2 ^ 64 = omega arith in
-    (gained_few 100000 kinds.Digest cs (giving i (command.ImportRevocations n)) (omega arith) within.digests,
-    gained_few 10000 kinds.Certificate cs (giving i (command.ImportRevocations n)) (omega arith) within.certificates, few, over)
+reply_formed : (cs : History) (i : Item) (given : Command) → IsCommand given → AreCounts (counted cs i) → is_legal cs ≡ true → IsReply (reply_by cs i given)
+reply_formed cs i (command.AddPerson p) f n h = f.0
+reply_formed cs i (command.Submit s) f n h = number_formed _ (legal_room cs h)
+reply_formed cs i (command.Review b) f n h = f.0
+reply_formed cs i (command.Withdraw number) f n h = f
+reply_formed cs i (command.Return g) f n h = f.0
+reply_formed cs i (command.ListCertificate certificate) f n h = tt
+reply_formed cs i (command.ListDigest digest) f n h = tt
+reply_formed cs i (command.Unlist listing) f n h = tt
+reply_formed cs i (command.RevokeDigest digest) f n h = proposed_formed cs i.rules replies.Revoked h tt
+reply_formed cs i (command.RevokeCertificate digest) f n h = proposed_formed cs i.rules replies.Revoked h tt
+reply_formed cs i (command.RaiseLevel raise) f n h = proposed_formed cs i.rules replies.Raised h tt
+reply_formed cs i (command.ImportRevocations named) f n h = proposed_formed cs i.rules (replies.Imported (counted cs i)) h n
+reply_formed cs i (command.Confirm k) f n h = (f, n)
+reply_formed cs i (command.Drop k) f n h = f
 
 minute_readable : (cs : History) (i : Item) → IsHistory (i ∷ cs) → IsReadable (minute_of cs i)
 minute_readable cs i h =
     let here = All-head IsItem i cs h.formed in
+    let before = history_rest cs i h in
+    let few = enforced_few cs i.call i.rules before.formed here.limits in
     record {
       caller = here.caller;
       told = newest_told cs i h.legal;
       key = here.key;
-      reply = reply_formed cs i i.call.command here.forms here.limits (history_rest cs i h).legal (legal_parts (i ∷ cs) h.legal);
+      reply = reply_formed cs i i.call.command here.forms (counted_formed cs i few (legal_parts (i ∷ cs) h.legal)) before.legal;
     }
 
 pub minutes_are_readable : MinutesAreReadable

@@ -1,6 +1,7 @@
 -- The level's table has no row of `sbat`.
-use Rattle.std.proofs.Common.{◌≡◌, ℕ, Bool, true, false, not, ◌&&◌, ◌||◌, List, [], ◌∷◌, map, Option, Some, None, refl, ◌∙◌, ap}
-use Rattle.std.specs.Prelude.{if◌then◌else◌, bytes_eq, nat_lt, reverse}
+use Rattle.std.proofs.Common.{◌≡◌, ℕ, Bool, true, false, not, ◌&&◌, ◌||◌, All, IfSome, List, [], ◌∷◌, map, Option, Some, None, refl, ◌∙◌, ap, subst}
+use Rattle.std.specs.Prelude.{if◌then◌else◌, bytes_eq, nat_lt, option_map, reverse}
+use Rattle.std.specs.Option.{option_map_or}
 use Rattle.std.specs.List.{list_all}
 use Rattle.std.proofs.lemmas.List.{reverse-append}
 use Rattle.std.proofs.lemmas.List.Elements.{All-head}
@@ -9,20 +10,26 @@ use Rattle.sbat.specs.Fields.{sbat}
 use Rattle.sbat.specs.declared.component.Component.{Component}
 use Rattle.desk_bytes.specs.declared.refusal.Refusal.{Refusal}
 use Rattle.desk_bytes.specs.declared.refusal.Refusal.TheVariants as refusals
+use Rattle.desk_texts.specs.declared.command.Call.{Call}
 use Rattle.desk_texts.specs.declared.command.Command.{Command}
 use Rattle.desk_texts.specs.declared.command.Command.TheVariants as command
 use Rattle.desk_texts.specs.Formed.{IsWithin}
+use Rattle.desk_texts.specs.Imports.{Imported}
+use Rattle.desk_texts.specs.declared.proposal.ProposalState.{ProposalState}
+use Rattle.desk_texts.specs.declared.proposal.ProposalState.TheVariants as states
 use Rattle.desk_texts.specs.Raising.{names_no_sbat}
 use Rattle.desk_texts.specs.Callers.{caller_name}
 use Rattle.desk_texts.proofs.FormLemmas.{both, joined}
-use Rattle.desk_history.specs.Calls.{History, distinct, is_among}
+use Rattle.desk_history.specs.Calls.{First, History, Rules, Second, distinct, is_among}
 use Rattle.desk_history.specs.Formed.{IsHistory, IsItem}
 use Rattle.desk_history.specs.FormLaws.{LevelHasNoSbat}
-use Rattle.desk_history.specs.Forces.{forced_by, into_force}
+use Rattle.desk_history.specs.Forces.{confirmed_by, forced, into_force, nothing}
 use Rattle.desk_history.specs.Level.{generations, greatest, is_above, is_sbat, names, stamp}
-use Rattle.desk_history.specs.Refusals.{own_refusal, refuse_if}
+use Rattle.desk_history.specs.Proposals.{Proposal, named_by, proposal, proposal_state}
+use Rattle.desk_history.specs.Refusals.{confirm_by, confirm_refusal, force_refusal, own_refusal, refuse_if}
 use Rattle.desk_history.specs.Tables.{level_row}
 use Rattle.desk_history.proofs.FormedLemmas.{history_rest}
+use Rattle.desk_history.proofs.ProposalLemmas.{IsProposed, entries_of, found_proposed}
 use Rattle.desk_history.proofs.RefusalLemmas.{no_refusal}
 use Rattle.desk_history.proofs.RunLemmas.{newest}
 
@@ -41,31 +48,60 @@ raised_other : (same lower : Bool) (rest : Option Refusal) → (if same || lower
 raised_other false lower rest h = refl
 raised_other true lower rest h = no_refusal h
 
--- what an accepted call puts into force
-put_other : (cs : History) (name : List ℕ) (given : Command) → IsWithin given → own_refusal cs name given ≡ None → names_no_sbat (forced_by given).components ≡ true
-put_other cs name (command.RaiseLevel r) w own =
+-- what these entries put into force
+abbrev AreOther : Option Imported → Type 0
+AreOther o = names_no_sbat (option_map_or forced o nothing).components ≡ true
+
+-- what a command names that isn't refused
+named_other : (cs : History) (given : Command) → IsWithin given → force_refusal cs given ≡ None → AreOther (entries_of (named_by given))
+named_other cs (command.RaiseLevel r) w h =
     joined (is_other r.component.name) true
     (raised_other (is_sbat r.component.name) (not (is_above r.component.generation (greatest (generations cs) r.component.name)))
-    (refuse_if (not (nat_lt (stamp cs) r.stamp)) refusals.StampNotLater) own)
+    (refuse_if (not (nat_lt (stamp cs) r.stamp)) refusals.StampNotLater) h)
     refl
-put_other cs name (command.ImportRevocations i) w own = others_reversed i.components w.no_sbat
-put_other cs name (command.AddPerson _) w own = refl
-put_other cs name (command.Submit _) w own = refl
-put_other cs name (command.Review _) w own = refl
-put_other cs name (command.Withdraw _) w own = refl
-put_other cs name (command.Return _) w own = refl
-put_other cs name (command.ListCertificate _) w own = refl
-put_other cs name (command.ListDigest _) w own = refl
-put_other cs name (command.Unlist _) w own = refl
-put_other cs name (command.RevokeDigest _) w own = refl
-put_other cs name (command.RevokeCertificate _) w own = refl
+named_other cs (command.ImportRevocations i) w h = others_reversed i.components w.no_sbat
+named_other cs (command.RevokeDigest _) w h = refl
+named_other cs (command.RevokeCertificate _) w h = refl
+named_other cs _ w h = refl
+
+own_force : (cs : History) (name : List ℕ) (given : Command) → own_refusal cs name given ≡ None → force_refusal cs given ≡ None
+own_force cs name (command.RevokeDigest _) own = own
+own_force cs name (command.RevokeCertificate _) own = own
+own_force cs name (command.RaiseLevel _) own = own
+own_force cs name (command.ImportRevocations _) own = own
+own_force cs name _ own = refl
+
+-- what is confirmed isn't refused
+confirmed_force : (state : ProposalState) (own : Bool) (refused : Option Refusal) → confirm_by state own refused ≡ None → refused ≡ None
+confirmed_force states.Open false refused h = h
+confirmed_force states.Open true refused h = no_refusal h
+confirmed_force states.Confirmed own refused h = no_refusal h
+confirmed_force states.Dropped own refused h = no_refusal h
+
+proposed_other : (cs : History) (o : Option Proposal) (state : ProposalState) (name : List ℕ) → IfSome o IsProposed → confirm_refusal cs o state name ≡ None
+    → AreOther (option_map (λ (p : Proposal). p.named.entries) o)
+proposed_other cs None state name is h = no_refusal h
+proposed_other cs (Some p) state name is h =
+    subst (λ named. AreOther (entries_of named)) is.names
+    (named_other cs p.command is.limits (confirmed_force state (bytes_eq p.officer name) (force_refusal cs p.command) h))
+
+confirmed_other : (cs : History) (name : List ℕ) (given : Command) → All IsItem cs → own_refusal cs name given ≡ None → AreOther (confirmed_by cs given)
+confirmed_other cs name (command.Confirm k) h own = proposed_other cs (proposal cs k) (proposal_state cs k) name (found_proposed cs k h) own
+confirmed_other cs name _ h own = refl
+
+-- what an accepted call puts into force
+put_other : (cs : History) (c : Call) (rules : Rules) → All IsItem cs → IsWithin c.command → own_refusal cs (caller_name c.caller) c.command ≡ None
+    → names_no_sbat (into_force cs (record { call = c; rules = rules })).components ≡ true
+put_other cs c First h w own = named_other cs c.command w (own_force cs (caller_name c.caller) c.command own)
+put_other cs c Second h w own = confirmed_other cs (caller_name c.caller) c.command h own
 
 others_named : (cs : History) → IsHistory cs → names_no_sbat (generations cs) ≡ true
 others_named [] h = refl
 others_named (i ∷ cs) h =
-    let here = put_other cs (caller_name i.call.caller) i.call.command (All-head IsItem i cs h.formed).limits (newest cs i h.legal).new.own in
+    let before = history_rest cs i h in
+    let here = put_other cs i.call i.rules before.formed (All-head IsItem i cs h.formed).limits (newest cs i h.legal).new.own in
     list_all-append (λ (x : Component). is_other x.name) (into_force cs i).components (generations cs)
-    ∙ joined (names_no_sbat (into_force cs i).components) (names_no_sbat (generations cs)) here (others_named cs (history_rest cs i h))
+    ∙ joined (names_no_sbat (into_force cs i).components) (names_no_sbat (generations cs)) here (others_named cs before)
 
 others_once : (ts : List (List ℕ)) → list_all is_other ts ≡ true → list_all is_other (distinct ts) ≡ true
 others_once [] h = refl

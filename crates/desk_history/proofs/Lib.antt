@@ -7,6 +7,7 @@ pub mod LevelLemmas
 pub mod LifeLemmas
 pub mod ListLemmas
 pub mod ListingLemmas
+pub mod ProposalLemmas
 pub mod RefusalLemmas
 pub mod RequestLemmas
 pub mod RequestRowLemmas

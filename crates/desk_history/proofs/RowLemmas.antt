@@ -16,6 +16,7 @@ use Rattle.desk_texts.specs.Callers.{caller_name}
 use Rattle.desk_history.specs.Calls.{History, Item, are_apart}
 use Rattle.desk_history.specs.Level.{generations, names}
 use Rattle.desk_history.specs.People.{has_name, has_token, people}
+use Rattle.desk_history.specs.Proposals.{proposal_state}
 use Rattle.desk_history.specs.Replies.{minute_of, minutes}
 use Rattle.desk_history.specs.declared.rows.VoteRow.{VoteRow}
 use Rattle.desk_history.specs.Requests.{Request, Returned, Submitted, is_returned, is_vote_of, is_withdrawn, numbered, request, returns, state, state_by, submitted, votes, votes_on}
@@ -31,6 +32,7 @@ use Rattle.desk_history.specs.Verdicts.{is_barred, stands_in_db}
 use Rattle.desk_history.proofs.KeyLemmas.{key_rows, keys_stand_once}
 use Rattle.desk_history.proofs.ListLemmas.{apart-more, none_left, none_right, number_above, once_apart, or_none}
 use Rattle.desk_history.proofs.ListingLemmas.{listed_apart}
+use Rattle.desk_history.proofs.ProposalLemmas.{proposals_apart}
 use Rattle.desk_history.proofs.RefusalLemmas.{no_refusal, unrefused}
 use Rattle.desk_history.proofs.RunLemmas.{giving, newest}
 
@@ -173,4 +175,5 @@ rows_stand_once owner cs h =
       revoked_digests = once_apart (revocations kinds.Digest cs);
       revoked_certificates = once_apart (revocations kinds.Certificate cs);
       components = level_apart (generations cs) (names (generations cs)) (once_apart (map (λ x. x.name) (generations cs)));
+      proposals = proposals_apart (λ p. proposal_state cs p.number) cs;
     }

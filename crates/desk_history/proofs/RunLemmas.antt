@@ -18,13 +18,14 @@ use Rattle.desk_history.specs.Replies.{reply_to}
 use Rattle.desk_history.specs.Level.{generations, names}
 use Rattle.desk_history.specs.Listing.{listed}
 use Rattle.desk_history.specs.People.{people}
+use Rattle.desk_history.specs.Proposals.{proposals}
 use Rattle.desk_history.specs.Requests.{requests}
 use Rattle.desk_history.specs.Revocations.{revocations}
 use Rattle.desk_texts.specs.declared.kind.ListedKind.TheVariants as kinds
 use Rattle.desk_history.specs.declared.answer.Answer.TheVariants.{Refused, Repeated}
 use Rattle.desk_history.specs.Laws.{LegalIsRun, RunsGoOn}
-use Rattle.desk_history.specs.Limits.{is_within, most_calls, most_level_components, most_listed, most_people, most_requests, most_revoked_certificates, most_revoked_digests}
-use Rattle.desk_history.specs.Refusals.{is_known, may_give, own_refusal, refusal_of, refuse_if}
+use Rattle.desk_history.specs.Limits.{is_within, most_calls, most_level_components, most_listed, most_people, most_proposals, most_requests, most_revoked_certificates, most_revoked_digests}
+use Rattle.desk_history.specs.Refusals.{is_known, may_give, own_refusal, refuse_if}
 use Rattle.desk_history.specs.Runs.{answer_known, earlier, is_accepted, is_legal, joins, may_follow, next_item, run, run_by, ruling}
 
 -- the item with this command
@@ -134,9 +135,10 @@ first_run (i ∷ cs) h f =
     let here = newest cs i h in
     let all : (is_first i ≡ true) × (list_all is_first cs ≡ true) = and_parts (is_first i) (list_all is_first cs) f in
     let before : (calls : List Call) × (cs ≡ run_by First [] calls) = first_run cs here.before all.1 in
-    let mine : by First i.call ≡ i = first_item i.call i.rules all.0 in
-    (before.0 ++ i.call ∷ [],
-    sym (run-append First [] before.0 (i.call ∷ []) ∙ ap (λ l. next_item l (by First i.call)) (sym before.1) ∙ ap (next_item cs) mine ∙ stepped cs i here.accepted))
+    let mine : by First i.call ≡ i = first_item i.call i.rules all.0 in (
+      before.0 ++ i.call ∷ [],
+      sym (run-append First [] before.0 (i.call ∷ []) ∙ ap (λ l. next_item l (by First i.call)) (sym before.1) ∙ ap (next_item cs) mine ∙ stepped cs i here.accepted),
+    )
   where
     first_item : (c : Call) (rules : Rules) → is_first (by rules c) ≡ true → by First c ≡ by rules c
     first_item c First e = refl
@@ -151,9 +153,11 @@ one_more cs c First h r =
     let alone = first_run (by First c ∷ cs) h here.follows in
     (alone.0, [], alone.1)
 one_more cs c Second h r =
-    let here = newest cs (by Second c) h in
-    (r.0, r.1 ++ c ∷ [],
-    sym (run-append Second (run_by First [] r.0) r.1 (c ∷ []) ∙ ap (λ l. next_item l (by Second c)) (sym r.2) ∙ stepped cs (by Second c) here.accepted))
+    let here = newest cs (by Second c) h in (
+      r.0,
+      r.1 ++ c ∷ [],
+      sym (run-append Second (run_by First [] r.0) r.1 (c ∷ []) ∙ ap (λ l. next_item l (by Second c)) (sym r.2) ∙ stepped cs (by Second c) here.accepted),
+    )
 
 legal_run : (cs : History) → is_legal cs ≡ true → IsRun cs
 legal_run [] h = ([], [], refl)
@@ -172,36 +176,44 @@ legal_within (i ∷ cs) h = (newest cs i h).new.within
 pub record Within (cs : History) : Type 0 where
   pub people : nat_le (length (people cs)) most_people ≡ true
   pub requests : nat_le (length (requests cs)) most_requests ≡ true
+  pub proposals : nat_le (length (proposals cs)) most_proposals ≡ true
   pub listed : nat_le (length (listed cs)) most_listed ≡ true
   pub digests : nat_le (length (distinct (revocations kinds.Digest cs))) most_revoked_digests ≡ true
   pub certificates : nat_le (length (distinct (revocations kinds.Certificate cs))) most_revoked_certificates ≡ true
   pub components : nat_le (length (names (generations cs))) most_level_components ≡ true
 
-record All6 (a b d e f g : Bool) : Type 0 where
+record All7 (a b d e f g h : Bool) : Type 0 where
   first : a ≡ true
   second : b ≡ true
   third : d ≡ true
   fourth : e ≡ true
   fifth : f ≡ true
   sixth : g ≡ true
+  seventh : h ≡ true
 
-all_six : (a b d e f g h : Bool) → (a && b && d && e && f && g && h) ≡ true → All6 a b d e f g
-all_six true true true true true true h k = record { first = refl; second = refl; third = refl; fourth = refl; fifth = refl; sixth = refl }
-all_six true true true true true false h k = no_parts k
-all_six true true true true false g h k = no_parts k
-all_six true true true false f g h k = no_parts k
-all_six true true false e f g h k = no_parts k
-all_six true false d e f g h k = no_parts k
-all_six false b d e f g h k = no_parts k
+all_seven : (a b d e f g h i : Bool) → (a && b && d && e && f && g && h && i) ≡ true → All7 a b d e f g h
+all_seven true true true true true true true i k =
+    record { first = refl; second = refl; third = refl; fourth = refl; fifth = refl; sixth = refl; seventh = refl }
+all_seven true true true true true true false i k = no_parts k
+all_seven true true true true true false h i k = no_parts k
+all_seven true true true true false g h i k = no_parts k
+all_seven true true true false f g h i k = no_parts k
+all_seven true true false e f g h i k = no_parts k
+all_seven true false d e f g h i k = no_parts k
+all_seven false b d e f g h i k = no_parts k
 
 -- and so does each legal one
 pub legal_parts : (cs : History) → is_legal cs ≡ true → Within cs
 legal_parts cs h =
-    let six : All6 (nat_le (length (people cs)) most_people) (nat_le (length (requests cs)) most_requests) (nat_le (length (listed cs)) most_listed) (nat_le (length (distinct (revocations kinds.Digest cs))) most_revoked_digests) (nat_le (length (distinct (revocations kinds.Certificate cs))) most_revoked_certificates) (nat_le (length (names (generations cs))) most_level_components) =
-    all_six (nat_le (length (people cs)) most_people) (nat_le (length (requests cs)) most_requests) (nat_le (length (listed cs)) most_listed)
+    let seven : All7 (nat_le (length (people cs)) most_people) (nat_le (length (requests cs)) most_requests) (nat_le (length (proposals cs)) most_proposals) (nat_le (length (listed cs)) most_listed) (nat_le (length (distinct (revocations kinds.Digest cs))) most_revoked_digests) (nat_le (length (distinct (revocations kinds.Certificate cs))) most_revoked_certificates) (nat_le (length (names (generations cs))) most_level_components) =
+    all_seven (nat_le (length (people cs)) most_people) (nat_le (length (requests cs)) most_requests) (nat_le (length (proposals cs)) most_proposals) (nat_le (length (listed cs)) most_listed)
     (nat_le (length (distinct (revocations kinds.Digest cs))) most_revoked_digests) (nat_le (length (distinct (revocations kinds.Certificate cs))) most_revoked_certificates)
     (nat_le (length (names (generations cs))) most_level_components) (nat_le (length cs) most_calls) (legal_within cs h) in
-    record { people = six.first; requests = six.second; listed = six.third; digests = six.fourth; certificates = six.fifth; components = six.sixth }
+    record { people = seven.first; requests = seven.second; proposals = seven.third; listed = seven.fourth; digests = seven.fifth; certificates = seven.sixth; components = seven.seventh }
+
+-- a legal history has room for a proposal's number
+pub legal_proposals : (cs : History) → is_legal cs ≡ true → length (proposals cs) ≤ 100000
+legal_proposals cs h = let within : nat_le (length (proposals cs)) 100000 ≡ true = (legal_parts cs h).proposals in grind (arith, nat_tests, within)
 
 -- a legal history has room for a request's number
 pub legal_room : (cs : History) → is_legal cs ≡ true → length (requests cs) ≤ 100000

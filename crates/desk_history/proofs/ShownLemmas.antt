@@ -1,5 +1,5 @@
 -- What a submitter is told of requests.
-use Rattle.std.proofs.Common.{◌≡◌, ℕ, Bool, true, false, List, [], ◌∷◌, filter, find, Option, Some, None, option_map, Result, Ok, Err, refl, sym, ◌∙◌, ap}
+use Rattle.std.proofs.Common.{◌≡◌, ℕ, Bool, true, false, List, [], ◌∷◌, filter, find, Some, None, option_map, Result, Ok, refl, sym, ◌∙◌, ap}
 use Rattle.std.specs.Prelude.{bytes_eq, ok_or, reverse}
 use Rattle.std.specs.Result.{result_map_both}
 use Rattle.desk_bytes.specs.declared.refusal.Refusal.{Refusal}

@@ -1,12 +1,15 @@
 -- What calls put into force: revocations, and generations that are asked. All that is revoked and all of the level is read
 -- from this.
-use Rattle.std.specs.Prelude.{ℕ, List, [], ◌∷◌, reverse, Option, Some, None}
+use Rattle.std.specs.Prelude.{ℕ, List, [], reverse, Option, None, option_map}
+use Rattle.std.specs.Option.{option_map_or}
 use Rattle.sbat.specs.declared.component.Component.{Component}
+use Rattle.desk_texts.specs.Imports.{Imported}
 use Rattle.desk_texts.specs.declared.command.Command.{Command}
 use Rattle.desk_texts.specs.declared.command.Command.TheVariants as command
 use Rattle.desk_texts.specs.declared.kind.ListedKind.{ListedKind}
 use Rattle.desk_texts.specs.declared.kind.ListedKind.TheVariants as kinds
-use Rattle.desk_history.specs.Calls.{History, Item}
+use Rattle.desk_history.specs.Calls.{First, History, Item, Second}
+use Rattle.desk_history.specs.Proposals.{named_by, proposal}
 
 -- digests of images and of certificates, and components with their generations, each the last first, and the stamp that
 -- the level gets, if there is one
@@ -20,29 +23,30 @@ pub record InForce : Type 0 where
 abbrev pub nothing : InForce
 nothing = record { digests = []; certificates = []; components = []; stamp = None }
 
--- what a command names for the lists of what is revoked and for the level
-abbrev pub forced_by : Command → InForce
-forced_by (command.AddPerson _) = nothing
-forced_by (command.Submit _) = nothing
-forced_by (command.Review _) = nothing
-forced_by (command.Withdraw _) = nothing
-forced_by (command.Return _) = nothing
-forced_by (command.ListCertificate _) = nothing
-forced_by (command.ListDigest _) = nothing
-forced_by (command.Unlist _) = nothing
-forced_by (command.RevokeDigest digest) = record nothing { digests = digest ∷ [] }
-forced_by (command.RevokeCertificate digest) = record nothing { certificates = digest ∷ [] }
-forced_by (command.RaiseLevel r) = record nothing { components = r.component ∷ []; stamp = Some r.stamp }
-forced_by (command.ImportRevocations i) = record {
+-- these entries are put into force
+abbrev pub forced : Imported → InForce
+forced i = record {
   digests = reverse i.digests;
   certificates = reverse i.certificates;
   components = reverse i.components;
   stamp = i.stamp;
 }
 
+-- a Confirm confirms what its proposal names
+abbrev pub confirmed_by : History → Command → Option Imported
+confirmed_by cs (command.Confirm k) = option_map (λ p. p.named.entries) (proposal cs k)
+confirmed_by cs _ = None
+
+-- own: by the first rules a call puts into force what it names, by the second a Confirm what it confirms
+abbrev pub enforced_by : History → Item → Option Imported
+enforced_by cs i = elim i.rules [
+  | First ↦ option_map (λ n. n.entries) (named_by i.call.command)
+  | Second ↦ confirmed_by cs i.call.command
+]
+
 -- what a call that is accepted after these puts into force
 abbrev pub into_force : History → Item → InForce
-into_force cs i = forced_by i.call.command
+into_force cs i = option_map_or forced (enforced_by cs i) nothing
 
 -- the digests of this kind among that
 abbrev pub revoked_in : ListedKind → InForce → List (List ℕ)

@@ -11,6 +11,7 @@ use Rattle.desk_history.specs.declared.rows.Entry.{Entry}
 use Rattle.desk_history.specs.Listing.{has_entry, is_entry, is_listed, listed}
 use Rattle.desk_history.specs.declared.rows.VoteRow.{VoteRow}
 use Rattle.desk_history.specs.declared.rows.Minute.{Minute}
+use Rattle.desk_history.specs.declared.rows.ProposalRow.{ProposalRow}
 use Rattle.desk_history.specs.declared.rows.RequestRow.{RequestRow}
 use Rattle.desk_history.specs.declared.rows.ReturnRow.{ReturnRow}
 use Rattle.desk_history.specs.Tables.{Tables, tables}
@@ -65,6 +66,7 @@ pub record StandOnce (t : Tables) : Type 0 where
   pub revoked_digests : IsTrue (are_apart bytes_eq t.revoked_digests)
   pub revoked_certificates : IsTrue (are_apart bytes_eq t.revoked_certificates)
   pub components : IsTrue (are_apart (λ (a b : Component). bytes_eq a.name b.name) t.components)
+  pub proposals : IsTrue (are_apart (λ (a b : ProposalRow). a.number == b.number) t.proposals)
 
 -- in the tables of a legal history no two rows have the same key
 abbrev pub RowsStandOnce : Type 0

@@ -5,6 +5,7 @@ use Rattle.desk_history.specs.Calls.{History, distinct}
 use Rattle.desk_history.specs.Level.{generations, names}
 use Rattle.desk_history.specs.Listing.{listed}
 use Rattle.desk_history.specs.People.{people}
+use Rattle.desk_history.specs.Proposals.{proposals}
 use Rattle.desk_history.specs.Requests.{requests}
 use Rattle.desk_history.specs.Revocations.{revocations}
 
@@ -15,6 +16,10 @@ most_people = 1000
 -- own: the most requests
 abbrev pub most_requests : ℕ
 most_requests = 100000
+
+-- own: the most proposals, closed ones included
+abbrev pub most_proposals : ℕ
+most_proposals = 100000
 
 -- own: the most listed entries, of images and certificates together
 abbrev pub most_listed : ℕ
@@ -41,6 +46,7 @@ abbrev pub is_within : History → Bool
 is_within cs =
     nat_le (length (people cs)) most_people
     && nat_le (length (requests cs)) most_requests
+    && nat_le (length (proposals cs)) most_proposals
     && nat_le (length (listed cs)) most_listed
     && nat_le (length (distinct (revocations kinds.Digest cs))) most_revoked_digests
     && nat_le (length (distinct (revocations kinds.Certificate cs))) most_revoked_certificates

@@ -27,6 +27,8 @@ is_about kind digest (command.RevokeDigest _) = false
 is_about kind digest (command.RevokeCertificate _) = false
 is_about kind digest (command.RaiseLevel _) = false
 is_about kind digest (command.ImportRevocations _) = false
+is_about kind digest (command.Confirm _) = false
+is_about kind digest (command.Drop _) = false
 
 -- the command lists an entry
 abbrev pub lists : Command → Bool
@@ -42,6 +44,8 @@ lists (command.RevokeDigest _) = false
 lists (command.RevokeCertificate _) = false
 lists (command.RaiseLevel _) = false
 lists (command.ImportRevocations _) = false
+lists (command.Confirm _) = false
+lists (command.Drop _) = false
 
 -- the last call about the entry lists it
 abbrev pub is_listed : ListedKind → History → List ℕ → Bool
@@ -71,6 +75,8 @@ relisted (command.RevokeDigest _) entries = entries
 relisted (command.RevokeCertificate _) entries = entries
 relisted (command.RaiseLevel _) entries = entries
 relisted (command.ImportRevocations _) entries = entries
+relisted (command.Confirm _) entries = entries
+relisted (command.Drop _) entries = entries
 
 -- the listed entries, with the bodies that the last calls about them gave
 abbrev pub listed : History → List Entry

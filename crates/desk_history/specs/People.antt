@@ -19,6 +19,8 @@ added_by (command.RevokeDigest _) = None
 added_by (command.RevokeCertificate _) = None
 added_by (command.RaiseLevel _) = None
 added_by (command.ImportRevocations _) = None
+added_by (command.Confirm _) = None
+added_by (command.Drop _) = None
 
 -- those who were added, the newest first
 abbrev pub people : History → List Person

@@ -13,14 +13,17 @@ use Rattle.desk_texts.specs.declared.facts.Facts.{Facts}
 use Rattle.desk_texts.specs.declared.kind.ListedKind.TheVariants as kinds
 use Rattle.desk_texts.specs.declared.command.Person.{Person}
 use Rattle.desk_texts.specs.declared.command.Raise.{Raise}
+use Rattle.desk_texts.specs.declared.proposal.ProposalState.{ProposalState}
+use Rattle.desk_texts.specs.declared.proposal.ProposalState.TheVariants as proposal_states
 use Rattle.desk_texts.specs.declared.state.State.{State}
 use Rattle.desk_texts.specs.declared.state.State.TheVariants as states
 use Rattle.desk_texts.specs.Callers.{caller_name}
 use Rattle.desk_history.specs.Calls.{History, Item, item}
-use Rattle.desk_history.specs.Forces.{forced_by}
+use Rattle.desk_history.specs.Forces.{forced}
 use Rattle.desk_history.specs.Level.{generations, greatest, is_above, is_sbat, raises_some, stamp}
 use Rattle.desk_history.specs.Listing.{is_listed}
 use Rattle.desk_history.specs.People.{has_name, has_token, people}
+use Rattle.desk_history.specs.Proposals.{Proposal, proposal, proposal_state}
 use Rattle.desk_history.specs.declared.rows.VoteRow.{VoteRow}
 use Rattle.desk_history.specs.Requests.{Request, is_vote_of, request, state, votes, votes_on}
 use Rattle.desk_history.specs.Revocations.{is_revoked}
@@ -111,6 +114,34 @@ is_later now stamp = option_map_or (λ s. nat_lt now s) stamp false
 abbrev pub import_refusal : Bool → ℕ → Option ℕ → Option Refusal
 import_refusal raises now stamp = refuse_if (raises && not (is_later now stamp)) refusals.StampNotLater
 
+-- why what a command names isn't put into force now; four commands name such
+abbrev pub force_refusal : History → Command → Option Refusal
+force_refusal cs (command.RevokeDigest d) = refuse_if (is_revoked kinds.Digest cs d) refusals.AlreadyRevoked
+force_refusal cs (command.RevokeCertificate d) = refuse_if (is_revoked kinds.Certificate cs d) refusals.AlreadyRevoked
+force_refusal cs (command.RaiseLevel r) = raise_refusal (greatest (generations cs) r.component.name) (stamp cs) r
+force_refusal cs (command.ImportRevocations i) = import_refusal (raises_some cs (forced i)) (stamp cs) i.stamp
+force_refusal cs _ = None
+
+-- a proposal in this state is closed
+abbrev pub is_closed : ProposalState → Bool
+is_closed state = elim state [ proposal_states.Open ↦ false | _ ↦ true ]
+
+-- Confirm, of a proposal in this state, the caller's own or not, of which the command is refused now or not. own: another
+-- officer confirms
+abbrev pub confirm_by : ProposalState → Bool → Option Refusal → Option Refusal
+confirm_by state own refused =
+    if is_closed state then Some refusals.ProposalClosed else (if own then Some refusals.OwnProposal else refused)
+
+-- Confirm, of the proposal with its state
+abbrev pub confirm_refusal : History → Option Proposal → ProposalState → List ℕ → Option Refusal
+confirm_refusal cs None state caller = Some refusals.NoSuchProposal
+confirm_refusal cs (Some p) state caller = confirm_by state (bytes_eq p.officer caller) (force_refusal cs p.command)
+
+-- Drop, of the proposal with its state. own: each officer may drop it, also the one who proposed it
+abbrev pub drop_refusal : Option Proposal → ProposalState → Option Refusal
+drop_refusal None state = Some refusals.NoSuchProposal
+drop_refusal (Some p) state = refuse_if (is_closed state) refusals.ProposalClosed
+
 -- own: each command's own conditions, for the caller of this name
 abbrev pub own_refusal : History → List ℕ → Command → Option Refusal
 own_refusal cs name (command.AddPerson p) = add_refusal (people cs) p
@@ -124,12 +155,12 @@ own_refusal cs name (command.ListCertificate c) =
     refuse_if (is_listed kinds.Certificate cs c.tbs) refusals.AlreadyListed
 own_refusal cs name (command.ListDigest d) = refuse_if (is_listed kinds.Digest cs d) refusals.AlreadyListed
 own_refusal cs name (command.Unlist l) = refuse_if (not (is_listed l.kind cs l.digest)) refusals.NotThere
-own_refusal cs name (command.RevokeDigest d) = refuse_if (is_revoked kinds.Digest cs d) refusals.AlreadyRevoked
-own_refusal cs name (command.RevokeCertificate d) =
-    refuse_if (is_revoked kinds.Certificate cs d) refusals.AlreadyRevoked
-own_refusal cs name (command.RaiseLevel r) = raise_refusal (greatest (generations cs) r.component.name) (stamp cs) r
-own_refusal cs name (command.ImportRevocations i) =
-    import_refusal (raises_some cs (forced_by (command.ImportRevocations i))) (stamp cs) i.stamp
+own_refusal cs name (command.RevokeDigest d) = force_refusal cs (command.RevokeDigest d)
+own_refusal cs name (command.RevokeCertificate d) = force_refusal cs (command.RevokeCertificate d)
+own_refusal cs name (command.RaiseLevel r) = force_refusal cs (command.RaiseLevel r)
+own_refusal cs name (command.ImportRevocations i) = force_refusal cs (command.ImportRevocations i)
+own_refusal cs name (command.Confirm k) = confirm_refusal cs (proposal cs k) (proposal_state cs k) name
+own_refusal cs name (command.Drop k) = drop_refusal (proposal cs k) (proposal_state cs k)
 
 -- own: the caller's role comes first, then the command's own conditions, and at the end how much a desk may hold
 abbrev pub refusal_of : History → Item → Option Refusal

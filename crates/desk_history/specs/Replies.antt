@@ -1,16 +1,19 @@
 -- What an accepted call is answered, and the minutes.
 use Rattle.std.specs.Prelude.{ℕ, ◌+◌, ◌-◌, List, [], ◌∷◌, length, filter}
+use Rattle.std.specs.Option.{option_map_or}
 use Rattle.desk_texts.specs.declared.command.Call.{Call}
 use Rattle.desk_texts.specs.declared.command.Command.{Command}
 use Rattle.desk_texts.specs.declared.command.Command.TheVariants as command
 use Rattle.desk_texts.specs.declared.kind.ListedKind.{ListedKind}
 use Rattle.desk_texts.specs.declared.kind.ListedKind.TheVariants as kinds
+use Rattle.desk_texts.specs.declared.reply.Counts.{Counts}
 use Rattle.desk_texts.specs.declared.reply.Reply.{Reply}
 use Rattle.desk_texts.specs.declared.reply.Reply.TheVariants as replies
 use Rattle.desk_history.specs.declared.rows.Minute.{Minute}
-use Rattle.desk_history.specs.Calls.{History, Item, distinct, item}
-use Rattle.desk_history.specs.Forces.{InForce, into_force}
+use Rattle.desk_history.specs.Calls.{First, History, Item, Rules, Second, distinct, item}
+use Rattle.desk_history.specs.Forces.{InForce, enforced_by, into_force}
 use Rattle.desk_history.specs.Level.{names, raises}
+use Rattle.desk_history.specs.Proposals.{proposals}
 use Rattle.desk_history.specs.Requests.{requests, state}
 use Rattle.desk_history.specs.Revocations.{revocations}
 use Rattle.desk_texts.specs.CommandTexts.{text_of}
@@ -23,6 +26,21 @@ gained kind cs i = length (distinct (revocations kind (i ∷ cs))) - length (dis
 abbrev pub raised_count : History → InForce → ℕ
 raised_count cs f = length (names (filter (raises cs) f.components))
 
+-- what an item puts into force, in numbers: different new digests, different new certificates, names raised, and entries
+-- passed over
+abbrev pub counted : History → Item → Counts
+counted cs i = record {
+  digests = gained kinds.Digest cs i;
+  certificates = gained kinds.Certificate cs i;
+  components = raised_count cs (into_force cs i);
+  passed = option_map_or (λ n. n.passed) (enforced_by cs i) 0;
+}
+
+-- own: this is the reply by the first rules; by the second what a call names is the next proposal
+abbrev pub or_proposed : History → Rules → Reply → Reply
+or_proposed cs First reply = reply
+or_proposed cs Second reply = replies.Proposed (length (proposals cs) + 1)
+
 -- the reply to a command that is accepted in this call
 abbrev pub reply_by : History → Item → Command → Reply
 reply_by cs i (command.AddPerson person) = replies.Added person.name
@@ -33,15 +51,12 @@ reply_by cs i (command.Return h) = replies.Returned h.request
 reply_by cs i (command.ListCertificate certificate) = replies.Listed
 reply_by cs i (command.ListDigest digest) = replies.Listed
 reply_by cs i (command.Unlist listing) = replies.Unlisted
-reply_by cs i (command.RevokeDigest digest) = replies.Revoked
-reply_by cs i (command.RevokeCertificate digest) = replies.Revoked
-reply_by cs i (command.RaiseLevel raise) = replies.Raised
-reply_by cs i (command.ImportRevocations named) = replies.Imported (record {
-  digests = gained kinds.Digest cs i;
-  certificates = gained kinds.Certificate cs i;
-  components = raised_count cs (into_force cs i);
-  passed = named.passed;
-})
+reply_by cs i (command.RevokeDigest digest) = or_proposed cs i.rules replies.Revoked
+reply_by cs i (command.RevokeCertificate digest) = or_proposed cs i.rules replies.Revoked
+reply_by cs i (command.RaiseLevel raise) = or_proposed cs i.rules replies.Raised
+reply_by cs i (command.ImportRevocations named) = or_proposed cs i.rules (replies.Imported (counted cs i))
+reply_by cs i (command.Confirm k) = replies.Confirmed (record { proposal = k; counts = counted cs i })
+reply_by cs i (command.Drop k) = replies.Dropped k
 
 -- own: the reply to a call that is accepted after these
 abbrev pub reply_to : History → Item → Reply

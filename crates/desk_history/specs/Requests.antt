@@ -43,6 +43,8 @@ submission_of (command.RevokeDigest _) = None
 submission_of (command.RevokeCertificate _) = None
 submission_of (command.RaiseLevel _) = None
 submission_of (command.ImportRevocations _) = None
+submission_of (command.Confirm _) = None
+submission_of (command.Drop _) = None
 
 -- who submits what
 pub record Submitted : Type 0 where
@@ -87,6 +89,8 @@ vote_of reviewer (command.RevokeDigest _) = None
 vote_of reviewer (command.RevokeCertificate _) = None
 vote_of reviewer (command.RaiseLevel _) = None
 vote_of reviewer (command.ImportRevocations _) = None
+vote_of reviewer (command.Confirm _) = None
+vote_of reviewer (command.Drop _) = None
 
 -- the Reviews
 abbrev pub votes : History → List VoteRow
@@ -118,6 +122,8 @@ withdraws k (command.RevokeDigest _) = false
 withdraws k (command.RevokeCertificate _) = false
 withdraws k (command.RaiseLevel _) = false
 withdraws k (command.ImportRevocations _) = false
+withdraws k (command.Confirm _) = false
+withdraws k (command.Drop _) = false
 
 -- some call withdraws the request
 abbrev pub is_withdrawn : History → ℕ → Bool
@@ -143,6 +149,8 @@ return_of signer (command.RevokeDigest _) = None
 return_of signer (command.RevokeCertificate _) = None
 return_of signer (command.RaiseLevel _) = None
 return_of signer (command.ImportRevocations _) = None
+return_of signer (command.Confirm _) = None
+return_of signer (command.Drop _) = None
 
 -- the Returns
 abbrev pub returns : History → List Returned

@@ -47,6 +47,8 @@ is_for r (command.RevokeDigest _) = is_officer r
 is_for r (command.RevokeCertificate _) = is_officer r
 is_for r (command.RaiseLevel _) = is_officer r
 is_for r (command.ImportRevocations _) = is_officer r
+is_for r (command.Confirm _) = is_officer r
+is_for r (command.Drop _) = is_officer r
 
 -- own: the console gives this command and no other
 abbrev pub is_for_console : Command → Bool
@@ -62,3 +64,5 @@ is_for_console (command.RevokeDigest _) = false
 is_for_console (command.RevokeCertificate _) = false
 is_for_console (command.RaiseLevel _) = false
 is_for_console (command.ImportRevocations _) = false
+is_for_console (command.Confirm _) = false
+is_for_console (command.Drop _) = false

@@ -1,5 +1,5 @@
--- What a person is shown of the requests.
-use Rattle.std.specs.Prelude.{◌≡◌, ℕ, ◌==◌, Bool, true, List, map, filter, find, reverse, Option, Some, option_map, ok_or, Result, Ok, Err, bytes_eq}
+-- What a person is shown of the requests, and of the proposals.
+use Rattle.std.specs.Prelude.{◌≡◌, ℕ, ◌==◌, Bool, true, if◌then◌else◌, List, length, map, filter, find, reverse, Option, Some, option_map, ok_or, Result, Ok, Err, bytes_eq}
 use Rattle.std.specs.List.{AllZip}
 use Rattle.std.specs.List.Sorted.{IsPermutation}
 use Rattle.std.specs.Result.{result_map_both}
@@ -8,6 +8,7 @@ use Rattle.desk_bytes.specs.declared.refusal.Refusal.TheVariants as refusals
 use Rattle.desk_texts.specs.declared.caller.Caller.{Caller}
 use Rattle.desk_texts.specs.declared.caller.Caller.TheVariants as callers
 use Rattle.desk_texts.specs.declared.command.Person.{Person}
+use Rattle.desk_texts.specs.declared.proposal.Proposal.{Proposal as ShownProposal}
 use Rattle.desk_texts.specs.declared.role.Role.{Role}
 use Rattle.desk_texts.specs.declared.role.Role.TheVariants as roles
 use Rattle.desk_texts.specs.declared.shown.ShownRequest.{ShownRequest}
@@ -16,7 +17,9 @@ use Rattle.desk_texts.specs.declared.shown.ShownVote.{ShownVote}
 use Rattle.desk_texts.specs.declared.state.State.{State}
 use Rattle.desk_history.specs.Calls.{History}
 use Rattle.desk_history.specs.People.{person}
+use Rattle.desk_history.specs.Proposals.{Proposal, proposal_state, proposals}
 use Rattle.desk_history.specs.Requests.{Request, Returned, requests, returns, state, votes, votes_on}
+use Rattle.desk_history.specs.Roles.{is_officer}
 use Rattle.desk_history.specs.declared.rows.VoteRow.{VoteRow}
 
 -- what was returned for a request
@@ -113,6 +116,32 @@ IsGiven (Err refusal) (Err given) shows = given ≡ refusal
 -- to a caller who asks for this request
 abbrev pub GivesRequest : History → Caller → ℕ → Result ShownRequest Refusal → Type 0
 GivesRequest cs c k given = IsGiven (request_for cs c k) given IsShown
+
+-- ---- proposals
+
+-- own: proposals are shown to officers
+abbrev pub officer : Result Person Refusal → Result Person Refusal
+officer (Ok p) = if is_officer p.role then Ok p else Err refusals.NotYourRole
+officer (Err refusal) = Err refusal
+
+-- what a caller is told who asks for the proposals, ascending by number
+abbrev pub proposals_for : History → Caller → Result (List Proposal) Refusal
+proposals_for cs c = result_map_both (λ p. reverse (proposals cs)) (λ refusal. refusal) (officer (reader cs c))
+
+-- a proposal, as it is shown: how many entries of each kind it names, repeats included
+abbrev pub shown_proposal : History → Proposal → ShownProposal
+shown_proposal cs p = record {
+  number = p.number;
+  officer = p.officer;
+  state = proposal_state cs p.number;
+  digests = length p.named.entries.digests;
+  certificates = length p.named.entries.certificates;
+  components = length p.named.entries.components;
+}
+
+-- the proposals are shown to a caller who asks for them, or the refusal that is due is given
+abbrev pub GivesProposals : History → Caller → Result (List ShownProposal) Refusal → Type 0
+GivesProposals cs c given = IsGiven (proposals_for cs c) given (λ due shown. shown ≡ map (shown_proposal cs) due)
 
 -- ---- what a submitter learns
 

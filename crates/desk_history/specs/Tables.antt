@@ -1,20 +1,23 @@
 -- The tables that a history stands for: lists of rows, of which the order means nothing.
-use Rattle.std.specs.Prelude.{ℕ, ◌+◌, List, [], ◌∷◌, map, flat_map, unwrap_or, codes}
+use Rattle.std.specs.Prelude.{ℕ, ◌+◌, List, [], ◌∷◌, map, flat_map, count_by, unwrap_or, codes}
 use Rattle.sbat.specs.declared.component.Component.{Component}
 use Rattle.desk_texts.specs.declared.kind.ListedKind.TheVariants as kinds
 use Rattle.desk_texts.specs.declared.command.Person.{Person}
 use Rattle.desk_history.specs.declared.rows.Entry.{Entry}
 use Rattle.desk_history.specs.declared.rows.Minute.{Minute}
+use Rattle.desk_history.specs.declared.rows.ProposalRow.{ProposalRow}
 use Rattle.desk_history.specs.declared.rows.RequestCertificateRow.{RequestCertificateRow}
 use Rattle.desk_history.specs.declared.rows.RequestComponentRow.{RequestComponentRow}
 use Rattle.desk_history.specs.declared.rows.RequestRow.{RequestRow}
 use Rattle.desk_history.specs.declared.rows.ReturnRow.{ReturnRow}
 use Rattle.desk_history.specs.declared.rows.VoteRow.{VoteRow}
+use Rattle.desk_texts.specs.declared.proposal.ProposalState.{ProposalState}
 use Rattle.desk_texts.specs.declared.state.State.{State}
-use Rattle.desk_history.specs.Calls.{History, distinct}
+use Rattle.desk_history.specs.Calls.{History, distinct, is_first}
 use Rattle.desk_history.specs.Level.{generations, greatest, names, stamp}
 use Rattle.desk_history.specs.Listing.{listed}
 use Rattle.desk_history.specs.People.{people}
+use Rattle.desk_history.specs.Proposals.{Proposal, proposal_state, proposals}
 use Rattle.desk_history.specs.Replies.{minutes}
 use Rattle.desk_history.specs.Requests.{Request, Returned, requests, returns, state, votes}
 use Rattle.desk_history.specs.Revocations.{revocations}
@@ -68,7 +71,17 @@ level_row named name = record { name = name; generation = unwrap_or (greatest na
 abbrev pub level_rows : List Component → List Component
 level_rows named = map (level_row named) (names named)
 
--- the twelve tables
+-- a proposal as a row, with its state
+abbrev pub proposal_row : ProposalState → Proposal → ProposalRow
+proposal_row state p =
+    record { number = p.number; officer = p.officer; kind = p.named.kind; named = p.named.entries; state = state }
+
+-- own: how many of the calls were accepted by the first rules, in the one row of its table
+pub record MigratedRow : Type 0 where
+  pub id : ℕ
+  pub calls : ℕ
+
+-- the fifteen tables, with a proposal's items in its row
 pub record Tables : Type 0 where
   pub desk : DeskRow
   pub people : List Person
@@ -82,11 +95,13 @@ pub record Tables : Type 0 where
   pub revoked_digests : List (List ℕ)
   pub revoked_certificates : List (List ℕ)
   pub components : List Component
+  pub proposals : List ProposalRow
+  pub migrated : List MigratedRow
 
 -- the tables of a desk with this owner and history
 abbrev pub tables : List ℕ → History → Tables
 tables owner cs = record {
-  desk = record { id = 1; mark = codes "boot-desk"; version = 1; owner = owner; stamp = stamp cs };
+  desk = record { id = 1; mark = codes "boot-desk"; version = 2; owner = owner; stamp = stamp cs };
   people = people cs;
   calls = minutes cs;
   requests = map (λ r. request_row (state cs r.number) r) (requests cs);
@@ -98,4 +113,6 @@ tables owner cs = record {
   revoked_digests = distinct (revocations kinds.Digest cs);
   revoked_certificates = distinct (revocations kinds.Certificate cs);
   components = level_rows (generations cs);
+  proposals = map (λ p. proposal_row (proposal_state cs p.number) p) (proposals cs);
+  migrated = record { id = 1; calls = count_by is_first cs } ∷ [];
 }

@@ -20,6 +20,7 @@ use Rattle.desk_history.specs.declared.answer.Answer.TheVariants.{Accepted, Refu
 pub mod Imports
 pub mod Keys
 pub mod Levels
+pub mod Proposals
 pub mod Returns
 pub mod Reviews
 pub mod Showing
@@ -65,7 +66,7 @@ person name role token = record {
 abbrev pub added : List ℕ → Role → ℕ → Step
 added name role token = accepted (person name role token) (replies.Added name)
 
--- the people of each day but the first: ann submits, rita, raul and rosa review, sid signs, olga is the officer
+-- the people of a day: ann submits, rita, raul and rosa review, sid signs, olga is the officer
 abbrev pub with_people : List Step → List Step
 with_people steps =
     added (codes "ann") roles.Submitter 1
@@ -86,6 +87,22 @@ people_added =
     ∷ item (person (codes "rita") roles.Reviewer 2)
     ∷ item (person (codes "ann") roles.Submitter 1)
     ∷ []
+
+-- the second officer, otto
+abbrev pub otto : Call
+otto = person (codes "otto") roles.Officer 7
+
+-- he is added
+abbrev pub otto_added : Step
+otto_added = added (codes "otto") roles.Officer 7
+
+-- the people of a day on which something is revoked: he is one of them
+abbrev pub with_officers : List Step → List Step
+with_officers steps = with_people (otto_added ∷ steps)
+
+-- the history of the calls that added them, the newest first
+abbrev pub officers_added : History
+officers_added = item otto ∷ people_added
 
 -- the facts of an image of 1,024 bytes: the byte of its file's SHA-256, of its digest and of the digest that a
 -- signature of it holds, the certificates that it carries, and its components
@@ -135,7 +152,15 @@ imported stamp passed digests certificates components =
       components = components;
     })
 
--- the reply to an import that changed so many, and passed over so many entries
-abbrev pub counts : ℕ → ℕ → ℕ → ℕ → Reply
-counts digests certificates components passed =
-    replies.Imported (record { digests = digests; certificates = certificates; components = components; passed = passed })
+-- the reply to what was proposed
+abbrev pub proposed : ℕ → Reply
+proposed number = replies.Proposed number
+
+-- the reply to a confirmation: of this proposal; so many new digests, new certificates and raised names, and entries
+-- passed over
+abbrev pub confirmed : ℕ → ℕ → ℕ → ℕ → ℕ → Reply
+confirmed number digests certificates components passed =
+    replies.Confirmed (record {
+      proposal = number;
+      counts = record { digests = digests; certificates = certificates; components = components; passed = passed };
+    })

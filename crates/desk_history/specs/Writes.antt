@@ -1,9 +1,11 @@
 -- What writes make of the tables.
 use Rattle.std.specs.Prelude.{ℕ, ◌==◌, Bool, if◌then◌else◌, List, [], ◌∷◌, map, bytes_eq}
 use Rattle.sbat.specs.declared.component.Component.{Component}
+use Rattle.desk_history.specs.declared.rows.ProposalRow.{ProposalRow}
 use Rattle.desk_history.specs.declared.rows.RequestRow.{RequestRow}
 use Rattle.desk_texts.specs.declared.kind.ListedKind.{ListedKind}
 use Rattle.desk_texts.specs.declared.kind.ListedKind.TheVariants as kinds
+use Rattle.desk_texts.specs.declared.proposal.ProposalState.{ProposalState}
 use Rattle.desk_texts.specs.declared.state.State.{State}
 use Rattle.desk_history.specs.declared.write.Write.{Write}
 use Rattle.desk_history.specs.declared.write.Write.TheVariants as writes
@@ -13,6 +15,10 @@ use Rattle.desk_history.specs.Tables.{Tables}
 -- the row, with this state where it is that of the request k
 abbrev pub set_state : ℕ → State → RequestRow → RequestRow
 set_state k state row = if k == row.number then record row { state = state } else row
+
+-- the row, with this state where it is that of the proposal k
+abbrev pub set_proposal_state : ℕ → ProposalState → ProposalRow → ProposalRow
+set_proposal_state k state row = if k == row.number then record row { state = state } else row
 
 -- the component has this name
 abbrev pub is_named : List ℕ → Component → Bool
@@ -43,6 +49,8 @@ written (writes.Revoke l) t = with_revoked l.kind l.digest t
 written (writes.Component x) t = record t { components = x ∷ t.components }
 written (writes.Generation x) t = record t { components = map (set_generation x) t.components }
 written (writes.Stamp s) t = record t { desk = record t.desk { stamp = s } }
+written (writes.Propose p) t = record t { proposals = p ∷ t.proposals }
+written (writes.ProposalState o) t = record t { proposals = map (set_proposal_state o.proposal o.state) t.proposals }
 
 -- the tables after writes, one after another
 abbrev pub all_written : List Write → Tables → Tables

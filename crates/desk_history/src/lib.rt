@@ -26,12 +26,12 @@ pub use laws::{
     series_are_legal, submitters_see_own, what_is_barred_stays_barred,
 };
 pub use limits::{
-    MOST_CALLS, MOST_LEVEL_COMPONENTS, MOST_LISTED, MOST_PEOPLE, MOST_REQUESTS,
+    MOST_CALLS, MOST_LEVEL_COMPONENTS, MOST_LISTED, MOST_PEOPLE, MOST_PROPOSALS, MOST_REQUESTS,
     MOST_REVOKED_CERTIFICATES, MOST_REVOKED_DIGESTS,
 };
 pub use rows::{
-    CommandText, Entry, EntryBody, Minute, RequestCertificateRow, RequestComponentRow, RequestRow,
-    ReturnRow, VoteRow,
+    CommandText, Entry, EntryBody, Minute, ProposalRow, RequestCertificateRow, RequestComponentRow,
+    RequestRow, ReturnRow, VoteRow,
 };
 pub use rules::{
     image_refusal, is_above, is_for, is_for_console, is_later, is_same, raise_refusal, refuse_if,
@@ -40,7 +40,7 @@ pub use rules::{
 pub use standing::Standing;
 pub use verdicts::{bars, lists_image, verdict_of};
 pub use worked::{
-    imports_are_answered, keys_are_answered, levels_are_answered, requests_are_shown,
-    returns_are_answered, reviews_are_answered,
+    imports_are_answered, keys_are_answered, levels_are_answered, proposals_are_answered,
+    requests_are_shown, returns_are_answered, reviews_are_answered,
 };
 pub use write::Write;

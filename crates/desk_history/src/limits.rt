@@ -3,6 +3,8 @@
 pub const MOST_PEOPLE: usize = 1_000;
 /// The most requests of a desk.
 pub const MOST_REQUESTS: usize = 100_000;
+/// The most proposals of a desk, closed ones included.
+pub const MOST_PROPOSALS: usize = 100_000;
 /// The most listed entries of a desk, image digests and certificates together.
 pub const MOST_LISTED: usize = 10_000;
 /// The most revoked image digests of a desk.

@@ -3,7 +3,8 @@ ghost use Rattle.std.specs.Prelude.{◌≡◌, ℕ, List, string_bytes};
 
 use desk_bytes::Digest;
 use desk_texts::{
-    Caller, Key, ListedKind, Note, PersonName, Reply, RequestNumber, State, Title, Vote,
+    Caller, Import, Key, ListedKind, Note, PersonName, ProposalKind, ProposalNumber, ProposalState,
+    Reply, RequestNumber, State, Title, Vote,
 };
 use sbat::{ComponentName, Generation};
 use std::alloc::AllocError;
@@ -133,4 +134,14 @@ pub struct Entry {
     pub kind: ListedKind,
     pub digest: Digest,
     pub body: EntryBody,
+}
+
+/// A proposal, with its state: who proposed what.
+#[derive(Debug, Drop)]
+pub struct ProposalRow {
+    pub number: ProposalNumber,
+    pub officer: PersonName,
+    pub kind: ProposalKind,
+    pub named: Import,
+    pub state: ProposalState,
 }

@@ -42,7 +42,9 @@ pub fn is_for(role: Role, command: &Command) -> bool
         | Command::RevokeDigest(_)
         | Command::RevokeCertificate(_)
         | Command::RaiseLevel(_)
-        | Command::ImportRevocations(_) => matches!(role, Role::Officer),
+        | Command::ImportRevocations(_)
+        | Command::Confirm(_)
+        | Command::Drop(_) => matches!(role, Role::Officer),
     }
 }
 
@@ -62,7 +64,9 @@ pub fn is_for_console(command: &Command) -> bool
         | Command::RevokeDigest(_)
         | Command::RevokeCertificate(_)
         | Command::RaiseLevel(_)
-        | Command::ImportRevocations(_) => false,
+        | Command::ImportRevocations(_)
+        | Command::Confirm(_)
+        | Command::Drop(_) => false,
     }
 }
 

@@ -2,6 +2,7 @@
 ghost use Rattle.desk_history.specs.Worked.Imports as imports;
 ghost use Rattle.desk_history.specs.Worked.Keys as keys;
 ghost use Rattle.desk_history.specs.Worked.Levels as levels;
+ghost use Rattle.desk_history.specs.Worked.Proposals as proposals;
 ghost use Rattle.desk_history.specs.Worked.Returns as returns;
 ghost use Rattle.desk_history.specs.Worked.Reviews as reviews;
 ghost use Rattle.desk_history.specs.Worked.Showing as showing;
@@ -42,6 +43,17 @@ pub fn imports_are_answered()
     ensures answers { imports.AnswersImports }
     ensures history { imports.KeepsImports }
     ensures rows { imports.TablesImports }
+{}
+
+/// What one officer proposes, another confirms.
+pub fn proposals_are_answered()
+    ensures one { proposals.AnswersOne }
+    ensures one_shown { proposals.ShowsOne }
+    ensures two { proposals.AnswersBoth }
+    ensures two_shown { proposals.ShowsBoth }
+    ensures level { proposals.AnswersLevel }
+    ensures level_shown { proposals.ShowsLevel }
+    ensures all_of_an_import { proposals.AnswersImport }
 {}
 
 /// People ask for one request, and for all of them.

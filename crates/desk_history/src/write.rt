@@ -1,8 +1,9 @@
 //! What the desk writes into its tables.
 use crate::{
-    Entry, Minute, RequestCertificateRow, RequestComponentRow, RequestRow, ReturnRow, VoteRow,
+    Entry, Minute, ProposalRow, RequestCertificateRow, RequestComponentRow, RequestRow, ReturnRow,
+    VoteRow,
 };
-use desk_texts::{Listing, Outcome, Person};
+use desk_texts::{Listing, Outcome, Person, ProposalOutcome};
 use sbat::{Component, Stamp};
 
 /// A row that is written.
@@ -36,4 +37,8 @@ pub enum Write {
     Generation(Component),
     /// The level gets this stamp.
     Stamp(Stamp),
+    /// A proposal is put in, with all that it names.
+    Propose(ProposalRow),
+    /// The proposal gets this state.
+    ProposalState(ProposalOutcome),
 }

@@ -5,7 +5,8 @@ use Rattle.desk_history.specs.Calls.{History, item}
 use Rattle.desk_history.specs.Level.{level, stamp}
 use Rattle.desk_history.specs.Runs.{answers, run}
 use Rattle.desk_history.specs.Tables.{tables}
-use Rattle.desk_history.specs.Worked.{Step, accepted, answers_of, by, calls_of, counts, digest, grub, imported, people_added, refused, with_people}
+use Rattle.desk_history.specs.Worked.{Step, accepted, answers_of, by, calls_of, confirmed, digest, grub, imported, officers_added, proposed, refused, with_officers}
+use Rattle.desk_texts.specs.declared.command.Command.TheVariants as command
 use Rattle.desk_texts.specs.declared.command.Command.{Command}
 
 -- signature lists with an image's digest aa, a certificate's bb, and an entry of another kind
@@ -22,26 +23,40 @@ unstamped = imported None 0 (digest 170 ∷ []) [] (grub 2 ∷ grub 3 ∷ [])
 
 -- signature lists are imported, twice
 abbrev pub listed_steps : List Step
-listed_steps = with_people (
-    accepted (by (codes "olga") (codes "olga-1") lists) (counts 1 1 0 1)
-    ∷ accepted (by (codes "olga") (codes "olga-2") lists) (counts 0 0 0 1)
+listed_steps = with_officers (
+    accepted (by (codes "olga") (codes "olga-1") lists) (proposed 1)
+    ∷ accepted (by (codes "otto") (codes "otto-1") (command.Confirm 1)) (confirmed 1 1 1 0 1)
+    ∷ accepted (by (codes "olga") (codes "olga-2") lists) (proposed 2)
+    ∷ accepted (by (codes "otto") (codes "otto-2") (command.Confirm 2)) (confirmed 2 0 0 0 1)
     ∷ [])
 
 -- the table is imported, first without a stamp
 abbrev pub tabled_steps : List Step
-tabled_steps = with_people (
+tabled_steps = with_officers (
     refused (by (codes "olga") (codes "olga-1") unstamped) refusals.StampNotLater
-    ∷ accepted (by (codes "olga") (codes "olga-2") table) (counts 1 0 1 0)
-    ∷ accepted (by (codes "olga") (codes "olga-3") unstamped) (counts 0 0 0 0)
+    ∷ accepted (by (codes "olga") (codes "olga-2") table) (proposed 1)
+    ∷ accepted (by (codes "otto") (codes "otto-1") (command.Confirm 1)) (confirmed 1 1 0 1 0)
+    ∷ accepted (by (codes "olga") (codes "olga-3") unstamped) (proposed 2)
+    ∷ accepted (by (codes "otto") (codes "otto-2") (command.Confirm 2)) (confirmed 2 0 0 0 0)
     ∷ [])
 
 -- the calls that were accepted of the first
 abbrev pub listed_history : History
-listed_history = item (by (codes "olga") (codes "olga-2") lists) ∷ item (by (codes "olga") (codes "olga-1") lists) ∷ people_added
+listed_history =
+    item (by (codes "otto") (codes "otto-2") (command.Confirm 2))
+    ∷ item (by (codes "olga") (codes "olga-2") lists)
+    ∷ item (by (codes "otto") (codes "otto-1") (command.Confirm 1))
+    ∷ item (by (codes "olga") (codes "olga-1") lists)
+    ∷ officers_added
 
 -- and of the second
 abbrev pub tabled_history : History
-tabled_history = item (by (codes "olga") (codes "olga-3") unstamped) ∷ item (by (codes "olga") (codes "olga-2") table) ∷ people_added
+tabled_history =
+    item (by (codes "otto") (codes "otto-2") (command.Confirm 2))
+    ∷ item (by (codes "olga") (codes "olga-3") unstamped)
+    ∷ item (by (codes "otto") (codes "otto-1") (command.Confirm 1))
+    ∷ item (by (codes "olga") (codes "olga-2") table)
+    ∷ officers_added
 
 -- each call is answered so
 abbrev pub AnswersImports : Type 0

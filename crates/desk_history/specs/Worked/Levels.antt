@@ -10,7 +10,7 @@ use Rattle.desk_history.specs.Runs.{answers, run}
 use Rattle.desk_history.specs.Tables.{tables}
 use Rattle.desk_history.specs.Verdicts.{verdict}
 use Rattle.desk_history.specs.declared.finding.Verdict.TheVariants as says
-use Rattle.desk_history.specs.Worked.{Step, accepted, answers_of, by, calls_of, digest, grub, image, people_added, raise, refused, submit, with_people}
+use Rattle.desk_history.specs.Worked.{Step, accepted, answers_of, by, calls_of, confirmed, digest, grub, image, officers_added, people_added, proposed, raise, refused, submit, with_officers}
 
 -- an image with this generation of grub
 abbrev pub with_grub : ℕ → Facts
@@ -18,8 +18,9 @@ with_grub generation = image 21 22 22 [] (grub generation ∷ [])
 
 -- raises of the level, and what they bar
 abbrev pub steps : List Step
-steps = with_people (
-    accepted (by (codes "olga") (codes "olga-1") (raise (codes "grub") 3 2024010100)) replies.Raised
+steps = with_officers (
+    accepted (by (codes "olga") (codes "olga-1") (raise (codes "grub") 3 2024010100)) (proposed 1)
+    ∷ accepted (by (codes "otto") (codes "otto-1") (command.Confirm 1)) (confirmed 1 0 0 1 0)
     ∷ refused (by (codes "olga") (codes "olga-2") (raise (codes "grub") 2 2024010101)) refusals.NotHigher
     ∷ refused (by (codes "olga") (codes "olga-3") (raise (codes "grub") 4 2024010100)) refusals.StampNotLater
     ∷ refused (by (codes "olga") (codes "olga-4") (raise (codes "sbat") 2 2024010101)) refusals.NotHigher
@@ -31,8 +32,9 @@ steps = with_people (
 abbrev pub history : History
 history =
     item (by (codes "olga") (codes "olga-5") (command.ListDigest (digest 22)))
+    ∷ item (by (codes "otto") (codes "otto-1") (command.Confirm 1))
     ∷ item (by (codes "olga") (codes "olga-1") (raise (codes "grub") 3 2024010100))
-    ∷ people_added
+    ∷ officers_added
 
 -- each call is answered so
 abbrev pub AnswersLevels : Type 0

@@ -14,7 +14,7 @@ use Rattle.desk_history.specs.Runs.{answers, run}
 use Rattle.desk_history.specs.Tables.{Tables, tables}
 use Rattle.desk_history.specs.Verdicts.{verdict}
 use Rattle.desk_history.specs.declared.finding.Verdict.TheVariants as says
-use Rattle.desk_history.specs.Worked.{Step, accepted, answers_of, by, calls_of, digest, give_back, image, refused, reviewed, submit, vote}
+use Rattle.desk_history.specs.Worked.{Step, accepted, answers_of, by, calls_of, confirmed, digest, give_back, image, otto, otto_added, proposed, refused, reviewed, submit, vote}
 use Rattle.desk_history.specs.Worked.Reviews.{a}
 use Rattle.desk_history.specs.Worked.Reviews as reviews
 
@@ -54,7 +54,9 @@ returned =
 -- then C is revoked, and taken off
 abbrev pub revoked : List Step
 revoked =
-    accepted (by (codes "olga") (codes "olga-3") (command.RevokeCertificate c)) replies.Revoked
+    otto_added
+    ∷ accepted (by (codes "olga") (codes "olga-3") (command.RevokeCertificate c)) (proposed 1)
+    ∷ accepted (by (codes "otto") (codes "otto-1") (command.Confirm 1)) (confirmed 1 0 1 0 0)
     ∷ refused (by (codes "olga") (codes "olga-4") (command.RevokeCertificate c)) refusals.AlreadyRevoked
     ∷ accepted (by (codes "olga") (codes "olga-5") unlist_c) replies.Unlisted
     ∷ refused (by (codes "olga") (codes "olga-6") unlist_c) refusals.NotThere
@@ -70,7 +72,11 @@ after_return =
 
 -- after the revocation
 abbrev pub after_revocation : History
-after_revocation = item (by (codes "olga") (codes "olga-3") (command.RevokeCertificate c)) ∷ after_return
+after_revocation =
+    item (by (codes "otto") (codes "otto-1") (command.Confirm 1))
+    ∷ item (by (codes "olga") (codes "olga-3") (command.RevokeCertificate c))
+    ∷ item otto
+    ∷ after_return
 
 -- after C was taken off
 abbrev pub after_unlisting : History
@@ -110,8 +116,10 @@ SaysReturns =
 -- the digest of A is revoked before the signed file comes back
 abbrev pub barred : List Step
 barred =
-    accepted (by (codes "olga") (codes "olga-1") list_c) replies.Listed
-    ∷ accepted (by (codes "olga") (codes "olga-2") (command.RevokeDigest (digest 11))) replies.Revoked
+    otto_added
+    ∷ accepted (by (codes "olga") (codes "olga-1") list_c) replies.Listed
+    ∷ accepted (by (codes "olga") (codes "olga-2") (command.RevokeDigest (digest 11))) (proposed 1)
+    ∷ accepted (by (codes "otto") (codes "otto-1") (command.Confirm 1)) (confirmed 1 1 0 0 0)
     ∷ refused (by (codes "sid") (codes "sid-1") (give_back 1 signed)) refusals.Revoked
     ∷ []
 

@@ -1,6 +1,5 @@
-use Rattle.std.proofs.Common.{◌≢◌, [], ◌∷◌, ◌++◌, decimal, sym, ◌∙◌}
+use Rattle.std.proofs.Common.{◌≢◌, ◌∷◌, ◌++◌, decimal, sym, ◌∙◌}
 use Rattle.desk_texts.specs.Commands.{IsReply}
-use Rattle.desk_texts.specs.Items.{spaced}
 use Rattle.desk_texts.specs.declared.reply.Confirmation.{Confirmation}
 use Rattle.desk_texts.specs.declared.reply.Reply.TheVariants.{Confirmed}
 use Rattle.desk_texts.proofs.PartLemmas.{request_small}

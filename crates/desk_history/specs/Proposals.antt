@@ -1,0 +1,82 @@
+-- Proposals of what is to be revoked and of the level. own: an officer proposes, and another one confirms.
+use Rattle.std.specs.Prelude.{ℕ, ◌+◌, ◌==◌, Bool, List, [], ◌∷◌, length, filter_map, find, Option, Some, None}
+use Rattle.std.specs.Option.{option_map_or}
+use Rattle.desk_texts.specs.Callers.{caller_name}
+use Rattle.desk_texts.specs.Imports.{Imported}
+use Rattle.desk_texts.specs.declared.command.Call.{Call}
+use Rattle.desk_texts.specs.declared.command.Command.{Command}
+use Rattle.desk_texts.specs.declared.command.Command.TheVariants as command
+use Rattle.desk_texts.specs.declared.proposal.ProposalKind.{ProposalKind}
+use Rattle.desk_texts.specs.declared.proposal.ProposalKind.TheVariants as kinds
+use Rattle.desk_texts.specs.declared.proposal.ProposalOutcome.{ProposalOutcome}
+use Rattle.desk_texts.specs.declared.proposal.ProposalState.{ProposalState}
+use Rattle.desk_texts.specs.declared.proposal.ProposalState.TheVariants as states
+use Rattle.desk_history.specs.Calls.{First, History, Item, Second}
+
+-- what a command names for the lists of what is revoked and for the level, in the words of an import
+pub record Named : Type 0 where
+  pub kind : ProposalKind
+  pub entries : Imported
+
+-- an import of nothing
+abbrev pub no_entries : Imported
+no_entries = record { stamp = None; passed = 0; digests = []; certificates = []; components = [] }
+
+-- four commands name such
+abbrev pub named_by : Command → Option Named
+named_by (command.RevokeDigest digest) =
+    Some (record { kind = kinds.Digest; entries = record no_entries { digests = digest ∷ [] } })
+named_by (command.RevokeCertificate digest) =
+    Some (record { kind = kinds.Certificate; entries = record no_entries { certificates = digest ∷ [] } })
+named_by (command.RaiseLevel r) =
+    Some (record { kind = kinds.Level; entries = record no_entries { stamp = Some r.stamp; components = r.component ∷ [] } })
+named_by (command.ImportRevocations i) = Some (record { kind = kinds.Import; entries = i })
+named_by _ = None
+
+-- ---- what is proposed
+
+-- a command that an officer proposed, and what it names
+pub record Proposal : Type 0 where
+  pub number : ℕ
+  pub officer : List ℕ
+  pub command : Command
+  pub named : Named
+
+-- own: by the second rules, what a call names is proposed
+abbrev pub proposed_by : Item → Option Named
+proposed_by i = elim i.rules [ First ↦ None | Second ↦ named_by i.call.command ]
+
+-- proposals with the next one, if the call proposes something
+abbrev pub with_next : List Proposal → Call → Option Named → List Proposal
+with_next ps c None = ps
+with_next ps c (Some named) =
+    record { number = length ps + 1; officer = caller_name c.caller; command = c.command; named = named } ∷ ps
+
+-- proposal k is the k-th, and the newest stands first
+abbrev pub proposals : History → List Proposal
+proposals [] = []
+proposals (i ∷ cs) = with_next (proposals cs) i.call (proposed_by i)
+
+-- the proposal has this number
+abbrev pub is_proposal : ℕ → Proposal → Bool
+is_proposal k p = k == p.number
+
+-- the proposal of this number
+abbrev pub proposal : History → ℕ → Option Proposal
+proposal cs k = find (is_proposal k) (proposals cs)
+
+-- ---- what becomes of it
+
+-- a Confirm and a Drop close the proposal that they name
+abbrev pub outcome_by : Command → Option ProposalOutcome
+outcome_by (command.Confirm k) = Some (record { proposal = k; state = states.Confirmed })
+outcome_by (command.Drop k) = Some (record { proposal = k; state = states.Dropped })
+outcome_by _ = None
+
+-- what became of those that are closed
+abbrev pub outcomes : History → List ProposalOutcome
+outcomes cs = filter_map (λ i. outcome_by i.call.command) cs
+
+-- the state of a proposal: open, until a call closes it
+abbrev pub proposal_state : History → ℕ → ProposalState
+proposal_state cs k = option_map_or (λ o. o.state) (find (λ o. k == o.proposal) (outcomes cs)) states.Open
