@@ -30,6 +30,7 @@ pub fn exports_are_written()
     ensures nothing { worked.ExportsNothing }
     ensures db { worked.ExportsDb }
     ensures import { worked.ExportsImport }
+    ensures proposals { worked.ExportsProposals }
     ensures order { worked.ExportsInOrder }
     ensures levels { worked.ExportsLevels }
     ensures minutes { worked.ExportsMinutes }

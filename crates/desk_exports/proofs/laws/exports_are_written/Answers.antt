@@ -2,7 +2,7 @@
 use Rattle.std.specs.Prelude.{refl}
 use Rattle.std.specs.Fmt.{digits}
 use Rattle.hex.specs.Hex.{encode_with}
-use Rattle.desk_exports.specs.Worked.{ExportsDb, ExportsImport, ExportsInOrder, ExportsLevels, ExportsMinutes, ExportsNothing, ExportsReports}
+use Rattle.desk_exports.specs.Worked.{ExportsDb, ExportsImport, ExportsInOrder, ExportsLevels, ExportsMinutes, ExportsNothing, ExportsProposals, ExportsReports}
 use Rattle.desk_exports.proofs.laws.exports_are_written.Goals as goal
 
 nothing_computed : ExportsNothing
@@ -25,6 +25,13 @@ import_computed = refl
 
 pub returns-clause-import : goal.returns-clause-import
 returns-clause-import c = import_computed
+
+proposals_computed : ExportsProposals
+unfolding digits encode_with
+proposals_computed = (refl, refl, refl, refl, refl)
+
+pub returns-clause-proposals : goal.returns-clause-proposals
+returns-clause-proposals c = proposals_computed
 
 order_computed : ExportsInOrder
 unfolding digits encode_with
