@@ -35,11 +35,13 @@ giving i given = record i { call = record i.call { command = given } }
 -- what is true of an item that is accepted
 pub record IsNew (cs : History) (i : Item) : Type 0 where
   pub fresh : earlier cs i.call ≡ None
+  pub allowed : may_give cs i.call.caller i.call.command ≡ true
   pub own : own_refusal cs (caller_name i.call.caller) i.call.command ≡ None
   pub within : is_within (i ∷ cs) ≡ true
 
-record Parts (m : Option Minute) (own : Option Refusal) (within : Bool) : Type 0 where
+record Parts (m : Option Minute) (allowed : Bool) (own : Option Refusal) (within : Bool) : Type 0 where
   is_fresh : m ≡ None
+  is_allowed : allowed ≡ true
   is_right : own ≡ None
   has_room : within ≡ true
 
@@ -47,20 +49,20 @@ no_parts : {A : Type 0} → false ≡ true → A
 no_parts e = cc
 
 parts : (known : Bool) (m : Option Minute) (text : List ℕ) (allowed : Bool) (own : Option Refusal) (within : Bool) (reply : Reply) →
-    is_accepted (if not known then Refused refusals.UnknownCaller else answer_known m text (if not allowed then Some refusals.NotYourRole else option_or own (refuse_if (not within) refusals.Full)) reply) ≡ true → Parts m own within
+    is_accepted (if not known then Refused refusals.UnknownCaller else answer_known m text (if not allowed then Some refusals.NotYourRole else option_or own (refuse_if (not within) refusals.Full)) reply) ≡ true → Parts m allowed own within
 parts false m text allowed own within reply h = no_parts h
 parts true (Some m) text allowed own within reply h =
-    elim (bytes_eq m.text text) as (λ b. is_accepted (if b then Repeated m.reply else Refused refusals.KeyReused) ≡ true → Parts (Some m) own within) [ true ↦ λ e. no_parts e | false ↦ λ e. no_parts e ] h
+    elim (bytes_eq m.text text) as (λ b. is_accepted (if b then Repeated m.reply else Refused refusals.KeyReused) ≡ true → Parts (Some m) allowed own within) [ true ↦ λ e. no_parts e | false ↦ λ e. no_parts e ] h
 parts true None text false own within reply h = no_parts h
 parts true None text true (Some refusal) within reply h = no_parts h
 parts true None text true None false reply h = no_parts h
-parts true None text true None true reply h = record { is_fresh = refl; is_right = refl; has_room = refl }
+parts true None text true None true reply h = record { is_fresh = refl; is_allowed = refl; is_right = refl; has_room = refl }
 
 pub accepted_parts : (cs : History) (i : Item) → is_accepted (ruling cs i) ≡ true → IsNew cs i
 accepted_parts cs i h =
-    let p : Parts (earlier cs i.call) (own_refusal cs (caller_name i.call.caller) i.call.command) (is_within (i ∷ cs)) =
+    let p : Parts (earlier cs i.call) (may_give cs i.call.caller i.call.command) (own_refusal cs (caller_name i.call.caller) i.call.command) (is_within (i ∷ cs)) =
     parts (is_known cs i.call.caller) (earlier cs i.call) (text_of i.call.command) (may_give cs i.call.caller i.call.command) (own_refusal cs (caller_name i.call.caller) i.call.command) (is_within (i ∷ cs)) (reply_to cs i) h in
-    record { fresh = p.is_fresh; own = p.is_right; within = p.has_room }
+    record { fresh = p.is_fresh; allowed = p.is_allowed; own = p.is_right; within = p.has_room }
 
 -- what is true of the newest of a legal history
 pub record IsNewest (cs : History) (i : Item) : Type 0 where

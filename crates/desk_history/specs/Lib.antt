@@ -9,6 +9,7 @@ pub mod Limits
 pub mod Listing
 pub mod Lives
 pub mod People
+pub mod ProposalLaws
 pub mod Proposals
 pub mod Refusals
 pub mod Replies

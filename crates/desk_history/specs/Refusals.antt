@@ -137,10 +137,14 @@ abbrev pub confirm_refusal : History → Option Proposal → ProposalState → L
 confirm_refusal cs None state caller = Some refusals.NoSuchProposal
 confirm_refusal cs (Some p) state caller = confirm_by state (bytes_eq p.officer caller) (force_refusal cs p.command)
 
--- Drop, of the proposal with its state. own: each officer may drop it, also the one who proposed it
+-- Drop, of a proposal in this state. own: each officer may drop it, also the one who proposed it
+abbrev pub drop_by : ProposalState → Option Refusal
+drop_by state = refuse_if (is_closed state) refusals.ProposalClosed
+
+-- Drop, of the proposal with its state
 abbrev pub drop_refusal : Option Proposal → ProposalState → Option Refusal
 drop_refusal None state = Some refusals.NoSuchProposal
-drop_refusal (Some p) state = refuse_if (is_closed state) refusals.ProposalClosed
+drop_refusal (Some p) state = drop_by state
 
 -- own: each command's own conditions, for the caller of this name
 abbrev pub own_refusal : History → List ℕ → Command → Option Refusal

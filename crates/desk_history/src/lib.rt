@@ -7,6 +7,7 @@ mod finding;
 mod form_laws;
 mod laws;
 mod limits;
+mod proposal_laws;
 mod rows;
 mod rules;
 mod standing;
@@ -29,13 +30,16 @@ pub use limits::{
     MOST_CALLS, MOST_LEVEL_COMPONENTS, MOST_LISTED, MOST_PEOPLE, MOST_PROPOSALS, MOST_REQUESTS,
     MOST_REVOKED_CERTIFICATES, MOST_REVOKED_DIGESTS,
 };
+pub use proposal_laws::{
+    first_rules_close_none, next_proposal_is_open, proposals_close_once, two_officers_put_into_force,
+};
 pub use rows::{
     CommandText, Entry, EntryBody, Minute, ProposalRow, RequestCertificateRow, RequestComponentRow,
     RequestRow, ReturnRow, VoteRow,
 };
 pub use rules::{
-    image_refusal, is_above, is_for, is_for_console, is_later, is_same, raise_refusal, refuse_if,
-    return_by, review_by, withdraw_by,
+    confirm_by, drop_by, image_refusal, is_above, is_for, is_for_console, is_later, is_same,
+    raise_refusal, refuse_if, return_by, review_by, withdraw_by,
 };
 pub use standing::Standing;
 pub use verdicts::{bars, lists_image, verdict_of};

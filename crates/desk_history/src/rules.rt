@@ -9,7 +9,7 @@ ghost use Rattle.desk_history.specs.Verdicts.{bars as bars_on, lists_image as li
 use crate::standing::Standing;
 use crate::verdicts::{bars, lists_image};
 use desk_bytes::{Digest, Refusal};
-use desk_texts::{Command, Facts, ListedKind, Raise, Role, State};
+use desk_texts::{Command, Facts, ListedKind, ProposalState, Raise, Role, State};
 use sbat::{Generation, Stamp};
 
 /// Whether both are of one kind.
@@ -147,6 +147,40 @@ pub fn return_by(state: State, image: Option<Refusal>) -> Option<Refusal>
             Refusal::WrongState,
         ),
     }
+}
+
+/// Whether a proposal in this state is closed.
+fn is_closed(state: ProposalState) -> bool
+    ensures { result ≡ spec.is_closed state }
+{
+    match state {
+        ProposalState::Open => false,
+        ProposalState::Confirmed | ProposalState::Dropped => true,
+    }
+}
+
+/// Why a proposal in this state isn't confirmed, the caller's own or not, of which the command is refused now or not.
+pub fn confirm_by(
+    state: ProposalState,
+    is_own: bool,
+    refused: Option<Refusal>,
+) -> Option<Refusal>
+    ensures { result ≡ spec.confirm_by state is_own refused }
+{
+    if is_closed(state) {
+        return Some(Refusal::ProposalClosed);
+    }
+    if is_own {
+        return Some(Refusal::OwnProposal);
+    }
+    refused
+}
+
+/// Why a proposal in this state isn't dropped.
+pub fn drop_by(state: ProposalState) -> Option<Refusal>
+    ensures { result ≡ spec.drop_by state }
+{
+    refuse_if(is_closed(state), Refusal::ProposalClosed)
 }
 
 /// Why the generation isn't raised from the present one, where the level's stamp is this.

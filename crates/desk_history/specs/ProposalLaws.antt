@@ -1,0 +1,51 @@
+-- Laws of proposals.
+use Rattle.std.specs.Prelude.{◌≡◌, ◌⊎◌, ℕ, ◌+◌, ◌==◌, false, not, ◌&&◌, IsTrue, List, ◌++◌, ◌∷◌, length, bytes_eq, Option, Some, is_some, option_map}
+use Rattle.std.specs.List.{list_all}
+use Rattle.desk_texts.specs.Callers.{caller_name}
+use Rattle.desk_texts.specs.Imports.{Imported}
+use Rattle.desk_texts.specs.declared.command.Command.TheVariants as command
+use Rattle.desk_texts.specs.declared.proposal.ProposalOutcome.{ProposalOutcome}
+use Rattle.desk_texts.specs.declared.proposal.ProposalState.TheVariants as states
+use Rattle.desk_history.specs.Calls.{First, History, Item, Second, are_apart, is_first}
+use Rattle.desk_history.specs.Forces.{enforced_by}
+use Rattle.desk_history.specs.Proposals.{named_by, outcome_by, outcomes, proposal_state, proposals}
+use Rattle.desk_history.specs.Refusals.{may_give}
+use Rattle.desk_history.specs.Runs.{is_legal}
+
+-- the item's call names these entries for what is revoked and for the level
+abbrev pub Names : Item → Imported → Type 0
+Names i entries = option_map (λ n. n.entries) (named_by i.call.command) ≡ Some entries
+
+-- Two officers put these entries into force: after the calls `earlier` one of them proposed them by a call that names them,
+-- and the other one confirms that proposal now.
+pub record TwoOfficers (cs : History) (i : Item) (entries : Imported) : Type 0 where
+  pub proposing : Item
+  pub between : History
+  pub earlier : History
+  pub stands : cs ≡ between ++ proposing ∷ earlier
+  pub names : Names proposing entries
+  pub confirms : i.call.command ≡ command.Confirm (length (proposals earlier) + 1)
+  pub proposer : IsTrue (may_give earlier proposing.call.caller proposing.call.command)
+  pub confirmer : IsTrue (may_give cs i.call.caller i.call.command)
+  pub differ : bytes_eq (caller_name proposing.call.caller) (caller_name i.call.caller) ≡ false
+
+-- whatever an accepted call puts into force, it names itself by the first rules, or two officers proposed and confirmed it
+abbrev pub TwoOfficersPut : Type 0
+TwoOfficersPut =
+    (cs : History) (i : Item) (entries : Imported) → IsTrue (is_legal (i ∷ cs)) → enforced_by cs i ≡ Some entries
+    → ((i.rules ≡ First) × Names i entries) ⊎ ((i.rules ≡ Second) × TwoOfficers cs i entries)
+
+-- no Confirm and no Drop was accepted by the first rules
+abbrev pub FirstCloseNone : Type 0
+FirstCloseNone =
+    (cs : History) → IsTrue (is_legal cs)
+    → IsTrue (list_all (λ i. not (is_first i && is_some (outcome_by i.call.command))) cs)
+
+-- no proposal is confirmed or dropped twice, nor both
+abbrev pub ClosedOnce : Type 0
+ClosedOnce =
+    (cs : History) → IsTrue (is_legal cs) → IsTrue (are_apart (λ (a b : ProposalOutcome). a.proposal == b.proposal) (outcomes cs))
+
+-- the next proposal is open
+abbrev pub NextIsOpen : Type 0
+NextIsOpen = (cs : History) → IsTrue (is_legal cs) → proposal_state cs (length (proposals cs) + 1) ≡ states.Open
