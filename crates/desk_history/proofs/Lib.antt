@@ -9,6 +9,7 @@ pub mod LifeLemmas
 pub mod ListLemmas
 pub mod ListingLemmas
 pub mod ProposalLemmas
+pub mod ProposalRowLemmas
 pub mod RefusalLemmas
 pub mod RequestLemmas
 pub mod RequestRowLemmas

@@ -78,6 +78,26 @@ found_all P p (x ∷ xs) h =
 pub found_proposed : (cs : History) (k : ℕ) → All IsItem cs → IfSome (proposal cs k) IsProposed
 found_proposed cs k h = found_all IsProposed (is_proposal k) (proposals cs) (all_proposed cs h)
 
+-- ---- each names what its command names
+
+abbrev pub HasNames : Proposal → Type 0
+HasNames p = named_by p.command ≡ Some p.named
+
+one_named : (ps : List Proposal) (c : Call) (rules : Rules) → All HasNames ps → All HasNames (with_next ps c (proposed_by (record { call = c; rules = rules })))
+one_named ps c First h = h
+one_named ps c Second h =
+    elim (named_by c.command) as (λ o. named_by c.command ≡ o → All HasNames (with_next ps c o)) [
+      | None ↦ λ e. h
+      | Some named ↦ λ e. All-cons HasNames (record { number = length ps + 1; officer = caller_name c.caller; command = c.command; named = named }) ps e h
+    ] refl
+
+all_named : (cs : History) → All HasNames (proposals cs)
+all_named [] = All-nil HasNames
+all_named (i ∷ cs) = one_named (proposals cs) i.call i.rules (all_named cs)
+
+pub found_named : (cs : History) (k : ℕ) → IfSome (proposal cs k) HasNames
+found_named cs k = found_all HasNames (is_proposal k) (proposals cs) (all_named cs)
+
 -- ---- how much they name
 
 abbrev pub AreFew : Imported → Type 0
