@@ -1,6 +1,6 @@
 -- Which proposals are found, and what becomes of them.
 use Rattle.std.proofs.Common.{◌≡◌, ◌⊎◌, ℕ, ◌+◌, ◌<◌, ◌≤◌, Bool, true, false, not, ◌&&◌, ◌||◌, List, [], ◌∷◌, ◌++◌, length, Option, Some, None, refl, sym, ◌∙◌, ap, subst, inl, inr, arith}
-use Rattle.std.specs.Prelude.{◌==◌, if◌then◌else◌, bytes_eq, find, filter_map, is_some, option_map}
+use Rattle.std.specs.Prelude.{◌==◌, if◌then◌else◌, bytes_eq, find, is_some, option_map}
 use Rattle.std.specs.List.{cons_option, list_all, list_any}
 use Rattle.std.specs.Option.{option_map_or}
 use Rattle.std.proofs.lemmas.Bool.{and_parts}
@@ -14,15 +14,15 @@ use Rattle.desk_texts.specs.declared.proposal.ProposalOutcome.{ProposalOutcome}
 use Rattle.desk_texts.specs.declared.proposal.ProposalState.{ProposalState}
 use Rattle.desk_texts.specs.declared.proposal.ProposalState.TheVariants as states
 use Rattle.desk_texts.proofs.FormLemmas.{joined}
-use Rattle.desk_history.specs.Calls.{First, History, Item, Rules, Second, are_apart, is_first}
+use Rattle.desk_history.specs.Calls.{First, History, Item, Rules, Second, are_apart, is_first, item, under}
 use Rattle.desk_history.specs.Forces.{confirmed_by, enforced_by}
-use Rattle.desk_history.specs.Proposals.{Named, Proposal, is_proposal, named_by, outcome_by, outcomes, proposal, proposal_state, proposals, proposed_by, with_next}
+use Rattle.desk_history.specs.Proposals.{Named, Proposal, is_proposal, outcome_by, outcomes, proposal, proposal_state, proposals, proposed_by, with_next}
 use Rattle.desk_history.specs.ProposalLaws.{ClosedOnce, FirstCloseNone, Names, NextIsOpen, TwoOfficers, TwoOfficersPut}
 use Rattle.desk_history.specs.Refusals.{confirm_by, confirm_refusal, drop_refusal, force_refusal, is_closed, own_refusal}
 use Rattle.desk_history.specs.Runs.{is_legal}
 use Rattle.desk_history.proofs.ListLemmas.{apart-more, number_above, number_is}
 use Rattle.desk_history.proofs.ProposalLemmas.{entries_of}
-use Rattle.desk_history.proofs.RefusalLemmas.{no_refusal, unrefused}
+use Rattle.desk_history.proofs.RefusalLemmas.{no_refusal}
 use Rattle.desk_history.proofs.RunLemmas.{IsNewest, newest}
 
 no_some : {X A : Type 0} (x : X) → None ≡ Some x → A
@@ -86,7 +86,7 @@ legal_back [] earlier h = h
 legal_back (i ∷ between) earlier h = legal_back between earlier (newest (between ++ earlier) i h).before
 
 -- what is proposed is named
-proposed_names : (c : Call) (rules : Rules) (named : Named) → proposed_by (record { call = c; rules = rules }) ≡ Some named → Names (record { call = c; rules = rules }) named.entries
+proposed_names : (c : Call) (rules : Rules) (named : Named) → proposed_by (under rules c) ≡ Some named → Names (under rules c) named.entries
 proposed_names c First named h = no_some named h
 proposed_names c Second named h = ap entries_of h
 
@@ -102,11 +102,8 @@ others cs (Some q) state name p is h =
     not_own states.Confirmed own refused e = no_refusal e
     not_own states.Dropped own refused e = no_refusal e
 
-abbrev by_second : Call → Item
-by_second c = record { call = c; rules = Second }
-
-confirming : (cs : History) (c : Call) (k : ℕ) (entries : Imported) → c.command ≡ command.Confirm k → IsNewest cs (by_second c) → own_refusal cs (caller_name c.caller) (command.Confirm k) ≡ None
-    → (o : Option Proposal) → proposal cs k ≡ o → option_map (λ (p : Proposal). p.named.entries) o ≡ Some entries → TwoOfficers cs (by_second c) entries
+confirming : (cs : History) (c : Call) (k : ℕ) (entries : Imported) → c.command ≡ command.Confirm k → IsNewest cs (item c) → own_refusal cs (caller_name c.caller) (command.Confirm k) ≡ None
+    → (o : Option Proposal) → proposal cs k ≡ o → option_map (λ (p : Proposal). p.named.entries) o ≡ Some entries → TwoOfficers cs (item c) entries
 confirming cs c k entries is here own None at e = no_some entries e
 confirming cs c k entries is here own (Some p) at e =
     let there = found cs k p at in
@@ -125,13 +122,13 @@ confirming cs c k entries is here own (Some p) at e =
       differ = ap (λ n. bytes_eq n (caller_name c.caller)) (sym there.officer) ∙ others cs (proposal cs k) (proposal_state cs k) (caller_name c.caller) p at own;
     }
 
-second_puts : (cs : History) (c : Call) (given : Command) (entries : Imported) → c.command ≡ given → IsNewest cs (by_second c) → confirmed_by cs given ≡ Some entries → TwoOfficers cs (by_second c) entries
+second_puts : (cs : History) (c : Call) (given : Command) (entries : Imported) → c.command ≡ given → IsNewest cs (item c) → confirmed_by cs given ≡ Some entries → TwoOfficers cs (item c) entries
 second_puts cs c (command.Confirm k) entries is here h =
     confirming cs c k entries is here (subst (λ g. own_refusal cs (caller_name c.caller) g ≡ None) is here.new.own) (proposal cs k) refl h
 second_puts cs c _ entries is here h = no_some entries h
 
-by_rules : (cs : History) (c : Call) (rules : Rules) (entries : Imported) → IsNewest cs (record { call = c; rules = rules }) → enforced_by cs (record { call = c; rules = rules }) ≡ Some entries
-    → (let i : Item = record { call = c; rules = rules } in ((i.rules ≡ First) × Names i entries) ⊎ ((i.rules ≡ Second) × TwoOfficers cs i entries))
+by_rules : (cs : History) (c : Call) (rules : Rules) (entries : Imported) → IsNewest cs (under rules c) → enforced_by cs (under rules c) ≡ Some entries
+    → (let i : Item = under rules c in ((i.rules ≡ First) × Names i entries) ⊎ ((i.rules ≡ Second) × TwoOfficers cs i entries))
 by_rules cs c First entries here h = inl (refl, h)
 by_rules cs c Second entries here h = inr (refl, second_puts cs c c.command entries refl here h)
 
@@ -252,7 +249,7 @@ closed_once (i ∷ cs) h =
 
 -- ---- the first rules
 
-nothing_proposed : (c : Call) (rules : Rules) → is_first (record { call = c; rules = rules }) ≡ true → proposed_by (record { call = c; rules = rules }) ≡ None
+nothing_proposed : (c : Call) (rules : Rules) → is_first (under rules c) ≡ true → proposed_by (under rules c) ≡ None
 nothing_proposed c First h = refl
 nothing_proposed c Second h = clash (sym h)
 
@@ -263,7 +260,7 @@ none_proposed (i ∷ cs) h =
     let both = and_parts (is_first i) (list_all is_first cs) h in
     ap (with_next (proposals cs) i.call) (nothing_proposed i.call i.rules both.0) ∙ none_proposed cs both.1
 
-first_closes : (cs : History) (c : Call) (rules : Rules) → IsNewest cs (record { call = c; rules = rules }) → not (is_first (record { call = c; rules = rules }) && is_some (outcome_by c.command)) ≡ true
+first_closes : (cs : History) (c : Call) (rules : Rules) → IsNewest cs (under rules c) → not (is_first (under rules c) && is_some (outcome_by c.command)) ≡ true
 first_closes cs c Second here = refl
 first_closes cs c First here =
     elim (outcome_by c.command) as (λ o. outcome_by c.command ≡ o → not (is_some o) ≡ true) [

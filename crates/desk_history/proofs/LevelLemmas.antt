@@ -20,7 +20,7 @@ use Rattle.desk_texts.specs.declared.proposal.ProposalState.TheVariants as state
 use Rattle.desk_texts.specs.Raising.{names_no_sbat}
 use Rattle.desk_texts.specs.Callers.{caller_name}
 use Rattle.desk_texts.proofs.FormLemmas.{both, joined}
-use Rattle.desk_history.specs.Calls.{First, History, Rules, Second, distinct, is_among}
+use Rattle.desk_history.specs.Calls.{First, History, Rules, Second, distinct, is_among, under}
 use Rattle.desk_history.specs.Formed.{IsHistory, IsItem}
 use Rattle.desk_history.specs.FormLaws.{LevelHasNoSbat}
 use Rattle.desk_history.specs.Forces.{confirmed_by, forced, into_force, nothing}
@@ -91,7 +91,7 @@ confirmed_other cs name _ h own = refl
 
 -- what an accepted call puts into force
 put_other : (cs : History) (c : Call) (rules : Rules) → All IsItem cs → IsWithin c.command → own_refusal cs (caller_name c.caller) c.command ≡ None
-    → names_no_sbat (into_force cs (record { call = c; rules = rules })).components ≡ true
+    → names_no_sbat (into_force cs (under rules c)).components ≡ true
 put_other cs c First h w own = named_other cs c.command w (own_force cs (caller_name c.caller) c.command own)
 put_other cs c Second h w own = confirmed_other cs (caller_name c.caller) c.command h own
 

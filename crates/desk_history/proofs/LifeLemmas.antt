@@ -10,7 +10,7 @@ use Rattle.desk_bytes.specs.declared.refusal.Refusal.TheVariants as refusals
 use Rattle.desk_texts.specs.declared.command.Call.{Call}
 use Rattle.desk_texts.specs.declared.reply.Reply.{Reply}
 use Rattle.desk_texts.specs.Callers.{caller_name}
-use Rattle.desk_history.specs.Calls.{First, GoesOnFrom, History, Item, Rules, Second}
+use Rattle.desk_history.specs.Calls.{First, GoesOnFrom, History, Item, Rules, Second, under}
 use Rattle.desk_texts.specs.CommandTexts.{text_of}
 use Rattle.desk_history.specs.declared.rows.Minute.{Minute}
 use Rattle.desk_history.specs.Replies.{minute_of, minutes, reply_to}
@@ -43,7 +43,7 @@ no_rules : {A : Type 0} → false ≡ true → A
 no_rules e = cc
 
 -- a call by the second rules may follow any
-second_follows : (cs : History) (c : Call) (rules : Rules) → are_rules Second rules ≡ true → may_follow cs (record { call = c; rules = rules }) ≡ true
+second_follows : (cs : History) (c : Call) (rules : Rules) → are_rules Second rules ≡ true → may_follow cs (under rules c) ≡ true
 second_follows cs c Second e = refl
 second_follows cs c First e = no_rules e
 

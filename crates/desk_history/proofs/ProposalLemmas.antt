@@ -11,7 +11,7 @@ use Rattle.desk_texts.specs.declared.command.Call.{Call}
 use Rattle.desk_texts.specs.declared.command.Command.{Command}
 use Rattle.desk_texts.specs.declared.command.Command.TheVariants as command
 use Rattle.desk_texts.specs.declared.proposal.ProposalState.{ProposalState}
-use Rattle.desk_history.specs.Calls.{First, History, Rules, Second, are_apart}
+use Rattle.desk_history.specs.Calls.{First, History, Rules, Second, are_apart, under}
 use Rattle.desk_history.specs.Forces.{confirmed_by, enforced_by}
 use Rattle.desk_history.specs.Formed.{IsItem}
 use Rattle.desk_history.specs.Proposals.{Named, Proposal, is_proposal, named_by, proposal, proposals, proposed_by, with_next}
@@ -53,7 +53,7 @@ pub record IsProposed (p : Proposal) : Type 0 where
   pub names : named_by p.command ≡ Some p.named
   pub limits : IsWithin p.command
 
-one_proposed : (ps : List Proposal) (c : Call) (rules : Rules) → IsWithin c.command → All IsProposed ps → All IsProposed (with_next ps c (proposed_by (record { call = c; rules = rules })))
+one_proposed : (ps : List Proposal) (c : Call) (rules : Rules) → IsWithin c.command → All IsProposed ps → All IsProposed (with_next ps c (proposed_by (under rules c)))
 one_proposed ps c First w h = h
 one_proposed ps c Second w h =
     elim (named_by c.command) as (λ o. named_by c.command ≡ o → All IsProposed (with_next ps c o)) [
@@ -83,7 +83,7 @@ found_proposed cs k h = found_all IsProposed (is_proposal k) (proposals cs) (all
 abbrev pub HasNames : Proposal → Type 0
 HasNames p = named_by p.command ≡ Some p.named
 
-one_named : (ps : List Proposal) (c : Call) (rules : Rules) → All HasNames ps → All HasNames (with_next ps c (proposed_by (record { call = c; rules = rules })))
+one_named : (ps : List Proposal) (c : Call) (rules : Rules) → All HasNames ps → All HasNames (with_next ps c (proposed_by (under rules c)))
 one_named ps c First h = h
 one_named ps c Second h =
     elim (named_by c.command) as (λ o. named_by c.command ≡ o → All HasNames (with_next ps c o)) [
@@ -123,6 +123,6 @@ confirmed_few cs (command.Confirm k) h = proposed_few (proposal cs k) (found_pro
 confirmed_few cs _ h = tt
 
 -- what a call in its forms puts into force is no more than an import may name
-pub enforced_few : (cs : History) (c : Call) (rules : Rules) → All IsItem cs → IsWithin c.command → IfSome (enforced_by cs (record { call = c; rules = rules })) AreFew
+pub enforced_few : (cs : History) (c : Call) (rules : Rules) → All IsItem cs → IsWithin c.command → IfSome (enforced_by cs (under rules c)) AreFew
 enforced_few cs c First h w = named_few c.command w
 enforced_few cs c Second h w = confirmed_few cs c.command h

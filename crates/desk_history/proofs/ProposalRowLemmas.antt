@@ -1,5 +1,5 @@
 -- The rows of proposals: what a decision reads of them, and what it writes.
-use Rattle.std.proofs.Common.{◌≡◌, ℕ, ◌+◌, Bool, true, false, not, ◌||◌, IfSome, List, [], ◌∷◌, length, map, Option, Some, None, refl, sym, ◌∙◌, ap, subst, arith}
+use Rattle.std.proofs.Common.{◌≡◌, ℕ, Bool, true, false, not, ◌||◌, IfSome, List, [], ◌∷◌, map, Option, Some, None, refl, sym, ◌∙◌, ap, subst, arith}
 use Rattle.std.specs.Prelude.{◌==◌, if◌then◌else◌, bytes_eq, find, nat_lt, option_map}
 use Rattle.std.specs.List.{list_any}
 use Rattle.std.specs.Option.{option_map_or}
@@ -7,7 +7,6 @@ use Rattle.std.proofs.lemmas.Bool.Decides.{nat_tests}
 use Rattle.sbat.specs.declared.component.Component.{Component}
 use Rattle.desk_bytes.specs.declared.refusal.Refusal.{Refusal}
 use Rattle.desk_bytes.specs.declared.refusal.Refusal.TheVariants as refusals
-use Rattle.desk_texts.specs.Callers.{caller_name}
 use Rattle.desk_texts.specs.Imports.{Imported}
 use Rattle.desk_texts.specs.declared.caller.Caller.{Caller}
 use Rattle.desk_texts.specs.declared.command.Call.{Call}
@@ -16,20 +15,17 @@ use Rattle.desk_texts.specs.declared.command.Command.TheVariants as command
 use Rattle.desk_texts.specs.declared.kind.ListedKind.TheVariants as listed
 use Rattle.desk_texts.specs.declared.proposal.ProposalKind.{ProposalKind}
 use Rattle.desk_texts.specs.declared.proposal.ProposalKind.TheVariants as kinds
-use Rattle.desk_texts.specs.declared.proposal.ProposalOutcome.{ProposalOutcome}
 use Rattle.desk_texts.specs.declared.proposal.ProposalState.{ProposalState}
 use Rattle.desk_texts.specs.declared.proposal.ProposalState.TheVariants as states
 use Rattle.desk_history.specs.Calls.{History, item}
 use Rattle.desk_history.specs.Forces.{forced, into_force, nothing}
 use Rattle.desk_history.specs.Level.{generations, greatest, is_sbat, is_above, raises_some, stamp}
-use Rattle.desk_history.specs.Proposals.{Named, Proposal, is_proposal, named_by, outcome_by, proposal, proposal_state, proposals}
+use Rattle.desk_history.specs.Proposals.{Named, Proposal, is_proposal, named_by, proposal, proposal_state, proposals}
 use Rattle.desk_history.specs.Refusals.{confirm_by, confirm_refusal, drop_by, drop_refusal, force_refusal, import_refusal, is_later, own_refusal, refuse_if}
 use Rattle.desk_history.specs.Revocations.{is_revoked}
-use Rattle.desk_history.specs.Runs.{is_legal}
-use Rattle.desk_history.specs.Tables.{Tables, proposal_row, tables}
+use Rattle.desk_history.specs.Tables.{proposal_row, tables}
 use Rattle.desk_history.specs.Writes.{set_proposal_state}
 use Rattle.desk_history.specs.declared.rows.ProposalRow.{ProposalRow}
-use Rattle.desk_history.proofs.ClosingLemmas.{next_is_open}
 use Rattle.desk_history.proofs.ListLemmas.{number_is}
 use Rattle.desk_history.proofs.ProposalLemmas.{HasNames, found_named}
 

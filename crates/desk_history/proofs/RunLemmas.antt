@@ -11,7 +11,7 @@ use Rattle.desk_texts.specs.declared.command.Call.{Call}
 use Rattle.desk_texts.specs.declared.command.Command.{Command}
 use Rattle.desk_texts.specs.declared.reply.Reply.{Reply}
 use Rattle.desk_texts.specs.Callers.{caller_name}
-use Rattle.desk_history.specs.Calls.{First, GoesOnFrom, History, Item, Rules, Second, distinct, is_first, item}
+use Rattle.desk_history.specs.Calls.{First, GoesOnFrom, History, Item, Rules, Second, distinct, is_first, item, under}
 use Rattle.desk_texts.specs.CommandTexts.{text_of}
 use Rattle.desk_history.specs.declared.rows.Minute.{Minute}
 use Rattle.desk_history.specs.Replies.{reply_to}
@@ -94,18 +94,14 @@ next_legal cs i f h = by_next (λ later. is_legal later ≡ true) cs i h (λ e. 
 pub goes_on-trans : (a b c : History) → GoesOnFrom a b → GoesOnFrom b c → GoesOnFrom a c
 goes_on-trans a b c f g = (g.0 ++ f.0, g.1 ∙ ap (λ r. g.0 ++ r) f.1 ∙ sym (append_assoc g.0 f.0 a))
 
--- the call by these rules
-abbrev by : Rules → Call → Item
-by rules c = record { call = c; rules = rules }
-
 run_goes_on : (rules : Rules) (cs : History) (calls : List Call) → GoesOnFrom cs (run_by rules cs calls)
 run_goes_on rules cs [] = ([], refl)
 run_goes_on rules cs (c ∷ calls) =
-    goes_on-trans cs (next_item cs (by rules c)) (run_by rules (next_item cs (by rules c)) calls) (next_goes_on cs (by rules c)) (run_goes_on rules (next_item cs (by rules c)) calls)
+    goes_on-trans cs (next_item cs (under rules c)) (run_by rules (next_item cs (under rules c)) calls) (next_goes_on cs (under rules c)) (run_goes_on rules (next_item cs (under rules c)) calls)
 
 run-append : (rules : Rules) (cs : History) (calls more : List Call) → run_by rules cs (calls ++ more) ≡ run_by rules (run_by rules cs calls) more
 run-append rules cs [] more = refl
-run-append rules cs (c ∷ calls) more = run-append rules (next_item cs (by rules c)) calls more
+run-append rules cs (c ∷ calls) more = run-append rules (next_item cs (under rules c)) calls more
 
 pub runs_go_on : RunsGoOn
 runs_go_on cs calls more = subst (GoesOnFrom (run cs calls)) (sym (run-append Second cs calls more)) (run_goes_on Second (run cs calls) more)
@@ -120,12 +116,12 @@ record AreFirst (cs : History) : Type 0 where
   legal : is_legal cs ≡ true
   first : list_all is_first cs ≡ true
 
-first_next : (cs : History) (c : Call) → AreFirst cs → AreFirst (next_item cs (by First c))
-first_next cs c h = by_next AreFirst cs (by First c) h (λ e. record { legal = legal_more cs (by First c) e h.first h.legal; first = h.first })
+first_next : (cs : History) (c : Call) → AreFirst cs → AreFirst (next_item cs (under First c))
+first_next cs c h = by_next AreFirst cs (under First c) h (λ e. record { legal = legal_more cs (under First c) e h.first h.legal; first = h.first })
 
 first_legal : (cs : History) (calls : List Call) → AreFirst cs → AreFirst (run_by First cs calls)
 first_legal cs [] h = h
-first_legal cs (c ∷ calls) h = first_legal (next_item cs (by First c)) calls (first_next cs c h)
+first_legal cs (c ∷ calls) h = first_legal (next_item cs (under First c)) calls (first_next cs c h)
 
 stepped : (cs : History) (i : Item) → is_accepted (ruling cs i) ≡ true → next_item cs i ≡ i ∷ cs
 stepped cs i h = rw h refl
@@ -137,28 +133,28 @@ first_run (i ∷ cs) h f =
     let here = newest cs i h in
     let all : (is_first i ≡ true) × (list_all is_first cs ≡ true) = and_parts (is_first i) (list_all is_first cs) f in
     let before : (calls : List Call) × (cs ≡ run_by First [] calls) = first_run cs here.before all.1 in
-    let mine : by First i.call ≡ i = first_item i.call i.rules all.0 in (
+    let mine : under First i.call ≡ i = first_item i.call i.rules all.0 in (
       before.0 ++ i.call ∷ [],
-      sym (run-append First [] before.0 (i.call ∷ []) ∙ ap (λ l. next_item l (by First i.call)) (sym before.1) ∙ ap (next_item cs) mine ∙ stepped cs i here.accepted),
+      sym (run-append First [] before.0 (i.call ∷ []) ∙ ap (λ l. next_item l (under First i.call)) (sym before.1) ∙ ap (next_item cs) mine ∙ stepped cs i here.accepted),
     )
   where
-    first_item : (c : Call) (rules : Rules) → is_first (by rules c) ≡ true → by First c ≡ by rules c
+    first_item : (c : Call) (rules : Rules) → is_first (under rules c) ≡ true → under First c ≡ under rules c
     first_item c First e = refl
     first_item c Second e = no_parts e
 
 abbrev IsRun : History → Type 0
 IsRun cs = (first more : List Call) × (cs ≡ run (run_by First [] first) more)
 
-one_more : (cs : History) (c : Call) (rules : Rules) → is_legal (by rules c ∷ cs) ≡ true → IsRun cs → IsRun (by rules c ∷ cs)
+one_more : (cs : History) (c : Call) (rules : Rules) → is_legal (under rules c ∷ cs) ≡ true → IsRun cs → IsRun (under rules c ∷ cs)
 one_more cs c First h r =
-    let here = newest cs (by First c) h in
-    let alone = first_run (by First c ∷ cs) h here.follows in
+    let here = newest cs (under First c) h in
+    let alone = first_run (under First c ∷ cs) h here.follows in
     (alone.0, [], alone.1)
 one_more cs c Second h r =
-    let here = newest cs (by Second c) h in (
+    let here = newest cs (under Second c) h in (
       r.0,
       r.1 ++ c ∷ [],
-      sym (run-append Second (run_by First [] r.0) r.1 (c ∷ []) ∙ ap (λ l. next_item l (by Second c)) (sym r.2) ∙ stepped cs (by Second c) here.accepted),
+      sym (run-append Second (run_by First [] r.0) r.1 (c ∷ []) ∙ ap (λ l. next_item l (under Second c)) (sym r.2) ∙ stepped cs (under Second c) here.accepted),
     )
 
 legal_run : (cs : History) → is_legal cs ≡ true → IsRun cs

@@ -13,7 +13,7 @@ use Rattle.desk_texts.specs.declared.reply.Reply.{Reply}
 use Rattle.desk_texts.specs.Callers.{caller_name, is_told_by_name}
 use Rattle.desk_texts.specs.CommandTexts.{text_of}
 use Rattle.desk_texts.proofs.ReadingLemmas.{text_of-same}
-use Rattle.desk_history.specs.Calls.{GoesOnFrom, History, Item, Rules, Second, has_same_key}
+use Rattle.desk_history.specs.Calls.{GoesOnFrom, History, Item, Second, has_same_key, under}
 use Rattle.desk_history.specs.Formed.{IsHistory, IsItem}
 use Rattle.desk_history.specs.FormLaws.{AnsweredCallsStand, EndsAreHistories, Stands}
 use Rattle.desk_history.specs.Lives.{Answered, Event, MayLeave, are_by, are_rules, events_of}
@@ -101,9 +101,6 @@ call_same a b c d e f h k l = cc
 
 same_call : (a b : Call) → a.caller ≡ b.caller → a.key ≡ b.key → a.command ≡ b.command → a ≡ b
 same_call a b h k l = call_same a.caller b.caller a.key b.key a.command b.command h k l
-
-abbrev under : Rules → Call → Item
-under rules c = record { call = c; rules = rules }
 
 -- a call that is answered Ok stands in the history after it
 stands_at : (cs : History) (i : Item) (given : Reply) → IsHistory cs → IsItem i → reply_in (ruling cs i) ≡ Some given → Stands (next_item cs i) i.call given

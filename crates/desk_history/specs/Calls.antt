@@ -16,9 +16,13 @@ pub record Item : Type 0 where
   pub call : Call
   pub rules : Rules
 
+-- the item of a call by these rules
+abbrev pub under : Rules → Call → Item
+under rules c = record { call = c; rules = rules }
+
 -- the item of a call that is accepted now
 abbrev pub item : Call → Item
-item c = record { call = c; rules = Second }
+item c = under Second c
 
 -- the call was accepted by the first rules
 abbrev pub is_first : Item → Bool

@@ -7,7 +7,7 @@ use Rattle.desk_texts.specs.ReplyTexts.{reply_text_of}
 use Rattle.desk_texts.specs.declared.command.Call.{Call}
 use Rattle.desk_texts.specs.declared.facts.Facts.{Facts}
 use Rattle.desk_texts.specs.declared.reply.Reply.{Reply}
-use Rattle.desk_history.specs.Calls.{GoesOnFrom, History, Item, Rules, are_apart}
+use Rattle.desk_history.specs.Calls.{GoesOnFrom, History, Item, Rules, are_apart, under}
 use Rattle.desk_history.specs.Formed.{IsHistory, IsItem, IsReadable}
 use Rattle.desk_history.specs.Laws.{StandOnce}
 use Rattle.desk_history.specs.Lives.{Ends, Event, Life, WasAnswered, events_of}
@@ -64,8 +64,8 @@ pub record Stands (cs : History) (c : Call) (given : Reply) : Type 0 where
   pub rules : Rules
   pub later : History
   pub before : History
-  pub is : cs ≡ later ++ record { call = c; rules = rules } ∷ before
-  pub same : reply_to before (record { call = c; rules = rules }) ≡ given
+  pub is : cs ≡ later ++ under rules c ∷ before
+  pub same : reply_to before (under rules c) ≡ given
 
 -- what a series of lives may leave is a desk's history, where each of its calls was in its forms
 abbrev pub EndsAreHistories : Type 0

@@ -1,5 +1,5 @@
 -- Laws of proposals.
-use Rattle.std.specs.Prelude.{◌≡◌, ◌⊎◌, ℕ, ◌+◌, ◌==◌, false, not, ◌&&◌, IsTrue, List, ◌++◌, ◌∷◌, length, bytes_eq, Option, Some, is_some, option_map}
+use Rattle.std.specs.Prelude.{◌≡◌, ◌⊎◌, ◌+◌, ◌==◌, false, not, ◌&&◌, IsTrue, ◌++◌, ◌∷◌, length, bytes_eq, Some, is_some, option_map}
 use Rattle.std.specs.List.{list_all}
 use Rattle.desk_texts.specs.Callers.{caller_name}
 use Rattle.desk_texts.specs.Imports.{Imported}

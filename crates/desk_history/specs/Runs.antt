@@ -6,7 +6,7 @@ use Rattle.desk_bytes.specs.declared.refusal.Refusal.TheVariants as refusals
 use Rattle.desk_texts.specs.declared.command.Call.{Call}
 use Rattle.desk_texts.specs.declared.reply.Reply.{Reply}
 use Rattle.desk_texts.specs.Callers.{caller_name}
-use Rattle.desk_history.specs.Calls.{First, History, Item, Rules, Second, is_first, item}
+use Rattle.desk_history.specs.Calls.{First, History, Item, Rules, Second, is_first, item, under}
 use Rattle.desk_history.specs.declared.rows.Minute.{Minute}
 use Rattle.desk_history.specs.Replies.{minutes, reply_to}
 use Rattle.desk_texts.specs.CommandTexts.{text_of}
@@ -69,16 +69,20 @@ next cs c = next_item cs (item c)
 -- the history after calls by these rules, the first of them first
 abbrev pub run_by : Rules → History → List Call → History
 run_by rules cs [] = cs
-run_by rules cs (c ∷ calls) = run_by rules (next_item cs (record { call = c; rules = rules })) calls
+run_by rules cs (c ∷ calls) = run_by rules (next_item cs (under rules c)) calls
 
 -- the history after calls
 abbrev pub run : History → List Call → History
 run cs calls = run_by Second cs calls
 
--- what the calls are answered, each after those before it
+-- what calls by these rules are answered, each after those before it
+abbrev pub answers_by : Rules → History → List Call → List Answer
+answers_by rules cs [] = []
+answers_by rules cs (c ∷ calls) = ruling cs (under rules c) ∷ answers_by rules (next_item cs (under rules c)) calls
+
+-- what the calls are answered
 abbrev pub answers : History → List Call → List Answer
-answers cs [] = []
-answers cs (c ∷ calls) = answer cs c ∷ answers (next cs c) calls
+answers cs calls = answers_by Second cs calls
 
 -- own: no call by the first rules follows one by the second
 abbrev pub may_follow : History → Item → Bool

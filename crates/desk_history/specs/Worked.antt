@@ -8,6 +8,7 @@ use Rattle.desk_texts.specs.declared.command.Call.{Call}
 use Rattle.desk_texts.specs.declared.command.Command.{Command}
 use Rattle.desk_texts.specs.declared.command.Command.TheVariants as command
 use Rattle.desk_texts.specs.declared.facts.Facts.{Facts}
+use Rattle.desk_texts.specs.declared.reply.Counts.{Counts}
 use Rattle.desk_texts.specs.declared.reply.Reply.{Reply}
 use Rattle.desk_texts.specs.declared.reply.Reply.TheVariants as replies
 use Rattle.desk_texts.specs.declared.role.Role.{Role}
@@ -17,6 +18,7 @@ use Rattle.desk_texts.specs.declared.vote.Vote.{Vote}
 use Rattle.desk_history.specs.Calls.{History, item}
 use Rattle.desk_history.specs.declared.answer.Answer.{Answer}
 use Rattle.desk_history.specs.declared.answer.Answer.TheVariants.{Accepted, Refused}
+pub mod FirstRules
 pub mod Imports
 pub mod Keys
 pub mod Levels
@@ -152,15 +154,20 @@ imported stamp passed digests certificates components =
       components = components;
     })
 
+-- so many new digests, new certificates and raised names, and entries passed over
+abbrev numbers : ℕ → ℕ → ℕ → ℕ → Counts
+numbers digests certificates components passed =
+    record { digests = digests; certificates = certificates; components = components; passed = passed }
+
+-- the reply to an import by the first rules
+abbrev pub counts : ℕ → ℕ → ℕ → ℕ → Reply
+counts digests certificates components passed = replies.Imported (numbers digests certificates components passed)
+
 -- the reply to what was proposed
 abbrev pub proposed : ℕ → Reply
 proposed number = replies.Proposed number
 
--- the reply to a confirmation: of this proposal; so many new digests, new certificates and raised names, and entries
--- passed over
+-- the reply to the confirmation of this proposal
 abbrev pub confirmed : ℕ → ℕ → ℕ → ℕ → ℕ → Reply
 confirmed number digests certificates components passed =
-    replies.Confirmed (record {
-      proposal = number;
-      counts = record { digests = digests; certificates = certificates; components = components; passed = passed };
-    })
+    replies.Confirmed (record { proposal = number; counts = numbers digests certificates components passed })

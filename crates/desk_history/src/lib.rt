@@ -31,7 +31,8 @@ pub use limits::{
     MOST_REVOKED_CERTIFICATES, MOST_REVOKED_DIGESTS,
 };
 pub use proposal_laws::{
-    first_rules_close_none, next_proposal_is_open, proposals_close_once, two_officers_put_into_force,
+    first_rules_close_none, next_proposal_is_open, proposals_close_once,
+    two_officers_put_into_force,
 };
 pub use rows::{
     CommandText, Entry, EntryBody, Minute, ProposalRow, RequestCertificateRow, RequestComponentRow,
@@ -44,7 +45,7 @@ pub use rules::{
 pub use standing::Standing;
 pub use verdicts::{bars, lists_image, verdict_of};
 pub use worked::{
-    imports_are_answered, keys_are_answered, levels_are_answered, proposals_are_answered,
-    requests_are_shown, returns_are_answered, reviews_are_answered,
+    first_rules_are_answered, imports_are_answered, keys_are_answered, levels_are_answered,
+    proposals_are_answered, requests_are_shown, returns_are_answered, reviews_are_answered,
 };
 pub use write::Write;

@@ -160,11 +160,7 @@ fn is_closed(state: ProposalState) -> bool
 }
 
 /// Why a proposal in this state isn't confirmed, the caller's own or not, of which the command is refused now or not.
-pub fn confirm_by(
-    state: ProposalState,
-    is_own: bool,
-    refused: Option<Refusal>,
-) -> Option<Refusal>
+pub fn confirm_by(state: ProposalState, is_own: bool, refused: Option<Refusal>) -> Option<Refusal>
     ensures { result ≡ spec.confirm_by state is_own refused }
 {
     if is_closed(state) {

@@ -1,4 +1,5 @@
 //! Worked histories: the clauses of each function are what the definitions give for one.
+ghost use Rattle.desk_history.specs.Worked.FirstRules as first;
 ghost use Rattle.desk_history.specs.Worked.Imports as imports;
 ghost use Rattle.desk_history.specs.Worked.Keys as keys;
 ghost use Rattle.desk_history.specs.Worked.Levels as levels;
@@ -49,11 +50,19 @@ pub fn imports_are_answered()
 pub fn proposals_are_answered()
     ensures one { proposals.AnswersOne }
     ensures one_shown { proposals.ShowsOne }
+    ensures repeats { proposals.RepeatsOne }
     ensures two { proposals.AnswersBoth }
     ensures two_shown { proposals.ShowsBoth }
     ensures level { proposals.AnswersLevel }
     ensures level_shown { proposals.ShowsLevel }
     ensures all_of_an_import { proposals.AnswersImport }
+{}
+
+/// A desk of one officer has two from then on.
+pub fn first_rules_are_answered()
+    ensures answers { first.AnswersFirst }
+    ensures rows { first.TablesFirst }
+    ensures order { first.OrdersFirst }
 {}
 
 /// People ask for one request, and for all of them.

@@ -17,6 +17,7 @@ use Rattle.desk_history.specs.Shown.{proposals_for, shown_proposal}
 use Rattle.desk_history.specs.Tables.{tables}
 use Rattle.desk_history.specs.Worked.{Step, accepted, answers_of, by, calls_of, confirmed, digest, grub, officers_added, proposed, raise, refused, with_officers}
 use Rattle.desk_history.specs.Worked.Imports.{lists}
+use Rattle.desk_history.specs.declared.answer.Answer.TheVariants.{Repeated}
 
 -- calls of olga, of otto and of ann, each under a key
 abbrev pub olga : List ℕ → Command → Call
@@ -90,6 +91,22 @@ ShowsOne =
     × (shown_to after_confirmation (codes "otto") ≡ Ok (one_shown ∷ []))
     × (shown_to after_confirmation (codes "ann") ≡ Err refusals.NotYourRole)
     × (shown_to after_confirmation (codes "eve") ≡ Err refusals.UnknownCaller)
+
+-- their keys, given again; and of a closed proposal it is told first that it is closed
+abbrev pub one_repeated : List Step
+one_repeated =
+    record { call = olga (codes "olga-1") revoke_aa; answer = Repeated (proposed 1) }
+    ∷ record { call = otto (codes "otto-1") (command.Confirm 1); answer = Repeated (confirmed 1 1 0 0 0) }
+    ∷ refused (otto (codes "otto-1") (command.Drop 1)) refusals.KeyReused
+    ∷ refused (olga (codes "olga-4") (command.Confirm 1)) refusals.ProposalClosed
+    ∷ refused (record { caller = callers.Console; key = codes "k"; command = command.Confirm 1 }) refusals.NotYourRole
+    ∷ []
+
+-- a repeated proposal makes no second one, and a repeated confirmation is told as the first
+abbrev pub RepeatsOne : Type 0
+RepeatsOne =
+    (answers after_confirmation (calls_of one_repeated) ≡ answers_of one_repeated)
+    × (run after_confirmation (calls_of one_repeated) ≡ after_confirmation)
 
 -- ---- two proposals of one digest
 

@@ -2,7 +2,7 @@
 use Rattle.std.specs.Prelude.{refl}
 use Rattle.std.specs.Fmt.{digits}
 use Rattle.hex.specs.Hex.{encode_with}
-use Rattle.desk_history.specs.Worked.Proposals.{AnswersBoth, AnswersImport, AnswersLevel, AnswersOne, ShowsBoth, ShowsLevel, ShowsOne}
+use Rattle.desk_history.specs.Worked.Proposals.{AnswersBoth, AnswersImport, AnswersLevel, AnswersOne, RepeatsOne, ShowsBoth, ShowsLevel, ShowsOne}
 use Rattle.desk_history.proofs.worked.proposals_are_answered.Goals as goal
 
 one_computed : AnswersOne
@@ -18,6 +18,13 @@ one_shown_computed = (refl, refl, refl, refl, refl)
 
 pub returns-clause-one_shown : goal.returns-clause-one_shown
 returns-clause-one_shown c = one_shown_computed
+
+repeats_computed : RepeatsOne
+unfolding digits encode_with
+repeats_computed = (refl, refl)
+
+pub returns-clause-repeats : goal.returns-clause-repeats
+returns-clause-repeats c = repeats_computed
 
 two_computed : AnswersBoth
 unfolding digits encode_with
