@@ -4,8 +4,8 @@ use Rattle.sqlite.specs.Listing.{understood}
 use Rattle.sqlite_tied.specs.Compute.{everything}
 use Rattle.desk_sql.specs.Meanings.{UpdatesRows, DeletesRows}
 use Rattle.desk_statements.specs.Columns.{equals, set_to}
-use Rattle.desk_statements.specs.Tables.{desk_schema, desk, requests, listed, components}
-use Rattle.desk_statements.specs.declared.changing.TheConstants.{UPDATE_STAMP, UPDATE_STATE, UPDATE_GENERATION, DELETE_LISTED}
+use Rattle.desk_statements.specs.Tables.{desk_schema, desk, requests, listed, components, proposals}
+use Rattle.desk_statements.specs.declared.changing.TheConstants.{UPDATE_STAMP, UPDATE_STATE, UPDATE_GENERATION, UPDATE_PROPOSAL_STATE, UPDATE_VERSION, DELETE_LISTED}
 
 pub update_stamp : UpdatesRows desk_schema 0 desk UPDATE_STAMP.now [] (set_to desk 4 0)
 unfolding understood everything
@@ -22,3 +22,11 @@ update_generation = record { stands = record { place = refl; apart = refl; quiet
 pub delete_listed : DeletesRows desk_schema 8 listed DELETE_LISTED.now (equals listed 0 0 ∷ equals listed 1 1 ∷ [])
 unfolding understood everything
 delete_listed = record { stands = record { place = refl; apart = refl; quiet = λ _ _. refl }; means = refl; plain = (refl, refl); overlooks = λ _ _ _. refl }
+
+pub update_proposal_state : UpdatesRows desk_schema 12 proposals UPDATE_PROPOSAL_STATE.now (equals proposals 0 0 ∷ []) (set_to proposals 5 1)
+unfolding understood everything
+update_proposal_state = record { stands = record { place = refl; apart = refl; quiet = λ _ _. refl }; means = refl; plain = (refl, refl); overlooks = λ _. tt; passes_over = λ _. tt }
+
+pub update_version : UpdatesRows desk_schema 0 desk UPDATE_VERSION.now [] (set_to desk 2 0)
+unfolding understood everything
+update_version = record { stands = record { place = refl; apart = refl; quiet = λ _ _. refl }; means = refl; plain = (refl, refl); overlooks = λ _. tt; passes_over = λ _. tt }

@@ -4,8 +4,8 @@ use Rattle.sqlite.specs.Listing.{understood}
 use Rattle.sqlite_tied.specs.Compute.{everything}
 use Rattle.desk_sql.specs.Meanings.{CountsRows}
 use Rattle.desk_statements.specs.Columns.{equals}
-use Rattle.desk_statements.specs.Tables.{desk_schema, people, calls, requests, listed, revoked_digests, revoked_certificates, components}
-use Rattle.desk_statements.specs.declared.counting.TheConstants.{COUNT_PEOPLE, COUNT_CALLS, COUNT_REQUESTS, COUNT_REQUESTS_IN, COUNT_LISTED, COUNT_LISTED_OF, COUNT_REVOKED_DIGESTS, COUNT_REVOKED_CERTIFICATES, COUNT_COMPONENTS}
+use Rattle.desk_statements.specs.Tables.{desk_schema, people, calls, requests, listed, revoked_digests, revoked_certificates, components, proposals}
+use Rattle.desk_statements.specs.declared.counting.TheConstants.{COUNT_PEOPLE, COUNT_CALLS, COUNT_REQUESTS, COUNT_REQUESTS_IN, COUNT_LISTED, COUNT_LISTED_OF, COUNT_REVOKED_DIGESTS, COUNT_REVOKED_CERTIFICATES, COUNT_COMPONENTS, COUNT_PROPOSALS}
 
 pub count_people : CountsRows desk_schema 1 people COUNT_PEOPLE.now [] (codes "count(*)" ∷ [])
 unfolding understood everything
@@ -42,3 +42,7 @@ count_revoked_certificates = record { place = refl; means = refl; unlisted = ref
 pub count_components : CountsRows desk_schema 11 components COUNT_COMPONENTS.now [] (codes "count(*)" ∷ [])
 unfolding understood everything
 count_components = record { place = refl; means = refl; unlisted = refl; plain = (refl, refl); overlooks = λ _ _ _. refl }
+
+pub count_proposals : CountsRows desk_schema 12 proposals COUNT_PROPOSALS.now [] (codes "count(*)" ∷ [])
+unfolding understood everything
+count_proposals = record { place = refl; means = refl; unlisted = refl; plain = (refl, refl); overlooks = λ _. tt }

@@ -3,12 +3,13 @@ use Rattle.std.proofs.Common.{map, refl}
 use Rattle.sqlite.specs.Listing.{understood}
 use Rattle.sqlite_tied.specs.Compute.{everything}
 use Rattle.desk_sql.specs.Meanings.{MakeTables}
-use Rattle.desk_statements.specs.Tables.{defined, desk_tables, no_schema}
-use Rattle.desk_statements.specs.declared.creating.TheConstants.{CREATE_TABLES}
+use Rattle.desk_statements.specs.Tables.{added_tables, defined, first_schema, first_tables, no_schema}
+use Rattle.desk_statements.specs.declared.creating.TheConstants.{CREATE_ADDED_TABLES, CREATE_TABLES}
 
-pub create_tables : MakeTables no_schema (map defined desk_tables) (map (λ t. t.now) CREATE_TABLES)
+-- the twelve of version 1
+pub create_first : MakeTables no_schema (map defined first_tables) (map (λ t. t.now) CREATE_TABLES)
 unfolding understood everything
-create_tables = (
+create_first = (
   record { defined = refl; means = refl; whole = refl; plain = (refl, refl); complete = refl },
   (
     record { defined = refl; means = refl; whole = refl; plain = (refl, refl); complete = refl },
@@ -42,6 +43,20 @@ create_tables = (
           ),
         ),
       ),
+    ),
+  ),
+)
+
+-- the three that version 2 adds
+pub create_added : MakeTables first_schema (map defined added_tables) (map (λ t. t.now) CREATE_ADDED_TABLES)
+unfolding understood everything
+create_added = (
+  record { defined = refl; means = refl; whole = refl; plain = (refl, refl); complete = refl },
+  (
+    record { defined = refl; means = refl; whole = refl; plain = (refl, refl); complete = refl },
+    (
+      record { defined = refl; means = refl; whole = refl; plain = (refl, refl); complete = refl },
+      tt,
     ),
   ),
 )

@@ -4,8 +4,8 @@ use Rattle.sqlite.specs.Listing.{understood}
 use Rattle.sqlite_tied.specs.Compute.{everything}
 use Rattle.desk_sql.specs.Meanings.{InsertsRow}
 use Rattle.desk_statements.specs.Columns.{values_of}
-use Rattle.desk_statements.specs.Tables.{desk_schema, desk, people, calls, requests, request_certificates, request_components, votes, returns, listed, revoked_digests, revoked_certificates, components}
-use Rattle.desk_statements.specs.declared.inserting.TheConstants.{INSERT_DESK, INSERT_PERSON, INSERT_CALL, INSERT_REQUEST, INSERT_REQUEST_CERTIFICATE, INSERT_REQUEST_COMPONENT, INSERT_VOTE, INSERT_RETURN, INSERT_LISTED, INSERT_REVOKED_DIGEST, INSERT_REVOKED_CERTIFICATE, INSERT_COMPONENT}
+use Rattle.desk_statements.specs.Tables.{desk_schema, desk, people, calls, requests, request_certificates, request_components, votes, returns, listed, revoked_digests, revoked_certificates, components, proposals, proposal_items, migrated}
+use Rattle.desk_statements.specs.declared.inserting.TheConstants.{INSERT_DESK, INSERT_PERSON, INSERT_CALL, INSERT_REQUEST, INSERT_REQUEST_CERTIFICATE, INSERT_REQUEST_COMPONENT, INSERT_VOTE, INSERT_RETURN, INSERT_LISTED, INSERT_REVOKED_DIGEST, INSERT_REVOKED_CERTIFICATE, INSERT_COMPONENT, INSERT_PROPOSAL, INSERT_PROPOSAL_ITEM, INSERT_MIGRATED}
 
 pub insert_desk : InsertsRow desk_schema 0 desk INSERT_DESK.now (values_of desk)
 unfolding understood everything
@@ -54,3 +54,15 @@ insert_revoked_certificate = record { stands = record { place = refl; apart = re
 pub insert_component : InsertsRow desk_schema 11 components INSERT_COMPONENT.now (values_of components)
 unfolding understood everything
 insert_component = record { stands = record { place = refl; apart = refl; quiet = λ _ _. refl }; uncounted = refl; unstamped = refl; one = refl; means = refl; plain = (refl, refl) }
+
+pub insert_proposal : InsertsRow desk_schema 12 proposals INSERT_PROPOSAL.now (values_of proposals)
+unfolding understood everything
+insert_proposal = record { stands = record { place = refl; apart = refl; quiet = λ _ _. refl }; uncounted = refl; unstamped = refl; one = refl; means = refl; plain = (refl, refl) }
+
+pub insert_proposal_item : InsertsRow desk_schema 13 proposal_items INSERT_PROPOSAL_ITEM.now (values_of proposal_items)
+unfolding understood everything
+insert_proposal_item = record { stands = record { place = refl; apart = refl; quiet = λ _ _. refl }; uncounted = refl; unstamped = refl; one = refl; means = refl; plain = (refl, refl) }
+
+pub insert_migrated : InsertsRow desk_schema 14 migrated INSERT_MIGRATED.now (values_of migrated)
+unfolding understood everything
+insert_migrated = record { stands = record { place = refl; apart = refl; quiet = λ _ _. refl }; uncounted = refl; unstamped = refl; one = refl; means = refl; plain = (refl, refl) }

@@ -4,12 +4,17 @@ use Rattle.sqlite.specs.Listing.{understood}
 use Rattle.sqlite_tied.specs.Compute.{everything}
 use Rattle.desk_sql.specs.Meanings.{SelectsRows}
 use Rattle.desk_statements.specs.Columns.{by_first, columns_after, columns_of, equals, names_of}
-use Rattle.desk_statements.specs.Tables.{desk_schema, desk, people, calls, requests, request_certificates, request_components, votes, returns, listed, revoked_digests, revoked_certificates, components}
-use Rattle.desk_statements.specs.declared.selecting.TheConstants.{SELECT_DESK, SELECT_PERSON, SELECT_PERSON_OF_TOKEN, SELECT_PEOPLE, SELECT_CALL, SELECT_CALLS, SELECT_REQUEST, SELECT_REQUESTS, SELECT_REQUESTS_OF, SELECT_REQUEST_CERTIFICATES, SELECT_REQUEST_COMPONENTS, SELECT_VOTES, SELECT_RETURN, SELECT_LISTED, SELECT_LISTED_OF, SELECT_REVOKED_DIGEST, SELECT_REVOKED_DIGESTS, SELECT_REVOKED_CERTIFICATE, SELECT_REVOKED_CERTIFICATES, SELECT_COMPONENT, SELECT_COMPONENTS}
+use Rattle.desk_statements.specs.Tables.{desk_schema, first_schema, desk, people, calls, requests, request_certificates, request_components, votes, returns, listed, revoked_digests, revoked_certificates, components, proposals, proposal_items}
+use Rattle.desk_statements.specs.declared.selecting.TheConstants.{SELECT_DESK, SELECT_PERSON, SELECT_PERSON_OF_TOKEN, SELECT_PEOPLE, SELECT_CALL, SELECT_CALLS, SELECT_REQUEST, SELECT_REQUESTS, SELECT_REQUESTS_OF, SELECT_REQUEST_CERTIFICATES, SELECT_REQUEST_COMPONENTS, SELECT_VOTES, SELECT_RETURN, SELECT_LISTED, SELECT_LISTED_OF, SELECT_REVOKED_DIGEST, SELECT_REVOKED_DIGESTS, SELECT_REVOKED_CERTIFICATE, SELECT_REVOKED_CERTIFICATES, SELECT_COMPONENT, SELECT_COMPONENTS, SELECT_PROPOSAL, SELECT_PROPOSALS, SELECT_PROPOSAL_ITEMS}
 
 pub select_desk : SelectsRows desk_schema 0 desk SELECT_DESK.now [] (by_first 1 desk) (columns_after 1 desk) (names_of desk)
 unfolding understood everything
 select_desk = record { place = refl; means = refl; unlisted = refl; plain = (refl, refl); overlooks = λ _. tt; passes_over = λ _. tt }
+
+-- the same where the tables are those of version 1
+pub select_first_desk : SelectsRows first_schema 0 desk SELECT_DESK.now [] (by_first 1 desk) (columns_after 1 desk) (names_of desk)
+unfolding understood everything
+select_first_desk = record { place = refl; means = refl; unlisted = refl; plain = (refl, refl); overlooks = λ _. tt; passes_over = λ _. tt }
 
 pub select_person : SelectsRows desk_schema 1 people SELECT_PERSON.now (equals people 0 0 ∷ []) [] (columns_of people) (names_of people)
 unfolding understood everything
@@ -90,3 +95,15 @@ select_component = record { place = refl; means = refl; unlisted = refl; plain =
 pub select_components : SelectsRows desk_schema 11 components SELECT_COMPONENTS.now [] (by_first 1 components) (columns_after 1 components) (names_of components)
 unfolding understood everything
 select_components = record { place = refl; means = refl; unlisted = refl; plain = (refl, refl); overlooks = λ _ _ _. refl; passes_over = λ _ _ _. refl }
+
+pub select_proposal : SelectsRows desk_schema 12 proposals SELECT_PROPOSAL.now (equals proposals 0 0 ∷ []) [] (columns_of proposals) (names_of proposals)
+unfolding understood everything
+select_proposal = record { place = refl; means = refl; unlisted = refl; plain = (refl, refl); overlooks = λ _. tt; passes_over = λ _. tt }
+
+pub select_proposals : SelectsRows desk_schema 12 proposals SELECT_PROPOSALS.now [] (by_first 1 proposals) (columns_after 1 proposals) (names_of proposals)
+unfolding understood everything
+select_proposals = record { place = refl; means = refl; unlisted = refl; plain = (refl, refl); overlooks = λ _. tt; passes_over = λ _. tt }
+
+pub select_proposal_items : SelectsRows desk_schema 13 proposal_items SELECT_PROPOSAL_ITEMS.now (equals proposal_items 0 0 ∷ []) (by_first 2 proposal_items) (columns_after 2 proposal_items) (names_of proposal_items)
+unfolding understood everything
+select_proposal_items = record { place = refl; means = refl; unlisted = refl; plain = (refl, refl); overlooks = λ _ _ _. refl; passes_over = λ _ _ _. refl }

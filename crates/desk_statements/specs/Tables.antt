@@ -1,5 +1,5 @@
--- own: the twelve tables of a desk, as SQL sees them. All are STRICT, and no column may be NULL.
-use Rattle.std.specs.Prelude.{ℕ, List, [], ◌∷◌, Option, Some, None, codes, true, false, map}
+-- own: the fifteen tables of a desk, as SQL sees them. All are STRICT, and no column may be NULL.
+use Rattle.std.specs.Prelude.{ℕ, List, [], ◌∷◌, ◌++◌, Option, Some, None, codes, true, false, map}
 use Rattle.sqlite.specs.Collation.TheVariants.{Binary}
 use Rattle.sqlite.specs.declared.types.Value.TheVariants.{Null}
 use Rattle.sqlite.specs.Kind.{Kind}
@@ -115,10 +115,37 @@ components = keyed_table (codes "components") 20
     (column_of (codes "name") Text ∷ column_of (codes "generation") Integer ∷ [])
     (1 ∷ []) []
 
--- all twelve, in the order in which they are made
-abbrev pub desk_tables : List Table
-desk_tables = desk ∷ people ∷ calls ∷ requests ∷ request_certificates ∷ request_components ∷ votes ∷ returns ∷ listed ∷ revoked_digests ∷ revoked_certificates
+-- who proposed what kind of revocation, numbered from 1, with the stamp of the level, the entries that an import passed over, and
+-- the state
+abbrev pub proposals : Table
+proposals = numbered_table (codes "proposals") 22
+    (column_of (codes "no") Integer ∷ column_of (codes "officer") Text ∷ column_of (codes "kind") Text ∷ column_of (codes "stamp") Integer
+    ∷ column_of (codes "passed") Integer ∷ column_of (codes "state") Text ∷ [])
+    []
+
+-- what a proposal names: digests, certificates and components, at their places from 0
+abbrev pub proposal_items : Table
+proposal_items = keyed_table (codes "proposal_items") 23
+    (column_of (codes "proposal") Integer ∷ column_of (codes "place") Integer ∷ column_of (codes "kind") Text ∷ column_of (codes "digest") Blob
+    ∷ column_of (codes "name") Text ∷ column_of (codes "generation") Integer ∷ [])
+    (1 ∷ 2 ∷ []) []
+
+-- how many of the calls were accepted before there were proposals, in one row
+abbrev pub migrated : Table
+migrated = numbered_table (codes "migrated") 25 (column_of (codes "id") Integer ∷ column_of (codes "calls") Integer ∷ []) []
+
+-- the twelve of version 1, in the order in which they are made
+abbrev pub first_tables : List Table
+first_tables = desk ∷ people ∷ calls ∷ requests ∷ request_certificates ∷ request_components ∷ votes ∷ returns ∷ listed ∷ revoked_digests ∷ revoked_certificates
     ∷ components ∷ []
+
+-- the three that version 2 adds
+abbrev pub added_tables : List Table
+added_tables = proposals ∷ proposal_items ∷ migrated ∷ []
+
+-- all fifteen
+abbrev pub desk_tables : List Table
+desk_tables = first_tables ++ added_tables
 
 -- as CREATE TABLE defines it, before it has a tree
 abbrev pub defined : Table → Table
@@ -128,6 +155,10 @@ defined table = record table { tree = 0 }
 abbrev pub no_schema : Schema
 no_schema = record { tables = []; indexes = []; views = [] }
 
--- a desk's store: these tables, the indexes of their keys, and nothing else
+-- a desk's store of version 1: its tables, the indexes of their keys, and nothing else
+abbrev pub first_schema : Schema
+first_schema = schema_after no_schema (map defined first_tables)
+
+-- a desk's store: all fifteen tables, the indexes of their keys, and nothing else
 abbrev pub desk_schema : Schema
-desk_schema = schema_after no_schema (map defined desk_tables)
+desk_schema = schema_after first_schema (map defined added_tables)

@@ -6,6 +6,12 @@ pub const UPDATE_STAMP: &str = "UPDATE desk SET stamp = ?1";
 /// Sets the state (`?2`) of the request with a number (`?1`).
 pub const UPDATE_STATE: &str = "UPDATE requests SET state = ?2 WHERE no = ?1";
 
+/// Sets the state (`?2`) of the proposal with a number (`?1`).
+pub const UPDATE_PROPOSAL_STATE: &str = "UPDATE proposals SET state = ?2 WHERE no = ?1";
+
+/// Sets the version of the tables (`?1`) in every row: the table has one.
+pub const UPDATE_VERSION: &str = "UPDATE desk SET version = ?1";
+
 /// Sets the generation (`?2`) of the component with a name (`?1`).
 pub const UPDATE_GENERATION: &str = "UPDATE components SET generation = ?2 WHERE name = ?1";
 

@@ -26,3 +26,6 @@ pub const COUNT_REVOKED_CERTIFICATES: &str = "SELECT count(*) FROM revoked_certi
 
 /// How many components the level has.
 pub const COUNT_COMPONENTS: &str = "SELECT count(*) FROM components";
+
+/// How many proposals there are.
+pub const COUNT_PROPOSALS: &str = "SELECT count(*) FROM proposals";

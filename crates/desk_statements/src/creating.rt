@@ -1,13 +1,13 @@
-//! The twelve tables, and the function that makes them.
+//! The fifteen tables, and the functions that make them.
 ghost use Rattle.std.specs.Prelude.{◌≡◌, IsTrue, OnOk};
 ghost use Rattle.sqlite.specs.Held.{state};
 ghost use Rattle.sqlite.specs.State.{HasCleanDisk};
 ghost use Rattle.desk_sql.specs.States.{Keeps, Makes, Spares};
-ghost use Rattle.desk_statements.specs.Tables.{desk_schema, no_schema};
+ghost use Rattle.desk_statements.specs.Tables.{desk_schema, first_schema, no_schema};
 
 use desk_sql::create_tables;
 use sqlite::{Alter, Error, Transaction};
-/// `CREATE TABLE` of each table, in the order of their making: desk, people, calls, requests, request_certificates,
+/// `CREATE TABLE` of each table of version 1, in the order of their making: desk, people, calls, requests, request_certificates,
 /// request_components, votes, returns, listed, revoked_digests, revoked_certificates, components.
 pub const CREATE_TABLES: [&str; 12] = [
     "CREATE TABLE desk (id INTEGER PRIMARY KEY NOT NULL, mark TEXT NOT NULL, version INTEGER NOT NULL, owner BLOB NOT NULL, stamp INTEGER NOT NULL) STRICT",
@@ -24,7 +24,46 @@ pub const CREATE_TABLES: [&str; 12] = [
     "CREATE TABLE components (name TEXT NOT NULL PRIMARY KEY, generation INTEGER NOT NULL) STRICT",
 ];
 
-/// Makes the twelve tables in a store that has none.
+/// `CREATE TABLE` of each table that version 2 adds: proposals, proposal_items, migrated.
+pub const CREATE_ADDED_TABLES: [&str; 3] = [
+    "CREATE TABLE proposals (no INTEGER PRIMARY KEY NOT NULL, officer TEXT NOT NULL, kind TEXT NOT NULL, stamp INTEGER NOT NULL, passed INTEGER NOT NULL, state TEXT NOT NULL) STRICT",
+    "CREATE TABLE proposal_items (proposal INTEGER NOT NULL, place INTEGER NOT NULL, kind TEXT NOT NULL, digest BLOB NOT NULL, name TEXT NOT NULL, generation INTEGER NOT NULL, PRIMARY KEY (proposal, place)) STRICT",
+    "CREATE TABLE migrated (id INTEGER PRIMARY KEY NOT NULL, calls INTEGER NOT NULL) STRICT",
+];
+
+/// Makes the twelve tables of version 1 in a store that has none.
+fn make_first<S: Alter>(tx: &mut Transaction<'_, S>) -> Result<(), Error>
+    ensures same_reference { tx.new.conn.ghost_name ≡ tx.old.conn.ghost_name }
+    ensures value { HasCleanDisk (state S.Store tx.new.conn.now)
+        → IsTrue (state S.Store tx.old.conn.now).in_transaction
+        → OnOk result (Makes (state S.Store tx.old.conn.now)
+        (state S.Store tx.new.conn.now) no_schema first_schema) }
+    ensures kept { Keeps S.Store tx.old.conn.now tx.new.conn.now }
+    ensures survives { Spares S.Store tx.old.conn.now tx.new.conn.now }
+{
+    match create_tables(tx, &CREATE_TABLES) {
+        Ok(()) => Ok(()),
+        Err(error) => Err(error),
+    }
+}
+
+/// Makes the three tables that version 2 adds, where those of version 1 stand.
+pub fn make_added<S: Alter>(tx: &mut Transaction<'_, S>) -> Result<(), Error>
+    ensures same_reference { tx.new.conn.ghost_name ≡ tx.old.conn.ghost_name }
+    ensures value { HasCleanDisk (state S.Store tx.new.conn.now)
+        → IsTrue (state S.Store tx.old.conn.now).in_transaction
+        → OnOk result (Makes (state S.Store tx.old.conn.now)
+        (state S.Store tx.new.conn.now) first_schema desk_schema) }
+    ensures kept { Keeps S.Store tx.old.conn.now tx.new.conn.now }
+    ensures survives { Spares S.Store tx.old.conn.now tx.new.conn.now }
+{
+    match create_tables(tx, &CREATE_ADDED_TABLES) {
+        Ok(()) => Ok(()),
+        Err(error) => Err(error),
+    }
+}
+
+/// Makes the fifteen tables in a store that has none.
 pub fn make<S: Alter>(tx: &mut Transaction<'_, S>) -> Result<(), Error>
     ensures same_reference { tx.new.conn.ghost_name ≡ tx.old.conn.ghost_name }
     ensures value { HasCleanDisk (state S.Store tx.new.conn.now)
@@ -34,8 +73,7 @@ pub fn make<S: Alter>(tx: &mut Transaction<'_, S>) -> Result<(), Error>
     ensures kept { Keeps S.Store tx.old.conn.now tx.new.conn.now }
     ensures survives { Spares S.Store tx.old.conn.now tx.new.conn.now }
 {
-    match create_tables(tx, &CREATE_TABLES) {
-        Ok(()) => Ok(()),
-        Err(error) => Err(error),
-    }
+    make_first(tx)?;
+    make_added(tx)?;
+    Ok(())
 }

@@ -43,3 +43,14 @@ pub const INSERT_REVOKED_CERTIFICATE: &str =
 
 /// Puts in a component of the level: name, generation.
 pub const INSERT_COMPONENT: &str = "INSERT INTO components (name, generation) VALUES (?1, ?2)";
+
+/// Puts in a proposal: no, officer, kind, stamp, passed, state.
+pub const INSERT_PROPOSAL: &str =
+    "INSERT INTO proposals (no, officer, kind, stamp, passed, state) VALUES (?1, ?2, ?3, ?4, ?5, ?6)";
+
+/// Puts in an item of a proposal: proposal, place, kind, digest, name, generation.
+pub const INSERT_PROPOSAL_ITEM: &str =
+    "INSERT INTO proposal_items (proposal, place, kind, digest, name, generation) VALUES (?1, ?2, ?3, ?4, ?5, ?6)";
+
+/// Puts in how many calls were accepted before there were proposals: id, calls.
+pub const INSERT_MIGRATED: &str = "INSERT INTO migrated (id, calls) VALUES (?1, ?2)";

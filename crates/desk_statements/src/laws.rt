@@ -1,32 +1,40 @@
-//! What each text means over the twelve tables, a function a table.
+//! What each text means over the fifteen tables, a function a table.
 ghost use Rattle.std.specs.Prelude.{[], ◌∷◌, codes};
 ghost use Rattle.desk_sql.specs.Meanings.{CountsRows, DeletesRows, InsertsRow, SelectsRows, UpdatesRows};
 ghost use Rattle.desk_statements.specs.Columns.{by_first, columns_after, columns_of, equals, names_of, set_to, values_of};
-ghost use Rattle.desk_statements.specs.Tables.{desk_schema, desk, people, calls, requests, request_certificates, request_components, votes, returns, listed, revoked_digests, revoked_certificates, components};
+ghost use Rattle.desk_statements.specs.Tables.{desk_schema, first_schema, desk, people, calls, requests, request_certificates, request_components, votes, returns, listed, revoked_digests, revoked_certificates, components, proposals, proposal_items, migrated};
 
-use crate::changing::{DELETE_LISTED, UPDATE_GENERATION, UPDATE_STAMP, UPDATE_STATE};
+use crate::changing::{
+    DELETE_LISTED, UPDATE_GENERATION, UPDATE_PROPOSAL_STATE, UPDATE_STAMP, UPDATE_STATE,
+    UPDATE_VERSION,
+};
 use crate::counting::{
-    COUNT_CALLS, COUNT_COMPONENTS, COUNT_LISTED, COUNT_LISTED_OF, COUNT_PEOPLE, COUNT_REQUESTS,
-    COUNT_REQUESTS_IN, COUNT_REVOKED_CERTIFICATES, COUNT_REVOKED_DIGESTS,
+    COUNT_CALLS, COUNT_COMPONENTS, COUNT_LISTED, COUNT_LISTED_OF, COUNT_PEOPLE, COUNT_PROPOSALS,
+    COUNT_REQUESTS, COUNT_REQUESTS_IN, COUNT_REVOKED_CERTIFICATES, COUNT_REVOKED_DIGESTS,
 };
 use crate::inserting::{
-    INSERT_CALL, INSERT_COMPONENT, INSERT_DESK, INSERT_LISTED, INSERT_PERSON, INSERT_REQUEST,
-    INSERT_REQUEST_CERTIFICATE, INSERT_REQUEST_COMPONENT, INSERT_RETURN,
-    INSERT_REVOKED_CERTIFICATE, INSERT_REVOKED_DIGEST, INSERT_VOTE,
+    INSERT_CALL, INSERT_COMPONENT, INSERT_DESK, INSERT_LISTED, INSERT_MIGRATED, INSERT_PERSON,
+    INSERT_PROPOSAL, INSERT_PROPOSAL_ITEM, INSERT_REQUEST, INSERT_REQUEST_CERTIFICATE,
+    INSERT_REQUEST_COMPONENT, INSERT_RETURN, INSERT_REVOKED_CERTIFICATE, INSERT_REVOKED_DIGEST,
+    INSERT_VOTE,
 };
 use crate::selecting::{
     SELECT_CALL, SELECT_CALLS, SELECT_COMPONENT, SELECT_COMPONENTS, SELECT_DESK, SELECT_LISTED,
-    SELECT_LISTED_OF, SELECT_PEOPLE, SELECT_PERSON, SELECT_PERSON_OF_TOKEN, SELECT_REQUEST,
-    SELECT_REQUEST_CERTIFICATES, SELECT_REQUEST_COMPONENTS, SELECT_REQUESTS, SELECT_REQUESTS_OF,
-    SELECT_RETURN, SELECT_REVOKED_CERTIFICATE, SELECT_REVOKED_CERTIFICATES, SELECT_REVOKED_DIGEST,
+    SELECT_LISTED_OF, SELECT_PEOPLE, SELECT_PERSON, SELECT_PERSON_OF_TOKEN, SELECT_PROPOSAL,
+    SELECT_PROPOSAL_ITEMS, SELECT_PROPOSALS, SELECT_REQUEST, SELECT_REQUEST_CERTIFICATES,
+    SELECT_REQUEST_COMPONENTS, SELECT_REQUESTS, SELECT_REQUESTS_OF, SELECT_RETURN,
+    SELECT_REVOKED_CERTIFICATE, SELECT_REVOKED_CERTIFICATES, SELECT_REVOKED_DIGEST,
     SELECT_REVOKED_DIGESTS, SELECT_VOTES,
 };
 
-/// The row of the desk: written whole, its stamp set, read.
+/// The row of the desk: written whole, its stamp and its version set, read, also where the tables are those of version 1.
 pub fn desk_statements()
     ensures inserted { InsertsRow desk_schema 0 desk INSERT_DESK.now (values_of desk) }
     ensures stamped { UpdatesRows desk_schema 0 desk UPDATE_STAMP.now [] (set_to desk 4 0) }
+    ensures migrated { UpdatesRows desk_schema 0 desk UPDATE_VERSION.now [] (set_to desk 2 0) }
     ensures shown { SelectsRows desk_schema 0 desk SELECT_DESK.now [] (by_first 1 desk)
+        (columns_after 1 desk) (names_of desk) }
+    ensures shown_first { SelectsRows first_schema 0 desk SELECT_DESK.now [] (by_first 1 desk)
         (columns_after 1 desk) (names_of desk) }
 {}
 
@@ -157,4 +165,31 @@ pub fn components_statements()
         (by_first 1 components) (columns_after 1 components) (names_of components) }
     ensures counted { CountsRows desk_schema 11 components COUNT_COMPONENTS.now []
         (codes "count(*)" ∷ []) }
+{}
+
+/// Proposals: put in, given a state, found by number, listed by number, counted.
+pub fn proposals_statements()
+    ensures inserted { InsertsRow desk_schema 12 proposals INSERT_PROPOSAL.now (values_of proposals) }
+    ensures closed { UpdatesRows desk_schema 12 proposals UPDATE_PROPOSAL_STATE.now
+        (equals proposals 0 0 ∷ []) (set_to proposals 5 1) }
+    ensures numbered { SelectsRows desk_schema 12 proposals SELECT_PROPOSAL.now
+        (equals proposals 0 0 ∷ []) [] (columns_of proposals) (names_of proposals) }
+    ensures all { SelectsRows desk_schema 12 proposals SELECT_PROPOSALS.now [] (by_first 1 proposals)
+        (columns_after 1 proposals) (names_of proposals) }
+    ensures counted { CountsRows desk_schema 12 proposals COUNT_PROPOSALS.now [] (codes "count(*)"
+        ∷ []) }
+{}
+
+/// Items of a proposal: put in, listed by place.
+pub fn proposal_items_statements()
+    ensures inserted { InsertsRow desk_schema 13 proposal_items INSERT_PROPOSAL_ITEM.now
+        (values_of proposal_items) }
+    ensures of_proposal { SelectsRows desk_schema 13 proposal_items SELECT_PROPOSAL_ITEMS.now
+        (equals proposal_items 0 0 ∷ []) (by_first 2 proposal_items)
+        (columns_after 2 proposal_items) (names_of proposal_items) }
+{}
+
+/// How many calls were accepted before there were proposals: put in.
+pub fn migrated_statements()
+    ensures { InsertsRow desk_schema 14 migrated INSERT_MIGRATED.now (values_of migrated) }
 {}

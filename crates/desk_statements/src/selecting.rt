@@ -74,3 +74,15 @@ pub const SELECT_COMPONENT: &str = "SELECT name, generation FROM components WHER
 
 /// Every component, by name.
 pub const SELECT_COMPONENTS: &str = "SELECT name, generation FROM components ORDER BY name";
+
+/// The proposal with a number (`?1`).
+pub const SELECT_PROPOSAL: &str =
+    "SELECT no, officer, kind, stamp, passed, state FROM proposals WHERE no = ?1";
+
+/// Every proposal, by number.
+pub const SELECT_PROPOSALS: &str =
+    "SELECT no, officer, kind, stamp, passed, state FROM proposals ORDER BY no";
+
+/// The items of a proposal (`?1`), by place.
+pub const SELECT_PROPOSAL_ITEMS: &str =
+    "SELECT proposal, place, kind, digest, name, generation FROM proposal_items WHERE proposal = ?1 ORDER BY proposal, place";
