@@ -1,10 +1,11 @@
--- What the twelve tables hold as rows of SQL, in the order in which the tables are made.
-use Rattle.std.specs.Prelude.{List, [], ◌∷◌, map}
+-- What the fifteen tables hold as rows of SQL, in the order in which the tables are made.
+use Rattle.std.specs.Prelude.{List, [], ◌∷◌, map, flat_map}
 use Rattle.desk_sql.specs.Contents.{Contents}
+use Rattle.desk_history.specs.Items.{item_rows}
 use Rattle.desk_history.specs.Tables.{Tables}
-use Rattle.desk_contents.specs.Values.{desk_values, person_values, call_values, request_values, request_certificate_values, request_component_values, vote_values, return_values, entry_values, digest_values, component_values}
+use Rattle.desk_contents.specs.Values.{desk_values, person_values, call_values, request_values, request_certificate_values, request_component_values, vote_values, return_values, entry_values, digest_values, component_values, proposal_values, item_values, migrated_values}
 
--- own: the rows of the twelve tables
+-- own: the rows of the fifteen tables
 abbrev pub contents : Tables → Contents
 contents t =
     (desk_values t.desk ∷ [])
@@ -19,4 +20,7 @@ contents t =
     ∷ map digest_values t.revoked_digests
     ∷ map digest_values t.revoked_certificates
     ∷ map component_values t.components
+    ∷ map proposal_values t.proposals
+    ∷ map item_values (flat_map item_rows t.proposals)
+    ∷ map migrated_values t.migrated
     ∷ []

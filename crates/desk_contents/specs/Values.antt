@@ -1,21 +1,27 @@
 -- A row of each table as SQL holds it. Where the first column is the row id, the row begins with it, and NULL stands in the
 -- column's own place (SQLite, "Rowid Tables").
-use Rattle.std.specs.Prelude.{ℕ, pos, List, [], ◌∷◌}
+use Rattle.std.specs.Prelude.{ℕ, pos, List, [], ◌∷◌, unwrap_or}
 use Rattle.sqlite.specs.declared.types.Value.TheVariants.{Null, Int, Text, Blob}
 use Rattle.sqlite.specs.Order.{Row}
 use Rattle.sbat.specs.declared.component.Component.{Component}
 use Rattle.desk_texts.specs.declared.command.Person.{Person}
 use Rattle.desk_texts.specs.Callers.{caller_name}
 use Rattle.desk_texts.specs.ReplyTexts.{reply_text_of}
-use Rattle.desk_texts.specs.Words.{kind_text, role_text, state_text, vote_text}
+use Rattle.desk_texts.specs.declared.proposal.ItemKind.{ItemKind}
+use Rattle.desk_texts.specs.declared.proposal.ItemKind.TheVariants as kinds
+use Rattle.desk_texts.specs.Words.{item_kind_text, kind_text, proposal_kind_text, proposal_state_text, role_text, state_text, vote_text}
 use Rattle.desk_history.specs.declared.rows.Entry.{Entry}
 use Rattle.desk_history.specs.declared.rows.Minute.{Minute}
+use Rattle.desk_history.specs.declared.rows.ProposalItem.{ProposalItem}
+use Rattle.desk_history.specs.declared.rows.ProposalItem.TheVariants as items
+use Rattle.desk_history.specs.declared.rows.ProposalItemRow.{ProposalItemRow}
+use Rattle.desk_history.specs.declared.rows.ProposalRow.{ProposalRow}
 use Rattle.desk_history.specs.declared.rows.RequestCertificateRow.{RequestCertificateRow}
 use Rattle.desk_history.specs.declared.rows.RequestComponentRow.{RequestComponentRow}
 use Rattle.desk_history.specs.declared.rows.RequestRow.{RequestRow}
 use Rattle.desk_history.specs.declared.rows.ReturnRow.{ReturnRow}
 use Rattle.desk_history.specs.declared.rows.VoteRow.{VoteRow}
-use Rattle.desk_history.specs.Tables.{DeskRow}
+use Rattle.desk_history.specs.Tables.{DeskRow, MigratedRow}
 
 -- own: the desk: id, mark, version, owner, stamp
 abbrev pub desk_values : DeskRow → Row
@@ -63,3 +69,39 @@ digest_values d = Blob d ∷ []
 -- own: a component of the level: name, generation
 abbrev pub component_values : Component → Row
 component_values x = Text x.name ∷ Int (pos x.generation) ∷ []
+
+-- own: a proposal: number, officer, kind, the stamp or 0, how many entries an import passed over, state
+abbrev pub proposal_values : ProposalRow → Row
+proposal_values p =
+    Int (pos p.number) ∷ Null ∷ Text p.officer ∷ Text (proposal_kind_text p.kind) ∷ Int (pos (unwrap_or p.named.stamp 0))
+    ∷ Int (pos p.named.passed) ∷ Text (proposal_state_text p.state) ∷ []
+
+-- ---- own: what stands for an item: its kind, the digest or nothing, and the component's name and generation, or nothing and 0
+
+abbrev pub item_kind : ProposalItem → ItemKind
+item_kind (items.Digest d) = kinds.Digest
+item_kind (items.Certificate d) = kinds.Certificate
+item_kind (items.Component x) = kinds.Component
+
+abbrev pub item_digest : ProposalItem → List ℕ
+item_digest (items.Digest d) = d
+item_digest (items.Certificate d) = d
+item_digest (items.Component x) = []
+
+abbrev pub item_name : ProposalItem → List ℕ
+item_name (items.Component x) = x.name
+item_name item = []
+
+abbrev pub item_generation : ProposalItem → ℕ
+item_generation (items.Component x) = x.generation
+item_generation item = 0
+
+-- own: an item of a proposal: proposal, place, kind, digest, name, generation
+abbrev pub item_values : ProposalItemRow → Row
+item_values r =
+    Int (pos r.proposal) ∷ Int (pos r.place) ∷ Text (item_kind_text (item_kind r.item)) ∷ Blob (item_digest r.item)
+    ∷ Text (item_name r.item) ∷ Int (pos (item_generation r.item)) ∷ []
+
+-- own: how many calls were accepted by the first rules: id, calls
+abbrev pub migrated_values : MigratedRow → Row
+migrated_values m = Int (pos m.id) ∷ Null ∷ Int (pos m.calls) ∷ []

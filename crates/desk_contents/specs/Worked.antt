@@ -1,4 +1,4 @@
--- A worked day of a desk, with the rows of its twelve tables written down by hand.
+-- A worked day of a desk, with the rows of its fifteen tables written down by hand.
 use Rattle.std.specs.Prelude.{◌≡◌, ℕ, zero, suc, pos, List, [], ◌∷◌, ◌++◌, codes}
 use Rattle.sqlite.specs.declared.types.Value.TheVariants.{Null, Int, Text, Blob}
 use Rattle.sqlite.specs.Order.{Row}
@@ -7,7 +7,7 @@ use Rattle.desk_texts.specs.declared.vote.Vote.TheVariants.{Yes}
 use Rattle.desk_sql.specs.Contents.{Contents}
 use Rattle.desk_history.specs.Calls.{History, item}
 use Rattle.desk_history.specs.Tables.{tables}
-use Rattle.desk_history.specs.Worked.{by, digest, give_back, grub, image, people_added, raise, submit, vote}
+use Rattle.desk_history.specs.Worked.{by, digest, give_back, grub, image, officers_added, raise, submit, vote}
 use Rattle.desk_contents.specs.Contents.{contents}
 
 -- the owner's GUID, as it is stored
@@ -18,11 +18,14 @@ owner = 0x33 ∷ 0x22 ∷ 0x11 ∷ 0x00 ∷ 0x55 ∷ 0x44 ∷ 0x77 ∷ 0x66 ∷ 
 abbrev pub certificate : List ℕ
 certificate = 0x30 ∷ 0x03 ∷ 0x02 ∷ 0x01 ∷ 0x01 ∷ []
 
--- after the people were added an image is submitted, approved and signed; an image and a certificate are listed, others
--- revoked, and the level rises: the newest call first
+-- after the people were added an image is submitted, approved and signed; an image and a certificate are listed; the first officer
+-- proposes to revoke others and to raise the level, and the second confirms two proposals and drops one: the newest call first
 abbrev pub history : History
 history =
-    item (by (codes "olga") (codes "olga-5") (raise (codes "grub") 4 2024010100))
+    item (by (codes "otto") (codes "otto-3") (command.Confirm 3))
+    ∷ item (by (codes "otto") (codes "otto-2") (command.Drop 2))
+    ∷ item (by (codes "otto") (codes "otto-1") (command.Confirm 1))
+    ∷ item (by (codes "olga") (codes "olga-5") (raise (codes "grub") 4 2024010100))
     ∷ item (by (codes "olga") (codes "olga-4") (command.RevokeCertificate (digest 0x20)))
     ∷ item (by (codes "olga") (codes "olga-3") (command.RevokeDigest (digest 0x1f)))
     ∷ item (by (codes "olga") (codes "olga-2") (command.ListDigest (digest 0x16)))
@@ -31,7 +34,7 @@ history =
     ∷ item (by (codes "raul") (codes "raul-1") (vote 1 Yes))
     ∷ item (by (codes "rita") (codes "rita-1") (vote 1 Yes))
     ∷ item (by (codes "ann") (codes "ann-1") (submit (image 0x0a 0x0b 0x0c (digest 0x14 ∷ []) (grub 3 ∷ []))))
-    ∷ people_added
+    ∷ officers_added
 
 -- the text, so many times
 abbrev repeated : ℕ → List ℕ → List ℕ
@@ -49,19 +52,23 @@ call number caller key text reply = Int (pos number) ∷ Null ∷ Text caller �
 -- the minutes, the newest first
 abbrev calls : List Row
 calls =
-    call 15 (codes "olga") (codes "olga-5") (codes "raise grub 4 2024010100") (codes "raised")
-    ∷ call 14 (codes "olga") (codes "olga-4") (codes "revoke-certificate " ++ hex (codes "20")) (codes "revoked")
-    ∷ call 13 (codes "olga") (codes "olga-3") (codes "revoke-digest " ++ hex (codes "1f")) (codes "revoked")
-    ∷ call 12 (codes "olga") (codes "olga-2") (codes "list-digest " ++ hex (codes "16")) (codes "listed")
-    ∷ call 11 (codes "sid") (codes "sid-1")
+    call 19 (codes "otto") (codes "otto-3") (codes "confirm 3") (codes "confirmed 3 0 0 1 0")
+    ∷ call 18 (codes "otto") (codes "otto-2") (codes "drop 2") (codes "dropped 2")
+    ∷ call 17 (codes "otto") (codes "otto-1") (codes "confirm 1") (codes "confirmed 1 1 0 0 0")
+    ∷ call 16 (codes "olga") (codes "olga-5") (codes "raise grub 4 2024010100") (codes "proposed 3")
+    ∷ call 15 (codes "olga") (codes "olga-4") (codes "revoke-certificate " ++ hex (codes "20")) (codes "proposed 2")
+    ∷ call 14 (codes "olga") (codes "olga-3") (codes "revoke-digest " ++ hex (codes "1f")) (codes "proposed 1")
+    ∷ call 13 (codes "olga") (codes "olga-2") (codes "list-digest " ++ hex (codes "16")) (codes "listed")
+    ∷ call 12 (codes "sid") (codes "sid-1")
     (codes "return 1 1024 0 " ++ hex (codes "0d") ++ codes " " ++ hex (codes "0c") ++ codes " " ++ hex (codes "0c") ++ codes " " ++ hex (codes "14") ++ codes " -")
     (codes "returned 1")
-    ∷ call 10 (codes "olga") (codes "olga-1") (codes "list-certificate " ++ hex (codes "14") ++ codes " 3003020101") (codes "listed")
-    ∷ call 9 (codes "raul") (codes "raul-1") (codes "review 1 yes looked") (codes "reviewed 1 approved")
-    ∷ call 8 (codes "rita") (codes "rita-1") (codes "review 1 yes looked") (codes "reviewed 1 open")
-    ∷ call 7 (codes "ann") (codes "ann-1")
+    ∷ call 11 (codes "olga") (codes "olga-1") (codes "list-certificate " ++ hex (codes "14") ++ codes " 3003020101") (codes "listed")
+    ∷ call 10 (codes "raul") (codes "raul-1") (codes "review 1 yes looked") (codes "reviewed 1 approved")
+    ∷ call 9 (codes "rita") (codes "rita-1") (codes "review 1 yes looked") (codes "reviewed 1 open")
+    ∷ call 8 (codes "ann") (codes "ann-1")
     (codes "submit 1024 0 " ++ hex (codes "0a") ++ codes " " ++ hex (codes "0b") ++ codes " " ++ hex (codes "0c") ++ codes " " ++ hex (codes "14") ++ codes " 3:grub shim 15.8")
     (codes "submitted 1")
+    ∷ call 7 (codes "console") (codes "otto") (codes "add-person otto officer " ++ hex (codes "07")) (codes "added otto")
     ∷ call 6 (codes "console") (codes "olga") (codes "add-person olga officer " ++ hex (codes "06")) (codes "added olga")
     ∷ call 5 (codes "console") (codes "sid") (codes "add-person sid signer " ++ hex (codes "05")) (codes "added sid")
     ∷ call 4 (codes "console") (codes "rosa") (codes "add-person rosa reviewer " ++ hex (codes "04")) (codes "added rosa")
@@ -72,12 +79,13 @@ calls =
 
 -- the row of the desk
 abbrev desk : List Row
-desk = (Int (pos 1) ∷ Null ∷ Text (codes "boot-desk") ∷ Int (pos 1) ∷ Blob owner ∷ Int (pos 2024010100) ∷ []) ∷ []
+desk = (Int (pos 1) ∷ Null ∷ Text (codes "boot-desk") ∷ Int (pos 2) ∷ Blob owner ∷ Int (pos 2024010100) ∷ []) ∷ []
 
 -- the people
 abbrev people : List Row
 people =
-    (Text (codes "olga") ∷ Text (codes "officer") ∷ Blob (digest 6) ∷ [])
+    (Text (codes "otto") ∷ Text (codes "officer") ∷ Blob (digest 7) ∷ [])
+    ∷ (Text (codes "olga") ∷ Text (codes "officer") ∷ Blob (digest 6) ∷ [])
     ∷ (Text (codes "sid") ∷ Text (codes "signer") ∷ Blob (digest 5) ∷ [])
     ∷ (Text (codes "rosa") ∷ Text (codes "reviewer") ∷ Blob (digest 4) ∷ [])
     ∷ (Text (codes "raul") ∷ Text (codes "reviewer") ∷ Blob (digest 3) ∷ [])
@@ -110,7 +118,23 @@ listed =
     ∷ (Text (codes "certificate") ∷ Blob (digest 0x14) ∷ Blob certificate ∷ [])
     ∷ []
 
--- the twelve tables
+-- the proposals
+abbrev proposals : List Row
+proposals =
+    (Int (pos 3) ∷ Null ∷ Text (codes "olga") ∷ Text (codes "level") ∷ Int (pos 2024010100) ∷ Int (pos 0) ∷ Text (codes "confirmed") ∷ [])
+    ∷ (Int (pos 2) ∷ Null ∷ Text (codes "olga") ∷ Text (codes "certificate") ∷ Int (pos 0) ∷ Int (pos 0) ∷ Text (codes "dropped") ∷ [])
+    ∷ (Int (pos 1) ∷ Null ∷ Text (codes "olga") ∷ Text (codes "digest") ∷ Int (pos 0) ∷ Int (pos 0) ∷ Text (codes "confirmed") ∷ [])
+    ∷ []
+
+-- what they name
+abbrev proposal_items : List Row
+proposal_items =
+    (Int (pos 3) ∷ Int (pos 0) ∷ Text (codes "component") ∷ Blob [] ∷ Text (codes "grub") ∷ Int (pos 4) ∷ [])
+    ∷ (Int (pos 2) ∷ Int (pos 0) ∷ Text (codes "certificate") ∷ Blob (digest 0x20) ∷ Text [] ∷ Int (pos 0) ∷ [])
+    ∷ (Int (pos 1) ∷ Int (pos 0) ∷ Text (codes "digest") ∷ Blob (digest 0x1f) ∷ Text [] ∷ Int (pos 0) ∷ [])
+    ∷ []
+
+-- the fifteen tables
 abbrev pub rows : Contents
 rows =
     desk ∷ people ∷ calls ∷ requests
@@ -118,8 +142,10 @@ rows =
     ∷ ((Int (pos 1) ∷ Int (pos 0) ∷ Text (codes "grub") ∷ Int (pos 3) ∷ []) ∷ [])
     ∷ votes ∷ returns ∷ listed
     ∷ ((Blob (digest 0x1f) ∷ []) ∷ [])
-    ∷ ((Blob (digest 0x20) ∷ []) ∷ [])
+    ∷ []
     ∷ ((Text (codes "grub") ∷ Int (pos 4) ∷ []) ∷ [])
+    ∷ proposals ∷ proposal_items
+    ∷ ((Int (pos 1) ∷ Null ∷ Int (pos 0) ∷ []) ∷ [])
     ∷ []
 
 -- the tables of the day hold these rows

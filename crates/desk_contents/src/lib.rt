@@ -1,4 +1,4 @@
-//! What the twelve tables of a desk are as rows of SQL, as definitions, and laws of them.
+//! What the fifteen tables of a desk are as rows of SQL, as definitions, and laws of them.
 #![tactic(auto)]
 
 mod laws;

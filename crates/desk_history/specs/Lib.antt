@@ -3,6 +3,7 @@ pub mod DecisionRefusals
 pub mod Forces
 pub mod FormLaws
 pub mod Formed
+pub mod Items
 pub mod Laws
 pub mod Level
 pub mod Limits

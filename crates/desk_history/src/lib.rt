@@ -35,8 +35,8 @@ pub use proposal_laws::{
     two_officers_put_into_force,
 };
 pub use rows::{
-    CommandText, Entry, EntryBody, Minute, ProposalRow, RequestCertificateRow, RequestComponentRow,
-    RequestRow, ReturnRow, VoteRow,
+    CommandText, Entry, EntryBody, Minute, ProposalItem, ProposalItemRow, ProposalRow,
+    RequestCertificateRow, RequestComponentRow, RequestRow, ReturnRow, VoteRow,
 };
 pub use rules::{
     confirm_by, drop_by, image_refusal, is_above, is_for, is_for_console, is_later, is_same,

@@ -6,7 +6,7 @@ use desk_texts::{
     Caller, Import, Key, ListedKind, Note, PersonName, ProposalKind, ProposalNumber, ProposalState,
     Reply, RequestNumber, State, Title, Vote,
 };
-use sbat::{ComponentName, Generation};
+use sbat::{Component, ComponentName, Generation};
 use std::alloc::AllocError;
 use std::marker::Model;
 
@@ -144,4 +144,23 @@ pub struct ProposalRow {
     pub kind: ProposalKind,
     pub named: Import,
     pub state: ProposalState,
+}
+
+/// What a proposal names at one place.
+#[derive(Debug, Drop)]
+pub enum ProposalItem {
+    /// An image's digest.
+    Digest(Digest),
+    /// A certificate, by the digest of its TBSCertificate.
+    Certificate(Digest),
+    /// A component, with its least generation.
+    Component(Component),
+}
+
+/// An item of a proposal, with its place among them from 0.
+#[derive(Debug, Drop)]
+pub struct ProposalItemRow {
+    pub proposal: ProposalNumber,
+    pub place: u64,
+    pub item: ProposalItem,
 }

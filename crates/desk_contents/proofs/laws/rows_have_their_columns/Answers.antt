@@ -1,8 +1,9 @@
-use Rattle.std.specs.Prelude.{◌≡◌, Bool, true, List, [], ◌∷◌, map, refl}
+use Rattle.std.specs.Prelude.{◌≡◌, Bool, true, List, [], ◌∷◌, map, flat_map, refl}
 use Rattle.std.specs.List.{AllByRecursion}
 use Rattle.sqlite.specs.Order.{Row}
 use Rattle.sqlite.specs.Table.{Table}
 use Rattle.desk_statements.specs.Tables as tables
+use Rattle.desk_history.specs.Items.{item_rows}
 use Rattle.desk_contents.specs.Columns.{HaveColumns, has_columns}
 use Rattle.desk_contents.specs.Values as values
 use Rattle.desk_contents.proofs.laws.rows_have_their_columns.Goals as goal
@@ -36,7 +37,13 @@ returns g t = (
                       each tables.revoked_certificates values.digest_values (λ _. refl) t.revoked_certificates,
                       (
                         each tables.components values.component_values (λ _. refl) t.components,
-                        tt,
+                        (
+                          each tables.proposals values.proposal_values (λ _. refl) t.proposals,
+                          (
+                            each tables.proposal_items values.item_values (λ _. refl) (flat_map item_rows t.proposals),
+                            (each tables.migrated values.migrated_values (λ _. refl) t.migrated, tt),
+                          ),
+                        ),
                       ),
                     ),
                   ),
