@@ -1,5 +1,6 @@
 -- What UPDATE and DELETE find in the desk's rows, and what UPDATE makes of them.
 use Rattle.std.proofs.Common.{◌≡◌, ℕ, pos, [], ◌∷◌, ◌==◌, bytes_eq, refl, ◌∙◌}
+use Rattle.std.specs.Prelude.{unwrap_or}
 use Rattle.sqlite.specs.declared.types.Value.TheVariants.{Int, Text, Blob}
 use Rattle.sqlite.specs.Order.{Row}
 use Rattle.desk_sql.specs.Contents.{seen, whole}
@@ -7,20 +8,22 @@ use Rattle.desk_sql.specs.Effects.{passes}
 use Rattle.desk_sql.specs.Queries.{rewritten}
 use Rattle.desk_sql.proofs.ValueLemmas.{cast_null, cast_int, text_is, blob_is, int_is, only, both}
 use Rattle.desk_statements.specs.Columns.{equals, set_to}
-use Rattle.desk_statements.specs.Tables.{desk, requests, listed, components}
+use Rattle.desk_statements.specs.Tables.{desk, requests, listed, components, proposals}
 use Rattle.sbat.specs.declared.component.Component.{Component}
 use Rattle.desk_texts.specs.declared.kind.ListedKind.{ListedKind}
 use Rattle.desk_texts.specs.declared.kind.ListedKind.TheVariants.{Digest, Certificate}
 use Rattle.desk_texts.specs.declared.command.Listing.{Listing}
 use Rattle.desk_texts.specs.declared.reply.Outcome.{Outcome}
-use Rattle.desk_texts.specs.Words.{kind_text, state_text}
+use Rattle.desk_texts.specs.declared.proposal.ProposalOutcome.{ProposalOutcome}
+use Rattle.desk_texts.specs.Words.{kind_text, proposal_state_text, state_text}
 use Rattle.desk_history.specs.declared.rows.Entry.{Entry}
+use Rattle.desk_history.specs.declared.rows.ProposalRow.{ProposalRow}
 use Rattle.desk_history.specs.declared.rows.RequestRow.{RequestRow}
 use Rattle.desk_history.specs.Calls.{is_same_kind}
 use Rattle.desk_history.specs.Listing.{is_entry}
 use Rattle.desk_history.specs.Tables.{DeskRow}
 use Rattle.desk_history.specs.Writes.{is_named}
-use Rattle.desk_contents.specs.Values.{desk_values, request_values, entry_values, component_values}
+use Rattle.desk_contents.specs.Values.{desk_values, request_values, entry_values, component_values, proposal_values}
 
 -- ---- the state of a request
 
@@ -33,6 +36,18 @@ has_number o x = only _ _ (int_is x.number o.request)
 pub gets_state : (o : Outcome) (x : RequestRow)
     → seen requests (rewritten requests (set_to requests 8 1) (state_params o) (whole requests (request_values x))) ≡ request_values (record x { state = o.state })
 gets_state o x = rw (cast_null, cast_int (pos x.number), cast_int (pos x.length), cast_int (pos x.gap)) refl
+
+-- ---- the state of a proposal
+
+abbrev pub proposal_state_params : ProposalOutcome → Row
+proposal_state_params o = Int (pos o.proposal) ∷ Text (proposal_state_text o.state) ∷ []
+
+pub has_proposal_number : (o : ProposalOutcome) (x : ProposalRow) → passes proposals (equals proposals 0 0 ∷ []) (proposal_state_params o) (proposal_values x) ≡ (o.proposal == x.number)
+has_proposal_number o x = only _ _ (int_is x.number o.proposal)
+
+pub gets_proposal_state : (o : ProposalOutcome) (x : ProposalRow)
+    → seen proposals (rewritten proposals (set_to proposals 5 1) (proposal_state_params o) (whole proposals (proposal_values x))) ≡ proposal_values (record x { state = o.state })
+gets_proposal_state o x = rw (cast_null, cast_int (pos x.number), cast_int (pos (unwrap_or x.named.stamp 0)), cast_int (pos x.named.passed)) refl
 
 -- ---- the generation of a name
 
@@ -48,6 +63,12 @@ gets_generation y x = rw (cast_int (pos y.generation)) refl
 pub gets_stamp : (stamp : ℕ) (x : DeskRow)
     → seen desk (rewritten desk (set_to desk 4 0) (Int (pos stamp) ∷ []) (whole desk (desk_values x))) ≡ desk_values (record x { stamp = stamp })
 gets_stamp stamp x = rw (cast_null, cast_int (pos x.id), cast_int (pos x.version), cast_int (pos stamp)) refl
+
+-- ---- the version
+
+pub gets_version : (version : ℕ) (x : DeskRow)
+    → seen desk (rewritten desk (set_to desk 2 0) (Int (pos version) ∷ []) (whole desk (desk_values x))) ≡ desk_values (record x { version = version })
+gets_version version x = rw (cast_null, cast_int (pos x.id), cast_int (pos version), cast_int (pos x.stamp)) refl
 
 -- ---- listed entries
 

@@ -2,3 +2,4 @@ mod StepLemmas
 mod RowLemmas
 mod ChangeLemmas
 mod WritesLemmas
+pub mod ItemLemmas

@@ -1,5 +1,6 @@
 -- The rows that INSERT puts in, of its parameters.
 use Rattle.std.proofs.Common.{ℕ, pos, List, [], ◌∷◌, codes, refl}
+use Rattle.std.specs.Prelude.{unwrap_or}
 use Rattle.sqlite.specs.declared.types.Value.TheVariants.{Int, Text, Blob}
 use Rattle.sqlite.specs.Order.{Row}
 use Rattle.desk_sql.specs.Effects.{IsInserted}
@@ -10,9 +11,11 @@ use Rattle.sbat.specs.declared.component.Component.{Component}
 use Rattle.desk_texts.specs.declared.command.Person.{Person}
 use Rattle.desk_texts.specs.Callers.{caller_name}
 use Rattle.desk_texts.specs.ReplyTexts.{reply_text_of}
-use Rattle.desk_texts.specs.Words.{state_text}
+use Rattle.desk_texts.specs.Words.{proposal_kind_text, proposal_state_text, state_text}
+use Rattle.desk_texts.specs.declared.proposal.ItemKind.{ItemKind}
 use Rattle.desk_history.specs.declared.rows.Entry.{Entry}
 use Rattle.desk_history.specs.declared.rows.Minute.{Minute}
+use Rattle.desk_history.specs.declared.rows.ProposalRow.{ProposalRow}
 use Rattle.desk_history.specs.declared.rows.RequestCertificateRow.{RequestCertificateRow}
 use Rattle.desk_history.specs.declared.rows.RequestComponentRow.{RequestComponentRow}
 use Rattle.desk_history.specs.declared.rows.RequestRow.{RequestRow}
@@ -20,6 +23,7 @@ use Rattle.desk_history.specs.declared.rows.ReturnRow.{ReturnRow}
 use Rattle.desk_history.specs.declared.rows.VoteRow.{VoteRow}
 use Rattle.desk_history.specs.Tables.{tables as new_desk}
 use Rattle.desk_contents.specs.Values as values
+use Rattle.desk_tables.specs.Steps.{item_columns}
 
 -- ---- the parameters, where the row has NULL for its key besides
 
@@ -34,11 +38,16 @@ request_params r =
 abbrev pub return_params : ReturnRow → Row
 return_params r = Int (pos r.request) ∷ Text r.signer ∷ Int (pos r.length) ∷ Blob r.file ∷ Blob r.digest ∷ []
 
+abbrev pub proposal_params : ProposalRow → Row
+proposal_params p =
+    Int (pos p.number) ∷ Text p.officer ∷ Text (proposal_kind_text p.kind) ∷ Int (pos (unwrap_or p.named.stamp 0)) ∷ Int (pos p.named.passed)
+    ∷ Text (proposal_state_text p.state) ∷ []
+
 -- ---- the rows
 
 -- of a desk without calls
-pub desk_in : (owner : List ℕ) → IsInserted tables.desk (values_of tables.desk) (Int (pos 1) ∷ Text (codes "boot-desk") ∷ Int (pos 1) ∷ Blob owner ∷ Int (pos 2021030218) ∷ []) (values.desk_values (new_desk owner []).desk)
-desk_in owner rows = rw (cast_null, cast_int (pos 1), cast_int (pos 2021030218)) refl
+pub desk_in : (owner : List ℕ) → IsInserted tables.desk (values_of tables.desk) (Int (pos 1) ∷ Text (codes "boot-desk") ∷ Int (pos 2) ∷ Blob owner ∷ Int (pos 2021030218) ∷ []) (values.desk_values (new_desk owner []).desk)
+desk_in owner rows = rw (cast_null, cast_int (pos 1), cast_int (pos 2), cast_int (pos 2021030218)) refl
 
 pub person_in : (p : Person) → IsInserted tables.people (values_of tables.people) (values.person_values p) (values.person_values p)
 person_in p rows = rw cast_null refl
@@ -74,3 +83,13 @@ revoked_digest_in d rows = rw cast_null refl
 
 pub revoked_certificate_in : (d : List ℕ) → IsInserted tables.revoked_certificates (values_of tables.revoked_certificates) (values.digest_values d) (values.digest_values d)
 revoked_certificate_in d rows = rw cast_null refl
+
+pub proposal_in : (p : ProposalRow) → IsInserted tables.proposals (values_of tables.proposals) (proposal_params p) (values.proposal_values p)
+proposal_in p rows = rw (cast_null, cast_int (pos p.number), cast_int (pos (unwrap_or p.named.stamp 0)), cast_int (pos p.named.passed)) refl
+
+pub item_in : (proposal place : ℕ) (kind : ItemKind) (digest name : List ℕ) (generation : ℕ)
+    → IsInserted tables.proposal_items (values_of tables.proposal_items) (item_columns proposal place kind digest name generation) (item_columns proposal place kind digest name generation)
+item_in proposal place kind digest name generation rows = rw (cast_null, cast_int (pos proposal), cast_int (pos place), cast_int (pos generation)) refl
+
+pub migrated_in : (calls : ℕ) → IsInserted tables.migrated (values_of tables.migrated) (Int (pos 1) ∷ Int (pos calls) ∷ []) (values.migrated_values (record { id = 1; calls = calls }))
+migrated_in calls rows = rw (cast_null, cast_int (pos 1), cast_int (pos calls)) refl

@@ -3,14 +3,14 @@ ghost use Rattle.std.specs.Prelude.{◌≡◌};
 ghost use Rattle.desk_history.specs.Writes.{written};
 ghost use Rattle.desk_history.specs.declared.write.Write.TheVariants as writes;
 ghost use Rattle.desk_sql.specs.States.{Keeps, Spares, StaysInside};
-ghost use Rattle.desk_tables.specs.Steps.{Begins, Steps};
+ghost use Rattle.desk_tables.specs.Steps.{Begins, Founds, Steps, unmigrated, with_migrated};
 
 use crate::WriteFault;
 use crate::stored::stored;
 use desk_bytes::Guid;
 use desk_history::Minute;
 use desk_sql::insert;
-use desk_statements::{INSERT_CALL, INSERT_COMPONENT, INSERT_DESK, INSERT_PERSON};
+use desk_statements::{INSERT_CALL, INSERT_COMPONENT, INSERT_DESK, INSERT_MIGRATED, INSERT_PERSON};
 use desk_texts::{Person, reply_text};
 use sbat::Component;
 use sqlite::{Alter, Transaction, params};
@@ -20,15 +20,15 @@ use std::alloc::Global;
 const MARK: &str = "boot-desk";
 
 /// The version of the tables.
-const VERSION: u32 = 1;
+pub(crate) const VERSION: u32 = 2;
 
 /// The stamp of shim's first level.
 const FIRST_STAMP: u32 = 2021030218;
 
-/// Puts in the row of a desk without calls, in tables without a row. Every entry that the desk exports is this owner's.
-pub fn put_desk<S: Alter>(tx: &mut Transaction<'_, S>, owner: &Guid) -> Result<(), WriteFault>
+/// Puts in the desk's own row, in tables without a row.
+fn put_own<S: Alter>(tx: &mut Transaction<'_, S>, owner: &Guid) -> Result<(), WriteFault>
     ensures same_reference { tx.new.conn.ghost_name ≡ tx.old.conn.ghost_name }
-    ensures value { Begins S.Store tx.old.conn.now tx.new.conn.now result owner.now }
+    ensures value { Founds S.Store tx.old.conn.now tx.new.conn.now result (unmigrated owner.now) }
     ensures inside { StaysInside S.Store tx.old.conn.now tx.new.conn.now result }
     ensures kept { Keeps S.Store tx.old.conn.now tx.new.conn.now }
     ensures survives { Spares S.Store tx.old.conn.now tx.new.conn.now }
@@ -38,6 +38,32 @@ pub fn put_desk<S: Alter>(tx: &mut Transaction<'_, S>, owner: &Guid) -> Result<(
         INSERT_DESK,
         params![1u32, MARK, VERSION, owner.as_bytes(), FIRST_STAMP],
     )?;
+    Ok(())
+}
+
+/// Puts in how many calls were accepted by the first rules.
+pub fn put_migrated<S: Alter>(tx: &mut Transaction<'_, S>, calls: u64) -> Result<(), WriteFault>
+    ensures same_reference { tx.new.conn.ghost_name ≡ tx.old.conn.ghost_name }
+    ensures value { Steps S.Store tx.old.conn.now tx.new.conn.now result (with_migrated calls) }
+    ensures inside { StaysInside S.Store tx.old.conn.now tx.new.conn.now result }
+    ensures kept { Keeps S.Store tx.old.conn.now tx.new.conn.now }
+    ensures survives { Spares S.Store tx.old.conn.now tx.new.conn.now }
+{
+    let calls = stored(calls)?;
+    insert(tx, INSERT_MIGRATED, params![1u32, &calls])?;
+    Ok(())
+}
+
+/// Puts in the rows of a desk without calls, in tables without a row. Every entry that the desk exports is this owner's.
+pub fn put_desk<S: Alter>(tx: &mut Transaction<'_, S>, owner: &Guid) -> Result<(), WriteFault>
+    ensures same_reference { tx.new.conn.ghost_name ≡ tx.old.conn.ghost_name }
+    ensures value { Begins S.Store tx.old.conn.now tx.new.conn.now result owner.now }
+    ensures inside { StaysInside S.Store tx.old.conn.now tx.new.conn.now result }
+    ensures kept { Keeps S.Store tx.old.conn.now tx.new.conn.now }
+    ensures survives { Spares S.Store tx.old.conn.now tx.new.conn.now }
+{
+    put_own(tx, owner)?;
+    put_migrated(tx, 0)?;
     Ok(())
 }
 

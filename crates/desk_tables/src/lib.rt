@@ -1,14 +1,16 @@
-//! What a decision writes, written into the twelve tables of a desk inside a transaction.
+//! What a decision writes, written into the fifteen tables of a desk inside a transaction.
 #![tactic(auto)]
 
 mod entering;
 mod fault;
 mod listing;
+mod proposing;
 mod requesting;
 mod setting;
 mod stored;
 mod writing;
 
-pub use entering::put_desk;
+pub use entering::{put_desk, put_migrated};
 pub use fault::WriteFault;
+pub use setting::set_version;
 pub use writing::{write, write_all};

@@ -7,10 +7,11 @@ ghost use Rattle.desk_tables.specs.Steps.{Steps};
 use crate::WriteFault;
 use crate::entering::{put_call, put_component, put_person};
 use crate::listing::{put_entry, revoke, unlist};
+use crate::proposing::put_proposal;
 use crate::requesting::{
     put_request, put_request_certificate, put_request_component, put_return, put_vote,
 };
-use crate::setting::{set_generation, set_stamp, set_state};
+use crate::setting::{set_generation, set_proposal_state, set_stamp, set_state};
 use desk_history::Write;
 use sqlite::{Alter, Transaction};
 use std::alloc::Global;
@@ -43,6 +44,8 @@ pub fn write<S: Alter>(
         Write::Component(component) => put_component(tx, component),
         Write::Generation(component) => set_generation(tx, component),
         Write::Stamp(stamp) => set_stamp(tx, *stamp),
+        Write::Propose(proposal) => put_proposal(tx, proposal),
+        Write::ProposalState(outcome) => set_proposal_state(tx, outcome),
     }
 }
 

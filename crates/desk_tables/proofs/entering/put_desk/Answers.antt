@@ -1,23 +1,23 @@
-use Rattle.std.proofs.Common.{◌∷◌, [], refl}
+use Rattle.std.proofs.Common.{[], arith}
 use Rattle.std.specs.Prelude.{⊤}
 use Rattle.sqlite.specs.Held.{state}
-use Rattle.desk_sql.specs.Contents.{change_at, no_rows}
-use Rattle.desk_sql.proofs.ItemLemmas.{turns}
-use Rattle.desk_statements.specs.Columns.{values_of}
-use Rattle.desk_statements.specs.Tables.{desk, desk_schema}
-use Rattle.desk_statements.proofs.InsertFacts.{insert_desk}
+use Rattle.sqlite.specs.State.{HasCleanDisk}
+use Rattle.desk_sql.specs.Contents.{no_rows}
+use Rattle.desk_sql.proofs.StopLemmas.{turns_then}
+use Rattle.desk_statements.specs.Tables.{desk_schema}
 use Rattle.desk_history.specs.Tables.{tables}
 use Rattle.desk_contents.specs.Contents.{contents}
-use Rattle.desk_contents.specs.Values.{desk_values}
-use Rattle.desk_tables.proofs.RowLemmas.{desk_in}
+use Rattle.desk_tables.specs.Steps.{unmigrated}
 use Rattle.desk_tables.proofs.entering.put_desk.Goals as goal
 
 pub returns-clause-value : goal.returns-clause-value
 returns-clause-value g c clean inside =
     let owner = c.args.owner.now in
-    let row = desk_values (tables owner []).desk in
-    turns desk_schema (λ (_ : ⊤). no_rows desk_schema.tables) (λ _. contents (tables owner [])) (change_at 0 (λ rows. row ∷ rows))
-    (state g.S.Store c.args.tx.now.conn.now) (state g.S.Store c.insert.new.tx.conn.now)
-    (rw (c.params-to_sql.ensures, c.params-to_sql-2.ensures, c.params-to_sql-3.ensures, c.params-to_sql-4.ensures, c.params-to_sql-5.ensures, c.as_bytes.ensures.value) at (c.in_ok-insert.ensures.value clean inside)
-    desk_schema 0 desk (values_of desk) row insert_desk (desk_in owner))
-    (λ _. refl)
+    let first = state g.S.Store c.args.tx.now.conn.now in
+    let mid = state g.S.Store c.put_own.new.tx.conn.now in
+    let new = state g.S.Store c.put_migrated.new.tx.conn.now in
+    let late : HasCleanDisk mid = omega (arith, c.in_ok-put_migrated.ensures.survives.clean, clean) in
+    let own = c.in_ok-put_own.ensures.value late inside in
+    let it = c.in_ok-put_migrated.ensures.value clean own.inside in
+    turns_then desk_schema (λ (_ : ⊤). no_rows desk_schema.tables) (λ _. contents (unmigrated owner)) (λ _. contents (tables owner []))
+    first mid new own (λ _ sees. it.value (unmigrated owner) sees) it.is_open it.inside it.kept
