@@ -32,6 +32,7 @@ tells (what.ListedOf kind) = tells_count_of 8 tables.listed texts.COUNT_LISTED_O
 tells what.RevokedDigests = tells_count 9 tables.revoked_digests texts.COUNT_REVOKED_DIGESTS.now (codes "count(*)" ∷ []) facts.count_revoked_digests values.digest_values (λ (t : Tables). t.revoked_digests) (λ t. refl)
 tells what.RevokedCertificates = tells_count 10 tables.revoked_certificates texts.COUNT_REVOKED_CERTIFICATES.now (codes "count(*)" ∷ []) facts.count_revoked_certificates values.digest_values (λ (t : Tables). t.revoked_certificates) (λ t. refl)
 tells what.Components = tells_count 11 tables.components texts.COUNT_COMPONENTS.now (codes "count(*)" ∷ []) facts.count_components values.component_values (λ (t : Tables). t.components) (λ t. refl)
+tells what.Proposals = tells_count 12 tables.proposals texts.COUNT_PROPOSALS.now (codes "count(*)" ∷ []) facts.count_proposals values.proposal_values (λ (t : Tables). t.proposals) (λ t. refl)
 
 pub tells_counted : (asked : Counted) (text : List ℕ) (params : Row) (old new : State) (result : Result ℕ ReadFault) → text ≡ count_text asked → params ≡ count_params asked
     → IfOk result (λ n. IsCounted text params n old new) → IfOk result (λ n. Tells (λ t. n ≡ counted asked t) old new)

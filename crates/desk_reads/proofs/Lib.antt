@@ -5,4 +5,6 @@ pub mod KeyLemmas
 pub mod CountLemmas
 pub mod RevokedLemmas
 pub mod CallLemmas
+pub mod ProposalLemmas
+pub mod PartLemmas
 pub mod TellsLemmas

@@ -21,6 +21,7 @@ counted (what.ListedOf kind) t = count_by (λ e. is_same_kind kind e.kind) t.lis
 counted what.RevokedDigests t = length t.revoked_digests
 counted what.RevokedCertificates t = length t.revoked_certificates
 counted what.Components t = length t.components
+counted what.Proposals t = length t.proposals
 
 -- the text that asks for it
 abbrev pub count_text : Counted → List ℕ
@@ -33,6 +34,7 @@ count_text (what.ListedOf kind) = texts.COUNT_LISTED_OF.now
 count_text what.RevokedDigests = texts.COUNT_REVOKED_DIGESTS.now
 count_text what.RevokedCertificates = texts.COUNT_REVOKED_CERTIFICATES.now
 count_text what.Components = texts.COUNT_COMPONENTS.now
+count_text what.Proposals = texts.COUNT_PROPOSALS.now
 
 -- what the text is given
 abbrev pub count_params : Counted → Row
@@ -45,3 +47,4 @@ count_params (what.ListedOf kind) = Text (kind_text kind) ∷ []
 count_params what.RevokedDigests = []
 count_params what.RevokedCertificates = []
 count_params what.Components = []
+count_params what.Proposals = []

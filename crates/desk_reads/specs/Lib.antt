@@ -2,5 +2,6 @@ pub mod Faults
 pub mod Answers
 pub mod Reads
 pub mod CallColumns
+pub mod ProposalColumns
 pub mod Failures
 pub mod Counting

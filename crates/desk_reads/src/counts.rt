@@ -9,8 +9,8 @@ ghost use Rattle.desk_sql.specs.States.{DoesInside, Keeps, Spares, StaysInside};
 use crate::ReadFault;
 use desk_sql::count as count_rows;
 use desk_statements::{
-    COUNT_CALLS, COUNT_COMPONENTS, COUNT_LISTED, COUNT_LISTED_OF, COUNT_PEOPLE, COUNT_REQUESTS,
-    COUNT_REQUESTS_IN, COUNT_REVOKED_CERTIFICATES, COUNT_REVOKED_DIGESTS,
+    COUNT_CALLS, COUNT_COMPONENTS, COUNT_LISTED, COUNT_LISTED_OF, COUNT_PEOPLE, COUNT_PROPOSALS,
+    COUNT_REQUESTS, COUNT_REQUESTS_IN, COUNT_REVOKED_CERTIFICATES, COUNT_REVOKED_DIGESTS,
 };
 use desk_texts::{ListedKind, State};
 use sqlite::types::ValueRef;
@@ -40,6 +40,8 @@ pub enum Counted {
     RevokedCertificates,
     /// The components of the level.
     Components,
+    /// All proposals.
+    Proposals,
 }
 
 /// The text that asks for the count.
@@ -56,6 +58,7 @@ fn text_of(what: Counted) -> &'static str
         Counted::RevokedDigests => COUNT_REVOKED_DIGESTS,
         Counted::RevokedCertificates => COUNT_REVOKED_CERTIFICATES,
         Counted::Components => COUNT_COMPONENTS,
+        Counted::Proposals => COUNT_PROPOSALS,
     }
 }
 
@@ -74,6 +77,7 @@ fn word_of(what: Counted) -> Option<&'static str>
         Counted::RevokedDigests => None,
         Counted::RevokedCertificates => None,
         Counted::Components => None,
+        Counted::Proposals => None,
     }
 }
 

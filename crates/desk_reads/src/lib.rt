@@ -1,4 +1,4 @@
-//! Rows out of the twelve tables of a desk, inside a transaction.
+//! Rows out of the fifteen tables of a desk, inside a transaction.
 #![tactic(auto)]
 
 mod call_texts;
@@ -12,6 +12,10 @@ mod list_rows;
 mod lists;
 mod own;
 mod people;
+mod proposal_columns;
+mod proposal_head;
+mod proposal_items;
+mod proposals;
 mod reading;
 mod request_rows;
 mod requests;
@@ -24,6 +28,8 @@ pub use from_row::FromRow;
 pub use lists::{component_named, entry_of, revoked_of};
 pub use own::own_row;
 pub use people::{person_named, person_of_token};
+pub use proposal_head::ProposalHead;
+pub use proposals::{head_numbered, heads_all, items_of};
 pub use requests::{
     certificates_of, components_of, request_numbered, requests_all, requests_by, return_of,
     votes_of,
