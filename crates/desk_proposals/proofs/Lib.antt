@@ -1,0 +1,4 @@
+pub mod CompareLemmas
+pub mod NameLemmas
+pub mod ReadLemmas
+pub mod StampLemmas

@@ -1,0 +1,10 @@
+//! Proposals with all that they name, read out of a desk's tables inside a transaction.
+#![tactic(auto)]
+
+mod comparing;
+mod laws;
+mod naming;
+mod reading;
+
+pub use laws::stamps_are_above_none;
+pub use reading::proposal_of;
