@@ -1,4 +1,5 @@
 pub mod CompareLemmas
+pub mod ItemLemmas
 pub mod NameLemmas
 pub mod ReadLemmas
 pub mod StampLemmas

@@ -1,5 +1,5 @@
 -- From a proposal's own row and its items to the proposal.
-use Rattle.std.proofs.Common.{◌≡◌, ◌<◌, ◌==◌, ℕ, ◌+◌, Bool, List, [], ◌∷◌, map, filter, Option, Some, None, All, refl, sym, ap, subst, ◌∙◌}
+use Rattle.std.proofs.Common.{◌≡◌, ◌==◌, ℕ, ◌+◌, Bool, List, [], ◌∷◌, map, filter, Some, None, All, refl, sym, ap, subst, ◌∙◌}
 use Rattle.std.specs.Prelude.{flat_map}
 use Rattle.std.specs.List.{AllByRecursion}
 use Rattle.std.specs.List.Sorted.{IsPermutation}
@@ -11,7 +11,6 @@ use Rattle.desk_history.specs.declared.rows.ProposalRow.{ProposalRow}
 use Rattle.desk_history.specs.Items.{item_rows, items_from, items_of}
 use Rattle.desk_history.specs.Tables.{Tables}
 use Rattle.desk_reads.specs.ProposalColumns.{head_of}
-use Rattle.desk_reads.specs.Reads.{listed}
 use Rattle.desk_reads.specs.declared.proposal_head.ProposalHead.{ProposalHead}
 use Rattle.desk_reads.proofs.PartLemmas.{rows_of_one}
 use Rattle.desk_proposals.specs.Reading.{IsRead, IsStampOf, IsStamped}

@@ -6,5 +6,5 @@ mod laws;
 mod naming;
 mod reading;
 
-pub use laws::stamps_are_above_none;
+pub use laws::{items_stand_once, stamps_are_above_none};
 pub use reading::proposal_of;

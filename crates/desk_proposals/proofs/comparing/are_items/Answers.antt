@@ -9,5 +9,5 @@ loop-place-preserved c =
     let is = c.if-not-is_row.ensures in (
       omega (arith, c.loop-place-test.true),
       one_compared c.args.proposal c.loop-place.place c.args.rows.now (items_of c.args.named.now) row c.loop-place-test.true c.index-rows-place.is
-      (is.proposal refl) (is.place refl) (is.item refl) c.loop-place.invariant.1,
+          (is.proposal refl) (is.place refl) (is.item refl) c.loop-place.invariant.1,
     )

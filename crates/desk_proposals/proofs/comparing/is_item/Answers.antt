@@ -1,4 +1,4 @@
-use Rattle.std.proofs.Common.{◌≡◌, ◌<◌, ◌≤◌, ◌+◌, ◌-◌, Some, get_or, length, sym, ap, subst, ◌∙◌, arith}
+use Rattle.std.proofs.Common.{◌≡◌, ◌<◌, ◌≤◌, ◌-◌, Some, get_or, length, sym, ap, subst, ◌∙◌, arith}
 use Rattle.desk_history.specs.declared.rows.ProposalItem.TheVariants as items
 use Rattle.desk_proposals.proofs.CompareLemmas.{certificate_at, component_at, digest_at, same_bytes, same_component}
 use Rattle.desk_proposals.proofs.comparing.is_item.Goals as goal

@@ -1,4 +1,4 @@
-use Rattle.std.proofs.Common.{◌≡◌, ◌==◌, [], ◌∷◌, Some, None, map, filter, rules, subst, arith}
+use Rattle.std.proofs.Common.{◌≡◌, ◌==◌, Some, None, map, filter, rules, subst, arith}
 use Rattle.sqlite.specs.Held.{state}
 use Rattle.sqlite.specs.State.{HasCleanDisk}
 use Rattle.desk_contents.specs.Contents.{contents}
@@ -7,7 +7,6 @@ use Rattle.desk_statements.specs.Tables.{desk_schema}
 use Rattle.desk_history.specs.Items.{items_from, items_of}
 use Rattle.desk_reads.specs.ProposalColumns.{head_of}
 use Rattle.desk_reads.specs.Reads.{listed}
-use Rattle.desk_proposals.specs.Reading.{IsRead}
 use Rattle.desk_proposals.proofs.ReadLemmas.{read_none, read_one}
 use Rattle.desk_proposals.proofs.reading.proposal_of.Goals as goal
 
