@@ -3,8 +3,10 @@
 
 mod comparing;
 mod laws;
+mod listing;
 mod naming;
 mod reading;
 
 pub use laws::{items_stand_once, stamps_are_above_none};
+pub use listing::proposals;
 pub use reading::proposal_of;
