@@ -1,5 +1,5 @@
 -- A decision refuses by its own refusals alone, whatever the view shows.
-use Rattle.std.proofs.Common.{◌≡◌, ℕ, Bool, true, false, not, ◌||◌, List, [], ◌∷◌, Option, Some, None, Ok, Err, Result, refl, sym, subst, inl, inr}
+use Rattle.std.proofs.Common.{◌≡◌, ℕ, Bool, true, false, not, ◌&&◌, ◌||◌, List, [], ◌∷◌, Option, Some, None, Ok, Err, Result, refl, sym, subst, inl, inr}
 use Rattle.std.specs.Prelude.{if◌then◌else◌, IfErr, IsTrue, bytes_eq, codes, find, nat_lt}
 use Rattle.std.specs.List.{list_any}
 use Rattle.std.specs.Option.{option_map_or}
@@ -9,11 +9,15 @@ use Rattle.desk_texts.specs.declared.caller.Caller.{Caller}
 use Rattle.desk_texts.specs.declared.command.Ballot.{Ballot}
 use Rattle.desk_texts.specs.declared.command.Listing.{Listing}
 use Rattle.desk_texts.specs.declared.command.Person.{Person}
-use Rattle.desk_texts.specs.declared.command.Raise.{Raise}
 use Rattle.desk_texts.specs.declared.command.ReturnedFile.{ReturnedFile}
 use Rattle.desk_texts.specs.declared.command.Submission.{Submission}
 use Rattle.desk_texts.specs.declared.facts.Facts.{Facts}
+use Rattle.desk_texts.specs.Imports.{Imported}
 use Rattle.desk_texts.specs.declared.kind.ListedKind.{ListedKind}
+use Rattle.desk_texts.specs.declared.kind.ListedKind.TheVariants as kinds
+use Rattle.desk_texts.specs.declared.proposal.ProposalKind.{ProposalKind}
+use Rattle.desk_texts.specs.declared.proposal.ProposalKind.TheVariants as proposed
+use Rattle.desk_texts.specs.declared.proposal.ProposalState.{ProposalState}
 use Rattle.desk_texts.specs.declared.reply.Reply.{Reply}
 use Rattle.desk_texts.specs.declared.reply.Reply.TheVariants as replies
 use Rattle.desk_texts.specs.declared.state.State.{State}
@@ -22,21 +26,21 @@ use Rattle.desk_texts.specs.Callers.{caller_name}
 use Rattle.desk_history.specs.declared.answer.Answer.TheVariants.{Refused, Repeated}
 use Rattle.desk_history.specs.declared.rows.Entry.{Entry}
 use Rattle.desk_history.specs.declared.rows.Minute.{Minute}
+use Rattle.desk_history.specs.declared.rows.ProposalRow.{ProposalRow}
 use Rattle.desk_history.specs.declared.rows.RequestRow.{RequestRow}
 use Rattle.desk_history.specs.declared.write.Write.{Write}
 use Rattle.desk_history.specs.declared.write.Write.TheVariants as writes
-use Rattle.desk_history.specs.Level.{is_above, is_sbat}
 use Rattle.desk_history.specs.People.{has_name, has_token}
-use Rattle.desk_history.specs.Refusals.{add_refusal, image_refusal, raise_refusal, refuse_if, return_by, review_by, withdraw_by}
+use Rattle.desk_history.specs.Refusals.{add_refusal, confirm_by, drop_by, image_refusal, is_closed, is_later, refuse_if, return_by, review_by, withdraw_by}
 use Rattle.desk_history.specs.DecisionRefusals.{may_answer}
 use Rattle.desk_history.specs.Requests.{is_vote_of, votes_on}
 use Rattle.desk_history.specs.Runs.{repeated}
 use Rattle.desk_history.specs.Verdicts.{bars, lists_image}
 use Rattle.desk_rules.specs.declared.view.Changes.{Changes}
 use Rattle.desk_rules.specs.declared.view.View.{View}
-use Rattle.desk_rules.specs.DecisionSteps.{AppendsCallRow, Decided, Repeats, outcome_after, put_of, return_refusal_in, returned_file_row, review_refusal_in, revocation_writes, submission_writes, vote_row, withdraw_refusal_in}
-use Rattle.desk_rules.specs.Shown.{is_request_row}
-use Rattle.desk_rules.specs.Views.{generation_in, seen_standing}
+use Rattle.desk_rules.specs.DecisionSteps.{AppendsCallRow, Decided, Repeats, drop_refusal_in, force_refusal_in, is_lower_in, outcome_after, return_refusal_in, returned_file_row, review_refusal_in, submission_writes, vote_row, withdraw_refusal_in}
+use Rattle.desk_rules.specs.Shown.{is_proposal_row, is_request_row}
+use Rattle.desk_rules.specs.Views.{seen_standing}
 
 none_some : {A : Type 0} {r : Refusal} → None ≡ Some r → A
 none_some h = cc
@@ -86,6 +90,29 @@ raise_parts : (low : Bool) (early : Bool) (r : Refusal) → (if low then Some re
 raise_parts true early r h = given refusals.NotHigher r refl h
 raise_parts false early r h = refuse_only early refusals.StampNotLater r refl h
 
+force_only : (v : View) (kind : ProposalKind) (n : Imported) (names : ℕ) (r : Refusal) → force_refusal_in v kind n names ≡ Some r → may_answer r ≡ true
+force_only v proposed.Digest n names r h = refuse_only (list_any ((seen_standing v.lists).revoked kinds.Digest) n.digests) refusals.AlreadyRevoked r refl h
+force_only v proposed.Certificate n names r h = refuse_only (list_any ((seen_standing v.lists).revoked kinds.Certificate) n.certificates) refusals.AlreadyRevoked r refl h
+force_only v proposed.Level n names r h = raise_parts (list_any (is_lower_in v.lists.components.items) n.components) (not (is_later v.stamp n.stamp)) r h
+force_only v proposed.Import n names r h = refuse_only (nat_lt 0 names && not (is_later v.stamp n.stamp)) refusals.StampNotLater r refl h
+
+drop_only : (s : ProposalState) (r : Refusal) → drop_by s ≡ Some r → may_answer r ≡ true
+drop_only s r h = refuse_only (is_closed s) refusals.ProposalClosed r refl h
+
+dropped_only : (o : Option ProposalRow) (r : Refusal) → option_map_or (λ row. drop_by row.state) o (Some refusals.NoSuchProposal) ≡ Some r → may_answer r ≡ true
+dropped_only None r h = given refusals.NoSuchProposal r refl h
+dropped_only (Some row) r h = drop_only row.state r h
+
+confirm_parts : (closed own : Bool) (o : Option Refusal) (r : Refusal) → ((q : Refusal) → o ≡ Some q → may_answer q ≡ true) →
+    (if closed then Some refusals.ProposalClosed else (if own then Some refusals.OwnProposal else o)) ≡ Some r → may_answer r ≡ true
+confirm_parts true own o r each h = given refusals.ProposalClosed r refl h
+confirm_parts false true o r each h = given refusals.OwnProposal r refl h
+confirm_parts false false o r each h = each r h
+
+-- what a Confirm refuses by a row
+pub confirm_only : (v : View) (state : ProposalState) (own : Bool) (kind : ProposalKind) (n : Imported) (names : ℕ) (r : Refusal) → confirm_by state own (force_refusal_in v kind n names) ≡ Some r → may_answer r ≡ true
+confirm_only v state own kind n names r h = confirm_parts (is_closed state) own (force_refusal_in v kind n names) r (force_only v kind n names) h
+
 -- what a decision by a refusal, a reply and writes refuses
 decided_only : (result : Result Changes Refusal) (refusal : Option Refusal) (reply : Reply) (ws : List Write) → Decided result refusal reply ws → ((r : Refusal) → refusal ≡ Some r → may_answer r ≡ true) →
     IfErr result (λ r. IsTrue (may_answer r))
@@ -112,10 +139,6 @@ module _ (result : Result Changes Refusal) (reply : Reply) (ws : List Write) whe
   return_refused o x barred listed told =
       decided_only result (option_map_or (λ row. return_by row.state (image_refusal row.digest row.signing x barred listed)) o (Some refusals.NoSuchRequest)) reply ws told
       (row_only (λ row. return_by row.state (image_refusal row.digest row.signing x barred listed)) (λ row r h. return_only row.state row.digest row.signing x barred listed r h) o)
-
-  raise_refused : (present : Option ℕ) (now : ℕ) (raise : Raise) → Decided result (raise_refusal present now raise) reply ws → IfErr result (λ r. IsTrue (may_answer r))
-  raise_refused present now raise told =
-      decided_only result (raise_refusal present now raise) reply ws told (raise_parts (is_sbat raise.component.name || not (is_above raise.component.generation present)) (not (nat_lt now raise.stamp)))
 
 -- each command's own decision
 
@@ -149,14 +172,11 @@ module _ (v : View) (result : Result Changes Refusal) where
   pub unlists_only : (l : Listing) → Decided result (refuse_if (not ((seen_standing v.lists).listed l.kind l.digest)) refusals.NotThere) replies.Unlisted (writes.Unlist l ∷ []) → IfErr result (λ r. IsTrue (may_answer r))
   unlists_only l told = refused_if result replies.Unlisted (writes.Unlist l ∷ []) (not ((seen_standing v.lists).listed l.kind l.digest)) refusals.NotThere refl told
 
-  pub revokes_only : (kind : ListedKind) (digest : List ℕ) → Decided result (refuse_if ((seen_standing v.lists).revoked kind digest) refusals.AlreadyRevoked) replies.Revoked (revocation_writes kind (digest ∷ [])) → IfErr result (λ r. IsTrue (may_answer r))
-  revokes_only kind digest told = refused_if result replies.Revoked (revocation_writes kind (digest ∷ [])) ((seen_standing v.lists).revoked kind digest) refusals.AlreadyRevoked refl told
+  pub proposes_only : (kind : ProposalKind) (n : Imported) (names : ℕ) (reply : Reply) (ws : List Write) → Decided result (force_refusal_in v kind n names) reply ws → IfErr result (λ r. IsTrue (may_answer r))
+  proposes_only kind n names reply ws told = decided_only result (force_refusal_in v kind n names) reply ws told (force_only v kind n names)
 
-  pub raises_only : (r : Raise) → Decided result (raise_refusal (generation_in v.lists.components.items r.component.name) v.stamp r) replies.Raised (put_of (generation_in v.lists.components.items r.component.name) r.component ∷ writes.Stamp r.stamp ∷ []) →
-      IfErr result (λ r. IsTrue (may_answer r))
-  raises_only r told =
-      raise_refused result replies.Raised (put_of (generation_in v.lists.components.items r.component.name) r.component ∷ writes.Stamp r.stamp ∷ [])
-      (generation_in v.lists.components.items r.component.name) v.stamp r told
+  pub drops_only : (k : ℕ) (reply : Reply) (ws : List Write) → Decided result (drop_refusal_in v k) reply ws → IfErr result (λ r. IsTrue (may_answer r))
+  drops_only k reply ws told = decided_only result (drop_refusal_in v k) reply ws told (dropped_only (find (is_proposal_row k) v.proposals.items))
 
 -- what the key's earlier call refuses
 repeated_only : (m : Minute) (text : List ℕ) (r : Refusal) → repeated m text ≡ Refused r → may_answer r ≡ true

@@ -1,4 +1,4 @@
--- What the writes of each command make: people, what is listed, what is revoked.
+-- What the writes of each command make: people, and what is listed.
 use Rattle.std.proofs.Common.{◌≡◌, ℕ, Bool, true, false, not, ◌||◌, cond, List, [], ◌∷◌, Option, Some, None, Ok, Err, Result, refl, sym, ◌∙◌, ap, subst, inl, inr}
 use Rattle.std.specs.Prelude.{if◌then◌else◌, MatchResult, IsTrue, bytes_eq, codes, find, is_some}
 use Rattle.std.specs.List.{list_any}
@@ -19,18 +19,17 @@ use Rattle.desk_history.specs.declared.rows.Entry.{Entry}
 use Rattle.desk_history.specs.declared.write.Write.{Write}
 use Rattle.desk_history.specs.declared.write.Write.TheVariants as writes
 use Rattle.desk_texts.specs.Callers.{caller_name}
-use Rattle.desk_history.specs.Calls.{History, is_among, distinct, item}
+use Rattle.desk_history.specs.Calls.{History, is_among, item}
 use Rattle.desk_history.specs.Listing.{has_entry, is_entry, is_listed, listed, without}
 use Rattle.desk_history.specs.People.{has_name, has_token, people}
 use Rattle.desk_history.specs.Replies.{minutes, reply}
-use Rattle.desk_history.specs.Revocations.{is_revoked, revocations}
-use Rattle.desk_history.specs.Tables.{Tables, tables}
-use Rattle.desk_history.specs.Writes.{all_written, written}
+use Rattle.desk_history.specs.Tables.{tables}
+use Rattle.desk_history.specs.Writes.{all_written}
 use Rattle.desk_rules.specs.declared.view.Changes.{Changes}
 use Rattle.desk_rules.specs.declared.view.View.{View}
 use Rattle.desk_rules.specs.DecisionSteps.{Decided, DecidesOwn, IsCommandStep, RefusesOwn}
 use Rattle.desk_rules.specs.Decisions.{called}
-use Rattle.desk_rules.specs.Shown.{Shows, keys_named, one_key}
+use Rattle.desk_rules.specs.Shown.{Shows, keys_asked, one_key}
 use Rattle.desk_rules.specs.Room.{IsRoomed}
 use Rattle.desk_history.specs.Refusals.{add_refusal, own_refusal, refuse_if}
 use Rattle.desk_rules.specs.Views.{keys_for, seen_standing}
@@ -38,7 +37,7 @@ use Rattle.desk_history.proofs.EntryLemmas.{without_fewer}
 use Rattle.desk_history.proofs.ListLemmas.{bytes_eq-refl}
 use Rattle.desk_history.proofs.ListingLemmas.{listed_rows_are_listed}
 use Rattle.desk_history.proofs.RefusalLemmas.{unrefused}
-use Rattle.desk_rules.proofs.StandingLemmas.{bars_so, lists_so}
+use Rattle.desk_rules.proofs.StandingLemmas.{lists_so}
 
 -- a decision by a refusal, a reply and writes
 pub decided : (owner : List ℕ) (cs : History) (c : Call) (result : Result Changes Refusal) (refusal : Option Refusal) (given : Reply) (ws : List Write) → Decided result refusal given ws →
@@ -90,12 +89,9 @@ without_missing kind digest (x ∷ rows) h =
     ] h
 
 module _ (v : View) (owner : List ℕ) (cs : History) (c : Call) (shown : Shows v (tables owner cs) c) (kind : ListedKind) (digest : List ℕ) where
-  pub revoked_seen : IsTrue (is_among (keys_for (keys_named c.command).revoked kind) digest) → (seen_standing v.lists).revoked kind digest ≡ is_revoked kind cs digest
-  revoked_seen asked = (bars_so v.lists owner cs (keys_named c.command) shown.lists).revoked kind digest asked
-
-  module _ (asked : IsTrue (is_among (keys_for (keys_named c.command).listed kind) digest)) where
+  module _ (asked : IsTrue (is_among (keys_for (keys_asked (tables owner cs) c).listed kind) digest)) where
     pub listed_seen : (seen_standing v.lists).listed kind digest ≡ is_listed kind cs digest
-    listed_seen = (lists_so v.lists owner cs (keys_named c.command) shown.lists).listed kind digest asked
+    listed_seen = (lists_so v.lists owner cs (keys_asked (tables owner cs) c) shown.lists).listed kind digest asked
 
     pub unlisted_same : (seen_standing v.lists).listed kind digest ≡ false → without kind digest (listed cs) ≡ listed cs
     unlisted_same h = without_missing kind digest (listed cs) (listed_rows_are_listed cs kind digest ∙ (sym listed_seen ∙ h))
@@ -135,32 +131,3 @@ unlists v caller l result told owner cs key legal shown =
     decided owner cs (called caller key (command.Unlist l)) result (refuse_if (not ((seen_standing v.lists).listed l.kind l.digest)) refusals.NotThere) replies.Unlisted (writes.Unlist l ∷ []) told
     (ap (λ b. refuse_if (not b) refusals.NotThere) (listed_seen v owner cs (called caller key (command.Unlist l)) shown l.kind l.digest (one_key_asked l)))
     (λ none. refl) (λ none. refl) (inr (refl, without_fewer l.kind l.digest (listed cs)))
-
--- what is revoked
-
--- a revocation by its listing
-revoked_rows_more : (kind : ListedKind) (d : List ℕ) (owner : List ℕ) (cs : History) → Tables
-revoked_rows_more kinds.Digest d owner cs = record (tables owner cs) { revoked_digests = distinct (d ∷ revocations kinds.Digest cs) }
-revoked_rows_more kinds.Certificate d owner cs = record (tables owner cs) { revoked_certificates = distinct (d ∷ revocations kinds.Certificate cs) }
-
-revoked_put : (kind : ListedKind) (d : List ℕ) (owner : List ℕ) (cs : History) → is_revoked kind cs d ≡ false → written (writes.Revoke (record { kind = kind; digest = d })) (tables owner cs) ≡ revoked_rows_more kind d owner cs
-unfolding revoked_rows_more
-revoked_put kinds.Digest d owner cs fresh = ap (λ b. record (tables owner cs) { revoked_digests = if b then distinct (revocations kinds.Digest cs) else d ∷ distinct (revocations kinds.Digest cs) }) (sym fresh)
-revoked_put kinds.Certificate d owner cs fresh = ap (λ b. record (tables owner cs) { revoked_certificates = if b then distinct (revocations kinds.Certificate cs) else d ∷ distinct (revocations kinds.Certificate cs) }) (sym fresh)
-
-module _ (v : View) (caller : Caller) (d : List ℕ) (result : Result Changes Refusal) where
-  pub revokes_digest : Decided result (refuse_if ((seen_standing v.lists).revoked kinds.Digest d) refusals.AlreadyRevoked) replies.Revoked (writes.Revoke (record { kind = kinds.Digest; digest = d }) ∷ []) → DecidesOwn v caller (command.RevokeDigest d) result
-  unfolding revoked_rows_more
-  revokes_digest told owner cs key legal shown =
-      let seen : (seen_standing v.lists).revoked kinds.Digest d ≡ is_revoked kinds.Digest cs d = revoked_seen v owner cs (called caller key (command.RevokeDigest d)) shown kinds.Digest d (among_one d) in
-      decided owner cs (called caller key (command.RevokeDigest d)) result (refuse_if ((seen_standing v.lists).revoked kinds.Digest d) refusals.AlreadyRevoked) replies.Revoked (writes.Revoke (record { kind = kinds.Digest; digest = d }) ∷ []) told
-      (ap (λ b. refuse_if b refusals.AlreadyRevoked) seen) (λ none. refl)
-      (λ none. revoked_put kinds.Digest d owner cs (sym seen ∙ unrefused ((seen_standing v.lists).revoked kinds.Digest d) refusals.AlreadyRevoked none)) (inl refl)
-
-  pub revokes_certificate : Decided result (refuse_if ((seen_standing v.lists).revoked kinds.Certificate d) refusals.AlreadyRevoked) replies.Revoked (writes.Revoke (record { kind = kinds.Certificate; digest = d }) ∷ []) → DecidesOwn v caller (command.RevokeCertificate d) result
-  unfolding revoked_rows_more
-  revokes_certificate told owner cs key legal shown =
-      let seen : (seen_standing v.lists).revoked kinds.Certificate d ≡ is_revoked kinds.Certificate cs d = revoked_seen v owner cs (called caller key (command.RevokeCertificate d)) shown kinds.Certificate d (among_one d) in
-      decided owner cs (called caller key (command.RevokeCertificate d)) result (refuse_if ((seen_standing v.lists).revoked kinds.Certificate d) refusals.AlreadyRevoked) replies.Revoked (writes.Revoke (record { kind = kinds.Certificate; digest = d }) ∷ []) told
-      (ap (λ b. refuse_if b refusals.AlreadyRevoked) seen) (λ none. refl)
-      (λ none. revoked_put kinds.Certificate d owner cs (sym seen ∙ unrefused ((seen_standing v.lists).revoked kinds.Certificate d) refusals.AlreadyRevoked none)) (inl refl)

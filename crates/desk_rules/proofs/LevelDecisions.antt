@@ -1,30 +1,16 @@
--- What the writes of a raise make.
+-- What the write of a component makes of the level.
 use Rattle.std.proofs.Common.{◌≡◌, ℕ, ◌<◌, true, false, not, ◌||◌, max, List, [], ◌∷◌, map, Option, Some, None, Result, refl, sym, ◌∙◌, ap, inl, arith}
 use Rattle.std.specs.Prelude.{if◌then◌else◌, bytes_eq, is_some, nat_lt, unwrap_or}
 use Rattle.std.proofs.lemmas.Bool.{ltb-true, or_parts}
 use Rattle.sbat.specs.declared.component.Component.{Component}
-use Rattle.desk_bytes.specs.declared.refusal.Refusal.{Refusal}
-use Rattle.desk_bytes.specs.declared.refusal.Refusal.TheVariants as refusals
-use Rattle.desk_texts.specs.declared.caller.Caller.{Caller}
-use Rattle.desk_texts.specs.declared.command.Command.TheVariants as command
-use Rattle.desk_texts.specs.declared.command.Raise.{Raise}
-use Rattle.desk_texts.specs.declared.reply.Reply.TheVariants as replies
-use Rattle.desk_history.specs.declared.write.Write.TheVariants as writes
 use Rattle.desk_history.specs.Calls.{is_among}
-use Rattle.desk_history.specs.Level.{generations, greater_of, greatest, is_above, is_sbat, names, stamp}
-use Rattle.desk_history.specs.Tables.{Tables, level_row, level_rows, tables}
+use Rattle.desk_history.specs.Level.{greater_of, greatest, is_above, names}
+use Rattle.desk_history.specs.Tables.{Tables, level_row, level_rows}
 use Rattle.desk_history.specs.Writes.{set_generation, written}
-use Rattle.desk_rules.specs.declared.view.Changes.{Changes}
-use Rattle.desk_rules.specs.declared.view.View.{View}
-use Rattle.desk_rules.specs.DecisionSteps.{Decided, DecidesOwn, put_of}
-use Rattle.desk_rules.specs.Decisions.{called}
-use Rattle.desk_rules.specs.Shown.{keys_named}
+use Rattle.desk_rules.specs.DecisionSteps.{put_of}
 use Rattle.desk_rules.specs.Room.{takes_off}
-use Rattle.desk_history.specs.Refusals.{raise_refusal, refuse_if}
-use Rattle.desk_rules.specs.Views.{generation_in}
-use Rattle.desk_rules.proofs.DecisionLemmas.{among_one, decided}
 use Rattle.desk_history.proofs.ListLemmas.{any_once, bytes_eq-refl, same_text}
-use Rattle.desk_rules.proofs.StandingLemmas.{named_some, shown_generation}
+use Rattle.desk_rules.proofs.StandingLemmas.{named_some}
 
 pub bytes_eq-comm : (a b : List ℕ) → bytes_eq a b ≡ bytes_eq b a
 bytes_eq-comm a b =
@@ -88,33 +74,7 @@ pub rows_put : (x : Component) (named : List Component) (present : Option ℕ) �
 rows_put x named None there above t rows = ap (λ rs. record t { components = x ∷ rs }) rows ∙ ap (λ rs. record t { components = rs }) (sym (rows_new x named there))
 rows_put x named (Some g) there above t rows = ap (λ rs. record t { components = map (set_generation x) rs }) rows ∙ ap (λ rs. record t { components = rs }) (sym (rows_raised x named g there above))
 
-accepted_raise : (present : Option ℕ) (now : ℕ) (r : Raise) → raise_refusal present now r ≡ None → is_above r.component.generation present ≡ true
-accepted_raise present now r none =
-    elim (is_sbat r.component.name) as (λ s. (if s || not (is_above r.component.generation present) then Some refusals.NotHigher else refuse_if (not (nat_lt now r.stamp)) refusals.StampNotLater) ≡ None → is_above r.component.generation present ≡ true) [
-      | true ↦ λ h. cc
-      | false ↦ elim (is_above r.component.generation present) as (λ a. (if not a then Some refusals.NotHigher else refuse_if (not (nat_lt now r.stamp)) refusals.StampNotLater) ≡ None → a ≡ true) [
-        | true ↦ λ h. refl
-        | false ↦ λ h. cc
-      ]
-    ] none
-
 -- the write of a component takes nothing off
 pub puts_none : (present : Option ℕ) (x : Component) → takes_off (put_of present x) ≡ false
 puts_none None x = refl
 puts_none (Some g) x = refl
-
-pub raises_level : (v : View) (caller : Caller) (r : Raise) (result : Result Changes Refusal) →
-    Decided result (raise_refusal (generation_in v.lists.components.items r.component.name) v.stamp r) replies.Raised (put_of (generation_in v.lists.components.items r.component.name) r.component ∷ writes.Stamp r.stamp ∷ []) →
-    DecidesOwn v caller (command.RaiseLevel r) result
-raises_level v caller r result told owner cs key legal shown =
-    let present : Option ℕ = generation_in v.lists.components.items r.component.name in
-    let seen : present ≡ greatest (generations cs) r.component.name = shown_generation v.lists owner cs (keys_named (command.RaiseLevel r)) shown.lists r.component.name (among_one r.component.name) in
-    decided owner cs (called caller key (command.RaiseLevel r)) result (raise_refusal present v.stamp r) replies.Raised (put_of present r.component ∷ writes.Stamp r.stamp ∷ []) told
-    (ap (λ o. raise_refusal o v.stamp r) seen ∙ ap (λ n. raise_refusal (greatest (generations cs) r.component.name) n r) shown.stamp)
-    (λ none. refl)
-    (λ none.
-    let above : is_above r.component.generation present ≡ true = accepted_raise present v.stamp r none in
-    let raises : is_above r.component.generation (greatest (generations cs) r.component.name) ≡ true = ap (λ o. is_above r.component.generation o) (sym seen) ∙ above in
-    ap (λ t. written (writes.Stamp r.stamp) t) (rows_put r.component (generations cs) present (sym seen) above (tables owner cs) refl)
-    ∙ ap (λ b. record (tables owner cs) { components = level_rows (r.component ∷ generations cs); desk = record (tables owner cs).desk { stamp = (if b || false then r.stamp else stamp cs) } }) (sym raises))
-    (inl (ap (λ b. b || false) (puts_none (generation_in v.lists.components.items r.component.name) r.component)))

@@ -1,11 +1,12 @@
 pub mod AnswerLemmas
 pub mod CallLemmas
 pub mod DecisionLemmas
-pub mod ImportDecision
+pub mod EnforcingLemmas
 pub mod ImportDigests
 pub mod ImportLemmas
 pub mod LevelDecisions
 pub mod OrderLemmas
+pub mod ProposalDecisions
 pub mod RequestDecisions
 pub mod RoomLemmas
 pub mod ShownLemmas

@@ -16,12 +16,13 @@ use Rattle.desk_history.specs.Calls.{History, distinct, is_same_kind, item}
 use Rattle.desk_history.specs.Level.{generations, names}
 use Rattle.desk_history.specs.Listing.{listed}
 use Rattle.desk_history.specs.People.{people}
+use Rattle.desk_history.specs.Proposals.{proposal_state, proposals}
 use Rattle.desk_history.specs.Replies.{minutes}
 use Rattle.desk_history.specs.Requests.{requests, state}
 use Rattle.desk_history.specs.Revocations.{revocations}
-use Rattle.desk_history.specs.Tables.{Tables, level_row, request_row, tables}
-use Rattle.desk_history.specs.Writes.{all_written, set_generation, set_state, with_revoked, written}
-use Rattle.desk_history.specs.Limits.{is_within, most_calls, most_level_components, most_listed, most_people, most_requests, most_revoked_certificates, most_revoked_digests}
+use Rattle.desk_history.specs.Tables.{Tables, level_row, proposal_row, request_row, tables}
+use Rattle.desk_history.specs.Writes.{all_written, set_generation, set_proposal_state, set_state, with_revoked, written}
+use Rattle.desk_history.specs.Limits.{is_within, most_calls, most_level_components, most_listed, most_people, most_proposals, most_requests, most_revoked_certificates, most_revoked_digests}
 use Rattle.desk_rules.specs.declared.view.Counted.TheVariants as kept
 use Rattle.desk_rules.specs.declared.view.Sizes.{Sizes}
 use Rattle.desk_rules.specs.Shown.{may_put, rows_in, size_in}
@@ -60,6 +61,16 @@ requests_step (writes.Revoke l) t = by_kind l.kind
     by_kind kinds.Digest = omega arith
     by_kind kinds.Certificate = omega arith
 requests_step _ t = omega arith
+
+pub proposals_step : (w : Write) (t : Tables) → length (written w t).proposals ≡ one_if (puts kept.Proposals w) + length t.proposals
+proposals_step (writes.Propose p) t = omega arith
+proposals_step (writes.ProposalState o) t = omega (arith, length-map t.proposals (set_proposal_state o.proposal o.state))
+proposals_step (writes.Revoke l) t = by_kind l.kind
+  where
+    by_kind : (kind : ListedKind) → length (with_revoked kind l.digest t).proposals ≡ one_if false + length t.proposals
+    by_kind kinds.Digest = omega arith
+    by_kind kinds.Certificate = omega arith
+proposals_step _ t = omega arith
 
 pub digests_step : (w : Write) (t : Tables) → length (written w t).revoked_digests ≡ one_if (puts kept.RevokedDigests w) + length t.revoked_digests
 digests_step (writes.Revoke l) t = by_kind l.kind
@@ -129,9 +140,9 @@ fits_fewer count size old new most none fewer within =
     ap (λ n. fits n size most) none ∙ sym fine
 
 -- whether numbers of rows are within the limits
-abbrev all_fit : Bool → Bool → Bool → Bool → Bool → Bool → ℕ → Bool
-all_fit few_people few_requests few_listed few_digests few_certificates few_names calls =
-    few_people && few_requests && few_listed && few_digests && few_certificates && few_names && nat_le calls most_calls
+abbrev all_fit : Bool → Bool → Bool → Bool → Bool → Bool → Bool → ℕ → Bool
+all_fit few_people few_requests few_proposals few_listed few_digests few_certificates few_names calls =
+    few_people && few_requests && few_proposals && few_listed && few_digests && few_certificates && few_names && nat_le calls most_calls
 
 no_more : {A : Type 0} → true ≡ false → A
 no_more e = cc
@@ -146,6 +157,13 @@ requests_same : (cs : History) (old : Call) (given : Command) → may_put given 
 requests_same cs old (command.Submit _) h = no_more h
 requests_same cs old _ h = omega arith
 
+proposals_same : (cs : History) (old : Call) (given : Command) → may_put given kept.Proposals ≡ false → length (proposals (item (record old { command = given }) ∷ cs)) ≤ length (proposals cs)
+proposals_same cs old (command.RevokeDigest _) h = no_more h
+proposals_same cs old (command.RevokeCertificate _) h = no_more h
+proposals_same cs old (command.RaiseLevel _) h = no_more h
+proposals_same cs old (command.ImportRevocations _) h = no_more h
+proposals_same cs old _ h = omega arith
+
 listed_same : (cs : History) (old : Call) (given : Command) → may_put given kept.Listed ≡ false → length (listed (item (record old { command = given }) ∷ cs)) ≤ length (listed cs)
 listed_same cs old (command.ListCertificate _) h = no_more h
 listed_same cs old (command.ListDigest _) h = no_more h
@@ -153,18 +171,15 @@ listed_same cs old (command.Unlist l) h = without_fewer l.kind l.digest (listed 
 listed_same cs old _ h = omega arith
 
 digests_same : (cs : History) (old : Call) (given : Command) → may_put given kept.RevokedDigests ≡ false → length (distinct (revocations kinds.Digest (item (record old { command = given }) ∷ cs))) ≤ length (distinct (revocations kinds.Digest cs))
-digests_same cs old (command.RevokeDigest _) h = no_more h
-digests_same cs old (command.ImportRevocations _) h = no_more h
+digests_same cs old (command.Confirm _) h = no_more h
 digests_same cs old _ h = omega arith
 
 certificates_same : (cs : History) (old : Call) (given : Command) → may_put given kept.RevokedCertificates ≡ false → length (distinct (revocations kinds.Certificate (item (record old { command = given }) ∷ cs))) ≤ length (distinct (revocations kinds.Certificate cs))
-certificates_same cs old (command.RevokeCertificate _) h = no_more h
-certificates_same cs old (command.ImportRevocations _) h = no_more h
+certificates_same cs old (command.Confirm _) h = no_more h
 certificates_same cs old _ h = omega arith
 
 components_same : (cs : History) (old : Call) (given : Command) → may_put given kept.Components ≡ false → length (names (generations (item (record old { command = given }) ∷ cs))) ≤ length (names (generations cs))
-components_same cs old (command.RaiseLevel _) h = no_more h
-components_same cs old (command.ImportRevocations _) h = no_more h
+components_same cs old (command.Confirm _) h = no_more h
 components_same cs old _ h = omega arith
 
 module _ (s : Sizes) (owner : List ℕ) (cs : History) (c : Call) (ws : List Write) (calls : s.calls ≡ length (minutes cs))
@@ -180,6 +195,9 @@ module _ (s : Sizes) (owner : List ℕ) (cs : History) (c : Call) (ws : List Wri
   row_count : (at : History) → length (tables owner at).requests ≡ length (requests at)
   row_count at = length-map (requests at) (λ r. request_row (state at r.number) r)
 
+  proposal_count : (at : History) → length (tables owner at).proposals ≡ length (proposals at)
+  proposal_count at = length-map (proposals at) (λ p. proposal_row (proposal_state at p.number) p)
+
   name_count : (at : History) → length (tables owner at).components ≡ length (names (generations at))
   name_count at = length-map (names (generations at)) (level_row (generations at))
 
@@ -193,6 +211,12 @@ module _ (s : Sizes) (owner : List ℕ) (cs : History) (c : Call) (ws : List Wri
       fits_is (may_put c.command kept.Requests) (count_by (puts kept.Requests) ws) s.requests (length (requests cs)) (length (requests (item c ∷ cs))) most_requests
       (ap (λ n. count_by (puts kept.Requests) ws + n) (sym (row_count cs)) ∙ (counted (λ t. length t.requests) (puts kept.Requests) requests_step ∙ row_count (item c ∷ cs)))
       within.requests (λ may. sizes kept.Requests may ∙ row_count cs) (requests_same cs c c.command)
+
+  proposals_after : fits (count_by (puts kept.Proposals) ws) s.proposals most_proposals ≡ nat_le (length (proposals (item c ∷ cs))) most_proposals
+  proposals_after =
+      fits_is (may_put c.command kept.Proposals) (count_by (puts kept.Proposals) ws) s.proposals (length (proposals cs)) (length (proposals (item c ∷ cs))) most_proposals
+      (ap (λ n. count_by (puts kept.Proposals) ws + n) (sym (proposal_count cs)) ∙ (counted (λ t. length t.proposals) (puts kept.Proposals) proposals_step ∙ proposal_count (item c ∷ cs)))
+      within.proposals (λ may. sizes kept.Proposals may ∙ proposal_count cs) (proposals_same cs c c.command)
 
   listed_after : IsRoomed ws cs c → fits (count_by (puts kept.Listed) ws) s.listed most_listed ≡ nat_le (length (listed (item c ∷ cs))) most_listed
   listed_after (inl none) =
@@ -223,20 +247,23 @@ module _ (s : Sizes) (owner : List ℕ) (cs : History) (c : Call) (ws : List Wri
   pub room_is : IsRoomed ws cs c → has_room s ws ≡ is_within (item c ∷ cs)
   room_is roomed =
       let requests_fit : Bool = fits (count_by (puts kept.Requests) ws) s.requests most_requests in
+      let proposals_fit : Bool = fits (count_by (puts kept.Proposals) ws) s.proposals most_proposals in
       let listed_fit : Bool = fits (count_by (puts kept.Listed) ws) s.listed most_listed in
       let digests_fit : Bool = fits (count_by (puts kept.RevokedDigests) ws) s.revoked_digests most_revoked_digests in
       let certificates_fit : Bool = fits (count_by (puts kept.RevokedCertificates) ws) s.revoked_certificates most_revoked_certificates in
       let components_fit : Bool = fits (count_by (puts kept.Components) ws) s.components most_level_components in
       let few_people : Bool = nat_le (length (people (item c ∷ cs))) most_people in
       let few_requests : Bool = nat_le (length (requests (item c ∷ cs))) most_requests in
+      let few_proposals : Bool = nat_le (length (proposals (item c ∷ cs))) most_proposals in
       let few_listed : Bool = nat_le (length (listed (item c ∷ cs))) most_listed in
       let few_digests : Bool = nat_le (length (distinct (revocations kinds.Digest (item c ∷ cs)))) most_revoked_digests in
       let few_certificates : Bool = nat_le (length (distinct (revocations kinds.Certificate (item c ∷ cs)))) most_revoked_certificates in
       let few_names : Bool = nat_le (length (names (generations (item c ∷ cs)))) most_level_components in
-      ap (λ b. all_fit b requests_fit listed_fit digests_fit certificates_fit components_fit (1 + s.calls)) people_after
-      ∙ (ap (λ b. all_fit few_people b listed_fit digests_fit certificates_fit components_fit (1 + s.calls)) requests_after
-      ∙ (ap (λ b. all_fit few_people few_requests b digests_fit certificates_fit components_fit (1 + s.calls)) (listed_after roomed)
-      ∙ (ap (λ b. all_fit few_people few_requests few_listed b certificates_fit components_fit (1 + s.calls)) digests_after
-      ∙ (ap (λ b. all_fit few_people few_requests few_listed few_digests b components_fit (1 + s.calls)) certificates_after
-      ∙ (ap (λ b. all_fit few_people few_requests few_listed few_digests few_certificates b (1 + s.calls)) components_after
-      ∙ ap (λ n. all_fit few_people few_requests few_listed few_digests few_certificates few_names n) calls_after)))))
+      ap (λ b. all_fit b requests_fit proposals_fit listed_fit digests_fit certificates_fit components_fit (1 + s.calls)) people_after
+      ∙ (ap (λ b. all_fit few_people b proposals_fit listed_fit digests_fit certificates_fit components_fit (1 + s.calls)) requests_after
+      ∙ (ap (λ b. all_fit few_people few_requests b listed_fit digests_fit certificates_fit components_fit (1 + s.calls)) proposals_after
+      ∙ (ap (λ b. all_fit few_people few_requests few_proposals b digests_fit certificates_fit components_fit (1 + s.calls)) (listed_after roomed)
+      ∙ (ap (λ b. all_fit few_people few_requests few_proposals few_listed b certificates_fit components_fit (1 + s.calls)) digests_after
+      ∙ (ap (λ b. all_fit few_people few_requests few_proposals few_listed few_digests b components_fit (1 + s.calls)) certificates_after
+      ∙ (ap (λ b. all_fit few_people few_requests few_proposals few_listed few_digests few_certificates b (1 + s.calls)) components_after
+      ∙ ap (λ n. all_fit few_people few_requests few_proposals few_listed few_digests few_certificates few_names n) calls_after))))))

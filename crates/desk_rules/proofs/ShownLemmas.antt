@@ -13,6 +13,7 @@ use Rattle.desk_texts.specs.declared.kind.ListedKind.TheVariants as kinds
 use Rattle.desk_texts.specs.Callers.{caller_name}
 use Rattle.desk_history.specs.declared.rows.Entry.{Entry}
 use Rattle.desk_history.specs.declared.rows.Minute.{Minute}
+use Rattle.desk_history.specs.declared.rows.ProposalRow.{ProposalRow}
 use Rattle.desk_history.specs.declared.rows.RequestRow.{RequestRow}
 use Rattle.desk_history.specs.declared.rows.VoteRow.{VoteRow}
 use Rattle.desk_history.specs.Calls.{is_among}
@@ -24,7 +25,7 @@ use Rattle.desk_history.specs.Tables.{Tables, tables}
 use Rattle.desk_history.specs.Writes.{is_named}
 use Rattle.desk_history.proofs.RowLemmas.{rows_stand_once}
 use Rattle.desk_rules.specs.declared.view.View.{View}
-use Rattle.desk_rules.specs.Shown.{HoldsWhole, WholeTablesShow, is_request_row, key_of, keys_asked}
+use Rattle.desk_rules.specs.Shown.{HoldsWhole, WholeTablesShow, is_proposal_row, is_request_row, key_of, keys_asked}
 use Rattle.desk_rules.specs.Views.{ShowsLists, is_listing, revoked_rows, seen_revoked}
 use Rattle.desk_rules.proofs.OrderLemmas.{find_in_any_order, one_number, one_text}
 
@@ -68,5 +69,6 @@ whole_shows v owner cs c legal h =
       call = find_in_any_order (has_key (caller_name c.caller) c.key) is_call_key (one_call (caller_name c.caller) c.key) t.calls v.calls.items stand.keys h.calls;
       request = λ k _. find_in_any_order (is_request_row k) (λ (a b : RequestRow). a.number == b.number) (λ a b. one_number k a.number b.number) t.requests v.requests.items stand.requests h.requests;
       votes = λ k _. IsPermutation-filter (λ (w : VoteRow). k == w.request) t.votes v.votes.items h.votes;
+      proposal = λ k _. find_in_any_order (is_proposal_row k) (λ (a b : ProposalRow). a.number == b.number) (λ a b. one_number k a.number b.number) t.proposals v.proposals.items stand.proposals h.proposals;
       lists = lists_whole v t stand h c;
     }

@@ -74,7 +74,7 @@ module _ (v : ListView) (owner : List ℕ) (cs : History) (k : Keys) (shown : Sh
   pub lists_so : ListAlike (seen_standing v) (standing cs) k.listed
   lists_so = record { listed = λ kind digest h. shown.listed kind digest h ∙ listed_rows_are_listed cs kind digest }
 
-any_alike : (p q : List ℕ → Bool) (xs : List (List ℕ)) → ((x : List ℕ) → IsTrue (is_among xs x) → p x ≡ q x) → list_any p xs ≡ list_any q xs
+pub any_alike : (p q : List ℕ → Bool) (xs : List (List ℕ)) → ((x : List ℕ) → IsTrue (is_among xs x) → p x ≡ q x) → list_any p xs ≡ list_any q xs
 any_alike p q [] each = refl
 any_alike p q (x ∷ xs) each =
     ap (λ b. b || list_any p xs) (each x (or_left (bytes_eq x x) (is_among xs x) (bytes_eq-refl x)))

@@ -2,13 +2,11 @@
 use Rattle.std.proofs.Common.{◌≡◌, ℕ, ◌+◌, ◌<◌, ◌≤◌, Bool, true, false, ◌||◌, cond, List, [], ◌∷◌, ◌++◌, length, map, Option, Some, None, Result, refl, sym, ◌∙◌, ap, inl, arith, append_assoc}
 use Rattle.std.specs.Prelude.{◌==◌, if◌then◌else◌, find, reverse}
 use Rattle.std.specs.List.{list_any}
-use Rattle.std.proofs.lemmas.Bool.{and_parts}
 use Rattle.std.proofs.lemmas.List.Folds.{list_any-append}
 use Rattle.std.proofs.lemmas.List.{length-map, reverse-append, reverse-reverse}
 use Rattle.desk_bytes.specs.declared.refusal.Refusal.{Refusal}
 use Rattle.desk_bytes.specs.declared.refusal.Refusal.TheVariants as refusals
 use Rattle.desk_texts.specs.declared.caller.Caller.{Caller}
-use Rattle.desk_texts.specs.declared.command.Call.{Call}
 use Rattle.desk_texts.specs.declared.command.Command.{Command}
 use Rattle.desk_texts.specs.declared.command.Command.TheVariants as command
 use Rattle.desk_texts.specs.declared.command.Submission.{Submission}
@@ -23,7 +21,7 @@ use Rattle.desk_history.specs.declared.write.Write.{Write}
 use Rattle.desk_history.specs.declared.write.Write.TheVariants as writes
 use Rattle.desk_texts.specs.Callers.{caller_name}
 use Rattle.desk_texts.specs.Forms.{greatest_number}
-use Rattle.desk_history.specs.Calls.{History, item}
+use Rattle.desk_history.specs.Calls.{History, Item, item}
 use Rattle.desk_history.specs.Requests.{Request, Submitted, has_number, is_returned, is_withdrawn, numbered, request, requests, state, state_by, submitted, votes, votes_on}
 use Rattle.desk_history.specs.Tables.{Tables, certificate_rows, component_rows, request_row, tables}
 use Rattle.desk_history.specs.Writes.{all_written}
@@ -35,7 +33,7 @@ use Rattle.desk_rules.specs.Shown.{Shows, keys_named}
 use Rattle.desk_rules.specs.declared.view.Counted.TheVariants as counted
 use Rattle.desk_rules.specs.Room.{takes_off}
 use Rattle.desk_history.specs.Refusals.{own_refusal, refuse_if, return_refusal, review_refusal, withdraw_refusal}
-use Rattle.desk_history.specs.Runs.{answer, is_accepted, is_legal}
+use Rattle.desk_history.specs.Runs.{is_legal}
 use Rattle.desk_history.specs.Requests.{request_of}
 use Rattle.desk_history.specs.Verdicts.{bars, lists_image, standing}
 use Rattle.desk_rules.specs.Views.{seen_standing}
@@ -44,7 +42,7 @@ use Rattle.desk_history.proofs.ListLemmas.{number_above, number_is}
 use Rattle.desk_history.proofs.RefusalLemmas.{no_refusal}
 use Rattle.desk_history.proofs.WriteLemmas.{written-append}
 use Rattle.desk_history.proofs.RequestLemmas.{length_numbered}
-use Rattle.desk_history.proofs.RunLemmas.{IsNew, accepted_parts, legal_room}
+use Rattle.desk_history.proofs.RunLemmas.{IsNewest, giving, legal_room, newest}
 use Rattle.desk_rules.proofs.StandingLemmas.{bars_alike, bars_so}
 
 -- one row more in front of others turned round
@@ -94,27 +92,27 @@ missing_return : (o : Option Request) (s : State) (x : Facts) (barred listed : B
 missing_return None s x barred listed e h = no_refusal h
 missing_return (Some r) s x barred listed e h = cc
 
-untouched_more : (cs : History) (k : ℕ) → length (submitted cs) < k → Untouched cs k → (old : Call) (given : Command) → own_refusal cs (caller_name old.caller) given ≡ None →
-    Untouched (item (record old { command = given }) ∷ cs) k
-untouched_more cs k lt h old (command.Review b) own = record {
+untouched_more : (cs : History) (k : ℕ) → length (submitted cs) < k → Untouched cs k → (i : Item) (given : Command) → own_refusal cs (caller_name i.call.caller) given ≡ None →
+    Untouched (giving i given ∷ cs) k
+untouched_more cs k lt h i (command.Review b) own = record {
   unsigned = h.unsigned;
   kept = h.kept;
   unvoted =
-      let w : VoteRow = record { request = b.request; reviewer = caller_name old.caller; vote = b.vote; note = b.note } in
+      let w : VoteRow = record { request = b.request; reviewer = caller_name i.call.caller; vote = b.vote; note = b.note } in
       elim (k == b.request) as (λ t. (k == b.request) ≡ t → cond t (w ∷ votes_on (votes cs) k) (votes_on (votes cs) k) ≡ []) [
-        | true ↦ λ e. missing_review (request cs b.request) (state cs b.request) (votes_on (votes cs) b.request) (caller_name old.caller) (ap (λ n. request cs n) (sym (number_is k b.request e)) ∙ none_above k (submitted cs) lt) own
+        | true ↦ λ e. missing_review (request cs b.request) (state cs b.request) (votes_on (votes cs) b.request) (caller_name i.call.caller) (ap (λ n. request cs n) (sym (number_is k b.request e)) ∙ none_above k (submitted cs) lt) own
         | false ↦ λ e. h.unvoted
       ] refl;
 }
-untouched_more cs k lt h old (command.Withdraw n) own = record {
+untouched_more cs k lt h i (command.Withdraw n) own = record {
   unsigned = h.unsigned;
   kept = elim (k == n) as (λ t. (k == n) ≡ t → (t || is_withdrawn cs k) ≡ false) [
-    | true ↦ λ e. missing_withdraw (request cs n) (state cs n) (caller_name old.caller) (ap (λ m. request cs m) (sym (number_is k n e)) ∙ none_above k (submitted cs) lt) own
+    | true ↦ λ e. missing_withdraw (request cs n) (state cs n) (caller_name i.call.caller) (ap (λ m. request cs m) (sym (number_is k n e)) ∙ none_above k (submitted cs) lt) own
     | false ↦ λ e. h.kept
   ] refl;
   unvoted = h.unvoted;
 }
-untouched_more cs k lt h old (command.Return g) own = record {
+untouched_more cs k lt h i (command.Return g) own = record {
   unsigned = elim (k == g.request) as (λ t. (k == g.request) ≡ t → (t || is_returned cs k) ≡ false) [
     | true ↦ λ e. missing_return (request cs g.request) (state cs g.request) g.facts (bars (standing cs) g.facts) (lists_image (standing cs) g.facts) (ap (λ m. request cs m) (sym (number_is k g.request e)) ∙ none_above k (submitted cs) lt) own
     | false ↦ λ e. h.unsigned
@@ -122,19 +120,18 @@ untouched_more cs k lt h old (command.Return g) own = record {
   kept = h.kept;
   unvoted = h.unvoted;
 }
-untouched_more cs k lt h old _ own = record { unsigned = h.unsigned; kept = h.kept; unvoted = h.unvoted }
+untouched_more cs k lt h i _ own = record { unsigned = h.unsigned; kept = h.kept; unvoted = h.unvoted }
 
-fewer : (cs : History) (k : ℕ) (old : Call) (given : Command) → length (submitted (item (record old { command = given }) ∷ cs)) < k → length (submitted cs) < k
-fewer cs k old (command.Submit s) h = omega arith
-fewer cs k old _ h = h
+fewer : (cs : History) (k : ℕ) (i : Item) (given : Command) → length (submitted (giving i given ∷ cs)) < k → length (submitted cs) < k
+fewer cs k i (command.Submit s) h = omega arith
+fewer cs k i _ h = h
 
 untouched : (cs : History) (k : ℕ) → is_legal cs ≡ true → length (submitted cs) < k → Untouched cs k
 untouched [] k legal lt = record { unsigned = refl; kept = refl; unvoted = refl }
 untouched (i ∷ cs) k legal lt =
-    let both : (is_accepted (answer cs i.call) ≡ true) × (is_legal cs ≡ true) = and_parts (is_accepted (answer cs i.call)) (is_legal cs) legal in
-    let new : IsNew cs i.call = accepted_parts cs i.call both.0 in
-    let less : length (submitted cs) < k = fewer cs k i.call i.call.command lt in
-    untouched_more cs k less (untouched cs k both.1 less) i.call i.call.command new.own
+    let at : IsNewest cs i = newest cs i legal in
+    let less : length (submitted cs) < k = fewer cs k i i.call.command lt in
+    untouched_more cs k less (untouched cs k at.before less) i i.call.command at.new.own
 
 -- a request that isn't there yet will be open
 fresh_state : (cs : History) (k : ℕ) → is_legal cs ≡ true → length (submitted cs) < k → state cs k ≡ states.Open

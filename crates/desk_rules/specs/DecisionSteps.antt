@@ -1,5 +1,5 @@
 -- Words of the steps of a decision, that private functions cite.
-use Rattle.std.specs.Prelude.{◌≡◌, ◌⊎◌, ℕ, Bool, true, false, not, nat_le, if◌then◌else◌, List, [], ◌∷◌, ◌++◌, map, find, reverse, bytes_eq, count_by, Option, Some, None, Result, MatchResult, IsTrue}
+use Rattle.std.specs.Prelude.{◌≡◌, ◌⊎◌, ℕ, Bool, true, false, not, ◌||◌, nat_le, nat_lt, if◌then◌else◌, List, [], ◌∷◌, ◌++◌, map, find, reverse, bytes_eq, count_by, Option, Some, None, Result, MatchResult, IsTrue}
 use Rattle.std.specs.List.{list_any}
 use Rattle.std.specs.Option.{option_map_or}
 use Rattle.sbat.specs.declared.component.Component.{Component}
@@ -11,10 +11,16 @@ use Rattle.desk_texts.specs.declared.command.Call.{Call}
 use Rattle.desk_texts.specs.declared.command.Command.{Command}
 use Rattle.desk_texts.specs.declared.command.ReturnedFile.{ReturnedFile}
 use Rattle.desk_texts.specs.declared.command.Submission.{Submission}
+use Rattle.desk_texts.specs.declared.proposal.ProposalKind.{ProposalKind}
+use Rattle.desk_texts.specs.declared.proposal.ProposalKind.TheVariants as kinds
+use Rattle.desk_texts.specs.declared.proposal.ProposalState.TheVariants as proposal_states
+use Rattle.desk_texts.specs.Imports.{Imported}
 use Rattle.desk_texts.specs.declared.kind.ListedKind.{ListedKind}
+use Rattle.desk_texts.specs.declared.kind.ListedKind.TheVariants as listed
 use Rattle.desk_texts.specs.declared.reply.Outcome.{Outcome}
 use Rattle.desk_texts.specs.declared.reply.Reply.{Reply}
 use Rattle.desk_history.specs.declared.rows.Minute.{Minute}
+use Rattle.desk_history.specs.declared.rows.ProposalRow.{ProposalRow}
 use Rattle.desk_history.specs.declared.rows.RequestCertificateRow.{RequestCertificateRow}
 use Rattle.desk_history.specs.declared.rows.ReturnRow.{ReturnRow}
 use Rattle.desk_history.specs.declared.rows.VoteRow.{VoteRow}
@@ -26,6 +32,7 @@ use Rattle.desk_history.specs.declared.write.Write.{Write}
 use Rattle.desk_history.specs.declared.write.Write.TheVariants as writes
 use Rattle.desk_texts.specs.Callers.{caller_name}
 use Rattle.desk_history.specs.Calls.{History, item}
+use Rattle.desk_history.specs.Level.{is_above, is_sbat}
 use Rattle.desk_history.specs.Replies.{minutes, reply}
 use Rattle.desk_history.specs.Requests.{is_vote_of, is_yes, votes_on}
 use Rattle.desk_history.specs.Tables.{certificate_rows, component_rows, request_row, return_row, tables}
@@ -35,12 +42,12 @@ use Rattle.desk_rules.specs.declared.view.Changes.{Changes}
 use Rattle.desk_rules.specs.declared.view.View.{View}
 use Rattle.desk_rules.specs.Decisions.{called}
 use Rattle.desk_rules.specs.Room.{IsRoomed, has_room}
-use Rattle.desk_history.specs.Refusals.{image_refusal, own_refusal, return_by, review_by, withdraw_by}
+use Rattle.desk_history.specs.Refusals.{drop_by, image_refusal, import_refusal, is_later, own_refusal, refuse_if, return_by, review_by, withdraw_by}
 use Rattle.desk_history.specs.Runs.{is_legal, repeated}
-use Rattle.desk_rules.specs.Shown.{Shows, is_request_row}
+use Rattle.desk_rules.specs.Shown.{Shows, is_proposal_row, is_request_row}
 use Rattle.desk_history.specs.Requests.{request_of}
 use Rattle.desk_history.specs.Verdicts.{bars, lists_image}
-use Rattle.desk_rules.specs.Views.{seen_standing}
+use Rattle.desk_rules.specs.Views.{generation_in, seen_standing}
 
 -- The command is accepted by its own conditions, with this reply, and the writes make the tables of the history with
 -- the call, but for the call's own row. They don't both list entries and take some off.
@@ -134,6 +141,31 @@ revocation_writes kind digests = map (λ d. writes.Revoke (record { kind = kind;
 abbrev pub put_of : Option ℕ → Component → Write
 put_of None x = writes.Component x
 put_of (Some _) x = writes.Generation x
+
+-- by these rows the component can't be raised to its generation
+abbrev pub is_lower_in : List Component → Component → Bool
+is_lower_in rows x = is_sbat x.name || not (is_above x.generation (generation_in rows x.name))
+
+-- what a view's rows say of what is named, by its kind; so many names are raised by it
+abbrev pub force_refusal_in : View → ProposalKind → Imported → ℕ → Option Refusal
+force_refusal_in v kinds.Digest n names =
+    refuse_if (list_any ((seen_standing v.lists).revoked listed.Digest) n.digests) refusals.AlreadyRevoked
+force_refusal_in v kinds.Certificate n names =
+    refuse_if (list_any ((seen_standing v.lists).revoked listed.Certificate) n.certificates) refusals.AlreadyRevoked
+force_refusal_in v kinds.Level n names =
+    if list_any (is_lower_in v.lists.components.items) n.components then Some refusals.NotHigher
+    else refuse_if (not (is_later v.stamp n.stamp)) refusals.StampNotLater
+force_refusal_in v kinds.Import n names = import_refusal (nat_lt 0 names) v.stamp n.stamp
+
+-- what they say of a Drop of the proposal k
+abbrev pub drop_refusal_in : View → ℕ → Option Refusal
+drop_refusal_in v k =
+    option_map_or (λ row. drop_by row.state) (find (is_proposal_row k) v.proposals.items) (Some refusals.NoSuchProposal)
+
+-- the row of a proposal that is open
+abbrev pub open_row : ℕ → List ℕ → ProposalKind → Imported → ProposalRow
+open_row number officer kind named =
+    record { number = number; officer = officer; kind = kind; named = named; state = proposal_states.Open }
 
 -- The result is the decision by the command's own conditions with the call's row after its writes, where the tables have
 -- room for them, or Full where they have not, or memory ran out.

@@ -1,9 +1,13 @@
--- Words of an import's steps.
+-- Words of the steps by which what is named is put into force.
 use Rattle.std.specs.Prelude.{◌≡◌, ℕ, Bool, false, if◌then◌else◌, IsTrue, List, [], ◌∷◌, ◌++◌, Option, Some, None, filter, length, map, nat_lt, reverse}
 use Rattle.std.specs.FinMap.{get}
 use Rattle.std.specs.List.{list_any}
 use Rattle.sbat.specs.declared.component.Component.{Component}
 use Rattle.sbat.specs.Levels.{Generations}
+use Rattle.desk_texts.specs.Imports.{Imported}
+use Rattle.desk_texts.specs.declared.kind.ListedKind.TheVariants as kinds
+use Rattle.desk_texts.specs.declared.proposal.ProposalState.TheVariants as states
+use Rattle.desk_texts.specs.declared.reply.Reply.TheVariants as replies
 use Rattle.desk_history.specs.declared.write.Write.{Write}
 use Rattle.desk_history.specs.declared.write.Write.TheVariants as writes
 use Rattle.desk_history.specs.Calls.{is_among, distinct}
@@ -11,6 +15,9 @@ use Rattle.desk_history.specs.Level.{greatest, is_above, is_sbat}
 use Rattle.desk_history.specs.Tables.{Tables, level_rows}
 use Rattle.desk_history.specs.Writes.{all_written}
 use Rattle.desk_rules.specs.declared.decisions.imports.SoFar.{SoFar}
+use Rattle.desk_rules.specs.declared.view.Changes.{Changes}
+use Rattle.desk_rules.specs.declared.view.View.{View}
+use Rattle.desk_rules.specs.DecisionSteps.{revocation_writes}
 use Rattle.desk_rules.specs.Room.{takes_off}
 use Rattle.desk_rules.specs.Views.{generation_in}
 
@@ -59,3 +66,22 @@ pub record HasTaken (asked old seen : List Component) (s : SoFar) : Type 0 where
 abbrev pub stamp_writes : ℕ → Option ℕ → List Write
 stamp_writes names None = []
 stamp_writes names (Some s) = if nat_lt 0 names then writes.Stamp s ∷ [] else []
+
+-- what the components that are named make of a level that the view's rows show for their names
+abbrev pub HasTakenAll : View → Imported → SoFar → Type 0
+HasTakenAll v n s =
+    (old : List Component) → ((q : List ℕ) → IsTrue (is_among (map (λ x. x.name) n.components) q) → generation_in v.lists.components.items q ≡ greatest old q)
+    → HasTaken n.components old (reverse n.components) s
+
+-- The changes put into force what proposal k names, of which the components make this: its new digests, its new
+-- certificates, the generations, the stamp where some rose, and at last the proposal's state.
+pub record PutsIntoForce (v : View) (n : Imported) (k : ℕ) (s : SoFar) (changes : Changes) : Type 0 where
+  pub digests : List (List ℕ)
+  pub certificates : List (List ℕ)
+  pub new_digests : AreNew v.lists.revoked_digests.items n.digests digests
+  pub new_certificates : AreNew v.lists.revoked_certificates.items n.certificates certificates
+  pub replied : changes.reply ≡ replies.Confirmed (record {
+    proposal = k;
+    counts = record { digests = length digests; certificates = length certificates; components = s.names; passed = n.passed };
+  })
+  pub wrote : changes.writes.items ≡ (((s.writes.items ++ revocation_writes kinds.Digest digests) ++ revocation_writes kinds.Certificate certificates) ++ stamp_writes s.names n.stamp) ++ writes.ProposalState (record { proposal = k; state = states.Confirmed }) ∷ []

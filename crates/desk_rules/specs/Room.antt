@@ -8,7 +8,7 @@ use Rattle.desk_texts.specs.declared.kind.ListedKind.{ListedKind}
 use Rattle.desk_texts.specs.declared.kind.ListedKind.TheVariants as kinds
 use Rattle.desk_history.specs.Calls.{History, is_same_kind, item}
 use Rattle.desk_history.specs.Listing.{listed}
-use Rattle.desk_history.specs.Limits.{most_calls, most_level_components, most_listed, most_people, most_requests, most_revoked_certificates, most_revoked_digests}
+use Rattle.desk_history.specs.Limits.{most_calls, most_level_components, most_listed, most_people, most_proposals, most_requests, most_revoked_certificates, most_revoked_digests}
 use Rattle.desk_rules.specs.declared.view.Counted.{Counted}
 use Rattle.desk_rules.specs.declared.view.Counted.TheVariants as counted
 use Rattle.desk_rules.specs.declared.view.Sizes.{Sizes}
@@ -26,6 +26,7 @@ puts counted.Listed (writes.List e) = true
 puts counted.RevokedDigests w = revokes kinds.Digest w
 puts counted.RevokedCertificates w = revokes kinds.Certificate w
 puts counted.Components (writes.Component x) = true
+puts counted.Proposals (writes.Propose p) = true
 puts _ _ = false
 
 -- the write takes an entry off
@@ -42,6 +43,7 @@ abbrev pub has_room : Sizes → List Write → Bool
 has_room s ws =
     fits (count_by (puts counted.People) ws) s.people most_people
     && fits (count_by (puts counted.Requests) ws) s.requests most_requests
+    && fits (count_by (puts counted.Proposals) ws) s.proposals most_proposals
     && fits (count_by (puts counted.Listed) ws) s.listed most_listed
     && fits (count_by (puts counted.RevokedDigests) ws) s.revoked_digests most_revoked_digests
     && fits (count_by (puts counted.RevokedCertificates) ws) s.revoked_certificates most_revoked_certificates

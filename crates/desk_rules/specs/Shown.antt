@@ -1,6 +1,7 @@
 -- What a view has to show of the tables for a decision.
 use Rattle.std.specs.Prelude.{◌≡◌, ℕ, ◌==◌, ◌||◌, Bool, true, false, List, [], ◌∷◌, length, map, find, bytes_eq, Option, Some, None, IsPermutation, IsTrue}
 use Rattle.std.specs.List.{list_any}
+use Rattle.std.specs.Option.{option_map_or}
 use Rattle.desk_texts.specs.declared.command.Call.{Call}
 use Rattle.desk_texts.specs.declared.command.Command.{Command}
 use Rattle.desk_texts.specs.declared.command.Command.TheVariants as command
@@ -8,7 +9,9 @@ use Rattle.desk_texts.specs.declared.command.Listing.{Listing}
 use Rattle.desk_texts.specs.declared.kind.ListedKind.{ListedKind}
 use Rattle.desk_texts.specs.declared.kind.ListedKind.TheVariants as kinds
 use Rattle.desk_history.specs.declared.rows.Entry.{Entry}
+use Rattle.desk_history.specs.declared.rows.ProposalRow.{ProposalRow}
 use Rattle.desk_history.specs.declared.rows.RequestRow.{RequestRow}
+use Rattle.desk_texts.specs.Imports.{Imported}
 use Rattle.desk_texts.specs.Callers.{caller_name}
 use Rattle.desk_history.specs.People.{has_name, has_token}
 use Rattle.desk_history.specs.Requests.{votes_on}
@@ -35,6 +38,8 @@ people_named (command.RevokeDigest _) = []
 people_named (command.RevokeCertificate _) = []
 people_named (command.RaiseLevel _) = []
 people_named (command.ImportRevocations _) = []
+people_named (command.Confirm _) = []
+people_named (command.Drop _) = []
 
 -- the tokens of people that a command has
 abbrev pub tokens_named : Command → List (List ℕ)
@@ -50,6 +55,8 @@ tokens_named (command.RevokeDigest _) = []
 tokens_named (command.RevokeCertificate _) = []
 tokens_named (command.RaiseLevel _) = []
 tokens_named (command.ImportRevocations _) = []
+tokens_named (command.Confirm _) = []
+tokens_named (command.Drop _) = []
 
 -- the request that a command names
 abbrev pub request_named : Command → Option ℕ
@@ -65,6 +72,14 @@ request_named (command.RevokeDigest _) = None
 request_named (command.RevokeCertificate _) = None
 request_named (command.RaiseLevel _) = None
 request_named (command.ImportRevocations _) = None
+request_named (command.Confirm _) = None
+request_named (command.Drop _) = None
+
+-- the proposal that a command names
+abbrev pub proposal_named : Command → Option ℕ
+proposal_named (command.Confirm k) = Some k
+proposal_named (command.Drop k) = Some k
+proposal_named _ = None
 
 -- a key of this kind
 abbrev pub one_key : ListedKind → List ℕ → EntryKeys
@@ -75,7 +90,14 @@ one_key kinds.Certificate digest = record { digests = []; certificates = digest 
 abbrev pub no_keys : Keys
 no_keys = record { listed = no_entries; revoked = no_entries; names = [] }
 
--- the keys that a command reads of what is listed, of what is revoked and of the level
+-- the keys of all that an import names
+abbrev pub import_keys : Imported → Keys
+import_keys i = record no_keys {
+  revoked = record { digests = i.digests; certificates = i.certificates };
+  names = map (λ x. x.name) i.components;
+}
+
+-- the keys that a command has of what is listed, of what is revoked and of the level
 abbrev pub keys_named : Command → Keys
 keys_named (command.AddPerson _) = no_keys
 keys_named (command.Submit s) = record no_keys { revoked = revoked_keys s.facts; names = component_names s.facts }
@@ -88,14 +110,25 @@ keys_named (command.Unlist l) = record no_keys { listed = one_key l.kind l.diges
 keys_named (command.RevokeDigest d) = record no_keys { revoked = one_key kinds.Digest d }
 keys_named (command.RevokeCertificate d) = record no_keys { revoked = one_key kinds.Certificate d }
 keys_named (command.RaiseLevel r) = record no_keys { names = r.component.name ∷ [] }
-keys_named (command.ImportRevocations i) = record no_keys {
-  revoked = record { digests = i.digests; certificates = i.certificates };
-  names = map (λ x. x.name) i.components;
-}
+keys_named (command.ImportRevocations i) = import_keys i
+keys_named (command.Confirm _) = no_keys
+keys_named (command.Drop _) = no_keys
 
--- the keys that a call reads of those lists, where these are the tables
+-- the row of the proposal of this number
+abbrev pub is_proposal_row : ℕ → ProposalRow → Bool
+is_proposal_row k row = k == row.number
+
+-- the keys of all that a proposal names
+abbrev pub row_keys : Option ProposalRow → Keys
+row_keys o = option_map_or (λ row. import_keys row.named) o no_keys
+
+-- own: the keys that a call reads of those lists, where these are the tables: a Confirm reads those of all that its
+-- proposal names, and every other those that its command has
 abbrev pub keys_asked : Tables → Call → Keys
-keys_asked t c = keys_named c.command
+keys_asked t c = elim c.command [
+  | command.Confirm k ↦ row_keys (find (is_proposal_row k) t.proposals)
+  | _ ↦ keys_named c.command
+]
 
 -- the row of the request of this number
 abbrev pub is_request_row : ℕ → RequestRow → Bool
@@ -109,6 +142,7 @@ is_table counted.Listed counted.Listed = true
 is_table counted.RevokedDigests counted.RevokedDigests = true
 is_table counted.RevokedCertificates counted.RevokedCertificates = true
 is_table counted.Components counted.Components = true
+is_table counted.Proposals counted.Proposals = true
 is_table _ _ = false
 
 -- the command may put rows into the table
@@ -121,11 +155,13 @@ may_put (command.Return _) table = false
 may_put (command.ListCertificate _) table = is_table counted.Listed table
 may_put (command.ListDigest _) table = is_table counted.Listed table
 may_put (command.Unlist _) table = false
-may_put (command.RevokeDigest _) table = is_table counted.RevokedDigests table
-may_put (command.RevokeCertificate _) table = is_table counted.RevokedCertificates table
-may_put (command.RaiseLevel _) table = is_table counted.Components table
-may_put (command.ImportRevocations _) table =
+may_put (command.RevokeDigest _) table = is_table counted.Proposals table
+may_put (command.RevokeCertificate _) table = is_table counted.Proposals table
+may_put (command.RaiseLevel _) table = is_table counted.Proposals table
+may_put (command.ImportRevocations _) table = is_table counted.Proposals table
+may_put (command.Confirm _) table =
     is_table counted.RevokedDigests table || is_table counted.RevokedCertificates table || is_table counted.Components table
+may_put (command.Drop _) table = false
 
 -- how many rows the sizes tell of the table
 abbrev pub size_in : Sizes → Counted → ℕ
@@ -135,6 +171,7 @@ size_in s counted.Listed = s.listed
 size_in s counted.RevokedDigests = s.revoked_digests
 size_in s counted.RevokedCertificates = s.revoked_certificates
 size_in s counted.Components = s.components
+size_in s counted.Proposals = s.proposals
 
 -- how many rows the table has
 abbrev pub rows_in : Tables → Counted → ℕ
@@ -144,10 +181,11 @@ rows_in t counted.Listed = length t.listed
 rows_in t counted.RevokedDigests = length t.revoked_digests
 rows_in t counted.RevokedCertificates = length t.revoked_certificates
 rows_in t counted.Components = length t.components
+rows_in t counted.Proposals = length t.proposals
 
 -- For the call the view has the tables' row of `desk`, for the caller, the caller's key and each key that the command
--- names the tables' row, or none where they have none, the votes on the request that the command names, how many calls
--- there are, and how many rows each table has that the command may put rows into. It may have other rows.
+-- names the tables' row, or none where they have none, the votes on the request that the command names, the row of the
+-- proposal that it names, and of a Confirm the rows for all that its proposal names; how many calls there are, and how many rows each table has that the command may put rows into. It may have other rows.
 pub record Shows (v : View) (t : Tables) (c : Call) : Type 0 where
   pub stamp : v.stamp ≡ t.desk.stamp
   pub count : v.sizes.calls ≡ length t.calls
@@ -160,6 +198,7 @@ pub record Shows (v : View) (t : Tables) (c : Call) : Type 0 where
   pub call : find (has_key (caller_name c.caller) c.key) v.calls.items ≡ find (has_key (caller_name c.caller) c.key) t.calls
   pub request : (k : ℕ) → request_named c.command ≡ Some k → find (is_request_row k) v.requests.items ≡ find (is_request_row k) t.requests
   pub votes : (k : ℕ) → request_named c.command ≡ Some k → IsPermutation (votes_on t.votes k) (votes_on v.votes.items k)
+  pub proposal : (k : ℕ) → proposal_named c.command ≡ Some k → find (is_proposal_row k) v.proposals.items ≡ find (is_proposal_row k) t.proposals
   pub lists : ShowsLists v.lists t (keys_asked t c)
 
 -- the key of a listed entry
@@ -175,6 +214,7 @@ pub record HoldsWhole (v : View) (t : Tables) : Type 0 where
   pub calls : IsPermutation t.calls v.calls.items
   pub requests : IsPermutation t.requests v.requests.items
   pub votes : IsPermutation t.votes v.votes.items
+  pub proposals : IsPermutation t.proposals v.proposals.items
   pub listed : IsPermutation (map key_of t.listed) v.lists.listed.items
   pub revoked_digests : IsPermutation t.revoked_digests v.lists.revoked_digests.items
   pub revoked_certificates : IsPermutation t.revoked_certificates v.lists.revoked_certificates.items

@@ -3,6 +3,7 @@ mod imports;
 mod level;
 mod lists;
 mod people;
+mod proposals;
 mod requests;
 mod submissions;
 
@@ -15,11 +16,12 @@ ghost use Rattle.desk_texts.specs.declared.command.Command.TheVariants.{Submit};
 use crate::view::{Changes, View};
 use desk_bytes::Refusal;
 use desk_history::Write;
-use desk_texts::{Caller, Command, GREATEST_NUMBER, ListedKind, Reply, RequestNumber, Submission};
-use imports::import;
-use level::raise_level;
-use lists::{list_certificate, list_digest, revoke, unlist};
+use desk_texts::{Caller, Command, GREATEST_NUMBER, Reply, RequestNumber, Submission};
+use lists::{list_certificate, list_digest, unlist};
 use people::add_person;
+use proposals::{
+    confirm, drop_proposal, propose_certificate, propose_digest, propose_import, propose_level,
+};
 use requests::{return_file, review, withdraw};
 use std::alloc::{AllocError, Global};
 use submissions::submit;
@@ -96,11 +98,11 @@ pub(crate) fn decide_own(
         Command::ListCertificate(certificate) => list_certificate(alloc, view, certificate),
         Command::ListDigest(digest) => list_digest(alloc, view, *digest),
         Command::Unlist(listing) => unlist(alloc, view, *listing),
-        Command::RevokeDigest(digest) => { revoke(alloc, view, ListedKind::Digest, *digest) }
-        Command::RevokeCertificate(digest) => {
-            revoke(alloc, view, ListedKind::Certificate, *digest)
-        }
-        Command::RaiseLevel(raise) => raise_level(alloc, view, raise),
-        Command::ImportRevocations(named) => import(alloc, view, named),
+        Command::RevokeDigest(digest) => propose_digest(alloc, view, caller, *digest),
+        Command::RevokeCertificate(digest) => propose_certificate(alloc, view, caller, *digest),
+        Command::RaiseLevel(raise) => propose_level(alloc, view, caller, raise),
+        Command::ImportRevocations(named) => propose_import(alloc, view, caller, named),
+        Command::Confirm(number) => confirm(alloc, view, caller, *number),
+        Command::Drop(number) => drop_proposal(alloc, view, *number),
     }
 }

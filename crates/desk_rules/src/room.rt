@@ -4,7 +4,7 @@ ghost use Rattle.desk_rules.specs.Room as spec;
 
 use crate::view::{Counted, Sizes};
 use desk_history::{
-    MOST_CALLS, MOST_LEVEL_COMPONENTS, MOST_LISTED, MOST_PEOPLE, MOST_REQUESTS,
+    MOST_CALLS, MOST_LEVEL_COMPONENTS, MOST_LISTED, MOST_PEOPLE, MOST_PROPOSALS, MOST_REQUESTS,
     MOST_REVOKED_CERTIFICATES, MOST_REVOKED_DIGESTS, Write, is_same,
 };
 use desk_texts::ListedKind;
@@ -38,6 +38,7 @@ fn puts(table: Counted, write: &Write) -> bool
         Counted::RevokedDigests => revokes(ListedKind::Digest, write),
         Counted::RevokedCertificates => revokes(ListedKind::Certificate, write),
         Counted::Components => matches!(write, Write::Component(_)),
+        Counted::Proposals => matches!(write, Write::Propose(_)),
     }
 }
 
@@ -60,6 +61,11 @@ pub(crate) fn has_room(sizes: &Sizes, writes: &[Write]) -> bool
             count(Counted::Requests, writes),
             sizes.requests,
             MOST_REQUESTS,
+        )
+        & fits(
+            count(Counted::Proposals, writes),
+            sizes.proposals,
+            MOST_PROPOSALS,
         )
         & fits(count(Counted::Listed, writes), sizes.listed, MOST_LISTED)
         & fits(digests, sizes.revoked_digests, MOST_REVOKED_DIGESTS)

@@ -7,11 +7,12 @@ ghost use Rattle.desk_rules.specs.DecisionSteps as spec;
 
 use desk_bytes::{Digest, Refusal};
 use desk_history::{
-    CommandText, Entry, EntryBody, Minute, RequestComponentRow, RequestRow, ReturnRow, VoteRow,
+    CommandText, Entry, EntryBody, Minute, ProposalRow, RequestComponentRow, RequestRow, ReturnRow,
+    VoteRow,
 };
 use desk_texts::{
-    Ballot, Caller, Certificate, Key, ListedKind, Reply, RequestNumber, ReturnedFile, State,
-    Submission,
+    Ballot, Caller, Certificate, Import, Key, ListedKind, ProposalKind, ProposalNumber,
+    ProposalState, Reply, RequestNumber, ReturnedFile, State, Submission,
 };
 use sbat::Component;
 use std::alloc::Global;
@@ -138,5 +139,26 @@ pub(crate) fn certificate_entry(alloc: Global, certificate: &Certificate) -> Res
         kind: ListedKind::Certificate,
         digest: certificate.tbs(),
         body: EntryBody::new(Vec::from_slice(alloc, certificate.body())?),
+    })
+}
+
+/// The row of the caller's proposal of this number, that is open. Takes memory for it.
+pub(crate) fn open_proposal(
+    alloc: Global,
+    number: ProposalNumber,
+    caller: &Caller,
+    kind: ProposalKind,
+    named: Import,
+) -> Result<ProposalRow, Refusal>
+    ensures { MatchResult result
+        (λ row. row ≡ spec.open_row number (caller_name caller.now) kind named)
+        (λ refusal. refusal ≡ Refusal.NoMemory) }
+{
+    Ok(ProposalRow {
+        number,
+        officer: caller.to_person_name(alloc)?,
+        kind,
+        named,
+        state: ProposalState::Open,
     })
 }

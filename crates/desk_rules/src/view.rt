@@ -1,6 +1,6 @@
 //! Rows of the tables that a decision is made from, and what it changes.
 use crate::list_view::ListView;
-use desk_history::{Minute, RequestRow, VoteRow, Write};
+use desk_history::{Minute, ProposalRow, RequestRow, VoteRow, Write};
 use desk_texts::{Person, Reply};
 use sbat::Stamp;
 
@@ -13,6 +13,7 @@ pub enum Counted {
     RevokedDigests,
     RevokedCertificates,
     Components,
+    Proposals,
 }
 
 /// How many rows there are in each of the tables that a desk's limits count.
@@ -25,10 +26,12 @@ pub struct Sizes {
     pub revoked_digests: u64,
     pub revoked_certificates: u64,
     pub components: u64,
+    pub proposals: u64,
 }
 
 /// The rows that a decision on a call is made from: those of the caller, of the caller's key, and of what the command
-/// names, with the votes on a request that it names. It may have others.
+/// names, with the votes on a request that it names. Of a Confirm they are those of all that its proposal names. It may have
+/// others.
 #[derive(Drop)]
 pub struct View {
     /// The level's stamp.
@@ -39,6 +42,7 @@ pub struct View {
     pub calls: Vec<Minute>,
     pub requests: Vec<RequestRow>,
     pub votes: Vec<VoteRow>,
+    pub proposals: Vec<ProposalRow>,
     pub lists: ListView,
 }
 

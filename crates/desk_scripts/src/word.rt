@@ -3,8 +3,8 @@ use crate::largest;
 use desk_bytes::Digest;
 use desk_texts::{
     Ballot, Call, Caller, Carried, Certificate, Command, Components, Digests, Extent, Facts,
-    Import, ImportedComponents, Key, ListedKind, Listing, Note, Person, PersonName, Raise,
-    RequestNumber, ReturnedFile, Role, Submission, Title, Vote,
+    Import, ImportedComponents, Key, ListedKind, Listing, Note, Person, PersonName, ProposalNumber,
+    Raise, RequestNumber, ReturnedFile, Role, Submission, Title, Vote,
 };
 use sbat::{Component, ComponentName, Generation, Stamp};
 use std::alloc::Global;
@@ -50,6 +50,11 @@ impl<'a> Words<'a> {
     /// A request's number.
     pub fn request(&mut self) -> Option<RequestNumber> {
         RequestNumber::new(self.number()?)
+    }
+
+    /// A proposal's number.
+    fn proposal(&mut self) -> Option<ProposalNumber> {
+        ProposalNumber::new(self.number()?)
     }
 
     /// Who calls: a person's name, or `console`.
@@ -181,6 +186,8 @@ impl<'a> Words<'a> {
             "raise" => self.raise(),
             "import" => self.import(),
             "import-digests" => self.large_import(),
+            "confirm" => Some(Command::Confirm(self.proposal()?)),
+            "drop" => Some(Command::Drop(self.proposal()?)),
             _ => None,
         }
     }

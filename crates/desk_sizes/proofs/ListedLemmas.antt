@@ -30,6 +30,8 @@ Changed (command.RevokeDigest _) before after = after ≡ before
 Changed (command.RevokeCertificate _) before after = after ≡ before
 Changed (command.RaiseLevel _) before after = after ≡ before
 Changed (command.ImportRevocations _) before after = after ≡ before
+Changed (command.Confirm _) before after = after ≡ before
+Changed (command.Drop _) before after = after ≡ before
 
 -- an entry that isn't there leaves all of them
 without_none : (kind : ListedKind) (digest : List ℕ) (rows : List Entry) → has_entry kind digest rows ≡ false → length (without kind digest rows) ≡ length rows
@@ -81,3 +83,5 @@ module _ (owner : List ℕ) (cs : History) (legal : is_legal cs ≡ true) (name 
   listed_changes (command.RevokeCertificate _) h = refl
   listed_changes (command.RaiseLevel _) h = refl
   listed_changes (command.ImportRevocations _) h = refl
+  listed_changes (command.Confirm _) h = refl
+  listed_changes (command.Drop _) h = refl

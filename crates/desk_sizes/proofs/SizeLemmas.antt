@@ -12,22 +12,23 @@ use Rattle.desk_texts.specs.declared.kind.ListedKind.TheVariants as kinds
 use Rattle.desk_history.specs.declared.write.Write.{Write}
 use Rattle.desk_history.specs.Calls.{History, distinct, item}
 use Rattle.desk_history.specs.Level.{generations, names}
-use Rattle.desk_history.specs.Limits.{most_calls, most_level_components, most_listed, most_people, most_requests, most_revoked_certificates, most_revoked_digests}
+use Rattle.desk_history.specs.Limits.{most_calls, most_level_components, most_listed, most_people, most_proposals, most_requests, most_revoked_certificates, most_revoked_digests}
 use Rattle.desk_history.specs.Listing.{listed}
 use Rattle.desk_history.specs.People.{people}
+use Rattle.desk_history.specs.Proposals.{proposal_state, proposals}
 use Rattle.desk_history.specs.Replies.{minutes}
 use Rattle.desk_history.specs.Requests.{requests, state}
 use Rattle.desk_history.specs.Revocations.{revocations}
-use Rattle.desk_history.specs.Runs.{answer, is_accepted, is_legal}
-use Rattle.desk_history.specs.Tables.{Tables, level_row, request_row, tables}
+use Rattle.desk_history.specs.Runs.{is_legal}
+use Rattle.desk_history.specs.Tables.{Tables, level_row, proposal_row, request_row, tables}
 use Rattle.desk_history.specs.Writes.{all_written, written}
 use Rattle.desk_history.proofs.CountLemmas.{one_if}
-use Rattle.desk_history.proofs.RunLemmas.{IsNew, Within, accepted_parts, legal_parts}
+use Rattle.desk_history.proofs.RunLemmas.{IsNewest, Within, legal_parts, newest}
 use Rattle.desk_rules.specs.declared.view.Counted.{Counted}
 use Rattle.desk_rules.specs.declared.view.Counted.TheVariants as counted
 use Rattle.desk_rules.specs.Room.{puts}
 use Rattle.desk_rules.specs.Shown.{rows_in}
-use Rattle.desk_rules.proofs.RoomLemmas.{certificates_step, components_step, digests_step, grows, minutes_length, people_step, requests_step}
+use Rattle.desk_rules.proofs.RoomLemmas.{certificates_step, components_step, digests_step, grows, minutes_length, people_step, proposals_step, requests_step}
 use Rattle.desk_sizes.specs.declared.kept.KeptSizes.{KeptSizes}
 use Rattle.desk_sizes.specs.Sizes.{AreRight, Follows, KnowsNoLess, known}
 use Rattle.desk_sizes.specs.Steps.{listed_after, more, one_less, sizes_after}
@@ -80,21 +81,20 @@ listed_goes k (command.RevokeDigest _) rows later right changed small = same_goe
 listed_goes k (command.RevokeCertificate _) rows later right changed small = same_goes k rows later right changed
 listed_goes k (command.RaiseLevel _) rows later right changed small = same_goes k rows later right changed
 listed_goes k (command.ImportRevocations _) rows later right changed small = same_goes k rows later right changed
+listed_goes k (command.Confirm _) rows later right changed small = same_goes k rows later right changed
+listed_goes k (command.Drop _) rows later right changed small = same_goes k rows later right changed
 
--- the last of seven
-last : (a b d e f g h : Bool) → (a && b && d && e && f && g && h) ≡ true → h ≡ true
-last a b d e f g h all = (and_parts (a && b && d && e && f && g) h all).1
+-- the last of eight
+last : (a b d e f g h m : Bool) → (a && b && d && e && f && g && h && m) ≡ true → m ≡ true
+last a b d e f g h m all = (and_parts (a && b && d && e && f && g && h) m all).1
 
 below : (n most : ℕ) → nat_le n most ≡ true → most ≤ 1000000 → n < 18446744073709551616
 below n most h few = grind (arith, nat_tests, h, few)
 
 module _ (owner : List ℕ) (cs : History) (c : Call) (ws : List Write) (k : KeptSizes) (legal : is_legal (item c ∷ cs) ≡ true)
     (made : all_written ws (tables owner cs) ≡ tables owner (item c ∷ cs)) (right : AreRight k (tables owner cs)) where
-  both : (is_accepted (answer cs c) ≡ true) × (is_legal cs ≡ true)
-  both = and_parts (is_accepted (answer cs c)) (is_legal cs) legal
-
-  new : IsNew cs c
-  new = accepted_parts cs c both.0
+  at : IsNewest cs (item c)
+  at = newest cs (item c) legal
 
   within : Within (item c ∷ cs)
   within = legal_parts (item c ∷ cs) legal
@@ -115,9 +115,18 @@ module _ (owner : List ℕ) (cs : History) (c : Call) (ws : List Write) (k : Kep
       requests_go =
           more_goes k.requests (count_by (puts counted.Requests) ws) (rows_in (tables owner cs) counted.Requests) (rows_in (tables owner (item c ∷ cs)) counted.Requests)
           (right.sizes counted.Requests) (counts (λ t. length t.requests) (puts counted.Requests) requests_step) small
+  goes counted.Proposals = proposals_go
+    where
+      small : rows_in (tables owner (item c ∷ cs)) counted.Proposals < 18446744073709551616
+      small = rw (length-map (proposals (item c ∷ cs)) (λ p. proposal_row (proposal_state (item c ∷ cs) p.number) p)) (below (length (proposals (item c ∷ cs))) most_proposals within.proposals (omega arith))
+
+      proposals_go : Goes k.proposals (more k.proposals (count_by (puts counted.Proposals) ws)) (rows_in (tables owner (item c ∷ cs)) counted.Proposals)
+      proposals_go =
+          more_goes k.proposals (count_by (puts counted.Proposals) ws) (rows_in (tables owner cs) counted.Proposals) (rows_in (tables owner (item c ∷ cs)) counted.Proposals)
+          (right.sizes counted.Proposals) (counts (λ t. length t.proposals) (puts counted.Proposals) proposals_step) small
   goes counted.Listed =
       listed_goes k.listed c.command (length (listed cs)) (length (listed (item c ∷ cs))) (right.sizes counted.Listed)
-      (listed_changes owner cs both.1 (caller_name c.caller) c.command new.own) (below (length (listed (item c ∷ cs))) most_listed within.listed (omega arith))
+      (listed_changes owner cs at.before (caller_name c.caller) c.command at.new.own) (below (length (listed (item c ∷ cs))) most_listed within.listed (omega arith))
   goes counted.RevokedDigests =
       more_goes k.revoked_digests (count_by (puts counted.RevokedDigests) ws) (length (distinct (revocations kinds.Digest cs))) (length (distinct (revocations kinds.Digest (item c ∷ cs))))
       (right.sizes counted.RevokedDigests) (counts (λ t. length t.revoked_digests) (puts counted.RevokedDigests) digests_step)
@@ -142,9 +151,9 @@ module _ (owner : List ℕ) (cs : History) (c : Call) (ws : List Write) (k : Kep
       (rw (minutes_length (item c ∷ cs)) (below (length (item c ∷ cs)) most_calls few (omega arith)))
     where
       few : nat_le (length (item c ∷ cs)) most_calls ≡ true
-      few = last (nat_le (length (people (item c ∷ cs))) most_people) (nat_le (length (requests (item c ∷ cs))) most_requests) (nat_le (length (listed (item c ∷ cs))) most_listed)
+      few = last (nat_le (length (people (item c ∷ cs))) most_people) (nat_le (length (requests (item c ∷ cs))) most_requests) (nat_le (length (proposals (item c ∷ cs))) most_proposals) (nat_le (length (listed (item c ∷ cs))) most_listed)
           (nat_le (length (distinct (revocations kinds.Digest (item c ∷ cs)))) most_revoked_digests) (nat_le (length (distinct (revocations kinds.Certificate (item c ∷ cs)))) most_revoked_certificates)
-          (nat_le (length (names (generations (item c ∷ cs)))) most_level_components) (nat_le (length (item c ∷ cs)) most_calls) new.within
+          (nat_le (length (names (generations (item c ∷ cs)))) most_level_components) (nat_le (length (item c ∷ cs)) most_calls) at.new.within
 
   pub follows_one : AreRight (sizes_after k c.command ws) (tables owner (item c ∷ cs)) × KnowsNoLess k (sizes_after k c.command ws)
   follows_one = (

@@ -21,6 +21,7 @@ known k counted.Listed = k.listed
 known k counted.RevokedDigests = k.revoked_digests
 known k counted.RevokedCertificates = k.revoked_certificates
 known k counted.Components = k.components
+known k counted.Proposals = k.proposals
 
 -- each size that is known is that of the tables
 pub record AreRight (k : KeptSizes) (t : Tables) : Type 0 where

@@ -31,6 +31,8 @@ listed_after size (command.RevokeDigest _) = size
 listed_after size (command.RevokeCertificate _) = size
 listed_after size (command.RaiseLevel _) = size
 listed_after size (command.ImportRevocations _) = size
+listed_after size (command.Confirm _) = size
+listed_after size (command.Drop _) = size
 
 -- the sizes after a command and its writes
 abbrev pub sizes_after : KeptSizes → Command → List Write → KeptSizes
@@ -42,4 +44,5 @@ sizes_after k given ws = record {
   revoked_digests = more k.revoked_digests (count_by (puts counted.RevokedDigests) ws);
   revoked_certificates = more k.revoked_certificates (count_by (puts counted.RevokedCertificates) ws);
   components = more k.components (count_by (puts counted.Components) ws);
+  proposals = more k.proposals (count_by (puts counted.Proposals) ws);
 }

@@ -17,6 +17,7 @@ pub struct KeptSizes {
     revoked_digests: Option<u64>,
     revoked_certificates: Option<u64>,
     components: Option<u64>,
+    proposals: Option<u64>,
 }
 
 /// A size and so many rows more; nothing where the size isn't known.
@@ -48,7 +49,9 @@ fn listed_after(size: Option<u64>, command: &Command) -> Option<u64>
         | Command::RevokeDigest(_)
         | Command::RevokeCertificate(_)
         | Command::RaiseLevel(_)
-        | Command::ImportRevocations(_) => size,
+        | Command::ImportRevocations(_)
+        | Command::Confirm(_)
+        | Command::Drop(_) => size,
     }
 }
 
@@ -65,6 +68,7 @@ impl KeptSizes {
             revoked_digests: None,
             revoked_certificates: None,
             components: None,
+            proposals: None,
         }
     }
 
@@ -86,6 +90,7 @@ impl KeptSizes {
             Counted::RevokedDigests => self.revoked_digests,
             Counted::RevokedCertificates => self.revoked_certificates,
             Counted::Components => self.components,
+            Counted::Proposals => self.proposals,
         }
     }
 
@@ -131,6 +136,10 @@ impl KeptSizes {
                 components: size,
                 ..self
             },
+            Counted::Proposals => KeptSizes {
+                proposals: size,
+                ..self
+            },
         }
     }
 
@@ -146,6 +155,7 @@ impl KeptSizes {
             revoked_digests: self.revoked_digests.unwrap_or(0),
             revoked_certificates: self.revoked_certificates.unwrap_or(0),
             components: self.components.unwrap_or(0),
+            proposals: self.proposals.unwrap_or(0),
         }
     }
 
@@ -164,6 +174,7 @@ impl KeptSizes {
                 count(Counted::RevokedCertificates, writes),
             ),
             components: more(self.components, count(Counted::Components, writes)),
+            proposals: more(self.proposals, count(Counted::Proposals, writes)),
         }
     }
 

@@ -13,15 +13,18 @@ pub fn may_put(command: &Command, table: Counted) -> bool
         Command::AddPerson(_) => table == Counted::People,
         Command::Submit(_) => table == Counted::Requests,
         Command::ListCertificate(_) | Command::ListDigest(_) => table == Counted::Listed,
-        Command::RevokeDigest(_) => table == Counted::RevokedDigests,
-        Command::RevokeCertificate(_) => table == Counted::RevokedCertificates,
-        Command::RaiseLevel(_) => table == Counted::Components,
-        Command::ImportRevocations(_) => matches!(
+        Command::RevokeDigest(_)
+        | Command::RevokeCertificate(_)
+        | Command::RaiseLevel(_)
+        | Command::ImportRevocations(_) => table == Counted::Proposals,
+        Command::Confirm(_) => matches!(
             table,
             Counted::RevokedDigests | Counted::RevokedCertificates | Counted::Components
         ),
-        Command::Review(_) | Command::Withdraw(_) | Command::Return(_) | Command::Unlist(_) => {
-            false
-        }
+        Command::Review(_)
+        | Command::Withdraw(_)
+        | Command::Return(_)
+        | Command::Unlist(_)
+        | Command::Drop(_) => false,
     }
 }

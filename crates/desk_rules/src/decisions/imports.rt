@@ -1,24 +1,23 @@
-//! Imports of revocations.
-ghost use Rattle.std.specs.Prelude.{◌≡◌, ◌+◌, ◌<◌, ◌≤◌, ◌^◌, ◌&&◌, ◌||◌, ◌++◌, ◌∷◌, [], ℕ, List, IfErr, IfOk, IsTrue, OnOk, bytes_eq, false, if◌then◌else◌, map, nat_lt, not, reverse, true};
+//! What is named, put into force.
+ghost use Rattle.std.specs.Prelude.{◌≡◌, ◌+◌, ◌<◌, ◌≤◌, ◌^◌, ◌||◌, ◌++◌, ◌∷◌, [], ℕ, List, IfErr, IfOk, IsTrue, OnOk, bytes_eq, false, if◌then◌else◌, map, not, reverse, true};
 ghost use Rattle.std.specs.FinMap.{get};
 ghost use Rattle.sbat.specs.declared.component.Component.{Component as ComponentValue};
 ghost use Rattle.desk_history.specs.Calls.{is_among};
 ghost use Rattle.desk_history.specs.Level.{greatest, is_sbat as sbat_name};
 ghost use Rattle.desk_texts.specs.Raising.{names_no_sbat};
-ghost use Rattle.desk_texts.specs.declared.caller.Caller.{Caller as CallerValue};
-ghost use Rattle.desk_texts.specs.declared.command.Command.TheVariants as Command;
-ghost use Rattle.desk_rules.specs.DecisionSteps.{DecidesOwn, revocation_writes};
+ghost use Rattle.desk_rules.specs.DecisionSteps.{revocation_writes};
 ghost use Rattle.desk_rules.specs.ImportSteps as spec;
-ghost use Rattle.desk_history.specs.Refusals.{is_later};
-ghost use Rattle.desk_history.specs.DecisionRefusals.{may_answer};
 ghost use Rattle.desk_rules.specs.Views.{generation_in};
 
 use super::level::put;
 use super::push;
 use crate::view::{Changes, View};
 use desk_bytes::{Digest, Refusal};
-use desk_history::{Write, is_above, is_later};
-use desk_texts::{Counts, Import, ListedKind, Listing, Reply};
+use desk_history::{Write, is_above};
+use desk_texts::{
+    Confirmation, Counts, Import, ListedKind, Listing, ProposalNumber, ProposalOutcome,
+    ProposalState, Reply,
+};
 use sbat::{Component, ComponentName, Generation, Level, Stamp};
 use std::alloc::{AllocError, Global};
 use std::collections::BTreeSet;
@@ -200,6 +199,15 @@ fn take_all(
     Ok(so_far)
 }
 
+/// What the components that are named make.
+pub(crate) fn taken(alloc: Global, view: &View, named: &Import) -> Result<SoFar, Refusal>
+    ensures ok { IfOk result (λ so_far. spec.HasTakenAll view.now named.now so_far) }
+    ensures err { IfErr result (λ refusal. refusal ≡ Refusal.NoMemory) }
+{
+    let components = named.components().as_slice();
+    take_all(alloc, view.stamp, &view.lists.components, components)
+}
+
 /// Writes the revoked digests of this kind, after others.
 fn put_revoked(writes: &mut Vec<Write>, kind: ListedKind, digests: &[Digest]) -> Result<(), Refusal>
     ensures ok { OnOk result (writes.new.items
@@ -228,40 +236,38 @@ fn put_stamp(writes: &mut Vec<Write>, names: u64, stamp: Option<Stamp>) -> Resul
     Ok(())
 }
 
-/// Whether names were raised without a later stamp.
-fn is_early(names: u64, now: Stamp, stamp: Option<Stamp>) -> bool
-    ensures { result ≡ (nat_lt 0 names && not (is_later now stamp)) }
-{
-    0 < names && !is_later(now, stamp)
-}
-
-/// Takes the import in.
-pub(crate) fn import(alloc: Global, view: &View, import: &Import) -> Result<Changes, Refusal>
-    ensures exact { (caller : CallerValue)
-        → DecidesOwn view.now caller (Command.ImportRevocations import.now) result }
-    ensures only { IfErr result (λ refusal. IsTrue (may_answer refusal)) }
+/// Puts into force what the proposal names, of which the components make this.
+pub(crate) fn enforce(
+    alloc: Global,
+    view: &View,
+    named: &Import,
+    proposal: ProposalNumber,
+    so_far: SoFar,
+) -> Result<Changes, Refusal>
+    ensures ok { IfOk result (λ changes. spec.PutsIntoForce view.now named.now proposal so_far changes) }
+    ensures err { IfErr result (λ refusal. refusal ≡ Refusal.NoMemory) }
 {
     let lists = &view.lists;
-    let components = import.components().as_slice();
-    let so_far = take_all(alloc, view.stamp, &lists.components, components)?;
     let names = so_far.names;
-    if is_early(names, view.stamp, import.stamp()) {
-        return Err(Refusal::StampNotLater);
-    }
-    let digests = import.digests().as_slice();
+    let digests = named.digests().as_slice();
     let digests = new_digests(alloc, &lists.revoked_digests, digests)?;
-    let certificates = import.certificates().as_slice();
+    let certificates = named.certificates().as_slice();
     let certificates = new_digests(alloc, &lists.revoked_certificates, certificates)?;
     let mut writes = so_far.writes;
     put_revoked(&mut writes, ListedKind::Digest, &digests)?;
     put_revoked(&mut writes, ListedKind::Certificate, &certificates)?;
-    put_stamp(&mut writes, names, import.stamp())?;
+    put_stamp(&mut writes, names, named.stamp())?;
+    let state = ProposalState::Confirmed;
+    push(
+        &mut writes,
+        Write::ProposalState(ProposalOutcome { proposal, state }),
+    )?;
     let counts = Counts {
         digests: digests.len() as u64,
         certificates: certificates.len() as u64,
         components: names,
-        passed: import.passed(),
+        passed: named.passed(),
     };
-    let reply = Reply::Imported(counts);
+    let reply = Reply::Confirmed(Confirmation { proposal, counts });
     Ok(Changes { reply, writes })
 }

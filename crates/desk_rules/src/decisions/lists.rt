@@ -1,8 +1,8 @@
-//! What is listed and revoked.
+//! What is listed.
 ghost use Rattle.std.specs.Prelude.{◌≡◌, [], ◌∷◌, not};
 ghost use Rattle.desk_history.specs.Refusals.{refuse_if};
 ghost use Rattle.desk_history.specs.declared.write.Write.TheVariants as puts;
-ghost use Rattle.desk_rules.specs.DecisionSteps.{Decided, revocation_writes};
+ghost use Rattle.desk_rules.specs.DecisionSteps.{Decided};
 ghost use Rattle.desk_rules.specs.Views.{seen_standing};
 
 use super::one;
@@ -62,25 +62,4 @@ pub(crate) fn unlist(alloc: Global, view: &View, listing: Listing) -> Result<Cha
         return Err(Refusal::NotThere);
     }
     one(alloc, Reply::Unlisted, Write::Unlist(listing))
-}
-
-/// Revokes the digest, of an image or of a certificate.
-pub(crate) fn revoke(
-    alloc: Global,
-    view: &View,
-    kind: ListedKind,
-    digest: Digest,
-) -> Result<Changes, Refusal>
-    ensures { Decided result
-        (refuse_if ((seen_standing view.now.lists).revoked kind digest) Refusal.AlreadyRevoked)
-        Reply.Revoked (revocation_writes kind (digest ∷ [])) }
-{
-    if view.lists.is_revoked(kind, digest) {
-        return Err(Refusal::AlreadyRevoked);
-    }
-    one(
-        alloc,
-        Reply::Revoked,
-        Write::Revoke(Listing { kind, digest }),
-    )
 }

@@ -4,10 +4,12 @@ mod limits;
 mod tables;
 
 use desk_bytes::{Digest, Refusal};
-use desk_history::{CommandText, Entry, Minute, RequestRow, VoteRow, Write};
+use desk_history::{CommandText, Entry, Minute, ProposalRow, RequestRow, VoteRow, Write};
 use desk_rules::{Changes, ListView, Sizes, View, decide, verdict};
 use desk_scripts::Words;
-use desk_texts::{ListedKind, Listing, Outcome, Person, PersonName, Role, reply_text};
+use desk_texts::{
+    ListedKind, Listing, Outcome, Person, PersonName, ProposalOutcome, Role, reply_text,
+};
 use sbat::{Component, Stamp};
 use std::alloc::Global;
 use std::process::Abort;

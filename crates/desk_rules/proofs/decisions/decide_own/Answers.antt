@@ -1,10 +1,13 @@
-use Rattle.std.proofs.Common.{[], subst, sym}
+use Rattle.std.proofs.Common.{[], ◌∷◌, subst, sym}
 use Rattle.desk_texts.specs.declared.command.Command.{Command}
 use Rattle.desk_rules.specs.DecisionSteps.{DecidesOwn}
 use Rattle.desk_texts.specs.declared.kind.ListedKind.TheVariants as kinds
-use Rattle.desk_rules.proofs.AnswerLemmas.{adds_only, lists_only, raises_only, returns_only, reviews_only, revokes_only, unlists_only, withdraws_only}
-use Rattle.desk_rules.proofs.DecisionLemmas.{adds, lists_certificate, lists_digest, revokes_certificate, revokes_digest, unlists}
-use Rattle.desk_rules.proofs.LevelDecisions.{raises_level}
+use Rattle.desk_texts.specs.declared.proposal.ProposalState.TheVariants as states
+use Rattle.desk_texts.specs.declared.reply.Reply.TheVariants as replies
+use Rattle.desk_history.specs.declared.write.Write.TheVariants as writes
+use Rattle.desk_rules.proofs.AnswerLemmas.{adds_only, drops_only, lists_only, returns_only, reviews_only, unlists_only, withdraws_only}
+use Rattle.desk_rules.proofs.DecisionLemmas.{adds, lists_certificate, lists_digest, unlists}
+use Rattle.desk_rules.proofs.ProposalDecisions.{drops}
 use Rattle.desk_rules.proofs.RequestDecisions.{returns_file, reviews, withdraws_request}
 use Rattle.desk_rules.proofs.decisions.decide_own.Goals as goal
 
@@ -29,20 +32,8 @@ returns-in-ListDigest-clause-exact c = subst (λ (command : Command). DecidesOwn
 pub returns-in-Unlist-clause-exact : goal.returns-in-Unlist-clause-exact
 returns-in-Unlist-clause-exact c = subst (λ (command : Command). DecidesOwn c.args.view.now c.args.caller.now command c.unlist.result) (sym c.in-Unlist.is) (unlists c.args.view.now c.args.caller.now c.in-Unlist.listing c.unlist.result c.unlist.ensures)
 
-pub returns-in-RevokeDigest-clause-exact : goal.returns-in-RevokeDigest-clause-exact
-returns-in-RevokeDigest-clause-exact c = subst (λ (command : Command). DecidesOwn c.args.view.now c.args.caller.now command c.revoke.result) (sym c.in-RevokeDigest.is) (revokes_digest c.args.view.now c.args.caller.now c.in-RevokeDigest.digest c.revoke.result c.revoke.ensures)
-
-pub returns-in-RevokeCertificate-clause-exact : goal.returns-in-RevokeCertificate-clause-exact
-returns-in-RevokeCertificate-clause-exact c = subst (λ (command : Command). DecidesOwn c.args.view.now c.args.caller.now command c.revoke-in-RevokeCertificate.result) (sym c.in-RevokeCertificate.is) (revokes_certificate c.args.view.now c.args.caller.now c.in-RevokeCertificate.digest c.revoke-in-RevokeCertificate.result c.revoke-in-RevokeCertificate.ensures)
-
-pub returns-in-RaiseLevel-clause-exact : goal.returns-in-RaiseLevel-clause-exact
-returns-in-RaiseLevel-clause-exact c = subst (λ (command : Command). DecidesOwn c.args.view.now c.args.caller.now command c.raise_level.result) (sym c.in-RaiseLevel.is) (raises_level c.args.view.now c.args.caller.now c.in-RaiseLevel.raise c.raise_level.result c.raise_level.ensures)
-
 pub returns-in-Submit-clause-exact : goal.returns-in-Submit-clause-exact
 returns-in-Submit-clause-exact c = subst (λ (command : Command). DecidesOwn c.args.view.now c.args.caller.now command c.submit_next.result) (sym c.in-Submit.is) (c.submit_next.ensures.exact)
-
-pub returns-in-ImportRevocations-clause-exact : goal.returns-in-ImportRevocations-clause-exact
-returns-in-ImportRevocations-clause-exact c = subst (λ (command : Command). DecidesOwn c.args.view.now c.args.caller.now command c.import.result) (sym c.in-ImportRevocations.is) (c.import.ensures.exact c.args.caller.now)
 
 pub returns-in-AddPerson-clause-only : goal.returns-in-AddPerson-clause-only
 returns-in-AddPerson-clause-only c = adds_only c.args.view.now c.add_person.result c.in-AddPerson.person c.add_person.ensures
@@ -65,11 +56,23 @@ returns-in-ListDigest-clause-only c = lists_only c.args.view.now c.list_digest.r
 pub returns-in-Unlist-clause-only : goal.returns-in-Unlist-clause-only
 returns-in-Unlist-clause-only c = unlists_only c.args.view.now c.unlist.result c.in-Unlist.listing c.unlist.ensures
 
-pub returns-in-RevokeDigest-clause-only : goal.returns-in-RevokeDigest-clause-only
-returns-in-RevokeDigest-clause-only c = revokes_only c.args.view.now c.revoke.result kinds.Digest c.in-RevokeDigest.digest c.revoke.ensures
+pub returns-in-RevokeDigest-clause-exact : goal.returns-in-RevokeDigest-clause-exact
+returns-in-RevokeDigest-clause-exact c = subst (λ (command : Command). DecidesOwn c.args.view.now c.args.caller.now command c.propose_digest.result) (sym c.in-RevokeDigest.is) (c.propose_digest.ensures.exact)
 
-pub returns-in-RevokeCertificate-clause-only : goal.returns-in-RevokeCertificate-clause-only
-returns-in-RevokeCertificate-clause-only c = revokes_only c.args.view.now c.revoke-in-RevokeCertificate.result kinds.Certificate c.in-RevokeCertificate.digest c.revoke-in-RevokeCertificate.ensures
+pub returns-in-RevokeCertificate-clause-exact : goal.returns-in-RevokeCertificate-clause-exact
+returns-in-RevokeCertificate-clause-exact c = subst (λ (command : Command). DecidesOwn c.args.view.now c.args.caller.now command c.propose_certificate.result) (sym c.in-RevokeCertificate.is) (c.propose_certificate.ensures.exact)
 
-pub returns-in-RaiseLevel-clause-only : goal.returns-in-RaiseLevel-clause-only
-returns-in-RaiseLevel-clause-only c = raises_only c.args.view.now c.raise_level.result c.in-RaiseLevel.raise c.raise_level.ensures
+pub returns-in-RaiseLevel-clause-exact : goal.returns-in-RaiseLevel-clause-exact
+returns-in-RaiseLevel-clause-exact c = subst (λ (command : Command). DecidesOwn c.args.view.now c.args.caller.now command c.propose_level.result) (sym c.in-RaiseLevel.is) (c.propose_level.ensures.exact)
+
+pub returns-in-ImportRevocations-clause-exact : goal.returns-in-ImportRevocations-clause-exact
+returns-in-ImportRevocations-clause-exact c = subst (λ (command : Command). DecidesOwn c.args.view.now c.args.caller.now command c.propose_import.result) (sym c.in-ImportRevocations.is) (c.propose_import.ensures.exact)
+
+pub returns-in-Confirm-clause-exact : goal.returns-in-Confirm-clause-exact
+returns-in-Confirm-clause-exact c = subst (λ (command : Command). DecidesOwn c.args.view.now c.args.caller.now command c.confirm.result) (sym c.in-Confirm.is) (c.confirm.ensures.exact)
+
+pub returns-in-Drop-clause-exact : goal.returns-in-Drop-clause-exact
+returns-in-Drop-clause-exact c = subst (λ (command : Command). DecidesOwn c.args.view.now c.args.caller.now command c.drop_proposal.result) (sym c.in-Drop.is) (drops c.args.view.now c.args.caller.now c.in-Drop.number c.drop_proposal.result c.drop_proposal.ensures)
+
+pub returns-in-Drop-clause-only : goal.returns-in-Drop-clause-only
+returns-in-Drop-clause-only c = drops_only c.args.view.now c.drop_proposal.result c.in-Drop.number (replies.Dropped c.in-Drop.number) (writes.ProposalState (record { proposal = c.in-Drop.number; state = states.Dropped }) ∷ []) c.drop_proposal.ensures

@@ -88,7 +88,7 @@ fn play(rt: &impl Abort, alloc: Global, script: &str) -> Result<(), Fail> {
     Ok(())
 }
 
-/// A desk with a submitter, three reviewers, a signer and an officer takes requests, reviews, returns, listings and
+/// A desk with a submitter, three reviewers, a signer and two officers takes requests, reviews, returns, listings and
 /// revocations. The certificate is 204; 160 is an image whose length needs no padding, 162 one whose padded form is 163.
 const REQUESTS: &str = "\
 console p1 add ann submitter 1 : added ann
@@ -97,6 +97,7 @@ console p3 add raul reviewer 3 : added raul
 console p4 add rosa reviewer 4 : added rosa
 console p5 add sid signer 5 : added sid
 console p6 add olga officer 6 : added olga
+console p7 add otto officer 7 : added otto
 eve e1 list 1 : UnknownCaller
 console e1 list 1 : NotYourRole
 console e2 add console signer 9 : NameTaken
@@ -157,29 +158,52 @@ rita b2 yes 5 : reviewed 5 open
 rosa b2 yes 5 : reviewed 5 approved
 sid b2 return 4 162 162 1 204 0 : returned 4
 sid b3 return 5 163 163 1 204 0 : returned 5
-olga b3 revoke-certificate 204 : revoked
+olga b3 revoke-certificate 204 : proposed 1
+olga b3 revoke-certificate 204 : again proposed 1
+verdict 160 160 1 204 0 : Allowed
+olga c1 confirm 1 : OwnProposal
+ann c1 confirm 1 : NotYourRole
+console c1 drop 1 : NotYourRole
+otto c1 confirm 2 : NoSuchProposal
+otto c1 confirm 1 : confirmed 1 0 1 0 0
+otto c1 confirm 1 : again confirmed 1 0 1 0 0
+otto c1 drop 1 : KeyReused
+otto c2 confirm 1 : ProposalClosed
+olga c1 drop 1 : ProposalClosed
 olga b4 revoke-certificate 204 : AlreadyRevoked
 verdict 160 160 1 204 0 : DbxCertificate
 olga b4 unlist-certificate 204 : unlisted
 olga b5 unlist-certificate 204 : NotThere
 verdict 160 160 1 204 0 : DbxCertificate
 ann b4 submit shim 160 160 1 204 0 : Revoked
-olga b5 revoke 162 : revoked
+olga b5 revoke 162 : proposed 2
+olga b6 revoke 162 : proposed 3
+ann b4 submit shim 162 163 0 0 : submitted 6
+otto c2 confirm 2 : confirmed 2 1 0 0 0
+otto c3 confirm 3 : AlreadyRevoked
+olga c1 drop 3 : dropped 3
+olga c1 drop 3 : again dropped 3
+otto c3 confirm 3 : ProposalClosed
+olga c2 confirm 3 : ProposalClosed
+olga c2 drop 4 : NoSuchProposal
 verdict 164 162 0 0 : DbxDigest
-ann b4 submit shim 162 163 0 0 : Revoked
+ann b5 submit shim 162 163 0 0 : Revoked
 ";
 
-/// The level rises, and revocations are imported.
+/// The level rises, and revocations are imported, each by a proposal and its Confirm.
 const LEVELS: &str = "\
 console p1 add ann submitter 1 : added ann
 console p2 add rita reviewer 2 : added rita
 console p3 add raul reviewer 3 : added raul
 console p4 add sid signer 4 : added sid
 console p5 add olga officer 5 : added olga
+console p6 add otto officer 6 : added otto
 olga v1 list 32 : listed
 olga v2 list 32 : AlreadyListed
 olga v2 unlist-certificate 32 : NotThere
-olga v2 raise grub 3 2024010100 : raised
+olga v2 raise grub 3 2024010100 : proposed 1
+verdict 32 32 0 1 grub 2 : Allowed
+otto w1 confirm 1 : confirmed 1 0 0 1 0
 olga v3 raise grub 2 2024010101 : NotHigher
 olga v3 raise grub 3 2024010101 : NotHigher
 olga v3 raise grub 4 2024010100 : StampNotLater
@@ -187,33 +211,45 @@ olga v3 raise sbat 2 2024010101 : NotHigher
 verdict 32 32 0 1 grub 2 : Sbat(Below { place: 0, needs: Generation(3) })
 verdict 32 32 0 2 sbat 1 grub 3 : Allowed
 verdict 32 32 0 1 grub 4294967295 : Allowed
-olga v4 raise shim 9 2024010101 : raised
-olga v5 raise shim 10 2024010102 : raised
+olga v4 raise shim 9 2024010101 : proposed 2
+olga v5 raise shim 10 2024010102 : proposed 3
+otto w2 confirm 3 : confirmed 3 0 0 1 0
+otto w3 confirm 2 : NotHigher
 olga v6 raise shim 9 2024010103 : NotHigher
 verdict 32 32 0 1 shim 9 : Sbat(Below { place: 0, needs: Generation(10) })
 verdict 32 32 0 1 shim 100 : Allowed
-olga v5 raise shim 10 2024010102 : again raised
+olga v5 raise shim 10 2024010102 : again proposed 3
 olga v5 raise shim 11 2024010102 : KeyReused
 sid v1 revoke 33 : NotYourRole
 ann v1 submit shim 33 33 0 1 grub 2 : Revoked
 ann v1 submit shim 33 33 0 1 grub 3 : submitted 1
 rita v1 yes 1 : reviewed 1 open
 raul v1 yes 1 : reviewed 1 approved
-olga v6 import 0 1 1 170 1 187 0 : imported 1 1 0 1
-olga v7 import 0 1 1 170 1 187 0 : imported 0 0 0 1
-olga v8 import 0 0 2 171 171 0 2 grub 2 grub 3 : imported 1 0 0 0
+olga v6 import 0 1 1 170 1 187 0 : proposed 4
+olga v7 import 0 1 1 170 1 187 0 : proposed 5
+otto w3 confirm 4 : confirmed 4 1 1 0 1
+otto w4 confirm 5 : confirmed 5 0 0 0 1
+olga v8 import 0 0 2 171 171 0 2 grub 2 grub 3 : proposed 6
+otto w5 confirm 6 : confirmed 6 1 0 0 0
 olga v9 import 0 0 0 0 1 grub 4 : StampNotLater
 olga v9 import 2024010102 0 0 0 1 grub 4 : StampNotLater
-olga v9 import 2024010103 0 1 172 0 3 grub 4 peimage 2 grub 5 : imported 1 0 2 0
-olga v9 import 2024010103 0 1 172 0 3 grub 4 peimage 2 grub 5 : again imported 1 0 2 0
+olga v9 import 2024010103 0 1 172 0 3 grub 4 peimage 2 grub 5 : proposed 7
+olga v9 import 2024010103 0 1 172 0 3 grub 4 peimage 2 grub 5 : again proposed 7
 olga v9 import 2024010104 0 1 172 0 3 grub 4 peimage 2 grub 5 : KeyReused
-olga v10 raise grub 5 2024010104 : NotHigher
+olga v10 raise grub 5 2024010104 : proposed 8
+otto w6 confirm 7 : confirmed 7 1 0 2 0
+otto w7 confirm 8 : NotHigher
+olga v11 raise grub 5 2024010104 : NotHigher
 verdict 32 32 0 2 peimage 2 grub 4 : Sbat(Below { place: 1, needs: Generation(5) })
 verdict 171 34 0 0 : DbxDigest
 verdict 32 32 1 187 0 : DbxCertificate
 sid v2 return 1 33 33 0 1 grub 4 : Revoked
 sid v2 return 1 33 33 0 1 grub 5 : NotListed
-olga v10 list 33 : listed
+olga v11 import 2024010105 0 0 0 1 grub 9 : proposed 9
+olga v12 raise shim 11 2024010106 : proposed 10
+otto w7 confirm 10 : confirmed 10 0 0 1 0
+otto w8 confirm 9 : StampNotLater
+olga v13 list 33 : listed
 sid v2 return 1 33 33 0 1 grub 5 : returned 1
 ";
 

@@ -1,6 +1,6 @@
 //! What a desk may hold: the last call that fits, and the first that doesn't.
 use super::days::tell_decision;
-use super::tables::{NONE, new_tables};
+use super::tables::{NONE, new_tables, write_all};
 use super::*;
 
 /// Calls, each on a desk whose tables have these sizes: how many tables are named, the name and the size of each, and the
@@ -13,12 +13,25 @@ const CALLS: &str = "\
 1 listed 9999 olga k list 1 : listed
 1 listed 10000 olga k list 1 : Full
 1 listed 10000 olga k unlist 1 : NotThere
-1 digests 99999 olga k revoke 1 : revoked
-1 digests 100000 olga k revoke 1 : Full
-3 certificates 9999 components 9999 calls 999999 olga k import 2024010100 0 0 1 1 1 grub 1 : imported 0 1 1 0
-3 certificates 9999 components 9999 calls 999999 olga k import 2024010100 0 0 2 1 2 1 grub 1 : Full
-3 certificates 9999 components 9999 calls 999999 olga k import 2024010100 0 0 1 1 2 grub 1 shim 1 : Full
+2 proposals 99999 digests 100000 olga k revoke 1 : proposed 100000
+1 proposals 100000 olga k revoke 1 : Full
+2 proposals 100000 digests 99999 olga k confirm 1 : confirmed 1 1 0 0 0
+1 digests 100000 olga k confirm 1 : Full
+3 certificates 9999 components 9999 calls 999999 olga k confirm 2 : confirmed 2 0 1 1 0
+3 certificates 9999 components 9999 calls 999999 olga k confirm 3 : Full
+3 certificates 9999 components 9999 calls 999999 olga k confirm 4 : Full
+1 proposals 100000 olga k drop 1 : dropped 1
 1 calls 1000000 olga k revoke 1 : Full
+1 calls 1000000 olga k confirm 1 : Full
+1 calls 1000000 olga k drop 1 : Full
+";
+
+/// What otto proposed there before.
+const PROPOSED: &str = "\
+otto q1 revoke 1
+otto q2 import 2024010100 0 0 1 1 1 grub 1
+otto q3 import 2024010100 0 0 2 1 2 1 grub 1
+otto q4 import 2024010100 0 0 1 1 2 grub 1 shim 1
 ";
 
 /// A person of this name and role.
@@ -30,11 +43,22 @@ fn person(alloc: Global, name: &[u8], role: Role) -> Result<Person, Fail> {
     })
 }
 
-/// A desk with an officer and a submitter.
+/// Proposes what the line says.
+fn propose(alloc: Global, tables: &mut View, line: &str) -> Result<(), Fail> {
+    let call = Words::new(alloc, line).call().ok_or("a call")?;
+    let changes = decide(alloc, tables, &call.caller, &call.key, &call.command)?;
+    write_all(alloc, tables, &changes.writes)
+}
+
+/// A desk with two officers and a submitter, and what one of the officers proposed.
 fn tables(alloc: Global) -> Result<View, Fail> {
     let mut tables = new_tables(alloc)?;
     tables.people.push(person(alloc, b"olga", Role::Officer)?)?;
+    tables.people.push(person(alloc, b"otto", Role::Officer)?)?;
     tables.people.push(person(alloc, b"ann", Role::Submitter)?)?;
+    for line in PROPOSED.lines() {
+        propose(alloc, &mut tables, line)?;
+    }
     Ok(tables)
 }
 
@@ -47,6 +71,7 @@ fn set_size(sizes: &mut Sizes, table: &str, size: u64) {
         "digests" => sizes.revoked_digests = size,
         "certificates" => sizes.revoked_certificates = size,
         "components" => sizes.components = size,
+        "proposals" => sizes.proposals = size,
         _ => sizes.calls = size,
     }
 }

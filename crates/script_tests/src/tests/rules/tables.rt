@@ -11,6 +11,7 @@ pub(super) fn new_tables(alloc: Global) -> Result<View, Fail> {
         calls: Vec::new(alloc),
         requests: Vec::new(alloc),
         votes: Vec::new(alloc),
+        proposals: Vec::new(alloc),
         lists: ListView {
             listed: Vec::new(alloc),
             revoked_digests: Vec::new(alloc),
@@ -29,6 +30,7 @@ pub(super) const NONE: Sizes = Sizes {
     revoked_digests: 0,
     revoked_certificates: 0,
     components: 0,
+    proposals: 0,
 };
 
 /// How many rows the tables have.
@@ -41,6 +43,7 @@ fn sizes(tables: &View) -> Sizes {
         revoked_digests: tables.lists.revoked_digests.len() as u64,
         revoked_certificates: tables.lists.revoked_certificates.len() as u64,
         components: tables.lists.components.len() as u64,
+        proposals: tables.proposals.len() as u64,
     }
 }
 
@@ -49,6 +52,17 @@ fn set_state(requests: &mut Vec<RequestRow>, outcome: Outcome) {
     let number = outcome.request.value();
     if let Some(place) = requests.iter().position(|row| number == row.number.value()) {
         requests[place].state = outcome.state;
+    }
+}
+
+/// Sets the state of the proposal.
+fn set_proposal_state(proposals: &mut Vec<ProposalRow>, outcome: ProposalOutcome) {
+    let number = outcome.proposal.value();
+    if let Some(place) = proposals
+        .iter()
+        .position(|row| number == row.number.value())
+    {
+        proposals[place].state = outcome.state;
     }
 }
 
@@ -127,6 +141,17 @@ fn vote(row: &VoteRow) -> Result<VoteRow, Fail> {
     })
 }
 
+/// A copy of the proposal.
+fn proposal(row: &ProposalRow) -> Result<ProposalRow, Fail> {
+    Ok(ProposalRow {
+        number: row.number,
+        officer: row.officer.clone()?,
+        kind: row.kind,
+        named: row.named.clone()?,
+        state: row.state,
+    })
+}
+
 /// Puts one write into the tables. Certificates and components of requests, and returned files, are never read.
 fn write(alloc: Global, tables: &mut View, write: &Write) -> Result<(), Fail> {
     match write {
@@ -141,6 +166,8 @@ fn write(alloc: Global, tables: &mut View, write: &Write) -> Result<(), Fail> {
         Write::Component(component) => tables.lists.components.push(component.clone()?)?,
         Write::Generation(component) => set_generation(&mut tables.lists.components, component),
         Write::Stamp(stamp) => tables.stamp = *stamp,
+        Write::Propose(row) => tables.proposals.push(proposal(row)?)?,
+        Write::ProposalState(outcome) => set_proposal_state(&mut tables.proposals, *outcome),
         Write::RequestCertificate(_) | Write::RequestComponent(_) | Write::Return(_) => {}
     }
     Ok(())

@@ -1,0 +1,157 @@
+-- What a view that shows a history says of proposals, and what their writes make.
+use Rattle.std.proofs.Common.{◌≡◌, ℕ, ◌+◌, ◌≤◌, true, false, IfSome, List, [], ◌∷◌, length, map, Option, Some, None, Ok, Err, Result, refl, sym, ◌∙◌, ap, subst, inl, inr, arith}
+use Rattle.std.specs.Prelude.{IfErr, IfOk, bytes_eq, find, option_map}
+use Rattle.std.specs.Option.{option_map_or}
+use Rattle.std.proofs.lemmas.List.{length-map}
+use Rattle.desk_bytes.specs.declared.refusal.Refusal.{Refusal}
+use Rattle.desk_bytes.specs.declared.refusal.Refusal.TheVariants as refusals
+use Rattle.desk_texts.specs.Callers.{caller_name}
+use Rattle.desk_texts.specs.Forms.{greatest_number}
+use Rattle.desk_texts.specs.Imports.{Imported}
+use Rattle.desk_texts.specs.declared.caller.Caller.{Caller}
+use Rattle.desk_texts.specs.declared.command.Command.{Command}
+use Rattle.desk_texts.specs.declared.command.Command.TheVariants as command
+use Rattle.desk_texts.specs.declared.proposal.ProposalState.{ProposalState}
+use Rattle.desk_texts.specs.declared.proposal.ProposalState.TheVariants as states
+use Rattle.desk_texts.specs.declared.reply.Reply.TheVariants as replies
+use Rattle.desk_history.specs.declared.rows.ProposalRow.{ProposalRow}
+use Rattle.desk_history.specs.declared.write.Write.TheVariants as writes
+use Rattle.desk_history.specs.Calls.{History, item}
+use Rattle.desk_history.specs.Forces.{enforced_by}
+use Rattle.desk_history.specs.Proposals.{Named, Proposal, named_by, proposal, proposal_state, proposals}
+use Rattle.desk_history.specs.Refusals.{confirm_by, drop_by, drop_refusal, force_refusal, own_refusal}
+use Rattle.desk_history.specs.Replies.{minutes, reply}
+use Rattle.desk_history.specs.Runs.{is_legal}
+use Rattle.desk_history.specs.Tables.{proposal_row, tables}
+use Rattle.desk_history.proofs.ClosingLemmas.{next_is_open}
+use Rattle.desk_history.proofs.ProposalRowLemmas.{drop_rows, refused_by, refused_by-is, row_refused, table_found}
+use Rattle.desk_history.proofs.RunLemmas.{legal_proposals}
+use Rattle.desk_rules.specs.declared.decisions.imports.SoFar.{SoFar}
+use Rattle.desk_rules.specs.declared.view.Changes.{Changes}
+use Rattle.desk_rules.specs.declared.view.Counted.TheVariants as counted
+use Rattle.desk_rules.specs.declared.view.View.{View}
+use Rattle.desk_rules.specs.DecisionSteps.{Decided, DecidesOwn, IsCommandStep, MatchesOwn, RefusesOwn, drop_refusal_in, force_refusal_in, open_row}
+use Rattle.desk_rules.specs.Decisions.{called}
+use Rattle.desk_rules.specs.ImportSteps.{HasTakenAll, PutsIntoForce}
+use Rattle.desk_rules.specs.Shown.{Shows, import_keys, is_proposal_row, keys_asked, may_put, row_keys}
+use Rattle.desk_rules.specs.Views.{ShowsLists}
+use Rattle.desk_rules.proofs.DecisionLemmas.{decided}
+use Rattle.desk_rules.proofs.EnforcingLemmas.{force_seen, kept, puts, says}
+
+-- ---- a proposal
+
+-- the row that a proposal puts in, with its state
+abbrev next_row : History → List ℕ → Named → ProposalState → ProposalRow
+next_row cs officer n s = record { number = length (proposals cs) + 1; officer = officer; kind = n.kind; named = n.entries; state = s }
+
+-- what a command that names something is
+record IsProposal (owner : List ℕ) (cs : History) (caller : Caller) (key : List ℕ) (c : Command) (n : Named) : Type 0 where
+  keys : keys_asked (tables owner cs) (called caller key c) ≡ import_keys n.entries
+  own : own_refusal cs (caller_name caller) c ≡ force_refusal cs c
+  says : reply cs (called caller key c) ≡ replies.Proposed (length (proposals cs) + 1)
+  rows : record (tables owner cs) { proposals = next_row cs (caller_name caller) n (proposal_state cs (length (proposals cs) + 1)) ∷ (tables owner cs).proposals }
+      ≡ record (tables owner (item (called caller key c) ∷ cs)) { calls = minutes cs }
+  puts : may_put c counted.Proposals ≡ true
+
+is_proposal : (owner : List ℕ) (cs : History) (caller : Caller) (key : List ℕ) (c : Command) → IfSome (named_by c) (IsProposal owner cs caller key c)
+is_proposal owner cs caller key (command.RevokeDigest d) = record { keys = refl; own = refl; says = refl; rows = refl; puts = refl }
+is_proposal owner cs caller key (command.RevokeCertificate d) = record { keys = refl; own = refl; says = refl; rows = refl; puts = refl }
+is_proposal owner cs caller key (command.RaiseLevel r) = record { keys = refl; own = refl; says = refl; rows = refl; puts = refl }
+is_proposal owner cs caller key (command.ImportRevocations i) = record { keys = refl; own = refl; says = refl; rows = refl; puts = refl }
+is_proposal owner cs caller key _ = tt
+
+module _ (v : View) (caller : Caller) (c : Command) (n : Named) (names : named_by c ≡ Some n) (owner : List ℕ) (cs : History) (key : List ℕ) (legal : is_legal cs ≡ true) (shown : Shows v (tables owner cs) (called caller key c)) where
+  of : IsProposal owner cs caller key c n
+  of = subst (λ o. IfSome o (IsProposal owner cs caller key c)) names (is_proposal owner cs caller key c)
+
+  lists : ShowsLists v.lists (tables owner cs) (import_keys n.entries)
+  lists = subst (λ k. ShowsLists v.lists (tables owner cs) k) of.keys shown.lists
+
+  count_seen : v.sizes.proposals ≡ length (proposals cs)
+  count_seen = shown.sizes counted.Proposals of.puts ∙ length-map (proposals cs) (λ p. proposal_row (proposal_state cs p.number) p)
+
+  -- a desk that a legal history stands for has numbers of proposals left
+  pub has_numbers : greatest_number ≤ v.sizes.proposals → {A : Type 0} → A
+  has_numbers full = absurd (no_more v.sizes.proposals (length (proposals cs)) count_seen full (legal_proposals cs legal))
+    where
+      no_more : (a b : ℕ) → a ≡ b → greatest_number ≤ a → b ≤ 100000 → ⊥
+      no_more a b is h k = omega arith
+
+  pub proposes : (k : ℕ) → k ≡ v.sizes.proposals + 1 → (s : SoFar) → HasTakenAll v n.entries s → (result : Result Changes Refusal) →
+      Decided result (force_refusal_in v n.kind n.entries s.names) (replies.Proposed k) (writes.Propose (open_row k (caller_name caller) n.kind n.entries) ∷ []) →
+      MatchesOwn owner cs (called caller key c) result
+  proposes k is s taken result told =
+      let at : k ≡ length (proposals cs) + 1 = is ∙ ap (λ m. m + 1) count_seen in
+      decided owner cs (called caller key c) result (force_refusal_in v n.kind n.entries s.names) (replies.Proposed k) (writes.Propose (open_row k (caller_name caller) n.kind n.entries) ∷ []) told
+      (force_seen v n.entries owner cs lists shown.stamp s taken n.kind ∙ (sym (refused_by-is cs c n names) ∙ sym of.own))
+      (λ none. ap (λ m. replies.Proposed m) at ∙ sym of.says)
+      (λ none. ap (λ m. record (tables owner cs) { proposals = open_row m (caller_name caller) n.kind n.entries ∷ (tables owner cs).proposals }) at
+      ∙ (ap (λ t. record (tables owner cs) { proposals = next_row cs (caller_name caller) n t ∷ (tables owner cs).proposals }) (sym (next_is_open cs legal))
+      ∙ of.rows))
+      (inl refl)
+
+-- ---- a Confirm
+
+entries_by : (s : ProposalState) (o : Option Proposal) → option_map (λ (p : Proposal). p.named.entries) o ≡ option_map (λ (row : ProposalRow). row.named) (option_map (proposal_row s) o)
+entries_by s None = refl
+entries_by s (Some p) = refl
+
+missing : (o : Option Proposal) (s : ProposalState) → option_map (proposal_row s) o ≡ None → o ≡ None
+missing None s h = refl
+missing (Some p) s h = cc
+
+module _ (v : View) (caller : Caller) (k : ℕ) (owner : List ℕ) (cs : History) (key : List ℕ) (shown : Shows v (tables owner cs) (called caller key (command.Confirm k))) where
+  -- a proposal that isn't there
+  pub confirms_none : find (is_proposal_row k) v.proposals.items ≡ None → RefusesOwn refusals.NoSuchProposal cs (called caller key (command.Confirm k))
+  confirms_none none =
+      let gone : proposal cs k ≡ None = missing (proposal cs k) (proposal_state cs k) (sym (table_found owner cs k) ∙ (sym (shown.proposal k refl) ∙ none)) in
+      inl (none_refused gone)
+    where
+      none_refused : proposal cs k ≡ None → own_refusal cs (caller_name caller) (command.Confirm k) ≡ Some refusals.NoSuchProposal
+      none_refused gone = rw gone refl
+
+  module _ (row : ProposalRow) (found : find (is_proposal_row k) v.proposals.items ≡ Some row) (s : SoFar) (taken : HasTakenAll v row.named s) where
+    there : find (is_proposal_row k) (tables owner cs).proposals ≡ Some row
+    there = sym (shown.proposal k refl) ∙ found
+
+    lists_seen : ShowsLists v.lists (tables owner cs) (import_keys row.named)
+    lists_seen = subst (λ o. ShowsLists v.lists (tables owner cs) (row_keys o)) there shown.lists
+
+    refusal_is : confirm_by row.state (bytes_eq row.officer (caller_name caller)) (force_refusal_in v row.kind row.named s.names) ≡ own_refusal cs (caller_name caller) (command.Confirm k)
+    refusal_is =
+        ap (λ o. confirm_by row.state (bytes_eq row.officer (caller_name caller)) o) (force_seen v row.named owner cs lists_seen shown.stamp s taken row.kind)
+        ∙ sym (row_refused owner cs (caller_name caller) k row there)
+
+    enforced : enforced_by cs (item (called caller key (command.Confirm k))) ≡ Some row.named
+    enforced = entries_by (proposal_state cs k) (proposal cs k) ∙ ap (λ o. option_map (λ (q : ProposalRow). q.named) o) (sym (table_found owner cs k) ∙ there)
+
+    pub refuses_confirm : (r : Refusal) → confirm_by row.state (bytes_eq row.officer (caller_name caller)) (force_refusal_in v row.kind row.named s.names) ≡ Some r → RefusesOwn r cs (called caller key (command.Confirm k))
+    refuses_confirm r h = inl (sym refusal_is ∙ h)
+
+    step : confirm_by row.state (bytes_eq row.officer (caller_name caller)) (force_refusal_in v row.kind row.named s.names) ≡ None → (changes : Changes) → PutsIntoForce v row.named k s changes → IsCommandStep changes owner cs (called caller key (command.Confirm k))
+    step fine changes made = record {
+      accepted = sym refusal_is ∙ fine;
+      replied = says v row.named owner cs lists_seen shown.stamp s taken caller key k enforced changes made;
+      made = puts v row.named owner cs lists_seen shown.stamp s taken caller key k enforced changes made;
+      listed = inl (kept v row.named owner cs lists_seen shown.stamp s taken caller key k enforced changes made);
+    }
+
+    pub confirms : confirm_by row.state (bytes_eq row.officer (caller_name caller)) (force_refusal_in v row.kind row.named s.names) ≡ None → (result : Result Changes Refusal) →
+        IfOk result (λ changes. PutsIntoForce v row.named k s changes) → IfErr result (λ r. r ≡ refusals.NoMemory) → MatchesOwn owner cs (called caller key (command.Confirm k)) result
+    confirms fine (Ok changes) made failed = step fine changes made
+    confirms fine (Err r) made failed = inr failed
+
+-- ---- a Drop
+
+drop_of : (o : Option Proposal) (s : ProposalState) → option_map_or (λ (row : ProposalRow). drop_by row.state) (option_map (proposal_row s) o) (Some refusals.NoSuchProposal) ≡ drop_refusal o s
+drop_of None s = refl
+drop_of (Some p) s = refl
+
+pub drops : (v : View) (caller : Caller) (k : ℕ) (result : Result Changes Refusal) →
+    Decided result (drop_refusal_in v k) (replies.Dropped k) (writes.ProposalState (record { proposal = k; state = states.Dropped }) ∷ []) → DecidesOwn v caller (command.Drop k) result
+drops v caller k result told owner cs key legal shown =
+    decided owner cs (called caller key (command.Drop k)) result (drop_refusal_in v k) (replies.Dropped k) (writes.ProposalState (record { proposal = k; state = states.Dropped }) ∷ []) told
+    (ap (λ o. option_map_or (λ (row : ProposalRow). drop_by row.state) o (Some refusals.NoSuchProposal)) (shown.proposal k refl ∙ table_found owner cs k) ∙ drop_of (proposal cs k) (proposal_state cs k))
+    (λ none. refl)
+    (λ none. ap (λ rows. record (tables owner cs) { proposals = rows }) (drop_rows owner cs caller key k))
+    (inl refl)

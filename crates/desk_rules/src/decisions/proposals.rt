@@ -1,0 +1,293 @@
+//! Proposals of what is to be revoked and of the level, and what becomes of them.
+ghost use Rattle.std.specs.Prelude.{◌≡◌, ◌≤◌, ◌+◌, [], ◌∷◌, IfErr, IsTrue, MatchOption, MatchResult, None, Some, false, find, length, option_copied, true};
+ghost use Rattle.std.specs.List.{list_any};
+ghost use Rattle.sbat.specs.declared.component.Component.{Component as ComponentValue};
+ghost use Rattle.desk_texts.specs.Callers.{caller_name};
+ghost use Rattle.desk_texts.specs.Forms.{greatest_number};
+ghost use Rattle.desk_texts.specs.Raising.{names_no_sbat};
+ghost use Rattle.desk_texts.specs.declared.command.Command.{Command as CommandValue};
+ghost use Rattle.desk_texts.specs.declared.command.Command.TheVariants as Command;
+ghost use Rattle.desk_texts.specs.declared.reply.Reply.TheVariants as replies;
+ghost use Rattle.desk_history.specs.DecisionRefusals.{may_answer};
+ghost use Rattle.desk_history.specs.Proposals.{named_by, no_entries};
+ghost use Rattle.desk_history.specs.declared.write.Write.TheVariants as puts;
+ghost use Rattle.desk_rules.specs.DecisionSteps as spec;
+ghost use Rattle.desk_rules.specs.Shown.{is_proposal_row};
+ghost use Rattle.desk_rules.specs.Views.{seen_standing};
+
+use super::imports::{enforce, taken};
+use super::{one, push};
+use crate::rows::open_proposal;
+use crate::view::{Changes, View};
+use desk_bytes::{Digest, Refusal};
+use desk_history::{
+    ProposalRow, Standing, Write, confirm_by, drop_by, is_above, is_later, refuse_if,
+};
+use desk_texts::{
+    Caller, Digests, GREATEST_NUMBER, Import, ImportedComponents, ListedKind, ProposalKind,
+    ProposalNumber, ProposalOutcome, ProposalState, Raise, Reply,
+};
+use sbat::{Component, Stamp};
+use std::alloc::Global;
+
+/// The number after so many proposals, if there is one.
+fn number_after(proposals: u64) -> Option<ProposalNumber>
+    ensures { MatchOption result (greatest_number ≤ proposals) (λ number. number ≡ proposals + 1) }
+{
+    if GREATEST_NUMBER <= proposals {
+        return None;
+    }
+    ProposalNumber::new(proposals + 1)
+}
+
+/// What these name: no more than one entry, which isn't `sbat`.
+fn entry_of(
+    stamp: Option<Stamp>,
+    digests: Vec<Digest>,
+    certificates: Vec<Digest>,
+    components: Vec<Component>,
+) -> Import
+    requires few { length digests.items + length certificates.items + length components.items ≤ 1 }
+    requires other { names_no_sbat components.items ≡ true }
+    ensures { result ≡ record {
+      stamp = stamp;
+      passed = 0;
+      digests = digests.items;
+      certificates = certificates.items;
+      components = components.items;
+    } }
+{
+    let digests = Digests::new(digests).unwrap();
+    let certificates = Digests::new(certificates).unwrap();
+    let components = ImportedComponents::new(components).unwrap();
+    Import::new(stamp, 0, digests, certificates, components).unwrap()
+}
+
+impl View {
+    /// The row of the proposal of this number.
+    fn proposal(&self, number: ProposalNumber) -> Option<&ProposalRow>
+        ensures { option_copied result ≡ find (is_proposal_row number) self.now.proposals.items }
+    {
+        self.proposals
+            .iter()
+            .find(|row| number.value() == row.number.value())
+    }
+
+    /// Whether one of the digests of this kind is revoked.
+    fn has_revoked(&self, kind: ListedKind, digests: &[Digest]) -> bool
+        ensures { result ≡ list_any ((seen_standing self.now.lists).revoked kind) digests.now }
+    {
+        digests
+            .iter()
+            .any(|digest| self.lists.is_revoked(kind, *digest))
+    }
+
+    /// Whether the component can't be raised to its generation.
+    fn is_lower(&self, component: &Component) -> bool
+        ensures { result ≡ spec.is_lower_in self.now.lists.components.items component.now }
+    {
+        component.name.is_sbat()
+            || !is_above(component.generation, self.lists.generation(&component.name))
+    }
+
+    /// Whether one of the components can't be raised to its generation.
+    fn has_lower(&self, components: &[Component]) -> bool
+        ensures { result
+            ≡ list_any (spec.is_lower_in self.now.lists.components.items) components.now }
+    {
+        components.iter().any(|component| self.is_lower(component))
+    }
+
+    /// Why what is named isn't put into force, by its kind, where so many names are raised by it.
+    fn force_refusal(&self, kind: ProposalKind, named: &Import, names: u64) -> Option<Refusal>
+        ensures { result ≡ spec.force_refusal_in self.now kind named.now names }
+    {
+        match kind {
+            ProposalKind::Digest => {
+                let digests = named.digests().as_slice();
+                let is_revoked = self.has_revoked(ListedKind::Digest, digests);
+                refuse_if(is_revoked, Refusal::AlreadyRevoked)
+            }
+            ProposalKind::Certificate => {
+                let certificates = named.certificates().as_slice();
+                let is_revoked = self.has_revoked(ListedKind::Certificate, certificates);
+                refuse_if(is_revoked, Refusal::AlreadyRevoked)
+            }
+            ProposalKind::Level => {
+                let components = named.components().as_slice();
+                if self.has_lower(components) {
+                    return Some(Refusal::NotHigher);
+                }
+                refuse_if(!is_later(self.stamp, named.stamp()), Refusal::StampNotLater)
+            }
+            ProposalKind::Import => {
+                let is_early = 0 < names && !is_later(self.stamp, named.stamp());
+                refuse_if(is_early, Refusal::StampNotLater)
+            }
+        }
+    }
+
+    /// Why the proposal isn't dropped.
+    fn drop_refusal(&self, number: ProposalNumber) -> Option<Refusal>
+        ensures { result ≡ spec.drop_refusal_in self.now number }
+    {
+        match self.proposal(number) {
+            None => Some(Refusal::NoSuchProposal),
+            Some(row) => drop_by(row.state),
+        }
+    }
+}
+
+/// Proposes what is named as the proposal of this number; so many names are raised by it.
+fn propose_as(
+    alloc: Global,
+    view: &View,
+    number: ProposalNumber,
+    caller: &Caller,
+    kind: ProposalKind,
+    named: Import,
+    names: u64,
+) -> Result<Changes, Refusal>
+    ensures { spec.Decided result (spec.force_refusal_in view.now kind named names)
+        (replies.Proposed number)
+        (puts.Propose (spec.open_row number (caller_name caller.now) kind named) ∷ []) }
+{
+    if let Some(refusal) = view.force_refusal(kind, &named, names) {
+        return Err(refusal);
+    }
+    let row = open_proposal(alloc, number, caller, kind, named)?;
+    one(alloc, Reply::Proposed(number), Write::Propose(row))
+}
+
+/// Proposes what is named as the next proposal.
+fn propose(
+    alloc: Global,
+    view: &View,
+    caller: &Caller,
+    kind: ProposalKind,
+    named: Import,
+) -> Result<Changes, Refusal>
+    ensures exact { (command : CommandValue)
+        → named_by command ≡ Some (record { kind = kind; entries = named })
+        → spec.DecidesOwn view.now caller.now command result }
+    ensures only { IfErr result (λ refusal. IsTrue (may_answer refusal)) }
+{
+    let so_far = taken(alloc, view, &named)?;
+    match number_after(view.sizes.proposals) {
+        None => Err(Refusal::Full),
+        Some(number) => propose_as(alloc, view, number, caller, kind, named, so_far.names),
+    }
+}
+
+/// Proposes to revoke the image of this digest.
+pub(crate) fn propose_digest(
+    alloc: Global,
+    view: &View,
+    caller: &Caller,
+    digest: Digest,
+) -> Result<Changes, Refusal>
+    ensures exact { spec.DecidesOwn view.now caller.now (Command.RevokeDigest digest) result }
+    ensures only { IfErr result (λ refusal. IsTrue (may_answer refusal)) }
+{
+    let mut digests = Vec::new(alloc);
+    push(&mut digests, digest)?;
+    let named = entry_of(None, digests, Vec::new(alloc), Vec::new(alloc));
+    propose(alloc, view, caller, ProposalKind::Digest, named)
+}
+
+/// Proposes to revoke the certificate of this digest.
+pub(crate) fn propose_certificate(
+    alloc: Global,
+    view: &View,
+    caller: &Caller,
+    digest: Digest,
+) -> Result<Changes, Refusal>
+    ensures exact { spec.DecidesOwn view.now caller.now (Command.RevokeCertificate digest) result }
+    ensures only { IfErr result (λ refusal. IsTrue (may_answer refusal)) }
+{
+    let mut certificates = Vec::new(alloc);
+    push(&mut certificates, digest)?;
+    let named = entry_of(None, Vec::new(alloc), certificates, Vec::new(alloc));
+    propose(alloc, view, caller, ProposalKind::Certificate, named)
+}
+
+/// Proposes to raise the generation that is asked of a component.
+pub(crate) fn propose_level(
+    alloc: Global,
+    view: &View,
+    caller: &Caller,
+    raise: &Raise,
+) -> Result<Changes, Refusal>
+    ensures exact { spec.DecidesOwn view.now caller.now (Command.RaiseLevel raise.now) result }
+    ensures only { IfErr result (λ refusal. IsTrue (may_answer refusal)) }
+{
+    if raise.component.name.is_sbat() {
+        return Err(Refusal::NotHigher);
+    }
+    let component = raise.component.clone()?;
+    let mut components = Vec::new(alloc);
+    push(&mut components, component)?;
+    let named = entry_of(
+        Some(raise.stamp),
+        Vec::new(alloc),
+        Vec::new(alloc),
+        components,
+    );
+    propose(alloc, view, caller, ProposalKind::Level, named)
+}
+
+/// Proposes an import.
+pub(crate) fn propose_import(
+    alloc: Global,
+    view: &View,
+    caller: &Caller,
+    named: &Import,
+) -> Result<Changes, Refusal>
+    ensures exact { spec.DecidesOwn view.now caller.now (Command.ImportRevocations named.now) result }
+    ensures only { IfErr result (λ refusal. IsTrue (may_answer refusal)) }
+{
+    let named = named.clone()?;
+    propose(alloc, view, caller, ProposalKind::Import, named)
+}
+
+/// Puts into force what the proposal names.
+pub(crate) fn confirm(
+    alloc: Global,
+    view: &View,
+    caller: &Caller,
+    number: ProposalNumber,
+) -> Result<Changes, Refusal>
+    ensures exact { spec.DecidesOwn view.now caller.now (Command.Confirm number) result }
+    ensures only { IfErr result (λ refusal. IsTrue (may_answer refusal)) }
+{
+    let Some(row) = view.proposal(number) else {
+        return Err(Refusal::NoSuchProposal);
+    };
+    let so_far = taken(alloc, view, &row.named)?;
+    let refused = view.force_refusal(row.kind, &row.named, so_far.names);
+    let is_own = row.officer.as_str() == caller.name();
+    if let Some(refusal) = confirm_by(row.state, is_own, refused) {
+        return Err(refusal);
+    }
+    enforce(alloc, view, &row.named, number, so_far)
+}
+
+/// Drops the proposal.
+pub(crate) fn drop_proposal(
+    alloc: Global,
+    view: &View,
+    proposal: ProposalNumber,
+) -> Result<Changes, Refusal>
+    ensures { spec.Decided result (spec.drop_refusal_in view.now proposal) (replies.Dropped proposal)
+        (puts.ProposalState (record { proposal = proposal; state = ProposalState.Dropped }) ∷ []) }
+{
+    if let Some(refusal) = view.drop_refusal(proposal) {
+        return Err(refusal);
+    }
+    let state = ProposalState::Dropped;
+    one(
+        alloc,
+        Reply::Dropped(proposal),
+        Write::ProposalState(ProposalOutcome { proposal, state }),
+    )
+}
