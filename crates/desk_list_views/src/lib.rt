@@ -9,4 +9,4 @@ mod naming;
 mod reading;
 mod viewing;
 
-pub use viewing::{list_view, lists_named};
+pub use viewing::{list_view, lists_asked};

@@ -1,14 +1,14 @@
 //! The rows of the lists that an image's facts or a command name.
-ghost use Rattle.std.specs.Prelude.{◌≡◌, IfOk};
-ghost use Rattle.desk_list_views.specs.Lists.{HoldsNoOther};
+ghost use Rattle.std.specs.Prelude.{◌≡◌, IfOk, option_copied};
+ghost use Rattle.desk_list_views.specs.Lists.{HoldsNoOther, keys_with};
 ghost use Rattle.desk_reads.specs.Reads.{Tells};
-ghost use Rattle.desk_rules.specs.Shown.{keys_named};
 ghost use Rattle.desk_rules.specs.Views.{ShowsLists, keys_of};
 ghost use Rattle.desk_sql.specs.States.{DoesInside, Keeps, Spares, StaysInside};
 
 use crate::keys::Digests;
 use crate::naming::{import_view, listed_view, revoked_view, submission_view};
 use crate::reading::rows_of;
+use desk_history::ProposalRow;
 use desk_reads::ReadFault;
 use desk_rules::ListView;
 use desk_texts::{Command, Facts, ListedKind};
@@ -45,22 +45,29 @@ pub fn list_view<S: Alter>(
     rows_of(alloc, tx, listed, revoked, facts.components.as_slice())
 }
 
-/// The rows of the lists that the command's keys name. Takes memory for them. Costs one keyed statement for each key.
-pub fn lists_named<S: Alter>(
+/// The rows of the lists that the command's keys name, and for a Confirm those that its proposal names, where this is the
+/// proposal's row. Takes memory for them. Costs one keyed statement for each key.
+pub fn lists_asked<S: Alter>(
     alloc: Global,
     tx: &mut Transaction<'_, S>,
     command: &Command,
+    proposal: Option<&ProposalRow>,
 ) -> Result<ListView, ReadFault>
     ensures same_reference { tx.new.conn.ghost_name ≡ tx.old.conn.ghost_name }
     ensures value { DoesInside S.Store tx.old.conn.now tx.new.conn.now result
-        (λ view. Tells (λ t. ShowsLists view t (keys_named command.now))) }
-    ensures only { IfOk result (λ view. HoldsNoOther view (keys_named command.now)) }
+        (λ view. Tells (λ t.
+        ShowsLists view t (keys_with command.now (λ k. option_copied proposal.entry)))) }
+    ensures only { IfOk result (λ view.
+        HoldsNoOther view (keys_with command.now (λ k. option_copied proposal.entry))) }
     ensures inside { StaysInside S.Store tx.old.conn.now tx.new.conn.now result }
     ensures kept { Keeps S.Store tx.old.conn.now tx.new.conn.now }
     ensures survives { Spares S.Store tx.old.conn.now tx.new.conn.now }
 {
     match command {
-        Command::AddPerson(_) | Command::Review(_) | Command::Withdraw(_) => {
+        Command::AddPerson(_)
+        | Command::Review(_)
+        | Command::Withdraw(_)
+        | Command::Drop(_) => {
             rows_of(alloc, tx, Digests::none(), Digests::none(), &[])
         }
         Command::Submit(submission) => submission_view(alloc, tx, &submission.facts),
@@ -79,5 +86,9 @@ pub fn lists_named<S: Alter>(
             rows_of(alloc, tx, Digests::none(), Digests::none(), named)
         }
         Command::ImportRevocations(import) => import_view(alloc, tx, import),
+        Command::Confirm(_) => match proposal {
+            None => rows_of(alloc, tx, Digests::none(), Digests::none(), &[]),
+            Some(row) => import_view(alloc, tx, &row.named),
+        },
     }
 }
