@@ -19,36 +19,49 @@ alike counted.People counted.Listed = inr refl
 alike counted.People counted.RevokedDigests = inr refl
 alike counted.People counted.RevokedCertificates = inr refl
 alike counted.People counted.Components = inr refl
+alike counted.People counted.Proposals = inr refl
 alike counted.Requests counted.People = inr refl
 alike counted.Requests counted.Requests = inl refl
 alike counted.Requests counted.Listed = inr refl
 alike counted.Requests counted.RevokedDigests = inr refl
 alike counted.Requests counted.RevokedCertificates = inr refl
 alike counted.Requests counted.Components = inr refl
+alike counted.Requests counted.Proposals = inr refl
 alike counted.Listed counted.People = inr refl
 alike counted.Listed counted.Requests = inr refl
 alike counted.Listed counted.Listed = inl refl
 alike counted.Listed counted.RevokedDigests = inr refl
 alike counted.Listed counted.RevokedCertificates = inr refl
 alike counted.Listed counted.Components = inr refl
+alike counted.Listed counted.Proposals = inr refl
 alike counted.RevokedDigests counted.People = inr refl
 alike counted.RevokedDigests counted.Requests = inr refl
 alike counted.RevokedDigests counted.Listed = inr refl
 alike counted.RevokedDigests counted.RevokedDigests = inl refl
 alike counted.RevokedDigests counted.RevokedCertificates = inr refl
 alike counted.RevokedDigests counted.Components = inr refl
+alike counted.RevokedDigests counted.Proposals = inr refl
 alike counted.RevokedCertificates counted.People = inr refl
 alike counted.RevokedCertificates counted.Requests = inr refl
 alike counted.RevokedCertificates counted.Listed = inr refl
 alike counted.RevokedCertificates counted.RevokedDigests = inr refl
 alike counted.RevokedCertificates counted.RevokedCertificates = inl refl
 alike counted.RevokedCertificates counted.Components = inr refl
+alike counted.RevokedCertificates counted.Proposals = inr refl
 alike counted.Components counted.People = inr refl
 alike counted.Components counted.Requests = inr refl
 alike counted.Components counted.Listed = inr refl
 alike counted.Components counted.RevokedDigests = inr refl
 alike counted.Components counted.RevokedCertificates = inr refl
 alike counted.Components counted.Components = inl refl
+alike counted.Components counted.Proposals = inr refl
+alike counted.Proposals counted.People = inr refl
+alike counted.Proposals counted.Requests = inr refl
+alike counted.Proposals counted.Listed = inr refl
+alike counted.Proposals counted.RevokedDigests = inr refl
+alike counted.Proposals counted.RevokedCertificates = inr refl
+alike counted.Proposals counted.Components = inr refl
+alike counted.Proposals counted.Proposals = inl refl
 
 some_same : (n m : ℕ) → Some n ≡ Some m → n ≡ m
 some_same n m e = cc
@@ -135,7 +148,7 @@ module _ (command : Command) where
 
   -- the tables that a limit of the desk counts
   abbrev pub all_tables : List Counted
-  all_tables = counted.People ∷ counted.Requests ∷ counted.Listed ∷ counted.RevokedDigests ∷ counted.RevokedCertificates ∷ counted.Components ∷ []
+  all_tables = counted.People ∷ counted.Requests ∷ counted.Listed ∷ counted.RevokedDigests ∷ counted.RevokedCertificates ∷ counted.Components ∷ counted.Proposals ∷ []
 
   pub learns_all : (a b c : KeptSizes) → LearnsCalls a b → LearnsOf all_tables command b c → Learns command a c
   learns_all a b c x y = record {
@@ -152,3 +165,4 @@ module _ (command : Command) where
       each counted.RevokedDigests = y.enough 3 counted.People (omega arith)
       each counted.RevokedCertificates = y.enough 4 counted.People (omega arith)
       each counted.Components = y.enough 5 counted.People (omega arith)
+      each counted.Proposals = y.enough 6 counted.People (omega arith)

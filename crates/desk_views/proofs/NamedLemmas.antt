@@ -5,18 +5,22 @@ use Rattle.std.specs.List.Sorted.{IsPermutation}
 use Rattle.std.proofs.lemmas.Bool.Decides.{nat_tests}
 use Rattle.std.proofs.lemmas.Slice.Eq.{bytes_eq-Decides}
 use Rattle.std.proofs.lemmas.List.Elements.{All-append, All-head, All-tail, All-weaker}
+use Rattle.desk_texts.specs.declared.caller.Caller.{Caller}
 use Rattle.desk_texts.specs.declared.command.Command.{Command}
 use Rattle.desk_texts.specs.declared.command.Command.TheVariants as command
 use Rattle.desk_texts.specs.declared.command.Person.{Person}
+use Rattle.desk_history.specs.declared.rows.ProposalRow.{ProposalRow}
 use Rattle.desk_history.specs.declared.rows.RequestRow.{RequestRow}
 use Rattle.desk_history.specs.declared.rows.VoteRow.{VoteRow}
 use Rattle.desk_history.specs.People.{added_by, has_name, has_token}
 use Rattle.desk_history.specs.Requests.{votes_on}
 use Rattle.desk_history.specs.Tables.{Tables}
-use Rattle.desk_rules.specs.Shown.{is_request_row, people_named, tokens_named}
+use Rattle.desk_rules.specs.Shown.{is_proposal_row, is_request_row, keys_asked, people_named, proposal_named, row_keys, tokens_named}
+use Rattle.desk_rules.specs.Decisions.{called}
+use Rattle.desk_list_views.specs.Lists.{keys_with}
 use Rattle.desk_reads.specs.Reads.{listed}
 use Rattle.desk_views.specs.Named.{is_named_person}
-use Rattle.desk_views.specs.Steps.{ShowsPeople, ShowsRequest, ShowsVotes}
+use Rattle.desk_views.specs.Steps.{ShowsPeople, ShowsProposal, ShowsRequest, ShowsVotes}
 use Rattle.desk_views.proofs.FindLemmas.{AreAmong, after, all_among, are_of_table, before, finds}
 
 -- ---- the keys of people
@@ -34,6 +38,8 @@ no_person (command.RevokeDigest _) e = (refl, refl)
 no_person (command.RevokeCertificate _) e = (refl, refl)
 no_person (command.RaiseLevel _) e = (refl, refl)
 no_person (command.ImportRevocations _) e = (refl, refl)
+no_person (command.Confirm _) e = (refl, refl)
+no_person (command.Drop _) e = (refl, refl)
 
 one_person : (c : Command) (p : Person) → added_by c ≡ Some p → (people_named c ≡ p.name ∷ []) × (tokens_named c ≡ p.token ∷ [])
 one_person (command.AddPerson q) p e = let same : q ≡ p = cc in (ap (λ (x : Person). x.name ∷ []) same, ap (λ (x : Person). x.token ∷ []) same)
@@ -48,6 +54,8 @@ one_person (command.RevokeDigest _) p e = absurd cc
 one_person (command.RevokeCertificate _) p e = absurd cc
 one_person (command.RaiseLevel _) p e = absurd cc
 one_person (command.ImportRevocations _) p e = absurd cc
+one_person (command.Confirm _) p e = absurd cc
+one_person (command.Drop _) p e = absurd cc
 
 the_key : (name n : List ℕ) → IsTrue (bytes_eq name n || false) → n ≡ name
 the_key name n h = sym ((bytes_eq-Decides name n).0 (go (bytes_eq name n) h))
@@ -174,6 +182,28 @@ pub one_request : (rows : List RequestRow) (t : Tables) (number : ℕ) (found : 
     → filter (is_request_row number) t.requests ≡ listed found → ShowsRequest rows t (Some number)
 one_request rows t number found is read k e =
     subst (λ n. find (is_request_row n) rows ≡ find (is_request_row n) t.requests) (some_same number k e) (finds_alone (is_request_row number) t.requests rows found is read)
+
+pub no_proposal : (rows : List ProposalRow) (t : Tables) → ShowsProposal rows t None
+no_proposal rows t k e = absurd cc
+
+pub one_proposal : (rows : List ProposalRow) (t : Tables) (number : ℕ) (found : Option ProposalRow) → rows ≡ listed found
+    → filter (is_proposal_row number) t.proposals ≡ listed found → ShowsProposal rows t (Some number)
+one_proposal rows t number found is read k e =
+    subst (λ n. find (is_proposal_row n) rows ≡ find (is_proposal_row n) t.proposals) (some_same number k e) (finds_alone (is_proposal_row number) t.proposals rows found is read)
+
+-- what is found by the number that the command names
+pub found_by : (rows : List ProposalRow) (o : Option ℕ) (number : ℕ) (found : Option ProposalRow) → o ≡ Some number → found ≡ find (is_proposal_row number) rows → (k : ℕ) → o ≡ Some k → found ≡ find (is_proposal_row k) rows
+found_by rows o number found is read k e = subst (λ n. found ≡ find (is_proposal_row n) rows) (some_same number k (sym is ∙ e)) read
+
+-- the keys that a command reads are the same where the row of its proposal is
+pub keys_same : (c : Command) (o : Option ProposalRow) (row_of : ℕ → Option ProposalRow) → ((k : ℕ) → proposal_named c ≡ Some k → o ≡ row_of k) → keys_with c (λ k. o) ≡ keys_with c row_of
+keys_same (command.Confirm k) o row_of same = ap row_keys (same k refl)
+keys_same _ o row_of same = refl
+
+-- where those are the tables' rows, they are the keys that a call reads
+pub keys_of_tables : (t : Tables) (caller : Caller) (key : List ℕ) (c : Command) → keys_with c (λ k. find (is_proposal_row k) t.proposals) ≡ keys_asked t (called caller key c)
+keys_of_tables t caller key (command.Confirm k) = refl
+keys_of_tables t caller key _ = refl
 
 pub no_votes : (rows : List VoteRow) (t : Tables) → ShowsVotes rows t None
 no_votes rows t k e = absurd cc

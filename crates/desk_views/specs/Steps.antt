@@ -5,6 +5,7 @@ use Rattle.desk_texts.specs.Callers.{caller_name}
 use Rattle.desk_texts.specs.declared.command.Call.{Call}
 use Rattle.desk_texts.specs.declared.command.Command.{Command}
 use Rattle.desk_texts.specs.declared.command.Person.{Person}
+use Rattle.desk_history.specs.declared.rows.ProposalRow.{ProposalRow}
 use Rattle.desk_history.specs.declared.rows.RequestRow.{RequestRow}
 use Rattle.desk_history.specs.declared.rows.VoteRow.{VoteRow}
 use Rattle.desk_history.specs.People.{has_name, has_token}
@@ -12,7 +13,7 @@ use Rattle.desk_history.specs.Requests.{votes_on}
 use Rattle.desk_history.specs.Runs.{has_key}
 use Rattle.desk_history.specs.Tables.{Tables}
 use Rattle.desk_rules.specs.declared.view.Counted.{Counted}
-use Rattle.desk_rules.specs.Shown.{is_request_row, may_put, people_named, request_named, tokens_named}
+use Rattle.desk_rules.specs.Shown.{is_proposal_row, is_request_row, may_put, people_named, proposal_named, request_named, tokens_named}
 use Rattle.desk_sizes.specs.Sizes.{known}
 use Rattle.desk_sizes.specs.declared.kept.KeptSizes.{KeptSizes}
 use Rattle.desk_views.specs.declared.loading.CallRows.{CallRows}
@@ -34,12 +35,17 @@ ShowsRequest rows t number = (k : ℕ) → number ≡ Some k → find (is_reques
 abbrev pub ShowsVotes : List VoteRow → Tables → Option ℕ → Type 0
 ShowsVotes rows t number = (k : ℕ) → number ≡ Some k → IsPermutation (votes_on t.votes k) (votes_on rows k)
 
+-- the proposal, if there is a number
+abbrev pub ShowsProposal : List ProposalRow → Tables → Option ℕ → Type 0
+ShowsProposal rows t number = (k : ℕ) → number ≡ Some k → find (is_proposal_row k) rows ≡ find (is_proposal_row k) t.proposals
+
 -- all rows that a call names, but for those of the lists
 pub record ShowsNamed (n : CallRows) (t : Tables) (c : Call) : Type 0 where
   pub people : ShowsPeople n.people.items t (caller_name c.caller) c.command
   pub call : find (has_key (caller_name c.caller) c.key) n.calls.items ≡ find (has_key (caller_name c.caller) c.key) t.calls
   pub request : ShowsRequest n.requests.items t (request_named c.command)
   pub votes : ShowsVotes n.votes.items t (request_named c.command)
+  pub proposal : ShowsProposal n.proposals.items t (proposal_named c.command)
 
 -- and no other
 pub record HoldsNamed (n : CallRows) (c : Call) : Type 0 where
@@ -47,6 +53,7 @@ pub record HoldsNamed (n : CallRows) (c : Call) : Type 0 where
   pub calls : All (λ m. IsTrue (has_key (caller_name c.caller) c.key m)) n.calls.items
   pub requests : All (λ r. request_named c.command ≡ Some r.number) n.requests.items
   pub votes : All (λ r. request_named c.command ≡ Some r.request) n.votes.items
+  pub proposals : All (λ r. proposal_named c.command ≡ Some r.number) n.proposals.items
 
 -- of these tables the sizes that the command needs are known; those that were known, and those that it doesn't need, are as they
 -- were

@@ -5,14 +5,14 @@ ghost use Rattle.desk_history.specs.Formed.{IsReadable};
 ghost use Rattle.desk_history.specs.People.{has_name, has_token};
 ghost use Rattle.desk_history.specs.Runs.{has_key};
 ghost use Rattle.desk_reads.specs.Reads.{AreFound, Tells, listed};
-ghost use Rattle.desk_rules.specs.Shown.{is_request_row};
+ghost use Rattle.desk_rules.specs.Shown.{is_proposal_row, is_request_row};
 ghost use Rattle.desk_sql.specs.States.{DoesInside, Keeps, Spares, StaysInside};
 ghost use Rattle.desk_statements.specs.Tables as tables;
 
 use desk_bytes::Digest;
-use desk_history::{Minute, RequestRow, VoteRow};
+use desk_history::{Minute, ProposalRow, RequestRow, VoteRow};
 use desk_reads::{ReadFault, call_of, person_named, person_of_token, request_numbered, votes_of};
-use desk_texts::{Key, Person, RequestNumber};
+use desk_texts::{Key, Person, ProposalNumber, RequestNumber};
 use sqlite::{Alter, Transaction};
 use std::alloc::Global;
 
@@ -110,6 +110,23 @@ pub(crate) fn request<S: Alter>(
         return Err(ReadFault::Row);
     }
     Ok(Some(row))
+}
+
+/// The proposal of this number. A stand-in until rows of proposals are read: it gives up.
+pub(crate) fn proposal<S: Alter>(
+    alloc: Global,
+    tx: &mut Transaction<'_, S>,
+    number: ProposalNumber,
+) -> Result<Option<ProposalRow>, ReadFault>
+    ensures same_reference { tx.new.conn.ghost_name ≡ tx.old.conn.ghost_name }
+    ensures value { DoesInside S.Store tx.old.conn.now tx.new.conn.now result
+        (λ row. Tells (λ t. filter (is_proposal_row number) t.proposals ≡ listed row)) }
+    ensures only { IfOk result (λ row. All (λ r. r.number ≡ number) (listed row)) }
+    ensures inside { StaysInside S.Store tx.old.conn.now tx.new.conn.now result }
+    ensures kept { Keeps S.Store tx.old.conn.now tx.new.conn.now }
+    ensures survives { Spares S.Store tx.old.conn.now tx.new.conn.now }
+{
+    Err(ReadFault::NoMemory)
 }
 
 /// Whether each of the votes is on the request.

@@ -10,12 +10,12 @@ ghost use Rattle.desk_sql.specs.States.{DoesInside, Keeps, Spares, StaysInside};
 ghost use Rattle.desk_texts.specs.Callers.{caller_name};
 ghost use Rattle.desk_views.specs.Named.{is_named_person};
 ghost use Rattle.desk_views.specs.Steps.{HoldsNamed, ShowsNamed, ShowsPeople};
-ghost use Rattle.desk_views.specs.Steps.{ShowsRequest, ShowsVotes};
+ghost use Rattle.desk_views.specs.Steps.{ShowsProposal, ShowsRequest, ShowsVotes};
 
 use crate::keyed;
-use desk_history::{Minute, RequestRow, VoteRow};
+use desk_history::{Minute, ProposalRow, RequestRow, VoteRow};
 use desk_reads::ReadFault;
-use desk_texts::{Caller, Command, Key, Person, RequestNumber};
+use desk_texts::{Caller, Command, Key, Person, ProposalNumber, RequestNumber};
 use sqlite::{Alter, Transaction};
 use std::alloc::Global;
 
@@ -26,6 +26,7 @@ pub(crate) struct CallRows {
     pub(crate) calls: Vec<Minute>,
     pub(crate) requests: Vec<RequestRow>,
     pub(crate) votes: Vec<VoteRow>,
+    pub(crate) proposals: Vec<ProposalRow>,
 }
 
 /// Puts a row to the others, if there is one.
@@ -57,7 +58,9 @@ fn added(command: &Command) -> Option<&Person>
         | Command::RevokeDigest(_)
         | Command::RevokeCertificate(_)
         | Command::RaiseLevel(_)
-        | Command::ImportRevocations(_) => None,
+        | Command::ImportRevocations(_)
+        | Command::Confirm(_)
+        | Command::Drop(_) => None,
     }
 }
 
@@ -77,7 +80,53 @@ fn request_of(command: &Command) -> Option<RequestNumber>
         | Command::RevokeDigest(_)
         | Command::RevokeCertificate(_)
         | Command::RaiseLevel(_)
+        | Command::ImportRevocations(_)
+        | Command::Confirm(_)
+        | Command::Drop(_) => None,
+    }
+}
+
+/// The number of the proposal that the command names.
+fn proposal_of(command: &Command) -> Option<ProposalNumber>
+    ensures { result ≡ spec.proposal_named command.now }
+{
+    match command {
+        Command::Confirm(number) | Command::Drop(number) => Some(*number),
+        Command::AddPerson(_)
+        | Command::Submit(_)
+        | Command::Review(_)
+        | Command::Withdraw(_)
+        | Command::Return(_)
+        | Command::ListCertificate(_)
+        | Command::ListDigest(_)
+        | Command::Unlist(_)
+        | Command::RevokeDigest(_)
+        | Command::RevokeCertificate(_)
+        | Command::RaiseLevel(_)
         | Command::ImportRevocations(_) => None,
+    }
+}
+
+/// The row of the proposal of this number.
+fn row_numbered(proposals: &[ProposalRow], number: ProposalNumber) -> Option<&ProposalRow>
+    ensures { option_copied result ≡ find (spec.is_proposal_row number) proposals.now }
+{
+    proposals
+        .iter()
+        .find(|row| number.value() == row.number.value())
+}
+
+/// The row of the proposal that the command names.
+pub(crate) fn named_row<'a>(
+    proposals: &'a [ProposalRow],
+    command: &Command,
+) -> Option<&'a ProposalRow>
+    ensures { (k : ℕ) → spec.proposal_named command.now ≡ Some k → option_copied result
+        ≡ find (spec.is_proposal_row k) proposals.now }
+{
+    match proposal_of(command) {
+        None => None,
+        Some(number) => row_numbered(proposals, number),
     }
 }
 
@@ -179,6 +228,29 @@ fn votes_of<S: Alter>(
     Ok(rows)
 }
 
+/// The proposal that the command names.
+fn proposals_of<S: Alter>(
+    alloc: Global,
+    tx: &mut Transaction<'_, S>,
+    command: &Command,
+) -> Result<Vec<ProposalRow>, ReadFault>
+    ensures same_reference { tx.new.conn.ghost_name ≡ tx.old.conn.ghost_name }
+    ensures value { DoesInside S.Store tx.old.conn.now tx.new.conn.now result
+        (λ rows. Tells (λ t. ShowsProposal rows.items t (spec.proposal_named command.now))) }
+    ensures only { IfOk result (λ rows.
+        All (λ r. spec.proposal_named command.now ≡ Some r.number) rows.items) }
+    ensures kept { Keeps S.Store tx.old.conn.now tx.new.conn.now }
+    ensures survives { Spares S.Store tx.old.conn.now tx.new.conn.now }
+{
+    let mut rows = Vec::new(alloc);
+    let Some(number) = proposal_of(command) else {
+        return Ok(rows);
+    };
+    let row = keyed::proposal(alloc, tx, number)?;
+    put(&mut rows, row)?;
+    Ok(rows)
+}
+
 /// The rows that the call names, but for those of the lists.
 pub(crate) fn rows_of_call<S: Alter>(
     alloc: Global,
@@ -200,10 +272,12 @@ pub(crate) fn rows_of_call<S: Alter>(
     let calls = calls_of(alloc, tx, caller, key)?;
     let requests = requests_of(alloc, tx, command)?;
     let votes = votes_of(alloc, tx, command)?;
+    let proposals = proposals_of(alloc, tx, command)?;
     Ok(CallRows {
         people,
         calls,
         requests,
         votes,
+        proposals,
     })
 }

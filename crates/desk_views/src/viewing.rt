@@ -14,11 +14,11 @@ ghost use Rattle.desk_reads.specs.Failures.{IsFailure};
 ghost use Rattle.desk_views.specs.Named.{HoldsNoRowBeyond};
 ghost use Rattle.desk_views.specs.Learning.{Learns};
 
-use crate::loading::rows_of_call;
+use crate::loading::{named_row, rows_of_call};
 use crate::sizes::learn;
 use desk_bytes::Refusal;
 use desk_history::minutes_are_readable;
-use desk_list_views::lists_named;
+use desk_list_views::lists_asked;
 use desk_reads::{ReadFault, own_row};
 use desk_rules::View;
 use desk_sizes::KeptSizes;
@@ -55,7 +55,8 @@ fn see<S: Alter>(
 {
     let own = own_row(alloc, tx)?;
     let rows = rows_of_call(alloc, tx, caller, key, command)?;
-    let lists = lists_named(alloc, tx, command)?;
+    let proposal = named_row(&rows.proposals, command);
+    let lists = lists_asked(alloc, tx, command, proposal)?;
     let known = learn(tx, sizes, command)?;
     let view = View {
         stamp: own.stamp,
@@ -64,6 +65,7 @@ fn see<S: Alter>(
         calls: rows.calls,
         requests: rows.requests,
         votes: rows.votes,
+        proposals: rows.proposals,
         lists,
     };
     Ok(Seen { view, sizes: known })

@@ -1,10 +1,15 @@
-use Rattle.std.proofs.Common.{ap, arith}
+use Rattle.std.proofs.Common.{◌∙◌, ap, arith, subst}
+use Rattle.std.specs.Prelude.{find, option_copied}
 use Rattle.sqlite.specs.Held.{state}
 use Rattle.sqlite.specs.State.{HasCleanDisk}
 use Rattle.desk_contents.specs.Contents.{contents}
 use Rattle.desk_history.specs.Tables.{DeskRow}
 use Rattle.desk_sql.proofs.StopLemmas.{changes_then}
 use Rattle.desk_statements.specs.Tables.{desk_schema}
+use Rattle.desk_rules.specs.Shown.{is_proposal_row}
+use Rattle.desk_rules.specs.Views.{ShowsLists}
+use Rattle.desk_list_views.specs.Lists.{HoldsNoOther}
+use Rattle.desk_views.proofs.NamedLemmas.{keys_of_tables, keys_same}
 use Rattle.desk_views.proofs.viewing.see.Goals as goal
 
 pub returns-clause-value : goal.returns-clause-value
@@ -12,7 +17,7 @@ returns-clause-value g c clean inside =
     let s0 = state g.S.Store c.args.tx.now.conn.now in
     let s1 = state g.S.Store c.own_row.new.tx.conn.now in
     let s2 = state g.S.Store c.rows_of_call.new.tx.conn.now in
-    let s3 = state g.S.Store c.lists_named.new.tx.conn.now in
+    let s3 = state g.S.Store c.lists_asked.new.tx.conn.now in
     let s4 = state g.S.Store c.learn.new.tx.conn.now in
     let c3 : HasCleanDisk s3 = omega (arith, c.in_ok-known.ensures.survives.clean, clean) in
     let c2 : HasCleanDisk s2 = omega (arith, c.in_ok-lists.ensures.survives.clean, c3) in
@@ -41,8 +46,27 @@ returns-clause-value g c clean inside =
               call = rows.call;
               request = rows.request;
               votes = rows.votes;
-              lists = d.tells t sees2;
+              proposal = rows.proposal;
+              lists = subst (λ k. ShowsLists c.in_ok-lists.lists t k)
+                  (keys_same c.args.command.now (option_copied c.named_row-proposal.result) (λ k. find (is_proposal_row k) t.proposals) (λ k named. c.named_row-proposal.ensures k named ∙ (ap (λ l. find (is_proposal_row k) l) c.deref.ensures.value ∙ rows.proposal k named))
+                  ∙ keys_of_tables t c.args.caller.now c.args.key.now c.args.command.now)
+                  (d.tells t sees2);
             },
             known,
           );
+    }
+
+pub returns-clause-only : goal.returns-clause-only
+returns-clause-only g c =
+    let held = c.in_ok-rows.ensures.only in
+    record {
+      people = held.people;
+      calls = held.calls;
+      requests = held.requests;
+      votes = held.votes;
+      proposals = held.proposals;
+      lists = subst (λ k. HoldsNoOther c.in_ok-lists.lists k)
+          (keys_same c.args.command.now (option_copied c.named_row-proposal.result) (λ k. find (is_proposal_row k) c.in_ok-rows.rows.proposals.items)
+          (λ k named. c.named_row-proposal.ensures k named ∙ ap (λ l. find (is_proposal_row k) l) c.deref.ensures.value))
+          c.in_ok-lists.ensures.only;
     }
