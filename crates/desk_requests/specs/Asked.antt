@@ -10,7 +10,7 @@ use Rattle.desk_requests.specs.declared.ask.Asked.TheVariants as asks
 use Rattle.desk_requests.specs.declared.route.Route.{Route}
 use Rattle.desk_requests.specs.declared.route.Route.TheVariants as route
 use Rattle.desk_requests.specs.declared.fault.AskedFault.{AskedFault}
-use Rattle.desk_requests.specs.declared.fault.AskedFault.TheVariants.{BadField, NoSuchRequest, NoMemory}
+use Rattle.desk_requests.specs.declared.fault.AskedFault.TheVariants.{BadField, NoSuchRequest, NoSuchProposal, NoMemory}
 
 -- the key that a field gives, if it is one
 abbrev pub key_of : Option (List ℕ) → Option (List ℕ)
@@ -63,6 +63,11 @@ abbrev pub numbered : Option ℕ → (ℕ → Asked) → Result Asked AskedFault
 numbered None ask = Err NoSuchRequest
 numbered (Some number) ask = Ok (ask number)
 
+-- what is asked for of a proposal
+abbrev pub of_proposal : Option ℕ → (ℕ → Asked) → Result Asked AskedFault
+of_proposal None ask = Err NoSuchProposal
+of_proposal (Some number) ask = Ok (ask number)
+
 -- what is asked for at a route
 abbrev pub asked_at : Route → Want → Result Asked AskedFault
 asked_at route.Submit w = keyed (key_in w) (λ key. titled (title_in w) (λ title. asks.Submit key title))
@@ -80,6 +85,9 @@ asked_at route.RaiseLevel w = keyed (key_in w) (λ key. Ok (asks.RaiseLevel key)
 asked_at route.ImportDbx w = keyed (key_in w) (λ key. Ok (asks.ImportDbx key))
 asked_at route.ImportCsv w = keyed (key_in w) (λ key. stamped (stamp_in w) (λ stamp. asks.ImportCsv key stamp))
 asked_at route.ImportLevel w = keyed (key_in w) (λ key. Ok (asks.ImportLevel key))
+asked_at route.Confirm w = keyed (key_in w) (λ key. of_proposal (number_in w) (λ number. asks.Confirm key number))
+asked_at route.Drop w = keyed (key_in w) (λ key. of_proposal (number_in w) (λ number. asks.Drop key number))
+asked_at route.Proposals w = Ok asks.Proposals
 asked_at route.Verdict w = Ok asks.Verdict
 asked_at route.Dbx w = Ok asks.Dbx
 asked_at route.Db w = Ok asks.Db

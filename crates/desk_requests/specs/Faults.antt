@@ -21,4 +21,5 @@ wanted_refusal wanted.NoMemory = refusal.NoMemory
 abbrev pub asked_refusal : AskedFault → Refusal
 asked_refusal asked.BadField = refusal.BadField
 asked_refusal asked.NoSuchRequest = refusal.NoSuchRequest
+asked_refusal asked.NoSuchProposal = refusal.NoSuchProposal
 asked_refusal asked.NoMemory = refusal.NoMemory

@@ -7,7 +7,7 @@ use Rattle.matchit.specs.Seek.{first}
 use Rattle.matchit.specs.Router.{RouteOf, route_from}
 use Rattle.matchit.specs.declared.error.InsertError.{InsertError}
 use Rattle.desk_requests.specs.declared.path.Path.{Path}
-use Rattle.desk_requests.specs.declared.path.Path.TheVariants.{Requests, Request, Review, Withdraw, Return, DbCertificates, DbDigests, DbUnlist, DbxDigests, DbxCertificates, Level, ImportsDbx, ImportsCsv, ImportsLevel, Verdict, Dbx, Db, Report}
+use Rattle.desk_requests.specs.declared.path.Path.TheVariants.{Requests, Request, Review, Withdraw, Return, DbCertificates, DbDigests, DbUnlist, DbxDigests, DbxCertificates, Level, ImportsDbx, ImportsCsv, ImportsLevel, Proposals, Confirm, Drop, Verdict, Dbx, Db, Report}
 
 -- the rows of a router
 abbrev pub Table : Type 0
@@ -32,6 +32,13 @@ with_requests rows =
     (added (codes "/requests/{no}") Request
     (added (codes "/requests") Requests rows)))))
 
+-- the rows with the paths of proposals
+unfoldable pub with_proposals : Table → Table
+with_proposals rows =
+    added (codes "/proposals/{no}/drop") Drop
+    (added (codes "/proposals/{no}/confirm") Confirm
+    (added (codes "/proposals") Proposals rows))
+
 -- the rows with the paths of what is listed and revoked
 unfoldable pub with_lists : Table → Table
 with_lists rows =
@@ -54,7 +61,7 @@ with_rest rows =
 
 -- the table
 unfoldable pub table : Table
-table = with_rest (with_lists (with_requests []))
+table = with_rest (with_lists (with_proposals (with_requests [])))
 
 -- the path that a request's target is, by the definition of `matchit`
 unfoldable pub path_of : List ℕ → Option Path

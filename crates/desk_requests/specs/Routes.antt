@@ -12,6 +12,7 @@ use Rattle.desk_requests.specs.declared.route.Methods.TheVariants as methods
 abbrev pub got : Path → Option Route
 got path.Requests = Some route.Requests
 got path.Request = Some route.Request
+got path.Proposals = Some route.Proposals
 got path.Level = Some route.Level
 got path.Dbx = Some route.Dbx
 got path.Db = Some route.Db
@@ -33,6 +34,8 @@ posted path.Level = Some route.RaiseLevel
 posted path.ImportsDbx = Some route.ImportDbx
 posted path.ImportsCsv = Some route.ImportCsv
 posted path.ImportsLevel = Some route.ImportLevel
+posted path.Confirm = Some route.Confirm
+posted path.Drop = Some route.Drop
 posted path.Verdict = Some route.Verdict
 posted _ = None
 
@@ -58,6 +61,7 @@ methods_text methods.GetAndPost = codes "GET, POST"
 abbrev pub is_read : Route → Bool
 is_read route.Requests = true
 is_read route.Request = true
+is_read route.Proposals = true
 is_read route.Dbx = true
 is_read route.Db = true
 is_read route.Level = true

@@ -1,6 +1,6 @@
 //! What a request asks for, but for its body.
 
-use desk_texts::{Key, RequestNumber, Title};
+use desk_texts::{Key, ProposalNumber, RequestNumber, Title};
 use sbat::Stamp;
 
 /// What a request asks for, but for its body: a route with the values that it needs, each in its form. A
@@ -23,6 +23,9 @@ pub enum Asked {
     /// With the stamp of Desk-Stamp, if the request has that field.
     ImportCsv(Key, Option<Stamp>),
     ImportLevel(Key),
+    Confirm(Key, ProposalNumber),
+    Drop(Key, ProposalNumber),
+    Proposals,
     Verdict,
     Dbx,
     Db,

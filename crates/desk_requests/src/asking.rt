@@ -2,10 +2,10 @@
 ghost use Rattle.std.specs.Prelude.{◌≡◌};
 ghost use Rattle.desk_requests.specs.Asked as spec;
 ghost use Rattle.desk_requests.specs.Wanted as want;
-ghost use Rattle.desk_requests.specs.declared.fault.AskedFault.TheVariants.{BadField, NoSuchRequest};
+ghost use Rattle.desk_requests.specs.declared.fault.AskedFault.TheVariants.{BadField, NoSuchProposal, NoSuchRequest};
 
 use crate::{Asked, AskedFault, Route, Wanted};
-use desk_texts::{GREATEST_NUMBER, Key, RequestNumber, TextFault, Title};
+use desk_texts::{GREATEST_NUMBER, Key, ProposalNumber, RequestNumber, TextFault, Title};
 use sbat::Stamp;
 use std::alloc::Global;
 
@@ -58,7 +58,7 @@ fn stamp(wanted: &Wanted<'_>) -> Result<Option<Stamp>, AskedFault>
     }
 }
 
-/// The number that stands for `{no}`.
+/// The number of a request that stands for `{no}`.
 fn number(wanted: &Wanted<'_>) -> Result<RequestNumber, AskedFault>
     ensures { spec.GivesOr NoSuchRequest (spec.number_in (want.shown wanted.now)) result }
 {
@@ -69,10 +69,21 @@ fn number(wanted: &Wanted<'_>) -> Result<RequestNumber, AskedFault>
     Ok(number)
 }
 
+/// The number of a proposal that stands for `{no}`.
+fn proposal(wanted: &Wanted<'_>) -> Result<ProposalNumber, AskedFault>
+    ensures { spec.GivesOr NoSuchProposal (spec.number_in (want.shown wanted.now)) result }
+{
+    let Some(number) = ProposalNumber::parse(wanted.number) else {
+        return Err(AskedFault::NoSuchProposal);
+    };
+    prove!(number.value() <= GREATEST_NUMBER);
+    Ok(number)
+}
+
 /// What a request asks for, but for its body, or the first check that fails: a command has a Desk-Key in its
 /// form, a new request a Desk-Title, a Desk-Stamp of `/imports/csv` is in its form (else BadField); `{no}` is
-/// 1 to 6 digits without a leading zero (else NoSuchRequest). To be called once the caller and the whole body
-/// are known. Takes memory for texts.
+/// 1 to 6 digits without a leading zero (else NoSuchRequest, or NoSuchProposal at a path of proposals). To be
+/// called once the caller and the whole body are known. Takes memory for texts.
 pub fn asked(alloc: Global, wanted: &Wanted<'_>) -> Result<Asked, AskedFault>
     ensures { spec.Gives (spec.asked_of (want.shown wanted.now)) result }
 {
@@ -105,8 +116,17 @@ pub fn asked(alloc: Global, wanted: &Wanted<'_>) -> Result<Asked, AskedFault>
             Ok(Asked::ImportCsv(key, stamp(wanted)?))
         }
         Route::ImportLevel => Ok(Asked::ImportLevel(key(alloc, wanted)?)),
+        Route::Confirm => {
+            let key = key(alloc, wanted)?;
+            Ok(Asked::Confirm(key, proposal(wanted)?))
+        }
+        Route::Drop => {
+            let key = key(alloc, wanted)?;
+            Ok(Asked::Drop(key, proposal(wanted)?))
+        }
         Route::Request => Ok(Asked::Request(number(wanted)?)),
         Route::Requests => Ok(Asked::Requests),
+        Route::Proposals => Ok(Asked::Proposals),
         Route::Verdict => Ok(Asked::Verdict),
         Route::Dbx => Ok(Asked::Dbx),
         Route::Db => Ok(Asked::Db),

@@ -33,6 +33,8 @@ pub enum AskedFault {
     BadField,
     /// What stands for `{no}` is no request's number.
     NoSuchRequest,
+    /// What stands for `{no}` is no proposal's number.
+    NoSuchProposal,
     /// Memory was refused.
     NoMemory,
 }
@@ -63,6 +65,7 @@ impl AskedFault {
         match self {
             AskedFault::BadField => Refusal::BadField,
             AskedFault::NoSuchRequest => Refusal::NoSuchRequest,
+            AskedFault::NoSuchProposal => Refusal::NoSuchProposal,
             AskedFault::NoMemory => Refusal::NoMemory,
         }
     }

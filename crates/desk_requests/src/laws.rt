@@ -13,6 +13,14 @@ pub fn paths_of_requests_are_found()
     ensures no_number { path_of (codes "/requests/x/review") ≡ Some path.Review }
 {}
 
+/// The paths of proposals are found, also with a part that is no proposal's number.
+pub fn paths_of_proposals_are_found()
+    ensures proposals { path_of (codes "/proposals") ≡ Some path.Proposals }
+    ensures confirm { path_of (codes "/proposals/12/confirm") ≡ Some path.Confirm }
+    ensures drop { path_of (codes "/proposals/12/drop") ≡ Some path.Drop }
+    ensures no_number { path_of (codes "/proposals/x/confirm") ≡ Some path.Confirm }
+{}
+
 /// The paths of what is listed and revoked are found.
 pub fn paths_of_lists_are_found()
     ensures db { path_of (codes "/db") ≡ Some path.Db }
@@ -34,9 +42,11 @@ pub fn other_paths_are_found()
     ensures report { path_of (codes "/report") ≡ Some path.Report }
 {}
 
-/// A path isn't found with a query, with a slash at its end, or with nothing for its part.
+/// A path isn't found with a query, with a slash at its end, or with nothing for its part, and a proposal
+/// alone has none.
 pub fn no_other_path_is_found()
     ensures query { path_of (codes "/level?x") ≡ None }
     ensures end { path_of (codes "/level/") ≡ None }
     ensures no_part { path_of (codes "/requests/") ≡ None }
+    ensures proposal { path_of (codes "/proposals/12") ≡ None }
 {}

@@ -17,7 +17,7 @@ pub use asking::asked;
 pub use fault::{AskedFault, WantedFault};
 pub use laws::{
     no_other_path_is_found, other_paths_are_found, paths_of_lists_are_found,
-    paths_of_requests_are_found,
+    paths_of_proposals_are_found, paths_of_requests_are_found,
 };
 pub use path::Path;
 pub use route::{Methods, Route};

@@ -1,6 +1,6 @@
 //! The paths that the desk answers at.
 
-/// A path of the table. `{no}` stands for a request's number.
+/// A path of the table. `{no}` stands for a request's number, or a proposal's.
 #[derive(Clone, Copy, Debug, PartialEq, Eq)]
 pub enum Path {
     /// `/requests`
@@ -31,6 +31,12 @@ pub enum Path {
     ImportsCsv,
     /// `/imports/level`
     ImportsLevel,
+    /// `/proposals`
+    Proposals,
+    /// `/proposals/{no}/confirm`
+    Confirm,
+    /// `/proposals/{no}/drop`
+    Drop,
     /// `/verdict`
     Verdict,
     /// `/dbx`

@@ -41,6 +41,12 @@ pub enum Route {
     ImportCsv,
     /// `POST /imports/level`, with a level's text.
     ImportLevel,
+    /// `POST /proposals/{no}/confirm`; the body has no effect.
+    Confirm,
+    /// `POST /proposals/{no}/drop`; the body has no effect.
+    Drop,
+    /// `GET /proposals`
+    Proposals,
     /// `POST /verdict`, with an image.
     Verdict,
     /// `GET /dbx`
@@ -94,6 +100,9 @@ impl Route {
             | Route::ImportDbx
             | Route::ImportCsv
             | Route::ImportLevel
+            | Route::Confirm
+            | Route::Drop
+            | Route::Proposals
             | Route::Dbx
             | Route::Db
             | Route::Level
@@ -108,6 +117,7 @@ impl Route {
         match self {
             Route::Requests
             | Route::Request
+            | Route::Proposals
             | Route::Dbx
             | Route::Db
             | Route::Level
@@ -125,6 +135,8 @@ impl Route {
             | Route::ImportDbx
             | Route::ImportCsv
             | Route::ImportLevel
+            | Route::Confirm
+            | Route::Drop
             | Route::Verdict => false,
         }
     }
@@ -137,6 +149,7 @@ fn got(path: Path) -> Option<Route>
     match path {
         Path::Requests => Some(Route::Requests),
         Path::Request => Some(Route::Request),
+        Path::Proposals => Some(Route::Proposals),
         Path::Level => Some(Route::Level),
         Path::Dbx => Some(Route::Dbx),
         Path::Db => Some(Route::Db),
@@ -152,6 +165,8 @@ fn got(path: Path) -> Option<Route>
         | Path::ImportsDbx
         | Path::ImportsCsv
         | Path::ImportsLevel
+        | Path::Confirm
+        | Path::Drop
         | Path::Verdict => None,
     }
 }
@@ -174,8 +189,10 @@ fn posted(path: Path) -> Option<Route>
         Path::ImportsDbx => Some(Route::ImportDbx),
         Path::ImportsCsv => Some(Route::ImportCsv),
         Path::ImportsLevel => Some(Route::ImportLevel),
+        Path::Confirm => Some(Route::Confirm),
+        Path::Drop => Some(Route::Drop),
         Path::Verdict => Some(Route::Verdict),
-        Path::Request | Path::Dbx | Path::Db | Path::Report => None,
+        Path::Request | Path::Proposals | Path::Dbx | Path::Db | Path::Report => None,
     }
 }
 

@@ -1,6 +1,6 @@
 //! The table of paths.
 ghost use Rattle.std.specs.Prelude.{◌≡◌, [], IfOk, OnOk};
-ghost use Rattle.desk_requests.specs.Paths.{added, path_of, table, with_lists, with_requests, with_rest};
+ghost use Rattle.desk_requests.specs.Paths.{added, path_of, table, with_lists, with_proposals, with_requests, with_rest};
 
 use crate::Path;
 use matchit::{InsertError, Router};
@@ -25,6 +25,7 @@ fn router(alloc: Global) -> Result<Router<Path>, InsertError>
 {
     let mut router = Router::new(alloc);
     add_requests(&mut router)?;
+    add_proposals(&mut router)?;
     add_lists(&mut router)?;
     add_rest(&mut router)?;
     Ok(router)
@@ -40,6 +41,16 @@ fn add_requests(router: &mut Router<Path>) -> Result<(), InsertError>
     add(router, "/requests/{no}/withdraw", Path::Withdraw)?;
     add(router, "/requests/{no}/return", Path::Return)?;
     add(router, "/verdict", Path::Verdict)?;
+    Ok(())
+}
+
+/// The paths of proposals.
+fn add_proposals(router: &mut Router<Path>) -> Result<(), InsertError>
+    ensures { OnOk result (router.new ≡ with_proposals router.old) }
+{
+    add(router, "/proposals", Path::Proposals)?;
+    add(router, "/proposals/{no}/confirm", Path::Confirm)?;
+    add(router, "/proposals/{no}/drop", Path::Drop)?;
     Ok(())
 }
 
