@@ -80,6 +80,12 @@ pub enum Refused {
     NameTaken,
     /// The desk has reached a stated limit.
     Full,
+    /// No proposal has that number.
+    NoSuchProposal,
+    /// Nobody confirms a proposal of their own.
+    OwnProposal,
+    /// The proposal was confirmed or dropped already.
+    ProposalClosed,
     /// The head of an HTTP request is wrong, too long or cut short.
     BadHead,
     /// A field of an HTTP request is wrong, or stands twice.
@@ -137,6 +143,9 @@ impl Refused {
             Refusal::NotThere => Refused::NotThere,
             Refusal::NameTaken => Refused::NameTaken,
             Refusal::Full => Refused::Full,
+            Refusal::NoSuchProposal => Refused::NoSuchProposal,
+            Refusal::OwnProposal => Refused::OwnProposal,
+            Refusal::ProposalClosed => Refused::ProposalClosed,
             Refusal::BadHead => Refused::BadHead,
             Refusal::BadField => Refused::BadField,
             Refusal::BadBody => Refused::BadBody,
@@ -201,6 +210,9 @@ impl Refused {
             Refused::NotThere => Refusal::NotThere,
             Refused::NameTaken => Refusal::NameTaken,
             Refused::Full => Refusal::Full,
+            Refused::NoSuchProposal => Refusal::NoSuchProposal,
+            Refused::OwnProposal => Refusal::OwnProposal,
+            Refused::ProposalClosed => Refusal::ProposalClosed,
             Refused::BadHead => Refusal::BadHead,
             Refused::BadField => Refusal::BadField,
             Refused::BadBody => Refusal::BadBody,
@@ -236,7 +248,9 @@ impl Refused {
             Refused::BadHead | Refused::BadField => Status::BadRequest,
             Refused::UnknownCaller => Status::Unauthorized,
             Refused::NotYourRole => Status::Forbidden,
-            Refused::NoSuchRequest | Refused::NoRoute => Status::NotFound,
+            Refused::NoSuchRequest | Refused::NoSuchProposal | Refused::NoRoute => {
+                Status::NotFound
+            }
             Refused::BadMethod(methods) => Status::MethodNotAllowed(methods),
             Refused::KeyReused
             | Refused::WrongState
@@ -251,7 +265,9 @@ impl Refused {
             | Refused::AlreadyListed
             | Refused::NotThere
             | Refused::NameTaken
-            | Refused::Full => Status::Conflict,
+            | Refused::Full
+            | Refused::OwnProposal
+            | Refused::ProposalClosed => Status::Conflict,
             Refused::LengthNeeded => Status::LengthRequired,
             Refused::TooLarge => Status::PayloadTooLarge,
             Refused::Short
