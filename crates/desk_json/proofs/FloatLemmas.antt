@@ -8,11 +8,13 @@ use Rattle.serde_json.specs.Written.{has_float, items_have_float}
 use Rattle.sbat.specs.declared.component.Component.{Component}
 use Rattle.desk_history.specs.declared.finding.Verdict.{Verdict}
 use Rattle.desk_history.specs.declared.finding.Verdict.TheVariants.{Allowed, DbxCertificate, DbxDigest, NotListed, Sbat}
+use Rattle.desk_texts.specs.declared.proposal.Proposal.{Proposal}
 use Rattle.desk_texts.specs.declared.reply.Reply.{Reply}
-use Rattle.desk_texts.specs.declared.reply.Reply.TheVariants.{Added, Submitted, Reviewed, Withdrawn, Returned, Listed, Unlisted, Revoked, Raised, Imported}
+use Rattle.desk_texts.specs.declared.reply.Reply.TheVariants.{Added, Submitted, Reviewed, Withdrawn, Returned, Listed, Unlisted, Revoked, Raised, Imported, Proposed, Confirmed, Dropped}
 use Rattle.desk_texts.specs.declared.shown.ShownRequest.{ShownRequest}
 use Rattle.desk_texts.specs.declared.shown.ShownReturn.{ShownReturn}
 use Rattle.desk_json.specs.Values.{digest_data, component_data}
+use Rattle.desk_json.specs.Proposals.{proposal_data}
 use Rattle.desk_json.specs.Replies.{reply_data}
 use Rattle.desk_json.specs.Requests.{request_data, returned_data, vote_data}
 use Rattle.desk_json.specs.Verdicts.{below_data, verdict_data}
@@ -42,6 +44,10 @@ request_has_no_float r =
 pub requests_have_no_float : (rs : List ShownRequest) → items_have_float (items_of (map request_data rs)) ≡ false
 requests_have_no_float rs = no_item_has_float request_data request_has_no_float rs
 
+-- proposals have none
+pub proposals_have_no_float : (ps : List Proposal) → items_have_float (items_of (map proposal_data ps)) ≡ false
+proposals_have_no_float ps = no_item_has_float proposal_data (λ p. refl) ps
+
 -- if there is a value, it has none
 abbrev HasNoFloat : Option Data → Type 0
 HasNoFloat None = ⊤
@@ -59,6 +65,9 @@ reply_cases Unlisted = refl
 reply_cases Revoked = refl
 reply_cases Raised = refl
 reply_cases (Imported counts) = refl
+reply_cases (Proposed proposal) = refl
+reply_cases (Confirmed confirmation) = refl
+reply_cases (Dropped proposal) = refl
 
 -- the value that is made of a reply has none
 pub reply_has_no_float : (reply : Reply) (v : Value) → Some (view v) ≡ reply_data reply → has_float (view v) ≡ false

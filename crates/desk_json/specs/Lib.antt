@@ -1,4 +1,5 @@
 pub mod Members
+pub mod Proposals
 pub mod Replies
 pub mod Requests
 pub mod Values

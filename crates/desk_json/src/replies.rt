@@ -4,7 +4,7 @@ ghost use Rattle.serde_json.specs.View.{view};
 ghost use Rattle.serde_json.specs.Written.{compact_text};
 ghost use Rattle.desk_json.specs.Replies as spec;
 
-use desk_texts::{Counts, Outcome, Reply, RequestNumber};
+use desk_texts::{Confirmation, Counts, Outcome, ProposalNumber, Reply, RequestNumber};
 use serde_json::{Value, json};
 use std::alloc::{AllocError, Global};
 
@@ -51,6 +51,35 @@ fn imported(alloc: Global, counts: Counts) -> Result<Value, AllocError>
     })
 }
 
+/// A word, and the proposal that it is about.
+fn of_proposal(alloc: Global, word: &str, proposal: ProposalNumber) -> Result<Value, AllocError>
+    ensures { IfOk result (λ v. view v ≡ spec.about_proposal word.now proposal) }
+{
+    let number = proposal.value();
+    json!(in alloc; {"proposal": number, "reply": word})
+}
+
+/// What a proposal changed when it was confirmed.
+fn confirmed(alloc: Global, confirmation: Confirmation) -> Result<Value, AllocError>
+    ensures { IfOk result (λ v. view v ≡ spec.confirmed_data confirmation) }
+{
+    let number = confirmation.proposal.value();
+    let Counts {
+        digests,
+        certificates,
+        components,
+        passed,
+    } = confirmation.counts;
+    json!(in alloc; {
+        "certificates": certificates,
+        "components": components,
+        "digests": digests,
+        "passed": passed,
+        "proposal": number,
+        "reply": "confirmed",
+    })
+}
+
 /// A reply, or `None` where it has no JSON.
 fn value_of(alloc: Global, reply: &Reply) -> Result<Option<Value>, AllocError>
     ensures { IfOk result (λ value. option_map view value ≡ spec.reply_data reply.now) }
@@ -66,6 +95,9 @@ fn value_of(alloc: Global, reply: &Reply) -> Result<Option<Value>, AllocError>
         Reply::Revoked => word(alloc, "revoked")?,
         Reply::Raised => word(alloc, "raised")?,
         Reply::Imported(counts) => imported(alloc, *counts)?,
+        Reply::Proposed(proposal) => of_proposal(alloc, "proposed", *proposal)?,
+        Reply::Confirmed(confirmation) => confirmed(alloc, *confirmation)?,
+        Reply::Dropped(proposal) => of_proposal(alloc, "dropped", *proposal)?,
     };
     Ok(Some(value))
 }
