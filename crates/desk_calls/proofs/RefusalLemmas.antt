@@ -68,6 +68,9 @@ told_by_rules refusals.AlreadyListed h = refl
 told_by_rules refusals.NotThere h = refl
 told_by_rules refusals.NameTaken h = refl
 told_by_rules refusals.Full h = refl
+told_by_rules refusals.NoSuchProposal h = refl
+told_by_rules refusals.OwnProposal h = refl
+told_by_rules refusals.ProposalClosed h = refl
 told_by_rules refusals.NoMemory h = refl
 told_by_rules refusals.Store h = absurd (not_true h)
 told_by_rules refusals.Reopen h = absurd (not_true h)
@@ -90,7 +93,7 @@ told_outage r (inl e) = subst (λ x. IsSome (refused_of x)) (sym e) refl
 told_outage r (inr (inl e)) = subst (λ x. IsSome (refused_of x)) (sym e) refl
 told_outage r (inr (inr e)) = subst (λ x. IsSome (refused_of x)) (sym e) refl
 
--- so is what is refused to those who ask for requests
+-- so is what is refused to those who ask for requests or proposals
 pub told_reading : (r : Refusal) → IsReadingRefusal r → IsSome (refused_of r)
 told_reading r (inl e) = subst (λ x. IsSome (refused_of x)) (sym e) refl
 told_reading r (inr (inl e)) = subst (λ x. IsSome (refused_of x)) (sym e) refl
@@ -141,6 +144,9 @@ placeless refusals.AlreadyListed x e = tells_same refused.AlreadyListed x e
 placeless refusals.NotThere x e = tells_same refused.NotThere x e
 placeless refusals.NameTaken x e = tells_same refused.NameTaken x e
 placeless refusals.Full x e = tells_same refused.Full x e
+placeless refusals.NoSuchProposal x e = tells_same refused.NoSuchProposal x e
+placeless refusals.OwnProposal x e = tells_same refused.OwnProposal x e
+placeless refusals.ProposalClosed x e = tells_same refused.ProposalClosed x e
 placeless refusals.NoMemory x e = tells_same (refused.Unavailable outage.NoMemory) x e
 placeless refusals.Store x e = tells_same (refused.Unavailable outage.Store) x e
 placeless refusals.Reopen x e = tells_same (refused.Unavailable outage.Reopen) x e

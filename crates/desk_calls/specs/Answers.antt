@@ -1,5 +1,5 @@
 -- What a desk that shows a history answers to a call, and the history after it.
-use Rattle.std.specs.Prelude.{◌≡◌, ◌⊎◌, ℕ, List, if◌then◌else◌, None, Result, Ok, Err}
+use Rattle.std.specs.Prelude.{◌≡◌, ◌⊎◌, ℕ, List, map, if◌then◌else◌, None, Result, Ok, Err}
 use Rattle.desk_bytes.specs.declared.refusal.Refusal.{Refusal}
 use Rattle.desk_texts.specs.declared.caller.Caller.TheVariants as callers
 use Rattle.desk_texts.specs.declared.command.Call.{Call as Ruled}
@@ -11,9 +11,10 @@ use Rattle.desk_texts.specs.declared.facts.Facts.{Facts}
 use Rattle.desk_texts.specs.declared.role.Role.{Role}
 use Rattle.desk_texts.specs.declared.shown.ShownRequest.{ShownRequest}
 use Rattle.desk_history.specs.Calls.{History}
+use Rattle.desk_history.specs.Proposals.{Proposal}
 use Rattle.desk_history.specs.Roles.{is_officer}
 use Rattle.desk_history.specs.Runs as runs
-use Rattle.desk_history.specs.Shown.{AreShown, IsShown, Whole, request_for, requests_for}
+use Rattle.desk_history.specs.Shown.{AreShown, IsShown, Whole, proposals_for, request_for, requests_for, shown_proposal}
 use Rattle.desk_history.specs.Verdicts.{verdict}
 use Rattle.desk_history.specs.declared.answer.Answer as ruling
 use Rattle.desk_history.specs.declared.answer.Answer.TheVariants as ruled
@@ -76,6 +77,11 @@ abbrev pub ShowsRequests : Result (List Whole) Refusal → Answer → Type 0
 ShowsRequests (Ok ws) a = (shown : List ShownRequest) × AreShown ws shown × (a ≡ answer.Requests shown)
 ShowsRequests (Err refusal) a = IsRefusal refusal a
 
+-- proposals are shown, or the refusal that is due
+abbrev pub ShowsProposals : History → Result (List Proposal) Refusal → Answer → Type 0
+ShowsProposals cs (Ok ps) a = a ≡ answer.Proposals (map (shown_proposal cs) ps)
+ShowsProposals cs (Err refusal) a = IsRefusal refusal a
+
 -- the verdict on an image, or what the image is refused for. own: it needs neither role nor key
 abbrev pub Judges : History → List ℕ → Answer → Type 0
 Judges cs image a =
@@ -117,6 +123,9 @@ AnswersTask owner cs p (task.RaiseLevel key body) = IsTaken cs p.name key (Ok (c
 AnswersTask owner cs p (task.ImportDbx key bytes) = IsReadAndTaken cs p.name key (ReadsDbx bytes)
 AnswersTask owner cs p (task.ImportCsv key stamp text) = IsReadAndTaken cs p.name key (ReadsCsv text stamp)
 AnswersTask owner cs p (task.ImportLevel key text) = IsReadAndTaken cs p.name key (ReadsLevel text)
+AnswersTask owner cs p (task.Confirm key number) = IsTaken cs p.name key (Ok (command.Confirm number))
+AnswersTask owner cs p (task.Drop key number) = IsTaken cs p.name key (Ok (command.Drop number))
+AnswersTask owner cs p task.Proposals = IsRead cs (ShowsProposals cs (proposals_for cs (callers.Person p.name)))
 AnswersTask owner cs p (task.Verdict image) = IsRead cs (Judges cs image)
 AnswersTask owner cs p task.Dbx = IsRead cs (λ a. a ≡ answer.Dbx (exports.dbx owner cs))
 AnswersTask owner cs p task.Db = IsRead cs (λ a. a ≡ answer.Db (exports.db owner cs))

@@ -29,7 +29,7 @@ called caller key command = record { caller = caller; key = key; command = comma
 abbrev pub IsOutage : Refusal → Type 0
 IsOutage refusal = (refusal ≡ refusals.NoMemory) ⊎ ((refusal ≡ refusals.Store) ⊎ (refusal ≡ refusals.Reopen))
 
--- own: what people may be refused who ask for requests
+-- own: what people may be refused who ask for requests or proposals
 abbrev pub IsReadingRefusal : Refusal → Type 0
 IsReadingRefusal refusal =
     (refusal ≡ refusals.NotYourRole) ⊎ ((refusal ≡ refusals.UnknownCaller) ⊎ ((refusal ≡ refusals.NoSuchRequest) ⊎ IsOutage refusal))

@@ -1,16 +1,17 @@
 //! Desks that answer.
-ghost use Rattle.std.specs.Prelude.{◌≡◌, ◌≢◌, ◌⊎◌, ℕ, List, Err, IfErr, IfOk, IsSome, IsTrue, MatchResult, Some};
+ghost use Rattle.std.specs.Prelude.{◌≡◌, ◌≢◌, ◌⊎◌, ℕ, List, Err, IfErr, IfOk, IsSome, IsTrue, MatchResult, Some, map};
 ghost use Rattle.desk_exports.specs.Exports.{exported};
 ghost use Rattle.desk_exports.specs.Reports.{report};
 ghost use Rattle.desk_history.specs.Calls.{History};
 ghost use Rattle.desk_history.specs.DecisionRefusals.{may_answer};
 ghost use Rattle.desk_history.specs.Runs.{answer, next, reply_in};
-ghost use Rattle.desk_history.specs.Shown.{AreShown, IsShown, request_for, requests_for};
+ghost use Rattle.desk_history.specs.Shown.{AreShown, IsShown, proposals_for, request_for, requests_for, shown_proposal};
 ghost use Rattle.desk_history.specs.Verdicts as verdicts;
 ghost use Rattle.desk_history.specs.declared.answer.Answer.TheVariants as ruled;
 ghost use Rattle.desk_calls.specs.Desks.{IsOutage, IsReadingRefusal, Keeps, Views, called, person_with};
 
 use crate::octets::Octets;
+use crate::shown_proposals::ShownProposals;
 use crate::shown_requests::ShownRequests;
 use desk_bytes::{Digest, Refusal};
 use desk_exports::Export;
@@ -86,6 +87,20 @@ pub trait Answering {
         ensures refused { clean self.new → IfErr result (λ refusal. refusal ≢ Refusal.NoMemory
             → refusal ≢ Refusal.Store → Views (shows self.old)
             (λ _ cs. requests_for cs caller.now ≡ Err refusal)) }
+        ensures same { clean self.new → result ≢ Err Refusal.Store
+            → Keeps (shows self.old) (shows self.new) }
+        ensures before { clean self.new → clean self.old }
+        ensures named { IfErr result IsReadingRefusal }
+        ensures usable { Views (shows self.old) (λ _ _. result ≢ Err Refusal.Reopen) };
+
+    /// The proposals, ascending by number, for an officer.
+    fn proposals(&mut self, caller: &Caller) -> Result<ShownProposals, Refusal>
+        ensures given { clean self.new → IfOk result (λ shown. Views (shows self.old)
+            (λ _ cs. MatchResult (proposals_for cs caller.now)
+            (λ ps. shown ≡ map (shown_proposal cs) ps) (λ _. ⊥))) }
+        ensures refused { clean self.new → IfErr result (λ refusal. refusal ≢ Refusal.NoMemory
+            → refusal ≢ Refusal.Store → Views (shows self.old)
+            (λ _ cs. proposals_for cs caller.now ≡ Err refusal)) }
         ensures same { clean self.new → result ≢ Err Refusal.Store
             → Keeps (shows self.old) (shows self.new) }
         ensures before { clean self.new → clean self.old }

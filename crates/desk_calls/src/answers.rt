@@ -1,5 +1,6 @@
 //! What calls are answered.
 use crate::octets::Octets;
+use crate::shown_proposals::ShownProposals;
 use crate::shown_requests::ShownRequests;
 use desk_history::Verdict;
 use desk_responses::Refused;
@@ -13,6 +14,8 @@ pub enum Answer {
     Request(ShownRequest),
     /// Ascending by number.
     Requests(ShownRequests),
+    /// Ascending by number.
+    Proposals(ShownProposals),
     /// On the image of these facts.
     Verdict(Verdict, Facts),
     /// Signature lists.

@@ -2,7 +2,7 @@
 use crate::octets::Octets;
 use desk_bodies::{LevelBody, ReviewBody, UnlistBody};
 use desk_bytes::Digest;
-use desk_texts::{Key, Person, RequestNumber, Title};
+use desk_texts::{Key, Person, ProposalNumber, RequestNumber, Title};
 use pe_image::Pieces;
 use sbat::Stamp;
 
@@ -42,6 +42,10 @@ pub enum Task {
     ImportCsv(Key, Option<Stamp>, Octets),
     /// The text of an SBAT level.
     ImportLevel(Key, Octets),
+    Confirm(Key, ProposalNumber),
+    Drop(Key, ProposalNumber),
+    /// The proposals of officers.
+    Proposals,
     /// What the desk says of the image.
     Verdict(Pieces),
     Dbx,

@@ -44,6 +44,20 @@ pub(crate) fn requests<D: Answering>(desk: &mut D, name: PersonName) -> Answer
     }
 }
 
+/// The proposals, for an officer of this name.
+pub(crate) fn proposals<D: Answering>(desk: &mut D, name: PersonName) -> Answer
+    ensures served { D.clean desk.new → (owner : List ℕ) (cs : History)
+        → D.shows desk.old owner cs
+        → spec.Serves (D.shows desk.new owner) cs (spec.IsRead cs
+        (spec.ShowsProposals cs (shown.proposals_for cs (callers.Person name)))) result }
+    ensures before { D.clean desk.new → D.clean desk.old }
+{
+    match desk.proposals(&Caller::Person(name)) {
+        Ok(proposals) => Answer::Proposals(proposals),
+        Err(refusal) => Answer::Refused(told(refusal)),
+    }
+}
+
 /// What the desk says of the image.
 pub(crate) fn judge<D: Answering>(alloc: Global, desk: &mut D, image: Pieces) -> Answer
     ensures served { D.clean desk.new → (owner : List ℕ) (cs : History)

@@ -11,7 +11,7 @@ use crate::bodies::{
     from_csv, from_dbx, from_level, listing, raise, returned, review, submission, unlisting,
 };
 use crate::call::{Call, Task};
-use crate::reading::{db, dbx, judge, level, report, request, requests};
+use crate::reading::{db, dbx, judge, level, proposals, report, request, requests};
 use crate::refusing::outage;
 use crate::taking::take;
 use desk_responses::Outage;
@@ -77,6 +77,9 @@ pub fn answer<D: Answering>(alloc: Global, desk: &mut D, call: Call) -> Answer
         Task::ImportDbx(key, body) => take(desk, name, &key, from_dbx(alloc, &body)),
         Task::ImportCsv(key, stamp, body) => take(desk, name, &key, from_csv(alloc, &body, stamp)),
         Task::ImportLevel(key, body) => take(desk, name, &key, from_level(alloc, &body)),
+        Task::Confirm(key, number) => take(desk, name, &key, Ok(Command::Confirm(number))),
+        Task::Drop(key, number) => take(desk, name, &key, Ok(Command::Drop(number))),
+        Task::Proposals => proposals(desk, name),
         Task::Verdict(image) => judge(alloc, desk, image),
         Task::Dbx => dbx(alloc, desk),
         Task::Db => db(alloc, desk),

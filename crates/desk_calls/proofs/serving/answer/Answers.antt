@@ -67,6 +67,16 @@ returns-in-ImportLevel-clause-served g c clean owner cs was =
     serves_task (g.D.Answering.shows c.take-in-ImportLevel.new.desk owner) owner cs c.args.call.person c.args.call.task _ c.take-in-ImportLevel.result c.in-ImportLevel.is
     (serves_read (g.D.Answering.shows c.take-in-ImportLevel.new.desk owner) cs c.args.call.person.name c.in-ImportLevel.key _ _ c.take-in-ImportLevel.result c.from_level.ensures (c.take-in-ImportLevel.ensures.served clean owner cs was))
 
+pub returns-in-Confirm-clause-served : goal.returns-in-Confirm-clause-served
+returns-in-Confirm-clause-served g c clean owner cs was =
+    serves_task (g.D.Answering.shows c.take-in-Confirm.new.desk owner) owner cs c.args.call.person c.args.call.task _ c.take-in-Confirm.result c.in-Confirm.is
+    (c.take-in-Confirm.ensures.served clean owner cs was)
+
+pub returns-in-Drop-clause-served : goal.returns-in-Drop-clause-served
+returns-in-Drop-clause-served g c clean owner cs was =
+    serves_task (g.D.Answering.shows c.take-in-Drop.new.desk owner) owner cs c.args.call.person c.args.call.task _ c.take-in-Drop.result c.in-Drop.is
+    (c.take-in-Drop.ensures.served clean owner cs was)
+
 pub returns-in-Verdict-clause-served : goal.returns-in-Verdict-clause-served
 returns-in-Verdict-clause-served g c clean owner cs was =
     serves_task (g.D.Answering.shows c.judge.new.desk owner) owner cs c.args.call.person c.args.call.task _ c.judge.result c.in-Verdict.is
