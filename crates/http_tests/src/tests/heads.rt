@@ -1,7 +1,7 @@
 //! What heads ask for.
 use desk_requests::{Asked, asked, wanted};
 use desk_testing::bytes_of;
-use desk_texts::RequestNumber;
+use desk_texts::{ProposalNumber, RequestNumber};
 use sbat::Stamp;
 use std::alloc::Global;
 use std::test::Fail;
@@ -68,6 +68,9 @@ NoRoute GET /nowhere HTTP/1.1|Content-Length: 1||
 NoRoute POST /nowhere HTTP/1.1|Content-Length: 134217729||
 NoRoute GET /requests/007/x HTTP/1.1||
 NoRoute POST /requests/12/review/x HTTP/1.1|Content-Length: 1||
+NoRoute GET /proposals/ HTTP/1.1||
+NoRoute GET /proposals/12 HTTP/1.1||
+NoRoute POST /proposals//confirm HTTP/1.1|Content-Length: 0||
 BadMethod PUT /level HTTP/1.1||
 BadMethod get /level HTTP/1.1||
 BadMethod HEAD /level HTTP/1.1||
@@ -78,17 +81,25 @@ BadMethod GET /verdict HTTP/1.1|Content-Length: 1||
 BadMethod PUT /verdict HTTP/1.1|Content-Length: 134217729||
 BadMethod GET /imports/csv HTTP/1.1||
 BadMethod GET /requests/x/review HTTP/1.1||
+BadMethod POST /proposals HTTP/1.1||
+BadMethod GET /proposals/x/confirm HTTP/1.1||
+BadMethod GET /proposals/x/drop HTTP/1.1||
 LengthNeeded POST /verdict HTTP/1.1||
 LengthNeeded POST /level HTTP/1.1||
 LengthNeeded POST /requests/x/review HTTP/1.1|Desk-Key: k||
+LengthNeeded POST /proposals/x/confirm HTTP/1.1|Desk-Key: k||
+LengthNeeded POST /proposals/x/drop HTTP/1.1||
 BadField GET /level HTTP/1.1|Content-Length: 1||
 BadField GET /requests/x HTTP/1.1|Content-Length: 9999999999||
+BadField GET /proposals HTTP/1.1|Content-Length: 1||
 TooLarge POST /verdict HTTP/1.1|Content-Length: 134217729||
 TooLarge POST /requests HTTP/1.1|Content-Length: 9999999999||
 TooLarge POST /requests/1/return HTTP/1.1|Content-Length: 134217729||
 TooLarge POST /level HTTP/1.1|Content-Length: 4194305||
 TooLarge POST /imports/dbx HTTP/1.1|Content-Length: 134217728||
 TooLarge POST /requests/x/withdraw HTTP/1.1|Content-Length: 4194305|Desk-Key: k||
+TooLarge POST /proposals/x/confirm HTTP/1.1|Content-Length: 4194305||
+TooLarge POST /proposals/x/drop HTTP/1.1|Content-Length: 4194305||
 BadField POST /level HTTP/1.1|Content-Length: 4194304||
 BadField POST /requests HTTP/1.1|Content-Length: 1|Desk-Title: t||
 BadField POST /requests HTTP/1.1|Content-Length: 1|Desk-Key: k||
@@ -98,6 +109,8 @@ BadField POST /imports/csv HTTP/1.1|Content-Length: 1|Desk-Key: k|Desk-Stamp: 20
 BadField POST /imports/csv HTTP/1.1|Content-Length: 1|Desk-Stamp: 2024010100||
 BadField POST /imports/csv HTTP/1.1|Content-Length: 1|Desk-Key: k|Desk-Stamp:||
 BadField POST /requests/x/review HTTP/1.1|Content-Length: 1||
+BadField POST /proposals/x/confirm HTTP/1.1|Content-Length: 0||
+BadField POST /proposals/0/drop HTTP/1.1|Content-Length: 0|Desk-Key: a b||
 NoSuchRequest POST /requests/x/review HTTP/1.1|Content-Length: 1|Desk-Key: k||
 NoSuchRequest GET /requests/0 HTTP/1.1||
 NoSuchRequest GET /requests/007 HTTP/1.1||
@@ -105,6 +118,11 @@ NoSuchRequest GET /requests/+7 HTTP/1.1||
 NoSuchRequest GET /requests/1000000 HTTP/1.1||
 NoSuchRequest GET /requests/%31 HTTP/1.1||
 NoSuchRequest POST /requests/07/withdraw HTTP/1.1|Content-Length: 0|Desk-Key: k||
+NoSuchProposal POST /proposals/x/confirm HTTP/1.1|Content-Length: 0|Desk-Key: k||
+NoSuchProposal POST /proposals/0/confirm HTTP/1.1|Content-Length: 0|Desk-Key: k||
+NoSuchProposal POST /proposals/07/confirm HTTP/1.1|Content-Length: 0|Desk-Key: k||
+NoSuchProposal POST /proposals/1000000/drop HTTP/1.1|Content-Length: 0|Desk-Key: k||
+NoSuchProposal POST /proposals/+1/drop HTTP/1.1|Content-Length: 0|Desk-Key: k||
 Submit POST /requests HTTP/1.1|Content-Length: 0134217728|Desk-Key: k|Desk-Title: t||
 Requests GET /requests HTTP/1.1||
 Request GET /requests/999999 HTTP/1.1||
@@ -120,6 +138,9 @@ RaiseLevel POST /level HTTP/1.1|Content-Length: 1|Desk-Key: k||
 ImportDbx POST /imports/dbx HTTP/1.1|Content-Length: 1|Desk-Key: k||
 ImportCsv POST /imports/csv HTTP/1.1|Content-Length: 1|Desk-Key: k||
 ImportLevel POST /imports/level HTTP/1.1|Content-Length: 1|Desk-Key: k|Desk-Stamp: x||
+Confirm POST /proposals/1/confirm HTTP/1.1|Content-Length: 4194304|Desk-Key: k||
+Drop POST /proposals/999999/drop HTTP/1.1|Content-Length: 0|Desk-Key: k||
+Proposals GET /proposals HTTP/1.1||
 Verdict POST /verdict HTTP/1.1|Content-Length: 134217728||
 Dbx GET /dbx HTTP/1.1|Content-Length: 0000000000||
 Db GET /db HTTP/1.1|Desk-Key: a b||
@@ -160,6 +181,9 @@ fn name_of(asked: &Asked) -> &'static str {
         Asked::ImportDbx(_) => "ImportDbx",
         Asked::ImportCsv(..) => "ImportCsv",
         Asked::ImportLevel(_) => "ImportLevel",
+        Asked::Confirm(..) => "Confirm",
+        Asked::Drop(..) => "Drop",
+        Asked::Proposals => "Proposals",
         Asked::Verdict => "Verdict",
         Asked::Dbx => "Dbx",
         Asked::Db => "Db",
@@ -241,9 +265,21 @@ fn asks_for_number(alloc: Global) -> bool {
     }
 }
 
+/// Whether a head with a number asks to confirm the proposal of that number.
+fn asks_for_proposal(alloc: Global) -> bool {
+    let head = "POST /proposals/120/confirm HTTP/1.1|Desk-Key: k1|Content-Length: 0||";
+    match asked_by(alloc, head) {
+        Some(Asked::Confirm(key, found)) => {
+            key.as_str() == "k1" && Some(found) == ProposalNumber::new(120)
+        }
+        _ => false,
+    }
+}
+
 #[test]
 fn gives_keys_stamps_titles_and_numbers(rt: HostRuntime) {
     assert!(rt; asks_for_csv(rt.alloc()), "a key and a stamp");
     assert!(rt; asks_for_title(rt.alloc()), "a title");
     assert!(rt; asks_for_number(rt.alloc()), "a number");
+    assert!(rt; asks_for_proposal(rt.alloc()), "the number of a proposal");
 }

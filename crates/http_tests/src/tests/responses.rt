@@ -16,6 +16,9 @@ Get HTTP/1.1 405 Method Not Allowed|Content-Type: application/json|Content-Lengt
 Post HTTP/1.1 405 Method Not Allowed|Content-Type: application/json|Content-Length: 33|Allow: POST|Connection: close||{"name":"BadMethod","refused":54}
 GetAndPost HTTP/1.1 405 Method Not Allowed|Content-Type: application/json|Content-Length: 33|Allow: GET, POST|Connection: close||{"name":"BadMethod","refused":54}
 KeyReused HTTP/1.1 409 Conflict|Content-Type: application/json|Content-Length: 33|Connection: close||{"name":"KeyReused","refused":22}
+NoSuchProposal HTTP/1.1 404 Not Found|Content-Type: application/json|Content-Length: 38|Connection: close||{"name":"NoSuchProposal","refused":37}
+OwnProposal HTTP/1.1 409 Conflict|Content-Type: application/json|Content-Length: 35|Connection: close||{"name":"OwnProposal","refused":38}
+ProposalClosed HTTP/1.1 409 Conflict|Content-Type: application/json|Content-Length: 38|Connection: close||{"name":"ProposalClosed","refused":39}
 LengthNeeded HTTP/1.1 411 Length Required|Content-Type: application/json|Content-Length: 36|Connection: close||{"name":"LengthNeeded","refused":55}
 TooLarge HTTP/1.1 413 Payload Too Large|Content-Type: application/json|Content-Length: 32|Connection: close||{"name":"TooLarge","refused":56}
 BadBody HTTP/1.1 422 Unprocessable Entity|Content-Type: application/json|Content-Length: 31|Connection: close||{"name":"BadBody","refused":52}
@@ -41,6 +44,9 @@ fn refused(name: &str) -> Option<Refused> {
         "Post" => Some(Refused::BadMethod(Methods::Post)),
         "GetAndPost" => Some(Refused::BadMethod(Methods::GetAndPost)),
         "KeyReused" => Refused::of(Refusal::KeyReused),
+        "NoSuchProposal" => Refused::of(Refusal::NoSuchProposal),
+        "OwnProposal" => Refused::of(Refusal::OwnProposal),
+        "ProposalClosed" => Refused::of(Refusal::ProposalClosed),
         "LengthNeeded" => Refused::of(Refusal::LengthNeeded),
         "TooLarge" => Refused::of(Refusal::TooLarge),
         "BadBody" => Refused::of(Refusal::BadBody),

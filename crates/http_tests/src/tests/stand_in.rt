@@ -4,13 +4,13 @@ ghost use Rattle.desk_calls.specs.Desks.{IsOutage};
 ghost use Rattle.desk_history.specs.DecisionRefusals.{may_answer};
 
 use desk_bytes::{Digest, Refusal};
-use desk_calls::{Answering, Octets, ShownRequests};
+use desk_calls::{Answering, Octets, ShownProposals, ShownRequests};
 use desk_exports::Export;
 use desk_history::Verdict;
 use desk_service::token_digest;
 use desk_texts::{
-    Caller, Command, Counts, Facts, Key, Outcome, Person, PersonName, Reply, RequestNumber, Role,
-    ShownRequest, State, command_text,
+    Caller, Command, Confirmation, Counts, Facts, Key, Outcome, Person, PersonName, Proposal,
+    ProposalNumber, ProposalState, Reply, RequestNumber, Role, ShownRequest, State, command_text,
 };
 use std::alloc::{AllocError, Global};
 
@@ -72,6 +72,9 @@ fn refusal(key: &str) -> Option<Refusal>
 {
     match key {
         "reused" => Some(Refusal::KeyReused),
+        "missing" => Some(Refusal::NoSuchProposal),
+        "own" => Some(Refusal::OwnProposal),
+        "closed" => Some(Refusal::ProposalClosed),
         "memory" => Some(Refusal::NoMemory),
         "store" => Some(Refusal::Store),
         "reopen" => Some(Refusal::Reopen),
@@ -92,15 +95,37 @@ fn reply(command: &Command) -> Option<Reply> {
         Command::Return(file) => Some(Reply::Returned(file.request)),
         Command::ListCertificate(_) | Command::ListDigest(_) => Some(Reply::Listed),
         Command::Unlist(_) => Some(Reply::Unlisted),
-        Command::RevokeDigest(_) | Command::RevokeCertificate(_) => Some(Reply::Revoked),
-        Command::RaiseLevel(_) => Some(Reply::Raised),
-        Command::ImportRevocations(_) => Some(Reply::Imported(Counts {
+        Command::RevokeDigest(_)
+        | Command::RevokeCertificate(_)
+        | Command::RaiseLevel(_)
+        | Command::ImportRevocations(_) => Some(Reply::Proposed(ProposalNumber::new(1)?)),
+        Command::Confirm(proposal) => Some(Reply::Confirmed(Confirmation {
+            proposal: *proposal,
+            counts: Counts {
+                digests: 1,
+                certificates: 0,
+                components: 2,
+                passed: 3,
+            },
+        })),
+        Command::Drop(proposal) => Some(Reply::Dropped(*proposal)),
+    }
+}
+
+/// One proposal, of otto's.
+fn shown(alloc: Global) -> Option<ShownProposals> {
+    let mut proposals = Vec::new(alloc);
+    proposals
+        .push(Proposal {
+            number: ProposalNumber::new(1)?,
+            officer: PersonName::parse(alloc, b"otto").ok()?,
+            state: ProposalState::Open,
             digests: 1,
             certificates: 0,
             components: 2,
-            passed: 3,
-        })),
-    }
+        })
+        .ok()?;
+    Some(ShownProposals::new(proposals))
 }
 
 impl Answering for StandIn {
@@ -158,6 +183,13 @@ impl Answering for StandIn {
             Ok(()) => Ok(ShownRequests::new(Vec::new(self.alloc))),
             Err(AllocError) => Err(Refusal::NoMemory),
         }
+    }
+
+    fn proposals(&mut self, caller: &Caller) -> Result<ShownProposals, Refusal> {
+        if tell(&mut self.asked, &["proposals", caller.name()]).is_err() {
+            return Err(Refusal::NoMemory);
+        }
+        shown(self.alloc).ok_or(Refusal::NoMemory)
     }
 
     fn export(&mut self, alloc: Global, what: Export) -> Result<Octets, Refusal> {

@@ -1,10 +1,11 @@
-//! Replies, requests and verdicts in JSON.
+//! Replies, requests, proposals and verdicts in JSON.
 use desk_bytes::Digest;
 use desk_history::{Below, Verdict};
-use desk_json::{reply_json, request_json, requests_json, verdict_json};
+use desk_json::{proposals_json, reply_json, request_json, requests_json, verdict_json};
 use desk_texts::{
-    Carried, Components, Counts, Extent, Facts, Note, Outcome, PersonName, Reply, RequestNumber,
-    ShownRequest, ShownReturn, ShownVote, ShownVotes, State, Title, Vote,
+    Carried, Components, Confirmation, Counts, Extent, Facts, Note, Outcome, PersonName, Proposal,
+    ProposalNumber, ProposalState, Reply, RequestNumber, ShownRequest, ShownReturn, ShownVote,
+    ShownVotes, State, Title, Vote,
 };
 use sbat::{Component, ComponentName, Generation};
 use std::alloc::Global;
@@ -144,6 +145,35 @@ fn writes_lists_of_requests(rt: HostRuntime) -> Result<(), Fail> {
     Ok(())
 }
 
+/// A proposal of that number and state.
+fn proposal(alloc: Global, number: u64, state: ProposalState) -> Result<Proposal, Fail> {
+    Ok(Proposal {
+        number: ProposalNumber::new(number).ok_or("a number")?,
+        officer: PersonName::parse(alloc, b"olga")?,
+        state,
+        digests: number,
+        certificates: 0,
+        components: 1_000_000,
+    })
+}
+
+/// Three proposals.
+const PROPOSALS: &str =
+    r#"[{"certificates":0,"components":1000000,"digests":1,"number":1,"officer":"olga","state":"open"},{"certificates":0,"components":1000000,"digests":2,"number":2,"officer":"olga","state":"confirmed"},{"certificates":0,"components":1000000,"digests":999999,"number":999999,"officer":"olga","state":"dropped"}]"#;
+
+#[test]
+fn writes_lists_of_proposals(rt: HostRuntime) -> Result<(), Fail> {
+    let none = proposals_json(rt.alloc(), &[])?;
+    assert!(rt; none.as_slice() == b"[]".as_slice(), "none");
+    let mut proposals = Vec::new(rt.alloc());
+    proposals.push(proposal(rt.alloc(), 1, ProposalState::Open)?)?;
+    proposals.push(proposal(rt.alloc(), 2, ProposalState::Confirmed)?)?;
+    proposals.push(proposal(rt.alloc(), 999_999, ProposalState::Dropped)?)?;
+    let text = proposals_json(rt.alloc(), proposals.as_slice())?;
+    assert!(rt; text.as_slice() == PROPOSALS.as_bytes(), "each state");
+    Ok(())
+}
+
 /// Replies, each behind its name.
 const REPLIES: &str = r#"submitted {"reply":"submitted","request":7}
 reviewed {"reply":"reviewed","request":7,"state":"approved"}
@@ -154,10 +184,13 @@ unlisted {"reply":"unlisted"}
 revoked {"reply":"revoked"}
 raised {"reply":"raised"}
 imported {"certificates":2,"components":3,"digests":1,"passed":18446744073709551615,"reply":"imported"}
+proposed {"proposal":9,"reply":"proposed"}
+confirmed {"certificates":2,"components":3,"digests":1,"passed":18446744073709551615,"proposal":9,"reply":"confirmed"}
+dropped {"proposal":9,"reply":"dropped"}
 "#;
 
 /// The reply of this name.
-fn reply(name: &str, request: RequestNumber) -> Reply {
+fn reply(name: &str, request: RequestNumber, proposal: ProposalNumber) -> Reply {
     let counts = Counts {
         digests: 1,
         certificates: 2,
@@ -174,6 +207,9 @@ fn reply(name: &str, request: RequestNumber) -> Reply {
         "unlisted" => Reply::Unlisted,
         "revoked" => Reply::Revoked,
         "raised" => Reply::Raised,
+        "proposed" => Reply::Proposed(proposal),
+        "confirmed" => Reply::Confirmed(Confirmation { proposal, counts }),
+        "dropped" => Reply::Dropped(proposal),
         _ => Reply::Imported(counts),
     }
 }
@@ -182,7 +218,8 @@ fn reply(name: &str, request: RequestNumber) -> Reply {
 fn is_reply(alloc: Global, line: &str) -> Result<bool, Fail> {
     let (name, wanted) = line.split_once(' ').ok_or("a name and a text")?;
     let request = RequestNumber::new(7).ok_or("a number")?;
-    let text = reply_json(alloc, &reply(name, request))?.ok_or("a text")?;
+    let proposal = ProposalNumber::new(9).ok_or("a number")?;
+    let text = reply_json(alloc, &reply(name, request, proposal))?.ok_or("a text")?;
     Ok(text.as_slice() == wanted.as_bytes())
 }
 
