@@ -3,7 +3,7 @@ use Rattle.std.proofs.Common.{◌≡◌, ℕ, List, [], refl, sym, subst, Option
 use Rattle.std.proofs.lemmas.List.{append-nil}
 use Rattle.httparse.specs.Grammar.{RequestHead, print_request, ReadsRequest}
 use Rattle.desk_heads.specs.Heads.{HasHead}
-use Rattle.desk_requests.specs.Asked.{asked_at, asked_of, keyed, titled, stamped, numbered, key_in, title_in, stamp_in, number_in}
+use Rattle.desk_requests.specs.Asked.{asked_at, asked_of, keyed, titled, stamped, numbered, of_proposal, key_in, title_in, stamp_in, number_in}
 use Rattle.desk_requests.specs.Wanted.{Want}
 use Rattle.desk_requests.specs.declared.ask.Asked.{Asked}
 use Rattle.desk_requests.specs.declared.fault.AskedFault.{AskedFault}
@@ -36,6 +36,11 @@ numbered_holds : (P : Asked → Type 0) (number : Option ℕ) (ask : ℕ → Ask
 numbered_holds P None ask each = tt
 numbered_holds P (Some n) ask each = each n
 
+of_proposal_holds : (P : Asked → Type 0) (number : Option ℕ) (ask : ℕ → Asked)
+    → ((n : ℕ) → P (ask n)) → Holds P (of_proposal number ask)
+of_proposal_holds P None ask each = tt
+of_proposal_holds P (Some n) ask each = each n
+
 -- what is asked for has the body of the route
 abbrev HasBodyOf : Route → Asked → Type 0
 HasBodyOf r a = asks_with_image a ≡ takes_image r
@@ -56,6 +61,9 @@ asked_with_body route.RaiseLevel w = keyed_holds (HasBodyOf route.RaiseLevel) (k
 asked_with_body route.ImportDbx w = keyed_holds (HasBodyOf route.ImportDbx) (key_in w) _ (λ k. refl)
 asked_with_body route.ImportCsv w = keyed_holds (HasBodyOf route.ImportCsv) (key_in w) _ (λ k. stamped_holds (HasBodyOf route.ImportCsv) (stamp_in w) _ (λ s. refl))
 asked_with_body route.ImportLevel w = keyed_holds (HasBodyOf route.ImportLevel) (key_in w) _ (λ k. refl)
+asked_with_body route.Confirm w = keyed_holds (HasBodyOf route.Confirm) (key_in w) _ (λ k. of_proposal_holds (HasBodyOf route.Confirm) (number_in w) _ (λ n. refl))
+asked_with_body route.Drop w = keyed_holds (HasBodyOf route.Drop) (key_in w) _ (λ k. of_proposal_holds (HasBodyOf route.Drop) (number_in w) _ (λ n. refl))
+asked_with_body route.Proposals w = refl
 asked_with_body route.Verdict w = refl
 asked_with_body route.Dbx w = refl
 asked_with_body route.Db w = refl

@@ -4,6 +4,7 @@ use Rattle.std.specs.declared.alloc.Global.{Global}
 use Rattle.serde_json.specs.Data.{Data}
 use Rattle.serde_json.specs.Written.{compact_text}
 use Rattle.desk_bytes.specs.Refusals as rows
+use Rattle.desk_json.specs.Proposals.{proposals_data}
 use Rattle.desk_json.specs.Replies.{reply_data}
 use Rattle.desk_json.specs.Requests.{request_data, requests_data}
 use Rattle.desk_json.specs.Verdicts.{verdict_data}
@@ -14,13 +15,14 @@ use Rattle.desk_responses.specs.declared.content.Content.TheVariants as content
 use Rattle.desk_responses.specs.declared.status.Status.{Status}
 use Rattle.desk_responses.specs.declared.status.Status.TheVariants as status
 use Rattle.desk_calls.specs.declared.answers.Answer.{Answer}
-use Rattle.desk_calls.specs.declared.answers.Answer.TheVariants.{Reply, Request, Requests, Verdict, Dbx, Db, Level, Report, Refused}
+use Rattle.desk_calls.specs.declared.answers.Answer.TheVariants.{Reply, Request, Requests, Proposals, Verdict, Dbx, Db, Level, Report, Refused}
 
 -- its status: 200 for what is no refusal (RFC 9110, section 15.3.1)
 abbrev pub status_of : Answer → Status
 status_of (Reply reply) = status.Ok
 status_of (Request shown) = status.Ok
 status_of (Requests shown) = status.Ok
+status_of (Proposals shown) = status.Ok
 status_of (Verdict verdict facts) = status.Ok
 status_of (Dbx bytes) = status.Ok
 status_of (Db bytes) = status.Ok
@@ -33,6 +35,7 @@ abbrev pub content_of : Answer → Content
 content_of (Reply reply) = content.Json
 content_of (Request shown) = content.Json
 content_of (Requests shown) = content.Json
+content_of (Proposals shown) = content.Json
 content_of (Verdict verdict facts) = content.Json
 content_of (Dbx bytes) = content.Bytes
 content_of (Db bytes) = content.Bytes
@@ -56,6 +59,7 @@ abbrev pub body_of : Answer → List ℕ
 body_of (Reply reply) = text_or_none (reply_data reply)
 body_of (Request shown) = compact_text (request_data shown)
 body_of (Requests shown) = compact_text (requests_data shown)
+body_of (Proposals shown) = compact_text (proposals_data shown)
 body_of (Verdict verdict facts) = text_or_none (verdict_data facts.components verdict)
 body_of (Dbx bytes) = bytes
 body_of (Db bytes) = bytes
@@ -72,6 +76,7 @@ abbrev pub number_of : Answer → ℕ
 number_of (Reply reply) = 0
 number_of (Request shown) = 0
 number_of (Requests shown) = 0
+number_of (Proposals shown) = 0
 number_of (Verdict verdict facts) = 0
 number_of (Dbx bytes) = 0
 number_of (Db bytes) = 0

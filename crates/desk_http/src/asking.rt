@@ -36,6 +36,9 @@ fn takes_image(route: Route) -> bool
         | Route::ImportDbx
         | Route::ImportCsv
         | Route::ImportLevel
+        | Route::Confirm
+        | Route::Drop
+        | Route::Proposals
         | Route::Dbx
         | Route::Db
         | Route::Level
@@ -60,6 +63,7 @@ fn ask_with_image(
         }
         Err(AskedFault::BadField) => Ok(Err(Refused::BadField)),
         Err(AskedFault::NoSuchRequest) => Ok(Err(Refused::NoSuchRequest)),
+        Err(AskedFault::NoSuchProposal) => Ok(Err(Refused::NoSuchProposal)),
         Err(AskedFault::NoMemory) => Err(AllocError),
     }
 }
@@ -81,6 +85,7 @@ fn ask_with_body(
         },
         Err(AskedFault::BadField) => Ok(Err(Refused::BadField)),
         Err(AskedFault::NoSuchRequest) => Ok(Err(Refused::NoSuchRequest)),
+        Err(AskedFault::NoSuchProposal) => Ok(Err(Refused::NoSuchProposal)),
         Err(AskedFault::NoMemory) => Err(AllocError),
     }
 }

@@ -12,7 +12,7 @@ ghost use Rattle.desk_http.specs.Sending as sending;
 use crate::{HttpFault, Served};
 use desk_bytes::put;
 use desk_calls::Answer;
-use desk_json::{reply_json, request_json, requests_json, verdict_json};
+use desk_json::{proposals_json, reply_json, request_json, requests_json, verdict_json};
 use desk_responses::{
     Content, Outage, Refused, Status, outage_response, refused_response, response,
 };
@@ -40,6 +40,9 @@ fn response_to(alloc: Global, answer: &Answer) -> Result<Vec<u8>, AllocError>
         Answer::Requests(shown) => {
             json_response(alloc, Some(requests_json(alloc, shown.as_slice())?))
         }
+        Answer::Proposals(shown) => {
+            json_response(alloc, Some(proposals_json(alloc, shown.as_slice())?))
+        }
         Answer::Verdict(verdict, facts) => {
             json_response(alloc, verdict_json(alloc, *verdict, facts)?)
         }
@@ -63,6 +66,7 @@ fn told_by(answer: &Answer) -> Served
         Answer::Reply(_)
         | Answer::Request(_)
         | Answer::Requests(_)
+        | Answer::Proposals(_)
         | Answer::Verdict(_, _)
         | Answer::Dbx(_)
         | Answer::Db(_)
@@ -82,6 +86,7 @@ fn outage_in(answer: &Answer) -> Option<Outage>
         | Answer::Reply(_)
         | Answer::Request(_)
         | Answer::Requests(_)
+        | Answer::Proposals(_)
         | Answer::Verdict(_, _)
         | Answer::Dbx(_)
         | Answer::Db(_)

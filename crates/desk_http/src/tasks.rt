@@ -35,6 +35,9 @@ pub(crate) fn task_with_image(asked: Asked, image: Pieces) -> Task
         | Asked::ImportDbx(_)
         | Asked::ImportCsv(_, _)
         | Asked::ImportLevel(_)
+        | Asked::Confirm(_, _)
+        | Asked::Drop(_, _)
+        | Asked::Proposals
         | Asked::Dbx
         | Asked::Db
         | Asked::Level
@@ -123,6 +126,9 @@ pub(crate) fn task_with_body(
         Asked::ImportDbx(key) => Task::ImportDbx(key, Octets::new(body)),
         Asked::ImportCsv(key, stamp) => Task::ImportCsv(key, stamp, Octets::new(body)),
         Asked::ImportLevel(key) => Task::ImportLevel(key, Octets::new(body)),
+        Asked::Confirm(key, number) => Task::Confirm(key, number),
+        Asked::Drop(key, number) => Task::Drop(key, number),
+        Asked::Proposals => Task::Proposals,
         Asked::Dbx => Task::Dbx,
         Asked::Db => Task::Db,
         Asked::Level => Task::Level,
