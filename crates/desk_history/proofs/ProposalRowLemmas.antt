@@ -2,7 +2,6 @@
 use Rattle.std.proofs.Common.{◌≡◌, ℕ, Bool, true, false, not, ◌||◌, IfSome, List, [], ◌∷◌, map, Option, Some, None, refl, sym, ◌∙◌, ap, subst, arith}
 use Rattle.std.specs.Prelude.{◌==◌, if◌then◌else◌, bytes_eq, find, nat_lt, option_map}
 use Rattle.std.specs.List.{list_any}
-use Rattle.std.specs.Option.{option_map_or}
 use Rattle.std.proofs.lemmas.Bool.Decides.{nat_tests}
 use Rattle.sbat.specs.declared.component.Component.{Component}
 use Rattle.desk_bytes.specs.declared.refusal.Refusal.{Refusal}
@@ -18,7 +17,7 @@ use Rattle.desk_texts.specs.declared.proposal.ProposalKind.TheVariants as kinds
 use Rattle.desk_texts.specs.declared.proposal.ProposalState.{ProposalState}
 use Rattle.desk_texts.specs.declared.proposal.ProposalState.TheVariants as states
 use Rattle.desk_history.specs.Calls.{History, item}
-use Rattle.desk_history.specs.Forces.{forced, into_force, nothing}
+use Rattle.desk_history.specs.Forces.{forced}
 use Rattle.desk_history.specs.Level.{generations, greatest, is_sbat, is_above, raises_some, stamp}
 use Rattle.desk_history.specs.Proposals.{Named, Proposal, is_proposal, named_by, proposal, proposal_state, proposals}
 use Rattle.desk_history.specs.Refusals.{confirm_by, confirm_refusal, drop_by, drop_refusal, force_refusal, import_refusal, is_later, own_refusal, refuse_if}
@@ -131,14 +130,7 @@ row_of cs k row (Some p) e = record { of = p; there = refl; is = cc }
 its_row : (owner : List ℕ) (cs : History) (k : ℕ) (row : ProposalRow) → find (is_proposal_row k) (tables owner cs).proposals ≡ Some row → IsRowOf cs k row (proposal cs k)
 its_row owner cs k row h = row_of cs k row (proposal cs k) (sym (table_found owner cs k) ∙ h)
 
--- a Confirm puts into force what its proposal's row names
-pub row_forced : (owner : List ℕ) (cs : History) (caller : Caller) (key : List ℕ) (k : ℕ) (row : ProposalRow) → find (is_proposal_row k) (tables owner cs).proposals ≡ Some row
-    → into_force cs (item (called caller key (command.Confirm k))) ≡ forced row.named
-row_forced owner cs caller key k row h =
-    let r = its_row owner cs k row h in
-    ap (λ o. option_map_or forced (option_map (λ (p : Proposal). p.named.entries) o) nothing) r.there ∙ ap (λ (q : ProposalRow). forced q.named) (sym r.is)
-
--- and is refused by the row
+-- a Confirm is refused by its proposal's row
 pub row_refused : (owner : List ℕ) (cs : History) (name : List ℕ) (k : ℕ) (row : ProposalRow) → find (is_proposal_row k) (tables owner cs).proposals ≡ Some row
     → own_refusal cs name (command.Confirm k) ≡ confirm_by row.state (bytes_eq row.officer name) (refused_by cs row.kind row.named)
 row_refused owner cs name k row h =

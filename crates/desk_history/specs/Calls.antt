@@ -6,21 +6,22 @@ use Rattle.desk_texts.specs.declared.command.Call.{Call}
 use Rattle.desk_texts.specs.declared.kind.ListedKind.{ListedKind}
 use Rattle.desk_texts.specs.declared.kind.ListedKind.TheVariants as kinds
 
--- By which rules a call was accepted: those of one officer, or those of two.
+-- The rules by which a call was accepted: by the first one officer revokes and raises alone, by the second another one
+-- confirms.
 pub data Rules : Type 0 where
   First : Rules
   Second : Rules
 
--- What a history has of each accepted call.
+-- An accepted call, with the rules by which it was accepted.
 pub record Item : Type 0 where
   pub call : Call
   pub rules : Rules
 
--- the item of a call by these rules
+-- a call as accepted by these rules
 abbrev pub under : Rules → Call → Item
 under rules c = record { call = c; rules = rules }
 
--- the item of a call that is accepted now
+-- a call as accepted now, by the second rules
 abbrev pub item : Call → Item
 item c = under Second c
 
@@ -40,13 +41,13 @@ GoesOnFrom earlier later = (new : List Item) × (later ≡ new ++ earlier)
 abbrev pub has_same_key : Call → Call → Bool
 has_same_key a b = bytes_eq (caller_name a.caller) (caller_name b.caller) && bytes_eq a.key b.key
 
--- digests of images and digests of certificates are apart
+-- both are digests of images, or both are digests of certificates
 abbrev pub is_same_kind : ListedKind → ListedKind → Bool
 is_same_kind kinds.Digest kinds.Digest = true
 is_same_kind kinds.Certificate kinds.Certificate = true
 is_same_kind _ _ = false
 
--- items of calls that repeat one another
+-- the calls of both items repeat one another
 abbrev pub is_same_item : Item → Item → Bool
 is_same_item a b = has_same_key a.call b.call
 

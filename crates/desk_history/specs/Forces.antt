@@ -1,5 +1,5 @@
--- What calls put into force: revocations, and generations that are asked. All that is revoked and all of the level is read
--- from this.
+-- What calls put into force: revocations, and generations that the level asks for. What is revoked and the level are read from
+-- this alone.
 use Rattle.std.specs.Prelude.{ℕ, List, [], reverse, Option, None, option_map}
 use Rattle.std.specs.Option.{option_map_or}
 use Rattle.sbat.specs.declared.component.Component.{Component}
@@ -11,8 +11,8 @@ use Rattle.desk_texts.specs.declared.kind.ListedKind.TheVariants as kinds
 use Rattle.desk_history.specs.Calls.{First, History, Item, Second}
 use Rattle.desk_history.specs.Proposals.{named_by, proposal}
 
--- digests of images and of certificates, and components with their generations, each the last first, and the stamp that
--- the level gets, if there is one
+-- digests of images, digests of certificates, and components with their generations, the last one named first, and the stamp
+-- that the level gets, if there is one
 pub record InForce : Type 0 where
   pub digests : List (List ℕ)
   pub certificates : List (List ℕ)
@@ -37,18 +37,19 @@ abbrev pub confirmed_by : History → Command → Option Imported
 confirmed_by cs (command.Confirm k) = option_map (λ p. p.named.entries) (proposal cs k)
 confirmed_by cs _ = None
 
--- own: by the first rules a call puts into force what it names, by the second a Confirm what it confirms
+-- own: by the first rules a call puts into force what it names; by the second only a Confirm puts anything into force, what it
+-- confirms
 abbrev pub enforced_by : History → Item → Option Imported
 enforced_by cs i = elim i.rules [
   | First ↦ option_map (λ n. n.entries) (named_by i.call.command)
   | Second ↦ confirmed_by cs i.call.command
 ]
 
--- what a call that is accepted after these puts into force
+-- what a call puts into force that is accepted after these
 abbrev pub into_force : History → Item → InForce
 into_force cs i = option_map_or forced (enforced_by cs i) nothing
 
--- the digests of this kind among that
+-- the digests of this kind in it
 abbrev pub revoked_in : ListedKind → InForce → List (List ℕ)
 revoked_in kinds.Digest f = f.digests
 revoked_in kinds.Certificate f = f.certificates

@@ -10,11 +10,11 @@ use Rattle.desk_history.specs.declared.rows.ProposalRow.{ProposalRow}
 abbrev pub items_of : Imported → List ProposalItem
 items_of i = map items.Digest i.digests ++ (map items.Certificate i.certificates ++ map items.Component i.components)
 
--- items of the proposal k, the first of them at this place
+-- the rows of these items of the proposal k, the first of them at this place
 abbrev pub items_from : ℕ → ℕ → List ProposalItem → List ProposalItemRow
 items_from k place [] = []
 items_from k place (x ∷ xs) = record { proposal = k; place = place; item = x } ∷ items_from k (place + 1) xs
 
--- own: all that a proposal names, with its places from 0
+-- own: the rows of all that a proposal names, with places from 0
 abbrev pub item_rows : ProposalRow → List ProposalItemRow
 item_rows p = items_from p.number 0 (items_of p.named)

@@ -12,12 +12,12 @@ use Rattle.desk_history.specs.Proposals.{named_by, outcome_by, outcomes, proposa
 use Rattle.desk_history.specs.Refusals.{may_give}
 use Rattle.desk_history.specs.Runs.{is_legal}
 
--- the item's call names these entries for what is revoked and for the level
+-- the call names these entries to be revoked or raised
 abbrev pub Names : Item → Imported → Type 0
 Names i entries = option_map (λ n. n.entries) (named_by i.call.command) ≡ Some entries
 
--- Two officers put these entries into force: after the calls `earlier` one of them proposed them by a call that names them,
--- and the other one confirms that proposal now.
+-- Two officers put these entries into force: after the calls `earlier` one officer proposed them by a call that names them,
+-- and another one, of another name, confirms that proposal now. The roles of both allow it.
 pub record TwoOfficers (cs : History) (i : Item) (entries : Imported) : Type 0 where
   pub proposing : Item
   pub between : History
@@ -29,23 +29,23 @@ pub record TwoOfficers (cs : History) (i : Item) (entries : Imported) : Type 0 w
   pub confirmer : IsTrue (may_give cs i.call.caller i.call.command)
   pub differ : bytes_eq (caller_name proposing.call.caller) (caller_name i.call.caller) ≡ false
 
--- whatever an accepted call puts into force, it names itself by the first rules, or two officers proposed and confirmed it
+-- What an accepted call puts into force it names itself, by the first rules, or two officers put it into force, by the second.
 abbrev pub TwoOfficersPut : Type 0
 TwoOfficersPut =
     (cs : History) (i : Item) (entries : Imported) → IsTrue (is_legal (i ∷ cs)) → enforced_by cs i ≡ Some entries
     → ((i.rules ≡ First) × Names i entries) ⊎ ((i.rules ≡ Second) × TwoOfficers cs i entries)
 
--- no Confirm and no Drop was accepted by the first rules
+-- the first rules accept no Confirm and no Drop
 abbrev pub FirstCloseNone : Type 0
 FirstCloseNone =
     (cs : History) → IsTrue (is_legal cs)
     → IsTrue (list_all (λ i. not (is_first i && is_some (outcome_by i.call.command))) cs)
 
--- no proposal is confirmed or dropped twice, nor both
+-- a proposal is closed once: it is never confirmed twice, dropped twice, or both confirmed and dropped
 abbrev pub ClosedOnce : Type 0
 ClosedOnce =
     (cs : History) → IsTrue (is_legal cs) → IsTrue (are_apart (λ (a b : ProposalOutcome). a.proposal == b.proposal) (outcomes cs))
 
--- the next proposal is open
+-- no call closes a proposal before it is made
 abbrev pub NextIsOpen : Type 0
 NextIsOpen = (cs : History) → IsTrue (is_legal cs) → proposal_state cs (length (proposals cs) + 1) ≡ states.Open

@@ -1,4 +1,4 @@
--- Proposals of what is to be revoked and of the level. own: an officer proposes, and another one confirms.
+-- Proposals of revocations and of raised generations. own: one officer proposes, and another one confirms.
 use Rattle.std.specs.Prelude.{ℕ, ◌+◌, ◌==◌, Bool, List, [], ◌∷◌, length, filter_map, find, Option, Some, None}
 use Rattle.std.specs.Option.{option_map_or}
 use Rattle.desk_texts.specs.Callers.{caller_name}
@@ -13,16 +13,16 @@ use Rattle.desk_texts.specs.declared.proposal.ProposalState.{ProposalState}
 use Rattle.desk_texts.specs.declared.proposal.ProposalState.TheVariants as states
 use Rattle.desk_history.specs.Calls.{First, History, Item, Second}
 
--- what a command names for the lists of what is revoked and for the level, in the words of an import
+-- what a command names to be revoked or raised, and of which kind it is, written as an import
 pub record Named : Type 0 where
   pub kind : ProposalKind
   pub entries : Imported
 
--- an import of nothing
+-- an import that names nothing
 abbrev pub no_entries : Imported
 no_entries = record { stamp = None; passed = 0; digests = []; certificates = []; components = [] }
 
--- four commands name such
+-- what a command names to be revoked or raised: four commands name something
 abbrev pub named_by : Command → Option Named
 named_by (command.RevokeDigest digest) =
     Some (record { kind = kinds.Digest; entries = record no_entries { digests = digest ∷ [] } })
@@ -42,17 +42,17 @@ pub record Proposal : Type 0 where
   pub command : Command
   pub named : Named
 
--- own: by the second rules, what a call names is proposed
+-- what a call proposes. own: by the second rules all that it names, by the first nothing
 abbrev pub proposed_by : Item → Option Named
 proposed_by i = elim i.rules [ First ↦ None | Second ↦ named_by i.call.command ]
 
--- proposals with the next one, if the call proposes something
+-- the proposals, with the next one in front if the call proposes something
 abbrev pub with_next : List Proposal → Call → Option Named → List Proposal
 with_next ps c None = ps
 with_next ps c (Some named) =
     record { number = length ps + 1; officer = caller_name c.caller; command = c.command; named = named } ∷ ps
 
--- proposal k is the k-th, and the newest stands first
+-- the proposals, the newest first; the k-th proposal has the number k
 abbrev pub proposals : History → List Proposal
 proposals [] = []
 proposals (i ∷ cs) = with_next (proposals cs) i.call (proposed_by i)
@@ -67,13 +67,13 @@ proposal cs k = find (is_proposal k) (proposals cs)
 
 -- ---- what becomes of it
 
--- a Confirm and a Drop close the proposal that they name
+-- what a command makes of a proposal: a Confirm confirms the one that it names, a Drop drops it
 abbrev pub outcome_by : Command → Option ProposalOutcome
 outcome_by (command.Confirm k) = Some (record { proposal = k; state = states.Confirmed })
 outcome_by (command.Drop k) = Some (record { proposal = k; state = states.Dropped })
 outcome_by _ = None
 
--- what became of those that are closed
+-- what became of the closed ones, the newest first
 abbrev pub outcomes : History → List ProposalOutcome
 outcomes cs = filter_map (λ i. outcome_by i.call.command) cs
 

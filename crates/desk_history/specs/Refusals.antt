@@ -114,7 +114,7 @@ is_later now stamp = option_map_or (λ s. nat_lt now s) stamp false
 abbrev pub import_refusal : Bool → ℕ → Option ℕ → Option Refusal
 import_refusal raises now stamp = refuse_if (raises && not (is_later now stamp)) refusals.StampNotLater
 
--- why what a command names isn't put into force now; four commands name such
+-- why what a command names can't be put into force now; other commands than these four name nothing of the kind
 abbrev pub force_refusal : History → Command → Option Refusal
 force_refusal cs (command.RevokeDigest d) = refuse_if (is_revoked kinds.Digest cs d) refusals.AlreadyRevoked
 force_refusal cs (command.RevokeCertificate d) = refuse_if (is_revoked kinds.Certificate cs d) refusals.AlreadyRevoked
@@ -126,8 +126,8 @@ force_refusal cs _ = None
 abbrev pub is_closed : ProposalState → Bool
 is_closed state = elim state [ proposal_states.Open ↦ false | _ ↦ true ]
 
--- Confirm, of a proposal in this state, the caller's own or not, of which the command is refused now or not. own: another
--- officer confirms
+-- Confirm, of a proposal in this state, the caller's own or not, whose command would be refused now or not. own: an officer
+-- confirms only what another one proposed
 abbrev pub confirm_by : ProposalState → Bool → Option Refusal → Option Refusal
 confirm_by state own refused =
     if is_closed state then Some refusals.ProposalClosed else (if own then Some refusals.OwnProposal else refused)
@@ -137,7 +137,7 @@ abbrev pub confirm_refusal : History → Option Proposal → ProposalState → L
 confirm_refusal cs None state caller = Some refusals.NoSuchProposal
 confirm_refusal cs (Some p) state caller = confirm_by state (bytes_eq p.officer caller) (force_refusal cs p.command)
 
--- Drop, of a proposal in this state. own: each officer may drop it, also the one who proposed it
+-- Drop, of a proposal in this state. own: any officer may drop it, the one who proposed it included
 abbrev pub drop_by : ProposalState → Option Refusal
 drop_by state = refuse_if (is_closed state) refusals.ProposalClosed
 

@@ -36,8 +36,8 @@ abbrev pub answer_known : Option Minute → List ℕ → Option Refusal → Repl
 answer_known (Some m) text refusal reply = repeated m text
 answer_known None text refusal reply = answer_new_key refusal reply
 
--- own: what the item's call is answered after these, by the item's rules: who calls, then the key, then the refusals of a
--- call with a new key
+-- own: what the item's call is answered after these, by the item's rules: first by who calls, then by the key, then by the
+-- refusals of a call with a new key
 abbrev pub ruling : History → Item → Answer
 ruling cs i =
     if not (is_known cs i.call.caller) then Refused refusals.UnknownCaller
@@ -88,11 +88,11 @@ answers cs calls = answers_by Second cs calls
 abbrev pub may_follow : History → Item → Bool
 may_follow cs i = elim i.rules [ First ↦ list_all is_first cs | Second ↦ true ]
 
--- the item's call is accepted after these
+-- the item may stand next in the history: its call is accepted, and its rules may follow
 abbrev pub joins : History → Item → Bool
 joins cs i = is_accepted (ruling cs i) && may_follow cs i
 
--- each call was accepted after those before it
+-- each call was accepted after those before it, and none by the first rules after one by the second
 abbrev pub is_legal : History → Bool
 is_legal [] = true
 is_legal (i ∷ cs) = joins cs i && is_legal cs

@@ -1,4 +1,4 @@
--- What a person is shown of the requests, and of the proposals.
+-- What a person is shown of requests and of proposals.
 use Rattle.std.specs.Prelude.{◌≡◌, ℕ, ◌==◌, Bool, true, if◌then◌else◌, List, length, map, filter, find, reverse, Option, Some, option_map, ok_or, Result, Ok, Err, bytes_eq}
 use Rattle.std.specs.List.{AllZip}
 use Rattle.std.specs.List.Sorted.{IsPermutation}
@@ -78,7 +78,7 @@ sees roles.Signer is_own = true
 abbrev pub is_shown_to : Person → Whole → Bool
 is_shown_to p w = sees p.role (bytes_eq p.name w.request.submitter)
 
--- own: the console is shown no request
+-- the person who asks. own: the console is shown neither requests nor proposals
 abbrev pub reader : History → Caller → Result Person Refusal
 reader cs callers.Console = Err refusals.NotYourRole
 reader cs (callers.Person name) = ok_or (person cs name) refusals.UnknownCaller
@@ -119,7 +119,7 @@ GivesRequest cs c k given = IsGiven (request_for cs c k) given IsShown
 
 -- ---- proposals
 
--- own: proposals are shown to officers
+-- own: proposals are shown to officers alone
 abbrev pub officer : Result Person Refusal → Result Person Refusal
 officer (Ok p) = if is_officer p.role then Ok p else Err refusals.NotYourRole
 officer (Err refusal) = Err refusal

@@ -1,4 +1,4 @@
--- The tables that a history stands for: lists of rows, of which the order means nothing.
+-- The tables that a history stands for: lists of rows, whose order means nothing.
 use Rattle.std.specs.Prelude.{ℕ, ◌+◌, List, [], ◌∷◌, map, flat_map, count_by, unwrap_or, codes}
 use Rattle.sbat.specs.declared.component.Component.{Component}
 use Rattle.desk_texts.specs.declared.kind.ListedKind.TheVariants as kinds
@@ -76,12 +76,12 @@ abbrev pub proposal_row : ProposalState → Proposal → ProposalRow
 proposal_row state p =
     record { number = p.number; officer = p.officer; kind = p.named.kind; named = p.named.entries; state = state }
 
--- own: how many of the calls were accepted by the first rules, in the one row of its table
+-- own: the one row of `migrated`: how many of the calls were accepted by the first rules
 pub record MigratedRow : Type 0 where
   pub id : ℕ
   pub calls : ℕ
 
--- the fifteen tables, with a proposal's items in its row
+-- the fifteen tables: a proposal's row has what it names in it, which a file keeps in a table of its own
 pub record Tables : Type 0 where
   pub desk : DeskRow
   pub people : List Person

@@ -40,7 +40,7 @@ pub use rows::{
 };
 pub use rules::{
     confirm_by, drop_by, image_refusal, is_above, is_for, is_for_console, is_later, is_same,
-    raise_refusal, refuse_if, return_by, review_by, withdraw_by,
+    refuse_if, return_by, review_by, withdraw_by,
 };
 pub use standing::Standing;
 pub use verdicts::{bars, lists_image, verdict_of};

@@ -1,17 +1,17 @@
 //! Laws of proposals: the clause of each function is one.
 ghost use Rattle.desk_history.specs.ProposalLaws as law;
 
-/// What is put into force was proposed by one officer and confirmed by another, but by the first rules.
+/// By the second rules, what is put into force was proposed by one officer and is confirmed by another.
 pub fn two_officers_put_into_force()
     ensures { law.TwoOfficersPut }
 {}
 
-/// No Confirm and no Drop was accepted by the first rules.
+/// The first rules accept no Confirm and no Drop.
 pub fn first_rules_close_none()
     ensures { law.FirstCloseNone }
 {}
 
-/// No proposal is confirmed or dropped twice, nor both.
+/// A proposal is closed once.
 pub fn proposals_close_once()
     ensures { law.ClosedOnce }
 {}

@@ -9,7 +9,7 @@ ghost use Rattle.desk_history.specs.Verdicts.{bars as bars_on, lists_image as li
 use crate::standing::Standing;
 use crate::verdicts::{bars, lists_image};
 use desk_bytes::{Digest, Refusal};
-use desk_texts::{Command, Facts, ListedKind, ProposalState, Raise, Role, State};
+use desk_texts::{Command, Facts, ListedKind, ProposalState, Role, State};
 use sbat::{Generation, Stamp};
 
 /// Whether both are of one kind.
@@ -159,7 +159,7 @@ fn is_closed(state: ProposalState) -> bool
     }
 }
 
-/// Why a proposal in this state isn't confirmed, the caller's own or not, of which the command is refused now or not.
+/// Why a proposal in this state isn't confirmed, the caller's own or not, whose command would be refused now or not.
 pub fn confirm_by(state: ProposalState, is_own: bool, refused: Option<Refusal>) -> Option<Refusal>
     ensures { result ≡ spec.confirm_by state is_own refused }
 {
@@ -177,20 +177,6 @@ pub fn drop_by(state: ProposalState) -> Option<Refusal>
     ensures { result ≡ spec.drop_by state }
 {
     refuse_if(is_closed(state), Refusal::ProposalClosed)
-}
-
-/// Why the generation isn't raised from the present one, where the level's stamp is this.
-pub fn raise_refusal(present: Option<Generation>, now: Stamp, raise: &Raise) -> Option<Refusal>
-    ensures { result ≡ spec.raise_refusal present now raise.now }
-{
-    let component = &raise.component;
-    if component.name.is_sbat() {
-        return Some(Refusal::NotHigher);
-    }
-    if !is_above(component.generation, present) {
-        return Some(Refusal::NotHigher);
-    }
-    refuse_if(raise.stamp.value() <= now.value(), Refusal::StampNotLater)
 }
 
 /// Whether a stamp is there, and above the present one.
