@@ -90,7 +90,7 @@ raise_parts : (low : Bool) (early : Bool) (r : Refusal) → (if low then Some re
 raise_parts true early r h = given refusals.NotHigher r refl h
 raise_parts false early r h = refuse_only early refusals.StampNotLater r refl h
 
-force_only : (v : View) (kind : ProposalKind) (n : Imported) (names : ℕ) (r : Refusal) → force_refusal_in v kind n names ≡ Some r → may_answer r ≡ true
+pub force_only : (v : View) (kind : ProposalKind) (n : Imported) (names : ℕ) (r : Refusal) → force_refusal_in v kind n names ≡ Some r → may_answer r ≡ true
 force_only v proposed.Digest n names r h = refuse_only (list_any ((seen_standing v.lists).revoked kinds.Digest) n.digests) refusals.AlreadyRevoked r refl h
 force_only v proposed.Certificate n names r h = refuse_only (list_any ((seen_standing v.lists).revoked kinds.Certificate) n.certificates) refusals.AlreadyRevoked r refl h
 force_only v proposed.Level n names r h = raise_parts (list_any (is_lower_in v.lists.components.items) n.components) (not (is_later v.stamp n.stamp)) r h
@@ -103,15 +103,14 @@ dropped_only : (o : Option ProposalRow) (r : Refusal) → option_map_or (λ row.
 dropped_only None r h = given refusals.NoSuchProposal r refl h
 dropped_only (Some row) r h = drop_only row.state r h
 
-confirm_parts : (closed own : Bool) (o : Option Refusal) (r : Refusal) → ((q : Refusal) → o ≡ Some q → may_answer q ≡ true) →
-    (if closed then Some refusals.ProposalClosed else (if own then Some refusals.OwnProposal else o)) ≡ Some r → may_answer r ≡ true
-confirm_parts true own o r each h = given refusals.ProposalClosed r refl h
-confirm_parts false true o r each h = given refusals.OwnProposal r refl h
-confirm_parts false false o r each h = each r h
+early_parts : (closed own : Bool) (r : Refusal) → (if closed then Some refusals.ProposalClosed else (if own then Some refusals.OwnProposal else None)) ≡ Some r → may_answer r ≡ true
+early_parts true own r h = given refusals.ProposalClosed r refl h
+early_parts false true r h = given refusals.OwnProposal r refl h
+early_parts false false r h = none_some h
 
--- what a Confirm refuses by a row
-pub confirm_only : (v : View) (state : ProposalState) (own : Bool) (kind : ProposalKind) (n : Imported) (names : ℕ) (r : Refusal) → confirm_by state own (force_refusal_in v kind n names) ≡ Some r → may_answer r ≡ true
-confirm_only v state own kind n names r h = confirm_parts (is_closed state) own (force_refusal_in v kind n names) r (force_only v kind n names) h
+-- what a Confirm refuses of a closed proposal and of an own one
+pub early_only : (state : ProposalState) (own : Bool) (r : Refusal) → confirm_by state own None ≡ Some r → may_answer r ≡ true
+early_only state own r h = early_parts (is_closed state) own r h
 
 -- what a decision by a refusal, a reply and writes refuses
 decided_only : (result : Result Changes Refusal) (refusal : Option Refusal) (reply : Reply) (ws : List Write) → Decided result refusal reply ws → ((r : Refusal) → refusal ≡ Some r → may_answer r ≡ true) →

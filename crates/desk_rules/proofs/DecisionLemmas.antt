@@ -29,7 +29,8 @@ use Rattle.desk_rules.specs.declared.view.Changes.{Changes}
 use Rattle.desk_rules.specs.declared.view.View.{View}
 use Rattle.desk_rules.specs.DecisionSteps.{Decided, DecidesOwn, IsCommandStep, RefusesOwn}
 use Rattle.desk_rules.specs.Decisions.{called}
-use Rattle.desk_rules.specs.Shown.{Shows, keys_asked, one_key}
+use Rattle.desk_rules.specs.Keys.{one_key}
+use Rattle.desk_rules.specs.Shown.{Shows, keys_asked}
 use Rattle.desk_rules.specs.Room.{IsRoomed}
 use Rattle.desk_history.specs.Refusals.{add_refusal, own_refusal, refuse_if}
 use Rattle.desk_rules.specs.Views.{keys_for, seen_standing}

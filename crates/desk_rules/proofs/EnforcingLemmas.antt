@@ -40,7 +40,7 @@ use Rattle.desk_rules.specs.DecisionSteps.{force_refusal_in, is_lower_in, revoca
 use Rattle.desk_rules.specs.Decisions.{called}
 use Rattle.desk_rules.specs.ImportSteps.{AreNew, HasTaken, HasTakenAll, PutsIntoForce, stamp_writes}
 use Rattle.desk_rules.specs.Room.{takes_off}
-use Rattle.desk_rules.specs.Shown.{import_keys}
+use Rattle.desk_rules.specs.Keys.{import_keys}
 use Rattle.desk_rules.specs.Views.{ShowsLists, generation_in, seen_standing}
 use Rattle.desk_rules.proofs.ImportDigests.{put_new-once}
 use Rattle.desk_rules.proofs.StandingLemmas.{any_alike, bars_so, shown_generation}

@@ -1,5 +1,5 @@
 -- What the write of a component makes of the level.
-use Rattle.std.proofs.Common.{◌≡◌, ℕ, ◌<◌, true, false, not, ◌||◌, max, List, [], ◌∷◌, map, Option, Some, None, Result, refl, sym, ◌∙◌, ap, inl, arith}
+use Rattle.std.proofs.Common.{◌≡◌, ℕ, ◌<◌, true, false, max, List, [], ◌∷◌, map, Option, Some, None, refl, sym, ◌∙◌, ap, arith}
 use Rattle.std.specs.Prelude.{if◌then◌else◌, bytes_eq, is_some, nat_lt, unwrap_or}
 use Rattle.std.proofs.lemmas.Bool.{ltb-true, or_parts}
 use Rattle.sbat.specs.declared.component.Component.{Component}

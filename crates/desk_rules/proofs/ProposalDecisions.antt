@@ -1,5 +1,5 @@
 -- What a view that shows a history says of proposals, and what their writes make.
-use Rattle.std.proofs.Common.{◌≡◌, ℕ, ◌+◌, ◌≤◌, true, false, IfSome, List, [], ◌∷◌, length, map, Option, Some, None, Ok, Err, Result, refl, sym, ◌∙◌, ap, subst, inl, inr, arith}
+use Rattle.std.proofs.Common.{◌≡◌, ℕ, ◌+◌, ◌≤◌, Bool, true, false, IfSome, List, [], ◌∷◌, length, Option, Some, None, Ok, Err, Result, refl, sym, ◌∙◌, ap, subst, inl, inr, arith}
 use Rattle.std.specs.Prelude.{IfErr, IfOk, bytes_eq, find, option_map}
 use Rattle.std.specs.Option.{option_map_or}
 use Rattle.std.proofs.lemmas.List.{length-map}
@@ -7,7 +7,6 @@ use Rattle.desk_bytes.specs.declared.refusal.Refusal.{Refusal}
 use Rattle.desk_bytes.specs.declared.refusal.Refusal.TheVariants as refusals
 use Rattle.desk_texts.specs.Callers.{caller_name}
 use Rattle.desk_texts.specs.Forms.{greatest_number}
-use Rattle.desk_texts.specs.Imports.{Imported}
 use Rattle.desk_texts.specs.declared.caller.Caller.{Caller}
 use Rattle.desk_texts.specs.declared.command.Command.{Command}
 use Rattle.desk_texts.specs.declared.command.Command.TheVariants as command
@@ -33,7 +32,8 @@ use Rattle.desk_rules.specs.declared.view.View.{View}
 use Rattle.desk_rules.specs.DecisionSteps.{Decided, DecidesOwn, IsCommandStep, MatchesOwn, RefusesOwn, drop_refusal_in, force_refusal_in, open_row}
 use Rattle.desk_rules.specs.Decisions.{called}
 use Rattle.desk_rules.specs.ImportSteps.{HasTakenAll, PutsIntoForce}
-use Rattle.desk_rules.specs.Shown.{Shows, import_keys, is_proposal_row, keys_asked, may_put, row_keys}
+use Rattle.desk_rules.specs.Keys.{import_keys, row_keys}
+use Rattle.desk_rules.specs.Shown.{Shows, is_proposal_row, keys_asked, may_put}
 use Rattle.desk_rules.specs.Views.{ShowsLists}
 use Rattle.desk_rules.proofs.DecisionLemmas.{decided}
 use Rattle.desk_rules.proofs.EnforcingLemmas.{force_seen, kept, puts, says}
@@ -96,6 +96,20 @@ entries_by : (s : ProposalState) (o : Option Proposal) → option_map (λ (p : P
 entries_by s None = refl
 entries_by s (Some p) = refl
 
+-- what a closed or an own proposal is refused, whatever its command would be
+early : (state : ProposalState) (own : Bool) (refused : Option Refusal) (r : Refusal) → confirm_by state own None ≡ Some r → confirm_by state own refused ≡ Some r
+early states.Open true refused r h = h
+early states.Open false refused r h = absurd cc
+early states.Confirmed own refused r h = h
+early states.Dropped own refused r h = h
+
+-- every other is refused as its command
+late : (state : ProposalState) (own : Bool) (refused : Option Refusal) → confirm_by state own None ≡ None → confirm_by state own refused ≡ refused
+late states.Open true refused h = absurd cc
+late states.Open false refused h = refl
+late states.Confirmed own refused h = absurd cc
+late states.Dropped own refused h = absurd cc
+
 missing : (o : Option Proposal) (s : ProposalState) → option_map (proposal_row s) o ≡ None → o ≡ None
 missing None s h = refl
 missing (Some p) s h = cc
@@ -110,36 +124,44 @@ module _ (v : View) (caller : Caller) (k : ℕ) (owner : List ℕ) (cs : History
       none_refused : proposal cs k ≡ None → own_refusal cs (caller_name caller) (command.Confirm k) ≡ Some refusals.NoSuchProposal
       none_refused gone = rw gone refl
 
-  module _ (row : ProposalRow) (found : find (is_proposal_row k) v.proposals.items ≡ Some row) (s : SoFar) (taken : HasTakenAll v row.named s) where
+  module _ (row : ProposalRow) (found : find (is_proposal_row k) v.proposals.items ≡ Some row) where
     there : find (is_proposal_row k) (tables owner cs).proposals ≡ Some row
     there = sym (shown.proposal k refl) ∙ found
 
-    lists_seen : ShowsLists v.lists (tables owner cs) (import_keys row.named)
-    lists_seen = subst (λ o. ShowsLists v.lists (tables owner cs) (row_keys o)) there shown.lists
+    -- a proposal that is closed, or the caller's own
+    pub refuses_early : (r : Refusal) → confirm_by row.state (bytes_eq row.officer (caller_name caller)) None ≡ Some r → RefusesOwn r cs (called caller key (command.Confirm k))
+    refuses_early r h =
+        inl (row_refused owner cs (caller_name caller) k row there ∙ early row.state (bytes_eq row.officer (caller_name caller)) (refused_by cs row.kind row.named) r h)
 
-    refusal_is : confirm_by row.state (bytes_eq row.officer (caller_name caller)) (force_refusal_in v row.kind row.named s.names) ≡ own_refusal cs (caller_name caller) (command.Confirm k)
-    refusal_is =
-        ap (λ o. confirm_by row.state (bytes_eq row.officer (caller_name caller)) o) (force_seen v row.named owner cs lists_seen shown.stamp s taken row.kind)
-        ∙ sym (row_refused owner cs (caller_name caller) k row there)
+    -- another officer's open one, of which the components make this
+    module _ (open_to : confirm_by row.state (bytes_eq row.officer (caller_name caller)) None ≡ None) (s : SoFar) (taken : HasTakenAll v row.named s) where
+      lists_seen : ShowsLists v.lists (tables owner cs) (import_keys row.named)
+      lists_seen = subst (λ o. ShowsLists v.lists (tables owner cs) (row_keys o)) there shown.lists
 
-    enforced : enforced_by cs (item (called caller key (command.Confirm k))) ≡ Some row.named
-    enforced = entries_by (proposal_state cs k) (proposal cs k) ∙ ap (λ o. option_map (λ (q : ProposalRow). q.named) o) (sym (table_found owner cs k) ∙ there)
+      refusal_is : force_refusal_in v row.kind row.named s.names ≡ own_refusal cs (caller_name caller) (command.Confirm k)
+      refusal_is =
+          force_seen v row.named owner cs lists_seen shown.stamp s taken row.kind
+          ∙ sym (late row.state (bytes_eq row.officer (caller_name caller)) (refused_by cs row.kind row.named) open_to)
+          ∙ sym (row_refused owner cs (caller_name caller) k row there)
 
-    pub refuses_confirm : (r : Refusal) → confirm_by row.state (bytes_eq row.officer (caller_name caller)) (force_refusal_in v row.kind row.named s.names) ≡ Some r → RefusesOwn r cs (called caller key (command.Confirm k))
-    refuses_confirm r h = inl (sym refusal_is ∙ h)
+      enforced : enforced_by cs (item (called caller key (command.Confirm k))) ≡ Some row.named
+      enforced = entries_by (proposal_state cs k) (proposal cs k) ∙ ap (λ o. option_map (λ (q : ProposalRow). q.named) o) (sym (table_found owner cs k) ∙ there)
 
-    step : confirm_by row.state (bytes_eq row.officer (caller_name caller)) (force_refusal_in v row.kind row.named s.names) ≡ None → (changes : Changes) → PutsIntoForce v row.named k s changes → IsCommandStep changes owner cs (called caller key (command.Confirm k))
-    step fine changes made = record {
-      accepted = sym refusal_is ∙ fine;
-      replied = says v row.named owner cs lists_seen shown.stamp s taken caller key k enforced changes made;
-      made = puts v row.named owner cs lists_seen shown.stamp s taken caller key k enforced changes made;
-      listed = inl (kept v row.named owner cs lists_seen shown.stamp s taken caller key k enforced changes made);
-    }
+      pub refuses_confirm : (r : Refusal) → force_refusal_in v row.kind row.named s.names ≡ Some r → RefusesOwn r cs (called caller key (command.Confirm k))
+      refuses_confirm r h = inl (sym refusal_is ∙ h)
 
-    pub confirms : confirm_by row.state (bytes_eq row.officer (caller_name caller)) (force_refusal_in v row.kind row.named s.names) ≡ None → (result : Result Changes Refusal) →
-        IfOk result (λ changes. PutsIntoForce v row.named k s changes) → IfErr result (λ r. r ≡ refusals.NoMemory) → MatchesOwn owner cs (called caller key (command.Confirm k)) result
-    confirms fine (Ok changes) made failed = step fine changes made
-    confirms fine (Err r) made failed = inr failed
+      step : force_refusal_in v row.kind row.named s.names ≡ None → (changes : Changes) → PutsIntoForce v row.named k s changes → IsCommandStep changes owner cs (called caller key (command.Confirm k))
+      step fine changes made = record {
+        accepted = sym refusal_is ∙ fine;
+        replied = says v row.named owner cs lists_seen shown.stamp s taken caller key k enforced changes made;
+        made = puts v row.named owner cs lists_seen shown.stamp s taken caller key k enforced changes made;
+        listed = inl (kept v row.named owner cs lists_seen shown.stamp s taken caller key k enforced changes made);
+      }
+
+      pub confirms : force_refusal_in v row.kind row.named s.names ≡ None → (result : Result Changes Refusal) →
+          IfOk result (λ changes. PutsIntoForce v row.named k s changes) → IfErr result (λ r. r ≡ refusals.NoMemory) → MatchesOwn owner cs (called caller key (command.Confirm k)) result
+      confirms fine (Ok changes) made failed = step fine changes made
+      confirms fine (Err r) made failed = inr failed
 
 -- ---- a Drop
 

@@ -29,7 +29,8 @@ use Rattle.desk_rules.specs.declared.view.Changes.{Changes}
 use Rattle.desk_rules.specs.declared.view.View.{View}
 use Rattle.desk_rules.specs.DecisionSteps.{Decided, MatchesOwn, submission_writes}
 use Rattle.desk_rules.specs.Decisions.{called}
-use Rattle.desk_rules.specs.Shown.{Shows, keys_named}
+use Rattle.desk_rules.specs.Keys.{keys_named}
+use Rattle.desk_rules.specs.Shown.{Shows}
 use Rattle.desk_rules.specs.declared.view.Counted.TheVariants as counted
 use Rattle.desk_rules.specs.Room.{takes_off}
 use Rattle.desk_history.specs.Refusals.{own_refusal, refuse_if, return_refusal, review_refusal, withdraw_refusal}

@@ -1,4 +1,4 @@
--- Words of the steps of a decision, that private functions cite.
+-- Words of the steps of a decision, which private functions cite.
 use Rattle.std.specs.Prelude.{◌≡◌, ◌⊎◌, ℕ, Bool, true, false, not, ◌||◌, nat_le, nat_lt, if◌then◌else◌, List, [], ◌∷◌, ◌++◌, map, find, reverse, bytes_eq, count_by, Option, Some, None, Result, MatchResult, IsTrue}
 use Rattle.std.specs.List.{list_any}
 use Rattle.std.specs.Option.{option_map_or}
@@ -49,8 +49,8 @@ use Rattle.desk_history.specs.Requests.{request_of}
 use Rattle.desk_history.specs.Verdicts.{bars, lists_image}
 use Rattle.desk_rules.specs.Views.{generation_in, seen_standing}
 
--- The command is accepted by its own conditions, with this reply, and the writes make the tables of the history with
--- the call, but for the call's own row. They don't both list entries and take some off.
+-- The command's own conditions accept it, with this reply, and the writes make the tables of the history with the call, but for
+-- the call's own row. Where they take a listed entry off, they put none in, and no more is listed than before.
 pub record IsCommandStep (changes : Changes) (owner : List ℕ) (cs : History) (c : Call) : Type 0 where
   pub accepted : own_refusal cs (caller_name c.caller) c.command ≡ None
   pub replied : changes.reply ≡ reply cs c
@@ -81,18 +81,18 @@ Decided result refusal reply ws =
 abbrev pub Gives : Result Changes Refusal → Reply → List Write → Type 0
 Gives result reply ws = MatchResult result (λ changes. (changes.reply ≡ reply) × (changes.writes.items ≡ ws)) (λ r. r ≡ refusals.NoMemory)
 
--- what the rows of a view say of a vote on the request k
+-- why, by the rows of a view, a vote on the request k is refused
 abbrev pub review_refusal_in : View → ℕ → List ℕ → Option Refusal
 review_refusal_in v k reviewer =
     option_map_or (λ row. review_by row.state (bytes_eq row.submitter reviewer) (list_any (is_vote_of reviewer) (votes_on v.votes.items k)))
     (find (is_request_row k) v.requests.items) (Some refusals.NoSuchRequest)
 
--- what they say of a withdrawal of the request k
+-- why, by these rows, the request k isn't withdrawn
 abbrev pub withdraw_refusal_in : View → ℕ → List ℕ → Option Refusal
 withdraw_refusal_in v k caller =
     option_map_or (λ row. withdraw_by row.state (bytes_eq row.submitter caller)) (find (is_request_row k) v.requests.items) (Some refusals.NoSuchRequest)
 
--- what they say of a return
+-- why, by these rows, a returned file is refused
 abbrev pub return_refusal_in : View → ReturnedFile → Option Refusal
 return_refusal_in v h =
     option_map_or (λ row. return_by row.state (image_refusal row.digest row.signing h.facts (bars (seen_standing v.lists) h.facts) (lists_image (seen_standing v.lists) h.facts)))
@@ -102,7 +102,7 @@ return_refusal_in v h =
 abbrev pub vote_row : List ℕ → Ballot → VoteRow
 vote_row reviewer b = record { request = b.request; reviewer = reviewer; vote = b.vote; note = b.note }
 
--- the state of an open request after this vote, where some vote before it was a no or none, and so many were yes
+-- the state of an open request after this vote, where an earlier vote was a no or none was, and so many were a yes
 abbrev pub state_with : Vote → Bool → ℕ → State
 state_with votes.No some_no count = states.Rejected
 state_with votes.Yes some_no count =
@@ -137,7 +137,7 @@ submission_writes k caller s =
 abbrev pub revocation_writes : ListedKind → List (List ℕ) → List Write
 revocation_writes kind digests = map (λ d. writes.Revoke (record { kind = kind; digest = d })) digests
 
--- the write of a component whose present generation is this
+-- the write of a component whose present generation is this: a row, or the generation of the row that is there
 abbrev pub put_of : Option ℕ → Component → Write
 put_of None x = writes.Component x
 put_of (Some _) x = writes.Generation x
@@ -146,7 +146,7 @@ put_of (Some _) x = writes.Generation x
 abbrev pub is_lower_in : List Component → Component → Bool
 is_lower_in rows x = is_sbat x.name || not (is_above x.generation (generation_in rows x.name))
 
--- what a view's rows say of what is named, by its kind; so many names are raised by it
+-- why, by the rows of a view, what is named can't be put into force, by its kind; so many names are raised by it
 abbrev pub force_refusal_in : View → ProposalKind → Imported → ℕ → Option Refusal
 force_refusal_in v kinds.Digest n names =
     refuse_if (list_any ((seen_standing v.lists).revoked listed.Digest) n.digests) refusals.AlreadyRevoked
@@ -157,12 +157,12 @@ force_refusal_in v kinds.Level n names =
     else refuse_if (not (is_later v.stamp n.stamp)) refusals.StampNotLater
 force_refusal_in v kinds.Import n names = import_refusal (nat_lt 0 names) v.stamp n.stamp
 
--- what they say of a Drop of the proposal k
+-- why, by these rows, the proposal k isn't dropped
 abbrev pub drop_refusal_in : View → ℕ → Option Refusal
 drop_refusal_in v k =
     option_map_or (λ row. drop_by row.state) (find (is_proposal_row k) v.proposals.items) (Some refusals.NoSuchProposal)
 
--- the row of a proposal that is open
+-- an open proposal as a row
 abbrev pub open_row : ℕ → List ℕ → ProposalKind → Imported → ProposalRow
 open_row number officer kind named =
     record { number = number; officer = officer; kind = kind; named = named; state = proposal_states.Open }

@@ -50,6 +50,6 @@ has_room s ws =
     && fits (count_by (puts counted.Components) ws) s.components most_level_components
     && nat_le (1 + s.calls) most_calls
 
--- the writes take no entry off, or they list none and no more is listed after the call
+-- the writes take no listed entry off, or they put none in and no more is listed after the call than before
 abbrev pub IsRoomed : List Write → History → Call → Type 0
 IsRoomed ws cs c = (list_any takes_off ws ≡ false) ⊎ ((count_by (puts counted.Listed) ws ≡ 0) × (length (listed (item c ∷ cs)) ≤ length (listed cs)))

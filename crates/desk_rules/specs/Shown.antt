@@ -1,17 +1,13 @@
 -- What a view has to show of the tables for a decision.
-use Rattle.std.specs.Prelude.{◌≡◌, ℕ, ◌==◌, ◌||◌, Bool, true, false, List, [], ◌∷◌, length, map, find, bytes_eq, Option, Some, None, IsPermutation, IsTrue}
+use Rattle.std.specs.Prelude.{◌≡◌, ℕ, ◌==◌, ◌||◌, Bool, true, false, List, length, map, find, bytes_eq, Some, IsPermutation, IsTrue}
 use Rattle.std.specs.List.{list_any}
-use Rattle.std.specs.Option.{option_map_or}
 use Rattle.desk_texts.specs.declared.command.Call.{Call}
 use Rattle.desk_texts.specs.declared.command.Command.{Command}
 use Rattle.desk_texts.specs.declared.command.Command.TheVariants as command
 use Rattle.desk_texts.specs.declared.command.Listing.{Listing}
-use Rattle.desk_texts.specs.declared.kind.ListedKind.{ListedKind}
-use Rattle.desk_texts.specs.declared.kind.ListedKind.TheVariants as kinds
 use Rattle.desk_history.specs.declared.rows.Entry.{Entry}
 use Rattle.desk_history.specs.declared.rows.ProposalRow.{ProposalRow}
 use Rattle.desk_history.specs.declared.rows.RequestRow.{RequestRow}
-use Rattle.desk_texts.specs.Imports.{Imported}
 use Rattle.desk_texts.specs.Callers.{caller_name}
 use Rattle.desk_history.specs.People.{has_name, has_token}
 use Rattle.desk_history.specs.Requests.{votes_on}
@@ -22,117 +18,20 @@ use Rattle.desk_rules.specs.declared.view.View.{View}
 use Rattle.desk_history.specs.Runs.{has_key, is_legal}
 use Rattle.desk_rules.specs.declared.view.Counted.{Counted}
 use Rattle.desk_rules.specs.declared.view.Counted.TheVariants as counted
-use Rattle.desk_rules.specs.Views.{EntryKeys, Keys, ShowsLists, component_names, keys_of, no_entries, revoked_keys}
+use Rattle.desk_rules.specs.Keys.{keys_with, people_named, proposal_named, request_named, tokens_named}
+use Rattle.desk_rules.specs.Views.{Keys, ShowsLists}
 
--- the names of people that a command has
-abbrev pub people_named : Command → List (List ℕ)
-people_named (command.AddPerson p) = p.name ∷ []
-people_named (command.Submit _) = []
-people_named (command.Review _) = []
-people_named (command.Withdraw _) = []
-people_named (command.Return _) = []
-people_named (command.ListCertificate _) = []
-people_named (command.ListDigest _) = []
-people_named (command.Unlist _) = []
-people_named (command.RevokeDigest _) = []
-people_named (command.RevokeCertificate _) = []
-people_named (command.RaiseLevel _) = []
-people_named (command.ImportRevocations _) = []
-people_named (command.Confirm _) = []
-people_named (command.Drop _) = []
-
--- the tokens of people that a command has
-abbrev pub tokens_named : Command → List (List ℕ)
-tokens_named (command.AddPerson p) = p.token ∷ []
-tokens_named (command.Submit _) = []
-tokens_named (command.Review _) = []
-tokens_named (command.Withdraw _) = []
-tokens_named (command.Return _) = []
-tokens_named (command.ListCertificate _) = []
-tokens_named (command.ListDigest _) = []
-tokens_named (command.Unlist _) = []
-tokens_named (command.RevokeDigest _) = []
-tokens_named (command.RevokeCertificate _) = []
-tokens_named (command.RaiseLevel _) = []
-tokens_named (command.ImportRevocations _) = []
-tokens_named (command.Confirm _) = []
-tokens_named (command.Drop _) = []
-
--- the request that a command names
-abbrev pub request_named : Command → Option ℕ
-request_named (command.Review b) = Some b.request
-request_named (command.Withdraw k) = Some k
-request_named (command.Return h) = Some h.request
-request_named (command.AddPerson _) = None
-request_named (command.Submit _) = None
-request_named (command.ListCertificate _) = None
-request_named (command.ListDigest _) = None
-request_named (command.Unlist _) = None
-request_named (command.RevokeDigest _) = None
-request_named (command.RevokeCertificate _) = None
-request_named (command.RaiseLevel _) = None
-request_named (command.ImportRevocations _) = None
-request_named (command.Confirm _) = None
-request_named (command.Drop _) = None
-
--- the proposal that a command names
-abbrev pub proposal_named : Command → Option ℕ
-proposal_named (command.Confirm k) = Some k
-proposal_named (command.Drop k) = Some k
-proposal_named _ = None
-
--- a key of this kind
-abbrev pub one_key : ListedKind → List ℕ → EntryKeys
-one_key kinds.Digest digest = record { digests = digest ∷ []; certificates = [] }
-one_key kinds.Certificate digest = record { digests = []; certificates = digest ∷ [] }
-
--- no key of any list
-abbrev pub no_keys : Keys
-no_keys = record { listed = no_entries; revoked = no_entries; names = [] }
-
--- the keys of all that an import names
-abbrev pub import_keys : Imported → Keys
-import_keys i = record no_keys {
-  revoked = record { digests = i.digests; certificates = i.certificates };
-  names = map (λ x. x.name) i.components;
-}
-
--- the keys that a command has of what is listed, of what is revoked and of the level
-abbrev pub keys_named : Command → Keys
-keys_named (command.AddPerson _) = no_keys
-keys_named (command.Submit s) = record no_keys { revoked = revoked_keys s.facts; names = component_names s.facts }
-keys_named (command.Review _) = no_keys
-keys_named (command.Withdraw _) = no_keys
-keys_named (command.Return h) = keys_of h.facts
-keys_named (command.ListCertificate c) = record no_keys { listed = one_key kinds.Certificate c.tbs }
-keys_named (command.ListDigest d) = record no_keys { listed = one_key kinds.Digest d }
-keys_named (command.Unlist l) = record no_keys { listed = one_key l.kind l.digest }
-keys_named (command.RevokeDigest d) = record no_keys { revoked = one_key kinds.Digest d }
-keys_named (command.RevokeCertificate d) = record no_keys { revoked = one_key kinds.Certificate d }
-keys_named (command.RaiseLevel r) = record no_keys { names = r.component.name ∷ [] }
-keys_named (command.ImportRevocations i) = import_keys i
-keys_named (command.Confirm _) = no_keys
-keys_named (command.Drop _) = no_keys
+-- the row of the request of this number
+abbrev pub is_request_row : ℕ → RequestRow → Bool
+is_request_row k row = k == row.number
 
 -- the row of the proposal of this number
 abbrev pub is_proposal_row : ℕ → ProposalRow → Bool
 is_proposal_row k row = k == row.number
 
--- the keys of all that a proposal names
-abbrev pub row_keys : Option ProposalRow → Keys
-row_keys o = option_map_or (λ row. import_keys row.named) o no_keys
-
--- own: the keys that a call reads of those lists, where these are the tables: a Confirm reads those of all that its
--- proposal names, and every other those that its command has
+-- the keys of the lists that a call reads, where these are the tables
 abbrev pub keys_asked : Tables → Call → Keys
-keys_asked t c = elim c.command [
-  | command.Confirm k ↦ row_keys (find (is_proposal_row k) t.proposals)
-  | _ ↦ keys_named c.command
-]
-
--- the row of the request of this number
-abbrev pub is_request_row : ℕ → RequestRow → Bool
-is_request_row k row = k == row.number
+keys_asked t c = keys_with c.command (λ k. find (is_proposal_row k) t.proposals)
 
 -- the tables are the same
 abbrev pub is_table : Counted → Counted → Bool
@@ -183,9 +82,10 @@ rows_in t counted.RevokedCertificates = length t.revoked_certificates
 rows_in t counted.Components = length t.components
 rows_in t counted.Proposals = length t.proposals
 
--- For the call the view has the tables' row of `desk`, for the caller, the caller's key and each key that the command
--- names the tables' row, or none where they have none, the votes on the request that the command names, the row of the
--- proposal that it names, and of a Confirm the rows for all that its proposal names; how many calls there are, and how many rows each table has that the command may put rows into. It may have other rows.
+-- What the view shows of the tables for a call: the level's stamp; how many calls there are, and how many rows each table has
+-- that the command may put rows into; for the caller, the caller's key and all that the command names the tables' row, or none
+-- where they have none; the votes on the request that it names; and for a Confirm the rows of the lists for all that its proposal
+-- names. It may have other rows.
 pub record Shows (v : View) (t : Tables) (c : Call) : Type 0 where
   pub stamp : v.stamp ≡ t.desk.stamp
   pub count : v.sizes.calls ≡ length t.calls

@@ -33,7 +33,7 @@ revoked_rows t kinds.Certificate = t.revoked_certificates
 abbrev pub generation_in : List Component → List ℕ → Option ℕ
 generation_in rows name = option_map (λ row. row.generation) (find (is_named name) rows)
 
--- what stands by a view's rows
+-- what is revoked, what is listed and which generations are asked for, by the rows of a view
 abbrev pub seen_standing : ListView → Standing
 seen_standing v = record {
   revoked = λ kind digest. is_among (seen_revoked v kind) digest;
@@ -65,11 +65,11 @@ pub record Keys : Type 0 where
 abbrev pub listed_keys : Facts → EntryKeys
 listed_keys x = record { digests = x.digest ∷ []; certificates = x.carried }
 
--- in what is revoked: the digest that a signature of it holds too
+-- the keys that they have in what is revoked: also the digest that a signature of the image holds
 abbrev pub revoked_keys : Facts → EntryKeys
 revoked_keys x = record { digests = x.digest ∷ x.signing ∷ []; certificates = x.carried }
 
--- and in the level
+-- and those that they have in the level: the names of its components
 abbrev pub component_names : Facts → List (List ℕ)
 component_names x = map (λ y. y.name) x.components
 

@@ -29,9 +29,8 @@ pub struct Sizes {
     pub proposals: u64,
 }
 
-/// The rows that a decision on a call is made from: those of the caller, of the caller's key, and of what the command
-/// names, with the votes on a request that it names. Of a Confirm they are those of all that its proposal names. It may have
-/// others.
+/// The rows that a decision on a call is made from: those of the caller, of the caller's key and of what the command names,
+/// with the votes on a request that it names, and for a Confirm also those of all that its proposal names. It may have others.
 #[derive(Drop)]
 pub struct View {
     /// The level's stamp.

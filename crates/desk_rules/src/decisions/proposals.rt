@@ -98,7 +98,7 @@ impl View {
         components.iter().any(|component| self.is_lower(component))
     }
 
-    /// Why what is named isn't put into force, by its kind, where so many names are raised by it.
+    /// Why what is named can't be put into force, by its kind; so many names are raised by it.
     fn force_refusal(&self, kind: ProposalKind, named: &Import, names: u64) -> Option<Refusal>
         ensures { result ≡ spec.force_refusal_in self.now kind named.now names }
     {
@@ -250,7 +250,7 @@ pub(crate) fn propose_import(
     propose(alloc, view, caller, ProposalKind::Import, named)
 }
 
-/// Puts into force what the proposal names.
+/// Puts into force what the proposal names. What it names is looked at only where the proposal is open and not the caller's own.
 pub(crate) fn confirm(
     alloc: Global,
     view: &View,
@@ -263,10 +263,12 @@ pub(crate) fn confirm(
     let Some(row) = view.proposal(number) else {
         return Err(Refusal::NoSuchProposal);
     };
-    let so_far = taken(alloc, view, &row.named)?;
-    let refused = view.force_refusal(row.kind, &row.named, so_far.names);
     let is_own = row.officer.as_str() == caller.name();
-    if let Some(refusal) = confirm_by(row.state, is_own, refused) {
+    if let Some(refusal) = confirm_by(row.state, is_own, None) {
+        return Err(refusal);
+    }
+    let so_far = taken(alloc, view, &row.named)?;
+    if let Some(refusal) = view.force_refusal(row.kind, &row.named, so_far.names) {
         return Err(refusal);
     }
     enforce(alloc, view, &row.named, number, so_far)
