@@ -10,7 +10,8 @@ use Rattle.desk_history.specs.Calls.{is_among}
 use Rattle.desk_history.specs.Listing.{has_entry, is_entry}
 use Rattle.desk_history.specs.Tables.{Tables}
 use Rattle.desk_history.specs.Writes.{is_named}
-use Rattle.desk_rules.specs.Shown.{key_of, no_keys, one_key}
+use Rattle.desk_rules.specs.Keys.{no_keys, one_key}
+use Rattle.desk_rules.specs.Shown.{key_of}
 use Rattle.desk_rules.specs.Views as views
 use Rattle.desk_rules.specs.Views.{EntryKeys, Keys, is_listing, keys_for, revoked_rows}
 use Rattle.desk_list_views.specs.declared.keys.Digests.{Digests}

@@ -1,7 +1,7 @@
 //! Keys that are asked for, borrowed.
 ghost use Rattle.std.specs.Prelude.{◌≡◌};
 ghost use Rattle.desk_list_views.specs.Gathering.{entry_keys};
-ghost use Rattle.desk_rules.specs.Shown.{one_key};
+ghost use Rattle.desk_rules.specs.Keys.{one_key};
 ghost use Rattle.desk_rules.specs.Views.{no_entries};
 
 use desk_bytes::Digest;

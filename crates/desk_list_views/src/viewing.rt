@@ -1,7 +1,8 @@
 //! The rows of the lists that an image's facts or a command name.
 ghost use Rattle.std.specs.Prelude.{◌≡◌, IfOk, option_copied};
-ghost use Rattle.desk_list_views.specs.Lists.{HoldsNoOther, keys_with};
+ghost use Rattle.desk_list_views.specs.Lists.{HoldsNoOther};
 ghost use Rattle.desk_reads.specs.Reads.{Tells};
+ghost use Rattle.desk_rules.specs.Keys.{keys_with};
 ghost use Rattle.desk_rules.specs.Views.{ShowsLists, keys_of};
 ghost use Rattle.desk_sql.specs.States.{DoesInside, Keeps, Spares, StaysInside};
 
@@ -45,8 +46,8 @@ pub fn list_view<S: Alter>(
     rows_of(alloc, tx, listed, revoked, facts.components.as_slice())
 }
 
-/// The rows of the lists that the command's keys name, and for a Confirm those that its proposal names, where this is the
-/// proposal's row. Takes memory for them. Costs one keyed statement for each key.
+/// The rows of the lists that the command names, or for a Confirm those that its proposal names, of which this is the row.
+/// Takes memory for them. Costs one keyed statement for each key.
 pub fn lists_asked<S: Alter>(
     alloc: Global,
     tx: &mut Transaction<'_, S>,
