@@ -25,7 +25,7 @@ shown_row p = record {
 abbrev pub IsShown : Tables → ProposalHead → Proposal → Type 0
 IsShown t head shown = (p : ProposalRow) × (filter (λ q. head.number == q.number) t.proposals ≡ p ∷ []) × (shown ≡ shown_row p)
 
--- where stamps stand for themselves, each proposal of these heads is shown, in their order
+-- where no stamp is 0, the proposal of each of these heads is shown, in their order
 abbrev pub AreShown : List ProposalHead → List Proposal → Tables → Type 0
 AreShown heads shown t = All IsStamped t.proposals → AllZip (IsShown t) heads shown
 
