@@ -5,7 +5,6 @@ use Rattle.std.specs.List.Sorted.{IsPermutation}
 use Rattle.std.proofs.lemmas.Bool.Decides.{nat_tests}
 use Rattle.std.proofs.lemmas.Slice.Eq.{bytes_eq-Decides}
 use Rattle.std.proofs.lemmas.List.Elements.{All-append, All-head, All-tail, All-weaker}
-use Rattle.desk_texts.specs.declared.caller.Caller.{Caller}
 use Rattle.desk_texts.specs.declared.command.Command.{Command}
 use Rattle.desk_texts.specs.declared.command.Command.TheVariants as command
 use Rattle.desk_texts.specs.declared.command.Person.{Person}
@@ -15,9 +14,8 @@ use Rattle.desk_history.specs.declared.rows.VoteRow.{VoteRow}
 use Rattle.desk_history.specs.People.{added_by, has_name, has_token}
 use Rattle.desk_history.specs.Requests.{votes_on}
 use Rattle.desk_history.specs.Tables.{Tables}
-use Rattle.desk_rules.specs.Shown.{is_proposal_row, is_request_row, keys_asked, people_named, proposal_named, row_keys, tokens_named}
-use Rattle.desk_rules.specs.Decisions.{called}
-use Rattle.desk_list_views.specs.Lists.{keys_with}
+use Rattle.desk_rules.specs.Keys.{keys_with, people_named, proposal_named, row_keys, tokens_named}
+use Rattle.desk_rules.specs.Shown.{is_proposal_row, is_request_row}
 use Rattle.desk_reads.specs.Reads.{listed}
 use Rattle.desk_views.specs.Named.{is_named_person}
 use Rattle.desk_views.specs.Steps.{ShowsPeople, ShowsProposal, ShowsRequest, ShowsVotes}
@@ -199,11 +197,6 @@ found_by rows o number found is read k e = subst (λ n. found ≡ find (is_propo
 pub keys_same : (c : Command) (o : Option ProposalRow) (row_of : ℕ → Option ProposalRow) → ((k : ℕ) → proposal_named c ≡ Some k → o ≡ row_of k) → keys_with c (λ k. o) ≡ keys_with c row_of
 keys_same (command.Confirm k) o row_of same = ap row_keys (same k refl)
 keys_same _ o row_of same = refl
-
--- where those are the tables' rows, they are the keys that a call reads
-pub keys_of_tables : (t : Tables) (caller : Caller) (key : List ℕ) (c : Command) → keys_with c (λ k. find (is_proposal_row k) t.proposals) ≡ keys_asked t (called caller key c)
-keys_of_tables t caller key (command.Confirm k) = refl
-keys_of_tables t caller key _ = refl
 
 pub no_votes : (rows : List VoteRow) (t : Tables) → ShowsVotes rows t None
 no_votes rows t k e = absurd cc

@@ -8,16 +8,24 @@ use Rattle.desk_texts.specs.declared.command.Person.{Person}
 use Rattle.desk_history.specs.declared.rows.ProposalRow.{ProposalRow}
 use Rattle.desk_history.specs.declared.rows.RequestRow.{RequestRow}
 use Rattle.desk_history.specs.declared.rows.VoteRow.{VoteRow}
+use Rattle.desk_history.specs.Formed.{IsReadable}
 use Rattle.desk_history.specs.People.{has_name, has_token}
 use Rattle.desk_history.specs.Requests.{votes_on}
 use Rattle.desk_history.specs.Runs.{has_key}
 use Rattle.desk_history.specs.Tables.{Tables}
 use Rattle.desk_rules.specs.declared.view.Counted.{Counted}
-use Rattle.desk_rules.specs.Shown.{is_proposal_row, is_request_row, may_put, people_named, proposal_named, request_named, tokens_named}
+use Rattle.desk_rules.specs.Keys.{people_named, proposal_named, request_named, tokens_named}
+use Rattle.desk_rules.specs.Shown.{is_proposal_row, is_request_row, may_put}
+use Rattle.desk_proposals.specs.Reading.{IsStamped}
 use Rattle.desk_sizes.specs.Sizes.{known}
 use Rattle.desk_sizes.specs.declared.kept.KeptSizes.{KeptSizes}
 use Rattle.desk_views.specs.declared.loading.CallRows.{CallRows}
 use Rattle.desk_views.specs.Named.{is_named_person}
+
+-- minutes and proposals of these tables are read back as they were written
+pub record ReadsBack (t : Tables) : Type 0 where
+  pub calls : All IsReadable t.calls
+  pub proposals : All IsStamped t.proposals
 
 -- people, as far as a call names them
 pub record ShowsPeople (rows : List Person) (t : Tables) (own : List ℕ) (command : Command) : Type 0 where

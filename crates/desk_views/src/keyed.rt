@@ -4,6 +4,7 @@ ghost use Rattle.desk_contents.specs.Values.{vote_values};
 ghost use Rattle.desk_history.specs.Formed.{IsReadable};
 ghost use Rattle.desk_history.specs.People.{has_name, has_token};
 ghost use Rattle.desk_history.specs.Runs.{has_key};
+ghost use Rattle.desk_proposals.specs.Reading.{IsStamped};
 ghost use Rattle.desk_reads.specs.Reads.{AreFound, Tells, listed};
 ghost use Rattle.desk_rules.specs.Shown.{is_proposal_row, is_request_row};
 ghost use Rattle.desk_sql.specs.States.{DoesInside, Keeps, Spares, StaysInside};
@@ -11,6 +12,7 @@ ghost use Rattle.desk_statements.specs.Tables as tables;
 
 use desk_bytes::Digest;
 use desk_history::{Minute, ProposalRow, RequestRow, VoteRow};
+use desk_proposals::proposal_of;
 use desk_reads::{ReadFault, call_of, person_named, person_of_token, request_numbered, votes_of};
 use desk_texts::{Key, Person, ProposalNumber, RequestNumber};
 use sqlite::{Alter, Transaction};
@@ -112,7 +114,7 @@ pub(crate) fn request<S: Alter>(
     Ok(Some(row))
 }
 
-/// The proposal of this number. A stand-in until rows of proposals are read: it gives up.
+/// The proposal of this number, with all that it names.
 pub(crate) fn proposal<S: Alter>(
     alloc: Global,
     tx: &mut Transaction<'_, S>,
@@ -120,13 +122,20 @@ pub(crate) fn proposal<S: Alter>(
 ) -> Result<Option<ProposalRow>, ReadFault>
     ensures same_reference { tx.new.conn.ghost_name ≡ tx.old.conn.ghost_name }
     ensures value { DoesInside S.Store tx.old.conn.now tx.new.conn.now result
-        (λ row. Tells (λ t. filter (is_proposal_row number) t.proposals ≡ listed row)) }
+        (λ row. Tells (λ t. All IsStamped t.proposals
+        → filter (is_proposal_row number) t.proposals ≡ listed row)) }
     ensures only { IfOk result (λ row. All (λ r. r.number ≡ number) (listed row)) }
     ensures inside { StaysInside S.Store tx.old.conn.now tx.new.conn.now result }
     ensures kept { Keeps S.Store tx.old.conn.now tx.new.conn.now }
     ensures survives { Spares S.Store tx.old.conn.now tx.new.conn.now }
 {
-    Err(ReadFault::NoMemory)
+    let Some(proposal) = proposal_of(alloc, tx, number)? else {
+        return Ok(None);
+    };
+    if number != proposal.number {
+        return Err(ReadFault::Row);
+    }
+    Ok(Some(proposal))
 }
 
 /// Whether each of the votes is on the request.

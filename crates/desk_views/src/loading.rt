@@ -5,11 +5,13 @@ ghost use Rattle.desk_history.specs.People.{added_by};
 ghost use Rattle.desk_history.specs.Runs.{has_key};
 ghost use Rattle.desk_reads.specs.Reads.{Tells, listed};
 ghost use Rattle.desk_rules.specs.Decisions.{called};
-ghost use Rattle.desk_rules.specs.Shown as spec;
+ghost use Rattle.desk_rules.specs.Keys as spec;
+ghost use Rattle.desk_rules.specs.Shown.{is_proposal_row};
 ghost use Rattle.desk_sql.specs.States.{DoesInside, Keeps, Spares, StaysInside};
 ghost use Rattle.desk_texts.specs.Callers.{caller_name};
 ghost use Rattle.desk_views.specs.Named.{is_named_person};
-ghost use Rattle.desk_views.specs.Steps.{HoldsNamed, ShowsNamed, ShowsPeople};
+ghost use Rattle.desk_proposals.specs.Reading.{IsStamped};
+ghost use Rattle.desk_views.specs.Steps.{HoldsNamed, ReadsBack, ShowsNamed, ShowsPeople};
 ghost use Rattle.desk_views.specs.Steps.{ShowsProposal, ShowsRequest, ShowsVotes};
 
 use crate::keyed;
@@ -109,7 +111,7 @@ fn proposal_of(command: &Command) -> Option<ProposalNumber>
 
 /// The row of the proposal of this number.
 fn row_numbered(proposals: &[ProposalRow], number: ProposalNumber) -> Option<&ProposalRow>
-    ensures { option_copied result ≡ find (spec.is_proposal_row number) proposals.now }
+    ensures { option_copied result ≡ find (is_proposal_row number) proposals.now }
 {
     proposals
         .iter()
@@ -122,7 +124,7 @@ pub(crate) fn named_row<'a>(
     command: &Command,
 ) -> Option<&'a ProposalRow>
     ensures { (k : ℕ) → spec.proposal_named command.now ≡ Some k → option_copied result
-        ≡ find (spec.is_proposal_row k) proposals.now }
+        ≡ find (is_proposal_row k) proposals.now }
 {
     match proposal_of(command) {
         None => None,
@@ -236,7 +238,8 @@ fn proposals_of<S: Alter>(
 ) -> Result<Vec<ProposalRow>, ReadFault>
     ensures same_reference { tx.new.conn.ghost_name ≡ tx.old.conn.ghost_name }
     ensures value { DoesInside S.Store tx.old.conn.now tx.new.conn.now result
-        (λ rows. Tells (λ t. ShowsProposal rows.items t (spec.proposal_named command.now))) }
+        (λ rows. Tells (λ t. All IsStamped t.proposals
+        → ShowsProposal rows.items t (spec.proposal_named command.now))) }
     ensures only { IfOk result (λ rows.
         All (λ r. spec.proposal_named command.now ≡ Some r.number) rows.items) }
     ensures kept { Keeps S.Store tx.old.conn.now tx.new.conn.now }
@@ -261,7 +264,7 @@ pub(crate) fn rows_of_call<S: Alter>(
 ) -> Result<CallRows, ReadFault>
     ensures same_reference { tx.new.conn.ghost_name ≡ tx.old.conn.ghost_name }
     ensures value { DoesInside S.Store tx.old.conn.now tx.new.conn.now result
-        (λ rows. Tells (λ t. All IsReadable t.calls
+        (λ rows. Tells (λ t. ReadsBack t
         → ShowsNamed rows t (called caller.now key.now command.now))) }
     ensures only { IfOk result (λ rows. HoldsNamed rows (called caller.now key.now command.now)) }
     ensures inside { StaysInside S.Store tx.old.conn.now tx.new.conn.now result }

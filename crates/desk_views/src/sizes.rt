@@ -1,5 +1,5 @@
 //! The sizes that a command needs: counted where they aren't known.
-ghost use Rattle.std.specs.Prelude.{◌≡◌, ◌&&◌, [], ◌∷◌, IfOk, IfSome, is_some, not};
+ghost use Rattle.std.specs.Prelude.{◌≡◌, ◌&&◌, [], ◌∷◌, IfOk, is_some, not};
 ghost use Rattle.desk_history.specs.Tables.{Tables};
 ghost use Rattle.desk_reads.specs.Counting.{counted};
 ghost use Rattle.desk_reads.specs.Reads.{Tells};
@@ -15,18 +15,18 @@ use desk_sizes::{KeptSizes, may_put};
 use desk_texts::Command;
 use sqlite::{Alter, Transaction};
 
-/// What is counted where the table's size is asked for. A stand-in: nothing for proposals, until they are counted.
-fn told_of(table: Counted) -> Option<Told>
-    ensures { IfSome result (λ told. (t : Tables) → counted told t ≡ spec.rows_in t table) }
+/// What is counted where the table's size is asked for.
+fn told_of(table: Counted) -> Told
+    ensures { (t : Tables) → counted result t ≡ spec.rows_in t table }
 {
     match table {
-        Counted::People => Some(Told::People),
-        Counted::Requests => Some(Told::Requests),
-        Counted::Listed => Some(Told::Listed),
-        Counted::RevokedDigests => Some(Told::RevokedDigests),
-        Counted::RevokedCertificates => Some(Told::RevokedCertificates),
-        Counted::Components => Some(Told::Components),
-        Counted::Proposals => None,
+        Counted::People => Told::People,
+        Counted::Requests => Told::Requests,
+        Counted::Listed => Told::Listed,
+        Counted::RevokedDigests => Told::RevokedDigests,
+        Counted::RevokedCertificates => Told::RevokedCertificates,
+        Counted::Components => Told::Components,
+        Counted::Proposals => Told::Proposals,
     }
 }
 
@@ -38,10 +38,7 @@ fn count_of<S: Alter>(tx: &mut Transaction<'_, S>, table: Counted) -> Result<u64
     ensures kept { Keeps S.Store tx.old.conn.now tx.new.conn.now }
     ensures survives { Spares S.Store tx.old.conn.now tx.new.conn.now }
 {
-    let Some(told) = told_of(table) else {
-        return Err(ReadFault::NoMemory);
-    };
-    let counted = count(tx, told)?;
+    let counted = count(tx, told_of(table))?;
     Ok(counted)
 }
 

@@ -1,8 +1,8 @@
 //! The rows and sizes that a decision is made from.
-ghost use Rattle.std.specs.Prelude.{◌≡◌, ℕ, List, All, IfErr, IfOk, OnErr};
+ghost use Rattle.std.specs.Prelude.{◌≡◌, ℕ, List, IfErr, IfOk, OnErr};
 ghost use Rattle.desk_contents.specs.Contents.{contents};
 ghost use Rattle.desk_history.specs.Calls.{History};
-ghost use Rattle.desk_history.specs.Formed.{IsHistory, IsReadable};
+ghost use Rattle.desk_history.specs.Formed.{IsHistory};
 ghost use Rattle.desk_history.specs.Tables.{tables};
 ghost use Rattle.desk_reads.specs.Reads.{Tells};
 ghost use Rattle.desk_rules.specs.Decisions.{called};
@@ -13,12 +13,14 @@ ghost use Rattle.desk_statements.specs.Tables.{desk_schema};
 ghost use Rattle.desk_reads.specs.Failures.{IsFailure};
 ghost use Rattle.desk_views.specs.Named.{HoldsNoRowBeyond};
 ghost use Rattle.desk_views.specs.Learning.{Learns};
+ghost use Rattle.desk_views.specs.Steps.{ReadsBack};
 
 use crate::loading::{named_row, rows_of_call};
 use crate::sizes::learn;
 use desk_bytes::Refusal;
 use desk_history::minutes_are_readable;
 use desk_list_views::lists_asked;
+use desk_proposals::stamps_are_above_none;
 use desk_reads::{ReadFault, own_row};
 use desk_rules::View;
 use desk_sizes::KeptSizes;
@@ -44,7 +46,7 @@ fn see<S: Alter>(
 ) -> Result<Seen, ReadFault>
     ensures same_reference { tx.new.conn.ghost_name ≡ tx.old.conn.ghost_name }
     ensures value { DoesInside S.Store tx.old.conn.now tx.new.conn.now result (λ seen. Tells (λ t.
-        All IsReadable t.calls → AreRight sizes t
+        ReadsBack t → AreRight sizes t
         → Shows seen.view t (called caller.now key.now command.now) × AreRight seen.sizes t)) }
     ensures only { IfOk result (λ seen. HoldsNoRowBeyond seen.view
         (called caller.now key.now command.now)) }
@@ -104,6 +106,7 @@ pub fn view<S: Alter>(
     ensures survives { Spares S.Store tx.old.conn.now tx.new.conn.now }
 {
     minutes_are_readable();
+    stamps_are_above_none();
     match see(alloc, tx, *sizes, caller, key, command) {
         Ok(seen) => {
             *sizes = seen.sizes;

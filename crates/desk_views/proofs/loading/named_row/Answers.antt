@@ -1,6 +1,6 @@
 use Rattle.std.proofs.Common.{rules}
 use Rattle.std.specs.Prelude.{option_copied}
-use Rattle.desk_rules.specs.Shown.{proposal_named}
+use Rattle.desk_rules.specs.Keys.{proposal_named}
 use Rattle.desk_views.proofs.NamedLemmas.{found_by}
 use Rattle.desk_views.proofs.loading.named_row.Goals as goal
 

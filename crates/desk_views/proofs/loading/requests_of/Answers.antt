@@ -1,7 +1,8 @@
 use Rattle.std.proofs.Common.{rules, ◌≡◌, ◌++◌, filter, sym, subst, Some}
 use Rattle.sqlite.specs.Held.{state}
 use Rattle.desk_reads.specs.Reads.{Tells, listed}
-use Rattle.desk_rules.specs.Shown.{is_request_row, request_named}
+use Rattle.desk_rules.specs.Keys.{request_named}
+use Rattle.desk_rules.specs.Shown.{is_request_row}
 use Rattle.desk_views.specs.Steps.{ShowsRequest}
 use Rattle.desk_views.proofs.NamedLemmas.{one_request}
 use Rattle.desk_reads.proofs.TellsLemmas.{tells_so}

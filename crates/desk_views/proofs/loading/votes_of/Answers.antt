@@ -2,7 +2,7 @@ use Rattle.std.proofs.Common.{rules, ◌≡◌, ◌==◌, sym, subst, Some}
 use Rattle.sqlite.specs.Held.{state}
 use Rattle.desk_contents.specs.Values.{vote_values}
 use Rattle.desk_reads.specs.Reads.{AreFound, Tells}
-use Rattle.desk_rules.specs.Shown.{request_named}
+use Rattle.desk_rules.specs.Keys.{request_named}
 use Rattle.desk_statements.specs.Tables as tables
 use Rattle.desk_views.specs.Steps.{ShowsVotes}
 use Rattle.desk_views.proofs.NamedLemmas.{votes_shown}

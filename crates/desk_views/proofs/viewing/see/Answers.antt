@@ -9,7 +9,7 @@ use Rattle.desk_statements.specs.Tables.{desk_schema}
 use Rattle.desk_rules.specs.Shown.{is_proposal_row}
 use Rattle.desk_rules.specs.Views.{ShowsLists}
 use Rattle.desk_list_views.specs.Lists.{HoldsNoOther}
-use Rattle.desk_views.proofs.NamedLemmas.{keys_of_tables, keys_same}
+use Rattle.desk_views.proofs.NamedLemmas.{keys_same}
 use Rattle.desk_views.proofs.viewing.see.Goals as goal
 
 pub returns-clause-value : goal.returns-clause-value
@@ -29,11 +29,11 @@ returns-clause-value g c clean inside =
     record {
       kept = changes_then desk_schema contents s0 s1 s4 (λ t. t) (λ t. t) a.kept
           (changes_then desk_schema contents s1 s2 s4 (λ t. t) (λ t. t) b.kept (changes_then desk_schema contents s2 s3 s4 (λ t. t) (λ t. t) d.kept e.kept));
-      tells = λ t sees readable right.
+      tells = λ t sees back right.
           let sees1 = a.kept.value t sees in
           let sees2 = b.kept.value t sees1 in
           let sees3 = d.kept.value t sees2 in
-          let rows = b.tells t sees1 readable in
+          let rows = b.tells t sees1 back in
           let known = e.tells t sees3 right in
           let told = c.sizes.ensures t c.args.command.now known c.in_ok-known.ensures.learnt.enough in (
             record {
@@ -48,8 +48,7 @@ returns-clause-value g c clean inside =
               votes = rows.votes;
               proposal = rows.proposal;
               lists = subst (λ k. ShowsLists c.in_ok-lists.lists t k)
-                  (keys_same c.args.command.now (option_copied c.named_row-proposal.result) (λ k. find (is_proposal_row k) t.proposals) (λ k named. c.named_row-proposal.ensures k named ∙ (ap (λ l. find (is_proposal_row k) l) c.deref.ensures.value ∙ rows.proposal k named))
-                  ∙ keys_of_tables t c.args.caller.now c.args.key.now c.args.command.now)
+                  (keys_same c.args.command.now (option_copied c.named_row-proposal.result) (λ k. find (is_proposal_row k) t.proposals) (λ k named. c.named_row-proposal.ensures k named ∙ (ap (λ l. find (is_proposal_row k) l) c.deref.ensures.value ∙ rows.proposal k named)))
                   (d.tells t sees2);
             },
             known,
