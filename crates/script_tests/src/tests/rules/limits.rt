@@ -1,4 +1,4 @@
-//! What a desk may hold: the last call that fits, and the first that doesn't.
+//! What a desk may hold: the last call that fits, the first that doesn't, and that each other refusal comes before Full.
 use super::days::tell_decision;
 use super::tables::{NONE, new_tables, write_all};
 use super::*;
@@ -13,25 +13,49 @@ const CALLS: &str = "\
 1 listed 9999 olga k list 1 : listed
 1 listed 10000 olga k list 1 : Full
 1 listed 10000 olga k unlist 1 : NotThere
-2 proposals 99999 digests 100000 olga k revoke 1 : proposed 100000
+4 proposals 99999 digests 100000 certificates 10000 components 10000 olga k revoke 1 : proposed 100000
+4 proposals 99999 digests 100000 certificates 10000 components 10000 olga k import 2024010100 0 0 1 1 1 grub 1 : proposed 100000
 1 proposals 100000 olga k revoke 1 : Full
+1 proposals 100000 olga k revoke-certificate 1 : Full
+1 proposals 100000 olga k raise grub 1 2024010100 : Full
+1 proposals 100000 olga k import 2024010100 0 0 1 1 1 grub 1 : Full
 2 proposals 100000 digests 99999 olga k confirm 1 : confirmed 1 1 0 0 0
 1 digests 100000 olga k confirm 1 : Full
-3 certificates 9999 components 9999 calls 999999 olga k confirm 2 : confirmed 2 0 1 1 0
+4 proposals 100000 certificates 9999 components 9999 calls 999999 olga k confirm 2 : confirmed 2 0 1 1 0
+1 certificates 10000 olga k confirm 2 : Full
+1 components 10000 olga k confirm 2 : Full
 3 certificates 9999 components 9999 calls 999999 olga k confirm 3 : Full
 3 certificates 9999 components 9999 calls 999999 olga k confirm 4 : Full
+1 digests 100000 olga k confirm 10 : confirmed 10 0 0 0 0
 1 proposals 100000 olga k drop 1 : dropped 1
 1 calls 1000000 olga k revoke 1 : Full
 1 calls 1000000 olga k confirm 1 : Full
 1 calls 1000000 olga k drop 1 : Full
+2 proposals 100000 calls 1000000 olga k revoke 9 : AlreadyRevoked
+2 proposals 100000 calls 1000000 olga k raise peimage 3 2023010100 : NotHigher
+2 proposals 100000 calls 1000000 olga k raise peimage 4 2022010101 : StampNotLater
+2 digests 100000 calls 1000000 olga k confirm 5 : ProposalClosed
+2 digests 100000 calls 1000000 otto k confirm 1 : OwnProposal
+2 digests 100000 calls 1000000 olga k confirm 6 : AlreadyRevoked
+2 components 10000 calls 1000000 olga k confirm 8 : NotHigher
+2 components 10000 calls 1000000 olga k confirm 9 : StampNotLater
+2 components 10000 calls 1000000 olga k drop 5 : ProposalClosed
 ";
 
-/// What otto proposed there before.
-const PROPOSED: &str = "\
+/// What the officers did there before: otto proposed, and olga confirmed two of the proposals.
+const BEFORE: &str = "\
 otto q1 revoke 1
 otto q2 import 2024010100 0 0 1 1 1 grub 1
 otto q3 import 2024010100 0 0 2 1 2 1 grub 1
 otto q4 import 2024010100 0 0 1 1 2 grub 1 shim 1
+otto q5 revoke 9
+otto q6 revoke 9
+otto q7 raise peimage 3 2022010101
+otto q8 raise peimage 2 2022010102
+otto q9 import 2022010101 0 0 0 1 fwupd 1
+otto q10 import 0 0 1 9 0 0
+olga q1 confirm 5
+olga q2 confirm 7
 ";
 
 /// A person of this name and role.
@@ -43,21 +67,21 @@ fn person(alloc: Global, name: &[u8], role: Role) -> Result<Person, Fail> {
     })
 }
 
-/// Proposes what the line says.
-fn propose(alloc: Global, tables: &mut View, line: &str) -> Result<(), Fail> {
+/// Plays the call of the line.
+fn play(alloc: Global, tables: &mut View, line: &str) -> Result<(), Fail> {
     let call = Words::new(alloc, line).call().ok_or("a call")?;
     let changes = decide(alloc, tables, &call.caller, &call.key, &call.command)?;
     write_all(alloc, tables, &changes.writes)
 }
 
-/// A desk with two officers and a submitter, and what one of the officers proposed.
+/// A desk with two officers and a submitter, after what the officers did.
 fn tables(alloc: Global) -> Result<View, Fail> {
     let mut tables = new_tables(alloc)?;
     tables.people.push(person(alloc, b"olga", Role::Officer)?)?;
     tables.people.push(person(alloc, b"otto", Role::Officer)?)?;
     tables.people.push(person(alloc, b"ann", Role::Submitter)?)?;
-    for line in PROPOSED.lines() {
-        propose(alloc, &mut tables, line)?;
+    for line in BEFORE.lines() {
+        play(alloc, &mut tables, line)?;
     }
     Ok(tables)
 }
