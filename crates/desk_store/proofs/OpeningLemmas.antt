@@ -1,9 +1,11 @@
 -- From the answer of the query for the desk's row to the tables of a history.
 use Rattle.std.proofs.Common.{◌≡◌, ◌≢◌, inl, inr, ℕ, List, [], ◌∷◌, refl, sym, subst, ◌∙◌, arith, IsTrue, true, length, Result, Ok, Err, Some, slice_get}
+use Rattle.std.proofs.lemmas.List.Sorted.{IsPermutation-sym, IsPermutation-trans}
+use Rattle.std.specs.List.Sorted.{IsPermutation}
 use Rattle.sqlite.proofs.Callers.{one_permutation}
 use Rattle.sqlite.specs.declared.error.Error.{Error}
 use Rattle.sqlite.specs.declared.error.Error.TheVariants.{SqlInputError}
-use Rattle.std.specs.Prelude.{IfOk, MatchResult}
+use Rattle.std.specs.Prelude.{IfErr, IfOk, MatchResult}
 use Rattle.sqlite.specs.Store as store
 use Rattle.sqlite.specs.Effect.{Database}
 use Rattle.sqlite.specs.Held.{Held, state}
@@ -17,6 +19,7 @@ use Rattle.sqlite_resolve.specs.declared.error.CompileError.{CompileError}
 use Rattle.desk_sql.specs.Contents.{Contents, Holds}
 use Rattle.desk_sql.specs.Effects.{IsSelected, Selects}
 use Rattle.desk_bytes.specs.declared.refusal.Refusal.{Refusal}
+use Rattle.desk_bytes.specs.declared.refusal.Refusal.TheVariants as refusals
 use Rattle.desk_sql.specs.States.{Leaves, Sees}
 use Rattle.sqlite.specs.Tree.{Trees}
 use Rattle.desk_statements.specs.Columns.{by_first, columns_after, names_of}
@@ -29,9 +32,9 @@ use Rattle.desk_history.specs.Level.{stamp}
 use Rattle.desk_history.specs.Tables.{tables}
 use Rattle.desk_contents.specs.Values.{desk_values}
 use Rattle.desk_contents.specs.Histories.{ShowsHistory, rows_of}
-use Rattle.desk_store.specs.Rows.{desk_columns}
+use Rattle.desk_store.specs.Rows.{AreOf, ReadsAs, desk_columns}
 use Rattle.desk_reads.specs.Failures.{IsFailure}
-use Rattle.desk_store.specs.Steps.{AreShownAs, ReadsInside, RefusesText, TellsOf, TellsOpen}
+use Rattle.desk_store.specs.Steps.{AreShownAs, AreShownAsNone, ReadsInside, RefusesColumns, RefusesText, TellsOf, TellsOpen, UnreadInside}
 
 pub unchanged_keeps : (old new : State) → IsUnchanged old new → KeepsCommit old new
 unchanged_keeps old new same = record { was_open = λ _. same.0.was_open; committed = λ _. same.0.committed_is }
@@ -66,6 +69,19 @@ selected old mid new answer same selects c rows sees has =
     (selects desk_schema 0 desk [] (by_first 1 desk) (columns_after 1 desk) (names_of desk) select_desk).1 c rows
     (record { inside = same.0.mode ∙ sees.inside; holds = subst (λ (d : Database). Holds desk_schema d c) (sym same.0.now_is) sees.holds }) has
 
+-- where one answer reads as a desk, each does
+pub read_alike : (rows answer : List Row) (version : ℕ) → IsSelected desk [] (by_first 1 desk) (columns_after 1 desk) [] rows answer → AreOf rows version → ReadsAs answer version
+read_alike rows answer version it other =
+    let reads = other.2 in
+    let same = IsPermutation-trans _ _ _ (IsPermutation-sym _ _ other.1.same) it.same in
+    (reads.0, reads.1, reads.2, reads.3, one_permutation (desk_columns reads.0 version reads.1) answer (subst (λ l. IsPermutation l answer) reads.4 same))
+
+-- where the store hasn't the desk's tables it shows no rows of them
+pub no_rows : (s : State) (refusal : Refusal) → RefusesColumns s refusal → refusal ≡ refusals.NotADesk → (c : Contents) → Sees desk_schema s c → ⊥
+no_rows s refusal (inl (inl memory)) is c sees = let e = sym memory ∙ is in cc
+no_rows s refusal (inl (inr store)) is c sees = let e = sym store ∙ is in cc
+no_rows s refusal (inr told) is c sees = told.2 sees.holds.listed
+
 -- the only row of the answer is the desk's
 pub one_row : (old mid new : State) (rows : List Row) → IsUnchanged old mid → Selects SELECT_DESK.now [] mid new rows
     → (owner : List ℕ) (cs : History) → Sees desk_schema old (rows_of owner cs) → rows ≡ desk_columns owner 1 (stamp cs) ∷ []
@@ -87,6 +103,13 @@ module _ {S : Type 0} (g : store.Ghosts S) (old last end : Held S) (owner : List
   pub read_before : (result : Result ℕ Refusal) → HasCleanDisk (state g old) → TellsOf begun result → ReadsInside begun result → IfOk result (AreShownAs (state g old))
   read_before (Ok version) clean told reads = λ c rows shows has. reads c rows (record { inside = refl; holds = (shows.holds clean told.0).0 }) has
   read_before (Err refusal) clean told reads = tt
+
+  pub unread_before : (result : Result ℕ Refusal) → HasCleanDisk (state g old) → TellsOf begun result → UnreadInside begun result
+      → IfErr result (λ refusal. refusal ≡ refusals.NotADesk → AreShownAsNone (state g old))
+  unread_before (Ok version) clean told unread = tt
+  unread_before (Err refusal) clean (inl (inl memory)) unread = λ is. absurd (let e = sym memory ∙ is in cc)
+  unread_before (Err refusal) clean (inl (inr store)) unread = λ is. absurd (let e = sym store ∙ is in cc)
+  unread_before (Err refusal) clean (inr told) unread = λ is c rows shows has. unread is c rows (record { inside = refl; holds = (shows.holds clean told.1.0).0 }) has
 
   -- the connection was open where a version was read, and where there is no desk
   pub open_before : (result : Result ℕ Refusal) → TellsOf begun result → TellsOpen (state g old) result

@@ -23,3 +23,7 @@ ReadsAs answer version = (owner : List ℕ) × (stamp : ℕ) × (length owner �
 -- what a SELECT of whole rows shows of these rows of the table `desk` reads as a desk of this version
 abbrev pub AreOf : List Row → ℕ → Type 0
 AreOf rows version = (answer : List Row) × IsSelected desk [] (by_first 1 desk) (columns_after 1 desk) [] rows answer × ReadsAs answer version
+
+-- what it shows reads as a desk of no version
+abbrev pub AreOfNone : List Row → Type 0
+AreOfNone rows = (version : ℕ) → AreOf rows version → ⊥

@@ -1,5 +1,5 @@
 -- What the steps of a transaction promise, of a connection before and after them.
-use Rattle.std.specs.Prelude.{◌≡◌, ◌≢◌, ◌⊎◌, ℕ, length, List, [], slice_get, Some, IfOk, IsTrue, Result, MatchResult}
+use Rattle.std.specs.Prelude.{◌≡◌, ◌≢◌, ◌⊎◌, ℕ, length, List, [], slice_get, Some, IfErr, IfOk, IsTrue, Result, MatchResult}
 use Rattle.sqlite.specs.Effect.{IsDatabase}
 use Rattle.sqlite.specs.Order.{Row}
 use Rattle.sqlite.specs.State.{State, KeepsCommit}
@@ -15,7 +15,7 @@ use Rattle.desk_sql.specs.Contents.{Contents}
 use Rattle.desk_sql.specs.States.{Sees, Shows}
 use Rattle.desk_statements.specs.Tables.{desk_schema, no_schema}
 use Rattle.desk_contents.specs.Histories.{rows_of}
-use Rattle.desk_store.specs.Rows.{AreOf}
+use Rattle.desk_store.specs.Rows.{AreOf, AreOfNone}
 
 -- in a sound store without tables the desk's are made, with the rows of a desk without calls; nothing is committed
 pub record Founds (old new : State) (owner : List ℕ) : Type 0 where
@@ -53,6 +53,15 @@ abbrev pub ReadsInside : State → Result ℕ Refusal → Type 0
 ReadsInside s result =
     IfOk result (λ version. (c : Contents) (rows : List Row) → Sees desk_schema s c → slice_get c 0 ≡ Some rows → AreOf rows version)
 
--- the same outside
+-- inside a transaction: where there is no desk, the rows of its table read as those of none
+abbrev pub UnreadInside : State → Result ℕ Refusal → Type 0
+UnreadInside s result =
+    IfErr result (λ refusal. refusal ≡ refusals.NotADesk → (c : Contents) (rows : List Row) → Sees desk_schema s c → slice_get c 0 ≡ Some rows → AreOfNone rows)
+
+-- outside: the rows of the table `desk` read as those of a desk of this version
 abbrev pub AreShownAs : State → ℕ → Type 0
 AreShownAs s version = (c : Contents) (rows : List Row) → Shows desk_schema s c → slice_get c 0 ≡ Some rows → AreOf rows version
+
+-- outside: they read as those of no desk
+abbrev pub AreShownAsNone : State → Type 0
+AreShownAsNone s = (c : Contents) (rows : List Row) → Shows desk_schema s c → slice_get c 0 ≡ Some rows → AreOfNone rows

@@ -18,7 +18,7 @@ ghost use Rattle.desk_store.specs.Desks.{Refuses, Replies, ShowsDesk, Views};
 ghost use Rattle.desk_store.specs.Reopening.{FindsADesk, Recovers};
 ghost use Rattle.desk_contents.specs.Histories.{HoldsHistory, LeavesHistory, ShowsHistory};
 ghost use Rattle.desk_reads.specs.Failures.{IsFailure};
-ghost use Rattle.desk_store.specs.Steps.{AreShownAs, IsReadRefusal};
+ghost use Rattle.desk_store.specs.Steps.{AreShownAs, AreShownAsNone, IsReadRefusal};
 
 use crate::acting::{run, told};
 use crate::forms::call_is_formed;
@@ -108,6 +108,8 @@ impl<S: Alter + Drop> Desk<S> {
             → AreShownAs (state S.Store conn) 1) }
         ensures other { IfErr result (λ e. HasCleanDisk (state S.Store e.1) → e.0 ≡ Refusal.Version
             → (version : ℕ) × (version ≢ 1) × AreShownAs (state S.Store conn) version) }
+        ensures unread { IfErr result (λ e. HasCleanDisk (state S.Store e.1) → e.0 ≡ Refusal.NotADesk
+            → AreShownAsNone (state S.Store conn)) }
         ensures known { IfErr result (λ e. HasCleanDisk (state S.Store e.1)
             → (owner : List ℕ) (cs : History) → length owner ≡ 16 → IsHistory cs
             → ShowsHistory (state S.Store conn) owner cs

@@ -11,8 +11,8 @@ ghost use Rattle.desk_sql.specs.States.{Keeps, Spares};
 ghost use Rattle.desk_contents.specs.Histories.{HoldsHistory, ShowsHistory};
 ghost use Rattle.desk_store.specs.Rows.{IsGuid, ReadsAs};
 ghost use Rattle.desk_reads.specs.Failures.{IsFailure};
-ghost use Rattle.desk_store.specs.Steps.{AreShownAs, IsReadRefusal, ReadsInside};
-ghost use Rattle.desk_store.specs.Steps.{RefusesColumns, RefusesText, TellsOf, TellsOpen};
+ghost use Rattle.desk_store.specs.Steps.{AreShownAs, AreShownAsNone, IsReadRefusal, ReadsInside};
+ghost use Rattle.desk_store.specs.Steps.{RefusesColumns, RefusesText, TellsOf, TellsOpen, UnreadInside};
 
 use desk_bytes::Refusal;
 use desk_catalog::catalog_lists_one_schema;
@@ -133,6 +133,9 @@ fn version_of<S: Alter>(tx: &mut Transaction<'_, S>) -> Result<u64, Refusal>
     ensures read { HasCleanDisk (state S.Store tx.new.conn.now)
         → IsTrue (state S.Store tx.old.conn.now).in_transaction
         → ReadsInside (state S.Store tx.old.conn.now) result }
+    ensures unread { HasCleanDisk (state S.Store tx.new.conn.now)
+        → IsTrue (state S.Store tx.old.conn.now).in_transaction
+        → UnreadInside (state S.Store tx.old.conn.now) result }
     ensures named { IfErr result IsReadRefusal }
     ensures kept { Keeps S.Store tx.old.conn.now tx.new.conn.now }
     ensures survives { Spares S.Store tx.old.conn.now tx.new.conn.now }
@@ -162,6 +165,8 @@ pub(crate) fn read_version<S: Alter>(conn: &mut Connection<S>) -> Result<u64, Re
         → ShowsHistory (state S.Store conn.new) owner cs }
     ensures read { HasCleanDisk (state S.Store conn.new)
         → IfOk result (AreShownAs (state S.Store conn.old)) }
+    ensures unread { HasCleanDisk (state S.Store conn.new) → IfErr result (λ e.
+        e ≡ Refusal.NotADesk → AreShownAsNone (state S.Store conn.old)) }
     ensures open { HasCleanDisk (state S.Store conn.new)
         → TellsOpen (state S.Store conn.old) result }
     ensures named { IfErr result IsReadRefusal }

@@ -2,7 +2,7 @@ use Rattle.std.proofs.Common.{◌≡◌, inr, Some, refl, sym, subst, ◌∙◌,
 use Rattle.sqlite.specs.Held.{state}
 use Rattle.sqlite.specs.State.{HasCleanDisk, IsUnchanged}
 use Rattle.desk_history.specs.Level.{stamp}
-use Rattle.desk_store.proofs.OpeningLemmas.{one_row, selected}
+use Rattle.desk_store.proofs.OpeningLemmas.{no_rows, one_row, read_alike, selected}
 use Rattle.desk_store.proofs.StampLemmas.{stamp_is_formed}
 use Rattle.desk_store.specs.Rows.{ReadsAs}
 use Rattle.desk_store.proofs.opening.version_of.Goals as goal
@@ -53,3 +53,21 @@ returns-in-Some-clause-read g c clean inside contents rows sees has =
       selected old mid new answer same (c.in-Ok-select.ensures.value clean (same.0.mode ∙ inside)) contents rows sees has,
       subst (λ l. ReadsAs l c.in-Some.version) c.deref.ensures.value c.in-Some.ensures.read,
     )
+
+pub returns-in-Err-clause-unread : goal.returns-in-Err-clause-unread
+returns-in-Err-clause-unread g c clean inside is contents rows sees has version other =
+    no_rows (state g.S.Store c.args.tx.now.conn.now) c.in-Err.refusal (c.in-Err.ensures.refused clean) is contents sees
+
+pub returns-in-Ok-select-clause-unread : goal.returns-in-Ok-select-clause-unread
+returns-in-Ok-select-clause-unread g c clean inside is contents rows sees has version other =
+    let old = state g.S.Store c.args.tx.now.conn.now in
+    let mid = state g.S.Store c.ask_columns.new.tx.conn.now in
+    let new = state g.S.Store c.select.new.tx.conn.now in
+    let answer = c.in-Ok-select.rows.items in
+    let late : HasCleanDisk mid = omega (arith, c.in-Ok-select.ensures.survives.clean, clean) in
+    let same : IsUnchanged old mid = c.in-Ok.ensures.same late in
+    let it = selected old mid new answer same (c.in-Ok-select.ensures.value clean (same.0.mode ∙ inside)) contents rows sees has in
+    let told : c.version_in.result ≡ Some version =
+    c.version_in.ensures.found version (subst (λ l. ReadsAs l version) (sym c.deref.ensures.value) (read_alike rows answer version it other)) in
+    let none = c.in-None.is in
+    cc
