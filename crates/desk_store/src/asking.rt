@@ -83,6 +83,8 @@ impl<S: Alter + Drop> Desk<S> {
             → KeepsDesk S.Store self.old self.new }
         ensures spares { Spares S.Store self.old.conn self.new.conn }
         ensures poisons { IsErrOf result Refusal.Store → self.new.needs_reopening ≡ true }
+        ensures steady { result ≢ Err Refusal.Store
+            → self.new.needs_reopening ≡ self.old.needs_reopening }
         ensures closed { self.old.needs_reopening ≡ true
             → (result ≡ Err Refusal.Reopen) × (self.new ≡ self.old) }
         ensures named { self.old.needs_reopening ≡ false → IfErr result IsFailure }

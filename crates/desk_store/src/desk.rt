@@ -59,6 +59,7 @@ impl<S: Alter + Drop> Desk<S> {
         requires outside { conn.in_transaction ≡ false }
         ensures ok { IfOk result (λ desk. HasCleanDisk (state S.Store desk.conn)
             → ShowsDesk S.Store desk owner.now []) }
+        ensures usable { IfOk result (λ desk. desk.needs_reopening ≡ false) }
         ensures free { OnOk result ((state S.Store conn).now.schema ≡ no_schema) }
         ensures taken { IfErr result (λ e. e.0 ≡ Refusal.Exists
             → ((state S.Store conn).now.schema ≢ no_schema) × (e.1 ≡ conn)) }
@@ -104,6 +105,7 @@ impl<S: Alter + Drop> Desk<S> {
             → ShowsHistory (state S.Store conn) owner cs
             → LeavesHistory (state S.Store conn) owner cs
             → ShowsDesk S.Store desk owner cs) }
+        ensures usable { IfOk result (λ desk. desk.needs_reopening ≡ false) }
         ensures read { IfOk result (λ desk. HasCleanDisk (state S.Store desk.conn)
             → AreShownAs (state S.Store conn) 1) }
         ensures other { IfErr result (λ e. HasCleanDisk (state S.Store e.1) → e.0 ≡ Refusal.Version
@@ -162,6 +164,8 @@ impl<S: Alter + Drop> Desk<S> {
         ensures clean { HasCleanDisk (state S.Store self.new.conn)
             → HasCleanDisk (state S.Store self.old.conn) }
         ensures poisons { IsErrOf result Refusal.Store → self.new.needs_reopening ≡ true }
+        ensures steady { result ≢ Err Refusal.Store
+            → self.new.needs_reopening ≡ self.old.needs_reopening }
         ensures closed { self.old.needs_reopening ≡ true
             → (result ≡ Err Refusal.Reopen) × (self.new ≡ self.old) }
         ensures named { self.old.needs_reopening ≡ false → IfErr result IsCallRefusal }
@@ -199,6 +203,8 @@ impl<S: Alter + Drop> Desk<S> {
             → KeepsDesk S.Store self.old self.new }
         ensures spares { Spares S.Store self.old.conn self.new.conn }
         ensures poisons { IsErrOf result Refusal.Store → self.new.needs_reopening ≡ true }
+        ensures steady { result ≢ Err Refusal.Store
+            → self.new.needs_reopening ≡ self.old.needs_reopening }
         ensures closed { self.old.needs_reopening ≡ true
             → (result ≡ Err Refusal.Reopen) × (self.new ≡ self.old) }
         ensures named { self.old.needs_reopening ≡ false → IfErr result IsFailure }
@@ -230,6 +236,8 @@ impl<S: Alter + Drop> Desk<S> {
             → KeepsDesk S.Store self.old self.new }
         ensures spares { Spares S.Store self.old.conn self.new.conn }
         ensures poisons { IsErrOf result Refusal.Store → self.new.needs_reopening ≡ true }
+        ensures steady { result ≢ Err Refusal.Store
+            → self.new.needs_reopening ≡ self.old.needs_reopening }
         ensures closed { self.old.needs_reopening ≡ true
             → (result ≡ Err Refusal.Reopen) × (self.new ≡ self.old) }
         ensures named { self.old.needs_reopening ≡ false → IfErr result IsFailure }

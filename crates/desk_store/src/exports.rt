@@ -35,6 +35,8 @@ impl<S: Alter + Drop> Desk<S> {
         ensures clean { HasCleanDisk (state S.Store self.new.conn)
             → HasCleanDisk (state S.Store self.old.conn) }
         ensures poisons { IsErrOf result Refusal.Store → self.new.needs_reopening ≡ true }
+        ensures steady { result ≢ Err Refusal.Store
+            → self.new.needs_reopening ≡ self.old.needs_reopening }
         ensures closed { self.old.needs_reopening ≡ true → (result ≡ Err Refusal.Reopen)
             × (self.new ≡ self.old) × (writer.new ≡ writer.old) }
         ensures named { self.old.needs_reopening ≡ false → IfErr result IsExportFailure }
