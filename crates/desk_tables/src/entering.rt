@@ -20,7 +20,7 @@ use std::alloc::Global;
 const MARK: &str = "boot-desk";
 
 /// The version of the tables.
-pub(crate) const VERSION: u32 = 2;
+pub const VERSION: u32 = 2;
 
 /// The stamp of shim's first level.
 const FIRST_STAMP: u32 = 2021030218;

@@ -10,7 +10,7 @@ mod setting;
 mod stored;
 mod writing;
 
-pub use entering::{put_desk, put_migrated};
+pub use entering::{VERSION, put_desk, put_migrated};
 pub use fault::WriteFault;
 pub use setting::set_version;
 pub use writing::{write, write_all};
