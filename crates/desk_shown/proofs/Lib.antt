@@ -3,5 +3,7 @@ mod ItemLemmas
 mod ListingLemmas
 mod LoopLemmas
 mod MadeLemmas
+mod OrderLemmas
 mod PartLemmas
+mod ProposedLemmas
 mod TellsLemmas

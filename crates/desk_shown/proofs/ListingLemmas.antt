@@ -24,24 +24,10 @@ use Rattle.desk_history.specs.declared.rows.RequestRow.{RequestRow}
 use Rattle.desk_history.proofs.ListLemmas.{number_above}
 use Rattle.desk_reads.specs.Reads.{listed}
 use Rattle.desk_shown.specs.Steps.{AreInOrder, AreRowsFor, IsShownIn}
-use Rattle.desk_shown.proofs.ItemLemmas.{drops, found_listed, keeps, one_order}
+use Rattle.desk_reads.proofs.PartLemmas.{one_order}
+use Rattle.desk_shown.proofs.ItemLemmas.{found_listed}
 use Rattle.desk_shown.proofs.MadeLemmas.{is_shown, row_of}
-
--- ---- lists turned round
-
-map-reverse : {X Y : Type 0} (f : X → Y) (xs : List X) → map f (reverse xs) ≡ reverse (map f xs)
-map-reverse f [] = refl
-map-reverse f (x ∷ xs) =
-    ap (map f) (reverse-append (x ∷ []) xs) ∙ map-append f (reverse xs) (x ∷ []) ∙ ap (λ l. l ++ f x ∷ []) (map-reverse f xs)
-    ∙ sym (reverse-append (f x ∷ []) (map f xs))
-
-turned : {X : Type 0} (R : X → X → Type 0) (xs : List X) → IsAscending (λ a b. R b a) xs → IsAscending R (reverse xs)
-turned R [] up = tt
-turned R (x ∷ xs) up =
-    subst (IsAscending R) (sym (reverse-append (x ∷ []) xs))
-    (ascending-append R (reverse xs) (x ∷ []) (turned R xs up.1) (tt, tt)
-    (all-permutation (λ y. AllByRecursion (R y) (x ∷ [])) xs (reverse xs) (IsPermutation-reverse xs)
-    (all_weaker (λ y. R y x) (λ y. AllByRecursion (R y) (x ∷ [])) (λ y h. (h, tt)) xs up.0)))
+use Rattle.desk_shown.proofs.OrderLemmas.{IsOnly, all_only, map-reverse, turned}
 
 -- ---- numbers of requests
 
@@ -53,36 +39,9 @@ newest_first : (ss : List Submitted) → IsAscending (λ (a b : Request). b.numb
 newest_first [] = tt
 newest_first (s ∷ ss) = (lower (length ss + 1) ss (omega arith), newest_first ss)
 
-below : (m n : ℕ) → m < n → (m == n) ≡ false
-below m n h = grind (arith, nat_tests)
-
-itself : (n : ℕ) → (n == n) ≡ true
-itself n = grind (arith, nat_tests)
-
 -- the request is the only one of its number among these
-abbrev IsOnly : List Request → Request → Type 0
-IsOnly rs r = filter (has_number r.number) rs ≡ r ∷ []
-
-all_only : (ss : List Submitted) → AllByRecursion (IsOnly (numbered ss)) (numbered ss)
-all_only [] = tt
-all_only (s ∷ ss) = (newest, all_both (λ (r : Request). r.number < n) (IsOnly rest) (IsOnly (first ∷ rest)) older rest (lower n ss (omega arith)) (all_only ss))
-  where
-    n : ℕ
-    n = length ss + 1
-
-    rest : List Request
-    rest = numbered ss
-
-    first : Request
-    first = record { number = n; submitter = s.submitter; title = s.submission.title; facts = s.submission.facts }
-
-    newest : IsOnly (first ∷ rest) first
-    newest =
-        keeps (has_number n) first rest (itself n)
-        ∙ ap (λ l. first ∷ l) (filter_none (has_number n) rest (all_weaker (λ (r : Request). r.number < n) (λ r. has_number n r ≡ false) (λ r h. number_above n r.number h) rest (lower n ss (omega arith))))
-
-    older : (r : Request) → r.number < n → IsOnly rest r → IsOnly (first ∷ rest) r
-    older r h only = drops (has_number r.number) first rest (below r.number n h) ∙ only
+abbrev IsAlone : List Request → Request → Type 0
+IsAlone rs r = IsOnly (λ (q : Request). q.number) rs r
 
 -- ---- rows, and what is shown of them
 
@@ -111,10 +70,10 @@ module _ (owner : List ℕ) (cs : History) (p : Person) where
       (λ d h. Contains-permutation rows oldest d moved h)
       (λ d h. Contains-permutation oldest rows d (IsPermutation-sym rows oldest moved) h)
 
-  only_mine : AllByRecursion (IsOnly (requests cs)) (reverse mine)
-  only_mine = all-permutation (IsOnly (requests cs)) mine (reverse mine) (IsPermutation-reverse mine) (all-filter (IsOnly (requests cs)) is_mine (requests cs) (all_only (submitted cs)))
+  only_mine : AllByRecursion (IsAlone (requests cs)) (reverse mine)
+  only_mine = all-permutation (IsAlone (requests cs)) mine (reverse mine) (IsPermutation-reverse mine) (all-filter (IsAlone (requests cs)) is_mine (requests cs) (all_only (λ (r : Request). r.number) (requests cs) (newest_first (submitted cs))))
 
-  each_shown : IsHistory cs → (rs : List Request) → AllByRecursion (IsOnly (requests cs)) rs → (given : List ShownRequest) → AllZip (IsShownIn (tables owner cs)) (map (row_of cs) rs) given
+  each_shown : IsHistory cs → (rs : List Request) → AllByRecursion (IsAlone (requests cs)) rs → (given : List ShownRequest) → AllZip (IsShownIn (tables owner cs)) (map (row_of cs) rs) given
       → AllZip IsShown (map (whole cs) rs) given
   each_shown h [] only [] z = tt
   each_shown h [] only (s ∷ given) z = absurd z

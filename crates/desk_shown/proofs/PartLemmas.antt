@@ -10,41 +10,18 @@ use Rattle.sbat.specs.declared.component.Component.{Component}
 use Rattle.desk_bytes.specs.Digests.{IsArranged, IsAscending}
 use Rattle.desk_bytes.proofs.OrderLemmas.{IsArranged-one}
 use Rattle.desk_texts.specs.Formed.{AreFactsWithin, IsWithin}
-use Rattle.desk_texts.specs.declared.command.Call.{Call}
 use Rattle.desk_texts.specs.declared.command.Command.{Command}
 use Rattle.desk_texts.specs.declared.command.Command.TheVariants as command
-use Rattle.desk_history.specs.Calls.{History, item}
+use Rattle.desk_history.specs.Calls.{History, Item}
 use Rattle.desk_history.specs.Formed.{IsItem}
 use Rattle.desk_history.specs.Requests.{Request, has_number, requests}
 use Rattle.desk_history.specs.Tables.{certificate_rows, component_rows, placed_from}
 use Rattle.desk_history.specs.declared.rows.RequestCertificateRow.{RequestCertificateRow}
 use Rattle.desk_history.specs.declared.rows.RequestComponentRow.{RequestComponentRow}
 use Rattle.desk_shown.specs.Steps.{digests_of}
-use Rattle.desk_shown.proofs.ItemLemmas.{Ascends, drops, keeps, one_order}
-
--- ---- rows that each request has, with its number
-
-module _ {X : Type 0} (rows : Request → List X) (number : X → ℕ) (k : ℕ)
-    (each : (r : Request) (b : Bool) → (k == r.number) ≡ b → AllByRecursion (λ x. (k == number x) ≡ b) (rows r)) where
-  abbrev of_it : X → Bool
-  of_it x = k == number x
-
-  rows_next : (r : Request) (rs : List Request) → filter of_it (flat_map rows rs) ≡ flat_map rows (filter (has_number k) rs) → (b : Bool) → (k == r.number) ≡ b
-      → filter of_it (rows r) ++ filter of_it (flat_map rows rs) ≡ flat_map rows (filter (has_number k) (r ∷ rs))
-  rows_next r rs more true h =
-      ap (λ l. l ++ filter of_it (flat_map rows rs)) (filter_all of_it (rows r) (each r true h)) ∙ ap (λ l. rows r ++ l) more
-      ∙ sym (ap (flat_map rows) (keeps (has_number k) r rs h))
-  rows_next r rs more false h =
-      ap (λ l. l ++ filter of_it (flat_map rows rs)) (filter_none of_it (rows r) (each r false h)) ∙ more
-      ∙ sym (ap (flat_map rows) (drops (has_number k) r rs h))
-
-  all_rows : (rs : List Request) → filter of_it (flat_map rows rs) ≡ flat_map rows (filter (has_number k) rs)
-  all_rows [] = refl
-  all_rows (r ∷ rs) = filter-append of_it (rows r) (flat_map rows rs) ∙ rows_next r rs (all_rows rs) (k == r.number) refl
-
-  -- where one request has the number, its rows
-  pub rows_of_one : (rs : List Request) (r : Request) → filter (has_number k) rs ≡ r ∷ [] → filter of_it (flat_map rows rs) ≡ rows r
-  rows_of_one rs r one = all_rows rs ∙ ap (flat_map rows) one ∙ append-nil (rows r)
+use Rattle.desk_history.proofs.RunLemmas.{giving}
+use Rattle.desk_reads.proofs.PartLemmas.{Ascends, one_order, rows_of_one}
+use Rattle.desk_shown.proofs.ItemLemmas.{drops, keeps}
 
 -- ---- certificates
 
@@ -57,7 +34,7 @@ certificates_numbered k n b h (d ∷ ds) = (h, certificates_numbered k n b h ds)
 
 pub certificates_of_one : (k : ℕ) (rs : List Request) (r : Request) → filter (has_number k) rs ≡ r ∷ []
     → filter (λ (x : RequestCertificateRow). k == x.request) (flat_map certificate_rows rs) ≡ certificate_rows r
-certificates_of_one k = rows_of_one certificate_rows (λ (x : RequestCertificateRow). x.request) k (λ r b h. certificates_numbered k r.number b h r.facts.carried)
+certificates_of_one k = rows_of_one certificate_rows (λ (r : Request). r.number) (λ (x : RequestCertificateRow). x.request) k (λ r b h. certificates_numbered k r.number b h r.facts.carried)
 
 digests_same : (k : ℕ) (ds : List (List ℕ)) → digests_of (map (certificate_row k) ds) ≡ ds
 digests_same k [] = refl
@@ -84,7 +61,7 @@ components_numbered k n b h place (x ∷ xs) = (h, components_numbered k n b h (
 
 pub components_of_one : (k : ℕ) (rs : List Request) (r : Request) → filter (has_number k) rs ≡ r ∷ []
     → filter (λ (x : RequestComponentRow). k == x.request) (flat_map component_rows rs) ≡ component_rows r
-components_of_one k = rows_of_one component_rows (λ (x : RequestComponentRow). x.request) k (λ r b h. components_numbered k r.number b h 0 r.facts.components)
+components_of_one k = rows_of_one component_rows (λ (r : Request). r.number) (λ (x : RequestComponentRow). x.request) k (λ r b h. components_numbered k r.number b h 0 r.facts.components)
 
 places_above : (k p q : ℕ) (xs : List Component) → p < q → AllByRecursion (λ (y : RequestComponentRow). p < y.place) (placed_from k q xs)
 places_above k p q [] h = tt
@@ -115,23 +92,13 @@ components_are k xs ys moved =
 abbrev HasWithin : Request → Type 0
 HasWithin r = AreFactsWithin r.facts
 
-one_more : (cs : History) (old : Call) (given : Command) → IsWithin given → All HasWithin (requests cs) → All HasWithin (requests (item (record old { command = given }) ∷ cs))
+one_more : (cs : History) (old : Item) (given : Command) → IsWithin given → All HasWithin (requests cs) → All HasWithin (requests (giving old given ∷ cs))
 one_more cs old (command.Submit s) w h = All-cons HasWithin _ (requests cs) w h
-one_more cs old (command.AddPerson _) w h = h
-one_more cs old (command.Review _) w h = h
-one_more cs old (command.Withdraw _) w h = h
-one_more cs old (command.Return _) w h = h
-one_more cs old (command.ListCertificate _) w h = h
-one_more cs old (command.ListDigest _) w h = h
-one_more cs old (command.Unlist _) w h = h
-one_more cs old (command.RevokeDigest _) w h = h
-one_more cs old (command.RevokeCertificate _) w h = h
-one_more cs old (command.RaiseLevel _) w h = h
-one_more cs old (command.ImportRevocations _) w h = h
+one_more cs old _ w h = h
 
 pub requests_within : (cs : History) → All IsItem cs → All HasWithin (requests cs)
 requests_within [] h = All-nil HasWithin
-requests_within (i ∷ cs) h = one_more cs i.call i.call.command (All-head IsItem i cs h).limits (requests_within cs (All-tail IsItem i cs h))
+requests_within (i ∷ cs) h = one_more cs i i.call.command (All-head IsItem i cs h).limits (requests_within cs (All-tail IsItem i cs h))
 
 within_next : (q : Request) (rs : List Request) (k : ℕ) (r : Request) → filter (has_number k) (q ∷ rs) ≡ r ∷ [] → All HasWithin (q ∷ rs) → (filter (has_number k) rs ≡ r ∷ [] → AreFactsWithin r.facts)
     → (b : Bool) → (k == q.number) ≡ b → AreFactsWithin r.facts

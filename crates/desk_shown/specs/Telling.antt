@@ -1,4 +1,4 @@
--- What is told of the requests of a desk's history.
+-- What is told of the requests and proposals of a desk's history.
 use Rattle.std.specs.Prelude.{◌≡◌, ◌⊎◌, ℕ, List}
 use Rattle.sqlite.specs.State.{State}
 use Rattle.desk_bytes.specs.declared.refusal.Refusal.{Refusal}
@@ -22,3 +22,7 @@ IsReaderRefusal refusal = refusal ≡ refusals.UnknownCaller
 -- own: nobody has the name, or there is no such request for that person
 abbrev pub IsRequestRefusal : Refusal → Type 0
 IsRequestRefusal refusal = IsReaderRefusal refusal ⊎ (refusal ≡ refusals.NoSuchRequest)
+
+-- own: nobody has the name, or the person is no officer
+abbrev pub IsOfficerRefusal : Refusal → Type 0
+IsOfficerRefusal refusal = IsReaderRefusal refusal ⊎ (refusal ≡ refusals.NotYourRole)
