@@ -19,7 +19,7 @@ use Rattle.desk_history.specs.declared.rows.Minute.{Minute}
 use Rattle.desk_history.specs.Calls.{History, are_apart, is_same_kind}
 use Rattle.desk_history.specs.Level.{names}
 use Rattle.desk_history.specs.Listing.{is_entry, listed}
-use Rattle.desk_history.specs.Replies.{minute, minutes}
+use Rattle.desk_history.specs.Replies.{minute_of, minutes}
 use Rattle.desk_history.specs.Tables.{level_row, level_rows}
 use Rattle.desk_history.proofs.ListLemmas.{bytes_eq-refl, once_apart}
 use Rattle.desk_history.proofs.ListingLemmas.{listed_apart}
@@ -160,7 +160,7 @@ above_all n x (m ∷ ms) is h = ((λ low high. (let a : x.number ≤ m.number = 
 
 calls_apart : (cs : History) → Apart numbered (called cs)
 calls_apart [] = tt
-calls_apart (i ∷ cs) = (above_all (length cs) (columns_of (minute cs i.call)) (called cs) refl (below_all cs (length cs) (omega arith)), calls_apart cs)
+calls_apart (i ∷ cs) = (above_all (length cs) (columns_of (minute_of cs i)) (called cs) refl (below_all cs (length cs) (omega arith)), calls_apart cs)
 
 rises_push : (xs : List Columns) (x : Columns) → Rises numbered xs → AllByRecursion (λ (m : Columns). m.number ≤ x.number) xs → Rises numbered (xs ++ x ∷ [])
 rises_push [] x h all = tt
@@ -170,7 +170,7 @@ rises_push (y ∷ z ∷ zs) x h all = (h.0, rises_push (z ∷ zs) x h.1 all.1)
 reversed : (cs : History) → Rises numbered (reverse (called cs))
 reversed [] = tt
 reversed (i ∷ cs) =
-    let m = columns_of (minute cs i.call) in
+    let m = columns_of (minute_of cs i) in
     subst (Rises numbered) (sym (reverse-cons m (called cs)))
     (rises_push (reverse (called cs)) m (reversed cs) (all_permuted (λ (x : Columns). x.number ≤ m.number) (called cs) (reverse (called cs)) (IsPermutation-reverse (called cs)) (below_all cs (length cs + 1) (omega arith))))
 
