@@ -12,12 +12,14 @@ use Rattle.sqlite.specs.Held.{Held, state}
 use Rattle.sqlite.specs.Given.{IsPlain}
 use Rattle.sqlite.specs.Listing.{understood}
 use Rattle.sqlite.specs.Order.{Row}
+use Rattle.sqlite.specs.Schema.{Schema}
 use Rattle.sqlite.specs.State.{State, HasCleanDisk, IsNotRun, IsRolledBack, IsUnchanged, KeepsCommit, Survives, store_error}
 use Rattle.sqlite_trees.specs.declared.error.StoreError.{StoreError}
 use Rattle.sqlite_trees.specs.declared.error.StoreError.TheVariants.{OutOfMemory, Io, Corrupt, Full, Broken, Unstorable}
 use Rattle.sqlite_resolve.specs.declared.error.CompileError.{CompileError}
 use Rattle.desk_sql.specs.Contents.{Contents, Holds}
 use Rattle.desk_sql.specs.Effects.{IsSelected, Selects}
+use Rattle.desk_sql.specs.Meanings.{SelectsRows}
 use Rattle.desk_bytes.specs.declared.refusal.Refusal.{Refusal}
 use Rattle.desk_bytes.specs.declared.refusal.Refusal.TheVariants as refusals
 use Rattle.desk_sql.specs.States.{Leaves, Sees}
@@ -25,16 +27,16 @@ use Rattle.sqlite.specs.Tree.{Trees}
 use Rattle.desk_statements.specs.Columns.{by_first, columns_after, names_of}
 use Rattle.desk_statements.specs.Tables.{desk, desk_schema}
 use Rattle.desk_statements.specs.declared.selecting.TheConstants.{SELECT_DESK}
-use Rattle.desk_statements.proofs.SelectFacts.{select_desk}
+use Rattle.desk_statements.proofs.SelectFacts.{select_desk, select_first_desk}
 use Rattle.desk_history.specs.Calls.{History}
 use Rattle.desk_history.specs.Formed.{IsHistory}
 use Rattle.desk_history.specs.Level.{stamp}
 use Rattle.desk_history.specs.Tables.{tables}
 use Rattle.desk_contents.specs.Values.{desk_values}
 use Rattle.desk_contents.specs.Histories.{ShowsHistory, rows_of}
-use Rattle.desk_store.specs.Rows.{AreOf, ReadsAs, desk_columns}
+use Rattle.desk_store.specs.Rows.{AreOf, AreOfNone, ReadsAs, desk_columns}
 use Rattle.desk_reads.specs.Failures.{IsFailure}
-use Rattle.desk_store.specs.Steps.{AreShownAs, AreShownAsNone, ReadsInside, RefusesColumns, RefusesText, TellsOf, TellsOpen, UnreadInside}
+use Rattle.desk_store.specs.Steps.{AreShownAs, AreShownAsNone, IsDeskSchema, ReadsInside, RefusesColumns, RefusesText, SeesRows, ShowsRows, TellsOf, TellsOpen, UnreadInside}
 
 pub unchanged_keeps : (old new : State) → IsUnchanged old new → KeepsCommit old new
 unchanged_keeps old new same = record { was_open = λ _. same.0.was_open; committed = λ _. same.0.committed_is }
@@ -52,11 +54,16 @@ no_text Full fault is = cc
 no_text Broken fault is = cc
 no_text Unstorable fault is = cc
 
+-- the query asks for the desk's row in tables of either version
+asks_for_desk : (schema : Schema) → IsDeskSchema schema → SelectsRows schema 0 desk SELECT_DESK.now [] (by_first 1 desk) (columns_after 1 desk) (names_of desk)
+asks_for_desk schema (inl first) = subst (λ s. SelectsRows s 0 desk SELECT_DESK.now [] (by_first 1 desk) (columns_after 1 desk) (names_of desk)) (sym first) select_first_desk
+asks_for_desk schema (inr second) = subst (λ s. SelectsRows s 0 desk SELECT_DESK.now [] (by_first 1 desk) (columns_after 1 desk) (names_of desk)) (sym second) select_desk
+
 -- where the text isn't understood, the tables aren't a desk's
-pub no_tables : (old new : State) (e : Error) → IsNotRun old new SELECT_DESK.now [] e → RefusesText e → IsTrue old.is_open × (old.now.schema ≢ desk_schema)
+pub no_tables : (old new : State) (e : Error) → IsNotRun old new SELECT_DESK.now [] e → RefusesText e → IsTrue old.is_open × (IsDeskSchema old.now.schema → ⊥)
 unfolding IsNotRun
 no_tables old new e (inl (inl (fault, bad, is), same)) text =
-    (same.0.was_open, λ listed. subst IsPlain bad (subst (λ s. IsPlain (understood s SELECT_DESK.now)) (sym listed) select_desk.plain))
+    (same.0.was_open, λ listed. subst IsPlain bad (asks_for_desk old.now.schema listed).plain)
 no_tables old new e (inl (inr (c, is, inl (long, many)), same)) text = absurd (let a = sym many ∙ text.1 in cc)
 no_tables old new e (inl (inr (c, is, inr (inl (few, count))), same)) text = absurd (let a = sym count ∙ text.1 in cc)
 no_tables old new e (inl (inr (c, is, inr (inr (formats, clock))), same)) text = absurd (let a = sym clock ∙ text.1 in cc)
@@ -64,10 +71,10 @@ no_tables old new e (inr h) text = absurd (no_text h.0 text.0 (sym h.1 ∙ text.
 
 -- what the query shows of the rows of the table
 pub selected : (old mid new : State) (answer : List Row) → IsUnchanged old mid → Selects SELECT_DESK.now [] mid new answer
-    → (c : Contents) (rows : List Row) → Sees desk_schema old c → slice_get c 0 ≡ Some rows → IsSelected desk [] (by_first 1 desk) (columns_after 1 desk) [] rows answer
-selected old mid new answer same selects c rows sees has =
-    (selects desk_schema 0 desk [] (by_first 1 desk) (columns_after 1 desk) (names_of desk) select_desk).1 c rows
-    (record { inside = same.0.mode ∙ sees.inside; holds = subst (λ (d : Database). Holds desk_schema d c) (sym same.0.now_is) sees.holds }) has
+    → SeesRows old (λ rows. IsSelected desk [] (by_first 1 desk) (columns_after 1 desk) [] rows answer)
+selected old mid new answer same selects schema c rows of_desk sees has =
+    (selects schema 0 desk [] (by_first 1 desk) (columns_after 1 desk) (names_of desk) (asks_for_desk schema of_desk)).1 c rows
+    (record { inside = same.0.mode ∙ sees.inside; holds = subst (λ (d : Database). Holds schema d c) (sym same.0.now_is) sees.holds }) has
 
 -- where one answer reads as a desk, each does
 pub read_alike : (rows answer : List Row) (version : ℕ) → IsSelected desk [] (by_first 1 desk) (columns_after 1 desk) [] rows answer → AreOf rows version → ReadsAs answer version
@@ -76,18 +83,18 @@ read_alike rows answer version it other =
     let same = IsPermutation-trans _ _ _ (IsPermutation-sym _ _ other.1.same) it.same in
     (reads.0, reads.1, reads.2, reads.3, one_permutation (desk_columns reads.0 version reads.1) answer (subst (λ l. IsPermutation l answer) reads.4 same))
 
--- where the store hasn't the desk's tables it shows no rows of them
-pub no_rows : (s : State) (refusal : Refusal) → RefusesColumns s refusal → refusal ≡ refusals.NotADesk → (c : Contents) → Sees desk_schema s c → ⊥
-no_rows s refusal (inl (inl memory)) is c sees = let e = sym memory ∙ is in cc
-no_rows s refusal (inl (inr store)) is c sees = let e = sym store ∙ is in cc
-no_rows s refusal (inr told) is c sees = told.2 sees.holds.listed
+-- where the store hasn't the tables of a desk it shows no rows of them
+pub no_rows : (s : State) (refusal : Refusal) → RefusesColumns s refusal → refusal ≡ refusals.NotADesk → (schema : Schema) (c : Contents) → IsDeskSchema schema → Sees schema s c → ⊥
+no_rows s refusal (inl (inl memory)) is schema c of_desk sees = let e = sym memory ∙ is in cc
+no_rows s refusal (inl (inr store)) is schema c of_desk sees = let e = sym store ∙ is in cc
+no_rows s refusal (inr told) is schema c of_desk sees = told.2 (subst IsDeskSchema (sym sees.holds.listed) of_desk)
 
 -- the only row of the answer is the desk's
 pub one_row : (old mid new : State) (rows : List Row) → IsUnchanged old mid → Selects SELECT_DESK.now [] mid new rows
-    → (owner : List ℕ) (cs : History) → Sees desk_schema old (rows_of owner cs) → rows ≡ desk_columns owner 1 (stamp cs) ∷ []
+    → (owner : List ℕ) (cs : History) → Sees desk_schema old (rows_of owner cs) → rows ≡ desk_columns owner 2 (stamp cs) ∷ []
 one_row old mid new rows same selects owner cs sees =
-    let it = selected old mid new rows same selects (rows_of owner cs) (desk_values (tables owner cs).desk ∷ []) sees refl in
-    one_permutation (desk_columns owner 1 (stamp cs)) rows it.same
+    let it = selected old mid new rows same selects desk_schema (rows_of owner cs) (desk_values (tables owner cs).desk ∷ []) (inr refl) sees refl in
+    one_permutation (desk_columns owner 2 (stamp cs)) rows it.same
 
 module _ {S : Type 0} (g : store.Ghosts S) (old last end : Held S) (owner : List ℕ) (cs : History) where
   abbrev begun : State
@@ -95,13 +102,17 @@ module _ {S : Type 0} (g : store.Ghosts S) (old last end : Held S) (owner : List
 
   -- what is told inside a transaction, of what the connection shows before it
   pub told_before : (result : Result ℕ Refusal) → HasCleanDisk (state g old) → TellsOf begun result → length owner ≡ 16 → IsHistory cs → ShowsHistory (state g old) owner cs
-      → MatchResult result (λ version. version ≡ 1) IsFailure
+      → MatchResult result (λ version. version ≡ 2) IsFailure
   told_before (Ok version) clean told long history shows = told.1 owner cs long history (record { inside = refl; holds = (shows.holds clean told.0).0 })
   told_before (Err refusal) clean (inl failed) long history shows = failed
   told_before (Err refusal) clean (inr told) long history shows = absurd (told.1.1 owner cs long history (record { inside = refl; holds = (shows.holds clean told.1.0).0 }))
 
+  -- what is seen inside a transaction of an open connection is shown outside
+  shown_before : (of_rows : List Row → Type 0) → HasCleanDisk (state g old) → IsTrue begun.is_open → SeesRows begun of_rows → ShowsRows (state g old) of_rows
+  shown_before of_rows clean live sees schema c rows of_desk shows has = sees schema c rows of_desk (record { inside = refl; holds = (shows.holds clean live).0 }) has
+
   pub read_before : (result : Result ℕ Refusal) → HasCleanDisk (state g old) → TellsOf begun result → ReadsInside begun result → IfOk result (AreShownAs (state g old))
-  read_before (Ok version) clean told reads = λ c rows shows has. reads c rows (record { inside = refl; holds = (shows.holds clean told.0).0 }) has
+  read_before (Ok version) clean told reads = shown_before (λ rows. AreOf rows version) clean told.0 reads
   read_before (Err refusal) clean told reads = tt
 
   pub unread_before : (result : Result ℕ Refusal) → HasCleanDisk (state g old) → TellsOf begun result → UnreadInside begun result
@@ -109,7 +120,7 @@ module _ {S : Type 0} (g : store.Ghosts S) (old last end : Held S) (owner : List
   unread_before (Ok version) clean told unread = tt
   unread_before (Err refusal) clean (inl (inl memory)) unread = λ is. absurd (let e = sym memory ∙ is in cc)
   unread_before (Err refusal) clean (inl (inr store)) unread = λ is. absurd (let e = sym store ∙ is in cc)
-  unread_before (Err refusal) clean (inr told) unread = λ is c rows shows has. unread is c rows (record { inside = refl; holds = (shows.holds clean told.1.0).0 }) has
+  unread_before (Err refusal) clean (inr told) unread = λ is. shown_before AreOfNone clean told.1.0 (unread is)
 
   -- the connection was open where a version was read, and where there is no desk
   pub open_before : (result : Result ℕ Refusal) → TellsOf begun result → TellsOpen (state g old) result

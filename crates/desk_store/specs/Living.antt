@@ -7,7 +7,7 @@ use Rattle.desk_bytes.specs.declared.refusal.Refusal.{Refusal}
 use Rattle.desk_bytes.specs.declared.refusal.Refusal.TheVariants as refusals
 use Rattle.desk_texts.specs.declared.command.Call.{Call}
 use Rattle.desk_texts.specs.declared.reply.Reply.{Reply}
-use Rattle.desk_history.specs.Calls.{History}
+use Rattle.desk_history.specs.Calls.{History, item}
 use Rattle.desk_history.specs.Lives.{Answered, Ends, Event, Fate, Life, Opened, Refused, Stopped}
 use Rattle.desk_store.specs.Desks.{MayStop, Refuses, Replies, ShowsDesk}
 use Rattle.desk_store.specs.Reopening.{Keeps, LeavesLives}
@@ -19,7 +19,7 @@ and_now before events = before ++ record { opening = Opened; events = events } �
 
 -- the events, and then this call
 abbrev pub and_then : List Event → Call → Fate → List Event
-and_then events c fate = events ++ record { call = c; fate = fate } ∷ []
+and_then events c fate = events ++ record { item = item c; fate = fate } ∷ []
 
 -- the call wasn't stopped
 abbrev pub is_told : Event → Bool

@@ -10,9 +10,9 @@ use Rattle.sqlite_disk.specs.declared.Files.{Files}
 use Rattle.sqlite_store.specs.declared.store.FileStore.{FileStore}
 use Rattle.desk_bytes.specs.declared.refusal.Refusal.{Refusal}
 use Rattle.desk_bytes.specs.declared.refusal.Refusal.TheVariants as refusals
-use Rattle.desk_texts.specs.Formed.{IsCall}
 use Rattle.desk_history.specs.Calls.{History, are_apart, is_same_item}
 use Rattle.desk_history.specs.FormLaws.{KeepsAnswered}
+use Rattle.desk_history.specs.Formed.{IsItem}
 use Rattle.desk_history.specs.Lives.{Ends, Life, events_of}
 use Rattle.desk_sql.specs.States.{Leaves}
 use Rattle.desk_contents.specs.Histories.{HoldsHistory}
@@ -51,12 +51,12 @@ pub record Keeps {S : Type 0} (g : Ghosts S) (desk : Desk S) (owner : List ℕ) 
 -- what was answered Ok in them.
 abbrev pub Recovers : {S : Type 0} → Ghosts S → Held S → Desk S → Type 0
 Recovers g conn desk =
-    (owner : List ℕ) (lives : List Life) → All (λ e. IsCall e.call) (events_of lives) → FindsLives (state g conn) owner lives
+    (owner : List ℕ) (lives : List Life) → All (λ e. IsItem e.item) (events_of lives) → FindsLives (state g conn) owner lives
     → ∥ ((cs : History) × Keeps g desk owner lives cs) ∥₁
 
 -- the refusal of an opening isn't that the store has no desk, nor one of another version, where it was opened over such tables
 abbrev pub FindsADesk : {S : Type 0} → Ghosts S → Held S → Refusal → Type 0
 FindsADesk g conn refusal =
-    (owner : List ℕ) (lives : List Life) → length owner ≡ 16 → All (λ e. IsCall e.call) (events_of lives)
+    (owner : List ℕ) (lives : List Life) → length owner ≡ 16 → All (λ e. IsItem e.item) (events_of lives)
     → FindsLives (state g conn) owner lives
     → (refusal ≢ refusals.NotADesk) × (refusal ≢ refusals.Version)

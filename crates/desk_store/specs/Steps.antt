@@ -2,6 +2,7 @@
 use Rattle.std.specs.Prelude.{◌≡◌, ◌≢◌, ◌⊎◌, ℕ, length, List, [], slice_get, Some, IfErr, IfOk, IsTrue, Result, MatchResult}
 use Rattle.sqlite.specs.Effect.{IsDatabase}
 use Rattle.sqlite.specs.Order.{Row}
+use Rattle.sqlite.specs.Schema.{Schema}
 use Rattle.sqlite.specs.State.{State, KeepsCommit}
 use Rattle.sqlite.specs.declared.error.Error.{Error}
 use Rattle.sqlite.specs.declared.error.Error.TheVariants.{SqlInputError}
@@ -13,7 +14,7 @@ use Rattle.desk_history.specs.Formed.{IsHistory}
 use Rattle.desk_reads.specs.Failures.{IsFailure}
 use Rattle.desk_sql.specs.Contents.{Contents}
 use Rattle.desk_sql.specs.States.{Sees, Shows}
-use Rattle.desk_statements.specs.Tables.{desk_schema, no_schema}
+use Rattle.desk_statements.specs.Tables.{desk_schema, first_schema, no_schema}
 use Rattle.desk_contents.specs.Histories.{rows_of}
 use Rattle.desk_store.specs.Rows.{AreOf, AreOfNone}
 
@@ -28,9 +29,13 @@ pub record Founds (old new : State) (owner : List ℕ) : Type 0 where
 abbrev pub RefusesText : Error → Type 0
 RefusesText e = (fault : CompileError) × (e ≡ SqlInputError fault)
 
--- a device failed, or the open store hasn't the desk's tables
+-- the tables of a desk's store, of either version
+abbrev pub IsDeskSchema : Schema → Type 0
+IsDeskSchema schema = (schema ≡ first_schema) ⊎ (schema ≡ desk_schema)
+
+-- a device failed, or the open store hasn't the tables of a desk
 abbrev pub RefusesColumns : State → Refusal → Type 0
-RefusesColumns s refusal = IsFailure refusal ⊎ ((refusal ≡ refusals.NotADesk) × IsTrue s.is_open × (s.now.schema ≢ desk_schema))
+RefusesColumns s refusal = IsFailure refusal ⊎ ((refusal ≡ refusals.NotADesk) × IsTrue s.is_open × (IsDeskSchema s.now.schema → ⊥))
 
 -- a device failed, or there is no desk
 abbrev pub IsReadRefusal : Refusal → Type 0
@@ -42,26 +47,34 @@ TellsAll s told = IsTrue s.is_open × ((owner : List ℕ) (cs : History) → len
 
 -- the version is that of these tables, or a device failed, or the tables are no desk's
 abbrev pub TellsOf : State → Result ℕ Refusal → Type 0
-TellsOf s result = MatchResult result (λ version. TellsAll s (version ≡ 1)) (λ refusal. IsFailure refusal ⊎ ((refusal ≡ refusals.NotADesk) × TellsAll s ⊥))
+TellsOf s result = MatchResult result (λ version. TellsAll s (version ≡ 2)) (λ refusal. IsFailure refusal ⊎ ((refusal ≡ refusals.NotADesk) × TellsAll s ⊥))
 
 -- the store is open where a version was read, and where there is no desk
 abbrev pub TellsOpen : State → Result ℕ Refusal → Type 0
 TellsOpen s result = MatchResult result (λ _. IsTrue s.is_open) (λ refusal. refusal ≡ refusals.NotADesk → IsTrue s.is_open)
 
--- inside a transaction: the rows of the table `desk` read as those of a desk of this version
+-- inside a transaction: this holds of the rows of the table `desk`, whichever version the tables are of
+abbrev pub SeesRows : State → (List Row → Type 0) → Type 0
+SeesRows s told =
+    (schema : Schema) (c : Contents) (rows : List Row) → IsDeskSchema schema → Sees schema s c → slice_get c 0 ≡ Some rows → told rows
+
+-- the version is that which they read as
 abbrev pub ReadsInside : State → Result ℕ Refusal → Type 0
-ReadsInside s result =
-    IfOk result (λ version. (c : Contents) (rows : List Row) → Sees desk_schema s c → slice_get c 0 ≡ Some rows → AreOf rows version)
+ReadsInside s result = IfOk result (λ version. SeesRows s (λ rows. AreOf rows version))
 
--- inside a transaction: where there is no desk, the rows of its table read as those of none
+-- where there is no desk, they read as those of none
 abbrev pub UnreadInside : State → Result ℕ Refusal → Type 0
-UnreadInside s result =
-    IfErr result (λ refusal. refusal ≡ refusals.NotADesk → (c : Contents) (rows : List Row) → Sees desk_schema s c → slice_get c 0 ≡ Some rows → AreOfNone rows)
+UnreadInside s result = IfErr result (λ refusal. refusal ≡ refusals.NotADesk → SeesRows s AreOfNone)
 
--- outside: the rows of the table `desk` read as those of a desk of this version
+-- outside: this holds of the rows of the table `desk`, whichever version the tables are of
+abbrev pub ShowsRows : State → (List Row → Type 0) → Type 0
+ShowsRows s told =
+    (schema : Schema) (c : Contents) (rows : List Row) → IsDeskSchema schema → Shows schema s c → slice_get c 0 ≡ Some rows → told rows
+
+-- they read as those of a desk of this version
 abbrev pub AreShownAs : State → ℕ → Type 0
-AreShownAs s version = (c : Contents) (rows : List Row) → Shows desk_schema s c → slice_get c 0 ≡ Some rows → AreOf rows version
+AreShownAs s version = ShowsRows s (λ rows. AreOf rows version)
 
--- outside: they read as those of no desk
+-- they read as those of no desk
 abbrev pub AreShownAsNone : State → Type 0
-AreShownAsNone s = (c : Contents) (rows : List Row) → Shows desk_schema s c → slice_get c 0 ≡ Some rows → AreOfNone rows
+AreShownAsNone s = ShowsRows s AreOfNone

@@ -23,13 +23,14 @@ ghost use Rattle.desk_store.specs.Steps.{AreShownAs, AreShownAsNone, IsReadRefus
 use crate::acting::{run, told};
 use crate::forms::call_is_formed;
 use crate::founding::{found_at_once, has_no_tables};
-use crate::opening::{VERSION, found_is_shown, read_version};
+use crate::opening::{found_is_shown, read_version};
 use crate::questions::{ListsFor, RowsFor};
 use desk_bytes::{Guid, Refusal};
 use desk_history::{keys_stand_once, lives_keep_what_was_answered};
 use desk_rules::{ListView, View};
 use desk_sizes::KeptSizes;
 use desk_sql::stop_leaves_what_is_shown;
+use desk_tables::VERSION;
 use desk_texts::{Caller, Command, Facts, Key, Reply};
 use sqlite::{Alter, Connection};
 use std::alloc::Global;
@@ -45,7 +46,7 @@ pub struct Desk<S: Alter> {
 }
 
 impl<S: Alter + Drop> Desk<S> {
-    /// Makes a desk without calls, in one transaction: its twelve tables, and its own row with the
+    /// Makes a desk without calls, in one transaction: its fifteen tables, and its own row with the
     /// owner of every entry that it exports. The connection has to be in no transaction
     /// (`is_autocommit`); a refusal hands it back. Takes memory.
     ///
@@ -107,9 +108,9 @@ impl<S: Alter + Drop> Desk<S> {
             → ShowsDesk S.Store desk owner cs) }
         ensures usable { IfOk result (λ desk. desk.needs_reopening ≡ false) }
         ensures read { IfOk result (λ desk. HasCleanDisk (state S.Store desk.conn)
-            → AreShownAs (state S.Store conn) 1) }
+            → AreShownAs (state S.Store conn) 2) }
         ensures other { IfErr result (λ e. HasCleanDisk (state S.Store e.1) → e.0 ≡ Refusal.Version
-            → (version : ℕ) × (version ≢ 1) × AreShownAs (state S.Store conn) version) }
+            → (version : ℕ) × (version ≢ 2) × AreShownAs (state S.Store conn) version) }
         ensures unread { IfErr result (λ e. HasCleanDisk (state S.Store e.1) → e.0 ≡ Refusal.NotADesk
             → AreShownAsNone (state S.Store conn)) }
         ensures known { IfErr result (λ e. HasCleanDisk (state S.Store e.1)
@@ -130,7 +131,7 @@ impl<S: Alter + Drop> Desk<S> {
         lives_keep_what_was_answered();
         match read_version(&mut conn) {
             Ok(version) => {
-                if version != VERSION {
+                if version != u64::from(VERSION) {
                     return Err((Refusal::Version, conn));
                 }
                 keys_stand_once();

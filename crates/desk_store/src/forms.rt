@@ -34,7 +34,9 @@ fn show_limits(command: &Command)
         | Command::Unlist(_)
         | Command::RevokeDigest(_)
         | Command::RevokeCertificate(_)
-        | Command::RaiseLevel(_) => {}
+        | Command::RaiseLevel(_)
+        | Command::Confirm(_)
+        | Command::Drop(_) => {}
     }
 }
 

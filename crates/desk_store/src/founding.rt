@@ -1,4 +1,4 @@
-//! Making a desk: its twelve tables and its own row, in one transaction.
+//! Making a desk: its fifteen tables and its own rows, in one transaction.
 ghost use Rattle.std.specs.Prelude.{◌≡◌, ◌≢◌, [], false, IfErr, IsTrue, OnOk};
 ghost use Rattle.sqlite.specs.Held.{state};
 ghost use Rattle.sqlite.specs.State.{HasCleanDisk, Survives};
@@ -22,7 +22,7 @@ pub(crate) fn has_no_tables<S: Alter>(conn: &Connection<S>) -> bool
     schema.tables.is_empty() && schema.indexes.is_empty() && schema.views.is_empty()
 }
 
-/// Makes the tables, and puts in the desk's row.
+/// Makes the tables, and puts in the rows of a desk without calls.
 fn found<S: Alter>(tx: &mut Transaction<'_, S>, owner: &Guid) -> Result<(), WriteFault>
     ensures same_reference { tx.new.conn.ghost_name ≡ tx.old.conn.ghost_name }
     ensures value { HasCleanDisk (state S.Store tx.new.conn.now)

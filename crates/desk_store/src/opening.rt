@@ -26,9 +26,6 @@ use sqlite::{Alter, Connection, Error, Row, Transaction};
 /// The mark by which the file of a desk is known.
 const MARK: &str = "boot-desk";
 
-/// The version of the tables that this program knows.
-pub(crate) const VERSION: u64 = 1;
-
 /// The natural number in a column.
 fn number_at(row: &Row, at: usize) -> Option<u64>
     ensures found { (n : ℕ) → at < length row.now → column row.now at ≡ Int (pos n)
@@ -159,7 +156,7 @@ pub(crate) fn read_version<S: Alter>(conn: &mut Connection<S>) -> Result<u64, Re
     ensures outside { conn.new.in_transaction ≡ false }
     ensures told { HasCleanDisk (state S.Store conn.new) → (owner : List ℕ) (cs : History)
         → length owner ≡ 16 → IsHistory cs → ShowsHistory (state S.Store conn.old) owner cs
-        → MatchResult result (λ version. version ≡ 1) IsFailure }
+        → MatchResult result (λ version. version ≡ 2) IsFailure }
     ensures shown { HasCleanDisk (state S.Store conn.new) → (owner : List ℕ) (cs : History)
         → ShowsHistory (state S.Store conn.old) owner cs
         → ShowsHistory (state S.Store conn.new) owner cs }

@@ -1,15 +1,16 @@
 //! The questions that a desk is asked.
-ghost use Rattle.std.specs.Prelude.{◌≡◌, ⊤, filter, IfErr};
+ghost use Rattle.std.specs.Prelude.{◌≡◌, ⊤, filter, map, IfErr};
 ghost use Rattle.desk_counts.specs.Counts.{CountTables};
 ghost use Rattle.desk_history.specs.People.{has_token};
 ghost use Rattle.desk_history.specs.Shown.{AreShown, GivesRequest, IsGiven, requests_for};
+ghost use Rattle.desk_history.specs.Shown.{proposals_for, shown_proposal};
 ghost use Rattle.desk_history.specs.Tables.{tables};
 ghost use Rattle.desk_list_views.specs.Lists.{HoldsNoOther};
 ghost use Rattle.desk_reads.specs.Reads.{listed};
 ghost use Rattle.desk_rules.specs.Decisions.{called};
 ghost use Rattle.desk_rules.specs.Shown.{Shows};
 ghost use Rattle.desk_rules.specs.Views.{ShowsLists, keys_of};
-ghost use Rattle.desk_shown.specs.Telling.{IsReaderRefusal, IsRequestRefusal};
+ghost use Rattle.desk_shown.specs.Telling.{IsOfficerRefusal, IsReaderRefusal, IsRequestRefusal};
 ghost use Rattle.desk_sizes.specs.Sizes.{AreRight};
 ghost use Rattle.desk_texts.specs.declared.caller.Caller.TheVariants as callers;
 ghost use Rattle.desk_views.specs.Named.{HoldsNoRowBeyond};
@@ -20,9 +21,11 @@ use desk_counts::{Counts, counts};
 use desk_list_views::list_view;
 use desk_reads::person_of_token;
 use desk_rules::{ListView, View};
-use desk_shown::{request, requests_of};
+use desk_shown::{proposals_of, request, requests_of};
 use desk_sizes::KeptSizes;
-use desk_texts::{Caller, Command, Facts, Key, Person, PersonName, RequestNumber, ShownRequest};
+use desk_texts::{
+    Caller, Command, Facts, Key, Person, PersonName, Proposal, RequestNumber, ShownRequest,
+};
 use desk_views::view;
 use sqlite::{Alter, Transaction};
 use std::alloc::Global;
@@ -187,6 +190,32 @@ impl<'a> Question for AllRequests<'a> {
         tx: &mut Transaction<'_, S>,
     ) -> Result<Result<Vec<ShownRequest>, Refusal>, Refusal> {
         match requests_of(alloc, tx, self.name) {
+            Ok(given) => Ok(given),
+            Err(fault) => Err(fault.refusal()),
+        }
+    }
+}
+
+/// Which proposals is the person of this name shown?
+#[derive(Drop)]
+pub(crate) struct AllProposals<'a> {
+    pub(crate) name: &'a PersonName,
+}
+
+impl<'a> Question for AllProposals<'a> {
+    type Answer = Result<Vec<Proposal>, Refusal>;
+
+    ghost tells = { λ q given owner cs. IsGiven (proposals_for cs (callers.Person q.name.now)) given
+        (λ ps shown. shown.items ≡ map (shown_proposal cs) ps) };
+
+    ghost bounds = { λ _ given. IfErr given IsOfficerRefusal };
+
+    fn read<S: Alter>(
+        &self,
+        alloc: Global,
+        tx: &mut Transaction<'_, S>,
+    ) -> Result<Result<Vec<Proposal>, Refusal>, Refusal> {
+        match proposals_of(alloc, tx, self.name) {
             Ok(given) => Ok(given),
             Err(fault) => Err(fault.refusal()),
         }

@@ -2,8 +2,8 @@
 ghost use Rattle.std.specs.Prelude.{◌≡◌, ◌⊎◌, ℕ, All, List, IfErr, IfOk, IsTrue};
 ghost use Rattle.sqlite.specs.Files.{file_state, over_files};
 ghost use Rattle.sqlite.specs.State.{HasCleanDisk};
-ghost use Rattle.desk_texts.specs.Formed.{IsCall};
 ghost use Rattle.desk_history.specs.Calls.{History};
+ghost use Rattle.desk_history.specs.Formed.{IsItem};
 ghost use Rattle.desk_history.specs.Lives.{Life, events_of};
 ghost use Rattle.desk_store.specs.Reopening.{FoundAgain, Keeps, LeavesLives};
 ghost use Rattle.desk_store.specs.Steps.{IsReadRefusal};
@@ -39,7 +39,7 @@ pub fn restart<D: Crash + Drop>(
     options: Options,
 ) -> Result<Desk<FileStore<D>>, Refusal>
     ensures keeps { IfOk result (λ again. HasCleanDisk (file_state again.conn)
-        → (owner : List ℕ) (lives : List Life) → All (λ e. IsCall e.call) (events_of lives)
+        → (owner : List ℕ) (lives : List Life) → All (λ e. IsItem e.item) (events_of lives)
         → LeavesLives (file_state desk.conn) owner lives
         → ∥ ((cs : History) × Keeps over_files again owner lives cs) ∥₁) }
     ensures named { IfErr result (λ refusal. (refusal ≡ Refusal.Version) ⊎ IsReadRefusal refusal) }

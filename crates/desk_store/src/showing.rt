@@ -1,17 +1,18 @@
-//! What a person is shown of a desk's requests.
-ghost use Rattle.std.specs.Prelude.{◌≡◌, ◌≢◌, Err, MatchResult, false, true};
+//! What a person is shown of a desk's requests and proposals.
+ghost use Rattle.std.specs.Prelude.{◌≡◌, ◌≢◌, Err, MatchResult, false, map, true};
 ghost use Rattle.std.specs.Prelude.{IfErr, IfOk, IsErrOf};
 ghost use Rattle.sqlite.specs.Held.{state};
 ghost use Rattle.sqlite.specs.State.{HasCleanDisk};
 ghost use Rattle.desk_history.specs.Shown.{AreShown, IsShown, request_for, requests_for};
+ghost use Rattle.desk_history.specs.Shown.{proposals_for, shown_proposal};
 ghost use Rattle.desk_sql.specs.States.{Spares};
 ghost use Rattle.desk_store.specs.Desks.{KeepsDesk, Views};
 ghost use Rattle.desk_store.specs.Showing.{IsReadingRefusal};
 
 use crate::desk::Desk;
-use crate::questions::{AllRequests, OneRequest};
+use crate::questions::{AllProposals, AllRequests, OneRequest};
 use desk_bytes::Refusal;
-use desk_texts::{Caller, RequestNumber, ShownRequest};
+use desk_texts::{Caller, Proposal, RequestNumber, ShownRequest};
 use sqlite::Alter;
 
 impl<S: Alter + Drop> Desk<S> {
@@ -85,6 +86,43 @@ impl<S: Alter + Drop> Desk<S> {
             return Err(Refusal::NotYourRole);
         };
         match self.asked(&AllRequests { name }) {
+            Ok(given) => given,
+            Err(failure) => Err(failure),
+        }
+    }
+
+    /// All proposals, ascending by number, for an officer: who proposed each, where it stands, and how
+    /// much it names. Nothing is changed. Takes memory for them, and for all that one of them names at
+    /// a time.
+    ///
+    /// `NotYourRole`: the console calls, or a person who is no officer. `UnknownCaller`: nobody has the
+    /// name. `NoMemory`: memory was refused. `Store`: the store failed, or isn't as a desk left it.
+    pub fn proposals(&mut self, caller: &Caller) -> Result<Vec<Proposal>, Refusal>
+        ensures shown { HasCleanDisk (state S.Store self.new.conn) → IfOk result (λ shown.
+            Views S.Store self.old self.new (λ owner cs.
+            MatchResult (proposals_for cs caller.now)
+            (λ ps. shown.items ≡ map (shown_proposal cs) ps) (λ _. ⊥))) }
+        ensures refused { HasCleanDisk (state S.Store self.new.conn) → IfErr result (λ refusal.
+            refusal ≢ Refusal.NoMemory → refusal ≢ Refusal.Store
+            → Views S.Store self.old self.new (λ owner cs.
+            proposals_for cs caller.now ≡ Err refusal)) }
+        ensures same { HasCleanDisk (state S.Store self.new.conn) → result ≢ Err Refusal.Store
+            → KeepsDesk S.Store self.old self.new }
+        ensures spares { Spares S.Store self.old.conn self.new.conn }
+        ensures poisons { IsErrOf result Refusal.Store → self.new.needs_reopening ≡ true }
+        ensures steady { result ≢ Err Refusal.Store
+            → self.new.needs_reopening ≡ self.old.needs_reopening }
+        ensures closed { self.old.needs_reopening ≡ true
+            → (result ≡ Err Refusal.Reopen) × (self.new ≡ self.old) }
+        ensures named { self.old.needs_reopening ≡ false → IfErr result IsReadingRefusal }
+    {
+        if self.needs_reopening {
+            return Err(Refusal::Reopen);
+        }
+        let Caller::Person(name) = caller else {
+            return Err(Refusal::NotYourRole);
+        };
+        match self.asked(&AllProposals { name }) {
             Ok(given) => given,
             Err(failure) => Err(failure),
         }

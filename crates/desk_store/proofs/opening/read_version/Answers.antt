@@ -21,7 +21,7 @@ returns-clause-told g c =
     let spared : Survives begun (state g.S.Store last) (λ _. ⊥) = rw c.transaction-tx.ensures.begun at did.survives in
     let told : HasCleanDisk (state g.S.Store last) → TellsOf begun c.version_of-read.result = λ clean. (rw c.transaction-tx.ensures.begun at (did.told clean)) refl in
     let same : end ≡ c.conn-1.given.0 = search rules in
-    subst (λ (x : Held _). HasCleanDisk (state g.S.Store x) → (owner : List ℕ) (cs : History) → length owner ≡ 16 → IsHistory cs → ShowsHistory (state g.S.Store old) owner cs → MatchResult c.version_of-read.result (λ version. version ≡ 1) IsFailure)
+    subst (λ (x : Held _). HasCleanDisk (state g.S.Store x) → (owner : List ℕ) (cs : History) → length owner ≡ 16 → IsHistory cs → ShowsHistory (state g.S.Store old) owner cs → MatchResult c.version_of-read.result (λ version. version ≡ 2) IsFailure)
     same (λ clean owner cs long history shows.
     let late : HasCleanDisk (state g.S.Store last) = omega (arith, c.rollback.ensures.survives.clean, clean) in
     told_before g.S.Store old last end owner cs c.version_of-read.result (omega (arith, spared.clean, late)) (told late) long history shows)

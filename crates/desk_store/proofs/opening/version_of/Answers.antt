@@ -17,8 +17,8 @@ returns-in-Some-clause-told g c clean inside =
       same.0.was_open,
       λ owner cs long history sees.
           let rows = one_row old mid new c.in-Ok-select.rows.items same (c.in-Ok-select.ensures.value clean (same.0.mode ∙ inside)) owner cs sees in
-          let told : c.version_in.result ≡ Some 1 = c.version_in.ensures.found 1 (owner, stamp cs, long, stamp_is_formed cs history.formed, c.deref.ensures.value ∙ rows) in
-          let is : Some c.in-Some.version ≡ Some 1 = sym c.in-Some.is ∙ told in
+          let told : c.version_in.result ≡ Some 2 = c.version_in.ensures.found 2 (owner, stamp cs, long, stamp_is_formed cs history.formed, c.deref.ensures.value ∙ rows) in
+          let is : Some c.in-Some.version ≡ Some 2 = sym c.in-Some.is ∙ told in
           cc,
     )
 
@@ -35,14 +35,14 @@ returns-in-Ok-select-clause-told g c clean inside =
         same.0.was_open,
         λ owner cs long history sees.
             let rows = one_row old mid new c.in-Ok-select.rows.items same (c.in-Ok-select.ensures.value clean (same.0.mode ∙ inside)) owner cs sees in
-            let told : c.version_in.result ≡ Some 1 = c.version_in.ensures.found 1 (owner, stamp cs, long, stamp_is_formed cs history.formed, c.deref.ensures.value ∙ rows) in
+            let told : c.version_in.result ≡ Some 2 = c.version_in.ensures.found 2 (owner, stamp cs, long, stamp_is_formed cs history.formed, c.deref.ensures.value ∙ rows) in
             let none = c.in-None.is in
             cc,
       ),
     )
 
 pub returns-in-Some-clause-read : goal.returns-in-Some-clause-read
-returns-in-Some-clause-read g c clean inside contents rows sees has =
+returns-in-Some-clause-read g c clean inside schema contents rows of_desk sees has =
     let old = state g.S.Store c.args.tx.now.conn.now in
     let mid = state g.S.Store c.ask_columns.new.tx.conn.now in
     let new = state g.S.Store c.select.new.tx.conn.now in
@@ -50,23 +50,23 @@ returns-in-Some-clause-read g c clean inside contents rows sees has =
     let late : HasCleanDisk mid = omega (arith, c.in-Ok-select.ensures.survives.clean, clean) in
     let same : IsUnchanged old mid = c.in-Ok.ensures.same late in (
       answer,
-      selected old mid new answer same (c.in-Ok-select.ensures.value clean (same.0.mode ∙ inside)) contents rows sees has,
+      selected old mid new answer same (c.in-Ok-select.ensures.value clean (same.0.mode ∙ inside)) schema contents rows of_desk sees has,
       subst (λ l. ReadsAs l c.in-Some.version) c.deref.ensures.value c.in-Some.ensures.read,
     )
 
 pub returns-in-Err-clause-unread : goal.returns-in-Err-clause-unread
-returns-in-Err-clause-unread g c clean inside is contents rows sees has version other =
-    no_rows (state g.S.Store c.args.tx.now.conn.now) c.in-Err.refusal (c.in-Err.ensures.refused clean) is contents sees
+returns-in-Err-clause-unread g c clean inside is schema contents rows of_desk sees has version other =
+    no_rows (state g.S.Store c.args.tx.now.conn.now) c.in-Err.refusal (c.in-Err.ensures.refused clean) is schema contents of_desk sees
 
 pub returns-in-Ok-select-clause-unread : goal.returns-in-Ok-select-clause-unread
-returns-in-Ok-select-clause-unread g c clean inside is contents rows sees has version other =
+returns-in-Ok-select-clause-unread g c clean inside is schema contents rows of_desk sees has version other =
     let old = state g.S.Store c.args.tx.now.conn.now in
     let mid = state g.S.Store c.ask_columns.new.tx.conn.now in
     let new = state g.S.Store c.select.new.tx.conn.now in
     let answer = c.in-Ok-select.rows.items in
     let late : HasCleanDisk mid = omega (arith, c.in-Ok-select.ensures.survives.clean, clean) in
     let same : IsUnchanged old mid = c.in-Ok.ensures.same late in
-    let it = selected old mid new answer same (c.in-Ok-select.ensures.value clean (same.0.mode ∙ inside)) contents rows sees has in
+    let it = selected old mid new answer same (c.in-Ok-select.ensures.value clean (same.0.mode ∙ inside)) schema contents rows of_desk sees has in
     let told : c.version_in.result ≡ Some version =
     c.version_in.ensures.found version (subst (λ l. ReadsAs l version) (sym c.deref.ensures.value) (read_alike rows answer version it other)) in
     let none = c.in-None.is in

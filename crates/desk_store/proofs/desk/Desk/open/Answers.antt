@@ -21,9 +21,9 @@ returns-else-version-ne-VERSION-clause-ok g c clean owner cs history shows left 
 }
 
 pub returns-else-version-ne-VERSION-clause-read : goal.returns-else-version-ne-VERSION-clause-read
-returns-else-version-ne-VERSION-clause-read g c clean contents rows shows has =
-    let one : c.in-Ok.version ≡ 1 = search rules in
-    subst (AreOf rows) one (c.in-Ok.ensures.read clean contents rows shows has)
+returns-else-version-ne-VERSION-clause-read g c clean schema contents rows of_desk shows has =
+    let two : c.in-Ok.version ≡ 2 = search rules in
+    subst (AreOf rows) two (c.in-Ok.ensures.read clean schema contents rows of_desk shows has)
 
 pub returns-else-version-ne-VERSION-clause-lives : goal.returns-else-version-ne-VERSION-clause-lives
 returns-else-version-ne-VERSION-clause-lives g c clean owner lives formed finds =
@@ -46,7 +46,7 @@ pub returns-then-version-ne-VERSION-clause-found : goal.returns-then-version-ne-
 returns-then-version-ne-VERSION-clause-found g c clean owner lives long formed finds =
     let before : HasCleanDisk (state g.S.Store c.args.conn) = omega (arith, c.read_version.ensures.survives.clean, clean) in
     let live : IsTrue (state g.S.Store c.args.conn).is_open = c.in-Ok.ensures.open clean in
-    let other : c.in-Ok.version ≢ 1 = search rules in
+    let other : c.in-Ok.version ≢ 2 = search rules in
     (λ is. cc, λ _. not_missing (finds before live) (λ it. other (c.in-Ok.ensures.told clean owner it.0 long (c.lives_keep_what_was_answered.ensures lives it.0 it.1 formed).0 (c.found_is_shown.ensures owner it.0 it.2))))
 
 pub returns-in-Err-clause-found : goal.returns-in-Err-clause-found
