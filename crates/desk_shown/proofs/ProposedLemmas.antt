@@ -156,8 +156,8 @@ module _ (owner : List ℕ) (cs : History) where
         → IsGiven (proposals_for cs (callers.Person name)) (Ok given) shows
     gives_officer p e h given shown = subst (λ d. IsGiven d (Ok given) shows) (sym (due_if p e true h)) shown
 
-  pub gives_all : (name : List ℕ) {B : Type 0} (items : B → List ShownProposal) (p : Person) → filter (has_name name) (tables owner cs).people ≡ listed (Some p) → is_officer p.role ≡ true
-      → All IsStamped (tables owner cs).proposals → (given : B) → AreListed (items given) (tables owner cs)
+  pub gives_all : (name : List ℕ) {B : Type 0} (p : Person) → filter (has_name name) (tables owner cs).people ≡ listed (Some p) → is_officer p.role ≡ true
+      → All IsStamped (tables owner cs).proposals → (given : B) (items : B → List ShownProposal) → AreListed (items given) (tables owner cs)
       → IsGiven (proposals_for cs (callers.Person name)) (Ok given) (λ ps shown. items shown ≡ map (shown_proposal cs) ps)
-  gives_all name items p e h stamped given it =
+  gives_all name p e h stamped given items it =
       gives_officer name (λ ps shown. items shown ≡ map (shown_proposal cs) ps) p e h given (are_shown stamped (items given) it)
