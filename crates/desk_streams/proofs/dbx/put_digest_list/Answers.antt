@@ -1,4 +1,5 @@
 use Rattle.std.proofs.Common.{◌≤◌, ◌∙◌, sym, subst, rules}
+use Rattle.std.proofs.KnownBytes.{Appends-nil}
 use Rattle.std.proofs.lemmas.Result.{err_from_is_err_and}
 use Rattle.siglist.specs.Writing.{sha256_entry_bytes, sha256_head_bytes, sha256_parts}
 use Rattle.desk_texts.specs.declared.kind.ListedKind.TheVariants as kinds
@@ -7,9 +8,23 @@ use Rattle.desk_history.specs.Revocations.{revocations}
 use Rattle.desk_exports.specs.Exports.{revoked}
 use Rattle.desk_streams.specs.Exporting.{Exports}
 use Rattle.desk_reads.specs.declared.counts.Counted.TheVariants as what
+use Rattle.desk_bytes.proofs.OutputLemmas.{AppendsBeginning-none}
 use Rattle.desk_streams.proofs.CountedLemmas.{head_stopped, whole}
 use Rattle.desk_streams.proofs.PartLemmas.{length_ascending, sha256-none, sha256-some}
+use Rattle.desk_streams.proofs.StepLemmas.{stopped_read}
 use Rattle.desk_streams.proofs.dbx.put_digest_list.Goals as goal
+
+-- the list would be too long: nothing of it is written
+pub returns-in_err-count : goal.returns-in_err-count
+returns-in_err-count g c =
+    let old = c.args.conn.now in
+    let mid = c.size.new.conn in
+    let owner = c.args.owner in
+    let had = g.W.Write.contents c.args.writer.now in
+    let p = err_from_is_err_and c.from_residual-in_err-count.result c.from_residual-in_err-count.ensures.1 in
+    subst (λ r. Exports g.S.Store old mid had had r (λ _ cs. sha256_parts owner (revoked kinds.Digest cs))) (sym p.1)
+    (stopped_read g.S.Store old mid had had p.0 (λ _ cs. sha256_parts owner (revoked kinds.Digest cs)) c.in_ok-counted.ensures.same c.in_ok-counted.ensures.survives
+    (λ clean by cs was. AppendsBeginning-none had had (sha256_parts owner (revoked kinds.Digest cs)) (Appends-nil had)))
 
 pub returns-in_err-sha256_head : goal.returns-in_err-sha256_head
 returns-in_err-sha256_head g c =
