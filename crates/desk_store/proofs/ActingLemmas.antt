@@ -41,8 +41,8 @@ next_joined cs c in_ = rw in_ refl
 -- the history after a call is a desk's
 pub next_history : (cs : History) (c : Call) → IsHistory cs → IsCall c → IsHistory (next cs c)
 next_history cs c history formed = record {
-  legal = next_legal cs c history.legal;
-  formed = by_next (All IsItem) cs c history.formed (λ _. All-cons IsItem (item c) cs formed history.formed);
+  legal = next_legal cs (item c) refl history.legal;
+  formed = by_next (All IsItem) cs (item c) history.formed (λ _. All-cons IsItem (item c) cs formed history.formed);
 }
 
 -- what is right of the tables before a call that isn't accepted is right after it

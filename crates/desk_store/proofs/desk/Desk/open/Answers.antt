@@ -11,8 +11,8 @@ use Rattle.desk_store.proofs.ReopeningLemmas.{never_version, no_failure, not_mis
 use Rattle.desk_store.proofs.SizeLemmas.{unknown_are_right}
 use Rattle.desk_store.proofs.desk.Desk.open.Goals as goal
 
-pub returns-else-version-ne-VERSION-clause-ok : goal.returns-else-version-ne-VERSION-clause-ok
-returns-else-version-ne-VERSION-clause-ok g c clean owner cs history shows left = record {
+pub returns-else-version-from-clause-ok : goal.returns-else-version-from-clause-ok
+returns-else-version-from-clause-ok g c clean owner cs history shows left = record {
   usable = refl;
   history = history;
   shows = c.read_version.ensures.shown clean owner cs shows;
@@ -20,13 +20,13 @@ returns-else-version-ne-VERSION-clause-ok g c clean owner cs history shows left 
   left = still_leaves (λ db. HoldsHistory db owner cs) (state g.S.Store c.args.conn) (state g.S.Store c.read_version.new.conn) c.read_version.ensures.survives left;
 }
 
-pub returns-else-version-ne-VERSION-clause-read : goal.returns-else-version-ne-VERSION-clause-read
-returns-else-version-ne-VERSION-clause-read g c clean schema contents rows of_desk shows has =
+pub returns-else-version-from-clause-read : goal.returns-else-version-from-clause-read
+returns-else-version-from-clause-read g c clean schema contents rows of_desk shows has =
     let two : c.in-Ok.version ≡ 2 = search rules in
     subst (AreOf rows) two (c.in-Ok.ensures.read clean schema contents rows of_desk shows has)
 
-pub returns-else-version-ne-VERSION-clause-lives : goal.returns-else-version-ne-VERSION-clause-lives
-returns-else-version-ne-VERSION-clause-lives g c clean owner lives formed finds =
+pub returns-else-version-from-clause-lives : goal.returns-else-version-from-clause-lives
+returns-else-version-from-clause-lives g c clean owner lives formed finds =
     let before : HasCleanDisk (state g.S.Store c.args.conn) = omega (arith, c.read_version.ensures.survives.clean, clean) in
     let live : IsTrue (state g.S.Store c.args.conn).is_open = c.in-Ok.ensures.open clean in
     ∥∥₁_map (finds before live) (λ it. let cs = it.0 in
@@ -36,14 +36,14 @@ returns-else-version-ne-VERSION-clause-lives g c clean owner lives formed finds 
       cs,
       record {
         ends = it.1;
-        shows = returns-else-version-ne-VERSION-clause-ok g c clean owner cs law.0 shows left;
+        shows = returns-else-version-from-clause-ok g c clean owner cs law.0 shows left;
         once = c.keys_stand_once.ensures cs law.0.legal;
         answered = law.1;
       },
     ))
 
-pub returns-then-version-ne-VERSION-clause-found : goal.returns-then-version-ne-VERSION-clause-found
-returns-then-version-ne-VERSION-clause-found g c clean owner lives long formed finds =
+pub returns-then-version-from-clause-found : goal.returns-then-version-from-clause-found
+returns-then-version-from-clause-found g c clean owner lives long formed finds =
     let before : HasCleanDisk (state g.S.Store c.args.conn) = omega (arith, c.read_version.ensures.survives.clean, clean) in
     let live : IsTrue (state g.S.Store c.args.conn).is_open = c.in-Ok.ensures.open clean in
     let other : c.in-Ok.version ≢ 2 = search rules in
