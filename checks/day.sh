@@ -1,9 +1,9 @@
 #!/bin/sh
-# A day of a desk at the command line, with the built program or the one that is named: day.sh [PROGRAM]. A desk is made,
-# six people are added, an image is judged, and all is exported; each output, error line and status is compared with what has
-# to be there. Then each fault of each subcommand in its order, two terminals at one file, and a writer that is full. Rows
-# that only HTTP commands will write are put in by sqlite3, which also reads the file; without sqlite3 that part is left out.
-# Not part of the gate.
+# A day of a desk at the command line, with the built program or the one that is named: day.sh [PROGRAM]. A desk is made, seven
+# people are added, an image is judged, and all is exported; each output, error line and status is compared with what has to be
+# there. Then each fault of each subcommand in its order, two terminals at one file, and a writer that is full. Then two officers
+# list, propose, confirm and drop by `answer`, one request each, and after each change what is exported and judged is compared.
+# At the end sqlite3 reads the file; without sqlite3 that part is left out. Not part of the gate: it needs xxd.
 set -eu
 root=$(CDPATH='' cd -- "$(dirname -- "$(readlink -f -- "$0")")/.." && pwd -P)
 if [ $# -gt 0 ]; then
@@ -20,7 +20,6 @@ room=$(mktemp -d)
 trap 'rm -rf "$room"' EXIT
 cd "$room"
 runs=0
-tab=$(printf '\t')
 
 # run STATUS OUTPUT ERROR INPUT WORD..: runs the program on the words; OUTPUT and INPUT are files, ERROR a line.
 run() {
@@ -45,20 +44,29 @@ exported() {
 # says TEXT FILE: the file has this text.
 says() { printf '%s\n' "$1" > "$2"; }
 
+# token NAME: what the desk keeps of this person's token.
+token() { tr -d '\n' < "$1" | sha256sum | cut -d' ' -f1; }
+
+# kept CALLER KEY TEXT REPLY: the minutes have this call more.
+kept() {
+    number=$((number + 1))
+    printf '%s\t' "$number" "$1" "$2" "$3" > line
+    says "$4" reply
+    cat line reply >> minutes
+}
+
 # ---- the day
 
 : > nothing
 run 0 nothing '' nothing init desk.db "$owner"
 number=0
 : > minutes
-for person in ann/submitter rita/reviewer raul/reviewer rosa/reviewer sid/signer olga/officer; do
-    name=${person%/*} role=${person#*/} number=$((number + 1))
-    says "$name-token-00000$number" "$name"
+for person in ann/submitter rita/reviewer raul/reviewer rosa/reviewer sid/signer olga/officer otto/officer; do
+    name=${person%/*} key=k$((number + 1))
+    says "$name-token-00000${key#k}" "$name"
     says "added $name" added
-    run 0 added '' "$name" person desk.db "$name" "$role" "k$number"
-    kept=$(printf '%s' "$name-token-00000$number" | sha256sum | cut -d' ' -f1)
-    says "$number${tab}console${tab}k$number${tab}add-person $name $role $kept${tab}added $name" line
-    cat line >> minutes
+    run 0 added '' "$name" person desk.db "$name" "${person#*/}" "$key"
+    kept console "$key" "add-person $name ${person#*/} $(token "$name")" "added $name"
 done
 says 'sbat,1,2021030218' level
 says 'refused not-listed' not_listed
@@ -161,8 +169,8 @@ until "$program" verdict desk.db text > /dev/null 2> err; [ "$(cat err)" = 'devi
     if [ "$tries" -gt 100 ]; then echo 'the desk was never in use' >&2; exit 1; fi
     sleep 0.1
 done
-says 'uwe-token-0000001' uwe
-run 3 nothing 'device 45 File' uwe person desk.db uwe signer k7
+says 'uwe-token-0000008' uwe
+run 3 nothing 'device 45 File' uwe person desk.db uwe signer k8
 cat "$signed" > image
 status=0
 wait "$judge" || status=$?
@@ -172,7 +180,9 @@ if [ "$status" -ne 1 ] || ! cmp -s judged not_listed; then
 fi
 exported minutes minutes desk.db
 says 'added uwe' added
-run 0 added '' uwe person desk.db uwe signer k7
+run 0 added '' uwe person desk.db uwe signer k8
+kept console k8 "add-person uwe signer $(token uwe)" 'added uwe'
+exported minutes minutes desk.db
 
 # ---- help, in the order of a day's work
 
@@ -191,22 +201,55 @@ for subcommand in $subcommands; do
     fi
 done
 
-# ---- sqlite3 reads the file, and writes what HTTP commands will
+# ---- officers: what is listed at once, what is revoked by two of them
 
-if ! command -v sqlite3 > /dev/null; then
-    echo "$runs runs, each as it has to be; no sqlite3, so the rest is left out"
-    exit 0
-fi
-[ "$(sqlite3 desk.db 'PRAGMA integrity_check')" = ok ] || { echo 'sqlite3 finds a fault' >&2; exit 1; }
-sqlite3 desk.db "SELECT no, caller, key, text, reply FROM calls ORDER BY no" | tr '|' '\t' > found
-says "7${tab}console${tab}k7${tab}add-person uwe signer $(printf '%s' uwe-token-0000001 | sha256sum | cut -d' ' -f1)${tab}added uwe" line
-cat line >> minutes
-cmp found minutes || { echo 'sqlite3 reads other minutes' >&2; exit 1; }
-exported minutes minutes desk.db
-[ "$(sqlite3 desk.db 'SELECT count(*) FROM people')" = 7 ] || { echo 'sqlite3 counts other people' >&2; exit 1; }
-sqlite3 other.db 'CREATE TABLE note (id INTEGER PRIMARY KEY)'
-run 1 nothing 'refused 43 NotADesk' nothing verdict other.db missing.efi
-run 1 nothing 'refused 46 Exists' nothing init other.db "$owner"
+# asked STATUS JSON: the file `request` is answered so.
+asked() {
+    printf 'HTTP/1.1 %s\r\nContent-Type: application/json\r\nContent-Length: %s\r\nConnection: close\r\n\r\n%s' \
+        "$1" "${#2}" "$2" > response
+    run 0 response '' request answer desk.db
+}
+# posts STATUS JSON NAME KEY PATH BODY [FIELD..]: this person's request, with the file BODY, is answered so.
+posts() {
+    answer=$1 json=$2 name=$3 key=$4 path=$5 body=$6
+    shift 6
+    {
+        printf 'POST %s HTTP/1.1\r\nDesk-Token: %s\r\nDesk-Key: %s\r\n' "$path" "$(cat "$name")" "$key"
+        for field in "$@"; do printf '%s\r\n' "$field"; done
+        printf 'Content-Length: %s\r\n\r\n' "$(wc -c < "$body")"
+        cat "$body"
+    } > request
+    asked "$answer" "$json"
+}
+# gets STATUS JSON NAME PATH
+gets() {
+    printf 'GET %s HTTP/1.1\r\nDesk-Token: %s\r\n\r\n' "$4" "$(cat "$3")" > request
+    asked "$1" "$2"
+}
+# refused STATUS NUMBER REFUSAL NAME KEY PATH BODY: it is refused so; the key stays free.
+refused() {
+    answer=$1 json="{\"name\":\"$3\",\"refused\":$2}"
+    shift 3
+    posts "$answer" "$json" "$@"
+}
+# lists KEY TEXT PATH BODY: olga lists this.
+lists() {
+    posts '200 OK' '{"reply":"listed"}' olga "$1" "$3" "$4"
+    kept olga "$1" "$2" listed
+}
+# proposes PROPOSAL NAME KEY TEXT PATH BODY [FIELD..]: this person proposes this.
+proposes() {
+    proposal=$1 text=$4 proposer=$2 under=$3
+    shift 4
+    posts '200 OK' "{\"proposal\":$proposal,\"reply\":\"proposed\"}" "$proposer" "$under" "$@"
+    kept "$proposer" "$under" "$text" "proposed $proposal"
+}
+# confirms PROPOSAL NAME KEY DIGESTS CERTIFICATES COMPONENTS: this person confirms it, with so many of each that are new.
+confirms() {
+    counts="{\"certificates\":$5,\"components\":$6,\"digests\":$4,\"passed\":0,\"proposal\":$1,\"reply\":\"confirmed\"}"
+    posts '200 OK' "$counts" "$2" "$3" "/proposals/$1/confirm" nothing
+    kept "$2" "$3" "confirm $1" "confirmed $1 $4 $5 $6 0"
+}
 
 # hex FILE HEX..: the file has these bytes.
 hex() {
@@ -216,44 +259,143 @@ hex() {
 }
 # of BYTE: a digest of this byte alone.
 of() { printf "%064d" 0 | sed "s/00/$1/g"; }
+# digest_of FILE HEX: the file is the JSON that names this digest.
+digest_of() { says "{\"digest\":\"$2\"}" "$1"; }
 certificate=1b65f68a522c858715f5dd951cd0402dc16691778814bf0759822b7a257421d0
 digest=bcabe797dca41d55885a111442fb3b62d3704704d545b54adb64d4a0d1c9b9d1
-sqlite3 desk.db "INSERT INTO listed VALUES ('certificate', X'$certificate', X'30053003020101')"
+hex certificate 30053003020101
+digest_of named_certificate "$certificate"
+digest_of named_digest "$digest"
+for byte in aa bb cc; do digest_of "named_$byte" "$(of "$byte")"; done
+
+lists k1 "list-certificate $certificate 30053003020101" /db/certificates certificate
 hex db a159c0a5e494a74a87b5ab155c2bf072 33000000 00000000 17000000 "$stored" 30053003020101
 exported db db desk.db
 says allowed allowed
 run 0 allowed '' nothing verdict desk.db "$signed"
 run 1 not_listed '' nothing verdict desk.db "$root/examples/tiny.efi"
-sqlite3 desk.db "INSERT INTO components VALUES ('shim', 2), ('grub', 4); UPDATE desk SET stamp = 2024010100"
+
+# What is proposed changes nothing, until another officer confirms it.
+printf 'kind,value,generation\nsbat,shim,2\nsbat,grub,4\n' > csv
+proposes 1 olga k2 'import 2024010100 0 - - 2:shim,4:grub' /imports/csv csv 'Desk-Stamp: 2024010100'
+exported level level desk.db
+run 0 allowed '' nothing verdict desk.db "$signed"
+refused '409 Conflict' 38 OwnProposal olga k0 /proposals/1/confirm nothing
+refused '403 Forbidden' 21 NotYourRole ann k0 /proposals/1/confirm nothing
+refused '404 Not Found' 37 NoSuchProposal otto k0 /proposals/2/confirm nothing
+refused '404 Not Found' 37 NoSuchProposal otto k0 /proposals/01/confirm nothing
+exported minutes minutes desk.db
+confirms 1 otto k1 0 0 2
+refused '409 Conflict' 39 ProposalClosed otto k0 /proposals/1/confirm nothing
+refused '409 Conflict' 39 ProposalClosed olga k0 /proposals/1/drop nothing
 printf 'sbat,1,2024010100\ngrub,4\nshim,2\n' > level
 exported level level desk.db
 says 'refused sbat grub 3 4' refused
 run 1 refused '' nothing verdict desk.db "$signed"
-sqlite3 desk.db "INSERT INTO listed VALUES ('digest', X'$(of bb)', X''), ('digest', X'$digest', X''), ('digest', X'$(of aa)', X'')"
+
+# What is dropped is closed.
+says '{"component":"grub","generation":4,"stamp":2024010101}' raise
+refused '409 Conflict' 31 NotHigher olga k0 /level raise
+says '{"component":"grub","generation":5,"stamp":2024010101}' raise
+proposes 2 olga k3 'raise grub 5 2024010101' /level raise
+posts '200 OK' '{"proposal":2,"reply":"dropped"}' olga k4 /proposals/2/drop nothing
+kept olga k4 'drop 2' 'dropped 2'
+refused '409 Conflict' 39 ProposalClosed otto k0 /proposals/2/confirm nothing
+exported level level desk.db
+
+lists k5 "list-digest $(of bb)" /db/digests named_bb
+lists k6 "list-digest $digest" /db/digests named_digest
+lists k7 "list-digest $(of aa)" /db/digests named_aa
 hex db 2616c4c14c509240aca941f936934328 ac000000 00000000 30000000 "$stored" "$(of aa)" "$stored" "$(of bb)" "$stored" "$digest" \
     a159c0a5e494a74a87b5ab155c2bf072 33000000 00000000 17000000 "$stored" 30053003020101
 exported db db desk.db
-printf '0 sha256 3\n172 x509 1\n' > lists
-run 0 lists '' nothing list db
-sqlite3 desk.db "INSERT INTO revoked_certificates VALUES (X'$certificate')"
+printf '0 sha256 3\n172 x509 1\n' > lists_read
+run 0 lists_read '' nothing list db
+
+proposes 3 olga k8 "revoke-certificate $certificate" /dbx/certificates named_certificate
+exported nothing dbx desk.db
+run 1 refused '' nothing verdict desk.db "$signed"
+confirms 3 otto k2 0 1 0
 hex dbx 92a4d23bc0967940b420fcf98ef103ed 5c000000 00000000 40000000 "$stored" "$certificate" 00000000000000000000000000000000
 exported dbx dbx desk.db
 says 'refused dbx-certificate' refused
 run 1 refused '' nothing verdict desk.db "$signed"
-sqlite3 desk.db "INSERT INTO revoked_digests VALUES (X'$digest'), (X'$(of cc)')"
+
+# Each officer proposes, and the other one confirms; two proposals of one digest may be open, and one of them is confirmed.
+proposes 4 olga k9 "revoke-digest $digest" /dbx/digests named_digest
+proposes 5 otto k3 "revoke-digest $(of cc)" /dbx/digests named_cc
+proposes 6 otto k4 "revoke-digest $digest" /dbx/digests named_digest
+exported dbx dbx desk.db
+confirms 5 olga k10 1 0 0
+confirms 4 otto k5 1 0 0
+refused '409 Conflict' 30 AlreadyRevoked olga k0 /proposals/6/confirm nothing
+refused '409 Conflict' 30 AlreadyRevoked olga k0 /dbx/digests named_digest
 hex dbx 2616c4c14c509240aca941f936934328 7c000000 00000000 30000000 "$stored" "$digest" "$stored" "$(of cc)" \
     92a4d23bc0967940b420fcf98ef103ed 5c000000 00000000 40000000 "$stored" "$certificate" 00000000000000000000000000000000
 exported dbx dbx desk.db
 says 'refused dbx-digest' refused
 run 1 refused '' nothing verdict desk.db "$signed"
+
+# row PROPOSAL OFFICER STATE DIGESTS CERTIFICATES COMPONENTS: the proposal as it is shown.
+row() { printf '{"certificates":%s,"components":%s,"digests":%s,"number":%s,"officer":"%s","state":"%s"}' "$5" "$6" "$4" "$1" "$2" "$3"; }
+shown="$(row 1 olga confirmed 0 0 2),$(row 2 olga dropped 0 0 1),$(row 3 olga confirmed 0 1 0)"
+shown="$shown,$(row 4 olga confirmed 1 0 0),$(row 5 otto confirmed 1 0 0),$(row 6 otto open 1 0 0)"
+gets '200 OK' "[$shown]" olga /proposals
+gets '200 OK' "[$shown]" otto /proposals
+gets '403 Forbidden' '{"name":"NotYourRole","refused":21}' ann /proposals
+exported minutes minutes desk.db
+
+# The same proposal and the same Confirm again, under their keys, are answered again.
+posts '200 OK' '{"proposal":4,"reply":"proposed"}' olga k9 /dbx/digests named_digest
+posts '200 OK' '{"certificates":0,"components":0,"digests":1,"passed":0,"proposal":4,"reply":"confirmed"}' otto k5 \
+    /proposals/4/confirm nothing
+exported minutes minutes desk.db
 if command -v sig-list-to-certs > /dev/null; then
-    sig-list-to-certs db certs > listed || { echo 'efitools does not read db' >&2; exit 1; }
-    sig-list-to-certs dbx certs > listed || { echo 'efitools does not read dbx' >&2; exit 1; }
+    sig-list-to-certs db certs > certs_read || { echo 'efitools does not read db' >&2; exit 1; }
+    sig-list-to-certs dbx certs > certs_read || { echo 'efitools does not read dbx' >&2; exit 1; }
 fi
-sqlite3 desk.db 'UPDATE desk SET version = 2'
-for export in $exports; do
-    run 1 nothing 'refused 44 Version' nothing "$export" desk.db
+
+# ---- sqlite3 reads the file
+
+if ! command -v sqlite3 > /dev/null; then
+    echo "$runs runs, each as it has to be; no sqlite3, so the rest is left out"
+    exit 0
+fi
+[ "$(sqlite3 desk.db 'PRAGMA integrity_check')" = ok ] || { echo 'sqlite3 finds a fault' >&2; exit 1; }
+# finds FILE TEXT: sqlite3 answers the text by the file.
+finds() {
+    sqlite3 desk.db "$2" > found
+    cmp -s found "$1" || { echo "sqlite3, of $2:" >&2; cat found >&2; exit 1; }
+}
+tr '\t' '|' < minutes > rows
+finds rows 'SELECT no, caller, key, text, reply FROM calls ORDER BY no'
+says '8' rows
+finds rows 'SELECT count(*) FROM people'
+cat > rows << 'ROWS'
+1|olga|import|2024010100|0|confirmed
+2|olga|level|2024010101|0|dropped
+3|olga|certificate|0|0|confirmed
+4|olga|digest|0|0|confirmed
+5|otto|digest|0|0|confirmed
+6|otto|digest|0|0|open
+ROWS
+finds rows 'SELECT no, officer, kind, stamp, passed, state FROM proposals ORDER BY no'
+{
+    printf '1|0|component||shim|2\n1|1|component||grub|4\n2|0|component||grub|5\n'
+    printf '%s|0|%s|%s||0\n' 3 certificate "$certificate" 4 digest "$digest" 5 digest "$(of cc)" 6 digest "$digest"
+} > rows
+finds rows 'SELECT proposal, place, kind, lower(hex(digest)), name, generation FROM proposal_items ORDER BY proposal, place'
+says '2|1|0' rows
+finds rows 'SELECT version, migrated.id, calls FROM desk, migrated'
+sqlite3 other.db 'CREATE TABLE note (id INTEGER PRIMARY KEY)'
+run 1 nothing 'refused 43 NotADesk' nothing verdict other.db missing.efi
+run 1 nothing 'refused 46 Exists' nothing init other.db "$owner"
+for version in 1 3; do
+    sqlite3 desk.db "UPDATE desk SET version = $version"
+    for export in $exports; do
+        run 1 nothing 'refused 44 Version' nothing "$export" desk.db
+    done
+    run 1 nothing 'refused 44 Version' nothing verdict desk.db missing.efi
 done
-run 1 nothing 'refused 44 Version' nothing verdict desk.db missing.efi
 
 echo "$runs runs, each as it has to be"

@@ -1,7 +1,7 @@
 #!/bin/sh
-# curl against `desk serve`, with the built program or the one that is named: http.sh [PROGRAM]. A desk of six people takes
-# a day of requests over every route, and each status, field and body of a response is compared with what has to be there; the
-# same requests with the same keys a second time are answered the same and leave the same minutes. Then what HTTP itself is
+# curl against `desk serve`, with the built program or the one that is named: http.sh [PROGRAM]. A desk of seven people, two of them
+# officers, takes a day of requests over every route, and each status, field and body of a response is compared with what has to be
+# there; the same requests with the same keys a second time are answered the same and leave the same minutes. Then what HTTP itself is
 # refused for, a body that is cut short, `Expect`, an image of 64 MiB, three clients at once, the faults of `serve` and `answer`,
 # a connection that ends without a request and one that pauses. Each run of the program, of curl and of the raw client ends after a
 # stated time, so the script ends by itself. It takes ports from 20000 to 32000. Not part of the gate: it needs curl, python3 and xxd.
@@ -110,6 +110,7 @@ token_of() {
         rosa) echo rosa-token-000004 ;;
         sid) echo sid-token-000005 ;;
         olga) echo olga-token-000006 ;;
+        otto) echo otto-token-000007 ;;
     esac
 }
 at() { echo "http://127.0.0.1:$port$1"; }
@@ -161,6 +162,7 @@ body no '{"vote": "no", "note": ""}'
 tbs=$(printf 3003020101 | xxd -r -p | sha256sum | cut -d' ' -f1)
 body revoke_tbs "{\"digest\":\"$tbs\"}"
 body revoke_aa "{\"digest\":\"$(of AA)\"}"
+body revoke_ee "{\"digest\":\"$(of ee)\"}"
 body list_bb "{\"digest\":\"$(of bb)\"}"
 body unlist_bb "{\"digest\":\"$(of bb)\",\"kind\":\"digest\"}"
 body raise_grub '{"component":"grub","generation":3,"stamp":2024010100}'
@@ -176,7 +178,7 @@ digest_of() { desk facts "$1" | sed -n "s/^$2 //p"; }
 people() {
     desk init desk.db "$owner"
     number=0
-    for person in ann/submitter rita/reviewer raul/reviewer rosa/reviewer sid/signer olga/officer; do
+    for person in ann/submitter rita/reviewer raul/reviewer rosa/reviewer sid/signer olga/officer otto/officer; do
         name=${person%/*} number=$((number + 1))
         token_of "$name" | desk person desk.db "$name" "${person#*/}" "k$number" > person
         [ "$(cat person)" = "added $name" ] || fail "person $name: $(cat person)"
@@ -184,8 +186,16 @@ people() {
 }
 people
 
+# proposes PROPOSAL: what was put is proposal so-and-so.
+proposes() { with json '200 OK' "{\"proposal\":$1,\"reply\":\"proposed\"}"; }
+# confirms PROPOSAL KEY CERTIFICATES COMPONENTS DIGESTS PASSED: otto confirms it, with so many of each.
+confirms() {
+    post otto "$2" "/proposals/$1/confirm" nothing
+    with json '200 OK' "{\"certificates\":$3,\"components\":$4,\"digests\":$5,\"passed\":$6,\"proposal\":$1,\"reply\":\"confirmed\"}"
+}
+
 # The commands of the day, on every route that has one. A second time with the same keys they are answered the same.
-commands=20
+commands=30
 day() {
     post ann k1 /requests "$plain" 'Desk-Title: A'
     with json '200 OK' '{"reply":"submitted","request":1}'
@@ -210,21 +220,33 @@ day() {
     post olga k3 /db/unlist unlist_bb
     with json '200 OK' '{"reply":"unlisted"}'
     post olga k4 /dbx/digests revoke_aa
-    with json '200 OK' '{"reply":"revoked"}'
+    proposes 1
+    confirms 1 k1 0 0 1 0
     post olga k5 /level raise_grub
-    with json '200 OK' '{"reply":"raised"}'
+    proposes 2
+    confirms 2 k2 0 1 0 0
     post olga k6 /imports/dbx lists
-    with json '200 OK' '{"certificates":1,"components":0,"digests":0,"passed":1,"reply":"imported"}'
+    proposes 3
+    confirms 3 k3 1 0 0 1
     post olga k7 /imports/dbx lists
-    with json '200 OK' '{"certificates":0,"components":0,"digests":0,"passed":1,"reply":"imported"}'
+    proposes 4
+    confirms 4 k4 0 0 0 1
     post olga k8 /imports/csv csv 'Desk-Stamp: 2024010101'
-    with json '200 OK' '{"certificates":0,"components":1,"digests":1,"passed":0,"reply":"imported"}'
+    proposes 5
+    confirms 5 k5 0 1 1 0
     post olga k9 /imports/csv csv
-    with json '200 OK' '{"certificates":0,"components":0,"digests":0,"passed":0,"reply":"imported"}'
+    proposes 6
+    confirms 6 k6 0 0 0 0
     post olga k10 /imports/level level_text
-    with json '200 OK' '{"certificates":0,"components":2,"digests":0,"passed":0,"reply":"imported"}'
+    proposes 7
+    confirms 7 k7 0 2 0 0
     post olga k11 /dbx/certificates revoke_tbs
-    with json '200 OK' '{"reply":"revoked"}'
+    proposes 8
+    confirms 8 k8 1 0 0 0
+    post otto k9 /dbx/digests list_bb
+    proposes 9
+    post olga k12 /proposals/9/drop nothing
+    with json '200 OK' '{"proposal":9,"reply":"dropped"}'
     post ann k4 /requests "$plain" 'Desk-Title: D'
     with json '200 OK' '{"reply":"submitted","request":4}'
 }
@@ -232,7 +254,7 @@ serve "$commands"
 day
 served 0
 desk minutes desk.db > minutes
-[ "$(wc -l < minutes)" -eq $((6 + commands)) ] || fail "minutes: $(cat minutes)"
+[ "$(wc -l < minutes)" -eq $((7 + commands)) ] || fail "minutes: $(cat minutes)"
 serve "$commands"
 day
 served 0
@@ -258,7 +280,14 @@ fourth=$(request 4 null open ann D '')
 desk dbx desk.db > dbx
 desk db desk.db > db
 desk level desk.db > level
-serve 19
+# proposal NUMBER OFFICER STATE DIGESTS CERTIFICATES COMPONENTS: as it is shown.
+proposal() {
+    printf '{"certificates":%s,"components":%s,"digests":%s,"number":%s,"officer":"%s","state":"%s"}' "$5" "$6" "$4" "$1" "$2" "$3"
+}
+proposals=$(proposal 1 olga confirmed 1 0 0),$(proposal 2 olga confirmed 0 0 1),$(proposal 3 olga confirmed 1 1 0)
+proposals=$proposals,$(proposal 4 olga confirmed 1 1 0),$(proposal 5 olga confirmed 1 0 2),$(proposal 6 olga confirmed 1 0 2)
+proposals=$proposals,$(proposal 7 olga confirmed 0 0 2),$(proposal 8 olga confirmed 0 1 0),$(proposal 9 otto dropped 1 0 0)
+serve 31
 get ann /requests/1
 with json '200 OK' "$first"
 get ann /requests
@@ -281,7 +310,7 @@ get ann /report
 with refused '403 Forbidden' 21 NotYourRole
 get olga /report
 with call || fail 'no report'
-grep -q '^people  *6$' body && grep -q '^signed  *1$' body && grep -q '^stamp  *2024010102$' body || fail "report: $(cat body)"
+grep -q '^people  *7$' body && grep -q '^signed  *1$' body && grep -q '^stamp  *2024010102$' body || fail "report: $(cat body)"
 post ann k9 /verdict signed
 with json '200 OK' '{"verdict":"dbx-certificate"}'
 post ann k9 /verdict "$plain"
@@ -294,19 +323,43 @@ post rita k5 /requests/4/review yes
 with refused '409 Conflict' 26 AlreadyReviewed
 post sid k3 /requests/1/return other
 with refused '409 Conflict' 24 WrongState
-post olga k12 /dbx/digests revoke_aa
+post olga k20 /dbx/digests revoke_aa
 with refused '409 Conflict' 30 AlreadyRevoked
-post olga k13 /level raise_grub
+post olga k20 /level raise_grub
 with refused '409 Conflict' 31 NotHigher
+get otto /proposals
+with json '200 OK' "[$proposals]"
+get ann /proposals
+with refused '403 Forbidden' 21 NotYourRole
+post olga k13 /dbx/digests revoke_ee
+proposes 10
+get olga /proposals
+with json '200 OK' "[$proposals,$(proposal 10 olga open 1 0 0)]"
+post olga k20 /proposals/10/confirm nothing
+with refused '409 Conflict' 38 OwnProposal
+post rita k20 /proposals/10/confirm nothing
+with refused '403 Forbidden' 21 NotYourRole
+post otto k20 /proposals/9/confirm nothing
+with refused '409 Conflict' 39 ProposalClosed
+post olga k20 /proposals/1/drop nothing
+with refused '409 Conflict' 39 ProposalClosed
+post otto k20 /proposals/11/confirm nothing
+with refused '404 Not Found' 37 NoSuchProposal
+post otto k20 /proposals/11/drop nothing
+with refused '404 Not Found' 37 NoSuchProposal
+post otto k20 /proposals/010/confirm nothing
+with refused '404 Not Found' 37 NoSuchProposal
+post otto k1 /proposals/10/confirm nothing
+with refused '409 Conflict' 22 KeyReused
 served 0
 desk minutes desk.db > minutes
-[ "$(wc -l < minutes)" -eq $((6 + commands + 1)) ] || fail "minutes: $(cat minutes)"
+[ "$(wc -l < minutes)" -eq $((7 + commands + 2)) ] || fail "minutes: $(cat minutes)"
 
 # ---- what HTTP is refused for
 
 head -c 5000000 /dev/zero > long
 head -c 20000 /dev/zero | tr '\0' a > wide
-serve 20
+serve 25
 refused '401 Unauthorized' 20 UnknownCaller "$(at /level)"
 [ "$(field WWW-Authenticate)" = Desk ] || fail "401: $(cat head)"
 refused '401 Unauthorized' 20 UnknownCaller -H 'Desk-Token: nobody-token-0001' "$(at /level)"
@@ -317,6 +370,14 @@ with refused '404 Not Found' 53 NoRoute
 get ann /imports/csv
 with refused '405 Method Not Allowed' 54 BadMethod
 [ "$(field Allow)" = POST ] || fail "405: $(cat head)"
+get otto /proposals/10
+with refused '404 Not Found' 53 NoRoute
+get otto /proposals/10/drop
+with refused '405 Method Not Allowed' 54 BadMethod
+[ "$(field Allow)" = POST ] || fail "405: $(cat head)"
+post otto k20 /proposals nothing
+with refused '405 Method Not Allowed' 54 BadMethod
+[ "$(field Allow)" = GET ] || fail "405: $(cat head)"
 get ann /level
 with refused '405 Method Not Allowed' 54 BadMethod -X DELETE
 [ "$(field Allow)" = 'GET, POST' ] || fail "405: $(cat head)"
@@ -326,6 +387,10 @@ get ann /level
 with refused '400 Bad Request' 51 BadField -X GET --data-binary @yes
 get olga /dbx/digests
 with refused '411 Length Required' 55 LengthNeeded -X POST
+get otto /proposals/10/confirm
+with refused '411 Length Required' 55 LengthNeeded -X POST
+post otto 'a key' /proposals/010/confirm nothing
+with refused '400 Bad Request' 51 BadField
 post olga k20 /dbx/digests yes 'Transfer-Encoding: chunked'
 with refused '501 Not Implemented' 57 NotSupported
 post olga k20 /dbx/digests long
@@ -476,7 +541,7 @@ served 0
 
 desk list dbx > lists_read
 desk minutes desk.db > minutes
-[ "$(wc -l < minutes)" -eq $((6 + commands + 2)) ] || fail "minutes: $(cat minutes)"
+[ "$(wc -l < minutes)" -eq $((7 + commands + 3)) ] || fail "minutes: $(cat minutes)"
 desk minutes other.db > again
 cmp -s minutes again || fail "the other desk's minutes: $(cat again)"
 if command -v sqlite3 > /dev/null; then

@@ -4,14 +4,16 @@
 # itself; so a run without a stop is listed first, and the k-th of the list is met by its kind and its number in its kind. An
 # answer is written by such a call too. It fails only where it is the k-th: else it goes out, whatever of the files fails.
 #
-# First `init`, and a person on a new desk. Then each of the twelve commands on a desk that is ready for it: a person by
-# the command line, all others by `answer`. Each is stopped at k = 1, 2, .. up to the last call of its run; in a run of a hundred
-# calls or more, behind k = 20 a stride passes over some, so that some hundred stops are left. After each stop the desk opens,
-# and its minutes, dbx, db and level are those of the desk without the call, or of the desk with it; where the answer went out,
-# of the desk with it. The same call with the same key has the same answer again, and the minutes have its key once.
+# First `init`, and a person on a new desk. Then each of the fourteen commands on a desk that is ready for it: a person by
+# the command line, all others by `answer`; a Confirm of a digest, of a level and of an import. Each is stopped at k = 1, 2, .. up to
+# the last call of its run; in a run of a hundred calls or more, behind k = 20 a stride passes over some, so that some hundred stops
+# are left. After each stop the desk opens, and its minutes, dbx, db, level and proposals are those of the desk without the call, or
+# of the desk with it; where the answer went out, of the desk with it. The same call with the same key has the same answer again, and
+# the minutes have its key once.
 #
-# Then ten lives of one desk, each with a person whose call is stopped; and ten lives of a desk that revoked an image's digest:
-# other commands are stopped, dbx keeps the digest, and the image stays refused. Not part of the gate: it needs strace.
+# Then ten lives of one desk, each with a person whose call is stopped; and ten lives of a desk where a second officer confirmed the
+# revocation of an image's digest: other commands are stopped, dbx keeps the digest, and the image stays refused. Not part of the
+# gate: it needs strace.
 set -eu
 root=$(CDPATH='' cd -- "$(dirname -- "$(readlink -f -- "$0")")/.." && pwd -P)
 if [ $# -gt 0 ]; then
@@ -126,14 +128,15 @@ copy() {
     for file in "$1".db*; do cp "$file" "$2${file#"$1"}"; done
 }
 
-# exported DB FOLDER: the folder has what the desk exports.
+# exported DB FOLDER: the folder has what the desk exports, and what it answers an officer who asks for the proposals.
 exported() {
     for export in $exports; do "$program" "$export" "$1" > "$2/$export" 2> err || return 1; done
+    "$program" answer "$1" < asking > "$2/proposals" 2> err || return 1
 }
 
 # same FOLDER FOLDER: they have the same exports.
 same() {
-    for export in $exports; do cmp -s "$1/$export" "$2/$export" || return 1; done
+    for export in $exports proposals; do cmp -s "$1/$export" "$2/$export" || return 1; done
 }
 
 # keys DB: the keys of the minutes of this desk, in order, on one line.
@@ -204,6 +207,7 @@ lives() {
 
 # ---- init, and a person on a new desk
 
+printf 'GET /proposals HTTP/1.1\r\nDesk-Token: %s\r\n\r\n' "$(token_of olga)" > asking
 call=init key=-
 : > input
 lists new.db
@@ -256,7 +260,7 @@ body digest_barred "{\"digest\":\"$barred\"}"
 body unlist_barred "{\"digest\":\"$barred\",\"kind\":\"digest\"}"
 
 "$program" init ready.db "$owner" > out 2> err || fail 'init'
-for person in ann/submitter rita/reviewer raul/reviewer sid/signer olga/officer; do
+for person in ann/submitter rita/reviewer raul/reviewer sid/signer olga/officer otto/officer; do
     name=${person%/*}
     token_of "$name" > input
     "$program" person ready.db "$name" "${person#*/}" "k-$name" < input > out 2> err || fail "$name isn't added"
@@ -275,8 +279,15 @@ request olga k2 /db/digests digest_aa
 takes ready.db
 request olga k3 /db/digests digest_barred
 takes ready.db
+# Three proposals for otto to confirm.
+request olga k4 /dbx/digests digest_barred
+takes ready.db
+request olga k5 /level raise_grub
+takes ready.db
+request olga k6 /imports/csv csv
+takes ready.db
 
-# ---- the twelve commands
+# ---- the fourteen commands
 
 adds eva k-eva
 meets 'a person' ready
@@ -294,14 +305,22 @@ request olga k9 /db/digests digest_bb
 meets 'a listed digest' ready
 request olga k9 /db/unlist unlist_aa
 meets 'an entry off the list' ready
-request olga k9 /dbx/digests digest_barred
-meets 'a revoked digest' ready
+request olga k9 /dbx/digests digest_cc
+meets 'a proposed digest' ready
 request olga k9 /dbx/certificates digest_cc
-meets 'a revoked certificate' ready
+meets 'a proposed certificate' ready
 request olga k9 /level raise_grub
-meets 'a raised level' ready
+meets 'a proposed level' ready
 request olga k9 /imports/csv csv
-meets 'an import' ready
+meets 'a proposed import' ready
+request otto k9 /proposals/1/confirm nothing
+meets 'a confirmed digest' ready
+request otto k9 /proposals/2/confirm nothing
+meets 'a confirmed level' ready
+request otto k9 /proposals/3/confirm nothing
+meets 'a confirmed import' ready
+request olga k9 /proposals/3/drop nothing
+meets 'a dropped import' ready
 
 # ---- ten lives
 
@@ -343,12 +362,12 @@ gives() {
         1) request olga life-1 /db/digests digest_bb ;;
         2) request olga life-2 /db/unlist unlist_barred ;;
         3) request olga life-3 /dbx/digests digest_cc ;;
-        4) request olga life-4 /imports/csv csv ;;
-        5) request olga life-5 /level raise_grub ;;
+        4) request otto life-4 /proposals/3/confirm nothing ;;
+        5) request otto life-5 /proposals/2/confirm nothing ;;
         6) request ann life-6 /requests "$signed" 'Desk-Title: a life' ;;
-        7) request rita life-7 /requests/1/review yes ;;
-        8) request olga life-8 /dbx/certificates digest_dd ;;
-        9) request olga life-9 /db/certificates another ;;
+        7) request otto life-7 /proposals/4/confirm nothing ;;
+        8) request otto life-8 /dbx/certificates digest_dd ;;
+        9) request olga life-9 /proposals/5/drop nothing ;;
         10) adds eva life-10 ;;
     esac
 }
@@ -356,7 +375,7 @@ gives() {
 for how in kill fail; do
     copy ready bar
     judged bar.db 0 allowed 'before the image is revoked'
-    request olga life-0 /dbx/digests digest_barred
+    request otto life-0 /proposals/1/confirm nothing
     takes bar.db
     life=1
     while [ "$life" -le 10 ]; do

@@ -67,10 +67,24 @@ revoked_digests|digest|BLOB|1|1
 revoked_certificates|digest|BLOB|1|1
 components|name|TEXT|1|1
 components|generation|INTEGER|1|0
+proposals|no|INTEGER|1|1
+proposals|officer|TEXT|1|0
+proposals|kind|TEXT|1|0
+proposals|stamp|INTEGER|1|0
+proposals|passed|INTEGER|1|0
+proposals|state|TEXT|1|0
+proposal_items|proposal|INTEGER|1|1
+proposal_items|place|INTEGER|1|2
+proposal_items|kind|TEXT|1|0
+proposal_items|digest|BLOB|1|0
+proposal_items|name|TEXT|1|0
+proposal_items|generation|INTEGER|1|0
+migrated|id|INTEGER|1|1
+migrated|calls|INTEGER|1|0
 people|token
 calls|caller,key
-strict 12 of 12
-desk|1|'boot-desk'|1|X'33221100554477668899aabbccddeeff'|2024010100
+strict 15 of 15
+desk|1|'boot-desk'|2|X'33221100554477668899aabbccddeeff'|2024010100
 people|'ann'|'submitter'|X'0101010101010101010101010101010101010101010101010101010101010101'
 calls|1|'console'|'k1'|'add-person'|'added ann'
 calls|2|'ann'|'k1'|'withdraw 2'|'withdrawn 2'
@@ -85,9 +99,18 @@ revoked_digests|X'1f1f1f1f1f1f1f1f1f1f1f1f1f1f1f1f1f1f1f1f1f1f1f1f1f1f1f1f1f1f1f
 revoked_certificates|X'2020202020202020202020202020202020202020202020202020202020202020'
 components|'grub'|4
 components|'shim'|2
+proposals|1|'olga'|'import'|2024010101|3|'confirmed'
+proposals|2|'otto'|'digest'|0|0|'open'
+proposal_items|1|0|'digest'|X'2a2a2a2a2a2a2a2a2a2a2a2a2a2a2a2a2a2a2a2a2a2a2a2a2a2a2a2a2a2a2a2a'|''|0
+proposal_items|1|1|'digest'|X'2929292929292929292929292929292929292929292929292929292929292929'|''|0
+proposal_items|1|2|'certificate'|X'2b2b2b2b2b2b2b2b2b2b2b2b2b2b2b2b2b2b2b2b2b2b2b2b2b2b2b2b2b2b2b2b'|''|0
+proposal_items|1|3|'component'|X''|'shim'|5
+proposal_items|2|0|'digest'|X'2929292929292929292929292929292929292929292929292929292929292929'|''|0
+migrated|1|0
 TEXT
 
-tables='desk people calls requests request_certificates request_components votes returns listed revoked_digests revoked_certificates components'
+tables='desk people calls requests request_certificates request_components votes returns listed revoked_digests revoked_certificates components
+proposals proposal_items migrated'
 ask() { sqlite3 "$room/desk.db" "$1"; }
 {
     ask 'PRAGMA integrity_check'
@@ -99,7 +122,7 @@ ask() { sqlite3 "$room/desk.db" "$1"; }
     done
     ask "SELECT 'strict ' || sum(strict) || ' of ' || count(*) FROM pragma_table_list WHERE schema = 'main' AND name NOT LIKE 'sqlite_%'"
     for table in $tables; do
-        sqlite3 -cmd '.mode quote' -cmd '.separator |' "$room/desk.db" "SELECT * FROM $table" | sed "s/^/$table|/"
+        sqlite3 -cmd '.mode quote' -cmd '.separator |' "$room/desk.db" "SELECT * FROM $table" | sed "s/^/$table|/" | LC_ALL=C sort
     done
 } > "$room/found"
 diff "$room/wanted" "$room/found"
