@@ -1,10 +1,10 @@
 #!/bin/sh
-# What other programs read of a desk's exports: exports.sh [PROGRAM]. A desk is made; sqlite3 puts 300 revoked digests, two
-# revoked certificates, three listed digests and two listed certificates into it, in no order; dbx and db are exported. `desk
-# list` has to find their lists. sig-list-to-certs of efitools has to find each entry in order, with its owner and body. dbxtool
-# has to list as many entries. And `desk list` reads what hash-to-efi-sig-list writes for an image of efitools, which has to hold the
-# digest that `desk facts` gives. Each tool is left out where it isn't installed, and named at the end. Not part of the gate: it
-# needs sqlite3, openssl and xxd.
+# What other programs read of a desk's exports: exports.sh [PROGRAM]. A desk lists three digests and two certificates; one officer
+# proposes a CSV file of 300 revoked digests and two revoked certificates, in no order, and another one confirms it; dbx and db are
+# exported. `desk list` has to find their lists. sig-list-to-certs of efitools has to find each entry in order, with its owner and
+# body. dbxtool has to list as many entries. And `desk list` reads what hash-to-efi-sig-list writes for an image of efitools, which
+# has to hold the digest that `desk facts` gives. Each tool is left out where it isn't installed, and named at the end. Not part of
+# the gate: it needs openssl and xxd.
 set -eu
 root=$(CDPATH='' cd -- "$(dirname -- "$(readlink -f -- "$0")")/.." && pwd -P)
 if [ $# -gt 0 ]; then
@@ -13,7 +13,7 @@ else
     "$root/desk" --version > /dev/null
     program=$root/crates/desk/out/desk
 fi
-for tool in sqlite3 openssl xxd; do
+for tool in openssl xxd; do
     command -v "$tool" > /dev/null || { echo "exports.sh: $tool is needed" >&2; exit 1; }
 done
 owner=00112233-4455-6677-8899-aabbccddeeff
@@ -29,24 +29,48 @@ same() {
 
 # ---- the desk
 
+# posts JSON NAME PATH BODY: the officer posts the file BODY under a new key, and is answered so.
+keys=0
+posts() {
+    keys=$((keys + 1))
+    {
+        printf 'POST %s HTTP/1.1\r\nDesk-Token: %s-token-for-exports\r\nDesk-Key: k%s\r\n' "$3" "$2" "$keys"
+        printf 'Content-Length: %s\r\n\r\n' "$(wc -c < "$4")"
+        cat "$4"
+    } > request
+    "$program" answer desk.db < request > response
+    [ "$(tail -n 1 response)" = "$1" ] || { echo "exports.sh: $3 by $2:" >&2; cat response >&2; exit 1; }
+}
 "$program" init desk.db "$owner"
+for name in olga otto; do
+    echo "$name-token-for-exports" | "$program" person desk.db "$name" officer "k-$name" > said
+done
 for number in 1 2; do
     openssl req -x509 -newkey rsa:2048 -nodes -keyout key -subj "/CN=listed $number" -days 3650 -outform DER -out "$number.der" 2> log
     # What is signed of a certificate (RFC 5280, section 4.1) is its first inner element.
     openssl asn1parse -inform DER -in "$number.der" -strparse 4 -noout -out tbs
-    digest=$(sha256sum < tbs | cut -d' ' -f1)
-    echo "INSERT INTO listed VALUES ('certificate', X'$digest', X'$(xxd -p "$number.der" | tr -d '\n')');"
-    echo "$digest $number.der" >> certificates
-done > rows
+    echo "$(sha256sum < tbs | cut -d' ' -f1) $number.der" >> certificates
+    posts '{"reply":"listed"}' olga /db/certificates "$number.der"
+done
 # Digests that don't ascend: the SHA-256 of each number.
 digest_of() { printf '%s' "$1" | sha256sum | cut -d' ' -f1; }
 for number in $(seq 300); do digest_of "revoked $number"; done > revoked
 for number in 1 2 3; do digest_of "listed $number"; done > listed
 for number in 1 2; do digest_of "certificate $number"; done > revoked_certificates
-sed "s/.*/INSERT INTO revoked_digests VALUES (X'&');/" revoked >> rows
-sed "s/.*/INSERT INTO revoked_certificates VALUES (X'&');/" revoked_certificates >> rows
-sed "s/.*/INSERT INTO listed VALUES ('digest', X'&', X'');/" listed >> rows
-{ echo 'BEGIN;'; cat rows; echo 'COMMIT;'; } | sqlite3 desk.db
+for digest in $(cat listed); do
+    echo "{\"digest\":\"$digest\"}" > named
+    posts '{"reply":"listed"}' olga /db/digests named
+done
+{
+    echo kind,value,generation
+    sed 's/.*/sha256,&,/' revoked
+    sed 's/.*/x509_sha256,&,/' revoked_certificates
+} > csv
+posts '{"proposal":1,"reply":"proposed"}' olga /imports/csv csv
+: > nothing
+"$program" dbx desk.db > dbx
+same nothing dbx 'dbx of what is only proposed'
+posts '{"certificates":2,"components":0,"digests":300,"passed":0,"proposal":1,"reply":"confirmed"}' otto /proposals/1/confirm nothing
 "$program" dbx desk.db > dbx
 "$program" db desk.db > db
 
