@@ -4,8 +4,8 @@
 # processor's cache changes. With the word `views`: the views alone, in thirty rounds in place of six. Not part of the gate.
 # For desks of 1,000, 10,000 and 100,000 accepted calls, or those given:
 #   views    each command's view and a verdict's: microseconds a call, and the ratio to the first size
-#   apply    one RevokeDigest, committed; and 2,000 of them on a new desk beside the shell, which commits the same rows
-#            one call at a time under WAL and synchronous=FULL
+#   apply    a RevokeDigest of one officer and the Confirm of another, each committed; and 1,000 of both on a new desk beside the
+#            shell, which commits the same rows one call at a time under WAL and synchronous=FULL
 #   open     beside the shell's PRAGMA integrity_check of the same file
 #   memory   the most that the process had
 # and at the end the shell holds each file sound, with the rows that were applied.

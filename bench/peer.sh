@@ -1,6 +1,6 @@
 #!/bin/sh
 # bench/peer.sh [SIZE ..]: what the keyed SELECTs of a desk's views cost SQLite's own library, on tables of as many calls, for the
-# ratios in bench/desk.sh. For files of 1,000, 10,000 and 100,000 calls, or those given, 9 in 10 of them a RevokeDigest: the view of
+# ratios in bench/desk.sh. For files of 1,000, 10,000 and 100,000 calls, or those given, a RevokeDigest and its Confirm in turn: the view of
 # a new key and one digest, of a new key and ten digests, and of a key given before and its digest, keys and digests out of all
 # calls; microseconds of processor time a view and the ratio to the first size. Nine rounds take the sizes in turn; of each the
 # median of 54 batches of 100 counts, and of the rounds the least. Statements are prepared once, each view is one transaction that is

@@ -1,10 +1,11 @@
 #!/bin/sh
-# bench/serve.sh [PROGRAM] [REQUESTS] [ROUNDS]: what requests over HTTP cost, 2,000 of a kind or as many as are given, in one run.
+# bench/serve.sh [PROGRAM] [REQUESTS] [ROUNDS]: what requests over HTTP cost, 2,000 of a kind or as many as are given, an even number, in one run.
 # One client on loopback makes one after another, a connection each. A line tells what, the desk's figure, its peer's and the
 # ratio of the two, by medians over the rounds (9), in which the processes take turns:
 #   GET /level          beside python3's own http.server, which answers the same client with the same bytes
-#   POST /dbx/digests   a new digest, key and commit each, beside sqlite3's shell, which puts the same rows as text into a file
-#                       of the same tables, one transaction a call, with WAL and synchronous=FULL
+#   POST a revocation   of one officer to /dbx/digests, a new digest each, and of another officer its Confirm, in turn, a key and a
+#                       commit each, beside sqlite3's shell, which puts the same rows as text into a file of the same tables, one
+#                       transaction a call, with WAL and synchronous=FULL
 #   memory              the most that a server had (VmHWM) after 1,000 GET /level, beside http.server's; and what an image of
 #                       128 MiB by POST /verdict then adds, beside the image's length
 # Times are those of whole processes, and then the same less an idle one of the same round: a server whose one connection has
@@ -32,10 +33,11 @@ leave() {
 trap leave EXIT
 trap 'exit 1' HUP INT TERM
 
-# ---- a desk of one officer, and an image of 128 MiB: its one section is as long as the file allows
+# ---- a desk of two officers, and an image of 128 MiB: its one section is as long as the file allows
 
 "$program" init "$room/desk.db" 00112233-4455-6677-8899-aabbccddeeff
 echo olga-token-000006 | "$program" person "$room/desk.db" olga officer k1 > "$room/person"
+echo otto-token-000007 | "$program" person "$room/desk.db" otto officer k2 > "$room/person"
 "$program" level "$room/desk.db" > "$room/level"
 cp "$root/examples/tiny.efi" "$room/image.efi"
 printf 00feff07 | xxd -r -p | dd of="$room/image.efi" bs=1 seek=344 conv=notrunc 2> "$room/dd.err"
@@ -167,24 +169,36 @@ def free_port():
 # ---- requests and their responses
 
 
-def head(line, *fields):
-    lines = [f"{line} HTTP/1.1", "Host: 127.0.0.1", "Desk-Token: olga-token-000006", *fields, ""]
+OLGA, OTTO = "olga-token-000006", "otto-token-000007"
+
+
+def head(token, line, *fields):
+    lines = [f"{line} HTTP/1.1", "Host: 127.0.0.1", f"Desk-Token: {token}", *fields, ""]
     return "".join(f"{text}\r\n" for text in lines).encode()
 
 
-def post(path, body, *fields):
-    return head(f"POST {path}", f"Content-Length: {len(body)}", *fields) + body
+def post(token, path, body, *fields):
+    return head(token, f"POST {path}", f"Content-Length: {len(body)}", *fields) + body
 
 
 def ok(kind, body):
     return f"HTTP/1.1 200 OK\r\nContent-Type: {kind}\r\nContent-Length: {len(body)}\r\nConnection: close\r\n\r\n".encode() + body
 
 
-GET = head("GET /level")
+def revocation(number, digest):
+    """The two requests of a revocation, each with the response that is due to it."""
+    proposed = post(OLGA, "/dbx/digests", b'{"digest":"%s"}' % digest.encode(), f"Desk-Key: k{number}")
+    yield proposed, ok("application/json", b'{"proposal":%d,"reply":"proposed"}' % number)
+    confirmed = post(OTTO, f"/proposals/{number}/confirm", b"", f"Desk-Key: k{number}")
+    counts = b'"certificates":0,"components":0,"digests":1,"passed":0'
+    yield confirmed, ok("application/json", b'{%s,"proposal":%d,"reply":"confirmed"}' % (counts, number))
+
+
+GET = head(OLGA, "GET /level")
 LEVEL = ok("text/plain", content("level"))
-DIGESTS = [hashlib.sha256(b"%d" % n).hexdigest() for n in range(COUNT)]
-POSTS = [post("/dbx/digests", b'{"digest":"%s"}' % digest.encode(), f"Desk-Key: k{n}") for n, digest in enumerate(DIGESTS)]
-REVOKED = ok("application/json", b'{"reply":"revoked"}')
+GET_LEVEL = [(GET, LEVEL)] * COUNT
+DIGESTS = [hashlib.sha256(b"%d" % n).hexdigest() for n in range(COUNT // 2)]
+REVOCATIONS = [each for number, digest in enumerate(DIGESTS, 1) for each in revocation(number, digest)]
 VERDICT = ok("application/json", b'{"verdict":"not-listed"}')
 
 # ---- what is timed
@@ -207,16 +221,16 @@ def plain():
     return [sys.executable, f"{ROOM}/plain.py", f"{ROOM}/answer"]
 
 
-def served(words, requests, wanted):
-    """What a server takes for these requests."""
-    server = Server(words, len(requests))
-    for request in requests:
-        server.ask(request, wanted)
+def served(words, exchanges):
+    """What a server takes for these requests, each with its response."""
+    server = Server(words, len(exchanges))
+    for request, response in exchanges:
+        server.ask(request, response)
     return server.end()
 
 
 def idle(words):
-    return served(words, [b""], b"")
+    return served(words, [(b"", b"")])
 
 
 def shell(script):
@@ -226,22 +240,28 @@ def shell(script):
         return Child(["sqlite3", "-batch", path], given).end()
 
 
-def transaction(n, digest):
-    """The rows of one POST; the desk's first call is that of its officer."""
-    call = f"INSERT INTO calls VALUES ({n + 2}, 'olga', 'k{n}', 'revoke-digest {digest}', 'revoked');"
-    return f"BEGIN;\nINSERT INTO revoked_digests VALUES (X'{digest}');\n{call}\nCOMMIT;\n"
+def transactions(number, digest):
+    """What the two requests of a revocation change; the desk's first calls are those of its officers."""
+    item = f"INSERT INTO proposal_items VALUES ({number}, 0, 'digest', X'{digest}', '', 0);"
+    row = f"INSERT INTO proposals VALUES ({number}, 'olga', 'digest', 0, 0, 'open');"
+    call = f"INSERT INTO calls VALUES ({2 * number + 1}, 'olga', 'k{number}', 'revoke-digest {digest}', 'proposed {number}');"
+    proposed = f"BEGIN;\n{item}\n{row}\n{call}\nCOMMIT;\n"
+    revoked = f"INSERT INTO revoked_digests VALUES (X'{digest}');"
+    closed = f"UPDATE proposals SET state = 'confirmed' WHERE no = {number};"
+    call = f"INSERT INTO calls VALUES ({2 * number + 2}, 'otto', 'k{number}', 'confirm {number}', 'confirmed {number} 1 0 0 0');"
+    return f"{proposed}BEGIN;\n{revoked}\n{closed}\n{call}\nCOMMIT;\n"
 
 
 PRAGMAS = "PRAGMA journal_mode=WAL;\nPRAGMA synchronous=FULL;\n"
 write("answer", LEVEL)
 write("idle.sql", f"{PRAGMAS}SELECT count(*) FROM desk;\n".encode())
-write("rows.sql", (PRAGMAS + "".join(transaction(n, digest) for n, digest in enumerate(DIGESTS))).encode())
+write("rows.sql", (PRAGMAS + "".join(transactions(number, digest) for number, digest in enumerate(DIGESTS, 1))).encode())
 RUNS = {
     "desk idle": lambda: idle(desk("read")),
-    "desk GET": lambda: served(desk("read"), [GET] * COUNT, LEVEL),
+    "desk GET": lambda: served(desk("read"), GET_LEVEL),
     "plain idle": lambda: idle(plain()),
-    "plain GET": lambda: served(plain(), [GET] * COUNT, LEVEL),
-    "desk POST": lambda: served(desk("ours"), POSTS, REVOKED),
+    "plain GET": lambda: served(plain(), GET_LEVEL),
+    "desk POST": lambda: served(desk("ours"), REVOCATIONS),
     "shell idle": lambda: shell("idle.sql"),
     "shell POST": lambda: shell("rows.sql"),
 }
@@ -255,7 +275,7 @@ def same_rows():
         found = subprocess.run(words, input=b"PRAGMA integrity_check;\n.dump\n", capture_output=True, check=True, timeout=SECONDS)
         dumps.append(found.stdout)
     ours, theirs = dumps
-    return ours == theirs and ours.startswith(b"ok\n") and ours.count(b"'revoke-digest ") == COUNT
+    return ours == theirs and ours.startswith(b"ok\n") and ours.count(b"'confirmed ") == len(DIGESTS)
 
 
 # ---- what is told
@@ -304,7 +324,7 @@ def tell_memory():
     server = asked_often(desk("read"), 2)
     before = server.most_memory()
     image = content("image.efi")
-    server.ask(post("/verdict", image), VERDICT)
+    server.ask(post(OLGA, "/verdict", image), VERDICT)
     after = server.most_memory()
     leave(server)
     tell(f"{GETS:,} GET /level, http.server: memory, bytes", before, theirs, 0)
@@ -320,7 +340,7 @@ if not same_rows():
     sys.exit("the desk and the shell hold other rows")
 print(f"{'what, beside its peer':56} {'desk':>15} {'peer':>15} {'ratio':>7}")
 tell_times(COSTS, "GET /level, http.server", "desk GET", "plain GET")
-tell_times(COSTS, "POST /dbx/digests, sqlite3", "desk POST", "shell POST")
+tell_times(COSTS, "POST a revocation, sqlite3", "desk POST", "shell POST")
 tell_memory()
 print(f"load {os.getloadavg()[0]:.1f}")
 PYTHON

@@ -13,7 +13,7 @@ SIZES = [int(size) for size in sys.argv[3:]] or [1_000, 10_000, 100_000]
 # The table VIEWS of main.rt.txt, with how many calls of each are made.
 VIEWS = [
     *((name, 100) for name in (
-        "AddPerson Submit Review Withdraw Return ListCertificate ListDigest Unlist RevokeDigest RevokeCertificate RaiseLevel"
+        "AddPerson Submit Review Withdraw Return ListCertificate ListDigest Unlist RevokeDigest RevokeCertificate RaiseLevel Confirm Drop"
     ).split()),
     ("import of 10", 100),
     ("import of 10,000", 1),

@@ -14,7 +14,9 @@ VIEWS_ALONE = sys.argv[3:4] == ["views"]
 SIZES = [int(size) for size in sys.argv[3 + VIEWS_ALONE :]] or [1_000, 10_000, 100_000]
 ROUNDS = 9
 VIEW_ROUNDS = 30 if VIEWS_ALONE else 6
+# How many calls are given one commit each; and those that a filled desk begins with.
 MANY = 2_000
+FIRST = 8
 
 
 class Run:
@@ -133,24 +135,35 @@ def views(paths):
 
 
 def applies(paths):
-    """Single RevokeDigest at each size, in batches of 50."""
-    times, memory = gathered(6, lambda size: desk("apply", copy(paths[size], "apply.db"), 1_000, 50))
-    table("apply of RevokeDigest, one commit each", times)
+    """A RevokeDigest and its Confirm in turn at each size, in batches of 50 calls."""
+    times, memory = gathered(6, lambda size: desk("apply", copy(paths[size], "apply.db"), 1_000, 50, size))
+    table("apply of RevokeDigest and of its Confirm, one commit each", times)
     return memory
 
 
 def rows_after(path, calls):
-    """The rows of the calls after so many, as the shell's INSERTs, a transaction a call."""
+    """The rows of the calls after so many, which are proposals of a digest and their Confirms, as the shell's statements, a
+    transaction a call."""
     script = f""".mode insert calls
 SELECT * FROM calls WHERE no > {calls} ORDER BY no;
+.mode insert proposals
+SELECT no, officer, kind, stamp, passed, 'open' FROM proposals ORDER BY no;
+.mode insert proposal_items
+SELECT * FROM proposal_items ORDER BY proposal;
 .mode insert revoked_digests
-SELECT * FROM revoked_digests ORDER BY rowid DESC LIMIT (SELECT count(*) FROM calls WHERE no > {calls});
+SELECT * FROM revoked_digests ORDER BY rowid;
 """
     lines = shell(path, script).text.splitlines()
-    half = len(lines) // 2
-    assert half == MANY and lines[0].startswith("INSERT INTO calls"), (half, lines[:1])
-    pairs = zip(lines[half:][::-1], lines[:half])
-    return "".join(f"BEGIN;\n{digest}\n{call}\nCOMMIT;\n" for digest, call in pairs)
+    half = MANY // 2
+    assert len(lines) == MANY + 3 * half and lines[MANY].startswith("INSERT INTO proposals"), (len(lines), lines[:1])
+    kept = (lines[MANY + place * half : MANY + (place + 1) * half] for place in range(3))
+    texts = []
+    for number, (proposal, item, digest) in enumerate(zip(*kept), 1):
+        proposed, confirmed = lines[2 * number - 2 : 2 * number]
+        texts.append(f"BEGIN;\n{item}\n{proposal}\n{proposed}\nCOMMIT;\n")
+        closed = f"UPDATE proposals SET state = 'confirmed' WHERE no = {number};"
+        texts.append(f"BEGIN;\n{digest}\n{closed}\n{confirmed}\nCOMMIT;\n")
+    return "".join(texts)
 
 
 def dump(path):
@@ -158,23 +171,23 @@ def dump(path):
 
 
 def peers(paths):
-    """2,000 RevokeDigest by apply, and the same rows by the shell, each beside a run that does all but that."""
+    """1,000 RevokeDigest and their Confirms by apply, and the same rows by the shell, each beside a run that does all but that."""
     start = os.path.join(ROOM, "start.db")
-    desk("fill", start, 0, 6)
+    desk("fill", start, 0, FIRST)
     pragmas = "PRAGMA journal_mode=WAL;\nPRAGMA synchronous=FULL;\n"
     done = copy(start, "ours.db")
-    desk("apply", done, MANY, MANY)
-    script = pragmas + rows_after(done, 6)
+    desk("apply", done, MANY, MANY, FIRST)
+    script = pragmas + rows_after(done, FIRST)
     sums = {"ours": [], "shell": []}
     for _ in range(ROUNDS):
-        empty = desk("apply", copy(start, "empty.db"), 0, MANY)
-        whole = desk("apply", copy(start, "ours.db"), MANY, MANY)
+        empty = desk("apply", copy(start, "empty.db"), 0, MANY, FIRST)
+        whole = desk("apply", copy(start, "ours.db"), MANY, MANY, FIRST)
         sums["ours"].append((whole.processor - empty.processor, whole.clock - empty.clock))
         empty = shell(copy(start, "empty.db"), pragmas + "SELECT count(*) FROM desk;\n")
         whole = shell(copy(start, "shell.db"), script)
         sums["shell"].append((whole.processor - empty.processor, whole.clock - empty.clock))
     ours, theirs = middle(sums["ours"]), middle(sums["shell"])
-    print(f"\n{MANY:,} RevokeDigest on a new desk, one commit each; seconds of {ROUNDS} rounds, median (from to)")
+    print(f"\n{MANY // 2:,} RevokeDigest and their Confirms on a new desk, one commit each; seconds of {ROUNDS} rounds, median (from to)")
     for name, pairs in sums.items():
         for place, kind in enumerate(("processor", "clock")):
             values = [pair[place] for pair in pairs]
@@ -235,20 +248,18 @@ def sound(path):
 
 
 def revoked_by(calls):
-    """How many of the first calls of a filled desk are RevokeDigest."""
-    others = {10, 20, 21, 22, 23, 30, 40}
-    return sum(
-        1 for n in range(6, calls) if n % 100 not in others and not (n % 100 == 50 and n // 100 < 900)
-    )
+    """How many of the first calls of a filled desk confirm a RevokeDigest."""
+    others = {11, 21, 23, 31, 41, 51}
+    return sum(1 for n in range(FIRST, calls) if n % 2 and n % 100 not in others)
 
 
 def judge(paths):
     print("\nthe shell's integrity_check, and rows of calls, revoked digests and requests (wanted)")
-    cases = [(f"desk{size}.db", size, 0) for size in SIZES] + [("apply.db", SIZES[-1], 1_000), ("ours.db", 6, MANY)]
+    cases = [(f"desk{size}.db", size, 0) for size in SIZES] + [("apply.db", SIZES[-1], 1_000), ("ours.db", FIRST, MANY)]
     for name, calls, more in cases:
         answer, counts = sound(os.path.join(ROOM, name))
-        requests = sum(1 for n in range(6, calls) if n % 100 == 20)
-        wanted = (calls + more, revoked_by(calls) + more, requests)
+        requests = sum(1 for n in range(FIRST, calls) if n % 100 == 20)
+        wanted = (calls + more, revoked_by(calls) + more // 2, requests)
         print(f"{name:16} {answer}  {counts} {'as wanted' if counts == wanted else f'WANTED {wanted}'}")
 
 

@@ -39,7 +39,7 @@ static unsigned long mixed(unsigned long n) {
     return n ^ (n >> 31);
 }
 
-/* The digest that call `no` revokes. */
+/* The digest that the pair of calls `no` proposes and confirms. */
 static void digest_of(unsigned long no, unsigned char digest[32]) {
     for (unsigned long part = 0; part < 4; part++) {
         unsigned long word = mixed(4 * no + part);
@@ -50,21 +50,31 @@ static void digest_of(unsigned long no, unsigned char digest[32]) {
 static void fill(unsigned long calls) {
     run(SCHEMA);
     run("BEGIN");
-    sqlite3_stmt *call = prepared("INSERT INTO calls VALUES (?1, 'olga', ?2, ?3, 'revoked')");
+    sqlite3_stmt *call = prepared("INSERT INTO calls VALUES (?1, ?2, ?3, ?4, ?5)");
     sqlite3_stmt *revoked = prepared("INSERT INTO revoked_digests VALUES (?1)");
     for (unsigned long no = 1; no <= calls; no++) {
+        unsigned long pair = (no + 1) / 2;
+        int proposes = no % 2 == 1;
         unsigned char digest[32];
-        char key[32], text[128];
-        digest_of(no, digest);
+        char key[32], text[128], reply[64];
+        digest_of(pair, digest);
         snprintf(key, sizeof key, "k%lu", no);
-        size_t at = (size_t)snprintf(text, sizeof text, "revoke-digest ");
-        for (int i = 0; i < 32; i++) at += (size_t)snprintf(text + at, sizeof text - at, "%02x", digest[i]);
+        if (proposes) {
+            size_t at = (size_t)snprintf(text, sizeof text, "revoke-digest ");
+            for (int i = 0; i < 32; i++) at += (size_t)snprintf(text + at, sizeof text - at, "%02x", digest[i]);
+            snprintf(reply, sizeof reply, "proposed %lu", pair);
+        } else {
+            snprintf(text, sizeof text, "confirm %lu", pair);
+            snprintf(reply, sizeof reply, "confirmed %lu 1 0 0 0", pair);
+        }
         sqlite3_bind_int64(call, 1, (sqlite3_int64)no);
-        sqlite3_bind_text(call, 2, key, -1, SQLITE_TRANSIENT);
-        sqlite3_bind_text(call, 3, text, -1, SQLITE_TRANSIENT);
+        sqlite3_bind_text(call, 2, proposes ? "olga" : "otto", -1, SQLITE_STATIC);
+        sqlite3_bind_text(call, 3, key, -1, SQLITE_TRANSIENT);
+        sqlite3_bind_text(call, 4, text, -1, SQLITE_TRANSIENT);
+        sqlite3_bind_text(call, 5, reply, -1, SQLITE_TRANSIENT);
         need(sqlite3_step(call) == SQLITE_DONE, "a call");
         sqlite3_reset(call);
-        if (no % 10) {
+        if (!proposes && pair % 10) {
             sqlite3_bind_blob(revoked, 1, digest, 32, SQLITE_TRANSIENT);
             need(sqlite3_step(revoked) == SQLITE_DONE, "a digest");
             sqlite3_reset(revoked);
@@ -88,7 +98,7 @@ static void asked(sqlite3_stmt *it) {
 /* The view of one call: the caller, the key, and `digests` digests out of all calls. */
 static void view(unsigned long at, unsigned long calls, unsigned long digests, int is_known) {
     char key[32];
-    snprintf(key, sizeof key, is_known ? "k%lu" : "n%lu", 1 + mixed(at) % calls);
+    snprintf(key, sizeof key, is_known ? "k%lu" : "n%lu", 1 + 2 * (mixed(at) % (calls / 2)));
     asked(begin);
     sqlite3_bind_text(person, 1, "olga", -1, SQLITE_STATIC);
     asked(person);
@@ -97,7 +107,7 @@ static void view(unsigned long at, unsigned long calls, unsigned long digests, i
     asked(call);
     for (unsigned long i = 0; i < digests; i++) {
         unsigned char digest[32];
-        digest_of(1 + mixed(64 * at + i) % calls, digest);
+        digest_of(1 + mixed(64 * at + i) % (calls / 2), digest);
         sqlite3_bind_blob(revoked, 1, digest, 32, SQLITE_TRANSIENT);
         asked(revoked);
     }
