@@ -1,14 +1,12 @@
 -- What is given to a person who asks for all requests.
-use Rattle.std.proofs.Common.{◌≡◌, ℕ, ◌+◌, ◌<◌, ◌==◌, Bool, true, false, List, [], ◌∷◌, ◌++◌, map, filter, length, Option, Some, None, Ok, Err, refl, sym, ap, subst, ◌∙◌, arith}
+use Rattle.std.proofs.Common.{◌≡◌, ℕ, ◌+◌, ◌<◌, Bool, true, List, [], ◌∷◌, map, filter, length, Option, Some, None, Ok, Err, refl, sym, ap, subst, ◌∙◌, arith}
 use Rattle.std.specs.Prelude.{bytes_eq, ok_or, reverse}
 use Rattle.std.specs.List.{AllByRecursion, AllZip}
 use Rattle.std.specs.List.Sorted.{IsPermutation}
 use Rattle.std.specs.Result.{result_map_both}
-use Rattle.std.proofs.lemmas.Bool.Decides.{nat_tests}
-use Rattle.std.proofs.lemmas.List.{map-append, reverse-append}
 use Rattle.std.proofs.lemmas.List.Sorted.{Contains-permutation, IsPermutation-reverse, IsPermutation-sym, IsPermutation-trans}
 use Rattle.sqlite_trees.specs.Tree.{IsAscending}
-use Rattle.sqlite_trees.proofs.ListLemmas.{all-filter, all-permutation, all_both, all_of, all_weaker, ascending-append, ascending-filter, ascending-map, filter-map, filter_none, filter_same}
+use Rattle.sqlite_trees.proofs.ListLemmas.{all-filter, all-permutation, all_of, ascending-filter, ascending-map, filter-map, filter_same}
 use Rattle.desk_bytes.specs.declared.refusal.Refusal.{Refusal}
 use Rattle.desk_bytes.specs.declared.refusal.Refusal.TheVariants as refusals
 use Rattle.desk_texts.specs.declared.caller.Caller.TheVariants as callers
@@ -17,11 +15,10 @@ use Rattle.desk_texts.specs.declared.shown.ShownRequest.{ShownRequest}
 use Rattle.desk_history.specs.Calls.{History}
 use Rattle.desk_history.specs.Formed.{IsHistory}
 use Rattle.desk_history.specs.People.{has_name, people}
-use Rattle.desk_history.specs.Requests.{Request, Submitted, has_number, numbered, requests, submitted}
+use Rattle.desk_history.specs.Requests.{Request, Submitted, numbered, requests, submitted}
 use Rattle.desk_history.specs.Shown.{AreShown, IsGiven, IsShown, Whole, is_shown_to, requests_for, sees, whole, wholes}
 use Rattle.desk_history.specs.Tables.{Tables, tables}
 use Rattle.desk_history.specs.declared.rows.RequestRow.{RequestRow}
-use Rattle.desk_history.proofs.ListLemmas.{number_above}
 use Rattle.desk_reads.specs.Reads.{listed}
 use Rattle.desk_shown.specs.Steps.{AreInOrder, AreRowsFor, IsShownIn}
 use Rattle.desk_reads.proofs.PartLemmas.{one_order}

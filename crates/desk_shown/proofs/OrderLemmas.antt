@@ -83,6 +83,6 @@ module _ {X : Type 0} (n : X → ℕ) where
   sorted_ascends lt most (x ∷ y ∷ ys) up apart =
       let rest = sorted_ascends lt most (y ∷ ys)
       (λ k d low high. (let next : suc k + 1 ≡ suc (k + 1) = omega arith in
-          subst (λ m. lt (get_or (x ∷ y ∷ ys) m d) (get_or (y ∷ ys) k d) ≡ false) next (up (suc k) d (omega arith) (omega arith)))) apart.1 in
+      subst (λ m. lt (get_or (x ∷ y ∷ ys) m d) (get_or (y ∷ ys) k d) ≡ false) next (up (suc k) d (omega arith) (omega arith)))) apart.1 in
       let less : n x < n y = higher (n x) (n y) (most x y (up 0 x (omega arith) (omega arith))) apart.0.0 in
       ((less, all_weaker (λ z. n y < n z) (λ z. n x < n z) (λ z h. omega (arith, less, h)) ys rest.0), rest)

@@ -1,21 +1,16 @@
 -- Lives with one more call.
-use Rattle.std.proofs.Common.{◌≡◌, ◌≢◌, ℕ, Bool, true, false, List, [], ◌∷◌, ◌++◌, ◌&&◌, refl, sym, ap, subst, ◌∙◌, IsTrue}
-use Rattle.std.specs.List.{flat_map, list_all}
+use Rattle.std.proofs.Common.{◌≡◌, Bool, true, List, [], ◌∷◌, ◌++◌, ◌&&◌, refl, sym, ap, subst, ◌∙◌, IsTrue}
+use Rattle.std.specs.List.{list_all}
 use Rattle.std.proofs.Math.Logic.{∥∥₁_map}
 use Rattle.std.proofs.lemmas.Bool.{and_parts}
 use Rattle.std.proofs.lemmas.Grind.{flat_map-append}
 use Rattle.std.proofs.lemmas.List.{append-nil, append_assoc}
 use Rattle.std.proofs.lemmas.List.Folds.{list_all-append}
 use Rattle.sqlite.specs.Store as store
-use Rattle.sqlite.specs.Held.{state}
-use Rattle.desk_bytes.specs.declared.refusal.Refusal.{Refusal}
-use Rattle.desk_bytes.specs.declared.refusal.Refusal.TheVariants as refusals
 use Rattle.desk_texts.specs.declared.command.Call.{Call}
-use Rattle.desk_texts.specs.declared.reply.Reply.{Reply}
 use Rattle.desk_history.specs.Calls.{History, Item, Second, item}
 use Rattle.desk_history.specs.Lives.{Answered, Ends, Event, Fate, Life, MayLeave, MayTurn, Opened, Refused, Stopped, are_by, are_rules, ends_at_a_stop, events_of, is_life}
-use Rattle.desk_store.specs.Desks.{MayStop, Refuses, Replies, ShowsDesk}
-use Rattle.desk_store.specs.Living.{BeginsLiving, GoesOnLiving, LivesAgain, LivesOn, MayEndLiving, MayStopLiving, and_now, and_then, is_told}
+use Rattle.desk_store.specs.Living.{BeginsLiving, GoesOnLiving, LivesAgain, MayEndLiving, MayStopLiving, and_now, and_then, is_told}
 use Rattle.desk_store.specs.declared.desk.Desk.{Desk}
 
 -- the events of the lives are those before, and then those of the last

@@ -1,5 +1,4 @@
 -- From what a read tells of any tables, or of any history, to what answers a question.
-use Rattle.std.proofs.Common.{ℕ, List}
 use Rattle.sqlite.specs.State.{State}
 use Rattle.desk_history.specs.Calls.{History}
 use Rattle.desk_history.specs.Tables.{Tables, tables}

@@ -1,5 +1,5 @@
 -- What the steps of a transaction promise, of a connection before and after them.
-use Rattle.std.specs.Prelude.{◌≡◌, ◌≢◌, ◌⊎◌, ℕ, length, List, [], slice_get, Some, IfErr, IfOk, IsTrue, Result, MatchResult}
+use Rattle.std.specs.Prelude.{◌≡◌, ◌⊎◌, ℕ, length, List, [], slice_get, Some, IfErr, IfOk, IsTrue, Result, MatchResult}
 use Rattle.sqlite.specs.Effect.{IsDatabase}
 use Rattle.sqlite.specs.Order.{Row}
 use Rattle.sqlite.specs.Schema.{Schema}

@@ -1,5 +1,3 @@
-use Rattle.std.proofs.Common.{◌≡◌, ◌≢◌, Err}
-use Rattle.desk_store.specs.Desks.{ShowsDesk}
 use Rattle.desk_store.proofs.desk.Desk.view.Goals as goal
 
 pub returns-in-Ok-clause-shown : goal.returns-in-Ok-clause-shown
