@@ -8,7 +8,7 @@ ghost use Rattle.desk_store.specs.Desks.{ShowsDesk};
 
 use crate::open_desk::OpenDesk;
 use desk_bytes::{Digest, Refusal};
-use desk_calls::{Answering, Octets, ShownRequests};
+use desk_calls::{Answering, Octets, ShownProposals, ShownRequests};
 use desk_exports::Export;
 use desk_history::Verdict;
 use desk_reports::{report, report_is_the_history};
@@ -74,6 +74,13 @@ impl<S: Alter + Drop> Answering for OpenDesk<S> {
     fn requests_of(&mut self, caller: &Caller) -> Result<ShownRequests, Refusal> {
         match self.desk.requests_of(caller) {
             Ok(requests) => Ok(ShownRequests::new(requests)),
+            Err(refusal) => Err(refusal),
+        }
+    }
+
+    fn proposals(&mut self, caller: &Caller) -> Result<ShownProposals, Refusal> {
+        match self.desk.proposals(caller) {
+            Ok(proposals) => Ok(ShownProposals::new(proposals)),
             Err(refusal) => Err(refusal),
         }
     }

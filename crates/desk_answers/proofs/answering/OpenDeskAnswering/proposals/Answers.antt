@@ -1,0 +1,9 @@
+use Rattle.std.proofs.Common.{Err, sym, subst}
+use Rattle.std.specs.Prelude.{IfErr}
+use Rattle.desk_store.specs.Showing.{IsReadingRefusal}
+use Rattle.desk_answers.proofs.DeskLemmas.{reading_refused}
+use Rattle.desk_answers.proofs.answering.OpenDeskAnswering.proposals.Goals as goal
+
+pub returns-in-Err-clause-named : goal.returns-in-Err-clause-named
+returns-in-Err-clause-named g c =
+    reading_refused c.args.self.now.desk.needs_reopening c.in-Err.refusal c.in-Err.ensures.named (λ closed. let h = (c.in-Err.ensures.closed closed).0 in cc)
