@@ -1,13 +1,13 @@
 //! Desks over stores in memory, asked by the lines of scripts.
 use desk_bytes::{Digest, Guid, Refusal};
 use desk_exports::Export;
-use desk_history::Verdict;
+use desk_history::{ProposalRow, Verdict};
 use desk_reports::report;
 use desk_rules::{ListView, View, decide, verdict};
 use desk_scripts::Words;
 use desk_store::Desk;
 use desk_testing::Narrow;
-use desk_texts::{Call, Facts, Person, Reply, ShownRequest, reply_text};
+use desk_texts::{Call, Facts, Person, Proposal, Reply, ShownRequest, reply_text};
 use itoa::Buffer;
 use sbat::Component;
 use sqlite::{Alter, Connection, MemStore};
@@ -22,6 +22,7 @@ mod days;
 mod exporting;
 mod founding;
 mod line;
+mod proposing;
 mod scripts;
 mod serving;
 mod telling;

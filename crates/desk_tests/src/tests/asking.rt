@@ -2,7 +2,9 @@
 //! the contracts of several takes minutes.
 use super::exporting::exported;
 use super::line::Line;
-use super::telling::{put_person, put_request, put_requests, put_rows, put_verdict, told};
+use super::telling::{
+    put_person, put_proposals, put_request, put_requests, put_rows, put_verdict, put_view, told,
+};
 use super::*;
 
 /// Gives the desk one call.
@@ -88,10 +90,10 @@ fn asked<S: Alter + Drop>(alloc: Global, desk: &mut Desk<S>, given: &str) -> Opt
     both(alloc, desk, &call)
 }
 
-/// The rows of lists that the desk's view for a call has.
+/// The proposals and the rows of lists that the desk's view for a call has.
 fn rows<S: Alter + Drop>(desk: &mut Desk<S>, words: &mut Words, line: &mut Line) -> Option<()> {
     match viewed(desk, &words.call()?) {
-        Ok(view) => put_rows(line, &view.lists).ok(),
+        Ok(view) => put_view(line, &view).ok(),
         Err(refusal) => line.put(refusal.name()).ok(),
     }
 }
@@ -140,6 +142,19 @@ fn all_shown<S: Alter + Drop>(
     }
 }
 
+/// All proposals, as the caller is shown them.
+fn all_proposals<S: Alter + Drop>(
+    desk: &mut Desk<S>,
+    words: &mut Words,
+    line: &mut Line,
+) -> Option<()> {
+    let caller = words.caller()?;
+    match desk.proposals(&caller) {
+        Ok(proposals) => put_proposals(line, &proposals).ok(),
+        Err(refusal) => line.put(refusal.name()).ok(),
+    }
+}
+
 /// Who has a token.
 fn who<S: Alter + Drop>(desk: &mut Desk<S>, words: &mut Words, line: &mut Line) -> Option<()> {
     let token = words.digest()?;
@@ -157,31 +172,47 @@ fn counted<S: Alter + Drop>(alloc: Global, desk: &mut Desk<S>, line: &mut Line) 
     }
 }
 
-/// A call of this name with the key of this number, which revokes the digest of this number.
-fn revocation(alloc: Global, who: &str, number: u64) -> Result<Line, AllocError> {
+/// A call of this name with the key of this number, which proposes to revoke the digest of this byte.
+pub(super) fn revocation(
+    alloc: Global,
+    who: &str,
+    number: u64,
+    byte: u64,
+) -> Result<Line, AllocError> {
     let mut line = Line::new(alloc);
     line.put(who)?;
     line.number(number)?;
     line.put("revoke")?;
+    line.number(byte)?;
+    Ok(line)
+}
+
+/// The answer to a proposal of this number.
+fn proposed(alloc: Global, number: u64) -> Result<Line, AllocError> {
+    let mut line = Line::new(alloc);
+    line.put("proposed")?;
     line.number(number)?;
     Ok(line)
 }
 
-/// `revoked`, after so many calls of the caller, each of which revokes a digest of its own; or the first other answer.
-fn revoked<S: Alter + Drop>(
+/// The answer to the last of so many calls of the caller, which are the first to propose anything, each a digest of its own; or
+/// the first other answer.
+fn proposed_to<S: Alter + Drop>(
     alloc: Global,
     desk: &mut Desk<S>,
     words: &mut Words,
 ) -> Option<String> {
     let who = words.text()?;
+    let mut last = String::new(alloc);
     for number in 1..=words.number()? {
-        let line = revocation(alloc, who, number).ok()?;
+        let line = revocation(alloc, who, number, number).ok()?;
         let answer = asked(alloc, desk, line.text.as_str())?;
-        if answer.as_str() != "revoked" {
+        if answer != proposed(alloc, number).ok()?.text {
             return Some(answer);
         }
+        last = answer;
     }
-    String::from_str(alloc, "revoked").ok()
+    Some(last)
 }
 
 /// Puts what was told, if it was.
@@ -201,11 +232,12 @@ fn put_answer<S: Alter + Drop>(
     match verb {
         "alone" => put_told(line, answered(alloc, desk, rest)),
         "rows" => rows(desk, &mut words, line),
-        "revoke-to" => put_told(line, revoked(alloc, desk, &mut words)),
+        "propose-to" => put_told(line, proposed_to(alloc, desk, &mut words)),
         "image-rows" => seen(desk, &mut words, line),
         "verdict" => judged(desk, &mut words, line),
         "shows" => shown(desk, &mut words, line),
         "lists" => all_shown(desk, &mut words, line),
+        "proposals" => all_proposals(desk, &mut words, line),
         "who" => who(desk, &mut words, line),
         "report" => counted(alloc, desk, line),
         "export" => exported(alloc, desk, &mut words, line),

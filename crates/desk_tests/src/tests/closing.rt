@@ -5,12 +5,20 @@ use super::*;
 use sqlite::{FileStore, Files, Options};
 use sqlite_disk::{Disk, Memory as MemoryFile};
 
+/// The log is copied into the database file early: at each sync a file in memory is copied whole.
+const OPTIONS: Options = Options {
+    cache_pages: 2_000,
+    spill_pages: 2_000,
+    checkpoint_frames: 16,
+    seed: 1,
+};
+
 /// A connection to the files.
 fn connected<D: Disk + Drop>(alloc: Global, files: Files<D>) -> Option<Connection<FileStore<D>>> {
     if !files.may_be_used() {
         return None;
     }
-    Connection::open_files(alloc, files, Options::new(1)).ok()
+    Connection::open_files(alloc, files, OPTIONS).ok()
 }
 
 /// The files of the desk, once it is closed.
@@ -25,12 +33,15 @@ fn with_log<D: Disk + Drop>(files: Files<D>, log: D) -> Files<D> {
 }
 
 /// A desk without calls over two files.
-fn new_desk<D: Disk + Drop>(alloc: Global, files: Files<D>) -> Option<Desk<FileStore<D>>> {
+pub(super) fn new_desk<D: Disk + Drop>(
+    alloc: Global,
+    files: Files<D>,
+) -> Option<Desk<FileStore<D>>> {
     make(alloc, connected(alloc, files)?).ok()
 }
 
 /// The desk of the database file that the closed desk leaves, with this log.
-fn opened_again<D: Disk + Drop>(
+pub(super) fn opened_again<D: Disk + Drop>(
     alloc: Global,
     desk: Desk<FileStore<D>>,
     log: D,

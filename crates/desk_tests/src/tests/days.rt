@@ -2,7 +2,7 @@
 use super::asking::answer_at_last;
 use super::founding::{make, open, run};
 use super::scripts::{
-    BARRED, EXPORTS, FAULTS, HUNDRED, LARGEST, LEVELS, REQUESTS, ROWS, SPOILT, TABLES,
+    BARRED, EXPORTS, FAULTS, HUNDRED, LARGEST, LEVELS, OFFICERS, REQUESTS, ROWS, SPOILT, TABLES,
 };
 use super::*;
 
@@ -35,6 +35,9 @@ fn turn(alloc: Global, desk: Memory, given: &str) -> Option<(Memory, String)> {
     if is_for_store(given) {
         return again(alloc, desk, given);
     }
+    if given == "anew" {
+        return Some((new_desk(alloc)?, String::new(alloc)));
+    }
     let mut desk = desk;
     let told = answer_at_last(alloc, &mut desk, given)?;
     Some((desk, told))
@@ -66,6 +69,11 @@ fn an_approved_request_stays_when_its_image_is_revoked(rt: HostRuntime) -> Resul
 #[test]
 fn a_day_of_levels(rt: HostRuntime) -> Result<(), Fail> {
     play(&rt, rt.alloc(), LEVELS)
+}
+
+#[test]
+fn another_officer_confirms(rt: HostRuntime) -> Result<(), Fail> {
+    play(&rt, rt.alloc(), OFFICERS)
 }
 
 #[test]

@@ -60,15 +60,17 @@ fn done(
     }
 }
 
-/// An empty store holds no desk; one is made once, and its row has to be that of a desk of version 1.
+/// An empty store holds no desk; one is made once, and its row has to be that of a desk of version 2.
 const STORES: &str = "\
 open : NotADesk
 make : a desk
 open : a desk
 make : Exists
+UPDATE desk SET version = 1
+open : Version
 UPDATE desk SET version = 3
 open : Version
-UPDATE desk SET version = 1, mark = 'boot'
+UPDATE desk SET version = 2, mark = 'boot'
 open : NotADesk
 UPDATE desk SET mark = 'boot-desk', stamp = 202103021
 open : NotADesk

@@ -25,8 +25,8 @@ pub(super) fn put_verdict(line: &mut Line, verdict: Verdict) -> Result<(), Alloc
     }
 }
 
-/// The rows of a view's lists: listed entries, revoked digests and certificates, components; or `none`.
-pub(super) fn put_rows(line: &mut Line, view: &ListView) -> Result<(), AllocError> {
+/// The rows of a view's lists: listed entries, revoked digests and certificates, components.
+fn put_lists(line: &mut Line, view: &ListView) -> Result<(), AllocError> {
     for listing in &view.listed {
         line.put(listing.kind.text())?;
         line.digest(&listing.digest)?;
@@ -43,10 +43,42 @@ pub(super) fn put_rows(line: &mut Line, view: &ListView) -> Result<(), AllocErro
         line.put("level")?;
         put_component(line, component)?;
     }
+    Ok(())
+}
+
+/// Rows of proposals: number, officer and state, and how much each names.
+fn put_proposal_rows(line: &mut Line, rows: &[ProposalRow]) -> Result<(), AllocError> {
+    for row in rows {
+        line.put("proposal")?;
+        line.number(row.number.value())?;
+        line.put(row.officer.as_str())?;
+        line.put(row.state.text())?;
+        line.number(row.named.digests().as_slice().len() as u64)?;
+        line.number(row.named.certificates().as_slice().len() as u64)?;
+        line.number(row.named.components().as_slice().len() as u64)?;
+    }
+    Ok(())
+}
+
+/// `none`, where nothing was told.
+fn put_none(line: &mut Line) -> Result<(), AllocError> {
     if line.text.is_empty() {
         return line.put("none");
     }
     Ok(())
+}
+
+/// The rows of a view's lists, or `none`.
+pub(super) fn put_rows(line: &mut Line, view: &ListView) -> Result<(), AllocError> {
+    put_lists(line, view)?;
+    put_none(line)
+}
+
+/// The proposals and the rows of lists that a view has, or `none`.
+pub(super) fn put_view(line: &mut Line, view: &View) -> Result<(), AllocError> {
+    put_proposal_rows(line, &view.proposals)?;
+    put_lists(line, &view.lists)?;
+    put_none(line)
 }
 
 fn put_component(line: &mut Line, component: &Component) -> Result<(), AllocError> {
@@ -107,6 +139,25 @@ pub(super) fn put_requests(line: &mut Line, requests: &[ShownRequest]) -> Result
         line.text.push_str(";")?;
     }
     Ok(())
+}
+
+/// A proposal as it is shown: number, officer and state, and how many digests, certificates and components it names.
+fn put_proposal(line: &mut Line, proposal: &Proposal) -> Result<(), AllocError> {
+    line.number(proposal.number.value())?;
+    line.put(proposal.officer.as_str())?;
+    line.put(proposal.state.text())?;
+    line.number(proposal.digests)?;
+    line.number(proposal.certificates)?;
+    line.number(proposal.components)
+}
+
+/// Proposals as they are shown, each ended by a semicolon; or `none`.
+pub(super) fn put_proposals(line: &mut Line, proposals: &[Proposal]) -> Result<(), AllocError> {
+    for proposal in proposals {
+        put_proposal(line, proposal)?;
+        line.text.push_str(";")?;
+    }
+    put_none(line)
 }
 
 /// A person's name, role and token, or `nobody`.

@@ -1,29 +1,33 @@
 //! One call of a desk, where a file stops at each of its calls in turn.
-use super::asking::{answered, answers, is_closed, minutes};
+use super::asking::{answered, answers, is_closed, minutes, parted};
 use super::disks::{NEVER, Stopping, Stops, Which, bytes_of, calls_to, files, new_desk, opened};
 use super::*;
 
-/// A day with each of the twelve commands.
+/// A day with each of the fourteen commands, a call and its answer a line.
 const DAY: &str = "\
-console p1 add ann submitter 1
-console p2 add rita reviewer 2
-console p3 add raul reviewer 3
-console p4 add sid signer 4
-console p5 add olga officer 5
-ann a1 submit shim 160 161 1 204 1 shim 4
-ann a2 submit grub 162 162 0 0
-rita r1 yes 1
-raul r1 yes 1 looked
-ann a3 withdraw 2
-olga o1 list-certificate 204
-olga o2 list 33
-sid s1 return 1 160 161 1 204 0
-olga o3 unlist 33
-olga o4 revoke 35
-olga o5 revoke-certificate 206
-olga o6 raise grub 3 2024010100
-olga o7 import-digests 300
-olga o8 unlist-certificate 204";
+console p1 add ann submitter 1 : added ann
+console p2 add rita reviewer 2 : added rita
+console p3 add raul reviewer 3 : added raul
+console p4 add sid signer 4 : added sid
+console p5 add olga officer 5 : added olga
+console p6 add otto officer 6 : added otto
+ann a1 submit shim 160 161 1 204 1 shim 4 : submitted 1
+ann a2 submit grub 162 162 0 0 : submitted 2
+rita r1 yes 1 : reviewed 1 open
+raul r1 yes 1 looked : reviewed 1 approved
+ann a3 withdraw 2 : withdrawn 2
+olga o1 list-certificate 204 : listed
+olga o2 list 33 : listed
+sid s1 return 1 160 161 1 204 0 : returned 1
+olga o3 unlist 33 : unlisted
+olga o4 revoke 35 : proposed 1
+olga o5 revoke-certificate 206 : proposed 2
+olga o6 raise grub 3 2024010100 : proposed 3
+olga o7 import-digests 300 : proposed 4
+otto t1 confirm 4 : confirmed 4 300 0 0 0
+otto t2 confirm 3 : confirmed 3 0 0 1 0
+otto t3 drop 2 : dropped 2
+olga o8 unlist-certificate 204 : unlisted";
 
 /// What became of a call on files that stop.
 #[derive(Drop)]
@@ -146,14 +150,18 @@ fn stopped<D: Stopping>(alloc: Global, bytes: &[u8], wanted: &Wanted, which: Whi
     None
 }
 
-/// The call of a line at the desk.
+/// The call of a line at the desk, if its answer is the one behind it.
 fn given<'a, S: Alter + Drop>(
     alloc: Global,
     desk: &mut Desk<S>,
-    line: &'a str,
+    told: &'a str,
 ) -> Option<Wanted<'a>> {
+    let (line, wanted) = parted(told, " : ");
     let before = minutes(alloc, desk)?;
     let answer = answered(alloc, desk, line)?;
+    if answer.as_str() != wanted {
+        return None;
+    }
     let after = minutes(alloc, desk)?;
     Some(Wanted {
         line,

@@ -1,24 +1,55 @@
 //! Ten lives of a desk, in each of which one call is answered Ok and the next is stopped.
 use super::asking::{bars, does, is_closed, minutes, parted};
-use super::disks::{NEVER, Stopping, Stops, Which, bytes_of, calls_to, files, new_desk, opened};
+use super::disks::{NEVER, Stopping, Stops, Which, bytes_of, calls_to, files, made, opened};
 use super::*;
 
-/// A life a line: the call that is answered Ok, and the one that is stopped. The first call is an officer's adding, in the
-/// second life the certificate of an image is revoked.
+/// What the desk was given before: two officers, and the proposal to revoke the certificate of an image.
+const BEFORE: &str = "\
+console p1 add olga officer 5 : added olga
+console p2 add otto officer 6 : added otto
+olga o1 list-certificate 204 : listed
+olga o2 revoke-certificate 204 : proposed 1";
+
+/// A life a line: the call that is answered Ok, and the one that is stopped. In the first life the certificate is revoked.
 const LIVES: &str = "\
-console a0 add olga officer 5 : added olga => olga b0 list-certificate 204 : listed
-olga a1 revoke-certificate 204 : revoked => olga b1 revoke 51 : revoked
-olga a2 raise grub 3 2024010100 : raised => olga b2 list 52 : listed
-olga a3 unlist-certificate 204 : unlisted => olga b3 revoke 53 : revoked
-olga a4 import-digests 40 : imported 40 0 0 0 => olga b4 unlist 52 : unlisted
-olga a5 revoke 5 : revoked => olga b5 raise shim 4 2024010101 : raised
-console a6 add ann submitter 6 : added ann => console b6 add rita reviewer 7 : added rita
+otto a0 confirm 1 : confirmed 1 0 1 0 0 => olga b0 revoke 51 : proposed 2
+olga a1 raise grub 3 2024010100 : proposed 3 => otto b1 confirm 2 : confirmed 2 1 0 0 0
+otto a2 confirm 3 : confirmed 3 0 0 1 0 => olga b2 list 52 : listed
+olga a3 unlist-certificate 204 : unlisted => olga b3 import-digests 40 : proposed 4
+olga a4 revoke 53 : proposed 5 => otto b4 confirm 4 : confirmed 4 40 0 0 0
+otto a5 drop 5 : dropped 5 => olga b5 raise shim 4 2024010101 : proposed 6
+console a6 add ann submitter 7 : added ann => console b6 add rita reviewer 8 : added rita
 ann a7 submit shim 160 160 0 0 : submitted 1 => rita b7 yes 1 : reviewed 1 open
-olga a8 revoke 8 : revoked => olga b8 import-digests 50 : imported 10 0 0 0
-ann a9 withdraw 1 : withdrawn 1 => olga b9 list-certificate 59 : listed";
+olga a8 import-digests 50 : proposed 7 => otto b8 drop 6 : dropped 6
+otto a9 confirm 7 : confirmed 7 10 0 0 0 => ann b9 withdraw 1 : withdrawn 1";
 
 /// The image that carries the certificate.
 const IMAGE: &str = "160 160 1 204 0";
+
+/// Whether the desk answers the calls before the lives.
+fn is_begun<S: Alter + Drop>(alloc: Global, desk: &mut Desk<S>) -> Option<bool> {
+    for told in BEFORE.lines() {
+        if !does(alloc, desk, told)? {
+            return Some(false);
+        }
+    }
+    Some(true)
+}
+
+/// The files of a new desk that was given the calls before the lives.
+fn begun<D: Disk + Drop>(alloc: Global, files: Files<D>) -> Option<Files<D>> {
+    let mut desk = made(alloc, files).ok()?;
+    if !is_begun(alloc, &mut desk)? {
+        return None;
+    }
+    desk.close().ok()
+}
+
+/// The database file of that desk.
+fn first<D: Stopping>(alloc: Global) -> Option<Vec<u8>> {
+    let empty: Files<D> = files(alloc, b"", NEVER)?;
+    bytes_of(alloc, &begun(alloc, empty)?)
+}
 
 /// Whether the desk answers the first call of a life, and the second is stopped.
 fn is_stopped<S: Alter + Drop>(alloc: Global, desk: &mut Desk<S>, life: &str) -> Option<bool> {
@@ -42,11 +73,10 @@ fn lived<D: Crash + Drop>(
     }
 }
 
-/// Whether the desk bars the image, if the life is one of those that follow its revocation, and gives the stopped call its
-/// answer.
+/// Whether the desk bars the image, and gives the stopped call its answer.
 fn goes_on<S: Alter + Drop>(alloc: Global, desk: &mut Desk<S>, life: &str) -> Option<bool> {
-    let (first, second) = parted(life, " => ");
-    let is_barred = bars(alloc, desk, IMAGE)? || first.starts_with("console a0 ");
+    let (_, second) = parted(life, " => ");
+    let is_barred = bars(alloc, desk, IMAGE)?;
     Some(does(alloc, desk, second)? && is_barred)
 }
 
@@ -110,7 +140,7 @@ fn minutes_of<D: Stopping>(alloc: Global, bytes: &[u8]) -> Option<Vec<u8>> {
 
 /// Lives all lives, and compares the minutes at their end.
 fn live<D: Stopping>(alloc: Global) -> Result<(), Fail> {
-    let mut bytes = new_desk::<D>(alloc).ok_or("a new desk")?;
+    let mut bytes = first::<D>(alloc).ok_or("a desk before its lives")?;
     let wanted = whole::<D>(alloc, bytes.as_slice()).ok_or("a desk without a stop")?;
     for life in LIVES.lines() {
         bytes = outlived::<D>(alloc, bytes.as_slice(), life).ok_or(life)?;
