@@ -12,8 +12,8 @@
 # the minutes have its key once.
 #
 # Then ten lives of one desk, each with a person whose call is stopped; and ten lives of a desk where a second officer confirmed the
-# revocation of an image's digest: other commands are stopped, dbx keeps the digest, and the image stays refused. Not part of the
-# gate: it needs strace.
+# revocation of an image's digest: other commands are stopped, dbx keeps the digest, and the image stays refused. The files stand in
+# TMPDIR or /tmp; the 1,656 stops took 21 minutes in memory, beside other work. Not part of the gate: it needs strace.
 set -eu
 root=$(CDPATH='' cd -- "$(dirname -- "$(readlink -f -- "$0")")/.." && pwd -P)
 if [ $# -gt 0 ]; then
