@@ -13,10 +13,10 @@ use Rattle.desk_texts.specs.declared.reply.Reply.{Reply}
 use Rattle.desk_texts.specs.Callers.{caller_name, is_told_by_name}
 use Rattle.desk_texts.specs.CommandTexts.{text_of}
 use Rattle.desk_texts.proofs.ReadingLemmas.{text_of-same}
-use Rattle.desk_history.specs.Calls.{GoesOnFrom, History, Item, Second, has_same_key, under}
+use Rattle.desk_history.specs.Calls.{GoesOnFrom, History, Item, has_same_key, under}
 use Rattle.desk_history.specs.Formed.{IsHistory, IsItem}
 use Rattle.desk_history.specs.FormLaws.{AnsweredCallsStand, EndsAreHistories, Stands}
-use Rattle.desk_history.specs.Lives.{Answered, Event, MayLeave, are_by, are_rules, events_of}
+use Rattle.desk_history.specs.Lives.{Answered, Event, MayLeave, events_of}
 use Rattle.desk_history.specs.Refusals.{is_known, refusal_of}
 use Rattle.desk_history.specs.Replies.{minute_of, reply_to}
 use Rattle.desk_history.specs.Runs.{answer_known, earlier, is_accepted, next_item, reply_in, ruling}
@@ -24,7 +24,7 @@ use Rattle.desk_history.specs.declared.answer.Answer.{Answer}
 use Rattle.desk_history.specs.declared.answer.Answer.TheVariants.{Refused as IsRefused}
 use Rattle.desk_history.specs.declared.rows.Minute.{Minute}
 use Rattle.desk_history.proofs.CallerLemmas.{callers_are_told, known_told, same_caller}
-use Rattle.desk_history.proofs.LifeLemmas.{accepted_reply, left_goes_on, left_legal, lives_by, series_are_legal, told, turned}
+use Rattle.desk_history.proofs.LifeLemmas.{accepted_reply, front_in_order, left_goes_on, left_in_order, lives_in_order, series_are_legal, stand_in_order, told, turned}
 use Rattle.desk_history.proofs.ListLemmas.{same_text}
 use Rattle.desk_history.proofs.RunLemmas.{by_next}
 
@@ -41,7 +41,7 @@ left_formed cs (e ∷ events) end h all left =
 pub ends_are_histories : EndsAreHistories
 ends_are_histories lives cs ends formed = record {
   legal = series_are_legal lives cs ends;
-  formed = left_formed [] (events_of lives) cs (All-nil IsItem) formed ends.1;
+  formed = left_formed [] (events_of lives) cs (All-nil IsItem) formed ends.2;
 }
 
 -- ---- parts of a list
@@ -56,9 +56,6 @@ all_back P (x ∷ xs) ys h = all_back P xs ys (All-tail P x (xs ++ ys) h)
 
 test_back : {X : Type 0} (p : X → Bool) (xs ys : List X) → list_all p (xs ++ ys) ≡ true → list_all p ys ≡ true
 test_back p xs ys h = (and_parts (list_all p xs) (list_all p ys) (sym (list_all-append p xs ys) ∙ h)).1
-
-test_front : {X : Type 0} (p : X → Bool) (xs ys : List X) → list_all p (xs ++ ys) ≡ true → list_all p xs ≡ true
-test_front p xs ys h = (and_parts (list_all p xs) (list_all p ys) (sym (list_all-append p xs ys) ∙ h)).0
 
 -- ---- the call of a minute
 
@@ -152,9 +149,9 @@ answered_calls_stand lives cs ends formed i given at was =
     let parts : All IsFormed (was.earlier ++ event ∷ was.later) = subst (All IsFormed) was.is formed in
     let mine : IsItem i = All-head IsFormed event was.later (all_back IsFormed was.earlier (event ∷ was.later) parts) in
     let front = all_front IsFormed was.earlier (event ∷ was.later) parts in
-    let by = test_front (λ (e : Event). are_rules Second e.item.rules) was.earlier (event ∷ was.later) (ap (are_by Second) (sym was.is) ∙ lives_by lives ends.0) in
+    let order = front_in_order was.earlier (event ∷ was.later) (ap stand_in_order (sym was.is) ∙ lives_in_order lives ends.0 ends.1) in
     let history : IsHistory was.before = record {
-      legal = left_legal [] was.earlier was.before refl by was.reached;
+      legal = left_in_order [] was.earlier was.before refl refl order was.reached;
       formed = left_formed [] was.earlier was.before (All-nil IsItem) front was.reached;
     } in
     let there : Stands at i.call given = subst (λ h. Stands h i.call given) (sym was.answered.1) (stands_at was.before i given history mine was.answered.0) in

@@ -1,5 +1,5 @@
 -- Lives of a desk, and what stops leave of its history.
-use Rattle.std.specs.Prelude.{◌≡◌, ◌⊎◌, Bool, true, false, ◌&&◌, IsTrue, List, [], ◌∷◌, ◌++◌, Some, flat_map}
+use Rattle.std.specs.Prelude.{◌≡◌, ◌⊎◌, Bool, true, false, ◌&&◌, if◌then◌else◌, IsTrue, List, [], ◌∷◌, ◌++◌, Some, flat_map}
 use Rattle.std.specs.List.{list_all}
 use Rattle.desk_texts.specs.declared.command.Call.{Call}
 use Rattle.desk_texts.specs.declared.reply.Reply.{Reply}
@@ -73,16 +73,30 @@ pub data Opening : Type 0 where
   Opened : Opening
   NotOpened : Opening
 
--- A life of a desk: its opening, and the calls from then on.
+-- A life of a desk: the rules of its program, its opening, and the calls from then on.
 pub record Life : Type 0 where
+  pub rules : Rules
   pub opening : Opening
   pub events : List Event
 
 -- a desk that isn't open has no calls; each call is judged by the rules of the program
 abbrev pub is_life : Life → Bool
 is_life life =
-    are_by Second life.events
+    are_by life.rules life.events
     && elim life.opening [ Opened ↦ ends_at_a_stop life.events | NotOpened ↦ is_empty life.events ]
+
+-- the life's rules are the second
+abbrev pub is_second_life : Life → Bool
+is_second_life life = are_rules Second life.rules
+
+-- the desk was opened by the second rules
+abbrev pub is_opened_by_second : Life → Bool
+is_opened_by_second life = elim life.opening [ Opened ↦ is_second_life life | NotOpened ↦ false ]
+
+-- own: no life by the first rules follows one of an opened desk by the second
+abbrev pub are_in_order : List Life → Bool
+are_in_order [] = true
+are_in_order (life ∷ lives) = (if is_opened_by_second life then list_all is_second_life lives else true) && are_in_order lives
 
 -- the events of lives, one life after another
 abbrev pub events_of : List Life → List Event
@@ -90,7 +104,7 @@ events_of lives = flat_map (λ life. life.events) lives
 
 -- a series of lives, the first begun with a new desk, may leave this history
 abbrev pub Ends : List Life → History → Type 0
-Ends lives cs = IsTrue (list_all is_life lives) × MayLeave [] (events_of lives) cs
+Ends lives cs = IsTrue (list_all is_life lives) × IsTrue (are_in_order lives) × MayLeave [] (events_of lives) cs
 
 -- In the events that led from a new desk to this history, the item's call was answered Ok with the reply, and the desk's
 -- history was then `at`.
