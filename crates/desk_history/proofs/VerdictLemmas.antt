@@ -1,5 +1,5 @@
 -- Verdicts: which images are allowed, and that what is barred stays barred.
-use Rattle.std.proofs.Common.{◌≡◌, ℕ, ◌+◌, Bool, true, false, ◌||◌, List, [], ◌∷◌, ◌++◌, Option, Some, None, refl, sym, subst, ◌↔◌, arith}
+use Rattle.std.proofs.Common.{◌≡◌, ◌≢◌, ◌∙◌, ℕ, ◌+◌, Bool, true, false, ◌||◌, List, [], ◌∷◌, ◌++◌, Option, Some, None, refl, sym, subst, ◌↔◌, arith}
 use Rattle.std.specs.Prelude.{if◌then◌else◌, IsTrue, bytes_eq, nat_lt}
 use Rattle.std.specs.List.{list_any}
 use Rattle.std.specs.Option.{option_map_or, option_or}
@@ -15,7 +15,7 @@ use Rattle.desk_history.specs.Revocations.{is_revoked, revocations}
 use Rattle.desk_history.specs.declared.finding.Below.{Below}
 use Rattle.desk_history.specs.declared.finding.Verdict.TheVariants.{Allowed, Sbat}
 use Rattle.desk_history.specs.Laws.{AllowsExactly, StaysBarred}
-use Rattle.desk_history.specs.Verdicts.{first_below, Standing, has_revoked_certificate, has_revoked_digest, is_barred, is_below, is_less, lack_at, standing, stands_in_db, verdict_by}
+use Rattle.desk_history.specs.Verdicts.{first_below, Standing, has_revoked_certificate, has_revoked_digest, is_barred, is_below, is_less, lack_at, standing, stands_in_db, verdict, verdict_by}
 use Rattle.desk_history.proofs.ListLemmas.{any_after, any_of, or_mono}
 
 -- no component is below the level exactly where the first such is none
@@ -88,3 +88,7 @@ barred_after cs new x =
 
 pub what_is_barred_stays_barred : StaysBarred
 what_is_barred_stays_barred earlier later x more h = subst (λ cs. IsTrue (is_barred cs x)) (sym more.1) (barred_after earlier more.0 x h)
+
+-- an image that is barred isn't allowed
+pub barred_not_allowed : (cs : History) (x : Facts) → IsTrue (is_barred cs x) → verdict cs x ≢ Allowed
+barred_not_allowed cs x is allowed = let free = ((allows_exactly cs x).0 allowed).0 in absurd (let e = sym is ∙ free in cc)

@@ -1,5 +1,5 @@
 -- Laws of histories whose calls are in their forms.
-use Rattle.std.specs.Prelude.{◌≡◌, ℕ, ◌==◌, Bool, ◌&&◌, IsTrue, All, List, ◌++◌, ◌∷◌, bytes_eq}
+use Rattle.std.specs.Prelude.{◌≡◌, ◌≢◌, ℕ, ◌==◌, Bool, ◌&&◌, IsTrue, All, List, ◌++◌, ◌∷◌, bytes_eq}
 use Rattle.std.specs.List.{Contains, list_all}
 use Rattle.desk_texts.specs.Callers.{caller_name, is_told_by_name}
 use Rattle.desk_texts.specs.Raising.{names_no_sbat}
@@ -10,11 +10,12 @@ use Rattle.desk_texts.specs.declared.reply.Reply.{Reply}
 use Rattle.desk_history.specs.Calls.{GoesOnFrom, History, Item, Rules, are_apart, under}
 use Rattle.desk_history.specs.Formed.{IsHistory, IsItem, IsReadable}
 use Rattle.desk_history.specs.Laws.{StandOnce}
-use Rattle.desk_history.specs.Lives.{Ends, Event, Life, WasAnswered, events_of}
+use Rattle.desk_history.specs.Lives.{Answered, Ends, Event, Life, WasAnswered, events_of}
 use Rattle.desk_history.specs.Replies.{minutes, reply_to}
 use Rattle.desk_history.specs.Runs.{is_legal}
 use Rattle.desk_history.specs.Tables.{Tables, tables}
-use Rattle.desk_history.specs.Verdicts.{is_barred}
+use Rattle.desk_history.specs.Verdicts.{is_barred, verdict}
+use Rattle.desk_history.specs.declared.finding.Verdict.TheVariants.{Allowed}
 use Rattle.desk_history.specs.declared.rows.Minute.{Minute}
 use Rattle.desk_history.specs.declared.rows.RequestCertificateRow.{RequestCertificateRow}
 use Rattle.desk_history.specs.declared.rows.RequestComponentRow.{RequestComponentRow}
@@ -78,13 +79,18 @@ AnsweredCallsStand =
     (lives : List Life) (cs : History) → Ends lives cs → All (λ e. IsItem e.item) (events_of lives)
     → (i : Item) (reply : Reply) (at : History) → WasAnswered (events_of lives) cs i reply at → Stands cs i.call reply
 
--- What a series of lives left keeps all that was answered Ok: the call stands in it with its reply, it goes on from the
--- history of that time, and each image that was barred then is barred.
+-- What a series of lives left keeps all that was answered Ok. `each`: every call that was answered Ok was answered at some
+-- history, and with each such: the call stands in what is left with its reply, what is left goes on from the history of that
+-- time, each image that was barred then is barred, and so isn't allowed.
 pub record KeepsAnswered (events : List Event) (cs : History) : Type 0 where
+  pub each : (i : Item) (reply : Reply) (earlier later : List Event)
+      → events ≡ earlier ++ record { item = i; fate = Answered reply } ∷ later → (at : History) × WasAnswered events cs i reply at
   pub stands : (i : Item) (reply : Reply) (at : History) → WasAnswered events cs i reply at → Stands cs i.call reply
   pub goes_on : (i : Item) (reply : Reply) (at : History) → WasAnswered events cs i reply at → GoesOnFrom at cs
   pub barred : (i : Item) (reply : Reply) (at : History) → WasAnswered events cs i reply at
       → (x : Facts) → IsTrue (is_barred at x) → IsTrue (is_barred cs x)
+  pub refused : (i : Item) (reply : Reply) (at : History) → WasAnswered events cs i reply at
+      → (x : Facts) → IsTrue (is_barred at x) → verdict cs x ≢ Allowed
 
 -- any number of lives leave a desk's history that keeps all that was answered in them, where each call was in its forms
 abbrev pub LivesKeepAnswered : Type 0
