@@ -35,7 +35,19 @@ forced i = record {
 -- a Confirm confirms what its proposal names
 abbrev pub confirmed_by : History → Command → Option Imported
 confirmed_by cs (command.Confirm k) = option_map (λ p. p.named.entries) (proposal cs k)
-confirmed_by cs _ = None
+confirmed_by cs (command.AddPerson _) = None
+confirmed_by cs (command.Submit _) = None
+confirmed_by cs (command.Review _) = None
+confirmed_by cs (command.Withdraw _) = None
+confirmed_by cs (command.Return _) = None
+confirmed_by cs (command.ListCertificate _) = None
+confirmed_by cs (command.ListDigest _) = None
+confirmed_by cs (command.Unlist _) = None
+confirmed_by cs (command.RevokeDigest _) = None
+confirmed_by cs (command.RevokeCertificate _) = None
+confirmed_by cs (command.RaiseLevel _) = None
+confirmed_by cs (command.ImportRevocations _) = None
+confirmed_by cs (command.Drop _) = None
 
 -- own: by the first rules a call puts into force what it names; by the second only a Confirm puts anything into force, what it
 -- confirms

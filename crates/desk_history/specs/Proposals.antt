@@ -31,7 +31,16 @@ named_by (command.RevokeCertificate digest) =
 named_by (command.RaiseLevel r) =
     Some (record { kind = kinds.Level; entries = record no_entries { stamp = Some r.stamp; components = r.component ∷ [] } })
 named_by (command.ImportRevocations i) = Some (record { kind = kinds.Import; entries = i })
-named_by _ = None
+named_by (command.AddPerson _) = None
+named_by (command.Submit _) = None
+named_by (command.Review _) = None
+named_by (command.Withdraw _) = None
+named_by (command.Return _) = None
+named_by (command.ListCertificate _) = None
+named_by (command.ListDigest _) = None
+named_by (command.Unlist _) = None
+named_by (command.Confirm _) = None
+named_by (command.Drop _) = None
 
 -- ---- what is proposed
 
@@ -71,7 +80,18 @@ proposal cs k = find (is_proposal k) (proposals cs)
 abbrev pub outcome_by : Command → Option ProposalOutcome
 outcome_by (command.Confirm k) = Some (record { proposal = k; state = states.Confirmed })
 outcome_by (command.Drop k) = Some (record { proposal = k; state = states.Dropped })
-outcome_by _ = None
+outcome_by (command.AddPerson _) = None
+outcome_by (command.Submit _) = None
+outcome_by (command.Review _) = None
+outcome_by (command.Withdraw _) = None
+outcome_by (command.Return _) = None
+outcome_by (command.ListCertificate _) = None
+outcome_by (command.ListDigest _) = None
+outcome_by (command.Unlist _) = None
+outcome_by (command.RevokeDigest _) = None
+outcome_by (command.RevokeCertificate _) = None
+outcome_by (command.RaiseLevel _) = None
+outcome_by (command.ImportRevocations _) = None
 
 -- what became of the closed ones, the newest first
 abbrev pub outcomes : History → List ProposalOutcome

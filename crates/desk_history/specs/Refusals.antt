@@ -120,7 +120,16 @@ force_refusal cs (command.RevokeDigest d) = refuse_if (is_revoked kinds.Digest c
 force_refusal cs (command.RevokeCertificate d) = refuse_if (is_revoked kinds.Certificate cs d) refusals.AlreadyRevoked
 force_refusal cs (command.RaiseLevel r) = raise_refusal (greatest (generations cs) r.component.name) (stamp cs) r
 force_refusal cs (command.ImportRevocations i) = import_refusal (raises_some cs (forced i)) (stamp cs) i.stamp
-force_refusal cs _ = None
+force_refusal cs (command.AddPerson _) = None
+force_refusal cs (command.Submit _) = None
+force_refusal cs (command.Review _) = None
+force_refusal cs (command.Withdraw _) = None
+force_refusal cs (command.Return _) = None
+force_refusal cs (command.ListCertificate _) = None
+force_refusal cs (command.ListDigest _) = None
+force_refusal cs (command.Unlist _) = None
+force_refusal cs (command.Confirm _) = None
+force_refusal cs (command.Drop _) = None
 
 -- a proposal in this state is closed
 abbrev pub is_closed : ProposalState → Bool

@@ -64,7 +64,18 @@ request_named (command.Drop _) = None
 abbrev pub proposal_named : Command → Option ℕ
 proposal_named (command.Confirm k) = Some k
 proposal_named (command.Drop k) = Some k
-proposal_named _ = None
+proposal_named (command.AddPerson _) = None
+proposal_named (command.Submit _) = None
+proposal_named (command.Review _) = None
+proposal_named (command.Withdraw _) = None
+proposal_named (command.Return _) = None
+proposal_named (command.ListCertificate _) = None
+proposal_named (command.ListDigest _) = None
+proposal_named (command.Unlist _) = None
+proposal_named (command.RevokeDigest _) = None
+proposal_named (command.RevokeCertificate _) = None
+proposal_named (command.RaiseLevel _) = None
+proposal_named (command.ImportRevocations _) = None
 
 -- a key of this kind
 abbrev pub one_key : ListedKind → List ℕ → EntryKeys
