@@ -49,13 +49,13 @@ abbrev pub Deletes : List ℕ → Row → State → State → Type 0
 Deletes text params old new = (schema : Schema) (at : ℕ) (table : Table) (terms : List Term) → DeletesRows schema at table text terms
     → Moves schema (change_at at (filter (λ r. not (passes table terms params r)))) old new
 
--- CREATE TABLE: an empty table stands after the others
+-- CREATE TABLE: an empty table stands after the others, whose rows stay
 abbrev pub Creates : List ℕ → State → State → Type 0
-Creates text old new = (schema : Schema) (table : Table) → MakesTable schema table text → Makes old new schema (created schema table)
+Creates text old new = (schema : Schema) (table : Table) → MakesTable schema table text → Makes old new schema (created schema table) (table ∷ [])
 
 -- CREATE TABLE of each text: the empty tables stand in the order of the texts
 abbrev pub CreatesAll : List (List ℕ) → State → State → Type 0
-CreatesAll texts old new = (schema : Schema) (tables : List Table) → MakeTables schema tables texts → Makes old new schema (schema_after schema tables)
+CreatesAll texts old new = (schema : Schema) (tables : List Table) → MakeTables schema tables texts → Makes old new schema (schema_after schema tables) tables
 
 -- the answer is what the query shows of the rows that meet the terms, all and only those, in the order asked for
 pub record IsSelected (table : Table) (terms : List Term) (order : List (Term × Key)) (rest : List Term) (params : Row) (rows answer : List Row) : Type 0 where

@@ -1,14 +1,12 @@
 -- What a connection shows of a store's tables, inside a transaction and outside, and how steps change that.
-use Rattle.std.specs.Prelude.{◌≡◌, IsTrue, false, [], Result, IfOk, OnOk}
-use Rattle.std.specs.List.{AllByRecursion}
-use Rattle.sqlite.specs.Effect.{Database}
+use Rattle.std.specs.Prelude.{◌≡◌, IsTrue, false, List, ◌++◌, Result, IfOk, OnOk}
 use Rattle.sqlite.specs.Held.{Held, state}
 use Rattle.sqlite.specs.Schema.{Schema}
 use Rattle.sqlite.specs.State.{State, HasCleanDisk, KeepsCommit, Survives}
 use Rattle.sqlite.specs.Store.{Ghosts}
 use Rattle.sqlite.specs.Table.{Table}
 use Rattle.sqlite.specs.Tree.{Trees}
-use Rattle.desk_sql.specs.Contents.{Contents, Holds, IsDatabaseOf}
+use Rattle.desk_sql.specs.Contents.{Contents, Holds, no_rows}
 
 -- inside a transaction
 pub record Sees (schema : Schema) (s : State) (contents : Contents) : Type 0 where
@@ -40,18 +38,12 @@ Moves schema change old new = Turns schema (λ (c : Contents). c) change old new
 abbrev pub Leaves : State → (Trees → Type 0) → Type 0
 Leaves s P = HasCleanDisk s → (db : Trees) → s.may_leave db → P db
 
--- the tables of the schema stand there, and are empty
-pub record Made (db : Database) (schema : Schema) : Type 0 where
-  pub listed : db.schema ≡ schema
-  pub sound : IsDatabaseOf schema db.trees
-  pub empty : AllByRecursion (λ (t : Table). db.trees t.tree ≡ []) schema.tables
-
--- a step of making them
-pub record Makes (old new : State) (before after : Schema) : Type 0 where
+-- Steps that make tables: these stand after the others, without a row, and the others keep theirs.
+pub record Makes (old new : State) (before after : Schema) (added : List Table) : Type 0 where
   pub is_open : IsTrue old.is_open → IsTrue new.is_open
   pub inside : IsTrue new.in_transaction
   pub kept : KeepsCommit old new
-  pub value : Made old.now before → Made new.now after
+  pub value : (c : Contents) → Holds before old.now c → Holds after new.now (c ++ no_rows added)
 
 -- ---- what a call inside a transaction promises of the connection, where the disk is clean at its end
 

@@ -1,9 +1,9 @@
 //! The fifteen tables, and the functions that make them.
-ghost use Rattle.std.specs.Prelude.{◌≡◌, IsTrue, OnOk};
+ghost use Rattle.std.specs.Prelude.{◌≡◌, IsTrue, OnOk, map};
 ghost use Rattle.sqlite.specs.Held.{state};
 ghost use Rattle.sqlite.specs.State.{HasCleanDisk};
 ghost use Rattle.desk_sql.specs.States.{Keeps, Makes, Spares};
-ghost use Rattle.desk_statements.specs.Tables.{desk_schema, first_schema, no_schema};
+ghost use Rattle.desk_statements.specs.Tables.{added_tables, defined, desk_schema, desk_tables, first_schema, first_tables, no_schema};
 
 use desk_sql::create_tables;
 use sqlite::{Alter, Error, Transaction};
@@ -37,7 +37,8 @@ fn make_first<S: Alter>(tx: &mut Transaction<'_, S>) -> Result<(), Error>
     ensures value { HasCleanDisk (state S.Store tx.new.conn.now)
         → IsTrue (state S.Store tx.old.conn.now).in_transaction
         → OnOk result (Makes (state S.Store tx.old.conn.now)
-        (state S.Store tx.new.conn.now) no_schema first_schema) }
+        (state S.Store tx.new.conn.now) no_schema first_schema
+        (map defined first_tables)) }
     ensures kept { Keeps S.Store tx.old.conn.now tx.new.conn.now }
     ensures survives { Spares S.Store tx.old.conn.now tx.new.conn.now }
 {
@@ -47,13 +48,14 @@ fn make_first<S: Alter>(tx: &mut Transaction<'_, S>) -> Result<(), Error>
     }
 }
 
-/// Makes the three tables that version 2 adds, where those of version 1 stand.
+/// Makes the three tables that version 2 adds, where those of version 1 stand, whose rows stay.
 pub fn make_added<S: Alter>(tx: &mut Transaction<'_, S>) -> Result<(), Error>
     ensures same_reference { tx.new.conn.ghost_name ≡ tx.old.conn.ghost_name }
     ensures value { HasCleanDisk (state S.Store tx.new.conn.now)
         → IsTrue (state S.Store tx.old.conn.now).in_transaction
         → OnOk result (Makes (state S.Store tx.old.conn.now)
-        (state S.Store tx.new.conn.now) first_schema desk_schema) }
+        (state S.Store tx.new.conn.now) first_schema desk_schema
+        (map defined added_tables)) }
     ensures kept { Keeps S.Store tx.old.conn.now tx.new.conn.now }
     ensures survives { Spares S.Store tx.old.conn.now tx.new.conn.now }
 {
@@ -69,7 +71,8 @@ pub fn make<S: Alter>(tx: &mut Transaction<'_, S>) -> Result<(), Error>
     ensures value { HasCleanDisk (state S.Store tx.new.conn.now)
         → IsTrue (state S.Store tx.old.conn.now).in_transaction
         → OnOk result (Makes (state S.Store tx.old.conn.now)
-        (state S.Store tx.new.conn.now) no_schema desk_schema) }
+        (state S.Store tx.new.conn.now) no_schema desk_schema
+        (map defined desk_tables)) }
     ensures kept { Keeps S.Store tx.old.conn.now tx.new.conn.now }
     ensures survives { Spares S.Store tx.old.conn.now tx.new.conn.now }
 {

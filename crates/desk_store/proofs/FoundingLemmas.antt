@@ -1,5 +1,5 @@
 -- From the making of a desk to what the connection shows after it.
-use Rattle.std.proofs.Common.{◌≡◌, ℕ, List, [], sym, subst, ◌∙◌, arith, IsTrue, true, false}
+use Rattle.std.proofs.Common.{◌≡◌, ℕ, List, [], map, sym, subst, ◌∙◌, arith, IsTrue, true, false}
 use Rattle.std.specs.Prelude.{⊤}
 use Rattle.sqlite.specs.Store as store
 use Rattle.sqlite.specs.Effect.{Database, IsDatabase}
@@ -12,12 +12,11 @@ use Rattle.desk_sql.specs.Contents.{Holds, no_rows}
 use Rattle.desk_sql.specs.States.{Makes, Sees, Turns}
 use Rattle.desk_sql.proofs.ContentLemmas.{database_of}
 use Rattle.desk_sql.proofs.StopLemmas.{tables_of}
-use Rattle.desk_sql.proofs.TableLemmas.{made_holds}
-use Rattle.desk_statements.specs.Tables.{desk_schema, no_schema}
+use Rattle.desk_statements.specs.Tables.{defined, desk_schema, desk_tables, no_schema}
 use Rattle.desk_contents.specs.Histories.{HoldsHistory, ShowsHistory, rows_of}
 use Rattle.desk_store.specs.Steps.{Founds}
 
-pub founds : (first mid new : State) (owner : List ℕ) → Makes first mid no_schema desk_schema
+pub founds : (first mid new : State) (owner : List ℕ) → Makes first mid no_schema desk_schema (map defined desk_tables)
     → Turns desk_schema (λ (_ : ⊤). no_rows desk_schema.tables) (λ _. rows_of owner []) mid new → Founds first new owner
 founds first mid new owner made put = record {
   is_open = λ o. put.is_open (made.is_open o);
@@ -25,7 +24,7 @@ founds first mid new owner made put = record {
   kept = record { was_open = λ o. made.kept.was_open (put.kept.was_open o); committed = λ o. put.kept.committed o ∙ made.kept.committed (put.kept.was_open o) };
   value = λ sound free. put.value tt (record {
     inside = made.inside;
-    holds = made_holds desk_schema mid.now (made.value (record { listed = free; sound = database_of no_schema first.now free sound; empty = tt }));
+    holds = made.value [] (record { listed = free; sound = database_of no_schema first.now free sound; rows = tt });
   });
 }
 
