@@ -9,6 +9,7 @@ pub mod ContentLemmas
 pub mod WriteLemmas
 pub mod TableLemmas
 pub mod StopLemmas
+pub mod CommitLemmas
 pub mod ReadLemmas
 pub mod CountLemmas
 pub mod ItemLemmas
