@@ -3,3 +3,4 @@ pub mod Contents
 pub mod Columns
 pub mod Worked
 pub mod Histories
+pub mod WorkedFirst

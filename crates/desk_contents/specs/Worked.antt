@@ -42,11 +42,11 @@ repeated zero text = []
 repeated (suc n) text = text ++ repeated n text
 
 -- the 64 digits of a digest of one byte
-abbrev hex : List ℕ → List ℕ
+abbrev pub hex : List ℕ → List ℕ
 hex byte = repeated 32 byte
 
 -- a row of the table calls
-abbrev call : ℕ → List ℕ → List ℕ → List ℕ → List ℕ → Row
+abbrev pub call : ℕ → List ℕ → List ℕ → List ℕ → List ℕ → Row
 call number caller key text reply = Int (pos number) ∷ Null ∷ Text caller ∷ Text key ∷ Text text ∷ Text reply ∷ []
 
 -- the minutes, the newest first

@@ -5,6 +5,7 @@ ghost use Rattle.desk_statements.specs.Tables.{desk_tables};
 ghost use Rattle.desk_contents.specs.Columns.{HaveColumns};
 ghost use Rattle.desk_contents.specs.Contents.{contents};
 ghost use Rattle.desk_contents.specs.Worked as worked;
+ghost use Rattle.desk_contents.specs.WorkedFirst as worked_first;
 
 /// Each row has a value for each column of its table, of the column's kind, and no NULL but where the row id stands
 /// for the key.
@@ -15,4 +16,9 @@ pub fn rows_have_their_columns()
 /// The rows of a worked history are those that were written down by hand.
 pub fn worked_tables_are_rows()
     ensures { worked.HoldsDay }
+{}
+
+/// The rows of a worked history of one officer, of version 1 and of version 2, are those that were written down by hand.
+pub fn first_tables_are_rows()
+    ensures { worked_first.HoldsFirstDay }
 {}

@@ -3,4 +3,4 @@
 
 mod laws;
 
-pub use laws::{rows_have_their_columns, worked_tables_are_rows};
+pub use laws::{first_tables_are_rows, rows_have_their_columns, worked_tables_are_rows};
