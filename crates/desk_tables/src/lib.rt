@@ -1,6 +1,7 @@
 //! What a decision writes, written into the fifteen tables of a desk inside a transaction.
 #![tactic(auto)]
 
+mod committing;
 mod entering;
 mod fault;
 mod listing;
@@ -10,6 +11,7 @@ mod setting;
 mod stored;
 mod writing;
 
+pub use committing::failed_commit;
 pub use entering::{VERSION, put_desk, put_migrated};
 pub use fault::WriteFault;
 pub use setting::set_version;

@@ -1,0 +1,26 @@
+//! Commits that fail.
+ghost use Rattle.std.specs.Prelude.{◌≡◌, ◌≢◌, false};
+ghost use Rattle.sqlite.specs.Held.{state};
+ghost use Rattle.sqlite.specs.State.{HasCleanDisk, IsUnchanged};
+ghost use Rattle.desk_sql.specs.States.{Spares};
+
+use crate::WriteFault;
+use desk_statements::SELECT_DESK;
+use sqlite::{Alter, Connection, Error, ErrorCode};
+
+/// Why a commit failed. `NoMemory`: the store wanted memory and is open still, so nothing was
+/// committed. It asks the store for nothing but that it is open.
+pub fn failed_commit<S: Alter>(conn: &mut Connection<S>, error: &Error) -> WriteFault
+    ensures open { HasCleanDisk (state S.Store conn.new) → result ≢ WriteFault.Store
+        → IsUnchanged (state S.Store conn.old) (state S.Store conn.new) }
+    ensures outside { conn.old.in_transaction ≡ false → conn.new.in_transaction ≡ false }
+    ensures survives { Spares S.Store conn.old conn.new }
+{
+    match error {
+        Error::SqliteFailure(ErrorCode::OutOfMemory) => match conn.prepare(SELECT_DESK) {
+            Ok(_) => WriteFault::NoMemory,
+            Err(_) => WriteFault::Store,
+        },
+        _ => WriteFault::Store,
+    }
+}
