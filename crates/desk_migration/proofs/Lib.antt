@@ -1,0 +1,3 @@
+pub mod NameLemmas
+pub mod HistoryLemmas
+pub mod MigrationLemmas
