@@ -15,8 +15,7 @@ use Rattle.sqlite_trees.proofs.Doubt.{no_doubt}
 use Rattle.sqlite_trees.specs.View.{IsClean, IsQuiet}
 use Rattle.sqlite_wal.specs.Files.{outcomes}
 use Rattle.sqlite_wal.specs.Reads.{AreClean}
-use Rattle.desk_history.specs.Lives.{Life}
-use Rattle.desk_store.specs.Reopening.{FindsLives, LeavesLives}
+use Rattle.desk_store.specs.Reopening.{FoundAgain}
 
 -- files that are clean after a stop were clean before it
 pub both_clean : {D : Type 0} (g : Ghosts D) (given new : Files D) → (IsTrue (g.is_clean new.log) → IsTrue (g.is_clean given.log)) → (IsTrue (g.is_clean new.db) → IsTrue (g.is_clean given.db))
@@ -31,13 +30,12 @@ module _ {D : Type 0} (g : Ghosts D) (old : Held (FileStore D g)) (it : FileStor
   -- a connection over files that hold what the store's may leave finds what a stop left of the connection before
   pub found_again : IsQuiet view faults recovers is_shielded old.store it → (IsClean (view it) → IsTrue (view it).is_numbered) → (IsClean (view it) → AreDatabases (recovers it))
       → (given new : Files D) → files it ≡ (given.log, given.db) → (AreClean g new.log new.db → AreClean g given.log given.db)
-      → outcomes g given.log given.db (image_of g new) → (conn : Held (FileStore D g)) → (HasCleanDisk (file_state conn) → Finds new conn)
-      → (owner : List ℕ) (lives : List Life) → LeavesLives (file_state old) owner lives → FindsLives (file_state conn) owner lives
-  found_again quiet numbered sound given new same honest may conn opened owner lives leaves clean _ =
+      → outcomes g given.log given.db (image_of g new) → FoundAgain g old new
+  found_again quiet numbered sound given new same honest may owner lives seen leaves conn opened clean _ =
       let finds = opened clean in
       let sure = subst (λ p. AreClean g p.0 p.1) (sym same) (honest finds.honest) in
       let now : IsClean (view it) = no_doubt _ (clean_is it.pool ∙ sure) in
       let left = may_leave_is it.pool (image_of g new) sure (subst (λ p. outcomes g p.0 p.1 (image_of g new)) (sym same) may) in
       let before : HasCleanDisk (file_state old) = omega (arith, quiet.clean, now) in
-      ∥∥₁_map₂ (next_run it (numbered now) (sound now) (image_of g new) left (file_state conn) (record { holds = finds.holds; reads = finds.reads })) leaves
+      ∥∥₁_map₂ (next_run it (numbered now) (sound now) (image_of g new) left (file_state conn) (record { holds = finds.holds; reads = finds.reads })) (leaves before)
       (λ trees each. each before _ (quiet.outcomes _ trees))

@@ -7,15 +7,16 @@ use Rattle.desk_bytes.specs.declared.refusal.Refusal.{Refusal}
 use Rattle.desk_bytes.specs.declared.refusal.Refusal.TheVariants as refusals
 use Rattle.desk_texts.specs.declared.command.Call.{Call}
 use Rattle.desk_texts.specs.declared.reply.Reply.{Reply}
-use Rattle.desk_history.specs.Calls.{History, item}
+use Rattle.desk_history.specs.Calls.{History, Second, item}
+use Rattle.desk_history.specs.Runs.{next}
 use Rattle.desk_history.specs.Lives.{Answered, Ends, Event, Fate, Life, Opened, Refused, Stopped}
 use Rattle.desk_store.specs.Desks.{MayStop, Refuses, Replies, ShowsDesk}
-use Rattle.desk_store.specs.Reopening.{Keeps, LeavesLives}
+use Rattle.desk_store.specs.Reopening.{IsSince, Keeps, LeavesLives, Seen}
 use Rattle.desk_store.specs.declared.desk.Desk.{Desk}
 
 -- these lives, and the one of a desk that was opened after them and was called so
 abbrev pub and_now : List Life → List Event → List Life
-and_now before events = before ++ record { opening = Opened; events = events } ∷ []
+and_now before events = before ++ record { rules = Second; opening = Opened; events = events } ∷ []
 
 -- the events, and then this call
 abbrev pub and_then : List Event → Call → Fate → List Event
@@ -25,36 +26,44 @@ and_then events c fate = events ++ record { item = item c; fate = fate } ∷ []
 abbrev pub is_told : Event → Bool
 is_told e = elim e.fate [ Answered reply ↦ true | Refused ↦ true | Stopped ↦ false ]
 
--- The desk answers for a history that these lives may leave, the last of them its own, which met no stop yet.
-pub record LivesOn {S : Type 0} (g : Ghosts S) (desk : Desk S) (owner : List ℕ) (before : List Life) (events : List Event) : Type 0 where
+-- what was seen, and then this call, which was stopped
+abbrev pub and_stopped : Seen → Call → Seen
+and_stopped seen c = record { at = seen.at; since = and_then seen.since c Stopped }
+
+-- The desk answers for this history, which these lives may leave, the last of them its own, which met no stop yet.
+pub record LivesOn {S : Type 0} (g : Ghosts S) (desk : Desk S) (owner : List ℕ) (before : List Life) (events : List Event) (cs : History) : Type 0 where
   pub told : IsTrue (list_all is_told events)
-  pub some : ∥ ((cs : History) × Ends (and_now before events) cs × ShowsDesk g desk owner cs) ∥₁
+  pub ends : Ends (and_now before events) cs
+  pub shows : ShowsDesk g desk owner cs
 
 module _ {S : Type 0} (g : Ghosts S) (desk : Desk S) where
   -- a new desk begins the first life
   abbrev pub BeginsLiving : Type 0
-  BeginsLiving = (owner : List ℕ) → ShowsDesk g desk owner [] → LivesOn g desk owner [] []
+  BeginsLiving = (owner : List ℕ) → ShowsDesk g desk owner [] → LivesOn g desk owner [] [] []
 
   -- a desk that was opened begins the next
   abbrev pub LivesAgain : Type 0
-  LivesAgain = (owner : List ℕ) (lives : List Life) (cs : History) → Keeps g desk owner lives cs → LivesOn g desk owner lives []
+  LivesAgain =
+      (owner : List ℕ) (lives : List Life) (seen : Seen) (cs : History) → Keeps g desk owner lives seen cs
+      → LivesOn g desk owner lives [] cs
 
-  -- whenever no call is under way, a stop leaves what the lives may leave
+  -- Whenever no call is under way, a stop leaves what the lives may leave, after all that was seen: `now cs` is.
   abbrev pub MayStopLiving : Type 0
   MayStopLiving =
-      (owner : List ℕ) (before : List Life) (events : List Event) → LivesOn g desk owner before events
-      → LeavesLives (state g desk.conn) owner (and_now before events)
+      (owner : List ℕ) (before : List Life) (events : List Event) (seen : Seen) (cs : History) → LivesOn g desk owner before events cs
+      → IsSince seen cs → LeavesLives (state g desk.conn) owner (and_now before events) seen
 
 module _ {S : Type 0} (g : Ghosts S) (old new : Desk S) where
   -- a call that is answered Ok, or refused, is one more of the desk's life
   abbrev pub GoesOnLiving : Type 0
   GoesOnLiving =
-      (owner : List ℕ) (before : List Life) (events : List Event) (c : Call) → LivesOn g old owner before events
-      → ((reply : Reply) → Replies g old new c reply → LivesOn g new owner before (and_then events c (Answered reply)))
-      × ((refusal : Refusal) → refusal ≢ refusals.Store → Refuses g old new c refusal → LivesOn g new owner before (and_then events c Refused))
+      (owner : List ℕ) (before : List Life) (events : List Event) (cs : History) (c : Call) → LivesOn g old owner before events cs
+      → ((reply : Reply) → Replies g old new c reply → LivesOn g new owner before (and_then events c (Answered reply)) (next cs c))
+      × ((refusal : Refusal) → refusal ≢ refusals.Store → Refuses g old new c refusal → LivesOn g new owner before (and_then events c Refused) cs)
 
-  -- whatever becomes of it, a stop leaves what the lives may leave where it was stopped
+  -- Whatever becomes of it, a stop leaves what the lives may leave where it was stopped, after all that was seen.
   abbrev pub MayEndLiving : Type 0
   MayEndLiving =
-      (owner : List ℕ) (before : List Life) (events : List Event) (c : Call) → LivesOn g old owner before events
-      → MayStop g old new c → LeavesLives (state g new.conn) owner (and_now before (and_then events c Stopped))
+      (owner : List ℕ) (before : List Life) (events : List Event) (seen : Seen) (cs : History) (c : Call) → LivesOn g old owner before events cs
+      → IsSince seen cs → MayStop g old new c
+      → LeavesLives (state g new.conn) owner (and_now before (and_then events c Stopped)) (and_stopped seen c)

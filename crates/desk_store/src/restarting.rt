@@ -5,7 +5,7 @@ ghost use Rattle.sqlite.specs.State.{HasCleanDisk};
 ghost use Rattle.desk_history.specs.Calls.{History};
 ghost use Rattle.desk_history.specs.Formed.{IsItem};
 ghost use Rattle.desk_history.specs.Lives.{Life, events_of};
-ghost use Rattle.desk_store.specs.Reopening.{FoundAgain, Keeps, LeavesLives};
+ghost use Rattle.desk_store.specs.Reopening.{FoundAgain, Keeps, LeavesLives, Seen};
 ghost use Rattle.desk_store.specs.Steps.{IsReadRefusal};
 
 use crate::desk::Desk;
@@ -39,9 +39,10 @@ pub fn restart<D: Crash + Drop>(
     options: Options,
 ) -> Result<Desk<FileStore<D>>, Refusal>
     ensures keeps { IfOk result (λ again. HasCleanDisk (file_state again.conn)
-        → (owner : List ℕ) (lives : List Life) → All (λ e. IsItem e.item) (events_of lives)
-        → LeavesLives (file_state desk.conn) owner lives
-        → ∥ ((cs : History) × Keeps over_files again owner lives cs) ∥₁) }
+        → (owner : List ℕ) (lives : List Life) (seen : Seen)
+        → All (λ e. IsItem e.item) (events_of lives)
+        → LeavesLives (file_state desk.conn) owner lives seen
+        → ∥ ((cs : History) × Keeps over_files again owner lives seen cs) ∥₁) }
     ensures named { IfErr result (λ refusal. (refusal ≡ Refusal.Version) ⊎ IsReadRefusal refusal) }
 {
     match Connection::open_files(alloc, crashed(desk), options) {
