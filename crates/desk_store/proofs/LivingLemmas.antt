@@ -1,22 +1,18 @@
 -- Lives with one more call.
-use Rattle.std.proofs.Common.{◌≡◌, ◌≢◌, ℕ, Bool, true, false, List, [], ◌∷◌, ◌++◌, ◌&&◌, refl, sym, ap, subst, ◌∙◌, IsTrue}
+use Rattle.std.proofs.Common.{◌≡◌, Bool, true, false, List, [], ◌∷◌, ◌++◌, ◌&&◌, refl, sym, ap, subst, ◌∙◌, IsTrue}
 use Rattle.std.specs.Prelude.{if◌then◌else◌}
-use Rattle.std.specs.List.{flat_map, list_all}
+use Rattle.std.specs.List.{list_all}
 use Rattle.std.proofs.lemmas.Bool.{and_parts}
 use Rattle.std.proofs.lemmas.Grind.{flat_map-append}
 use Rattle.std.proofs.lemmas.List.{append-nil, append_assoc}
 use Rattle.std.proofs.lemmas.List.Folds.{list_all-append}
 use Rattle.sqlite.specs.Store as store
-use Rattle.sqlite.specs.Held.{state}
-use Rattle.desk_bytes.specs.declared.refusal.Refusal.{Refusal}
-use Rattle.desk_bytes.specs.declared.refusal.Refusal.TheVariants as refusals
 use Rattle.desk_texts.proofs.FormLemmas.{joined}
 use Rattle.desk_texts.specs.declared.command.Call.{Call}
 use Rattle.desk_history.specs.Calls.{History, Item, Second, item}
 use Rattle.desk_history.specs.Runs.{next}
-use Rattle.desk_history.specs.Lives.{Answered, Ends, Event, Fate, Life, MayLeave, MayTurn, Opened, Refused, Stopped, are_by, are_in_order, are_rules, ends_at_a_stop, events_of, is_life, is_opened_by_second, is_second_life}
-use Rattle.desk_store.specs.Desks.{MayStop, Refuses, Replies, ShowsDesk}
-use Rattle.desk_store.specs.Living.{BeginsLiving, GoesOnLiving, LivesAgain, LivesOn, MayEndLiving, MayStopLiving, and_now, and_then, is_told}
+use Rattle.desk_history.specs.Lives.{Answered, Ends, Event, Fate, Life, MayLeave, MayTurn, NotOpened, Opened, Refused, Stopped, are_by, are_in_order, are_rules, ends_at_a_stop, events_of, is_life, is_opened_by_second, is_second_life}
+use Rattle.desk_store.specs.Living.{BeginsLiving, GoesOnLiving, LivesAgain, MayEndLiving, MayStopLiving, and_now, and_refused, and_then, is_told}
 use Rattle.desk_store.specs.declared.desk.Desk.{Desk}
 
 -- the events of the lives are those before, and then those of the last
@@ -113,6 +109,10 @@ ends_after lives last cs life second none ends = (
 -- a history that the lives may leave, where one more begins
 ends_next : (lives : List Life) (cs : History) → Ends lives cs → Ends (and_now lives []) cs
 ends_next lives cs ends = ends_after lives (record { rules = Second; opening = Opened; events = [] }) cs refl refl refl ends
+
+-- a life that isn't opened leaves the history as it was
+pub ends_refused : (lives : List Life) (cs : History) → Ends lives cs → Ends (and_refused lives) cs
+ends_refused lives cs ends = ends_after lives (record { rules = Second; opening = NotOpened; events = [] }) cs refl refl refl ends
 
 module _ {S : Type 0} (g : store.Ghosts S) (desk : Desk S) where
   pub begins_living : BeginsLiving g desk

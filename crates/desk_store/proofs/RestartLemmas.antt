@@ -1,8 +1,8 @@
 -- From what a stop leaves of a desk's files to what a connection that is opened over them finds.
-use Rattle.std.proofs.Common.{◌≡◌, ℕ, List, refl, sym, subst, ◌∙◌, arith, IsTrue}
+use Rattle.std.proofs.Common.{◌≡◌, ℕ, List, Option, Some, None, refl, sym, subst, ◌∙◌, arith, IsTrue}
 use Rattle.std.proofs.Math.Logic.{∥∥₁_map₂}
 use Rattle.std.proofs.lemmas.Bool.{and_parts}
-use Rattle.sqlite.specs.Files.{Finds, file_state, image_of}
+use Rattle.sqlite.specs.Files.{file_state, image_of}
 use Rattle.sqlite.specs.Held.{AreDatabases, Held}
 use Rattle.sqlite.specs.State.{HasCleanDisk}
 use Rattle.sqlite.proofs.Theorems.{next_run}
@@ -15,7 +15,10 @@ use Rattle.sqlite_trees.proofs.Doubt.{no_doubt}
 use Rattle.sqlite_trees.specs.View.{IsClean, IsQuiet}
 use Rattle.sqlite_wal.specs.Files.{outcomes}
 use Rattle.sqlite_wal.specs.Reads.{AreClean}
-use Rattle.desk_store.specs.Reopening.{FoundAgain}
+use Rattle.std.specs.Prelude.{IfSome}
+use Rattle.desk_history.specs.Lives.{Life}
+use Rattle.desk_store.specs.Living.{and_refused}
+use Rattle.desk_store.specs.Reopening.{FilesHold, FoundAgain, LeavesLives, Seen}
 
 -- files that are clean after a stop were clean before it
 pub both_clean : {D : Type 0} (g : Ghosts D) (given new : Files D) → (IsTrue (g.is_clean new.log) → IsTrue (g.is_clean given.log)) → (IsTrue (g.is_clean new.db) → IsTrue (g.is_clean given.db))
@@ -39,3 +42,10 @@ module _ {D : Type 0} (g : Ghosts D) (old : Held (FileStore D g)) (it : FileStor
       let before : HasCleanDisk (file_state old) = omega (arith, quiet.clean, now) in
       ∥∥₁_map₂ (next_run it (numbered now) (sound now) (image_of g new) left (file_state conn) (record { holds = finds.holds; reads = finds.reads })) (leaves before)
       (λ trees each. each before _ (quiet.outcomes _ trees))
+
+-- files that an opening after a stop gives back hold what the stop left of the connection before
+pub given_back : {D : Type 0} (g : Ghosts D) (old : Held (FileStore D g)) (files : Files D) → FoundAgain g old files → (back : Option (Files D))
+    → IfSome back (λ left. (owner : List ℕ) (lives : List Life) (seen : Seen) → FilesHold g files owner lives seen → FilesHold g left owner (and_refused lives) seen)
+    → IfSome back (λ left. (owner : List ℕ) (lives : List Life) (seen : Seen) → LeavesLives (file_state old) owner lives seen → FilesHold g left owner (and_refused lives) seen)
+given_back g old files found None h = tt
+given_back g old files found (Some left) h = λ owner lives seen leaves. h owner lives seen (found owner lives seen (λ _. leaves))

@@ -9,7 +9,7 @@ use Rattle.desk_texts.specs.declared.command.Call.{Call}
 use Rattle.desk_texts.specs.declared.reply.Reply.{Reply}
 use Rattle.desk_history.specs.Calls.{History, Second, item}
 use Rattle.desk_history.specs.Runs.{next}
-use Rattle.desk_history.specs.Lives.{Answered, Ends, Event, Fate, Life, Opened, Refused, Stopped}
+use Rattle.desk_history.specs.Lives.{Answered, Ends, Event, Fate, Life, NotOpened, Opened, Refused, Stopped}
 use Rattle.desk_store.specs.Desks.{MayStop, Refuses, Replies, ShowsDesk}
 use Rattle.desk_store.specs.Reopening.{IsSince, Keeps, LeavesLives, Seen}
 use Rattle.desk_store.specs.declared.desk.Desk.{Desk}
@@ -17,6 +17,10 @@ use Rattle.desk_store.specs.declared.desk.Desk.{Desk}
 -- these lives, and the one of a desk that was opened after them and was called so
 abbrev pub and_now : List Life → List Event → List Life
 and_now before events = before ++ record { rules = Second; opening = Opened; events = events } ∷ []
+
+-- these lives, and one that wasn't opened: its opening was refused, or was stopped
+abbrev pub and_refused : List Life → List Life
+and_refused before = before ++ record { rules = Second; opening = NotOpened; events = [] } ∷ []
 
 -- the events, and then this call
 abbrev pub and_then : List Event → Call → Fate → List Event

@@ -18,4 +18,4 @@ mod showing;
 pub use desk::Desk;
 pub use desk_counts::{Counts, KindCounts, ListCounts, RequestCounts};
 pub use living::{calls_make_lives, openings_begin_lives};
-pub use restarting::restart;
+pub use restarting::{reopen, restart};

@@ -1,0 +1,30 @@
+use Rattle.std.proofs.Common.{arith, IsTrue}
+use Rattle.std.proofs.Math.Logic.{∥∥₁_map}
+use Rattle.sqlite.specs.Files.{file_state}
+use Rattle.sqlite.specs.State.{HasCleanDisk}
+use Rattle.desk_contents.specs.Histories.{rows_of}
+use Rattle.desk_statements.specs.Tables.{desk_schema}
+use Rattle.desk_store.specs.Living.{and_refused}
+use Rattle.desk_store.specs.Reopening.{HoldsLives}
+use Rattle.desk_store.proofs.LivingLemmas.{ends_refused}
+use Rattle.desk_store.proofs.OpeningLemmas.{still_leaves}
+use Rattle.desk_store.proofs.restarting.reopen.Goals as goal
+
+pub returns-in-Ok-open-clause-keeps : goal.returns-in-Ok-open-clause-keeps
+returns-in-Ok-open-clause-keeps g c clean owner lives seen formed holds =
+    c.in-Ok-open.ensures.lives clean owner lives seen formed (holds c.in-Ok.conn c.in-Ok.ensures.found)
+
+pub returns-in-Err-open-clause-again : goal.returns-in-Err-open-clause-again
+returns-in-Err-open-clause-again g c owner lives seen holds =
+    let first = c.in-Ok.conn in
+    let last = c.in-Err-open.conn in
+    c.crashed.ensures.found owner (and_refused lives) seen (λ clean.
+    let before : HasCleanDisk (file_state first) = omega (arith, c.in-Err-open.ensures.spared.clean, clean) in
+    let live : IsTrue (file_state first).is_open = (c.in-Ok.ensures.opened before).0.is_open in
+    ∥∥₁_map (holds first c.in-Ok.ensures.found before live) (λ it.
+    let left = c.stop_leaves_what_is_shown.ensures desk_schema (rows_of owner it.0) (c.found_is_shown.ensures owner it.0 it.3) live in
+    still_leaves (λ db. HoldsLives db owner (and_refused lives) seen) (file_state first) (file_state last) c.in-Err-open.ensures.spared
+    (λ sure db may. (it.0, ends_refused lives it.0 it.1, it.2, left sure db may))))
+
+pub returns-in-Err-open-clause-named : goal.returns-in-Err-open-clause-named
+returns-in-Err-open-clause-named g c = c.in-Err-open.ensures.named
