@@ -15,7 +15,8 @@ use Rattle.desk_history.specs.Calls.{GoesOnFrom, History, are_apart, is_same_ite
 use Rattle.desk_history.specs.FormLaws.{KeepsAnswered}
 use Rattle.desk_history.specs.Formed.{IsItem}
 use Rattle.desk_history.specs.Lives.{Ends, Event, Life, MayLeave, events_of}
-use Rattle.desk_history.specs.Verdicts.{is_barred}
+use Rattle.desk_history.specs.Verdicts.{is_barred, verdict}
+use Rattle.desk_history.specs.declared.finding.Verdict.TheVariants.{Allowed}
 use Rattle.desk_sql.specs.States.{Leaves}
 use Rattle.desk_contents.specs.Histories.{HoldsHistory}
 use Rattle.desk_store.specs.Desks.{ShowsDesk}
@@ -64,14 +65,16 @@ FoundAgain g old new =
 -- What a desk that was opened after these lives answers for. `ends`: the history is what the lives' calls leave one after
 -- another, where of each life at most the call that was stopped may be missing. `since`: it is also what the calls since
 -- the seen history leave, and so goes on from that very history (`goes_on`), and each image that was barred then is barred
--- (`bars`). `shows`: answers, verdicts and exports of the desk are those of this history. `once`: no key of a caller stands
--- in it twice. `answered`: each call that was answered Ok stands in it with its reply, it goes on from the history of that
--- time, and each image that was barred then is barred.
+-- (`bars`). `refuses`: an image that is barred isn't allowed. `shows`: answers, verdicts and exports of the desk are those
+-- of this history. `once`: no key of a caller stands in it twice. `answered`: each call that was answered Ok was answered
+-- at some history, it stands with its reply, what stands goes on from that history, and each image that was barred then is
+-- barred and not allowed.
 pub record Keeps {S : Type 0} (g : Ghosts S) (desk : Desk S) (owner : List ℕ) (lives : List Life) (seen : Seen) (cs : History) : Type 0 where
   pub ends : Ends lives cs
   pub since : IsSince seen cs
   pub goes_on : GoesOnFrom seen.at cs
   pub bars : (x : Facts) → IsTrue (is_barred seen.at x) → IsTrue (is_barred cs x)
+  pub refuses : (x : Facts) → IsTrue (is_barred cs x) → verdict cs x ≢ Allowed
   pub shows : ShowsDesk g desk owner cs
   pub once : IsTrue (are_apart is_same_item cs)
   pub answered : KeepsAnswered (events_of lives) cs

@@ -4,7 +4,7 @@ use Rattle.sqlite.specs.Held.{state}
 use Rattle.sqlite.specs.State.{HasCleanDisk}
 use Rattle.desk_history.specs.Tables.{tables}
 use Rattle.desk_history.proofs.LifeLemmas.{left_goes_on}
-use Rattle.desk_history.proofs.VerdictLemmas.{what_is_barred_stays_barred}
+use Rattle.desk_history.proofs.VerdictLemmas.{barred_not_allowed, what_is_barred_stays_barred}
 use Rattle.desk_contents.specs.Histories.{HoldsHistory, rows_of}
 use Rattle.desk_statements.specs.Tables.{desk_schema}
 use Rattle.desk_store.specs.Rows.{AreOf}
@@ -41,6 +41,7 @@ returns-else-version-from-clause-lives g c clean owner lives seen formed finds =
         ends = it.1;
         since = it.2;
         goes_on = on;
+        refuses = barred_not_allowed cs;
         bars = λ x is. what_is_barred_stays_barred seen.at cs x on is;
         shows = returns-else-version-from-clause-ok g c clean owner cs law.0 shows left;
         once = c.keys_stand_once.ensures cs law.0.legal;
