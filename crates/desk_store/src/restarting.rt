@@ -63,7 +63,10 @@ pub fn reopen<D: Crash + Drop>(
     stop_leaves_what_is_shown(&conn);
     match Desk::open(alloc, conn) {
         Ok(desk) => Ok(desk),
-        Err((refusal, conn)) => Err((refusal, Some(crashed(conn)))),
+        Err((refusal, conn)) => {
+            let left = crashed(conn);
+            Err((refusal, Some(left)))
+        }
     }
 }
 

@@ -18,7 +18,7 @@ pub returns-in-Err-open-clause-again : goal.returns-in-Err-open-clause-again
 returns-in-Err-open-clause-again g c owner lives seen holds =
     let first = c.in-Ok.conn in
     let last = c.in-Err-open.conn in
-    c.crashed.ensures.found owner (and_refused lives) seen (λ clean.
+    c.crashed-left.ensures.found owner (and_refused lives) seen (λ clean.
     let before : HasCleanDisk (file_state first) = omega (arith, c.in-Err-open.ensures.spared.clean, clean) in
     let live : IsTrue (file_state first).is_open = (c.in-Ok.ensures.opened before).0.is_open in
     ∥∥₁_map (holds first c.in-Ok.ensures.found before live) (λ it.

@@ -54,7 +54,8 @@ returns-then-version-from-clause-found g c clean owner lives seen long formed fi
     let before : HasCleanDisk (state g.S.Store c.args.conn) = omega (arith, c.read_version.ensures.survives.clean, clean) in
     let live : IsTrue (state g.S.Store c.args.conn).is_open = c.in-Ok.ensures.open clean in
     let other : c.in-Ok.version ≢ 2 = search rules in
-    (λ is. cc, λ _. not_missing (finds before live) (λ it. other (c.in-Ok.ensures.told clean owner it.0 long (c.lives_keep_what_was_answered.ensures lives it.0 it.1 formed).0 (c.found_is_shown.ensures owner it.0 it.3))))
+    let none : ⊥ = not_missing (finds before live) (λ it. other (c.in-Ok.ensures.told clean owner it.0 long (c.lives_keep_what_was_answered.ensures lives it.0 it.1 formed).0 (c.found_is_shown.ensures owner it.0 it.3))) in
+    (λ _. none, λ _. none)
 
 pub returns-in-Err-clause-found : goal.returns-in-Err-clause-found
 returns-in-Err-clause-found g c clean owner lives seen long formed finds =
