@@ -8,7 +8,7 @@ use Rattle.desk_statements.specs.Tables.{first_schema}
 use Rattle.desk_contents.specs.Histories.{ShowsFirst}
 use Rattle.desk_migration.specs.Names.{takes_a_name}
 
-none_taken : takes_a_name first_schema ≡ false
+pub none_taken : takes_a_name first_schema ≡ false
 unfolding same_name
 none_taken = refl
 

@@ -57,6 +57,8 @@ fn migrate_at_once<S: Alter>(conn: &mut Connection<S>) -> Result<(), Refusal>
         (IsTrue (state S.Store conn.new).is_open
         × ((owner : List ℕ) (cs : History) → ShowsFirst (state S.Store conn.old) owner cs
         → ShowsHistory (state S.Store conn.new) owner cs)) }
+    ensures was_open { HasCleanDisk (state S.Store conn.new)
+        → OnOk result (IsTrue (state S.Store conn.old).is_open) }
 
     ensures failed { IfErr result IsFailure }
 
@@ -91,6 +93,8 @@ pub fn migrate<S: Alter>(conn: &mut Connection<S>) -> Result<(), Refusal>
         (IsTrue (state S.Store conn.new).is_open
         × ((owner : List ℕ) (cs : History) → ShowsFirst (state S.Store conn.old) owner cs
         → ShowsHistory (state S.Store conn.new) owner cs)) }
+    ensures was_open { HasCleanDisk (state S.Store conn.new)
+        → OnOk result (IsTrue (state S.Store conn.old).is_open) }
     ensures free { OnOk result (takes_a_name (state S.Store conn.old).now.schema ≡ false) }
 
     ensures taken { HasCleanDisk (state S.Store conn.new) → IfErr result (λ e.

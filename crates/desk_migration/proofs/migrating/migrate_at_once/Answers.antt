@@ -27,6 +27,20 @@ returns-in-Ok-commit-clause-ok g c =
     (λ clean. let late : HasCleanDisk (state g.S.Store last) = omega (arith, c.in-Ok-commit.ensures.survives.clean, clean) in
     migrated_shown g.S.Store old last end spared late (live late) (turns late) (c.in-Ok-commit.ensures.ok clean).1)
 
+pub returns-in-Ok-commit-clause-was_open : goal.returns-in-Ok-commit-clause-was_open
+returns-in-Ok-commit-clause-was_open g c =
+    let old = c.args.conn.now in
+    let begun = state g.S.Store (record old { in_transaction = true }) in
+    let last = c.migrate_inside.new.tx.conn.now in
+    let end = c.commit.new.self.0 in
+    let did = c.in-Ok.ensures in
+    let turns : HasCleanDisk (state g.S.Store last) → TurnsFirst begun (state g.S.Store last) = λ late. (rw c.transaction-tx.ensures.begun at (did.value late)) refl in
+    let live : HasCleanDisk (state g.S.Store last) → IsTrue (state g.S.Store last).is_open = λ late. ((rw c.transaction-tx.ensures.begun at (did.inside late)) refl).0 in
+    let same : end ≡ c.conn-1.given.0 = search rules in
+    subst (λ (x : Held _). HasCleanDisk (state g.S.Store x) → IsTrue (state g.S.Store old).is_open) same
+    (λ clean. let late : HasCleanDisk (state g.S.Store last) = omega (arith, c.in-Ok-commit.ensures.survives.clean, clean) in
+    (turns late).kept.was_open (live late))
+
 pub returns-in-Ok-commit-clause-survives : goal.returns-in-Ok-commit-clause-survives
 returns-in-Ok-commit-clause-survives g c =
     let old = c.args.conn.now in
