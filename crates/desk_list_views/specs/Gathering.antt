@@ -75,7 +75,7 @@ pub record PutsOnly {X : Type 0} (P : X → Type 0) (old new : List X) : Type 0 
   pub is : new ≡ old ++ more
   pub all : All P more
 
--- these are the keys of the listed entries that have these keys
+-- for each of these keys the rows tell whether the tables list it
 abbrev pub ShowsListed : List Listing → EntryKeys → Tables → Type 0
 ShowsListed rows k t = (kind : ListedKind) (digest : List ℕ) → IsTrue (is_among (keys_for k kind) digest)
     → list_any (is_listing kind digest) rows ≡ has_entry kind digest t.listed
