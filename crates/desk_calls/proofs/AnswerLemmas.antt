@@ -1,9 +1,10 @@
 -- From what a desk gives to what is answered.
-use Rattle.std.proofs.Common.{◌≡◌, ◌≢◌, inl, inr, ℕ, List, Some, None, Result, Ok, Err, refl, sym, ap, subst}
+use Rattle.std.proofs.Common.{◌≡◌, ◌≢◌, ◌∙◌, inl, inr, ℕ, List, [], Some, None, Result, Ok, Err, refl, sym, ap, subst}
 use Rattle.desk_bytes.specs.declared.refusal.Refusal.{Refusal}
 use Rattle.desk_bytes.specs.declared.refusal.Refusal.TheVariants as refusals
 use Rattle.desk_texts.specs.declared.command.Command.{Command}
 use Rattle.desk_texts.specs.declared.command.Person.{Person}
+use Rattle.desk_texts.specs.declared.facts.Facts.{Facts}
 use Rattle.desk_texts.specs.declared.reply.Reply.{Reply}
 use Rattle.desk_history.specs.Calls.{History}
 use Rattle.desk_history.specs.Runs as runs
@@ -13,8 +14,8 @@ use Rattle.desk_responses.specs.Refusals.{refused_of}
 use Rattle.desk_responses.specs.declared.outage.Outage.TheVariants as outage
 use Rattle.desk_responses.specs.declared.refused.Refused.{Refused}
 use Rattle.desk_responses.specs.declared.refused.Refused.TheVariants as refused
-use Rattle.desk_calls.specs.Answers.{AnswersTask, IsReadAndTaken, IsRefusal, IsRuled, IsTaken, Serves, call_of}
-use Rattle.desk_calls.specs.Bodies.{Gives}
+use Rattle.desk_calls.specs.Answers.{AnswersTask, IsClosed, IsRead, IsReadAndTaken, IsRefusal, IsRuled, IsTaken, Judges, Serves, call_of}
+use Rattle.desk_calls.specs.Bodies.{Gives, ReadsFacts, RefusesImage}
 use Rattle.desk_calls.specs.Desks.{IsOutage}
 use Rattle.desk_calls.specs.declared.answers.Answer.{Answer}
 use Rattle.desk_calls.specs.declared.answers.Answer.TheVariants as answer
@@ -34,13 +35,13 @@ no_third r (inr (inl e)) no_reopen no_memory no_store = no_store e
 no_third r (inr (inr e)) no_reopen no_memory no_store = no_reopen e
 
 -- a refusal of the desk is an outage, or the answer that is due
-pub serves_refusal : (after : History → Type 0) (cs : History) (due : Answer → History → Type 0) (r : Refusal) (x : Refused)
-    → refused_of r ≡ Some x → (r ≢ refusals.Store → after cs)
+pub serves_refusal : (after : History → Type 0) (failed : Type 0) (cs : History) (due : Answer → History → Type 0) (r : Refusal) (x : Refused)
+    → refused_of r ≡ Some x → (r ≢ refusals.Store → after cs) → (r ≡ refusals.Store → failed)
     → (r ≢ refusals.NoMemory → r ≢ refusals.Store → IsRefusal r (answer.Refused x) → due (answer.Refused x) cs)
-    → Serves after cs due (answer.Refused x)
-serves_refusal after cs due r x is same told = elim (apart r) [
+    → Serves after failed cs due (answer.Refused x)
+serves_refusal after failed cs due r x is same fails told = elim (apart r) [
   | inl memory ↦ inr (inl (ap answer.Refused (told_memory r x is memory), same (λ e. let h : refusals.NoMemory ≡ refusals.Store = cc in cc)))
-  | inr (inl store) ↦ inr (inr (ap answer.Refused (told_store r x is store)))
+  | inr (inl store) ↦ inr (inr (ap answer.Refused (told_store r x is store), fails store))
   | inr (inr others) ↦ inl (cs, told others.0 others.1 (record { refused = x; told = placeless r x is; is = refl }), same others.1)
 ]
 
@@ -57,29 +58,62 @@ taken_refusal cs name key command r a is told =
     (subst (λ said. IsRuled said a) (sym is) told, rw is refl)
 
 -- a body that is read so is taken as it was read
-pub serves_read : (after : History → Type 0) (cs : History) (name key : List ℕ) (reads : Result Command Refused → Type 0)
+pub serves_read : (after : History → Type 0) (failed : Type 0) (cs : History) (name key : List ℕ) (reads : Result Command Refused → Type 0)
     (read : Result Command Refused) (a : Answer)
-    → Gives reads read → Serves after cs (IsTaken cs name key read) a → Serves after cs (IsReadAndTaken cs name key reads) a
-serves_read after cs name key reads read a (inl is) (inl served) = inl (served.0, (read, is, served.1), served.2)
-serves_read after cs name key reads read a (inl is) (inr failed) = inr failed
-serves_read after cs name key reads read a (inr no_memory) (inl served) =
+    → Gives reads read → Serves after failed cs (IsTaken cs name key read) a → Serves after failed cs (IsReadAndTaken cs name key reads) a
+serves_read after failed cs name key reads read a (inl is) (inl served) = inl (served.0, (read, is, served.1), served.2)
+serves_read after failed cs name key reads read a (inl is) (inr others) = inr others
+serves_read after failed cs name key reads read a (inr no_memory) (inl served) =
     let taken : IsTaken cs name key (Err (refused.Unavailable outage.NoMemory)) a served.0 = subst (λ r. IsTaken cs name key r a served.0) no_memory served.1 in
     inr (inl (taken.0, subst after taken.1 served.2))
-serves_read after cs name key reads read a (inr no_memory) (inr failed) = inr failed
+serves_read after failed cs name key reads read a (inr no_memory) (inr others) = inr others
 
 -- a reply of the rules is the answer
-pub serves_reply : (after : History → Type 0) (cs : History) (name key : List ℕ) (command : Command) (reply : Reply)
+pub serves_reply : (after : History → Type 0) (failed : Type 0) (cs : History) (name key : List ℕ) (command : Command) (reply : Reply)
     → runs.reply_in (runs.answer cs (call_of name key command)) ≡ Some reply → after (runs.next cs (call_of name key command))
-    → Serves after cs (IsTaken cs name key (Ok command)) (answer.Reply reply)
-serves_reply after cs name key command reply said shown =
+    → Serves after failed cs (IsTaken cs name key (Ok command)) (answer.Reply reply)
+serves_reply after failed cs name key command reply said shown =
     inl (runs.next cs (call_of name key command), (ruled_reply (runs.answer cs (call_of name key command)) reply said, refl), shown)
 
 -- the same where the command is read as another that it is
-pub serves_same : (after : History → Type 0) (cs : History) (name key : List ℕ) (x y : Result Command Refused) (a : Answer)
-    → x ≡ y → Serves after cs (IsTaken cs name key x) a → Serves after cs (IsTaken cs name key y) a
-serves_same after cs name key x y a e h = subst (λ read. Serves after cs (IsTaken cs name key read) a) e h
+pub serves_same : (after : History → Type 0) (failed : Type 0) (cs : History) (name key : List ℕ) (x y : Result Command Refused) (a : Answer)
+    → x ≡ y → Serves after failed cs (IsTaken cs name key x) a → Serves after failed cs (IsTaken cs name key y) a
+serves_same after failed cs name key x y a e h = subst (λ read. Serves after failed cs (IsTaken cs name key read) a) e h
 
 -- the task is this one
-pub serves_task : (after : History → Type 0) (owner : List ℕ) (cs : History) (p : Person) (t u : Task) (a : Answer)
-    → t ≡ u → Serves after cs (AnswersTask owner cs p u) a → Serves after cs (AnswersTask owner cs p t) a
-serves_task after owner cs p t u a e h = subst (λ v. Serves after cs (AnswersTask owner cs p v) a) (sym e) h
+pub serves_task : (after : History → Type 0) (failed : Type 0) (owner : List ℕ) (cs : History) (p : Person) (t u : Task) (a : Answer)
+    → t ≡ u → Serves after failed cs (AnswersTask owner cs p u) a → Serves after failed cs (AnswersTask owner cs p t) a
+serves_task after failed owner cs p t u a e h = subst (λ v. Serves after failed cs (AnswersTask owner cs p v) a) (sym e) h
+
+-- ---- a desk that has failed
+
+-- a body that is read so is taken as it was read
+pub closed_read : (name key : List ℕ) (reads : Result Command Refused → Type 0) (read : Result Command Refused) (a : Answer)
+    → Gives reads read → IsClosed (λ owner cs. IsTaken cs name key read) a → IsClosed (λ owner cs. IsReadAndTaken cs name key reads) a
+closed_read name key reads read a given (inl reopen) = inl reopen
+closed_read name key reads read a given (inr (inl memory)) = inr (inl memory)
+closed_read name key reads read a (inl is) (inr (inr each)) = inr (inr (λ owner cs. (read, is, each owner cs)))
+closed_read name key reads read a (inr no_memory) (inr (inr each)) =
+    let taken : IsTaken [] name key (Err (refused.Unavailable outage.NoMemory)) a [] = subst (λ r. IsTaken [] name key r a []) no_memory (each [] []) in
+    inr (inl taken.0)
+
+-- the same where the command is read as another that it is
+pub closed_same : (name key : List ℕ) (x y : Result Command Refused) (a : Answer)
+    → x ≡ y → IsClosed (λ owner cs. IsTaken cs name key x) a → IsClosed (λ owner cs. IsTaken cs name key y) a
+closed_same name key x y a e h = subst (λ read. IsClosed (λ owner cs. IsTaken cs name key read) a) e h
+
+-- the task is this one
+pub closed_task : (p : Person) (t u : Task) (a : Answer)
+    → t ≡ u → IsClosed (λ owner cs. AnswersTask owner cs p u) a → IsClosed (λ owner cs. AnswersTask owner cs p t) a
+closed_task p t u a e h = subst (λ v. IsClosed (λ owner cs. AnswersTask owner cs p v) a) (sym e) h
+
+same_fault : (r : Result Facts Refused) (x y : Refused) → r ≡ Err x → r ≡ Err y → x ≡ y
+same_fault r x y e f = cc
+
+-- an image that has no facts is refused so, whatever the history is
+pub closed_image : (image : List ℕ) (read : Result Facts Refused) (x : Refused) → read ≡ Err x → Gives (ReadsFacts image) read
+    → IsClosed (λ owner cs. IsRead cs (Judges cs image)) (answer.Refused x)
+closed_image image read x e (inl reads) =
+    let refuses : RefusesImage image x = subst (λ r. ReadsFacts image r) e reads in
+    inr (inr (λ owner cs. (inr (x, refuses, refl), refl)))
+closed_image image read x e (inr memory) = inr (inl (ap answer.Refused (same_fault read x (refused.Unavailable outage.NoMemory) e memory)))

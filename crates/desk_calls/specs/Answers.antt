@@ -146,8 +146,19 @@ no_memory = answer.Refused (refused.Unavailable outage.NoMemory)
 abbrev pub store_failed : Answer
 store_failed = answer.Refused (refused.Unavailable outage.Store)
 
+-- the desk has to be opened again
+abbrev pub reopened : Answer
+reopened = answer.Refused (refused.Unavailable outage.Reopen)
+
 -- The answer is one that is due, and the desk shows the history after it; or memory was refused, and it shows the one
--- before; or the store failed.
-abbrev pub Serves : (History → Type 0) → History → (Answer → History → Type 0) → Answer → Type 0
-Serves shows cs due a =
-    ((later : History) × due a later × shows later) ⊎ (((a ≡ no_memory) × shows cs) ⊎ (a ≡ store_failed))
+-- before; or the store failed, and so has the desk.
+abbrev pub Serves : (History → Type 0) → Type 0 → History → (Answer → History → Type 0) → Answer → Type 0
+Serves shows failed cs due a =
+    ((later : History) × due a later × shows later)
+    ⊎ (((a ≡ no_memory) × shows cs) ⊎ ((a ≡ store_failed) × failed))
+
+-- What a desk that has failed answers, where `due` is what is due at each owner and history: that it has to be opened
+-- again, unless memory was refused, or this is due whatever the desk's history is, as where the body is wrong.
+abbrev pub IsClosed : (List ℕ → History → Answer → History → Type 0) → Answer → Type 0
+IsClosed due a =
+    (a ≡ reopened) ⊎ ((a ≡ no_memory) ⊎ ((owner : List ℕ) (cs : History) → due owner cs a cs))

@@ -1,5 +1,5 @@
 //! Desks that answer.
-ghost use Rattle.std.specs.Prelude.{◌≡◌, ◌≢◌, ◌⊎◌, ℕ, List, Err, IfErr, IfOk, IsSome, IsTrue, MatchResult, Some, map};
+ghost use Rattle.std.specs.Prelude.{◌≡◌, ◌≢◌, ◌⊎◌, ℕ, List, Err, IfErr, IfOk, IsErrOf, IsSome, IsTrue, MatchResult, Some, map};
 ghost use Rattle.desk_exports.specs.Exports.{exported};
 ghost use Rattle.desk_exports.specs.Reports.{report};
 ghost use Rattle.desk_history.specs.Calls.{History};
@@ -23,13 +23,16 @@ use std::alloc::Global;
 /// disk has kept its promise until the end of the call.
 ///
 /// Each call may fail: `NoMemory` where memory was refused, which changes nothing; `Store` where the store failed,
-/// after which the desk shows no history; `Reopen` from then on.
+/// after which the desk has failed; `Reopen` from then on, and nothing is done.
 pub trait Answering {
     /// The desk answers for this history, with this owner of the entries that it exports.
     ghost shows: { Self → List ℕ → History → Type 0 };
 
     /// The disk has returned what was written, so far.
     ghost clean: { Self → Type 0 };
+
+    /// The store failed in a call before: the desk has to be opened again.
+    ghost failed: { Self → Type 0 };
 
     /// The person whose token has this SHA-256, if there is one.
     fn person_of(&mut self, token: &Digest) -> Result<Option<Person>, Refusal>
@@ -39,7 +42,9 @@ pub trait Answering {
             → Keeps (shows self.old) (shows self.new) }
         ensures before { clean self.new → clean self.old }
         ensures named { IfErr result IsOutage }
-        ensures usable { Views (shows self.old) (λ _ _. result ≢ Err Refusal.Reopen) };
+        ensures usable { Views (shows self.old) (λ _ _. result ≢ Err Refusal.Reopen) }
+        ensures poisons { IsErrOf result Refusal.Store → failed self.new }
+        ensures closed { failed self.old → (result ≡ Err Refusal.Reopen) × (self.new ≡ self.old) };
 
     /// Answers the call of a command: an accepted one joins the history. A refusal by the rules changes nothing.
     fn apply(&mut self, caller: &Caller, key: &Key, command: &Command) -> Result<Reply, Refusal>
@@ -53,7 +58,9 @@ pub trait Answering {
             → Keeps (shows self.old) (shows self.new)) }
         ensures before { clean self.new → clean self.old }
         ensures named { IfErr result (λ refusal. IsTrue (may_answer refusal) ⊎ IsOutage refusal) }
-        ensures usable { Views (shows self.old) (λ _ _. result ≢ Err Refusal.Reopen) };
+        ensures usable { Views (shows self.old) (λ _ _. result ≢ Err Refusal.Reopen) }
+        ensures poisons { IsErrOf result Refusal.Store → failed self.new }
+        ensures closed { failed self.old → (result ≡ Err Refusal.Reopen) × (self.new ≡ self.old) };
 
     /// What the desk says of the image.
     fn verdict(&mut self, facts: &Facts) -> Result<Verdict, Refusal>
@@ -63,7 +70,9 @@ pub trait Answering {
             → Keeps (shows self.old) (shows self.new) }
         ensures before { clean self.new → clean self.old }
         ensures named { IfErr result IsOutage }
-        ensures usable { Views (shows self.old) (λ _ _. result ≢ Err Refusal.Reopen) };
+        ensures usable { Views (shows self.old) (λ _ _. result ≢ Err Refusal.Reopen) }
+        ensures poisons { IsErrOf result Refusal.Store → failed self.new }
+        ensures closed { failed self.old → (result ≡ Err Refusal.Reopen) × (self.new ≡ self.old) };
 
     /// The request of this number, as the caller is shown it.
     fn request(&mut self, caller: &Caller, number: RequestNumber) -> Result<ShownRequest, Refusal>
@@ -77,7 +86,9 @@ pub trait Answering {
             → Keeps (shows self.old) (shows self.new) }
         ensures before { clean self.new → clean self.old }
         ensures named { IfErr result IsReadingRefusal }
-        ensures usable { Views (shows self.old) (λ _ _. result ≢ Err Refusal.Reopen) };
+        ensures usable { Views (shows self.old) (λ _ _. result ≢ Err Refusal.Reopen) }
+        ensures poisons { IsErrOf result Refusal.Store → failed self.new }
+        ensures closed { failed self.old → (result ≡ Err Refusal.Reopen) × (self.new ≡ self.old) };
 
     /// The requests that the caller is shown, ascending by number.
     fn requests_of(&mut self, caller: &Caller) -> Result<ShownRequests, Refusal>
@@ -91,7 +102,9 @@ pub trait Answering {
             → Keeps (shows self.old) (shows self.new) }
         ensures before { clean self.new → clean self.old }
         ensures named { IfErr result IsReadingRefusal }
-        ensures usable { Views (shows self.old) (λ _ _. result ≢ Err Refusal.Reopen) };
+        ensures usable { Views (shows self.old) (λ _ _. result ≢ Err Refusal.Reopen) }
+        ensures poisons { IsErrOf result Refusal.Store → failed self.new }
+        ensures closed { failed self.old → (result ≡ Err Refusal.Reopen) × (self.new ≡ self.old) };
 
     /// The proposals, ascending by number, for an officer.
     fn proposals(&mut self, caller: &Caller) -> Result<ShownProposals, Refusal>
@@ -105,7 +118,9 @@ pub trait Answering {
             → Keeps (shows self.old) (shows self.new) }
         ensures before { clean self.new → clean self.old }
         ensures named { IfErr result IsReadingRefusal }
-        ensures usable { Views (shows self.old) (λ _ _. result ≢ Err Refusal.Reopen) };
+        ensures usable { Views (shows self.old) (λ _ _. result ≢ Err Refusal.Reopen) }
+        ensures poisons { IsErrOf result Refusal.Store → failed self.new }
+        ensures closed { failed self.old → (result ≡ Err Refusal.Reopen) × (self.new ≡ self.old) };
 
     /// The bytes of an export.
     fn export(&mut self, alloc: Global, what: Export) -> Result<Octets, Refusal>
@@ -115,7 +130,9 @@ pub trait Answering {
             → Keeps (shows self.old) (shows self.new) }
         ensures before { clean self.new → clean self.old }
         ensures named { IfErr result IsOutage }
-        ensures usable { Views (shows self.old) (λ _ _. result ≢ Err Refusal.Reopen) };
+        ensures usable { Views (shows self.old) (λ _ _. result ≢ Err Refusal.Reopen) }
+        ensures poisons { IsErrOf result Refusal.Store → failed self.new }
+        ensures closed { failed self.old → (result ≡ Err Refusal.Reopen) × (self.new ≡ self.old) };
 
     /// The text of the report.
     fn report(&mut self, alloc: Global) -> Result<Octets, Refusal>
@@ -125,5 +142,7 @@ pub trait Answering {
             → Keeps (shows self.old) (shows self.new) }
         ensures before { clean self.new → clean self.old }
         ensures named { IfErr result IsOutage }
-        ensures usable { Views (shows self.old) (λ _ _. result ≢ Err Refusal.Reopen) };
+        ensures usable { Views (shows self.old) (λ _ _. result ≢ Err Refusal.Reopen) }
+        ensures poisons { IsErrOf result Refusal.Store → failed self.new }
+        ensures closed { failed self.old → (result ≡ Err Refusal.Reopen) × (self.new ≡ self.old) };
 }

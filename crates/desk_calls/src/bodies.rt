@@ -1,5 +1,5 @@
 //! The bodies of calls, read.
-ghost use Rattle.std.specs.Prelude.{◌≡◌};
+ghost use Rattle.std.specs.Prelude.{◌≡◌, ◌≢◌, Err};
 ghost use Rattle.desk_texts.specs.declared.command.Command.TheVariants as command;
 ghost use Rattle.desk_calls.specs.Answers.{raise_of};
 ghost use Rattle.desk_calls.specs.Bodies as spec;
@@ -9,7 +9,7 @@ use crate::refusing::{NO_MEMORY, of_facts, of_import};
 use desk_bodies::{LevelBody, ReviewBody, UnlistBody};
 use desk_bytes::{Refusal, tbs};
 use desk_imports::{import_csv, import_dbx, import_level, tbs_is_read};
-use desk_responses::Refused;
+use desk_responses::{Outage, Refused};
 use desk_service::{facts, token_digest};
 use desk_texts::{
     Ballot, Certificate, Command, Facts, LONGEST_CERTIFICATE, Listing, Raise, RequestNumber,
@@ -21,7 +21,8 @@ use std::alloc::Global;
 
 /// The facts of an image.
 pub(crate) fn read_facts(alloc: Global, image: Pieces) -> Result<Facts, Refused>
-    ensures { spec.Gives (spec.ReadsFacts image) result }
+    ensures reads { spec.Gives (spec.ReadsFacts image) result }
+    ensures no_store { result ≢ Err (Refused.Unavailable Outage.Store) }
 {
     no_slice_fails();
     let mut source = image;
@@ -38,8 +39,9 @@ pub(crate) fn read_facts(alloc: Global, image: Pieces) -> Result<Facts, Refused>
 
 /// The command of a request of this title to sign the image.
 pub(crate) fn submission(alloc: Global, title: Title, image: Pieces) -> Result<Command, Refused>
-    ensures { spec.Gives (spec.ReadsImage
+    ensures reads { spec.Gives (spec.ReadsImage
         (λ x. command.Submit (record { title = title; facts = x })) image) result }
+    ensures no_store { result ≢ Err (Refused.Unavailable Outage.Store) }
 {
     match read_facts(alloc, image) {
         Ok(facts) => Ok(Command::Submit(Submission { title, facts })),
@@ -53,8 +55,9 @@ pub(crate) fn returned(
     request: RequestNumber,
     image: Pieces,
 ) -> Result<Command, Refused>
-    ensures { spec.Gives (spec.ReadsImage
+    ensures reads { spec.Gives (spec.ReadsImage
         (λ x. command.Return (record { request = request; facts = x })) image) result }
+    ensures no_store { result ≢ Err (Refused.Unavailable Outage.Store) }
 {
     match read_facts(alloc, image) {
         Ok(facts) => Ok(Command::Return(ReturnedFile { request, facts })),
@@ -108,7 +111,8 @@ pub(crate) fn raise(body: LevelBody) -> Command
 
 /// The command that lists a certificate.
 pub(crate) fn listing(body: Octets) -> Result<Command, Refused>
-    ensures { result ≡ spec.listing_of body }
+    ensures reads { result ≡ spec.listing_of body }
+    ensures no_store { result ≢ Err (Refused.Unavailable Outage.Store) }
 {
     tbs_is_read();
     let bytes = body.into_vec();
@@ -127,7 +131,8 @@ pub(crate) fn listing(body: Octets) -> Result<Command, Refused>
 
 /// The command that signature lists are.
 pub(crate) fn from_dbx(alloc: Global, body: &Octets) -> Result<Command, Refused>
-    ensures { spec.Gives (spec.ReadsDbx body.now) result }
+    ensures reads { spec.Gives (spec.ReadsDbx body.now) result }
+    ensures no_store { result ≢ Err (Refused.Unavailable Outage.Store) }
 {
     match import_dbx(alloc, body.as_slice()) {
         Ok(command) => Ok(command),
@@ -146,7 +151,8 @@ pub(crate) fn from_csv(
     body: &Octets,
     stamp: Option<Stamp>,
 ) -> Result<Command, Refused>
-    ensures { spec.Gives (spec.ReadsCsv body.now stamp) result }
+    ensures reads { spec.Gives (spec.ReadsCsv body.now stamp) result }
+    ensures no_store { result ≢ Err (Refused.Unavailable Outage.Store) }
 {
     match import_csv(alloc, body.as_slice(), stamp) {
         Ok(command) => Ok(command),
@@ -161,7 +167,8 @@ pub(crate) fn from_csv(
 
 /// The command that the text of an SBAT level is.
 pub(crate) fn from_level(alloc: Global, body: &Octets) -> Result<Command, Refused>
-    ensures { spec.Gives (spec.ReadsLevel body.now) result }
+    ensures reads { spec.Gives (spec.ReadsLevel body.now) result }
+    ensures no_store { result ≢ Err (Refused.Unavailable Outage.Store) }
 {
     match import_level(alloc, body.as_slice()) {
         Ok(command) => Ok(command),

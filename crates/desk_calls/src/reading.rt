@@ -20,9 +20,11 @@ use std::alloc::Global;
 pub(crate) fn request<D: Answering>(desk: &mut D, name: PersonName, number: RequestNumber) -> Answer
     ensures served { D.clean desk.new → (owner : List ℕ) (cs : History)
         → D.shows desk.old owner cs
-        → spec.Serves (D.shows desk.new owner) cs (spec.IsRead cs
+        → spec.Serves (D.shows desk.new owner) (D.failed desk.new) cs (spec.IsRead cs
         (spec.ShowsRequest (shown.request_for cs (callers.Person name) number))) result }
     ensures before { D.clean desk.new → D.clean desk.old }
+    ensures poisons { result ≡ spec.store_failed → D.failed desk.new }
+    ensures closed { D.failed desk.old → (result ≡ spec.reopened) × (desk.new ≡ desk.old) }
 {
     match desk.request(&Caller::Person(name), number) {
         Ok(request) => Answer::Request(request),
@@ -34,9 +36,11 @@ pub(crate) fn request<D: Answering>(desk: &mut D, name: PersonName, number: Requ
 pub(crate) fn requests<D: Answering>(desk: &mut D, name: PersonName) -> Answer
     ensures served { D.clean desk.new → (owner : List ℕ) (cs : History)
         → D.shows desk.old owner cs
-        → spec.Serves (D.shows desk.new owner) cs (spec.IsRead cs
+        → spec.Serves (D.shows desk.new owner) (D.failed desk.new) cs (spec.IsRead cs
         (spec.ShowsRequests (shown.requests_for cs (callers.Person name)))) result }
     ensures before { D.clean desk.new → D.clean desk.old }
+    ensures poisons { result ≡ spec.store_failed → D.failed desk.new }
+    ensures closed { D.failed desk.old → (result ≡ spec.reopened) × (desk.new ≡ desk.old) }
 {
     match desk.requests_of(&Caller::Person(name)) {
         Ok(requests) => Answer::Requests(requests),
@@ -48,9 +52,11 @@ pub(crate) fn requests<D: Answering>(desk: &mut D, name: PersonName) -> Answer
 pub(crate) fn proposals<D: Answering>(desk: &mut D, name: PersonName) -> Answer
     ensures served { D.clean desk.new → (owner : List ℕ) (cs : History)
         → D.shows desk.old owner cs
-        → spec.Serves (D.shows desk.new owner) cs (spec.IsRead cs
+        → spec.Serves (D.shows desk.new owner) (D.failed desk.new) cs (spec.IsRead cs
         (spec.ShowsProposals cs (shown.proposals_for cs (callers.Person name)))) result }
     ensures before { D.clean desk.new → D.clean desk.old }
+    ensures poisons { result ≡ spec.store_failed → D.failed desk.new }
+    ensures closed { D.failed desk.old → (result ≡ spec.reopened) × (desk.new ≡ desk.old) }
 {
     match desk.proposals(&Caller::Person(name)) {
         Ok(proposals) => Answer::Proposals(proposals),
@@ -62,8 +68,12 @@ pub(crate) fn proposals<D: Answering>(desk: &mut D, name: PersonName) -> Answer
 pub(crate) fn judge<D: Answering>(alloc: Global, desk: &mut D, image: Pieces) -> Answer
     ensures served { D.clean desk.new → (owner : List ℕ) (cs : History)
         → D.shows desk.old owner cs
-        → spec.Serves (D.shows desk.new owner) cs (spec.IsRead cs (spec.Judges cs image)) result }
+        → spec.Serves (D.shows desk.new owner) (D.failed desk.new) cs
+        (spec.IsRead cs (spec.Judges cs image)) result }
     ensures before { D.clean desk.new → D.clean desk.old }
+    ensures poisons { result ≡ spec.store_failed → D.failed desk.new }
+    ensures closed { D.failed desk.old → spec.IsClosed (λ _ cs. spec.IsRead cs
+        (spec.Judges cs image)) result × (desk.new ≡ desk.old) }
 {
     let found = match read_facts(alloc, image) {
         Ok(found) => found,
@@ -79,9 +89,11 @@ pub(crate) fn judge<D: Answering>(alloc: Global, desk: &mut D, image: Pieces) ->
 pub(crate) fn dbx<D: Answering>(alloc: Global, desk: &mut D) -> Answer
     ensures served { D.clean desk.new → (owner : List ℕ) (cs : History)
         → D.shows desk.old owner cs
-        → spec.Serves (D.shows desk.new owner) cs (spec.IsRead cs
+        → spec.Serves (D.shows desk.new owner) (D.failed desk.new) cs (spec.IsRead cs
         (λ a. a ≡ Answer.Dbx (exports.dbx owner cs))) result }
     ensures before { D.clean desk.new → D.clean desk.old }
+    ensures poisons { result ≡ spec.store_failed → D.failed desk.new }
+    ensures closed { D.failed desk.old → (result ≡ spec.reopened) × (desk.new ≡ desk.old) }
 {
     match desk.export(alloc, Export::Dbx) {
         Ok(bytes) => Answer::Dbx(bytes),
@@ -93,9 +105,11 @@ pub(crate) fn dbx<D: Answering>(alloc: Global, desk: &mut D) -> Answer
 pub(crate) fn db<D: Answering>(alloc: Global, desk: &mut D) -> Answer
     ensures served { D.clean desk.new → (owner : List ℕ) (cs : History)
         → D.shows desk.old owner cs
-        → spec.Serves (D.shows desk.new owner) cs (spec.IsRead cs
+        → spec.Serves (D.shows desk.new owner) (D.failed desk.new) cs (spec.IsRead cs
         (λ a. a ≡ Answer.Db (exports.db owner cs))) result }
     ensures before { D.clean desk.new → D.clean desk.old }
+    ensures poisons { result ≡ spec.store_failed → D.failed desk.new }
+    ensures closed { D.failed desk.old → (result ≡ spec.reopened) × (desk.new ≡ desk.old) }
 {
     match desk.export(alloc, Export::Db) {
         Ok(bytes) => Answer::Db(bytes),
@@ -107,9 +121,11 @@ pub(crate) fn db<D: Answering>(alloc: Global, desk: &mut D) -> Answer
 pub(crate) fn level<D: Answering>(alloc: Global, desk: &mut D) -> Answer
     ensures served { D.clean desk.new → (owner : List ℕ) (cs : History)
         → D.shows desk.old owner cs
-        → spec.Serves (D.shows desk.new owner) cs (spec.IsRead cs
+        → spec.Serves (D.shows desk.new owner) (D.failed desk.new) cs (spec.IsRead cs
         (λ a. a ≡ Answer.Level (exports.level cs))) result }
     ensures before { D.clean desk.new → D.clean desk.old }
+    ensures poisons { result ≡ spec.store_failed → D.failed desk.new }
+    ensures closed { D.failed desk.old → (result ≡ spec.reopened) × (desk.new ≡ desk.old) }
 {
     match desk.export(alloc, Export::Level) {
         Ok(text) => Answer::Level(text),
@@ -121,9 +137,12 @@ pub(crate) fn level<D: Answering>(alloc: Global, desk: &mut D) -> Answer
 pub(crate) fn report<D: Answering>(alloc: Global, desk: &mut D, role: Role) -> Answer
     ensures served { D.clean desk.new → (owner : List ℕ) (cs : History)
         → D.shows desk.old owner cs
-        → spec.Serves (D.shows desk.new owner) cs (spec.IsRead cs
+        → spec.Serves (D.shows desk.new owner) (D.failed desk.new) cs (spec.IsRead cs
         (λ a. a ≡ spec.report_to role cs)) result }
     ensures before { D.clean desk.new → D.clean desk.old }
+    ensures poisons { result ≡ spec.store_failed → D.failed desk.new }
+    ensures closed { D.failed desk.old → spec.IsClosed (λ _ cs. spec.IsRead cs
+        (λ a. a ≡ spec.report_to role cs)) result × (desk.new ≡ desk.old) }
 {
     match role {
         Role::Officer => {}

@@ -27,6 +27,8 @@ pub(crate) fn told(refusal: Refusal) -> Refused
     requires { IsSome (refused_of refusal) }
     ensures value { refused_of refusal ≡ Some result }
     ensures tells { Tells refusal None result }
+    ensures store { result ≡ Refused.Unavailable Outage.Store → refusal ≡ Refusal.Store }
+    ensures reopen { refusal ≡ Refusal.Reopen → result ≡ Refused.Unavailable Outage.Reopen }
 {
     match Refused::of(refusal) {
         Some(refused) => refused,
@@ -37,7 +39,9 @@ pub(crate) fn told(refusal: Refusal) -> Refused
 /// Why the desk can answer nothing.
 pub(crate) fn outage(refusal: Refusal) -> Outage
     requires { IsOutage refusal }
-    ensures { outage_refusal result ≡ refusal }
+    ensures refusal { outage_refusal result ≡ refusal }
+    ensures store { result ≡ Outage.Store → refusal ≡ Refusal.Store }
+    ensures reopen { refusal ≡ Refusal.Reopen → result ≡ Outage.Reopen }
 {
     if refusal == Refusal::NoMemory {
         return Outage::NoMemory;
@@ -51,7 +55,8 @@ pub(crate) fn outage(refusal: Refusal) -> Outage
 /// What an image without a layout is refused for, of which every read succeeded.
 fn of_layout(fault: LayoutFault) -> Refused
     requires { layout.refusal_of fault ≢ Refusal.Read }
-    ensures { Tells (layout.refusal_of fault) None result }
+    ensures tells { Tells (layout.refusal_of fault) None result }
+    ensures no_store { result ≢ Refused.Unavailable Outage.Store }
 {
     match fault {
         LayoutFault::Short => Refused::Short,
@@ -71,7 +76,8 @@ fn of_layout(fault: LayoutFault) -> Refused
 
 /// What an image's certificates are refused for.
 fn of_carried(fault: CarriedFault) -> Refused
-    ensures { Tells (carried.refusal_of fault) None result }
+    ensures tells { Tells (carried.refusal_of fault) None result }
+    ensures no_store { result ≢ Refused.Unavailable Outage.Store }
 {
     match fault {
         CarriedFault::Table => Refused::Table,
@@ -83,7 +89,8 @@ fn of_carried(fault: CarriedFault) -> Refused
 
 /// What SBAT text is refused for, with the number of its line.
 fn of_sbat(fault: SbatFault) -> Refused
-    ensures { Tells (sbat_faults.refusal_of fault) (sbat_faults.place_of fault) result }
+    ensures tells { Tells (sbat_faults.refusal_of fault) (sbat_faults.place_of fault) result }
+    ensures no_store { result ≢ Refused.Unavailable Outage.Store }
 {
     match fault {
         SbatFault::Row(line) => Refused::SbatRow(line),
@@ -94,7 +101,8 @@ fn of_sbat(fault: SbatFault) -> Refused
 
 /// What signature lists are refused for, with the offset of the list.
 fn of_lists(fault: ListsFault) -> Refused
-    ensures { Tells (lists.refusal_of fault) (Some (lists.place_of fault)) result }
+    ensures tells { Tells (lists.refusal_of fault) (Some (lists.place_of fault)) result }
+    ensures no_store { result ≢ Refused.Unavailable Outage.Store }
 {
     match fault {
         ListsFault::List { offset } => Refused::List(offset),
@@ -105,7 +113,8 @@ fn of_lists(fault: ListsFault) -> Refused
 /// What an image is refused for, of which every read succeeded.
 pub(crate) fn of_facts(fault: FactsFault) -> Refused
     requires { facts.refusal_of fault ≢ Refusal.Read }
-    ensures { Tells (facts.refusal_of fault) (facts.place_of fault) result }
+    ensures tells { Tells (facts.refusal_of fault) (facts.place_of fault) result }
+    ensures no_store { result ≢ Refused.Unavailable Outage.Store }
 {
     match fault {
         FactsFault::Layout(fault) => of_layout(fault),
@@ -118,7 +127,8 @@ pub(crate) fn of_facts(fault: FactsFault) -> Refused
 
 /// What an import is refused for.
 pub(crate) fn of_import(fault: ImportFault) -> Refused
-    ensures { Tells (imports.refusal_of fault) (imports.place_of fault) result }
+    ensures tells { Tells (imports.refusal_of fault) (imports.place_of fault) result }
+    ensures no_store { result ≢ Refused.Unavailable Outage.Store }
 {
     match fault {
         ImportFault::Lists(fault) => of_lists(fault),

@@ -21,8 +21,8 @@ use std::alloc::Global;
 
 /// The person whose token this is, if there is one. Takes memory.
 ///
-/// `NoMemory`: memory was refused, and nothing was changed. `Store`: the store failed, and each later call is
-/// answered `Reopen`.
+/// `NoMemory`: memory was refused, and nothing was changed. `Store`: the store failed. `Reopen`: it had failed in a
+/// call before, and the desk does nothing more.
 pub fn caller<D: Answering>(desk: &mut D, token: &[u8]) -> Result<Option<Person>, Outage>
     ensures given { D.clean desk.new → IfOk result (λ person. Views (D.shows desk.old)
         (λ _ cs. person ≡ person_with (sha256 token.now) cs)) }
@@ -30,6 +30,8 @@ pub fn caller<D: Answering>(desk: &mut D, token: &[u8]) -> Result<Option<Person>
         → Keeps (D.shows desk.old) (D.shows desk.new) }
     ensures before { D.clean desk.new → D.clean desk.old }
     ensures usable { Views (D.shows desk.old) (λ _ _. result ≢ Err Outage.Reopen) }
+    ensures poisons { result ≡ Err Outage.Store → D.failed desk.new }
+    ensures closed { D.failed desk.old → (result ≡ Err Outage.Reopen) × (desk.new ≡ desk.old) }
     ensures named { result ≢ Err Outage.NotADesk }
 {
     match desk.person_of(&token_digest(token)) {
@@ -41,13 +43,18 @@ pub fn caller<D: Answering>(desk: &mut D, token: &[u8]) -> Result<Option<Person>
 /// Answers a call. A body is read before the desk is asked, and what is wrong with it is answered first. Takes
 /// memory.
 ///
-/// An answer of status 503 tells that the desk couldn't answer: `NoMemory`, and nothing was changed; `Store`, and
-/// each later answer is `Reopen`. Every other refusal changes nothing either.
+/// An answer of status 503 tells that the desk couldn't answer: `NoMemory`, and nothing was changed; `Store`, where
+/// the store failed; `Reopen` from then on, where nothing is wrong with the body or the role. Every other refusal
+/// changes nothing either.
 pub fn answer<D: Answering>(alloc: Global, desk: &mut D, call: Call) -> Answer
     ensures served { D.clean desk.new → (owner : List ℕ) (cs : History)
         → D.shows desk.old owner cs
-        → spec.Serves (D.shows desk.new owner) cs (spec.Answers owner cs call) result }
+        → spec.Serves (D.shows desk.new owner) (D.failed desk.new) cs
+        (spec.Answers owner cs call) result }
     ensures before { D.clean desk.new → D.clean desk.old }
+    ensures poisons { result ≡ spec.store_failed → D.failed desk.new }
+    ensures closed { D.failed desk.old → spec.IsClosed (λ owner cs. spec.Answers owner cs call) result
+        × (desk.new ≡ desk.old) }
 {
     let Call { person, task } = call;
     let Person { name, role, .. } = person;

@@ -1,12 +1,12 @@
 //! Commands, taken by a desk.
-ghost use Rattle.std.specs.Prelude.{◌≡◌, ℕ, List};
+ghost use Rattle.std.specs.Prelude.{◌≡◌, ◌≢◌, ℕ, List, Err};
 ghost use Rattle.desk_history.specs.Calls.{History};
-ghost use Rattle.desk_calls.specs.Answers.{IsTaken, Serves};
+ghost use Rattle.desk_calls.specs.Answers.{IsClosed, IsTaken, Serves, store_failed};
 
 use crate::answering::Answering;
 use crate::answers::Answer;
 use crate::refusing::told;
-use desk_responses::Refused;
+use desk_responses::{Outage, Refused};
 use desk_texts::{Caller, Command, Key, PersonName};
 
 /// Answers a command of the person of this name, under a key, or tells what its body is refused for.
@@ -16,10 +16,14 @@ pub(crate) fn take<D: Answering>(
     key: &Key,
     read: Result<Command, Refused>,
 ) -> Answer
+    requires { read ≢ Err (Refused.Unavailable Outage.Store) }
     ensures served { D.clean desk.new → (owner : List ℕ) (cs : History)
         → D.shows desk.old owner cs
-        → Serves (D.shows desk.new owner) cs (IsTaken cs name key.now read) result }
+        → Serves (D.shows desk.new owner) (D.failed desk.new) cs (IsTaken cs name key.now read) result }
     ensures before { D.clean desk.new → D.clean desk.old }
+    ensures poisons { result ≡ store_failed → D.failed desk.new }
+    ensures closed { D.failed desk.old
+        → IsClosed (λ _ cs. IsTaken cs name key.now read) result × (desk.new ≡ desk.old) }
 {
     let command = match read {
         Ok(command) => command,
