@@ -33,11 +33,11 @@ not_outage a told code number same says known own =
     let both : is_outage_number (number_of a) ≡ false = rw e at own in cc
 
 -- what is told under a number that is no outage's is due
-pub due_is_told : (shows : History → Type 0) (cs : History) (due : Answer → History → Type 0) (told : Answer) (code number : ℕ)
-    → IsTold told code number → is_outage_number number ≡ false → Tells shows cs due told → IsServed shows due told
-due_is_told shows cs due told code number says own (inl served) = served
-due_is_told shows cs due told code number says own (inr (inl x)) = absurd (not_outage no_memory told code number x.0 says refl own)
-due_is_told shows cs due told code number says own (inr (inr e)) = absurd (not_outage store_failed told code number e says refl own)
+pub due_is_told : (shows : History → Type 0) (failed : Type 0) (cs : History) (due : Answer → History → Type 0) (told : Answer) (code number : ℕ)
+    → IsTold told code number → is_outage_number number ≡ false → Tells shows failed cs due told → IsServed shows due told
+due_is_told shows failed cs due told code number says own (inl served) = served
+due_is_told shows failed cs due told code number says own (inr (inl x)) = absurd (not_outage no_memory told code number x.0 says refl own)
+due_is_told shows failed cs due told code number says own (inr (inr e)) = absurd (not_outage store_failed told code number e.0 says refl own)
 
 appends_nothing : (o n : Option (List ℕ)) → Keeps o n → Appends o n []
 appends_nothing None n same = tt
@@ -53,12 +53,12 @@ appends_more (Some os) (Some ms) (Some ns) xs ys a b = rw (b, a) (append_assoc o
 -- ---- one input
 
 -- the next input was answered
-pub next_is_served : (b : List ℕ) (before after : Option (List ℕ)) (old new : List ℕ → History → Type 0) (code number : ℕ)
-    → Views old (λ owner cs. (told : Answer) × Responds before after told code number × Tells (new owner) cs (AnswersInput owner cs b) told)
+pub next_is_served : (b : List ℕ) (before after : Option (List ℕ)) (old new : List ℕ → History → Type 0) (failed : Type 0) (code number : ℕ)
+    → Views old (λ owner cs. (told : Answer) × Responds before after told code number × Tells (new owner) failed cs (AnswersInput owner cs b) told)
     → is_outage_number number ≡ false → ServesNext old new before after b
-next_is_served b before after old new code number told own = λ owner cs shown.
+next_is_served b before after old new failed code number told own = λ owner cs shown.
     let at = told owner cs shown in
-    let served = due_is_told (new owner) cs (AnswersInput owner cs b) at.0 code number at.1.told own at.2 in
+    let served = due_is_told (new owner) failed cs (AnswersInput owner cs b) at.0 code number at.1.told own at.2 in
     (response_of at.0, served.later, inr (at.0, served.answered, refl), at.1.written, served.shown)
 
 -- it had no byte

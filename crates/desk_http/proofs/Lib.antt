@@ -1,6 +1,9 @@
 pub mod AskLemmas
 pub mod BodyLemmas
+pub mod ClosedLemmas
 pub mod EachLemmas
 pub mod InputLemmas
+pub mod NumberLemmas
 pub mod SendLemmas
+pub mod StrangerLemmas
 pub mod TellLemmas

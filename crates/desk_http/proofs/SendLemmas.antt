@@ -34,30 +34,30 @@ abbrev pub SendsFor : (before after : Option (List ℕ)) → Answer → Result S
 SendsFor before after a r = (told : Answer) × Replaces a told × Sends before after told r
 
 -- the desk answers the known input so
-abbrev pub ServesKnown : Option (List ℕ) → (old new : List ℕ → History → Type 0) → Answer → Type 0
-ServesKnown known old new a =
-    IfSome known (λ b. Views old (λ owner cs. Serves (new owner) cs (AnswersInput owner cs b) a))
+abbrev pub ServesKnown : Option (List ℕ) → (old new : List ℕ → History → Type 0) → (failed : Type 0) → Answer → Type 0
+ServesKnown known old new failed a =
+    IfSome known (λ b. Views old (λ owner cs. Serves (new owner) failed cs (AnswersInput owner cs b) a))
 
-pub answered_is_told : (known before after : Option (List ℕ)) (old new : List ℕ → History → Type 0) (a : Answer) (r : Result Served HttpFault)
-    → ServesKnown known old new a → SendsFor before after a r
+pub answered_is_told : (known before after : Option (List ℕ)) (old new : List ℕ → History → Type 0) (failed : Type 0) (a : Answer) (r : Result Served HttpFault)
+    → ServesKnown known old new failed a → SendsFor before after a r
     → WhenAnswered r (λ code number. IfSome known (λ b. Views old (λ owner cs. (told : Answer)
-    × Responds before after told code number × Tells (new owner) cs (AnswersInput owner cs b) told)))
-answered_is_told known before after old new a (Err fault) served sent = tt
-answered_is_told known before after old new a (Ok Nothing) served sent = tt
-answered_is_told None before after old new a (Ok (Answered code number)) served sent = tt
-answered_is_told (Some b) before after old new a (Ok (Answered code number)) served sent = λ owner cs shown.
-    (sent.0, sent.2, told_is_served (new owner) cs (AnswersInput owner cs b) a sent.0 (served owner cs shown) sent.1)
+    × Responds before after told code number × Tells (new owner) failed cs (AnswersInput owner cs b) told)))
+answered_is_told known before after old new failed a (Err fault) served sent = tt
+answered_is_told known before after old new failed a (Ok Nothing) served sent = tt
+answered_is_told None before after old new failed a (Ok (Answered code number)) served sent = tt
+answered_is_told (Some b) before after old new failed a (Ok (Answered code number)) served sent = λ owner cs shown.
+    (sent.0, sent.2, told_is_served (new owner) failed cs (AnswersInput owner cs b) a sent.0 (served owner cs shown) sent.1)
 
-pub unwritten_is_told : (known before after : Option (List ℕ)) (old new : List ℕ → History → Type 0) (a : Answer) (r : Result Served HttpFault)
-    → ServesKnown known old new a → SendsFor before after a r
+pub unwritten_is_told : (known before after : Option (List ℕ)) (old new : List ℕ → History → Type 0) (failed : Type 0) (a : Answer) (r : Result Served HttpFault)
+    → ServesKnown known old new failed a → SendsFor before after a r
     → WhenUnwritten r (IfSome known (λ b. Views old (λ owner cs. (told : Answer)
-    × AppendsBeginning before after (response_of told) × Tells (new owner) cs (AnswersInput owner cs b) told)))
-unwritten_is_told known before after old new a (Ok s) served sent = tt
-unwritten_is_told known before after old new a (Err Read) served sent = tt
-unwritten_is_told known before after old new a (Err NoMemory) served sent = tt
-unwritten_is_told None before after old new a (Err Write) served sent = tt
-unwritten_is_told (Some b) before after old new a (Err Write) served sent = λ owner cs shown.
-    (sent.0, sent.2, told_is_served (new owner) cs (AnswersInput owner cs b) a sent.0 (served owner cs shown) sent.1)
+    × AppendsBeginning before after (response_of told) × Tells (new owner) failed cs (AnswersInput owner cs b) told)))
+unwritten_is_told known before after old new failed a (Ok s) served sent = tt
+unwritten_is_told known before after old new failed a (Err Read) served sent = tt
+unwritten_is_told known before after old new failed a (Err NoMemory) served sent = tt
+unwritten_is_told None before after old new failed a (Err Write) served sent = tt
+unwritten_is_told (Some b) before after old new failed a (Err Write) served sent = λ owner cs shown.
+    (sent.0, sent.2, told_is_served (new owner) failed cs (AnswersInput owner cs b) a sent.0 (served owner cs shown) sent.1)
 
 pub response_is_told : (before after : Option (List ℕ)) (a : Answer) (r : Result Served HttpFault) → SendsFor before after a r
     → WhenAnswered r (λ code number. (told : Answer) × Responds before after told code number)

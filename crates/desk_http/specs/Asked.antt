@@ -1,5 +1,5 @@
 -- own: what an input asks for: a call, or the refusal of the first check that fails.
-use Rattle.std.specs.Prelude.{◌≡◌, ◌≢◌, ◌⊎◌, ◌≤◌, ℕ, List, [], length, IfOk, Option, Some, None, Result, Ok, Err}
+use Rattle.std.specs.Prelude.{◌≡◌, ◌≢◌, ◌⊎◌, ◌≤◌, ℕ, List, [], length, IfOk, IfSome, Option, Some, None, Result, Ok, Err}
 use Rattle.httparse.specs.Grammar.{RequestHead}
 use Rattle.sha2.specs.Sha256.{sha256}
 use Rattle.desk_history.specs.Calls.{History}
@@ -15,7 +15,7 @@ use Rattle.desk_responses.specs.declared.refused.Refused.{Refused}
 use Rattle.desk_responses.specs.declared.refused.Refused.TheVariants as refused
 use Rattle.desk_calls.specs.declared.call.Call.{Call}
 use Rattle.desk_calls.specs.declared.call.Task.{Task}
-use Rattle.desk_calls.specs.Desks.{person_with}
+use Rattle.desk_calls.specs.Desks.{Views, person_with}
 use Rattle.desk_http.specs.Bodies.{body_in}
 use Rattle.desk_http.specs.Tasks.{task_of}
 use Rattle.desk_http.specs.Refused.{refused_by_head, refused_by_fields}
@@ -58,6 +58,15 @@ of_head cs rest (Ok w) = of_caller w rest (caller_of cs w.token)
 -- body, then the fields, then what the body says
 abbrev pub due_of : History → RequestHead → List ℕ → Due
 due_of cs h rest = of_head cs rest (wanted_of (parts_of h))
+
+-- the head is refused by its own checks, or nobody at the desk has its token
+abbrev pub IsOfNobody : History → RequestHead → Type 0
+IsOfNobody cs h = IfOk (wanted_of (parts_of h)) (λ w. caller_of cs w.token ≡ None)
+
+-- of an input whose head is nobody's, what follows the head is left
+abbrev pub LeavesBody : (shows : List ℕ → History → Type 0) → (input left : Option (List ℕ)) → Type 0
+LeavesBody shows input left = IfSome input (λ b. Views shows (λ _ cs. (h : RequestHead) (rest : List ℕ)
+    → HasHead b h rest → IsOfNobody cs h → left ≡ Some rest))
 
 -- what the input b asks for: what the head says that begins it, or BadHead where no head does
 abbrev pub Asks : History → List ℕ → Due → Type 0

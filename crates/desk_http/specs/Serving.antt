@@ -2,12 +2,15 @@
 use Rattle.std.specs.Prelude.{◌≡◌, ◌⊎◌, ℕ, List, [], Option, Result, Ok, Err, IfSome, ⊤}
 use Rattle.std.specs.Io.KnownBytes.{Appends, Keeps}
 use Rattle.desk_bytes.specs.Output.{AppendsBeginning}
+use Rattle.desk_bytes.specs.Refusals.{number_of}
+use Rattle.desk_bytes.specs.declared.refusal.Refusal.TheVariants as refusals
+use Rattle.desk_responses.specs.declared.refused.Refused.{Refused as Refusal}
 use Rattle.desk_history.specs.Calls.{History}
-use Rattle.desk_calls.specs.Answers.{Answers, no_memory, store_failed}
+use Rattle.desk_calls.specs.Answers.{Answers, IsClosed, no_memory, store_failed}
 use Rattle.desk_calls.specs.Desks.{Keeps as Stays, Views}
 use Rattle.desk_calls.specs.declared.answers.Answer.{Answer}
 use Rattle.desk_calls.specs.declared.answers.Answer.TheVariants.{Refused}
-use Rattle.desk_http.specs.Asked.{Asks, Due}
+use Rattle.desk_http.specs.Asked.{Asks, Due, LeavesBody}
 use Rattle.desk_http.specs.Responses.{IsTold, response_of}
 use Rattle.desk_http.specs.declared.served.HttpFault.{HttpFault}
 use Rattle.desk_http.specs.declared.served.HttpFault.TheVariants as fault
@@ -33,11 +36,12 @@ pub record IsServed (shows : History → Type 0) (due : Answer → History → T
   pub shown : shows later
 
 -- What is told is an answer that is due, or the want of memory, also for an answer whose text found none,
--- or that the store failed. The desk shows the history after the answer, or the one before, or none.
-abbrev pub Tells : (History → Type 0) → History → (Answer → History → Type 0) → Answer → Type 0
-Tells shows cs due told =
+-- or that the store failed. The desk shows the history after the answer, or the one before, or it has failed.
+abbrev pub Tells : (History → Type 0) → Type 0 → History → (Answer → History → Type 0) → Answer → Type 0
+Tells shows failed cs due told =
     IsServed shows due told
-    ⊎ (((told ≡ no_memory) × (shows cs ⊎ ((a : Answer) × IsServed shows due a))) ⊎ (told ≡ store_failed))
+    ⊎ (((told ≡ no_memory) × (shows cs ⊎ ((a : Answer) × IsServed shows due a)))
+    ⊎ ((told ≡ store_failed) × failed))
 
 -- the response to an answer went out, with its status and number
 pub record Responds (old new : Option (List ℕ)) (a : Answer) (code number : ℕ) : Type 0 where
@@ -70,16 +74,16 @@ WhenUnwritten (Err fault.Read) holds = ⊤
 WhenUnwritten (Err fault.Write) holds = holds
 WhenUnwritten (Err fault.NoMemory) holds = ⊤
 
--- In what follows old and new are what the desk showed and shows, input is what the reader had, and before and
--- after are what the writer had and has.
+-- In what follows old and new are what the desk showed and shows, failed is that it has failed, input and left are what
+-- the reader had and has, and before and after are what the writer had and has.
 
 -- a response that went out is that of an answer to the input at the history that the desk showed, and the desk shows the
 -- history after that answer
-abbrev pub IsAnswered : (old new : List ℕ → History → Type 0) → (input before after : Option (List ℕ)) → Result Served HttpFault → Type 0
-IsAnswered old new input before after result = WhenAnswered result (λ code number.
+abbrev pub IsAnswered : (old new : List ℕ → History → Type 0) → (failed : Type 0) → (input before after : Option (List ℕ)) → Result Served HttpFault → Type 0
+IsAnswered old new failed input before after result = WhenAnswered result (λ code number.
     IfSome input (λ b. Views old (λ owner cs. (told : Answer)
     × Responds before after told code number
-    × Tells (new owner) cs (AnswersInput owner cs b) told)))
+    × Tells (new owner) failed cs (AnswersInput owner cs b) told)))
 
 -- an input without a byte is passed over: nothing is written, and the desk shows what it showed
 abbrev pub IsPassedOver : (old new : List ℕ → History → Type 0) → (input before after : Option (List ℕ)) → Result Served HttpFault → Type 0
@@ -92,12 +96,34 @@ IsUnread old new before after result = WhenUnread result (Keeps before after × 
 
 -- where the writer failed, it has a beginning of the response to such an answer, and the desk shows the history after
 -- that answer
-abbrev pub IsUnwritten : (old new : List ℕ → History → Type 0) → (input before after : Option (List ℕ)) → Result Served HttpFault → Type 0
-IsUnwritten old new input before after result = WhenUnwritten result
+abbrev pub IsUnwritten : (old new : List ℕ → History → Type 0) → (failed : Type 0) → (input before after : Option (List ℕ)) → Result Served HttpFault → Type 0
+IsUnwritten old new failed input before after result = WhenUnwritten result
     (IfSome input (λ b. Views old (λ owner cs. (told : Answer)
     × AppendsBeginning before after (response_of told)
-    × Tells (new owner) cs (AnswersInput owner cs b) told)))
+    × Tells (new owner) failed cs (AnswersInput owner cs b) told)))
 
 -- whatever the desk shows: what went out is the whole response to an answer, with its status and number
 abbrev pub HasResponded : (before after : Option (List ℕ)) → Result Served HttpFault → Type 0
 HasResponded before after result = WhenAnswered result (λ code number. (told : Answer) × Responds before after told code number)
+
+-- whatever the desk shows: a response that tells that the store failed comes of a desk that has failed
+abbrev pub FailsFirst : (failed : Type 0) → Result Served HttpFault → Type 0
+FailsFirst failed result = WhenAnswered result (λ code number. number ≡ number_of refusals.Store → failed)
+
+-- a refusal, which a desk that has failed tells of the input: that it has to be opened again, unless memory was
+-- refused, or it is due whatever the desk's history is
+pub record TellsClosed (input : Option (List ℕ)) (told : Answer) : Type 0 where
+  pub refusal : (refused : Refusal) × (told ≡ Refused refused)
+  pub closed : IfSome input (λ b. IsClosed (λ owner cs. AnswersInput owner cs b) told)
+
+-- the response of a desk that has failed, or the beginning of it that went out, is to such a refusal
+pub record RespondsClosed (input before after : Option (List ℕ)) (result : Result Served HttpFault) : Type 0 where
+  pub answered : WhenAnswered result (λ code number. (told : Answer)
+      × Responds before after told code number × TellsClosed input told)
+  pub unwritten : WhenUnwritten result ((told : Answer)
+      × AppendsBeginning before after (response_of told) × TellsClosed input told)
+
+-- where what was asked for is answered, nothing is read of what follows a head that is nobody's
+abbrev pub LeavesStrangers : (old : List ℕ → History → Type 0) → (input left : Option (List ℕ)) → Result Served HttpFault → Type 0
+LeavesStrangers old input left result =
+    WhenAnswered result (λ _ _. LeavesBody old input left) × WhenUnwritten result (LeavesBody old input left)

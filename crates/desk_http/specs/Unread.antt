@@ -1,6 +1,8 @@
 -- Why nothing is known of what a request asks for.
-use Rattle.std.specs.Prelude.{⊤}
+use Rattle.std.specs.Prelude.{◌≡◌, ⊤, ℕ, List, Option, Some, None, Result, Ok, Err, IfSome, IsErr}
+use Rattle.desk_history.specs.Calls.{History}
 use Rattle.desk_responses.specs.declared.outage.Outage.TheVariants as outage
+use Rattle.desk_http.specs.Asked.{Asks, Due}
 use Rattle.desk_http.specs.declared.served.Unread.{Unread}
 use Rattle.desk_http.specs.declared.served.Unread.TheVariants as unread
 
@@ -12,3 +14,42 @@ CanCome (unread.Outage outage.NoMemory) = ⊤
 CanCome (unread.Outage outage.Store) = ⊤
 CanCome (unread.Outage outage.Reopen) = ⊥
 CanCome (unread.Outage outage.NotADesk) = ⊥
+
+-- it comes without a desk
+abbrev pub IsOwn : Unread → Type 0
+IsOwn unread.Read = ⊤
+IsOwn unread.NoMemory = ⊤
+IsOwn (unread.Outage outage.NoMemory) = ⊤
+IsOwn (unread.Outage outage.Store) = ⊥
+IsOwn (unread.Outage outage.Reopen) = ⊥
+IsOwn (unread.Outage outage.NotADesk) = ⊥
+
+-- the reader failed, or memory was refused for what it gave
+abbrev pub IsOfInput : Unread → Type 0
+IsOfInput unread.Read = ⊤
+IsOfInput unread.NoMemory = ⊤
+IsOfInput (unread.Outage _) = ⊥
+
+-- it can come of a desk that has failed: no call of it fails once more
+abbrev pub IsOfClosed : Unread → Type 0
+IsOfClosed unread.Read = ⊤
+IsOfClosed unread.NoMemory = ⊤
+IsOfClosed (unread.Outage outage.NoMemory) = ⊤
+IsOfClosed (unread.Outage outage.Store) = ⊥
+IsOfClosed (unread.Outage outage.Reopen) = ⊤
+IsOfClosed (unread.Outage outage.NotADesk) = ⊥
+
+-- what is known of the request that an input makes, at a desk that has failed: a refusal at most, which is due
+-- whatever the desk's history is
+abbrev pub IsKnownOfClosed : Option (List ℕ) → Result (Option Due) Unread → Type 0
+IsKnownOfClosed input (Ok None) = ⊤
+IsKnownOfClosed input (Ok (Some due)) = IsErr due × IfSome input (λ b. (cs : History) → Asks cs b due)
+IsKnownOfClosed input (Err unread) = IsOfClosed unread
+
+-- where what the input asks for was found, or the desk couldn't answer
+abbrev pub WhenAsked : Result (Option Due) Unread → Type 0 → Type 0
+WhenAsked (Ok None) holds = ⊤
+WhenAsked (Ok (Some due)) holds = holds
+WhenAsked (Err unread.Read) holds = ⊤
+WhenAsked (Err unread.NoMemory) holds = ⊤
+WhenAsked (Err (unread.Outage outage)) holds = holds

@@ -1,9 +1,9 @@
 //! What a person asks for with a body.
-ghost use Rattle.std.specs.Prelude.{◌≡◌, Err, IfErr, IfOk, IfSome, MatchResult, Ok, Some, false, true};
+ghost use Rattle.std.specs.Prelude.{◌≡◌, ◌≢◌, Err, IfErr, IfOk, IfSome, MatchResult, Ok, Some, false, true};
 ghost use Rattle.desk_requests.specs.Wanted.{shown};
 ghost use Rattle.desk_http.specs.Asked as spec;
 ghost use Rattle.desk_http.specs.Bodies as bodies;
-ghost use Rattle.desk_http.specs.Unread.{CanCome};
+ghost use Rattle.desk_http.specs.Unread.{IsOwn};
 
 use crate::body_reading::read_bytes;
 use crate::image_reading::read_image;
@@ -54,7 +54,8 @@ fn ask_with_image(
     image: Pieces,
 ) -> Result<Due, AllocError>
     requires { bodies.takes_image wanted.now.route ≡ true }
-    ensures { IfOk result (λ due. due ≡ spec.of_body person (shown wanted.now) (Some image)) }
+    ensures asked { IfOk result (λ due. due ≡ spec.of_body person (shown wanted.now) (Some image)) }
+    ensures no_store { result ≢ Ok (Err (Refused.Unavailable Outage.Store)) }
 {
     match asked(alloc, wanted) {
         Ok(asked) => {
@@ -76,7 +77,9 @@ fn ask_with_body(
     body: Vec<u8>,
 ) -> Result<Due, AllocError>
     requires { bodies.takes_image wanted.now.route ≡ false }
-    ensures { IfOk result (λ due. due ≡ spec.of_body person (shown wanted.now) (Some body.items)) }
+    ensures asked { IfOk result (λ due.
+        due ≡ spec.of_body person (shown wanted.now) (Some body.items)) }
+    ensures no_store { result ≢ Ok (Err (Refused.Unavailable Outage.Store)) }
 {
     match asked(alloc, wanted) {
         Ok(asked) => match task_with_body(alloc, asked, body)? {
@@ -110,7 +113,8 @@ pub(crate) fn ask<R: Read>(
 ) -> Result<Due, Unread>
     ensures asked { IfOk result (λ due. IfSome (R.remaining reader.old) (λ rest.
         due ≡ spec.of_body person (shown wanted.now) (bodies.body_in wanted.now.size rest))) }
-    ensures named { IfErr result CanCome }
+    ensures no_store { result ≢ Ok (Err (Refused.Unavailable Outage.Store)) }
+    ensures named { IfErr result IsOwn }
 {
     if takes_image(wanted.route) {
         match read_image(alloc, reader, wanted.size)? {

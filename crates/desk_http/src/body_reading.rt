@@ -1,7 +1,7 @@
 //! A head, and a body that is no image.
 ghost use Rattle.std.specs.Prelude.{◌≡◌, IfErr, IfOk, IfSome};
 ghost use Rattle.desk_http.specs.Bodies.{body_in, items_of};
-ghost use Rattle.desk_http.specs.Unread.{CanCome};
+ghost use Rattle.desk_http.specs.Unread.{IsOfInput, IsOwn};
 
 use crate::served::Unread;
 use desk_bytes::InputFault;
@@ -11,7 +11,8 @@ use std::io::Read;
 
 /// The fault of an input that has no limit of its own.
 pub(crate) fn unread(fault: InputFault) -> Unread
-    ensures { CanCome result }
+    ensures own { IsOwn result }
+    ensures input { IsOfInput result }
 {
     match fault {
         InputFault::TooLong | InputFault::Read => Unread::Read,
@@ -28,7 +29,7 @@ pub(crate) fn read_bytes<R: Read>(
 ) -> Result<Option<Vec<u8>>, Unread>
     ensures body { IfOk result (λ body. IfSome (R.remaining reader.old)
         (λ b. items_of body ≡ body_in size b)) }
-    ensures named { IfErr result CanCome }
+    ensures named { IfErr result IsOwn }
 {
     match read_body(alloc, reader, size) {
         Ok(body) => Ok(body),

@@ -1,7 +1,7 @@
 //! A body that is an image.
 ghost use Rattle.std.specs.Prelude.{◌≡◌, IfErr, IfOk, IfSome};
 ghost use Rattle.desk_http.specs.Bodies.{body_in};
-ghost use Rattle.desk_http.specs.Unread.{CanCome};
+ghost use Rattle.desk_http.specs.Unread.{IsOwn};
 
 use crate::served::Unread;
 use pe_image::{Pieces, PiecesFault, Source};
@@ -17,7 +17,7 @@ pub(crate) fn read_image<R: Read>(
 ) -> Result<Option<Pieces>, Unread>
     ensures body { IfOk result (λ image.
         IfSome (R.remaining reader.old) (λ b. image ≡ body_in size b)) }
-    ensures named { IfErr result CanCome }
+    ensures named { IfErr result IsOwn }
 {
     match Pieces::take(alloc, reader, size as u64) {
         Ok(image) => {

@@ -1,14 +1,16 @@
 //! What the input of a connection asks for.
-ghost use Rattle.std.specs.Prelude.{◌≡◌, ◌≢◌, ℕ, List, [], Err, IfErr, IfOk, IfSome, MatchOption, MatchResult};
+ghost use Rattle.std.specs.Prelude.{◌≡◌, ◌≢◌, ◌⊎◌, ℕ, List, [], Err, None, Ok, Some, IfErr, IfOk, IfSome};
+ghost use Rattle.std.specs.Prelude.{IsErr, MatchOption, MatchResult};
 ghost use Rattle.httparse.specs.Grammar.{ReadsRequest, RequestHead};
 ghost use Rattle.desk_heads.specs.Fields.{parts_of};
 ghost use Rattle.desk_heads.specs.Heads.{HasFewFields};
 ghost use Rattle.desk_requests.specs.Fields.{bytes_of};
 ghost use Rattle.desk_requests.specs.Wanted as wants;
 ghost use Rattle.desk_calls.specs.Desks.{Keeps, Views};
+ghost use Rattle.desk_history.specs.Calls.{History};
 ghost use Rattle.desk_http.specs.Asked as spec;
 ghost use Rattle.desk_http.specs.Refused.{refused_by_head};
-ghost use Rattle.desk_http.specs.Unread.{CanCome};
+ghost use Rattle.desk_http.specs.Unread.{CanCome, IsKnownOfClosed, WhenAsked};
 
 use crate::asking::ask;
 use crate::body_reading::unread;
@@ -23,8 +25,9 @@ use std::io::Read;
 
 /// What is due where the head has this fault.
 fn refuse(fault: WantedFault) -> Result<Due, Unread>
-    ensures { MatchResult result (λ due. (fault ≢ WantedFault.NoMemory)
+    ensures refused { MatchResult result (λ due. (fault ≢ WantedFault.NoMemory)
         × (due ≡ Err (refused_by_head fault))) (λ unread. unread ≡ Unread.Outage Outage.NoMemory) }
+    ensures no_store { result ≢ Ok (Err (Refused.Unavailable Outage.Store)) }
 {
     match fault {
         WantedFault::BadHead => Ok(Err(Refused::BadHead)),
@@ -46,6 +49,10 @@ fn person_of<D: Answering>(desk: &mut D, token: Option<&[u8]>) -> Result<Option<
         → Keeps (D.shows desk.old) (D.shows desk.new) }
     ensures before { D.clean desk.new → D.clean desk.old }
     ensures named { Views (D.shows desk.old) (λ _ _. IfErr result CanCome) }
+    ensures poisons { result ≡ Err (Unread.Outage Outage.Store) → D.failed desk.new }
+    ensures closed { D.failed desk.old → (desk.new ≡ desk.old) × MatchResult result
+        (λ person. (person ≡ None) × (bytes_of token.entry ≡ None))
+        (λ unread. unread ≡ Unread.Outage Outage.Reopen) }
 {
     let Some(token) = token else {
         return Ok(None);
@@ -70,6 +77,14 @@ fn ask_as<D: Answering, R: Read>(
         → Keeps (D.shows desk.old) (D.shows desk.new) }
     ensures before { D.clean desk.new → D.clean desk.old }
     ensures named { Views (D.shows desk.old) (λ _ _. IfErr result CanCome) }
+    ensures poisons { result ≡ Err (Unread.Outage Outage.Store) → D.failed desk.new }
+    ensures no_store { result ≢ Ok (Err (Refused.Unavailable Outage.Store)) }
+    ensures closed { D.failed desk.old → (desk.new ≡ desk.old) × MatchResult result
+        (λ due. (due ≡ Err Refused.UnknownCaller) × ((wants.shown wanted.now).token ≡ None))
+        (λ unread. unread ≡ Unread.Outage Outage.Reopen) }
+    ensures stranger { D.clean desk.new → Views (D.shows desk.old) (λ _ cs.
+        spec.caller_of cs (wants.shown wanted.now).token ≡ None
+        → R.remaining reader.new ≡ R.remaining reader.old) }
 {
     match person_of(desk, wanted.token) {
         Ok(Some(person)) => ask(alloc, person, wanted, reader),
@@ -92,6 +107,15 @@ fn ask_by_head<D: Answering, R: Read>(
         → Keeps (D.shows desk.old) (D.shows desk.new) }
     ensures before { D.clean desk.new → D.clean desk.old }
     ensures named { Views (D.shows desk.old) (λ _ _. IfErr result CanCome) }
+    ensures poisons { result ≡ Err (Unread.Outage Outage.Store) → D.failed desk.new }
+    ensures no_store { result ≢ Ok (Err (Refused.Unavailable Outage.Store)) }
+    ensures closed { D.failed desk.old → (desk.new ≡ desk.old) × MatchResult result
+        (λ due. IsErr due × ((h : RequestHead) (q : List ℕ) → ReadsRequest head.now h q → HasFewFields h
+        → (cs : History) (rest : List ℕ) → due ≡ spec.due_of cs h rest))
+        (λ unread. (unread ≡ Unread.Outage Outage.Reopen) ⊎ (unread ≡ Unread.Outage Outage.NoMemory)) }
+    ensures stranger { (h : RequestHead) (q : List ℕ) → ReadsRequest head.now h q → HasFewFields h
+        → D.clean desk.new → Views (D.shows desk.old) (λ _ cs. spec.IsOfNobody cs h
+        → R.remaining reader.new ≡ R.remaining reader.old) }
 {
     match wanted(alloc, head) {
         Ok(wanted) => ask_as(alloc, desk, &wanted, reader),
@@ -111,6 +135,12 @@ pub(crate) fn read_due<D: Answering, R: Read>(
         → Keeps (D.shows desk.old) (D.shows desk.new) }
     ensures before { D.clean desk.new → D.clean desk.old }
     ensures named { Views (D.shows desk.old) (λ _ _. IfErr result CanCome) }
+    ensures poisons { result ≡ Err (Unread.Outage Outage.Store) → D.failed desk.new }
+    ensures no_store { result ≢ Ok (Some (Err (Refused.Unavailable Outage.Store))) }
+    ensures closed { D.failed desk.old → (desk.new ≡ desk.old)
+        × IsKnownOfClosed (R.remaining reader.old) result }
+    ensures stranger { D.clean desk.new → WhenAsked result
+        (spec.LeavesBody (D.shows desk.old) (R.remaining reader.old) (R.remaining reader.new)) }
 {
     let head = match read_head(alloc, reader) {
         Ok(Begun::Head(head)) => head,

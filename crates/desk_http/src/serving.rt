@@ -1,8 +1,10 @@
 //! One request and its response.
-ghost use Rattle.std.specs.Prelude.{◌≡◌, ◌≢◌, [], ℕ, List, IfErr, IfOk, IfSome, MatchOption, OnErr};
-ghost use Rattle.desk_calls.specs.Answers.{Serves};
+ghost use Rattle.std.specs.Prelude.{◌≡◌, ◌≢◌, [], ℕ, List, Err, Ok, Some};
+ghost use Rattle.std.specs.Prelude.{IfErr, IfOk, IfSome, MatchOption, OnErr};
+ghost use Rattle.desk_calls.specs.Answers.{Serves, store_failed};
 ghost use Rattle.desk_calls.specs.Desks.{Keeps, Views};
 ghost use Rattle.desk_calls.specs.declared.answers.Answer.{Answer};
+ghost use Rattle.desk_http.specs.Asked.{LeavesBody};
 ghost use Rattle.desk_http.specs.Serving as spec;
 
 use crate::reading::read_due;
@@ -10,15 +12,18 @@ use crate::responding::send_answer;
 use crate::served::{Due, Unread};
 use crate::{HttpFault, Served};
 use desk_calls::{Answer, Answering, answer};
-use desk_responses::Refused;
+use desk_responses::{Outage, Refused};
 use std::alloc::Global;
 use std::io::{Read, Write};
 
 /// The answer to what is asked for.
 fn answer_due<D: Answering>(alloc: Global, desk: &mut D, due: Due) -> Answer
     ensures served { D.clean desk.new → Views (D.shows desk.old) (λ owner cs.
-        Serves (D.shows desk.new owner) cs (spec.AnswersDue owner cs due) result) }
+        Serves (D.shows desk.new owner) (D.failed desk.new) cs (spec.AnswersDue owner cs due) result) }
     ensures before { D.clean desk.new → D.clean desk.old }
+    ensures poisons { due ≢ Err (Refused.Unavailable Outage.Store) → result ≡ store_failed
+        → D.failed desk.new }
+    ensures refused { IfErr due (λ refused. (result ≡ Answer.Refused refused) × (desk.new ≡ desk.old)) }
 {
     match due {
         Ok(call) => answer(alloc, desk, call),
@@ -35,10 +40,15 @@ fn answer_input<D: Answering, R: Read>(
     ensures answered { D.clean desk.new → IfOk result (λ found.
         IfSome (R.remaining reader.old) (λ b. Views (D.shows desk.old) (λ owner cs.
         MatchOption found ((b ≡ []) × D.shows desk.new owner cs)
-        (Serves (D.shows desk.new owner) cs (spec.AnswersInput owner cs b))))) }
+        (Serves (D.shows desk.new owner) (D.failed desk.new) cs (spec.AnswersInput owner cs b))))) }
     ensures unread { D.clean desk.new → OnErr result (Keeps (D.shows desk.old) (D.shows desk.new)) }
     ensures fault { IfErr result (λ fault. fault ≢ HttpFault.Write) }
     ensures before { D.clean desk.new → D.clean desk.old }
+    ensures poisons { result ≡ Ok (Some store_failed) → D.failed desk.new }
+    ensures closed { D.failed desk.old → (desk.new ≡ desk.old) × IfOk result (λ found.
+        IfSome found (spec.TellsClosed (R.remaining reader.old))) }
+    ensures stranger { D.clean desk.new → IfOk result (λ found. IfSome found (λ _.
+        LeavesBody (D.shows desk.old) (R.remaining reader.old) (R.remaining reader.new))) }
 {
     match read_due(alloc, desk, reader) {
         Ok(Some(due)) => Ok(Some(answer_due(alloc, desk, due))),
@@ -50,10 +60,11 @@ fn answer_input<D: Answering, R: Read>(
 }
 
 /// Serves one connection: reads a request, asks the desk, and writes the response, which is built whole before its
-/// first byte is written. Of what follows the request nothing is read. Takes memory.
+/// first byte is written. Of what follows the request nothing is read, nor the body before the caller is known. Takes
+/// memory.
 ///
 /// Where a call's answer or its text finds no memory, `Answered` has 503 and 40, and a command that was accepted
-/// stays accepted; where the store fails, 503 and 41, and where the desk needs to be opened again, 503 and 42.
+/// stays accepted; where the store fails, 503 and 41, and where it failed before, 503 and 42.
 pub fn serve_one<D: Answering, R: Read, W: Write>(
     alloc: Global,
     desk: &mut D,
@@ -61,14 +72,19 @@ pub fn serve_one<D: Answering, R: Read, W: Write>(
     writer: &mut W,
 ) -> Result<Served, HttpFault>
     ensures answered { D.clean desk.new → spec.IsAnswered (D.shows desk.old) (D.shows desk.new)
-        (R.remaining reader.old) (W.contents writer.old) (W.contents writer.new) result }
+        (D.failed desk.new) (R.remaining reader.old) (W.contents writer.old) (W.contents writer.new) result }
     ensures nothing { D.clean desk.new → spec.IsPassedOver (D.shows desk.old) (D.shows desk.new)
         (R.remaining reader.old) (W.contents writer.old) (W.contents writer.new) result }
     ensures unread { D.clean desk.new → spec.IsUnread (D.shows desk.old) (D.shows desk.new)
         (W.contents writer.old) (W.contents writer.new) result }
     ensures unwritten { D.clean desk.new → spec.IsUnwritten (D.shows desk.old) (D.shows desk.new)
-        (R.remaining reader.old) (W.contents writer.old) (W.contents writer.new) result }
+        (D.failed desk.new) (R.remaining reader.old) (W.contents writer.old) (W.contents writer.new) result }
+    ensures stranger { D.clean desk.new → spec.LeavesStrangers (D.shows desk.old)
+        (R.remaining reader.old) (R.remaining reader.new) result }
     ensures response { spec.HasResponded (W.contents writer.old) (W.contents writer.new) result }
+    ensures poisons { spec.FailsFirst (D.failed desk.new) result }
+    ensures closed { D.failed desk.old → (desk.new ≡ desk.old) × spec.RespondsClosed
+        (R.remaining reader.old) (W.contents writer.old) (W.contents writer.new) result }
     ensures before { D.clean desk.new → D.clean desk.old }
 {
     match answer_input(alloc, desk, reader) {

@@ -26,6 +26,7 @@ fn serve_next<D: Answering, W: Write>(
     ensures next { D.clean desk.new → IsTrue result
         → ServesNext (D.shows desk.old) (D.shows desk.new) (W.contents writer.old) (W.contents writer.new) input.now }
     ensures before { D.clean desk.new → D.clean desk.old }
+    ensures closed { D.failed desk.old → desk.new ≡ desk.old }
 {
     let mut reader = input;
     match serve_one(alloc, desk, &mut reader, writer) {
@@ -48,6 +49,7 @@ pub fn serve_each<D: Answering, W: Write>(
     ensures all { D.clean desk.new → result ≡ length inputs.now
         → ServesEach (D.shows desk.old) (D.shows desk.new) (W.contents writer.old) (W.contents writer.new) inputs.now }
     ensures before { D.clean desk.new → D.clean desk.old }
+    ensures closed { D.failed desk.old → desk.new ≡ desk.old }
 {
     let mut served = 0;
     for input in inputs {

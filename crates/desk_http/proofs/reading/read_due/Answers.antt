@@ -1,4 +1,7 @@
+use Rattle.desk_http.specs.Asked.{LeavesBody}
+use Rattle.desk_http.proofs.ClosedLemmas.{closed_head}
 use Rattle.desk_http.proofs.InputLemmas.{head_is_asked}
+use Rattle.desk_http.proofs.StrangerLemmas.{leaves_head, unread_leaves}
 use Rattle.desk_http.proofs.reading.read_due.Goals as goal
 
 pub returns-in-Ok-clause-asked : goal.returns-in-Ok-clause-asked
@@ -6,3 +9,29 @@ returns-in-Ok-clause-asked g c = λ clean.
     head_is_asked (g.R.Read.remaining c.args.reader.now) (g.R.Read.remaining c.read_head.new.reader) c.in-Ok-Head.head c.in-Ok.due (g.D.Answering.shows c.args.desk.now)
     (rw c.in-Ok-Head.field-0-is at c.in-Ok-Head.ensures)
     (λ h q reads few. c.in-Ok.ensures.asked h q (rw c.deref.ensures.value reads) few clean)
+
+pub returns-in-Ok-clause-closed : goal.returns-in-Ok-clause-closed
+returns-in-Ok-clause-closed g c was =
+    let shut = c.in-Ok.ensures.closed was in (
+      shut.0,
+      (
+        shut.1.0,
+        closed_head (g.R.Read.remaining c.args.reader.now) (g.R.Read.remaining c.read_head.new.reader) c.in-Ok-Head.head c.in-Ok.due
+            (rw c.in-Ok-Head.field-0-is at c.in-Ok-Head.ensures)
+            (shut.1.0, λ h q reads few. shut.1.1 h q (rw c.deref.ensures.value reads) few),
+      ),
+    )
+
+pub returns-in-Ok-clause-stranger : goal.returns-in-Ok-clause-stranger
+returns-in-Ok-clause-stranger g c = λ clean.
+    leaves_head (g.R.Read.remaining c.args.reader.now) (g.R.Read.remaining c.read_head.new.reader) (g.R.Read.remaining c.ask_by_head-due.new.reader)
+    c.in-Ok-Head.head (g.D.Answering.shows c.args.desk.now) (rw c.in-Ok-Head.field-0-is at c.in-Ok-Head.ensures)
+    (λ h q reads few. c.in-Ok.ensures.stranger h q (rw c.deref.ensures.value reads) few clean)
+
+pub returns-in-Err-due-clause-stranger : goal.returns-in-Err-due-clause-stranger
+returns-in-Err-due-clause-stranger g c = λ clean.
+    unread_leaves c.in-Err-due.unread
+    (LeavesBody (g.D.Answering.shows c.args.desk.now) (g.R.Read.remaining c.args.reader.now) (g.R.Read.remaining c.ask_by_head-due.new.reader))
+    (leaves_head (g.R.Read.remaining c.args.reader.now) (g.R.Read.remaining c.read_head.new.reader) (g.R.Read.remaining c.ask_by_head-due.new.reader)
+    c.in-Ok-Head.head (g.D.Answering.shows c.args.desk.now) (rw c.in-Ok-Head.field-0-is at c.in-Ok-Head.ensures)
+    (λ h q reads few. c.in-Err-due.ensures.stranger h q (rw c.deref.ensures.value reads) few clean))

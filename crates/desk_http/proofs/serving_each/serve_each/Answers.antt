@@ -1,4 +1,4 @@
-use Rattle.std.proofs.Common.{◌+◌, ap, take}
+use Rattle.std.proofs.Common.{◌+◌, ◌∙◌, ap, subst, sym, take}
 use Rattle.desk_http.proofs.EachLemmas.{each_and_next, up_to_next}
 use Rattle.desk_http.proofs.serving_each.serve_each.Goals as goal
 
@@ -14,4 +14,7 @@ loop-input-preserved g c =
           (held c.serve_next.new.writer) (shown c.args.desk.now) (shown c.loop-input.desk) (shown c.serve_next.new.desk)
           (c.loop-input.invariant.each (c.serve_next.ensures.before clean)) (rw c.as_slice.ensures at (c.serve_next.ensures.next clean c.if-not-serve_next.false)));
       before = λ clean. c.loop-input.invariant.before (c.serve_next.ensures.before clean);
+      closed = λ was.
+          let same = c.loop-input.invariant.closed was in
+          c.serve_next.ensures.closed (subst g.D.Answering.failed (sym same) was) ∙ same;
     }

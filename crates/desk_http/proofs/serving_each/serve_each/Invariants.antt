@@ -8,4 +8,5 @@ invariant-loop-input g l = record {
   each : g.D.Answering.clean l.desk
       → ServesEach (g.D.Answering.shows l.fn.desk) (g.D.Answering.shows l.desk) (g.W.Write.contents l.fn.writer) (g.W.Write.contents l.writer) (take l.input-index l.inputs);
   before : g.D.Answering.clean l.desk → g.D.Answering.clean l.fn.desk;
+  closed : g.D.Answering.failed l.fn.desk → l.desk ≡ l.fn.desk;
 }

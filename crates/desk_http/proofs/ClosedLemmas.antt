@@ -1,0 +1,165 @@
+-- What a desk that has failed lets be known of a request, and tells of it.
+use Rattle.std.proofs.Common.{◌≡◌, ◌≢◌, ◌∙◌, ◌⊎◌, inl, inr, ℕ, List, [], refl, sym, subst, Option, Some, None, Result, Ok, Err, IfOk, IfSome, MatchResult, Vec}
+use Rattle.std.specs.Prelude.{IfErr, IsErr}
+use Rattle.std.specs.declared.alloc.Global.{Global}
+use Rattle.httparse.specs.Grammar.{ReadsRequest, RequestHead}
+use Rattle.desk_bytes.specs.Output.{AppendsBeginning}
+use Rattle.desk_history.specs.Calls.{History}
+use Rattle.desk_heads.specs.Fields.{parts_of}
+use Rattle.desk_heads.specs.Heads.{FindsOf, HasFewFields}
+use Rattle.desk_heads.specs.declared.begun.Begun.TheVariants.{Head, NoHead}
+use Rattle.desk_requests.specs.Wanted.{Want, wanted_of}
+use Rattle.desk_requests.specs.declared.fault.WantedFault.{WantedFault}
+use Rattle.desk_requests.specs.declared.fault.WantedFault.TheVariants as faults
+use Rattle.desk_responses.specs.declared.outage.Outage.{Outage}
+use Rattle.desk_responses.specs.declared.outage.Outage.TheVariants as outage
+use Rattle.desk_responses.specs.declared.refused.Refused.TheVariants as refused
+use Rattle.desk_calls.specs.Answers.{IsClosed, no_memory}
+use Rattle.desk_calls.specs.declared.answers.Answer.{Answer}
+use Rattle.desk_calls.specs.declared.answers.Answer.TheVariants.{Refused}
+use Rattle.desk_http.specs.Asked.{Asks, Due, due_of, of_head}
+use Rattle.desk_http.specs.Refused.{refused_by_head}
+use Rattle.desk_http.specs.Responses.{response_of}
+use Rattle.desk_http.specs.Sending.{Replaces, Sends}
+use Rattle.desk_http.specs.Serving.{AnswersInput, Responds, RespondsClosed, TellsClosed, WhenAnswered, WhenUnwritten}
+use Rattle.desk_http.specs.Unread.{CanCome, IsOfClosed, IsOwn}
+use Rattle.desk_http.specs.declared.served.HttpFault.{HttpFault}
+use Rattle.desk_http.specs.declared.served.HttpFault.TheVariants as http
+use Rattle.desk_http.specs.declared.served.Served.{Served}
+use Rattle.desk_http.specs.declared.served.Served.TheVariants.{Answered, Nothing}
+use Rattle.desk_http.specs.declared.served.Unread.{Unread}
+use Rattle.desk_http.specs.declared.served.Unread.TheVariants as unread
+use Rattle.desk_http.proofs.AskLemmas.{head_reads_itself}
+use Rattle.desk_http.proofs.SendLemmas.{SendsFor}
+
+-- ---- what comes without a desk
+
+pub own_can_come : (u : Unread) → IsOwn u → CanCome u
+own_can_come unread.Read h = tt
+own_can_come unread.NoMemory h = tt
+own_can_come (unread.Outage outage.NoMemory) h = tt
+own_can_come (unread.Outage outage.Store) h = tt
+own_can_come (unread.Outage outage.Reopen) h = h
+own_can_come (unread.Outage outage.NotADesk) h = h
+
+pub own_of_closed : (u : Unread) → IsOwn u → IsOfClosed u
+own_of_closed unread.Read h = tt
+own_of_closed unread.NoMemory h = tt
+own_of_closed (unread.Outage outage.NoMemory) h = tt
+own_of_closed (unread.Outage outage.Store) h = h
+own_of_closed (unread.Outage outage.Reopen) h = tt
+own_of_closed (unread.Outage outage.NotADesk) h = h
+
+pub own_result_can_come : (r : Result Due Unread) → IfErr r IsOwn → IfErr r CanCome
+own_result_can_come (Ok due) h = tt
+own_result_can_come (Err u) h = own_can_come u h
+
+pub own_no_store : (r : Result Due Unread) → IfErr r IsOwn → r ≡ Err (unread.Outage outage.Store) → ⊥
+own_no_store r h e = subst (λ x. IfErr x IsOwn) e h
+
+pub outage_of_closed : (u : Unread) → (u ≡ unread.Outage outage.Reopen) ⊎ (u ≡ unread.Outage outage.NoMemory) → IsOfClosed u
+outage_of_closed u (inl e) = subst IsOfClosed (sym e) tt
+outage_of_closed u (inr e) = subst IsOfClosed (sym e) tt
+
+-- ---- by the head
+
+-- what a head is answered whatever the history is
+abbrev IsDueOfAll : List ℕ → Due → Type 0
+IsDueOfAll head due =
+    IsErr due × ((h : RequestHead) (q : List ℕ) → ReadsRequest head h q → HasFewFields h → (cs : History) (rest : List ℕ) → due ≡ due_of cs h rest)
+
+-- a head without a token
+pub closed_ask : (head : List ℕ) (v : Want) (r : Result Due Unread)
+    → ((h : RequestHead) (q : List ℕ) → ReadsRequest head h q → HasFewFields h → wanted_of (parts_of h) ≡ Ok v)
+    → MatchResult r (λ due. (due ≡ Err refused.UnknownCaller) × (v.token ≡ None)) (λ u. u ≡ unread.Outage outage.Reopen)
+    → MatchResult r (IsDueOfAll head) (λ u. (u ≡ unread.Outage outage.Reopen) ⊎ (u ≡ unread.Outage outage.NoMemory))
+closed_ask head v (Err u) found is = inl is
+closed_ask head v (Ok due) found is =
+    let P : Due → Type 0 = IsErr in
+    (subst P (sym is.0) refl, λ h q reads few cs rest. is.0 ∙ rw (found h q reads few, is.1) refl)
+
+-- a head with a fault
+pub closed_refuse : (head : List ℕ) (f : WantedFault) (r : Result Due Unread)
+    → ((h : RequestHead) (q : List ℕ) → ReadsRequest head h q → HasFewFields h → f ≢ faults.NoMemory → wanted_of (parts_of h) ≡ Err f)
+    → MatchResult r (λ due. (f ≢ faults.NoMemory) × (due ≡ Err (refused_by_head f))) (λ u. u ≡ unread.Outage outage.NoMemory)
+    → MatchResult r (IsDueOfAll head) (λ u. (u ≡ unread.Outage outage.Reopen) ⊎ (u ≡ unread.Outage outage.NoMemory))
+closed_refuse head f (Err u) found is = inr is
+closed_refuse head f (Ok due) found is =
+    let P : Due → Type 0 = IsErr in
+    (subst P (sym is.1) refl, λ h q reads few cs rest. is.1 ∙ rw (found h q reads few is.0) refl)
+
+-- ---- by the input
+
+pub closed_head : (old mid : Option (List ℕ)) (taken : Vec ℕ Global) (due : Due)
+    → FindsOf old mid (Head taken) → IsDueOfAll taken.items due → IfSome old (λ b. (cs : History) → Asks cs b due)
+closed_head None mid taken due found all = tt
+closed_head (Some b) mid taken due found all =
+    let reads : ReadsRequest taken.items found.0 [] = rw found.3 (head_reads_itself b found.0 found.1 found.2) in
+    λ cs. inl (found.0, found.1, found.2, all.1 found.0 [] reads found.2.few cs found.1)
+
+pub closed_none : (old mid : Option (List ℕ)) → FindsOf old mid NoHead → IfSome old (λ b. (cs : History) → Asks cs b (Err refused.BadHead))
+closed_none None mid found = tt
+closed_none (Some b) mid found = λ cs. inr (found.0, found.1, refl)
+
+-- ---- what is told
+
+known : (input : Option (List ℕ)) (told : Answer) → ((b : List ℕ) → IsClosed (λ owner cs. AnswersInput owner cs b) told)
+    → IfSome input (λ b. IsClosed (λ owner cs. AnswersInput owner cs b) told)
+known None told each = tt
+known (Some b) told each = each b
+
+-- a refusal that is due of every history
+pub closed_due : (input : Option (List ℕ)) (due : Due) (a : Answer) (stays : Type 0)
+    → IsErr due × IfSome input (λ b. (cs : History) → Asks cs b due) → IfErr due (λ refused. (a ≡ Refused refused) × stays)
+    → TellsClosed input a × stays
+closed_due input (Ok call) a stays known told = absurd (let no : ⊥ = (let h = known.0 in cc) in no)
+closed_due None (Err x) a stays known told = (record { refusal = (x, told.0); closed = tt }, told.1)
+closed_due (Some b) (Err x) a stays known told = (
+  record {
+    refusal = (x, told.0);
+    closed = inr (inr (λ owner cs. record { due = Err x; asked = known.1 cs; answered = (told.0, refl) }));
+  },
+  told.1,
+)
+
+-- an outage of a desk that has failed
+pub closed_outage : (input : Option (List ℕ)) (o : Outage) → IsOfClosed (unread.Outage o) → TellsClosed input (Refused (refused.Unavailable o))
+closed_outage input outage.NoMemory h = record {
+  refusal = (refused.Unavailable outage.NoMemory, refl);
+  closed = known input (Refused (refused.Unavailable outage.NoMemory)) (λ b. inr (inl refl));
+}
+closed_outage input outage.Store h = absurd h
+closed_outage input outage.Reopen h = record {
+  refusal = (refused.Unavailable outage.Reopen, refl);
+  closed = known input (Refused (refused.Unavailable outage.Reopen)) (λ b. inl refl);
+}
+closed_outage input outage.NotADesk h = absurd h
+
+-- what is told in its place
+told_closed : (input : Option (List ℕ)) (a told : Answer) → TellsClosed input a → Replaces a told → TellsClosed input told
+told_closed input a told closed (inl e) = subst (TellsClosed input) (sym e) closed
+told_closed input a told closed (inr x) = record {
+  refusal = (refused.Unavailable outage.NoMemory, x.0);
+  closed = known input told (λ b. inr (inl x.0));
+}
+
+-- what went out
+pub responds_closed : (input before after : Option (List ℕ)) (a : Answer) (r : Result Served HttpFault)
+    → TellsClosed input a → SendsFor before after a r → RespondsClosed input before after r
+responds_closed input before after a (Ok (Answered code number)) closed sent = record {
+  answered = (sent.0, sent.2, told_closed input a sent.0 closed sent.1);
+  unwritten = tt;
+}
+responds_closed input before after a (Ok Nothing) closed sent = absurd sent.2
+responds_closed input before after a (Err http.Read) closed sent = absurd sent.2
+responds_closed input before after a (Err http.Write) closed sent = record {
+  answered = tt;
+  unwritten = (sent.0, sent.2, told_closed input a sent.0 closed sent.1);
+}
+responds_closed input before after a (Err http.NoMemory) closed sent = absurd sent.2
+
+-- nothing went out
+pub nothing_closed : (input before after : Option (List ℕ)) (f : HttpFault) → f ≢ http.Write → RespondsClosed input before after (Err f)
+nothing_closed input before after http.Read differs = record { answered = tt; unwritten = tt }
+nothing_closed input before after http.Write differs = absurd (differs refl)
+nothing_closed input before after http.NoMemory differs = record { answered = tt; unwritten = tt }

@@ -1,0 +1,71 @@
+-- What is left of an input whose head is nobody's.
+use Rattle.std.proofs.Common.{◌≡◌, ◌≢◌, ◌∙◌, ℕ, List, [], refl, sym, ap, subst, Option, Some, None, Result, Ok, Err, IfOk, Vec}
+use Rattle.std.specs.declared.alloc.Global.{Global}
+use Rattle.httparse.specs.Grammar.{ReadsRequest, RequestHead}
+use Rattle.httparse.proofs.GrammarLemmas.{request_unique}
+use Rattle.desk_history.specs.Calls.{History}
+use Rattle.desk_heads.specs.Fields.{parts_of}
+use Rattle.desk_heads.specs.Heads.{FindsOf, HasFewFields}
+use Rattle.desk_heads.specs.declared.begun.Begun.TheVariants.{Head, NoHead}
+use Rattle.desk_requests.specs.Wanted.{Want, wanted_of}
+use Rattle.desk_requests.specs.declared.fault.WantedFault.{WantedFault}
+use Rattle.desk_calls.specs.Desks.{Views}
+use Rattle.desk_http.specs.Asked.{IsOfNobody, LeavesBody, caller_of}
+use Rattle.desk_http.specs.Serving.{LeavesStrangers}
+use Rattle.desk_http.specs.Unread.{IsOfInput, WhenAsked}
+use Rattle.desk_http.specs.declared.served.HttpFault.{HttpFault}
+use Rattle.desk_http.specs.declared.served.HttpFault.TheVariants as http
+use Rattle.desk_http.specs.declared.served.Served.{Served}
+use Rattle.desk_http.specs.declared.served.Served.TheVariants.{Answered, Nothing}
+use Rattle.desk_http.specs.declared.served.Unread.{Unread}
+use Rattle.desk_http.specs.declared.served.Unread.TheVariants as unread
+use Rattle.desk_http.proofs.AskLemmas.{head_reads_itself}
+
+-- a head that wants this is nobody's where nobody has its token
+pub nobody_wants : (cs : History) (h : RequestHead) (v : Want) → wanted_of (parts_of h) ≡ Ok v → IsOfNobody cs h → caller_of cs v.token ≡ None
+nobody_wants cs h v is nobody =
+    let P : Result Want WantedFault → Type 0 = λ r. IfOk r (λ w. caller_of cs w.token ≡ None) in subst P is nobody
+
+-- a head was read, and nothing behind it
+pub leaves_head : (old mid new : Option (List ℕ)) (taken : Vec ℕ Global) (shows : List ℕ → History → Type 0)
+    → FindsOf old mid (Head taken)
+    → ((h : RequestHead) (q : List ℕ) → ReadsRequest taken.items h q → HasFewFields h → Views shows (λ _ cs. IsOfNobody cs h → new ≡ mid))
+    → LeavesBody shows old new
+leaves_head None mid new taken shows found stays = tt
+leaves_head (Some b) mid new taken shows found stays = λ owner cs shown h rest has nobody.
+    let reads : ReadsRequest taken.items found.0 [] = rw found.3 (head_reads_itself b found.0 found.1 found.2) in
+    let same = request_unique b h found.0 rest found.1 has.reads found.2.reads in
+    let left : new ≡ mid = stays found.0 [] reads found.2.few owner cs shown (subst (IsOfNobody cs) same.0 nobody) in
+    left ∙ (found.4 ∙ ap (λ (x : List ℕ). Some x) (sym same.1))
+
+-- there was no head
+pub leaves_none : (old mid new : Option (List ℕ)) (shows : List ℕ → History → Type 0) → FindsOf old mid NoHead → LeavesBody shows old new
+leaves_none None mid new shows found = tt
+leaves_none (Some b) mid new shows found = λ owner cs shown h rest has nobody. absurd (found.1 h rest has)
+
+-- nothing is known of what is asked for
+pub unread_leaves : (u : Unread) (holds : Type 0) → holds → WhenAsked (Err u) holds
+unread_leaves unread.Read holds h = tt
+unread_leaves unread.NoMemory holds h = tt
+unread_leaves (unread.Outage o) holds h = h
+
+-- the input itself wasn't read
+pub input_leaves : (u : Unread) (holds : Type 0) → IsOfInput u → WhenAsked (Err u) holds
+input_leaves unread.Read holds h = tt
+input_leaves unread.NoMemory holds h = tt
+input_leaves (unread.Outage o) holds h = absurd h
+
+-- what is left of an input is left whatever became of its response
+pub leaves_strangers : (old : List ℕ → History → Type 0) (input left : Option (List ℕ)) (r : Result Served HttpFault)
+    → LeavesBody old input left → LeavesStrangers old input left r
+leaves_strangers old input left (Ok (Answered code number)) h = (h, tt)
+leaves_strangers old input left (Ok Nothing) h = (tt, tt)
+leaves_strangers old input left (Err http.Read) h = (tt, tt)
+leaves_strangers old input left (Err http.Write) h = (tt, h)
+leaves_strangers old input left (Err http.NoMemory) h = (tt, tt)
+
+-- no response went out
+pub nothing_left : (old : List ℕ → History → Type 0) (input left : Option (List ℕ)) (f : HttpFault) → f ≢ http.Write → LeavesStrangers old input left (Err f)
+nothing_left old input left http.Read differs = (tt, tt)
+nothing_left old input left http.Write differs = absurd (differs refl)
+nothing_left old input left http.NoMemory differs = (tt, tt)
