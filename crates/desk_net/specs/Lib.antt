@@ -1,2 +1,4 @@
 pub mod Faults
 pub mod Served
+pub mod Turns
+pub mod Wire

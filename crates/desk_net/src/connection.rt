@@ -1,10 +1,7 @@
 //! One request, from a reader or a connection.
-ghost use Rattle.std.specs.Prelude.{IfSome};
+ghost use Rattle.std.specs.Prelude.{◌≡◌};
 ghost use Rattle.desk_http.specs.Serving as spec;
-ghost use Rattle.desk_net.specs.Faults.{IsLasting};
 
-use crate::served::ending;
-use desk_bytes::Refusal;
 use desk_calls::Answering;
 use desk_http::{HttpFault, Served, serve_one};
 use std::alloc::Global;
@@ -57,30 +54,6 @@ fn was_refused(served: &Result<Served, HttpFault>) -> bool {
     }
 }
 
-/// Serves one request of a connection, and gives what ends the program. Where there is no memory for the reader, or
-/// the peer pauses too long, this connection ends without a response.
-pub(crate) fn serve_stream<D: Answering>(
-    alloc: Global,
-    desk: &mut D,
-    stream: &TcpStream,
-) -> Option<Refusal>
-    ensures lasting { IfSome result IsLasting }
-    ensures before { D.clean desk.new → D.clean desk.old }
-{
-    if !bounds_pauses(stream) {
-        return None;
-    }
-    let Ok(mut reader) = BufReader::new(alloc, stream) else {
-        return None;
-    };
-    let mut writer = stream;
-    let served = serve_one(alloc, desk, &mut reader, &mut writer);
-    if was_refused(&served) {
-        read_off(stream);
-    }
-    ending(served)
-}
-
 /// Serves one request of a reader, with the clauses of desk_http's `serve_one`. Takes memory for a piece of the input;
 /// NoMemory where there is none, before anything is read.
 pub fn answer<D: Answering, R: Read + Drop, W: Write>(
@@ -90,18 +63,43 @@ pub fn answer<D: Answering, R: Read + Drop, W: Write>(
     writer: &mut W,
 ) -> Result<Served, HttpFault>
     ensures answered { D.clean desk.new → spec.IsAnswered (D.shows desk.old) (D.shows desk.new)
-        (R.remaining reader) (W.contents writer.old) (W.contents writer.new) result }
+        (D.failed desk.new) (R.remaining reader) (W.contents writer.old) (W.contents writer.new) result }
     ensures nothing { D.clean desk.new → spec.IsPassedOver (D.shows desk.old) (D.shows desk.new)
         (R.remaining reader) (W.contents writer.old) (W.contents writer.new) result }
     ensures unread { D.clean desk.new → spec.IsUnread (D.shows desk.old) (D.shows desk.new)
         (W.contents writer.old) (W.contents writer.new) result }
     ensures unwritten { D.clean desk.new → spec.IsUnwritten (D.shows desk.old) (D.shows desk.new)
-        (R.remaining reader) (W.contents writer.old) (W.contents writer.new) result }
+        (D.failed desk.new) (R.remaining reader) (W.contents writer.old) (W.contents writer.new) result }
     ensures response { spec.HasResponded (W.contents writer.old) (W.contents writer.new) result }
+    ensures poisons { spec.FailsFirst (D.failed desk.new) result }
+    ensures closed { D.failed desk.old → (desk.new ≡ desk.old) × spec.RespondsClosed
+        (R.remaining reader) (W.contents writer.old) (W.contents writer.new) result }
     ensures before { D.clean desk.new → D.clean desk.old }
 {
     let Ok(mut reader) = BufReader::new(alloc, reader) else {
         return Err(HttpFault::NoMemory);
     };
     serve_one(alloc, desk, &mut reader, writer)
+}
+
+/// Serves one request of a connection. Where there is no memory for the reader, or the peer pauses too long, this
+/// connection ends without a response.
+pub(crate) fn serve_stream<D: Answering>(
+    alloc: Global,
+    desk: &mut D,
+    stream: &TcpStream,
+) -> Result<Served, HttpFault>
+    ensures before { D.clean desk.new → D.clean desk.old }
+    ensures poisons { spec.FailsFirst (D.failed desk.new) result }
+    ensures closed { D.failed desk.old → desk.new ≡ desk.old }
+{
+    if !bounds_pauses(stream) {
+        return Err(HttpFault::Read);
+    }
+    let mut writer = stream;
+    let served = answer(alloc, desk, stream, &mut writer);
+    if was_refused(&served) {
+        read_off(stream);
+    }
+    served
 }

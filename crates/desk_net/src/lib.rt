@@ -2,6 +2,7 @@
 #![tactic(auto)]
 
 mod connection;
+mod peers;
 mod served;
 mod serving;
 

@@ -1,10 +1,17 @@
 //! Connections, one after another.
-ghost use Rattle.std.specs.Prelude.{◌≡◌, IfErr};
+ghost use Rattle.std.specs.Prelude.{◌≡◌, IfErr, IsErrOf, Result};
+ghost use Rattle.desk_http.specs.declared.served.HttpFault.{HttpFault as Fault};
+ghost use Rattle.desk_http.specs.declared.served.Served.{Served as Came};
 ghost use Rattle.desk_net.specs.Faults.{IsServingRefusal};
+ghost use Rattle.desk_net.specs.Turns.{ServesInTurn};
+ghost use Rattle.desk_net.specs.Wire.{IsOneRequest};
 
 use crate::connection::serve_stream;
+use crate::peers::Peers;
+use crate::served::ending;
 use desk_bytes::Refusal;
 use desk_calls::Answering;
+use desk_http::{HttpFault, Served};
 use std::alloc::Global;
 use std::net::{Ipv4Addr, Net, SocketAddr, SocketAddrV4, TcpListener, TcpStream};
 
@@ -22,6 +29,48 @@ pub fn listen<N: Net<Listener = TcpListener, Stream = TcpStream>>(
     }
 }
 
+/// The peers that connect to a listener.
+#[derive(Clone, Copy)]
+struct Callers<'l> {
+    listener: &'l TcpListener,
+}
+
+impl<'l, D: Answering> Peers<D> for Callers<'l> {
+    ghost serves = { λ _. IsOneRequest D.clean D.failed };
+
+    fn serve_next(&self, alloc: Global, desk: &mut D) -> Option<Result<Served, HttpFault>> {
+        match self.listener.accept() {
+            Ok((stream, _)) => Some(serve_stream(alloc, desk, &stream)),
+            Err(_) => None,
+        }
+    }
+}
+
+/// Serves so many peers, one after another, unless one ends the program before.
+fn serve_peers<D: Answering, P: Peers<D>>(
+    alloc: Global,
+    desk: &mut D,
+    peers: &P,
+    count: u32,
+) -> Result<(), Refusal>
+    ensures in_turn { ServesInTurn (P.serves peers.now) count desk.old desk.new result }
+    ensures named { IfErr result IsServingRefusal }
+    ensures before { D.clean desk.new → D.clean desk.old }
+    ensures poisons { IsErrOf result Refusal.Store → D.failed desk.new }
+    ensures closed { D.failed desk.old → desk.new ≡ desk.old }
+{
+    for _ in 0..count {
+        let Some(served) = peers.serve_next(alloc, desk) else {
+            return Err(Refusal::Read);
+        };
+        match ending(served) {
+            Some(refusal) => return Err(refusal),
+            None => {}
+        }
+    }
+    Ok(())
+}
+
 /// Serves so many connections, one request each, one after another. What stops one connection ends that
 /// connection alone; a peer that pauses for 30 seconds is let go. Takes memory for each.
 ///
@@ -33,16 +82,11 @@ pub fn serve<D: Answering>(
     listener: &TcpListener,
     count: u32,
 ) -> Result<(), Refusal>
+    ensures in_turn { ServesInTurn (IsOneRequest D.clean D.failed) count desk.old desk.new result }
     ensures named { IfErr result IsServingRefusal }
     ensures before { D.clean desk.new → D.clean desk.old }
+    ensures poisons { IsErrOf result Refusal.Store → D.failed desk.new }
+    ensures closed { D.failed desk.old → desk.new ≡ desk.old }
 {
-    for _ in 0..count {
-        let Ok((stream, _)) = listener.accept() else {
-            return Err(Refusal::Read);
-        };
-        if let Some(refusal) = serve_stream(alloc, desk, &stream) {
-            return Err(refusal);
-        }
-    }
-    Ok(())
+    serve_peers(alloc, desk, &Callers { listener }, count)
 }

@@ -1,0 +1,24 @@
+//! Peers that connect, one after another.
+ghost use Rattle.std.specs.Prelude.{◌≡◌, IfNone, IfSome};
+ghost use Rattle.std.specs.Prelude.{Result};
+ghost use Rattle.desk_http.specs.Serving.{FailsFirst};
+ghost use Rattle.desk_http.specs.declared.served.HttpFault.{HttpFault as Fault};
+ghost use Rattle.desk_http.specs.declared.served.Served.{Served as Came};
+
+use desk_calls::Answering;
+use desk_http::{HttpFault, Served};
+use std::alloc::Global;
+
+/// Where peers connect that a desk serves, one request each.
+pub(crate) trait Peers<D: Answering> {
+    /// What the next peer was served, of the desk before and after it.
+    ghost serves: { Self → D → D → Result Came Fault → Type 0 };
+
+    /// Serves one request of the next peer; `None` where no connection can be had.
+    fn serve_next(&self, alloc: Global, desk: &mut D) -> Option<Result<Served, HttpFault>>
+        ensures served { IfSome result (serves self.now desk.old desk.new) }
+        ensures nobody { IfNone result (desk.new ≡ desk.old) }
+        ensures before { D.clean desk.new → D.clean desk.old }
+        ensures poisons { IfSome result (FailsFirst (D.failed desk.new)) }
+        ensures closed { D.failed desk.old → desk.new ≡ desk.old };
+}
