@@ -9,6 +9,10 @@ use std::test::Fail;
 /// A request for the level.
 const LEVEL: &str = "GET /level HTTP/1.1|Desk-Token: olga-token-000001||";
 
+/// A command under which the store fails.
+const STORE: &str =
+    "POST /requests/1/withdraw HTTP/1.1|Desk-Token: olga-token-000001|Desk-Key: store|Content-Length: 0||";
+
 /// What is served of an input.
 fn served(alloc: Global, input: &[u8]) -> Result<Served, HttpFault> {
     let mut desk = StandIn::new(alloc);
@@ -68,5 +72,20 @@ fn tells_that_a_write_fails(rt: HostRuntime) -> Result<(), Fail> {
     assert!(rt; served == Err(HttpFault::Write), "a write");
     let begun = b"HTTP/1.1 200 OK\r\nContent-Type: t".as_slice();
     assert!(rt; writer.taken.as_slice() == begun, "a beginning went out");
+    Ok(())
+}
+
+#[test]
+fn tells_that_the_desk_failed_before(rt: HostRuntime) -> Result<(), Fail> {
+    let alloc = rt.alloc();
+    let store = bytes_of(alloc, STORE)?;
+    let level = bytes_of(alloc, LEVEL)?;
+    let mut desk = StandIn::new(alloc);
+    for (input, number) in [(&store, 41), (&level, 42), (&store, 42)] {
+        let mut reader = input.as_slice();
+        let mut writer = Vec::new(alloc);
+        let served = serve_one(alloc, &mut desk, &mut reader, &mut writer);
+        assert!(rt; served == Ok(Served::Answered(503, number)), "{number}");
+    }
     Ok(())
 }

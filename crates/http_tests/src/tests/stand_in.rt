@@ -1,5 +1,5 @@
 //! A desk that tells what it is asked, and answers everybody the same.
-ghost use Rattle.std.specs.Prelude.{◌⊎◌, ⊤, IfSome, IsTrue};
+ghost use Rattle.std.specs.Prelude.{◌≡◌, ◌⊎◌, ⊤, IfSome, IsTrue, true};
 ghost use Rattle.desk_calls.specs.Desks.{IsOutage};
 ghost use Rattle.desk_history.specs.DecisionRefusals.{may_answer};
 
@@ -14,12 +14,14 @@ use desk_texts::{
 };
 use std::alloc::{AllocError, Global};
 
-/// A desk that shows no history. It knows one token.
+/// A desk that shows no history. It knows one token, and fails where a command's key is `store`.
 #[derive(Drop)]
 pub(crate) struct StandIn {
     pub(crate) alloc: Global,
     /// What was asked of it.
     pub(crate) asked: String,
+    /// It answered a call with `Store`.
+    has_failed: bool,
 }
 
 impl StandIn {
@@ -28,6 +30,7 @@ impl StandIn {
         StandIn {
             alloc,
             asked: String::new(alloc),
+            has_failed: false,
         }
     }
 }
@@ -133,7 +136,12 @@ impl Answering for StandIn {
 
     ghost clean = { λ _. ⊤ };
 
+    ghost failed = { λ desk. desk.has_failed ≡ true };
+
     fn person_of(&mut self, token: &Digest) -> Result<Option<Person>, Refusal> {
+        if self.has_failed {
+            return Err(Refusal::Reopen);
+        }
         if *token != token_digest(b"olga-token-000001".as_slice()) {
             return Ok(None);
         }
@@ -148,6 +156,9 @@ impl Answering for StandIn {
     }
 
     fn apply(&mut self, caller: &Caller, key: &Key, command: &Command) -> Result<Reply, Refusal> {
+        if self.has_failed {
+            return Err(Refusal::Reopen);
+        }
         let Ok(text) = command_text(self.alloc, command) else {
             return Err(Refusal::NoMemory);
         };
@@ -156,12 +167,18 @@ impl Answering for StandIn {
             return Err(Refusal::NoMemory);
         }
         match refusal(key.as_str()) {
-            Some(refusal) => Err(refusal),
+            Some(refusal) => {
+                self.has_failed = refusal == Refusal::Store;
+                Err(refusal)
+            }
             None => reply(command).ok_or(Refusal::NotYourRole),
         }
     }
 
     fn verdict(&mut self, _facts: &Facts) -> Result<Verdict, Refusal> {
+        if self.has_failed {
+            return Err(Refusal::Reopen);
+        }
         match tell(&mut self.asked, &["verdict"]) {
             Ok(()) => Ok(Verdict::NotListed),
             Err(AllocError) => Err(Refusal::NoMemory),
@@ -169,6 +186,9 @@ impl Answering for StandIn {
     }
 
     fn request(&mut self, caller: &Caller, number: RequestNumber) -> Result<ShownRequest, Refusal> {
+        if self.has_failed {
+            return Err(Refusal::Reopen);
+        }
         if tell(&mut self.asked, &["request", caller.name()]).is_err() {
             return Err(Refusal::NoMemory);
         }
@@ -179,6 +199,9 @@ impl Answering for StandIn {
     }
 
     fn requests_of(&mut self, caller: &Caller) -> Result<ShownRequests, Refusal> {
+        if self.has_failed {
+            return Err(Refusal::Reopen);
+        }
         match tell(&mut self.asked, &["requests", caller.name()]) {
             Ok(()) => Ok(ShownRequests::new(Vec::new(self.alloc))),
             Err(AllocError) => Err(Refusal::NoMemory),
@@ -186,6 +209,9 @@ impl Answering for StandIn {
     }
 
     fn proposals(&mut self, caller: &Caller) -> Result<ShownProposals, Refusal> {
+        if self.has_failed {
+            return Err(Refusal::Reopen);
+        }
         if tell(&mut self.asked, &["proposals", caller.name()]).is_err() {
             return Err(Refusal::NoMemory);
         }
@@ -193,6 +219,9 @@ impl Answering for StandIn {
     }
 
     fn export(&mut self, alloc: Global, what: Export) -> Result<Octets, Refusal> {
+        if self.has_failed {
+            return Err(Refusal::Reopen);
+        }
         let (word, bytes) = told_of(what);
         match exported(alloc, &mut self.asked, word, bytes) {
             Ok(bytes) => Ok(bytes),
@@ -201,6 +230,9 @@ impl Answering for StandIn {
     }
 
     fn report(&mut self, alloc: Global) -> Result<Octets, Refusal> {
+        if self.has_failed {
+            return Err(Refusal::Reopen);
+        }
         match exported(alloc, &mut self.asked, "report", b"people 1\n") {
             Ok(bytes) => Ok(bytes),
             Err(AllocError) => Err(Refusal::NoMemory),
