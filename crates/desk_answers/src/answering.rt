@@ -1,5 +1,5 @@
 //! A desk in a store is one that answers.
-ghost use Rattle.std.specs.Prelude.{◌≡◌, ◌≢◌, Err, IfErr, IfOk};
+ghost use Rattle.std.specs.Prelude.{◌≡◌, ◌≢◌, Err, IfErr, IfOk, IsErrOf, true};
 ghost use Rattle.sqlite.specs.Held.{state};
 ghost use Rattle.sqlite.specs.State.{HasCleanDisk};
 ghost use Rattle.desk_calls.specs.Desks.{IsOutage, Keeps, Views};
@@ -7,11 +7,11 @@ ghost use Rattle.desk_exports.specs.Exports.{exported};
 ghost use Rattle.desk_store.specs.Desks.{ShowsDesk};
 
 use crate::open_desk::OpenDesk;
+use crate::reporting::report;
 use desk_bytes::{Digest, Refusal};
 use desk_calls::{Answering, Octets, ShownProposals, ShownRequests};
 use desk_exports::Export;
 use desk_history::Verdict;
-use desk_reports::{report, report_is_the_history};
 use desk_store::Desk;
 use desk_texts::{Caller, Command, Facts, Key, Person, Reply, RequestNumber, ShownRequest};
 use sqlite::Alter;
@@ -21,6 +21,7 @@ use std::alloc::Global;
 fn into_memory(refusal: Refusal) -> Refusal
     ensures write { refusal ≡ Refusal.Write → result ≡ Refusal.NoMemory }
     ensures other { refusal ≢ Refusal.Write → result ≡ refusal }
+    ensures store { result ≡ Refusal.Store → refusal ≡ Refusal.Store }
 {
     if refusal == Refusal::Write {
         return Refusal::NoMemory;
@@ -42,6 +43,9 @@ fn octets_of<S: Alter + Drop>(
         → HasCleanDisk (state S.Store desk.old.conn) }
     ensures named { IfErr result IsOutage }
     ensures usable { Views (ShowsDesk S.Store desk.old) (λ _ _. result ≢ Err Refusal.Reopen) }
+    ensures poisons { IsErrOf result Refusal.Store → desk.new.needs_reopening ≡ true }
+    ensures closed { desk.old.needs_reopening ≡ true
+        → (result ≡ Err Refusal.Reopen) × (desk.new ≡ desk.old) }
 {
     let mut bytes = Vec::new(alloc);
     match desk.export(what, &mut bytes) {
@@ -54,6 +58,8 @@ impl<S: Alter + Drop> Answering for OpenDesk<S> {
     ghost shows = { λ kept owner cs. ShowsDesk S.Store kept.desk owner cs };
 
     ghost clean = { λ kept. HasCleanDisk (state S.Store kept.desk.conn) };
+
+    ghost failed = { λ kept. kept.desk.needs_reopening ≡ true };
 
     fn person_of(&mut self, token: &Digest) -> Result<Option<Person>, Refusal> {
         self.desk.person_of(token)
@@ -90,14 +96,9 @@ impl<S: Alter + Drop> Answering for OpenDesk<S> {
     }
 
     fn report(&mut self, alloc: Global) -> Result<Octets, Refusal> {
-        report_is_the_history();
-        let counts = match self.desk.counts() {
-            Ok(counts) => counts,
-            Err(refusal) => return Err(refusal),
-        };
-        match report(alloc, &counts) {
+        match report(alloc, &mut self.desk) {
             Ok(text) => Ok(Octets::new(text.into_bytes())),
-            Err(_) => Err(Refusal::NoMemory),
+            Err(refusal) => Err(refusal),
         }
     }
 }

@@ -3,7 +3,9 @@
 
 mod answering;
 mod open_desk;
+mod reporting;
 mod serving;
 
 pub use open_desk::OpenDesk;
+pub use reporting::report;
 pub use serving::answer;

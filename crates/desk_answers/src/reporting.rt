@@ -1,0 +1,44 @@
+//! The report of a desk.
+ghost use Rattle.std.specs.Prelude.{◌≡◌, ◌≢◌, Err, IfErr, IfOk, IsErrOf, false, string_bytes, true};
+ghost use Rattle.sqlite.specs.Held.{state};
+ghost use Rattle.sqlite.specs.State.{HasCleanDisk};
+ghost use Rattle.desk_exports.specs.Reports as exports;
+ghost use Rattle.desk_reads.specs.Failures.{IsFailure};
+ghost use Rattle.desk_sql.specs.States.{Spares};
+ghost use Rattle.desk_store.specs.Desks.{KeepsDesk, Views};
+
+use desk_bytes::Refusal;
+use desk_reports::report_is_the_history;
+use desk_store::Desk;
+use sqlite::Alter;
+use std::alloc::Global;
+
+/// The report of what the desk counts, fourteen lines of text. Nothing is changed. Takes memory.
+///
+/// `NoMemory`: memory was refused. `Store`: the store failed, or isn't as a desk left it. `Reopen`: it had failed in a
+/// call before.
+pub fn report<S: Alter + Drop>(alloc: Global, desk: &mut Desk<S>) -> Result<String, Refusal>
+    ensures shown { HasCleanDisk (state S.Store desk.new.conn) → IfOk result (λ text.
+        Views S.Store desk.old desk.new (λ _ cs. string_bytes text ≡ exports.report cs)) }
+    ensures same { HasCleanDisk (state S.Store desk.new.conn) → result ≢ Err Refusal.Store
+        → KeepsDesk S.Store desk.old desk.new }
+    ensures spares { Spares S.Store desk.old.conn desk.new.conn }
+    ensures before { HasCleanDisk (state S.Store desk.new.conn)
+        → HasCleanDisk (state S.Store desk.old.conn) }
+    ensures poisons { IsErrOf result Refusal.Store → desk.new.needs_reopening ≡ true }
+    ensures steady { result ≢ Err Refusal.Store
+        → desk.new.needs_reopening ≡ desk.old.needs_reopening }
+    ensures closed { desk.old.needs_reopening ≡ true
+        → (result ≡ Err Refusal.Reopen) × (desk.new ≡ desk.old) }
+    ensures named { desk.old.needs_reopening ≡ false → IfErr result IsFailure }
+{
+    report_is_the_history();
+    let counts = match desk.counts() {
+        Ok(counts) => counts,
+        Err(refusal) => return Err(refusal),
+    };
+    match desk_reports::report(alloc, &counts) {
+        Ok(text) => Ok(text),
+        Err(_) => Err(Refusal::NoMemory),
+    }
+}
