@@ -1,6 +1,7 @@
 //! The lines of days: `WHO KEY VERB .. : ANSWER` is a call that the desk's view for it decides first, `alone ..` one without a view,
-//! `rows ..` asks for the proposals and the rows of lists in that view, `anew` makes a new desk. A digest is told by its first byte, an export as bytes and how often they
-//! come, a text with `/` for LF and `|` for a tab. What is in capitals is SQL for the store under the desk, which is opened again.
+//! `rows ..` asks for the proposals and the rows of lists in that view, `anew` makes a new desk. A digest is told by its first byte,
+//! an export as bytes and how often they come, a text with `/` for LF and `|` for a tab. What is in capitals is SQL for the store
+//! under the desk, which is opened again.
 
 /// Requests, reviews, returns and listings, and what people are shown of them. The certificate is 204, the image 160; 161
 /// is another.
@@ -191,7 +192,18 @@ olga o1 import 0 1 1 170 1 187 0 : proposed 1
 otto t1 confirm 1 : confirmed 1 1 1 0 1
 export dbx : 26 16 c4 c1 4c 50 92 40 ac a9 41 f9 36 93 43 28 4c 00*7 30 00*3 07*16 aa*32 \
 92 a4 d2 3b c0 96 79 40 b4 20 fc f9 8e f1 03 ed 5c 00*7 40 00*3 07*16 bb*32 00*16
-proposals otto : 1 olga confirmed 1 1 0;";
+proposals otto : 1 olga confirmed 1 1 0;
+anew
+console p1 add ann submitter 1 : added ann
+console p2 add olga officer 2 : added olga
+console p3 add otto officer 3 : added otto
+olga o1 import 0 0 1 170 0 2 grub 2 grub 3 : StampNotLater
+olga o1 import 2024010100 0 1 170 0 2 grub 2 grub 3 : proposed 1
+otto t1 confirm 1 : confirmed 1 1 0 1 0
+export level : sbat,1,2024010100/grub,3/
+olga o2 import 0 0 1 170 0 2 grub 2 grub 3 : proposed 2
+otto t2 confirm 2 : confirmed 2 0 0 0 0
+proposals otto : 1 olga confirmed 1 0 2; 2 olga confirmed 1 0 2;";
 
 /// The rows of lists that an image and each command name, beside rows that they don't name.
 pub(super) const ROWS: &str = "\
