@@ -2,6 +2,7 @@ mod FoundingLemmas
 mod SizeLemmas
 mod StampLemmas
 mod OpeningLemmas
+mod VersionLemmas
 mod ActingLemmas
 mod CommitLemmas
 mod DeskLemmas

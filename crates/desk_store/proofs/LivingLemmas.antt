@@ -1,5 +1,5 @@
 -- Lives with one more call.
-use Rattle.std.proofs.Common.{◌≡◌, Bool, true, false, List, [], ◌∷◌, ◌++◌, ◌&&◌, refl, sym, ap, subst, ◌∙◌, IsTrue}
+use Rattle.std.proofs.Common.{◌≡◌, inl, Bool, true, false, List, [], ◌∷◌, ◌++◌, ◌&&◌, refl, sym, ap, subst, ◌∙◌, IsTrue}
 use Rattle.std.specs.Prelude.{if◌then◌else◌}
 use Rattle.std.specs.List.{list_all}
 use Rattle.std.proofs.lemmas.Bool.{and_parts}
@@ -122,7 +122,7 @@ module _ {S : Type 0} (g : store.Ghosts S) (desk : Desk S) where
   lives_again owner lives seen cs keeps = record { told = refl; ends = ends_next lives cs keeps.ends; shows = keeps.shows }
 
   pub may_stop_living : MayStopLiving g desk
-  may_stop_living owner before events seen cs was since = ∣ (λ clean db may. (cs, was.ends, since, was.shows.left clean db may)) ∣₁
+  may_stop_living owner before events seen cs was since = ∣ (λ clean db may. (cs, was.ends, since, inl (was.shows.left clean db may))) ∣₁
 
 module _ {S : Type 0} (g : store.Ghosts S) (old new : Desk S) where
   pub goes_on_living : GoesOnLiving g old new
@@ -144,4 +144,4 @@ module _ {S : Type 0} (g : store.Ghosts S) (old new : Desk S) where
   pub may_end_living : MayEndLiving g old new
   may_end_living owner before events seen cs c was since stops =
       ∣ (λ clean db may. let left = stops owner cs was.shows clean db may in
-      (left.0, ends_then before events c Stopped cs left.0 was.told was.ends left.1, leave_then seen.at seen.since (record { item = item c; fate = Stopped }) cs left.0 since left.1, left.2)) ∣₁
+      (left.0, ends_then before events c Stopped cs left.0 was.told was.ends left.1, leave_then seen.at seen.since (record { item = item c; fate = Stopped }) cs left.0 since left.1, inl left.2)) ∣₁

@@ -1,18 +1,19 @@
 -- From the answer of the query for the desk's row to the tables of a history.
-use Rattle.std.proofs.Common.{◌≡◌, inl, inr, ℕ, List, [], ◌∷◌, refl, sym, subst, ◌∙◌, arith, IsTrue, true, length, Result, Ok, Err}
+use Rattle.std.proofs.Common.{◌≡◌, inl, inr, ℕ, List, [], refl, sym, subst, ◌∙◌, arith, IsTrue, true, Result, Ok, Err}
 use Rattle.std.proofs.lemmas.List.Sorted.{IsPermutation-sym, IsPermutation-trans}
 use Rattle.std.specs.List.Sorted.{IsPermutation}
 use Rattle.sqlite.proofs.Callers.{one_permutation}
 use Rattle.sqlite.specs.declared.error.Error.{Error}
 use Rattle.sqlite.specs.declared.error.Error.TheVariants.{SqlInputError}
-use Rattle.std.specs.Prelude.{IfErr, IfOk, MatchResult}
+use Rattle.std.specs.Prelude.{IfErr, IfOk}
 use Rattle.sqlite.specs.Store as store
 use Rattle.sqlite.specs.Effect.{Database}
 use Rattle.sqlite.specs.Held.{Held, state}
 use Rattle.sqlite.specs.Given.{IsPlain}
+use Rattle.sqlite.specs.Listing.{understood}
 use Rattle.sqlite.specs.Order.{Row}
 use Rattle.sqlite.specs.Schema.{Schema}
-use Rattle.sqlite.specs.State.{State, HasCleanDisk, IsNotRun, IsRolledBack, IsUnchanged, KeepsCommit, Survives, store_error}
+use Rattle.sqlite.specs.State.{State, HasCleanDisk, IsNotRun, IsUnchanged, KeepsCommit, Survives, store_error}
 use Rattle.sqlite_trees.specs.declared.error.StoreError.{StoreError}
 use Rattle.sqlite_trees.specs.declared.error.StoreError.TheVariants.{OutOfMemory, Io, Corrupt, Full, Broken, Unstorable}
 use Rattle.sqlite_resolve.specs.declared.error.CompileError.{CompileError}
@@ -24,18 +25,11 @@ use Rattle.desk_bytes.specs.declared.refusal.Refusal.TheVariants as refusals
 use Rattle.desk_sql.specs.States.{Leaves, Sees}
 use Rattle.sqlite.specs.Tree.{Trees}
 use Rattle.desk_statements.specs.Columns.{by_first, columns_after, names_of}
-use Rattle.desk_statements.specs.Tables.{desk, desk_schema}
+use Rattle.desk_statements.specs.Tables.{desk}
 use Rattle.desk_statements.specs.declared.selecting.TheConstants.{SELECT_DESK}
 use Rattle.desk_statements.proofs.SelectFacts.{select_desk, select_first_desk}
-use Rattle.desk_history.specs.Calls.{History}
-use Rattle.desk_history.specs.Formed.{IsHistory}
-use Rattle.desk_history.specs.Level.{stamp}
-use Rattle.desk_history.specs.Tables.{tables}
-use Rattle.desk_contents.specs.Values.{desk_values}
-use Rattle.desk_contents.specs.Histories.{ShowsHistory, rows_of}
 use Rattle.desk_store.specs.Rows.{AreOf, AreOfNone, ReadsAs, desk_columns}
-use Rattle.desk_reads.specs.Failures.{IsFailure}
-use Rattle.desk_store.specs.Steps.{AreShownAs, AreShownAsNone, IsDeskSchema, ReadsInside, RefusesColumns, RefusesText, SeesRows, ShowsRows, TellsOf, TellsOpen, UnreadInside}
+use Rattle.desk_store.specs.Steps.{AreShownAs, AreShownAsNone, IsDeskSchema, ReadsInside, RefusesColumns, RefusesText, SeesRows, ShowsRows, TellsOpen, UnreadInside}
 
 pub unchanged_keeps : (old new : State) → IsUnchanged old new → KeepsCommit old new
 unchanged_keeps old new same = record { was_open = λ _. same.0.was_open; committed = λ _. same.0.committed_is }
@@ -88,58 +82,28 @@ no_rows s refusal (inl (inl memory)) is schema c of_desk sees = let e = sym memo
 no_rows s refusal (inl (inr store)) is schema c of_desk sees = let e = sym store ∙ is in cc
 no_rows s refusal (inr told) is schema c of_desk sees = told.2 (subst IsDeskSchema (sym sees.holds.listed) of_desk)
 
--- the only row of the answer is the desk's
-pub one_row : (old mid new : State) (rows : List Row) → IsUnchanged old mid → Selects SELECT_DESK.now [] mid new rows
-    → (owner : List ℕ) (cs : History) → Sees desk_schema old (rows_of owner cs) → rows ≡ desk_columns owner 2 (stamp cs) ∷ []
-one_row old mid new rows same selects owner cs sees =
-    let it = selected old mid new rows same selects desk_schema (rows_of owner cs) (desk_values (tables owner cs).desk ∷ []) (inr refl) sees refl in
-    one_permutation (desk_columns owner 2 (stamp cs)) rows it.same
+-- where the columns are refused, for want of a desk, the store is open
+pub open_there : (s : State) (refusal : Refusal) → RefusesColumns s refusal → refusal ≡ refusals.NotADesk → IsTrue s.is_open
+open_there s refusal (inl (inl memory)) is = absurd (let e = sym memory ∙ is in cc)
+open_there s refusal (inl (inr store)) is = absurd (let e = sym store ∙ is in cc)
+open_there s refusal (inr told) is = told.1
 
-module _ {S : Type 0} (g : store.Ghosts S) (old last end : Held S) (owner : List ℕ) (cs : History) where
+module _ {S : Type 0} (g : store.Ghosts S) (old : Held S) where
   abbrev begun : State
   begun = state g (record old { in_transaction = true })
 
-  -- what is told inside a transaction, of what the connection shows before it
-  pub told_before : (result : Result ℕ Refusal) → HasCleanDisk (state g old) → TellsOf begun result → length owner ≡ 16 → IsHistory cs → ShowsHistory (state g old) owner cs
-      → MatchResult result (λ version. version ≡ 2) IsFailure
-  told_before (Ok version) clean told long history shows = told.1 owner cs long history (record { inside = refl; holds = (shows.holds clean told.0).0 })
-  told_before (Err refusal) clean (inl failed) long history shows = failed
-  told_before (Err refusal) clean (inr told) long history shows = absurd (told.1.1 owner cs long history (record { inside = refl; holds = (shows.holds clean told.1.0).0 }))
-
   -- what is seen inside a transaction of an open connection is shown outside
-  shown_before : (of_rows : List Row → Type 0) → HasCleanDisk (state g old) → IsTrue begun.is_open → SeesRows begun of_rows → ShowsRows (state g old) of_rows
+  shown_before : (of_rows : List Row → Type 0) → HasCleanDisk (state g old) → IsTrue begun.is_open → SeesRows begun of_rows → ShowsRows (state g old) (λ _ rows. of_rows rows)
   shown_before of_rows clean live sees schema c rows of_desk shows has = sees schema c rows of_desk (record { inside = refl; holds = (shows.holds clean live).0 }) has
 
-  pub read_before : (result : Result ℕ Refusal) → HasCleanDisk (state g old) → TellsOf begun result → ReadsInside begun result → IfOk result (AreShownAs (state g old))
-  read_before (Ok version) clean told reads = shown_before (λ rows. AreOf rows version) clean told.0 reads
-  read_before (Err refusal) clean told reads = tt
+  pub read_before : (result : Result ℕ Refusal) → HasCleanDisk (state g old) → TellsOpen begun result → ReadsInside begun result → IfOk result (AreShownAs (state g old))
+  read_before (Ok version) clean live reads = shown_before (λ rows. AreOf rows version) clean live reads
+  read_before (Err refusal) clean live reads = tt
 
-  pub unread_before : (result : Result ℕ Refusal) → HasCleanDisk (state g old) → TellsOf begun result → UnreadInside begun result
+  pub unread_before : (result : Result ℕ Refusal) → HasCleanDisk (state g old) → TellsOpen begun result → UnreadInside begun result
       → IfErr result (λ refusal. refusal ≡ refusals.NotADesk → AreShownAsNone (state g old))
-  unread_before (Ok version) clean told unread = tt
-  unread_before (Err refusal) clean (inl (inl memory)) unread = λ is. absurd (let e = sym memory ∙ is in cc)
-  unread_before (Err refusal) clean (inl (inr store)) unread = λ is. absurd (let e = sym store ∙ is in cc)
-  unread_before (Err refusal) clean (inr told) unread = λ is. shown_before AreOfNone clean told.1.0 (unread is)
-
-  -- the connection was open where a version was read, and where there is no desk
-  pub open_before : (result : Result ℕ Refusal) → TellsOf begun result → TellsOpen (state g old) result
-  open_before (Ok version) told = told.0
-  open_before (Err refusal) (inl (inl memory)) = λ is. absurd (let e = sym memory ∙ is in cc)
-  open_before (Err refusal) (inl (inr store)) = λ is. absurd (let e = sym store ∙ is in cc)
-  open_before (Err refusal) (inr told) = λ _. told.1.0
-
-  -- a transaction that is rolled back leaves what the connection shows
-  pub undone : HasCleanDisk (state g old) → KeepsCommit begun (state g last) → IsRolledBack (state g last) (state g end)
-      → ShowsHistory (state g old) owner cs → ShowsHistory (state g end) owner cs
-  undone clean kept rolled shows = record {
-    outside = rolled.autocommit;
-    holds = λ _ live.
-        let mid = rolled.was_open live in
-        let gone = rolled.undone live in
-        let was = shows.holds clean (kept.was_open mid) in
-        let now : (state g end).now ≡ (state g old).now = gone.0 ∙ kept.committed mid ∙ sym was.1 in
-        (subst (λ (d : Database). Holds desk_schema d (rows_of owner cs)) (sym now) was.0, gone.0 ∙ sym gone.1);
-  }
+  unread_before (Ok version) clean live unread = tt
+  unread_before (Err refusal) clean live unread = λ is. shown_before AreOfNone clean (live is) (unread is)
 
 -- a stop leaves what it left before
 pub still_leaves : (P : Trees → Type 0) (old new : State) → Survives old new (λ _. ⊥) → Leaves old P → Leaves new P

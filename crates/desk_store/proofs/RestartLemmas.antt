@@ -1,10 +1,11 @@
 -- From what a stop leaves of a desk's files to what a connection that is opened over them finds.
-use Rattle.std.proofs.Common.{◌≡◌, ℕ, List, Option, Some, None, refl, sym, subst, ◌∙◌, arith, IsTrue}
+use Rattle.std.proofs.Common.{◌≡◌, inl, inr, ℕ, not, true, List, [], ◌∷◌, Option, Some, None, refl, sym, subst, ◌∙◌, arith, IsTrue}
 use Rattle.std.proofs.Math.Logic.{∥∥₁_map₂}
 use Rattle.std.proofs.lemmas.Bool.{and_parts}
 use Rattle.sqlite.specs.Files.{file_state, image_of}
 use Rattle.sqlite.specs.Held.{AreDatabases, Held}
-use Rattle.sqlite.specs.State.{HasCleanDisk}
+use Rattle.sqlite.specs.Schema.{Schema}
+use Rattle.sqlite.specs.State.{State, HasCleanDisk, Survives}
 use Rattle.sqlite.proofs.Theorems.{next_run}
 use Rattle.sqlite_disk.specs.declared.Disk.{Ghosts}
 use Rattle.sqlite_disk.specs.declared.Files.{Files}
@@ -16,9 +17,17 @@ use Rattle.sqlite_trees.specs.View.{IsClean, IsQuiet}
 use Rattle.sqlite_wal.specs.Files.{outcomes}
 use Rattle.sqlite_wal.specs.Reads.{AreClean}
 use Rattle.std.specs.Prelude.{IfSome}
-use Rattle.desk_history.specs.Lives.{Life}
+use Rattle.std.proofs.lemmas.List.Folds.{list_all-append}
+use Rattle.desk_history.specs.Calls.{History, Second}
+use Rattle.desk_history.specs.Lives.{Life, NotOpened, is_opened_by_second}
+use Rattle.desk_sql.specs.Contents.{AreTablesOf, Contents}
+use Rattle.desk_sql.specs.States.{Leaves, Shows}
+use Rattle.desk_statements.specs.Tables.{desk_schema, first_schema}
+use Rattle.desk_contents.specs.Histories.{HoldsFirst, HoldsHistory, ShowsFirst, ShowsHistory, first_rows_of, rows_of}
 use Rattle.desk_store.specs.Living.{and_refused}
-use Rattle.desk_store.specs.Reopening.{FilesHold, FoundAgain, LeavesLives, Seen}
+use Rattle.desk_store.specs.Reopening.{FilesHold, FoundAgain, HoldsEither, LeavesLives, Seen, none_by_second}
+use Rattle.desk_store.specs.Steps.{Brings}
+use Rattle.desk_store.proofs.VersionLemmas.{second_version}
 
 -- files that are clean after a stop were clean before it
 pub both_clean : {D : Type 0} (g : Ghosts D) (given new : Files D) → (IsTrue (g.is_clean new.log) → IsTrue (g.is_clean given.log)) → (IsTrue (g.is_clean new.db) → IsTrue (g.is_clean given.db))
@@ -49,3 +58,22 @@ pub given_back : {D : Type 0} (g : Ghosts D) (old : Held (FileStore D g)) (files
     → IfSome back (λ left. (owner : List ℕ) (lives : List Life) (seen : Seen) → LeavesLives (file_state old) owner lives seen → FilesHold g left owner (and_refused lives) seen)
 given_back g old files found None h = tt
 given_back g old files found (Some left) h = λ owner lives seen leaves. h owner lives seen (found owner lives seen (λ _. leaves))
+
+-- ---- what a stop after an opening that was refused leaves
+
+still_none : (lives : List Life) → none_by_second lives ≡ true → none_by_second (and_refused lives) ≡ true
+still_none lives none = list_all-append (λ (life : Life). not (is_opened_by_second life)) lives (record { rules = Second; opening = NotOpened; events = [] } ∷ []) ∙ (rw none refl)
+
+-- the tables of the history that was found, of the same version, or of version 2 where it was version 1
+pub refused_leaves : (s new : State) (owner : List ℕ) (lives : List Life) (cs : History) → Survives s new (Brings s) → HoldsEither s.committed.trees owner lives cs
+    → (HoldsHistory s.committed.trees owner cs → ShowsHistory s owner cs) → (HoldsFirst s.committed.trees owner cs → ShowsFirst s owner cs)
+    → ((schema : Schema) (c : Contents) → Shows schema s c → Leaves s (λ db. AreTablesOf schema db c))
+    → Leaves new (λ db. HoldsEither db owner (and_refused lives) cs)
+refused_leaves s new owner lives cs stops (inl holds) second first left clean db may = elim (stops.crash clean db may) [
+  | inl was ↦ inl (left desk_schema (rows_of owner cs) (second holds) (omega (arith, stops.clean, clean)) db was)
+  | inr brings ↦ absurd (let one = second_version s owner cs 1 brings.0 (second holds) in omega (arith, one))
+]
+refused_leaves s new owner lives cs stops (inr early) second first left clean db may = elim (stops.crash clean db may) [
+  | inl was ↦ inr (still_none lives early.0, (early.1.0, left first_schema (first_rows_of owner cs) (first early.1).1 (omega (arith, stops.clean, clean)) db was))
+  | inr brings ↦ inl (brings.1 owner cs (first early.1))
+]

@@ -13,7 +13,7 @@ use Rattle.desk_history.specs.Calls.{First, History, Rules, Second, under}
 use Rattle.desk_history.specs.Forces.{confirmed_by, enforced_by, forced, into_force, nothing}
 use Rattle.desk_history.specs.Formed.{IsItem}
 use Rattle.desk_history.specs.Level.{raises_some, stamp}
-use Rattle.desk_history.specs.Proposals.{Named, Proposal, is_proposal, named_by, proposals, proposed_by, with_next}
+use Rattle.desk_history.specs.Proposals.{Named, Proposal, is_proposal, named_by, proposal, proposals, proposed_by, with_next}
 
 -- ---- what is named has a stamp in its form, or none
 

@@ -1,5 +1,6 @@
 -- What a desk answers for that is opened again, after any number of lives and of stops.
-use Rattle.std.specs.Prelude.{◌≡◌, ◌≢◌, ℕ, length, All, List, [], IsTrue}
+use Rattle.std.specs.Prelude.{◌≡◌, ◌≢◌, ◌⊎◌, ℕ, length, Bool, not, All, List, [], IsTrue}
+use Rattle.std.specs.List.{list_all}
 use Rattle.sqlite.specs.Files.{Finds, file_state}
 use Rattle.sqlite.specs.Store.{Ghosts}
 use Rattle.sqlite.specs.Held.{Held, state}
@@ -14,11 +15,11 @@ use Rattle.desk_texts.specs.declared.facts.Facts.{Facts}
 use Rattle.desk_history.specs.Calls.{GoesOnFrom, History, are_apart, is_same_item}
 use Rattle.desk_history.specs.FormLaws.{KeepsAnswered}
 use Rattle.desk_history.specs.Formed.{IsItem}
-use Rattle.desk_history.specs.Lives.{Ends, Event, Life, MayLeave, events_of}
+use Rattle.desk_history.specs.Lives.{Ends, Event, Life, MayLeave, events_of, is_opened_by_second}
 use Rattle.desk_history.specs.Verdicts.{is_barred, verdict}
 use Rattle.desk_history.specs.declared.finding.Verdict.TheVariants.{Allowed}
 use Rattle.desk_sql.specs.States.{Leaves}
-use Rattle.desk_contents.specs.Histories.{HoldsHistory}
+use Rattle.desk_contents.specs.Histories.{HoldsFirst, HoldsHistory}
 use Rattle.desk_store.specs.Desks.{ShowsDesk}
 use Rattle.desk_store.specs.declared.desk.Desk.{Desk}
 
@@ -39,9 +40,18 @@ from_the_first lives = record { at = []; since = events_of lives }
 abbrev pub IsSince : Seen → History → Type 0
 IsSince seen cs = MayLeave seen.at seen.since cs
 
+-- no desk was opened by the second rules
+abbrev pub none_by_second : List Life → Bool
+none_by_second lives = list_all (λ life. not (is_opened_by_second life)) lives
+
+-- the trees hold the tables of this history, those of version 2, or, while no desk was opened by the second rules, those of
+-- version 1
+abbrev pub HoldsEither : Trees → List ℕ → List Life → History → Type 0
+HoldsEither db owner lives cs = HoldsHistory db owner cs ⊎ (IsTrue (none_by_second lives) × HoldsFirst db owner cs)
+
 -- the trees hold the tables of a history that these lives may leave, after what was seen
 abbrev pub HoldsLives : Trees → List ℕ → List Life → Seen → Type 0
-HoldsLives db owner lives seen = (cs : History) × Ends lives cs × IsSince seen cs × HoldsHistory db owner cs
+HoldsLives db owner lives seen = (cs : History) × Ends lives cs × IsSince seen cs × HoldsEither db owner lives cs
 
 -- Whatever a stop leaves of the store holds such tables. `∥ .. ∥₁` says that there is one, and not which.
 abbrev pub LeavesLives : State → List ℕ → List Life → Seen → Type 0

@@ -1,21 +1,22 @@
 -- What the steps of a transaction promise, of a connection before and after them.
-use Rattle.std.specs.Prelude.{◌≡◌, ◌⊎◌, ℕ, length, List, [], slice_get, Some, IfErr, IfOk, IsTrue, Result, MatchResult}
+use Rattle.std.specs.Prelude.{◌≡◌, ◌≢◌, ◌⊎◌, ℕ, List, [], slice_get, Some, false, IfErr, IfOk, IsTrue, Result, MatchResult}
 use Rattle.sqlite.specs.Effect.{IsDatabase}
 use Rattle.sqlite.specs.Order.{Row}
 use Rattle.sqlite.specs.Schema.{Schema}
 use Rattle.sqlite.specs.State.{State, KeepsCommit}
+use Rattle.sqlite.specs.Tree.{Trees}
 use Rattle.sqlite.specs.declared.error.Error.{Error}
 use Rattle.sqlite.specs.declared.error.Error.TheVariants.{SqlInputError}
 use Rattle.sqlite_resolve.specs.declared.error.CompileError.{CompileError}
 use Rattle.desk_bytes.specs.declared.refusal.Refusal.{Refusal}
 use Rattle.desk_bytes.specs.declared.refusal.Refusal.TheVariants as refusals
-use Rattle.desk_history.specs.Calls.{History}
-use Rattle.desk_history.specs.Formed.{IsHistory}
 use Rattle.desk_reads.specs.Failures.{IsFailure}
 use Rattle.desk_sql.specs.Contents.{Contents}
 use Rattle.desk_sql.specs.States.{Sees, Shows}
 use Rattle.desk_statements.specs.Tables.{desk_schema, first_schema, no_schema}
 use Rattle.desk_contents.specs.Histories.{rows_of}
+use Rattle.desk_migration.specs.Migrations.{Migrates}
+use Rattle.desk_migration.specs.Names.{takes_a_name}
 use Rattle.desk_store.specs.Rows.{AreOf, AreOfNone}
 
 -- in a sound store without tables the desk's are made, with the rows of a desk without calls; nothing is committed
@@ -41,14 +42,6 @@ RefusesColumns s refusal = IsFailure refusal ⊎ ((refusal ≡ refusals.NotADesk
 abbrev pub IsReadRefusal : Refusal → Type 0
 IsReadRefusal refusal = (refusal ≡ refusals.NotADesk) ⊎ IsFailure refusal
 
--- the store is open, and this is told of each history of a desk whose tables it holds
-abbrev pub TellsAll : State → Type 0 → Type 0
-TellsAll s told = IsTrue s.is_open × ((owner : List ℕ) (cs : History) → length owner ≡ 16 → IsHistory cs → Sees desk_schema s (rows_of owner cs) → told)
-
--- the version is that of these tables, or a device failed, or the tables are no desk's
-abbrev pub TellsOf : State → Result ℕ Refusal → Type 0
-TellsOf s result = MatchResult result (λ version. TellsAll s (version ≡ 2)) (λ refusal. IsFailure refusal ⊎ ((refusal ≡ refusals.NotADesk) × TellsAll s ⊥))
-
 -- the store is open where a version was read, and where there is no desk
 abbrev pub TellsOpen : State → Result ℕ Refusal → Type 0
 TellsOpen s result = MatchResult result (λ _. IsTrue s.is_open) (λ refusal. refusal ≡ refusals.NotADesk → IsTrue s.is_open)
@@ -66,15 +59,42 @@ ReadsInside s result = IfOk result (λ version. SeesRows s (λ rows. AreOf rows 
 abbrev pub UnreadInside : State → Result ℕ Refusal → Type 0
 UnreadInside s result = IfErr result (λ refusal. refusal ≡ refusals.NotADesk → SeesRows s AreOfNone)
 
--- outside: this holds of the rows of the table `desk`, whichever version the tables are of
-abbrev pub ShowsRows : State → (List Row → Type 0) → Type 0
+-- outside: this holds of the tables and of the rows of `desk`, whichever version the tables are of
+abbrev pub ShowsRows : State → (Schema → List Row → Type 0) → Type 0
 ShowsRows s told =
-    (schema : Schema) (c : Contents) (rows : List Row) → IsDeskSchema schema → Shows schema s c → slice_get c 0 ≡ Some rows → told rows
+    (schema : Schema) (c : Contents) (rows : List Row) → IsDeskSchema schema → Shows schema s c → slice_get c 0 ≡ Some rows → told schema rows
 
 -- they read as those of a desk of this version
 abbrev pub AreShownAs : State → ℕ → Type 0
-AreShownAs s version = ShowsRows s (λ rows. AreOf rows version)
+AreShownAs s version = ShowsRows s (λ _ rows. AreOf rows version)
 
 -- they read as those of no desk
 abbrev pub AreShownAsNone : State → Type 0
-AreShownAsNone s = ShowsRows s AreOfNone
+AreShownAsNone s = ShowsRows s (λ _ rows. AreOfNone rows)
+
+-- they read as those of a desk of version 1, and the names of the tables that version 2 adds are free
+abbrev pub AreShownFree : State → Type 0
+AreShownFree s = ShowsRows s (λ schema rows. AreOf rows 1 × (takes_a_name schema ≡ false))
+
+-- they read as those of a desk of version 1, and one of these names is taken
+abbrev pub AreShownTaken : State → Type 0
+AreShownTaken s = ShowsRows s (λ schema rows. AreOf rows 1 × IsTrue (takes_a_name schema))
+
+-- ---- what an opening finds, of the connection before it
+
+-- a desk of version 2, or one of version 1 with the names free
+abbrev pub FindsKnown : State → Type 0
+FindsKnown s = AreShownAs s 2 ⊎ AreShownFree s
+
+-- a desk of another version
+abbrev pub FindsOther : State → Type 0
+FindsOther s = (version : ℕ) × (version ≢ 1) × (version ≢ 2) × AreShownAs s version
+
+-- no desk, or one of version 1 in which one of the names is taken
+abbrev pub FindsNone : State → Type 0
+FindsNone s = AreShownAsNone s ⊎ AreShownTaken s
+
+-- what an opening may commit, and that only where it finds version 1: the tables of version 2, of each history that the
+-- connection showed in version 1
+abbrev pub Brings : State → Trees → Type 0
+Brings s db = AreShownAs s 1 × Migrates s db

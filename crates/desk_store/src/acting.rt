@@ -1,7 +1,7 @@
 //! One call, in one transaction.
 ghost use Rattle.std.specs.Prelude.{◌≡◌, ◌≢◌, ℕ, List, Some, IfErr, IfOk};
 ghost use Rattle.sqlite.specs.Held.{state};
-ghost use Rattle.sqlite.specs.State.{HasCleanDisk, IsUnchanged, Survives};
+ghost use Rattle.sqlite.specs.State.{HasCleanDisk, Survives};
 ghost use Rattle.desk_history.specs.Calls.{History};
 ghost use Rattle.desk_history.specs.Runs as runs;
 ghost use Rattle.desk_rules.specs.Decisions.{called};
@@ -14,11 +14,10 @@ use desk_bytes::Refusal;
 use desk_history::Answer;
 use desk_rules::decide;
 use desk_sizes::KeptSizes;
-use desk_statements::SELECT_DESK;
-use desk_tables::write_all;
+use desk_tables::{failed_commit, write_all};
 use desk_texts::{Caller, Command, Key, Reply};
 use desk_views::view;
-use sqlite::{Alter, Connection, Error, ErrorCode, Transaction};
+use sqlite::{Alter, Connection, Transaction};
 use std::alloc::Global;
 
 /// What became of a call: its answer, and how many rows the tables have after it, as far as that
@@ -103,23 +102,6 @@ fn act<S: Alter>(
     }
 }
 
-/// What a call is refused whose commit failed. `NoMemory`: the store wanted memory and is open
-/// still, so nothing was committed. It asks the store for nothing but that it is open.
-fn failed_commit<S: Alter>(conn: &mut Connection<S>, error: &Error) -> Refusal
-    ensures open { HasCleanDisk (state S.Store conn.new) → result ≢ Refusal.Store
-        → IsUnchanged (state S.Store conn.old) (state S.Store conn.new) }
-    ensures failed { IsFailure result }
-    ensures survives { Spares S.Store conn.old conn.new }
-{
-    match error {
-        Error::SqliteFailure(ErrorCode::OutOfMemory) => match conn.prepare(SELECT_DESK) {
-            Ok(_) => Refusal::NoMemory,
-            Err(_) => Refusal::Store,
-        },
-        _ => Refusal::Store,
-    }
-}
-
 /// Does the call in one transaction. Only an accepted call is committed, as the last step.
 ///
 /// `NoMemory`: nothing was committed. `Store`: nothing was, or all of the call.
@@ -154,7 +136,7 @@ pub(crate) fn run<S: Alter>(
     if is_accepted(&acted.answer) {
         return match tx.commit() {
             Ok(()) => Ok(acted),
-            Err(error) => Err(failed_commit(conn, &error)),
+            Err(error) => Err(failed_commit(conn, &error).refusal()),
         };
     }
     tx.rollback();

@@ -16,21 +16,21 @@ ghost use Rattle.desk_views.specs.Named.{HoldsNoRowBeyond};
 ghost use Rattle.desk_store.specs.Desks.{CommitsOnlyAccepted, IsCallRefusal, KeepsDesk, MayStop};
 ghost use Rattle.desk_store.specs.Desks.{Refuses, Replies, ShowsDesk, Views};
 ghost use Rattle.desk_store.specs.Reopening.{FindsADesk, Recovers};
-ghost use Rattle.desk_contents.specs.Histories.{HoldsHistory, LeavesHistory, ShowsHistory};
+ghost use Rattle.desk_contents.specs.Histories.{HoldsHistory, LeavesHistory, ShowsFirst};
+ghost use Rattle.desk_contents.specs.Histories.{ShowsHistory};
 ghost use Rattle.desk_reads.specs.Failures.{IsFailure};
-ghost use Rattle.desk_store.specs.Steps.{AreShownAs, AreShownAsNone, IsReadRefusal};
+ghost use Rattle.desk_store.specs.Steps.{Brings, FindsKnown, FindsNone, FindsOther, IsReadRefusal};
 
 use crate::acting::{run, told};
 use crate::forms::call_is_formed;
 use crate::founding::{found_at_once, has_no_tables};
-use crate::opening::{found_is_shown, read_version};
+use crate::opening::{bring_up, found_is_shown};
 use crate::questions::{ListsFor, RowsFor};
 use desk_bytes::{Guid, Refusal};
 use desk_history::{keys_stand_once, lives_keep_what_was_answered};
 use desk_rules::{ListView, View};
 use desk_sizes::KeptSizes;
 use desk_sql::stop_leaves_what_is_shown;
-use desk_tables::VERSION;
 use desk_texts::{Caller, Command, Facts, Key, Reply};
 use sqlite::{Alter, Connection};
 use std::alloc::Global;
@@ -89,16 +89,18 @@ impl<S: Alter + Drop> Desk<S> {
         }
     }
 
-    /// Opens the desk that the store holds. It looks at the desk's own row and at no other, and
-    /// commits nothing. Whatever stops the desk's lives before it met, over what they may have left
-    /// the desk answers for a history that they may leave: it holds each call that was answered Ok,
-    /// with its reply, and bars each image that was barred when a call was answered. The connection
-    /// has to be in no transaction (`is_autocommit`); a refusal hands it back. Takes memory for that
-    /// row.
+    /// Opens the desk that the store holds, by the desk's own row. A desk of version 1 is made one of
+    /// version 2, of the same calls and rows, by one commit as the last call; one of version 2 is left
+    /// as it is. Whatever stops the desk's lives before it met, over what they may have left, in either
+    /// version, the desk answers for a history that they may leave: it holds each call that was
+    /// answered Ok, with its reply, and bars each image that was barred when a call was answered. The
+    /// connection has to be in no transaction (`is_autocommit`); a refusal hands it back. Takes memory.
     ///
     /// `NotADesk`: the store has no row that reads as a desk's, with an owner of 16 bytes and a stamp of
-    /// ten digits. `Version`: it has one, of a version
-    /// that this program doesn't know. `NoMemory`: memory was refused. `Store`: the store failed.
+    /// ten digits; or it has one of version 1, and a table, an index or a view with one of the three
+    /// names that version 2 adds. `Version`: it has one of a version that this program doesn't know.
+    /// `NoMemory`: memory was refused. After these nothing was committed. `Store`: the store failed; of
+    /// a desk of version 1 it committed nothing, or all of version 2.
     pub fn open(alloc: Global, mut conn: Connection<S>) -> Result<Desk<S>, (Refusal, Connection<S>)>
         requires outside { conn.in_transaction ≡ false }
         ensures ok { IfOk result (λ desk. HasCleanDisk (state S.Store desk.conn)
@@ -107,33 +109,46 @@ impl<S: Alter + Drop> Desk<S> {
             → LeavesHistory (state S.Store conn) owner cs
             → ShowsDesk S.Store desk owner cs) }
         ensures usable { IfOk result (λ desk. desk.needs_reopening ≡ false) }
+        ensures migrated { IfOk result (λ desk. HasCleanDisk (state S.Store desk.conn)
+            → (owner : List ℕ) (cs : History) → IsHistory cs
+            → ShowsFirst (state S.Store conn) owner cs
+            → ShowsDesk S.Store desk owner cs) }
         ensures read { IfOk result (λ desk. HasCleanDisk (state S.Store desk.conn)
-            → AreShownAs (state S.Store conn) 2) }
+            → FindsKnown (state S.Store conn)) }
         ensures other { IfErr result (λ e. HasCleanDisk (state S.Store e.1) → e.0 ≡ Refusal.Version
-            → (version : ℕ) × (version ≢ 2) × AreShownAs (state S.Store conn) version) }
+            → FindsOther (state S.Store conn)) }
         ensures unread { IfErr result (λ e. HasCleanDisk (state S.Store e.1) → e.0 ≡ Refusal.NotADesk
-            → AreShownAsNone (state S.Store conn)) }
+            → FindsNone (state S.Store conn)) }
         ensures known { IfErr result (λ e. HasCleanDisk (state S.Store e.1)
             → (owner : List ℕ) (cs : History) → length owner ≡ 16 → IsHistory cs
             → ShowsHistory (state S.Store conn) owner cs
             → IsFailure e.0 × ShowsHistory (state S.Store e.1) owner cs) }
+        ensures known_first { IfErr result (λ e. HasCleanDisk (state S.Store e.1)
+            → (owner : List ℕ) (cs : History) → length owner ≡ 16 → IsHistory cs
+            → ShowsFirst (state S.Store conn) owner cs
+            → IsFailure e.0 × (e.0 ≢ Refusal.Store → ShowsFirst (state S.Store e.1) owner cs)) }
         ensures lives { IfOk result (λ desk. HasCleanDisk (state S.Store desk.conn)
             → Recovers S.Store conn desk) }
         ensures found { IfErr result (λ e. HasCleanDisk (state S.Store e.1)
             → FindsADesk S.Store conn e.0) }
-        ensures spares { IfOk result (λ desk. Spares S.Store conn desk.conn) }
-        ensures spared { IfErr result (λ e. Spares S.Store conn e.1) }
+        ensures stopped { IfOk result (λ desk. Survives (state S.Store conn)
+            (state S.Store desk.conn) (Brings (state S.Store conn))) }
+        ensures failed { IfErr result (λ e. Survives (state S.Store conn) (state S.Store e.1)
+            (Brings (state S.Store conn))) }
+        ensures refused { IfErr result (λ e. e.0 ≢ Refusal.Store → Spares S.Store conn e.1) }
+        ensures spares { IfOk result (λ desk. (owner : List ℕ) (cs : History)
+            → ShowsHistory (state S.Store conn) owner cs → Spares S.Store conn desk.conn) }
+        ensures spared { IfErr result (λ e. (owner : List ℕ) (cs : History)
+            → ShowsHistory (state S.Store conn) owner cs → Spares S.Store conn e.1) }
         ensures outside { IfErr result (λ e. e.1.in_transaction ≡ false) }
         ensures named { IfErr result (λ e. (e.0 ≡ Refusal.Version) ⊎ IsReadRefusal e.0) }
     {
         found_is_shown(&conn);
         stop_leaves_what_is_shown(&conn);
         lives_keep_what_was_answered();
-        match read_version(&mut conn) {
-            Ok(version) => {
-                if version != u64::from(VERSION) {
-                    return Err((Refusal::Version, conn));
-                }
+        match bring_up(&mut conn) {
+            Ok(()) => {
+                stop_leaves_what_is_shown(&conn);
                 keys_stand_once();
                 Ok(Desk {
                     alloc,

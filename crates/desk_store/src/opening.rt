@@ -1,30 +1,34 @@
 //! What the row of the table `desk` tells of the desk.
-ghost use Rattle.std.specs.Prelude.{◌≡◌, ◌<◌, ℕ, List, [], ◌∷◌, false, codes, length, pos, Some};
-ghost use Rattle.std.specs.Prelude.{IfErr, IfOk, IfSome, IsTrue, MatchResult, OnOk};
+ghost use Rattle.std.specs.Prelude.{◌≡◌, ◌≢◌, ◌<◌, ◌⊎◌, ℕ, List, [], false, codes, length, pos};
+ghost use Rattle.std.specs.Prelude.{Some, IfErr, IfOk, IfSome, IsTrue, OnOk};
 ghost use Rattle.sqlite.specs.Held.{state};
-ghost use Rattle.sqlite.specs.State.{HasCleanDisk, IsUnchanged};
+ghost use Rattle.sqlite.specs.State.{HasCleanDisk, IsUnchanged, Survives};
 ghost use Rattle.sqlite.specs.declared.types.Value.TheVariants.{Blob, Int, Text};
 ghost use Rattle.sqlite_value.specs.Order.{column};
 ghost use Rattle.desk_history.specs.Calls.{History};
-ghost use Rattle.desk_history.specs.Formed.{IsHistory};
 ghost use Rattle.desk_sql.specs.States.{Keeps, Spares};
-ghost use Rattle.desk_contents.specs.Histories.{HoldsHistory, ShowsHistory};
+ghost use Rattle.desk_contents.specs.Histories.{HoldsFirst, HoldsHistory, ShowsFirst, ShowsHistory};
+ghost use Rattle.desk_migration.specs.Migrations.{KeepsShown};
 ghost use Rattle.desk_store.specs.Rows.{IsGuid, ReadsAs};
-ghost use Rattle.desk_reads.specs.Failures.{IsFailure};
-ghost use Rattle.desk_store.specs.Steps.{AreShownAs, AreShownAsNone, IsReadRefusal, ReadsInside};
-ghost use Rattle.desk_store.specs.Steps.{RefusesColumns, RefusesText, TellsOf, TellsOpen, UnreadInside};
+ghost use Rattle.desk_store.specs.Steps.{AreShownAs, AreShownAsNone, Brings, FindsKnown, FindsNone};
+ghost use Rattle.desk_store.specs.Steps.{FindsOther, IsReadRefusal, ReadsInside, RefusesColumns};
+ghost use Rattle.desk_store.specs.Steps.{RefusesText, TellsOpen, UnreadInside};
 
 use desk_bytes::Refusal;
 use desk_catalog::catalog_lists_one_schema;
+use desk_migration::migrate;
 use desk_sql::select;
 use desk_statements::SELECT_DESK;
-use desk_tables::WriteFault;
+use desk_tables::{VERSION, WriteFault};
 use sbat::Stamp;
 use sqlite::types::ValueRef;
 use sqlite::{Alter, Connection, Error, Row, Transaction};
 
 /// The mark by which the file of a desk is known.
 const MARK: &str = "boot-desk";
+
+/// The version of the files that desks of one officer had.
+const FIRST_VERSION: u64 = 1;
 
 /// The natural number in a column.
 fn number_at(row: &Row, at: usize) -> Option<u64>
@@ -124,9 +128,8 @@ fn ask_columns<S: Alter>(tx: &mut Transaction<'_, S>) -> Result<(), Refusal>
 /// The version of the desk, by its row. `NotADesk`: no such row reads as a desk's.
 fn version_of<S: Alter>(tx: &mut Transaction<'_, S>) -> Result<u64, Refusal>
     ensures same_reference { tx.new.conn.ghost_name ≡ tx.old.conn.ghost_name }
-    ensures told { HasCleanDisk (state S.Store tx.new.conn.now)
-        → IsTrue (state S.Store tx.old.conn.now).in_transaction
-        → TellsOf (state S.Store tx.old.conn.now) result }
+    ensures open { HasCleanDisk (state S.Store tx.new.conn.now)
+        → TellsOpen (state S.Store tx.old.conn.now) result }
     ensures read { HasCleanDisk (state S.Store tx.new.conn.now)
         → IsTrue (state S.Store tx.old.conn.now).in_transaction
         → ReadsInside (state S.Store tx.old.conn.now) result }
@@ -151,15 +154,11 @@ fn version_of<S: Alter>(tx: &mut Transaction<'_, S>) -> Result<u64, Refusal>
 }
 
 /// The same, outside a transaction. It commits nothing.
-pub(crate) fn read_version<S: Alter>(conn: &mut Connection<S>) -> Result<u64, Refusal>
+fn read_version<S: Alter>(conn: &mut Connection<S>) -> Result<u64, Refusal>
     requires outside { conn.old.in_transaction ≡ false }
     ensures outside { conn.new.in_transaction ≡ false }
-    ensures told { HasCleanDisk (state S.Store conn.new) → (owner : List ℕ) (cs : History)
-        → length owner ≡ 16 → IsHistory cs → ShowsHistory (state S.Store conn.old) owner cs
-        → MatchResult result (λ version. version ≡ 2) IsFailure }
-    ensures shown { HasCleanDisk (state S.Store conn.new) → (owner : List ℕ) (cs : History)
-        → ShowsHistory (state S.Store conn.old) owner cs
-        → ShowsHistory (state S.Store conn.new) owner cs }
+    ensures shown { HasCleanDisk (state S.Store conn.new)
+        → KeepsShown (state S.Store conn.old) (state S.Store conn.new) }
     ensures read { HasCleanDisk (state S.Store conn.new)
         → IfOk result (AreShownAs (state S.Store conn.old)) }
     ensures unread { HasCleanDisk (state S.Store conn.new) → IfErr result (λ e.
@@ -175,13 +174,66 @@ pub(crate) fn read_version<S: Alter>(conn: &mut Connection<S>) -> Result<u64, Re
     read
 }
 
-/// A connection outside a transaction shows the history whose tables it has as its last commit: the
-/// catalog among these lists the desk's tables, and no other schema has that catalog.
+/// Finds a desk of version 2, or makes one of a desk of version 1, by one commit as the last call.
+///
+/// `NotADesk`: no row reads as a desk's, or a name that version 2 adds is taken. `Version`: the desk
+/// is of another version. `NoMemory`: nothing was committed. `Store`: nothing was, or all of it.
+pub(crate) fn bring_up<S: Alter>(conn: &mut Connection<S>) -> Result<(), Refusal>
+    requires outside { conn.old.in_transaction ≡ false }
+    ensures outside { conn.new.in_transaction ≡ false }
+    ensures second { HasCleanDisk (state S.Store conn.new) → (owner : List ℕ) (cs : History)
+        → ShowsHistory (state S.Store conn.old) owner cs
+        → ShowsHistory (state S.Store conn.new) owner cs }
+    ensures first { HasCleanDisk (state S.Store conn.new) → OnOk result
+        ((owner : List ℕ) (cs : History) → ShowsFirst (state S.Store conn.old) owner cs
+        → IsTrue (state S.Store conn.new).is_open × ShowsHistory (state S.Store conn.new) owner cs) }
+
+    ensures read { HasCleanDisk (state S.Store conn.new)
+        → OnOk result (FindsKnown (state S.Store conn.old)) }
+    ensures other { HasCleanDisk (state S.Store conn.new) → IfErr result (λ e.
+        e ≡ Refusal.Version → FindsOther (state S.Store conn.old)) }
+    ensures unread { HasCleanDisk (state S.Store conn.new) → IfErr result (λ e.
+        e ≡ Refusal.NotADesk → FindsNone (state S.Store conn.old)) }
+    ensures open { HasCleanDisk (state S.Store conn.new)
+        → OnOk result (IsTrue (state S.Store conn.old).is_open) }
+    ensures looked { HasCleanDisk (state S.Store conn.new) → IfErr result (λ e.
+        (e ≡ Refusal.NotADesk) ⊎ (e ≡ Refusal.Version)
+        → IsTrue (state S.Store conn.old).is_open) }
+    ensures named { IfErr result (λ e. (e ≡ Refusal.Version) ⊎ IsReadRefusal e) }
+
+    ensures kept { HasCleanDisk (state S.Store conn.new) → IfErr result (λ e.
+        e ≢ Refusal.Store → KeepsShown (state S.Store conn.old) (state S.Store conn.new)) }
+    ensures unwritten { IfErr result (λ e. e ≢ Refusal.Store → Spares S.Store conn.old conn.new) }
+    ensures survives { Survives (state S.Store conn.old) (state S.Store conn.new)
+        (Brings (state S.Store conn.old)) }
+{
+    let version = match read_version(conn) {
+        Ok(version) => version,
+        Err(refusal) => return Err(refusal),
+    };
+    if version == u64::from(VERSION) {
+        return Ok(());
+    }
+    if version != FIRST_VERSION {
+        return Err(Refusal::Version);
+    }
+    match migrate(conn) {
+        Ok(()) => Ok(()),
+        Err(refusal) => Err(refusal),
+    }
+}
+
+/// A connection outside a transaction shows the history whose tables it has as its last commit, of
+/// either version: the catalog among these lists the desk's tables, and no other schema has that
+/// catalog.
 pub(crate) fn found_is_shown<S: Alter>(conn: &Connection<S>)
     requires outside { conn.now.in_transaction ≡ false }
-    ensures { (owner : List ℕ) (cs : History)
+    ensures second { (owner : List ℕ) (cs : History)
         → HoldsHistory (state S.Store conn.now).committed.trees owner cs
         → ShowsHistory (state S.Store conn.now) owner cs }
+    ensures first { (owner : List ℕ) (cs : History)
+        → HoldsFirst (state S.Store conn.now).committed.trees owner cs
+        → ShowsFirst (state S.Store conn.now) owner cs }
 {
     catalog_lists_one_schema();
     let _sound = conn.schema();

@@ -1,11 +1,16 @@
-use Rattle.std.proofs.Common.{◌≡◌, ◌∙◌, true, false, rules, refl, sym, subst, arith, IsTrue}
+use Rattle.std.proofs.Common.{◌≡◌, ◌≢◌, ◌∙◌, true, false, rules, refl, sym, ap, subst, arith, IsTrue}
 use Rattle.sqlite.specs.Held.{Held, state}
 use Rattle.sqlite.specs.State.{HasCleanDisk, IsRolledBack, KeepsCommit, Survives}
 use Rattle.desk_rules.specs.Decisions.{called}
 use Rattle.desk_history.specs.Runs.{is_accepted}
 use Rattle.desk_store.specs.Acts.{Acts, LeavesNext, Runs}
 use Rattle.sqlite.specs.Steps.{FailsToCommit}
-use Rattle.desk_store.proofs.CommitLemmas.{and_then, answered, committed, leaves_more, leaves_next, open_spares, rolled_back, through, unchanged_shows, undone_shows}
+use Rattle.desk_sql.proofs.CommitLemmas.{and_then, leaves_more, open_spares, rolled_back, through, unchanged_shows, undone_shows}
+use Rattle.desk_statements.specs.Tables.{desk_schema}
+use Rattle.desk_contents.specs.Histories.{rows_of}
+use Rattle.desk_tables.specs.Faults.{refusal_of}
+use Rattle.desk_tables.specs.declared.fault.WriteFault.TheVariants.{Store}
+use Rattle.desk_store.proofs.CommitLemmas.{answered, committed, leaves_next}
 use Rattle.desk_store.proofs.acting.run.Goals as goal
 
 pub returns-in-Ok-commit-clause-ok : goal.returns-in-Ok-commit-clause-ok
@@ -41,7 +46,7 @@ returns-in-Ok-commit-clause-survives g c =
     (leaves_next g.S.Store old last end c.args.sizes call c.in-Ok.acted spared (λ late. (live late, acts late)) accepted c.in-Ok-commit.ensures.survives)
 
 pub returns-in-Err-commit-clause-err : goal.returns-in-Err-commit-clause-err
-returns-in-Err-commit-clause-err g c clean kept_ =
+returns-in-Err-commit-clause-err g c clean other =
     let old = c.args.conn.now in
     let call = called c.args.caller.now c.args.key.now c.args.command.now in
     let begun = state g.S.Store (record old { in_transaction = true }) in
@@ -61,11 +66,14 @@ returns-in-Err-commit-clause-err g c clean kept_ =
     subst (λ (x : Held _). HasCleanDisk (state g.S.Store x) → FailsToCommit (state g.S.Store last) (state g.S.Store x) c.in-Err-commit.error) same c.in-Err-commit.ensures.err in
     let rolled : HasCleanDisk (state g.S.Store end) → IsRolledBack (state g.S.Store last) (state g.S.Store end) =
     λ ended. rolled_back g.S.Store old last end c.in-Err-commit.error (inside (omega (arith, stops.clean, ended))) (fails ended) in
-    λ owner cs shows. unchanged_shows (state g.S.Store end) new mid (c.failed_commit.ensures.open clean kept_) owner cs
-    (undone_shows g.S.Store old last end (λ db. db ≡ (state g.S.Store last).now.trees) spared stops kept rolled mid owner cs shows)
+    let late : HasCleanDisk (state g.S.Store last) = omega (arith, stops.clean, mid) in
+    let first : HasCleanDisk (state g.S.Store old) = omega (arith, spared.clean, late) in
+    let no_store : c.failed_commit.result ≢ Store = λ is. other (c.refusal.ensures ∙ ap refusal_of is) in
+    λ owner cs shows. unchanged_shows desk_schema (rows_of owner cs) (state g.S.Store end) new mid (c.failed_commit.ensures.open clean no_store)
+    (undone_shows g.S.Store old last end desk_schema (rows_of owner cs) first (kept late) (rolled mid) shows)
 
 pub returns-in-Err-commit-clause-unwritten : goal.returns-in-Err-commit-clause-unwritten
-returns-in-Err-commit-clause-unwritten g c kept_ =
+returns-in-Err-commit-clause-unwritten g c other =
     let old = c.args.conn.now in
     let call = called c.args.caller.now c.args.key.now c.args.command.now in
     let begun = state g.S.Store (record old { in_transaction = true }) in
@@ -83,8 +91,9 @@ returns-in-Err-commit-clause-unwritten g c kept_ =
     subst (λ (x : Held _). HasCleanDisk (state g.S.Store x) → FailsToCommit (state g.S.Store last) (state g.S.Store x) c.in-Err-commit.error) same c.in-Err-commit.ensures.err in
     let rolled : HasCleanDisk (state g.S.Store end) → IsRolledBack (state g.S.Store last) (state g.S.Store end) =
     λ ended. rolled_back g.S.Store old last end c.in-Err-commit.error (inside (omega (arith, stops.clean, ended))) (fails ended) in
+    let no_store : c.failed_commit.result ≢ Store = λ is. other (c.refusal.ensures ∙ ap refusal_of is) in
     open_spares g.S.Store old last end (λ db. db ≡ (state g.S.Store last).now.trees) new spared kept stops rolled c.failed_commit.ensures.survives
-    (λ clean. (c.failed_commit.ensures.open clean kept_).0.was_open)
+    (λ clean. (c.failed_commit.ensures.open clean no_store).0.was_open)
     (λ db live may. g.met.S.Store.settled end.store db live may) (λ live. g.met.S.Store.stays old.store live)
 
 pub returns-in-Err-commit-clause-survives : goal.returns-in-Err-commit-clause-survives

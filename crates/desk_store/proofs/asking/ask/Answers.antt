@@ -1,11 +1,12 @@
 use Rattle.std.proofs.Common.{◌≡◌, true, rules, refl, subst, arith, ℕ, List, IsTrue}
 use Rattle.sqlite.specs.Held.{Held, state}
 use Rattle.sqlite.specs.State.{HasCleanDisk, KeepsCommit, Survives}
-use Rattle.desk_contents.specs.Histories.{ShowsHistory}
+use Rattle.desk_contents.specs.Histories.{ShowsHistory, rows_of}
 use Rattle.desk_history.specs.Calls.{History}
 use Rattle.desk_history.specs.Formed.{IsHistory}
 use Rattle.desk_store.specs.Questions.{Answers}
-use Rattle.desk_store.proofs.OpeningLemmas.{undone}
+use Rattle.desk_sql.proofs.CommitLemmas.{undone_shows}
+use Rattle.desk_statements.specs.Tables.{desk_schema}
 use Rattle.desk_store.proofs.asking.ask.Goals as goal
 
 pub returns-in-Ok-clause-same : goal.returns-in-Ok-clause-same
@@ -21,7 +22,7 @@ returns-in-Ok-clause-same g c =
     subst (λ (x : Held _). HasCleanDisk (state g.S.Store x) → (owner : List ℕ) (cs : History) → ShowsHistory (state g.S.Store old) owner cs → ShowsHistory (state g.S.Store x) owner cs)
     same (λ clean owner cs shows.
     let late : HasCleanDisk (state g.S.Store last) = omega (arith, c.rollback.ensures.survives.clean, clean) in
-    undone g.S.Store old last end owner cs (omega (arith, spared.clean, late)) (kept late) (c.rollback.ensures.undone clean) shows)
+    undone_shows g.S.Store old last end desk_schema (rows_of owner cs) (omega (arith, spared.clean, late)) (kept late) (c.rollback.ensures.undone clean) shows)
 
 pub returns-in-Ok-clause-ok : goal.returns-in-Ok-clause-ok
 returns-in-Ok-clause-ok g c =

@@ -1,45 +1,22 @@
-use Rattle.std.proofs.Common.{◌≡◌, inr, Some, refl, sym, subst, ◌∙◌, arith}
+use Rattle.std.proofs.Common.{◌≡◌, Some, sym, subst, ◌∙◌, arith}
 use Rattle.sqlite.specs.Held.{state}
 use Rattle.sqlite.specs.State.{HasCleanDisk, IsUnchanged}
-use Rattle.desk_history.specs.Level.{stamp}
-use Rattle.desk_store.proofs.OpeningLemmas.{no_rows, one_row, read_alike, selected}
-use Rattle.desk_store.proofs.StampLemmas.{stamp_is_formed}
+use Rattle.desk_store.proofs.OpeningLemmas.{no_rows, open_there, read_alike, selected}
 use Rattle.desk_store.specs.Rows.{ReadsAs}
 use Rattle.desk_store.proofs.opening.version_of.Goals as goal
 
-pub returns-in-Some-clause-told : goal.returns-in-Some-clause-told
-returns-in-Some-clause-told g c clean inside =
-    let old = state g.S.Store c.args.tx.now.conn.now in
-    let mid = state g.S.Store c.ask_columns.new.tx.conn.now in
-    let new = state g.S.Store c.select.new.tx.conn.now in
-    let late : HasCleanDisk mid = omega (arith, c.in-Ok-select.ensures.survives.clean, clean) in
-    let same : IsUnchanged old mid = c.in-Ok.ensures.same late in (
-      same.0.was_open,
-      λ owner cs long history sees.
-          let rows = one_row old mid new c.in-Ok-select.rows.items same (c.in-Ok-select.ensures.value clean (same.0.mode ∙ inside)) owner cs sees in
-          let told : c.version_in.result ≡ Some 2 = c.version_in.ensures.found 2 (owner, stamp cs, long, stamp_is_formed cs history.formed, c.deref.ensures.value ∙ rows) in
-          let is : Some c.in-Some.version ≡ Some 2 = sym c.in-Some.is ∙ told in
-          cc,
-    )
+pub returns-in-Some-clause-open : goal.returns-in-Some-clause-open
+returns-in-Some-clause-open g c clean =
+    let late : HasCleanDisk (state g.S.Store c.ask_columns.new.tx.conn.now) = omega (arith, c.in-Ok-select.ensures.survives.clean, clean) in
+    (c.in-Ok.ensures.same late).0.was_open
 
-pub returns-in-Ok-select-clause-told : goal.returns-in-Ok-select-clause-told
-returns-in-Ok-select-clause-told g c clean inside =
-    let old = state g.S.Store c.args.tx.now.conn.now in
-    let mid = state g.S.Store c.ask_columns.new.tx.conn.now in
-    let new = state g.S.Store c.select.new.tx.conn.now in
-    let late : HasCleanDisk mid = omega (arith, c.in-Ok-select.ensures.survives.clean, clean) in
-    let same : IsUnchanged old mid = c.in-Ok.ensures.same late in
-    inr (
-      refl,
-      (
-        same.0.was_open,
-        λ owner cs long history sees.
-            let rows = one_row old mid new c.in-Ok-select.rows.items same (c.in-Ok-select.ensures.value clean (same.0.mode ∙ inside)) owner cs sees in
-            let told : c.version_in.result ≡ Some 2 = c.version_in.ensures.found 2 (owner, stamp cs, long, stamp_is_formed cs history.formed, c.deref.ensures.value ∙ rows) in
-            let none = c.in-None.is in
-            cc,
-      ),
-    )
+pub returns-in-Ok-select-clause-open : goal.returns-in-Ok-select-clause-open
+returns-in-Ok-select-clause-open g c clean is =
+    let late : HasCleanDisk (state g.S.Store c.ask_columns.new.tx.conn.now) = omega (arith, c.in-Ok-select.ensures.survives.clean, clean) in
+    (c.in-Ok.ensures.same late).0.was_open
+
+pub returns-in-Err-clause-open : goal.returns-in-Err-clause-open
+returns-in-Err-clause-open g c clean is = open_there (state g.S.Store c.args.tx.now.conn.now) c.in-Err.refusal (c.in-Err.ensures.refused clean) is
 
 pub returns-in-Some-clause-read : goal.returns-in-Some-clause-read
 returns-in-Some-clause-read g c clean inside schema contents rows of_desk sees has =

@@ -2,12 +2,9 @@ use Rattle.std.proofs.Common.{arith, IsTrue}
 use Rattle.std.proofs.Math.Logic.{∥∥₁_map}
 use Rattle.sqlite.specs.Files.{file_state}
 use Rattle.sqlite.specs.State.{HasCleanDisk}
-use Rattle.desk_contents.specs.Histories.{rows_of}
-use Rattle.desk_statements.specs.Tables.{desk_schema}
 use Rattle.desk_store.specs.Living.{and_refused}
-use Rattle.desk_store.specs.Reopening.{HoldsLives}
 use Rattle.desk_store.proofs.LivingLemmas.{ends_refused}
-use Rattle.desk_store.proofs.OpeningLemmas.{still_leaves}
+use Rattle.desk_store.proofs.RestartLemmas.{refused_leaves}
 use Rattle.desk_store.proofs.restarting.reopen.Goals as goal
 
 pub returns-in-Ok-open-clause-keeps : goal.returns-in-Ok-open-clause-keeps
@@ -19,12 +16,13 @@ returns-in-Err-open-clause-again g c owner lives seen holds =
     let first = c.in-Ok.conn in
     let last = c.in-Err-open.conn in
     c.crashed-left.ensures.found owner (and_refused lives) seen (λ clean.
-    let before : HasCleanDisk (file_state first) = omega (arith, c.in-Err-open.ensures.spared.clean, clean) in
+    let before : HasCleanDisk (file_state first) = omega (arith, c.in-Err-open.ensures.failed.clean, clean) in
     let live : IsTrue (file_state first).is_open = (c.in-Ok.ensures.opened before).0.is_open in
     ∥∥₁_map (holds first c.in-Ok.ensures.found before live) (λ it.
-    let left = c.stop_leaves_what_is_shown.ensures desk_schema (rows_of owner it.0) (c.found_is_shown.ensures owner it.0 it.3) live in
-    still_leaves (λ db. HoldsLives db owner (and_refused lives) seen) (file_state first) (file_state last) c.in-Err-open.ensures.spared
-    (λ sure db may. (it.0, ends_refused lives it.0 it.1, it.2, left sure db may))))
+    let left = refused_leaves (file_state first) (file_state last) owner lives it.0 c.in-Err-open.ensures.failed it.3
+    (c.found_is_shown.ensures.second owner it.0) (c.found_is_shown.ensures.first owner it.0)
+    (λ schema contents shows. c.stop_leaves_what_is_shown.ensures schema contents shows live) in
+    λ sure db may. (it.0, ends_refused lives it.0 it.1, it.2, left sure db may)))
 
 pub returns-in-Err-open-clause-named : goal.returns-in-Err-open-clause-named
 returns-in-Err-open-clause-named g c = c.in-Err-open.ensures.named

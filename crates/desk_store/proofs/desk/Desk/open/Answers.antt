@@ -1,41 +1,50 @@
-use Rattle.std.proofs.Common.{◌≡◌, ◌≢◌, rules, refl, subst, arith, IsTrue}
+use Rattle.std.proofs.Common.{inl, inr, refl, arith, IsTrue}
 use Rattle.std.proofs.Math.Logic.{∥∥₁_map}
 use Rattle.sqlite.specs.Held.{state}
 use Rattle.sqlite.specs.State.{HasCleanDisk}
 use Rattle.desk_history.specs.Tables.{tables}
 use Rattle.desk_history.proofs.LifeLemmas.{left_goes_on}
 use Rattle.desk_history.proofs.VerdictLemmas.{barred_not_allowed, what_is_barred_stays_barred}
-use Rattle.desk_contents.specs.Histories.{HoldsHistory, rows_of}
-use Rattle.desk_statements.specs.Tables.{desk_schema}
-use Rattle.desk_store.specs.Rows.{AreOf}
+use Rattle.desk_contents.specs.Histories.{HoldsHistory, first_rows_of, rows_of}
+use Rattle.desk_reads.specs.Failures.{IsFailure}
+use Rattle.desk_statements.specs.Tables.{desk_schema, first_schema}
+use Rattle.desk_store.specs.Reopening.{HoldsLives}
 use Rattle.desk_store.proofs.OpeningLemmas.{still_leaves}
-use Rattle.desk_store.proofs.ReopeningLemmas.{never_version, no_failure, not_missing}
+use Rattle.desk_store.proofs.ReopeningLemmas.{no_failure, no_version, not_missing}
 use Rattle.desk_store.proofs.SizeLemmas.{unknown_are_right}
+use Rattle.desk_store.proofs.VersionLemmas.{first_fails, second_fails, second_spared}
 use Rattle.desk_store.proofs.desk.Desk.open.Goals as goal
 
-pub returns-else-version-from-clause-ok : goal.returns-else-version-from-clause-ok
-returns-else-version-from-clause-ok g c clean owner cs history shows left = record {
-  usable = refl;
-  history = history;
-  shows = c.read_version.ensures.shown clean owner cs shows;
-  sizes = unknown_are_right c.unknown.result (tables owner cs) c.unknown.ensures;
-  left = still_leaves (λ db. HoldsHistory db owner cs) (state g.S.Store c.args.conn) (state g.S.Store c.read_version.new.conn) c.read_version.ensures.survives left;
-}
+pub returns-in-Ok-clause-ok : goal.returns-in-Ok-clause-ok
+returns-in-Ok-clause-ok g c clean owner cs history shows left =
+    let old = state g.S.Store c.args.conn in
+    let new = state g.S.Store c.bring_up.new.conn in
+    record {
+      usable = refl;
+      history = history;
+      shows = c.in-Ok.ensures.second clean owner cs shows;
+      sizes = unknown_are_right c.unknown.result (tables owner cs) c.unknown.ensures;
+      left = still_leaves (λ db. HoldsHistory db owner cs) old new (second_spared old owner cs new c.in-Ok.ensures.survives shows) left;
+    }
 
-pub returns-else-version-from-clause-read : goal.returns-else-version-from-clause-read
-returns-else-version-from-clause-read g c clean schema contents rows of_desk shows has =
-    let two : c.in-Ok.version ≡ 2 = search rules in
-    subst (AreOf rows) two (c.in-Ok.ensures.read clean schema contents rows of_desk shows has)
+pub returns-in-Ok-clause-migrated : goal.returns-in-Ok-clause-migrated
+returns-in-Ok-clause-migrated g c clean owner cs history early =
+    let made = c.in-Ok.ensures.first clean owner cs early in
+    record {
+      usable = refl;
+      history = history;
+      shows = made.1;
+      sizes = unknown_are_right c.unknown.result (tables owner cs) c.unknown.ensures;
+      left = c.stop_leaves_what_is_shown-in-Ok.ensures desk_schema (rows_of owner cs) made.1 made.0;
+    }
 
-pub returns-else-version-from-clause-lives : goal.returns-else-version-from-clause-lives
-returns-else-version-from-clause-lives g c clean owner lives seen formed finds =
-    let before : HasCleanDisk (state g.S.Store c.args.conn) = omega (arith, c.read_version.ensures.survives.clean, clean) in
+pub returns-in-Ok-clause-lives : goal.returns-in-Ok-clause-lives
+returns-in-Ok-clause-lives g c clean owner lives seen formed finds =
+    let before : HasCleanDisk (state g.S.Store c.args.conn) = omega (arith, c.in-Ok.ensures.survives.clean, clean) in
     let live : IsTrue (state g.S.Store c.args.conn).is_open = c.in-Ok.ensures.open clean in
     ∥∥₁_map (finds before live) (λ it. let cs = it.0 in
     let law = c.lives_keep_what_was_answered.ensures lives cs it.1 formed in
-    let shows = c.found_is_shown.ensures owner cs it.3 in
-    let on = left_goes_on seen.at seen.since cs it.2 in
-    let left = c.stop_leaves_what_is_shown.ensures desk_schema (rows_of owner cs) shows live in (
+    let on = left_goes_on seen.at seen.since cs it.2 in (
       cs,
       record {
         ends = it.1;
@@ -43,23 +52,46 @@ returns-else-version-from-clause-lives g c clean owner lives seen formed finds =
         goes_on = on;
         refuses = barred_not_allowed cs;
         bars = λ x is. what_is_barred_stays_barred seen.at cs x on is;
-        shows = returns-else-version-from-clause-ok g c clean owner cs law.0 shows left;
+        shows = elim it.3 [
+          | inl holds ↦ (let there = c.found_is_shown.ensures.second owner cs holds in
+              returns-in-Ok-clause-ok g c clean owner cs law.0 there (c.stop_leaves_what_is_shown.ensures desk_schema (rows_of owner cs) there live))
+          | inr early ↦ returns-in-Ok-clause-migrated g c clean owner cs law.0 (c.found_is_shown.ensures.first owner cs early.1)
+        ];
         once = c.keys_stand_once.ensures cs law.0.legal;
         answered = law.1;
       },
     ))
 
-pub returns-then-version-from-clause-found : goal.returns-then-version-from-clause-found
-returns-then-version-from-clause-found g c clean owner lives seen long formed finds =
-    let before : HasCleanDisk (state g.S.Store c.args.conn) = omega (arith, c.read_version.ensures.survives.clean, clean) in
-    let live : IsTrue (state g.S.Store c.args.conn).is_open = c.in-Ok.ensures.open clean in
-    let other : c.in-Ok.version ≢ 2 = search rules in
-    let none : ⊥ = not_missing (finds before live) (λ it. other (c.in-Ok.ensures.told clean owner it.0 long (c.lives_keep_what_was_answered.ensures lives it.0 it.1 formed).0 (c.found_is_shown.ensures owner it.0 it.3))) in
-    (λ _. none, λ _. none)
+pub returns-in-Ok-clause-spares : goal.returns-in-Ok-clause-spares
+returns-in-Ok-clause-spares g c owner cs shows =
+    second_spared (state g.S.Store c.args.conn) owner cs (state g.S.Store c.bring_up.new.conn) c.in-Ok.ensures.survives shows
+
+pub returns-in-Err-clause-spared : goal.returns-in-Err-clause-spared
+returns-in-Err-clause-spared g c owner cs shows =
+    second_spared (state g.S.Store c.args.conn) owner cs (state g.S.Store c.bring_up.new.conn) c.in-Err.ensures.survives shows
+
+pub returns-in-Err-clause-known : goal.returns-in-Err-clause-known
+returns-in-Err-clause-known g c clean owner cs long history shows = (
+  second_fails (state g.S.Store c.args.conn) owner cs c.in-Err.refusal c.in-Err.ensures.named (c.in-Err.ensures.other clean) (c.in-Err.ensures.unread clean) long history shows,
+  c.in-Err.ensures.second clean owner cs shows,
+)
+
+pub returns-in-Err-clause-known_first : goal.returns-in-Err-clause-known_first
+returns-in-Err-clause-known_first g c clean owner cs long history early = (
+  first_fails (state g.S.Store c.args.conn) owner cs c.in-Err.refusal c.in-Err.ensures.named (c.in-Err.ensures.other clean) (c.in-Err.ensures.unread clean) long history early,
+  λ other. (early.0, c.in-Err.ensures.kept clean other first_schema (first_rows_of owner cs) early.1),
+)
 
 pub returns-in-Err-clause-found : goal.returns-in-Err-clause-found
 returns-in-Err-clause-found g c clean owner lives seen long formed finds =
-    let before : HasCleanDisk (state g.S.Store c.args.conn) = omega (arith, c.read_version.ensures.survives.clean, clean) in (
-      λ is. not_missing (finds before (c.in-Err.ensures.open clean is)) (λ it. no_failure c.in-Err.refusal is (c.in-Err.ensures.told clean owner it.0 long (c.lives_keep_what_was_answered.ensures lives it.0 it.1 formed).0 (c.found_is_shown.ensures owner it.0 it.3))),
-      λ is. never_version c.in-Err.refusal is c.in-Err.ensures.named,
+    let old = state g.S.Store c.args.conn in
+    let before : HasCleanDisk old = omega (arith, c.in-Err.ensures.survives.clean, clean) in
+    let fails : HoldsLives old.committed.trees owner lives seen → IsFailure c.in-Err.refusal = λ it.
+    let history = (c.lives_keep_what_was_answered.ensures lives it.0 it.1 formed).0 in
+    elim it.3 [
+      | inl holds ↦ second_fails old owner it.0 c.in-Err.refusal c.in-Err.ensures.named (c.in-Err.ensures.other clean) (c.in-Err.ensures.unread clean) long history (c.found_is_shown.ensures.second owner it.0 holds)
+      | inr early ↦ first_fails old owner it.0 c.in-Err.refusal c.in-Err.ensures.named (c.in-Err.ensures.other clean) (c.in-Err.ensures.unread clean) long history (c.found_is_shown.ensures.first owner it.0 early.1)
+    ] in (
+      λ is. not_missing (finds before (c.in-Err.ensures.looked clean (inl is))) (λ it. no_failure c.in-Err.refusal is (fails it)),
+      λ is. not_missing (finds before (c.in-Err.ensures.looked clean (inr is))) (λ it. no_version c.in-Err.refusal is (fails it)),
     )
