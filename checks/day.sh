@@ -92,6 +92,21 @@ exported minutes minutes desk.db
 cp desk.db alone.db
 exported minutes minutes alone.db
 
+# A file of version 1 becomes one of version 2 at its first opening, whatever opens it: the calls stay, and the next opening writes
+# nothing. Where a name that version 2 adds is taken, whatever its case, the file is no desk and stays as it is.
+sqlite3 alone.db 'DROP TABLE proposals; DROP TABLE proposal_items; DROP TABLE migrated; UPDATE desk SET version = 1; VACUUM'
+cp alone.db taken.db
+run 1 not_listed '' nothing verdict alone.db "$signed"
+[ "$(sqlite3 alone.db 'SELECT version, id, calls FROM desk, migrated USING (id)')" = '2|1|7' ]
+cp alone.db opened.db
+exported minutes minutes alone.db
+exported level level alone.db
+cmp alone.db opened.db
+sqlite3 taken.db 'CREATE TABLE Proposals (a INTEGER)'
+cp taken.db before.db
+run 1 nothing 'refused 43 NotADesk' nothing minutes taken.db
+cmp taken.db before.db
+
 # ---- faults, in the order words, token, the desk's file, what it holds, the other file, the command
 
 echo 'no database' > text
@@ -390,12 +405,13 @@ finds rows 'SELECT version, migrated.id, calls FROM desk, migrated'
 sqlite3 other.db 'CREATE TABLE note (id INTEGER PRIMARY KEY)'
 run 1 nothing 'refused 43 NotADesk' nothing verdict other.db missing.efi
 run 1 nothing 'refused 46 Exists' nothing init other.db "$owner"
-for version in 1 3; do
-    sqlite3 desk.db "UPDATE desk SET version = $version"
+# A row of version 1 beside a table that version 2 adds is no desk's; a version that isn't known is Version.
+for refused in '1 43 NotADesk' '3 44 Version'; do
+    sqlite3 desk.db "UPDATE desk SET version = ${refused%% *}"
     for export in $exports; do
-        run 1 nothing 'refused 44 Version' nothing "$export" desk.db
+        run 1 nothing "refused ${refused#* }" nothing "$export" desk.db
     done
-    run 1 nothing 'refused 44 Version' nothing verdict desk.db missing.efi
+    run 1 nothing "refused ${refused#* }" nothing verdict desk.db missing.efi
 done
 
 echo "$runs runs, each as it has to be"
