@@ -91,21 +91,10 @@ exported minutes minutes desk.db
 # The file alone, without its log, is the desk: each run closed it.
 cp desk.db alone.db
 exported minutes minutes alone.db
-
-# A file of version 1 becomes one of version 2 at its first opening, whatever opens it: the calls stay, and the next opening writes
-# nothing. Where a name that version 2 adds is taken, whatever its case, the file is no desk and stays as it is.
-sqlite3 alone.db 'DROP TABLE proposals; DROP TABLE proposal_items; DROP TABLE migrated; UPDATE desk SET version = 1; VACUUM'
-cp alone.db taken.db
-run 1 not_listed '' nothing verdict alone.db "$signed"
-[ "$(sqlite3 alone.db 'SELECT version, id, calls FROM desk, migrated USING (id)')" = '2|1|7' ]
-cp alone.db opened.db
-exported minutes minutes alone.db
-exported level level alone.db
-cmp alone.db opened.db
-sqlite3 taken.db 'CREATE TABLE Proposals (a INTEGER)'
-cp taken.db before.db
-run 1 nothing 'refused 43 NotADesk' nothing minutes taken.db
-cmp taken.db before.db
+# As a desk of seven people was, for a later look.
+cp alone.db first.db
+cp minutes first.minutes
+cp level first.level
 
 # ---- faults, in the order words, token, the desk's file, what it holds, the other file, the command
 
@@ -413,5 +402,20 @@ for refused in '1 43 NotADesk' '3 44 Version'; do
     done
     run 1 nothing "refused ${refused#* }" nothing verdict desk.db missing.efi
 done
+
+# A file of version 1 becomes one of version 2 at its first opening, whatever opens it: the calls stay, and the next opening writes
+# nothing. Where a name that version 2 adds is taken, whatever its case, the file is no desk and stays as it is.
+sqlite3 first.db 'DROP TABLE proposals; DROP TABLE proposal_items; DROP TABLE migrated; UPDATE desk SET version = 1; VACUUM'
+cp first.db taken.db
+run 1 not_listed '' nothing verdict first.db "$signed"
+[ "$(sqlite3 first.db 'SELECT version, id, calls FROM desk, migrated USING (id)')" = '2|1|7' ]
+cp first.db opened.db
+exported first.minutes minutes first.db
+exported first.level level first.db
+cmp first.db opened.db
+sqlite3 taken.db 'CREATE TABLE Proposals (a INTEGER)'
+cp taken.db before.db
+run 1 nothing 'refused 43 NotADesk' nothing minutes taken.db
+cmp taken.db before.db
 
 echo "$runs runs, each as it has to be"
