@@ -60,14 +60,21 @@ fn done(
     }
 }
 
-/// An empty store holds no desk; one is made once, and its row has to be that of a desk of version 2.
+/// An empty store holds no desk; one is made once. Its row has to be that of a desk of version 2, or of
+/// one of version 1 without the tables that version 2 adds, which is made one of version 2.
 const STORES: &str = "\
 open : NotADesk
 make : a desk
 open : a desk
 make : Exists
 UPDATE desk SET version = 1
-open : Version
+open : NotADesk
+DROP TABLE migrated
+DROP TABLE proposal_items
+open : NotADesk
+DROP TABLE proposals
+open : a desk
+open : a desk
 UPDATE desk SET version = 3
 open : Version
 UPDATE desk SET version = 2, mark = 'boot'
