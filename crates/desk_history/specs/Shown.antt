@@ -139,10 +139,6 @@ shown_proposal cs p = record {
   components = length p.named.entries.components;
 }
 
--- the proposals are shown to a caller who asks for them, or the refusal that is due is given
-abbrev pub GivesProposals : History → Caller → Result (List ShownProposal) Refusal → Type 0
-GivesProposals cs c given = IsGiven (proposals_for cs c) given (λ due shown. shown ≡ map (shown_proposal cs) due)
-
 -- ---- what a submitter learns
 
 -- the requests that a person submitted, the newest first
