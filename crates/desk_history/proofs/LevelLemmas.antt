@@ -1,6 +1,6 @@
--- The level's table has no row of `sbat`.
-use Rattle.std.proofs.Common.{◌≡◌, ℕ, Bool, true, false, not, ◌&&◌, ◌||◌, All, IfSome, List, [], ◌∷◌, map, Option, Some, None, refl, ◌∙◌, ap, subst}
-use Rattle.std.specs.Prelude.{if◌then◌else◌, bytes_eq, nat_lt, option_map, reverse}
+-- The level's table has no row of `sbat`, and other names have there the generation that the level asks.
+use Rattle.std.proofs.Common.{◌≡◌, ℕ, Bool, true, false, not, ◌&&◌, ◌||◌, cond, All, IfSome, List, [], ◌∷◌, map, Option, Some, None, refl, ◌∙◌, ap, subst}
+use Rattle.std.specs.Prelude.{if◌then◌else◌, bytes_eq, filter, nat_lt, option_map, reverse}
 use Rattle.std.specs.Option.{option_map_or}
 use Rattle.std.specs.List.{list_all}
 use Rattle.std.proofs.lemmas.List.{reverse-append}
@@ -24,7 +24,7 @@ use Rattle.desk_history.specs.Calls.{First, History, Rules, Second, distinct, is
 use Rattle.desk_history.specs.Formed.{IsHistory, IsItem}
 use Rattle.desk_history.specs.FormLaws.{LevelHasNoSbat}
 use Rattle.desk_history.specs.Forces.{confirmed_by, forced, into_force, nothing}
-use Rattle.desk_history.specs.Level.{generations, greatest, is_above, is_sbat, names, stamp}
+use Rattle.desk_history.specs.Level.{generations, greatest, is_above, is_sbat, level, names, raises, stamp}
 use Rattle.desk_history.specs.Proposals.{Proposal, named_by, proposal, proposal_state}
 use Rattle.desk_history.specs.Refusals.{confirm_by, confirm_refusal, force_refusal, own_refusal, refuse_if}
 use Rattle.desk_history.specs.Tables.{level_row}
@@ -37,7 +37,7 @@ use Rattle.desk_history.proofs.RunLemmas.{newest}
 abbrev is_other : List ℕ → Bool
 is_other name = not (bytes_eq name sbat)
 
-others_reversed : (xs : List Component) → names_no_sbat xs ≡ true → names_no_sbat (reverse xs) ≡ true
+pub others_reversed : (xs : List Component) → names_no_sbat xs ≡ true → names_no_sbat (reverse xs) ≡ true
 others_reversed [] h = refl
 others_reversed (x ∷ xs) h =
     let parts = both (is_other x.name) (names_no_sbat xs) h in
@@ -56,7 +56,7 @@ AreOther o = names_no_sbat (option_map_or forced o nothing).components ≡ true
 named_other : (cs : History) (given : Command) → IsWithin given → force_refusal cs given ≡ None → AreOther (entries_of (named_by given))
 named_other cs (command.RaiseLevel r) w h =
     joined (is_other r.component.name) true
-    (raised_other (is_sbat r.component.name) (not (is_above r.component.generation (greatest (generations cs) r.component.name)))
+    (raised_other (is_sbat r.component.name) (not (is_above r.component.generation (level cs r.component.name)))
     (refuse_if (not (nat_lt (stamp cs) r.stamp)) refusals.StampNotLater) h)
     refl
 named_other cs (command.ImportRevocations i) w h = others_reversed i.components w.no_sbat
@@ -125,3 +125,22 @@ pub level_has_no_sbat : LevelHasNoSbat
 level_has_no_sbat owner cs h =
     let named = generations cs in
     others_rows named (names named) ∙ others_once (map (λ (x : Component). x.name) named) (others_mapped named ∙ others_named cs h)
+
+-- ---- the level by the generations that are named
+
+other_asked : (same : Bool) (first : ℕ) (named : Option ℕ) → not same ≡ true → (if same then Some first else named) ≡ named
+other_asked false first named h = refl
+other_asked true first named h = cc
+
+-- a component of another name raises where it is above all that name it
+raises_so : (cs : History) (x : Component) → is_other x.name ≡ true → raises cs x ≡ is_above x.generation (greatest (generations cs) x.name)
+raises_so cs x other = ap (λ asked. is_above x.generation asked) (other_asked (is_sbat x.name) 1 (greatest (generations cs) x.name) other)
+
+-- and so does each of these
+pub all_raise_so : (cs : History) (xs : List Component) → names_no_sbat xs ≡ true
+    → filter (raises cs) xs ≡ filter (λ x. is_above x.generation (greatest (generations cs) x.name)) xs
+all_raise_so cs [] h = refl
+all_raise_so cs (x ∷ xs) h =
+    let parts = both (is_other x.name) (names_no_sbat xs) h in
+    ap (λ b. cond b (x ∷ filter (raises cs) xs) (filter (raises cs) xs)) (raises_so cs x parts.0)
+    ∙ ap (λ ys. cond (is_above x.generation (greatest (generations cs) x.name)) (x ∷ ys) ys) (all_raise_so cs xs parts.1)

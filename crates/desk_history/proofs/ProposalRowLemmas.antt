@@ -18,7 +18,7 @@ use Rattle.desk_texts.specs.declared.proposal.ProposalState.{ProposalState}
 use Rattle.desk_texts.specs.declared.proposal.ProposalState.TheVariants as states
 use Rattle.desk_history.specs.Calls.{History, item}
 use Rattle.desk_history.specs.Forces.{forced}
-use Rattle.desk_history.specs.Level.{generations, greatest, is_sbat, is_above, raises_some, stamp}
+use Rattle.desk_history.specs.Level.{is_sbat, is_above, level, raises_some, stamp}
 use Rattle.desk_history.specs.Proposals.{Named, Proposal, is_proposal, named_by, proposal, proposal_state, proposals}
 use Rattle.desk_history.specs.Refusals.{confirm_by, confirm_refusal, drop_by, drop_refusal, force_refusal, import_refusal, is_later, own_refusal, refuse_if}
 use Rattle.desk_history.specs.Revocations.{is_revoked}
@@ -87,7 +87,7 @@ drop_rows owner cs caller key k =
 
 -- the component can't be raised to its generation
 abbrev pub is_lower : History → Component → Bool
-is_lower cs x = is_sbat x.name || not (is_above x.generation (greatest (generations cs) x.name))
+is_lower cs x = is_sbat x.name || not (is_above x.generation (level cs x.name))
 
 -- why what a row names isn't put into force, by its kind
 abbrev pub refused_by : History → ProposalKind → Imported → Option Refusal

@@ -30,7 +30,7 @@ is_sbat name = bytes_eq name sbat
 abbrev pub level : History → List ℕ → Option ℕ
 level cs name = if is_sbat name then Some 1 else greatest (generations cs) name
 
--- the names that the level has beside `sbat`, each once
+-- the names of components, each once; in a desk's history `sbat` isn't one (`level_has_no_sbat`)
 abbrev pub names : List Component → List (List ℕ)
 names xs = distinct (map (λ x. x.name) xs)
 
@@ -39,9 +39,9 @@ abbrev pub is_above : ℕ → Option ℕ → Bool
 is_above n None = true
 is_above n (Some m) = nat_lt m n
 
--- a call that names this component raises its generation
+-- a call that names this component raises its generation: above the level's, or the level has none
 abbrev pub raises : History → Component → Bool
-raises cs x = is_above x.generation (greatest (generations cs) x.name)
+raises cs x = is_above x.generation (level cs x.name)
 
 -- what is put into force raises some generation
 abbrev pub raises_some : History → InForce → Bool

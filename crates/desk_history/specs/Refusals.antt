@@ -20,7 +20,7 @@ use Rattle.desk_texts.specs.declared.state.State.TheVariants as states
 use Rattle.desk_texts.specs.Callers.{caller_name}
 use Rattle.desk_history.specs.Calls.{History, Item, item}
 use Rattle.desk_history.specs.Forces.{forced}
-use Rattle.desk_history.specs.Level.{generations, greatest, is_above, is_sbat, raises_some, stamp}
+use Rattle.desk_history.specs.Level.{is_above, is_sbat, level, raises_some, stamp}
 use Rattle.desk_history.specs.Listing.{is_listed}
 use Rattle.desk_history.specs.People.{has_name, has_token, people}
 use Rattle.desk_history.specs.Proposals.{Proposal, proposal, proposal_state}
@@ -118,7 +118,7 @@ import_refusal raises now stamp = refuse_if (raises && not (is_later now stamp))
 abbrev pub force_refusal : History → Command → Option Refusal
 force_refusal cs (command.RevokeDigest d) = refuse_if (is_revoked kinds.Digest cs d) refusals.AlreadyRevoked
 force_refusal cs (command.RevokeCertificate d) = refuse_if (is_revoked kinds.Certificate cs d) refusals.AlreadyRevoked
-force_refusal cs (command.RaiseLevel r) = raise_refusal (greatest (generations cs) r.component.name) (stamp cs) r
+force_refusal cs (command.RaiseLevel r) = raise_refusal (level cs r.component.name) (stamp cs) r
 force_refusal cs (command.ImportRevocations i) = import_refusal (raises_some cs (forced i)) (stamp cs) i.stamp
 force_refusal cs (command.AddPerson _) = None
 force_refusal cs (command.Submit _) = None

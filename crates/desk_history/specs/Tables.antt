@@ -67,7 +67,7 @@ return_row r =
 abbrev pub level_row : List Component → List ℕ → Component
 level_row named name = record { name = name; generation = unwrap_or (greatest named name) 0 }
 
--- the level's rows; `sbat` has none
+-- the level's rows; in a desk's history `sbat` has none (`level_has_no_sbat`)
 abbrev pub level_rows : List Component → List Component
 level_rows named = map (level_row named) (names named)
 

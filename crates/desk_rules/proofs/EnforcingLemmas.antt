@@ -24,12 +24,13 @@ use Rattle.desk_history.specs.declared.write.Write.{Write}
 use Rattle.desk_history.specs.declared.write.Write.TheVariants as writes
 use Rattle.desk_history.specs.Calls.{History, is_among, distinct, item}
 use Rattle.desk_history.specs.Forces.{InForce, enforced_by, forced, nothing}
-use Rattle.desk_history.specs.Level.{generations, greatest, is_above, is_sbat, raises, raises_some, stamp}
+use Rattle.desk_history.specs.Level.{generations, greatest, is_above, is_sbat, names, raises, raises_some, stamp}
 use Rattle.desk_history.specs.Refusals.{is_later, refuse_if}
 use Rattle.desk_history.specs.Replies.{minutes, raised_count, reply}
 use Rattle.desk_history.specs.Revocations.{is_revoked, revocations}
 use Rattle.desk_history.specs.Tables.{Tables, level_rows, tables}
 use Rattle.desk_history.specs.Writes.{all_written, written}
+use Rattle.desk_history.proofs.LevelLemmas.{all_raise_so, others_reversed}
 use Rattle.desk_history.proofs.ListLemmas.{bytes_eq-refl}
 use Rattle.desk_history.proofs.ProposalRowLemmas.{confirm_rows, is_lower, refused_by}
 use Rattle.desk_history.proofs.WriteLemmas.{written-append}
@@ -87,12 +88,18 @@ stamp_kept n (Some s) = elim (nat_lt 0 n) as (λ b. list_any takes_off (if b the
 counted : (new rows : List (List ℕ)) → length new ≡ length (reverse new ++ rows) - length rows
 counted new rows = omega (arith, length-append (reverse new) rows, length-reverse new)
 
+-- what is refused by its name is refused at any generation
+named_lower : (same : Bool) (n first : ℕ) (named : Option ℕ) → (same || not (is_above n named)) ≡ (same || not (is_above n (if same then Some first else named)))
+named_lower true n first named = refl
+named_lower false n first named = refl
+
 -- components are below the level of a view's rows exactly where they are below that of the history
 lower_alike : (rows : List Component) (cs : History) (xs : List Component) → ((q : List ℕ) → IsTrue (is_among (map (λ x. x.name) xs) q) → generation_in rows q ≡ greatest (generations cs) q) →
     list_any (is_lower_in rows) xs ≡ list_any (is_lower cs) xs
 lower_alike rows cs [] each = refl
 lower_alike rows cs (x ∷ xs) each =
     ap (λ o. (is_sbat x.name || not (is_above x.generation o)) || list_any (is_lower_in rows) xs) (each x.name (or_left (bytes_eq x.name x.name) (is_among (map (λ y. y.name) xs) x.name) (bytes_eq-refl x.name)))
+    ∙ ap (λ b. b || list_any (is_lower_in rows) xs) (named_lower (is_sbat x.name) x.generation 1 (greatest (generations cs) x.name))
     ∙ ap (λ b. is_lower cs x || b) (lower_alike rows cs xs (λ q h. each q (or_right (bytes_eq q x.name) (is_among (map (λ y. y.name) xs) q) h)))
 
 -- of a view that shows the rows for all that is named, and the stamp
@@ -100,8 +107,12 @@ module _ (v : View) (i : Imported) (owner : List ℕ) (cs : History) (lists : Sh
   so_far : HasTaken i.components (generations cs) (reverse i.components) s
   so_far = taken (generations cs) (λ q asked. shown_generation v.lists owner cs (import_keys i) lists q asked)
 
+  -- as many names are raised by the level as by what is named
+  raised : raised_count cs (forced i) ≡ s.names
+  raised = ap (λ xs. length (names xs)) (all_raise_so cs (reverse i.components) (others_reversed i.components so_far.other)) ∙ so_far.count
+
   names_some : nat_lt 0 s.names ≡ raises_some cs (forced i)
-  names_some = ap (λ n. nat_lt 0 n) (sym so_far.count) ∙ some_raised (raises cs) (reverse i.components)
+  names_some = ap (λ n. nat_lt 0 n) (sym raised) ∙ some_raised (raises cs) (reverse i.components)
 
   -- it says why what is named isn't put into force
   pub force_seen : (kind : ProposalKind) → force_refusal_in v kind i s.names ≡ refused_by cs kind i
@@ -163,7 +174,7 @@ module _ (v : View) (i : Imported) (owner : List ℕ) (cs : History) (lists : Sh
         made.replied
         ∙ (ap (λ n. replies.Confirmed (record { proposal = k; counts = record { digests = n; certificates = length made.certificates; components = s.names; passed = i.passed } })) (counted made.digests (distinct (revocations kinds.Digest cs)) ∙ ap (λ r. length r - length (distinct (revocations kinds.Digest cs))) (sym first))
         ∙ (ap (λ n. replies.Confirmed (record { proposal = k; counts = record { digests = length (distinct (reverse i.digests ++ revocations kinds.Digest cs)) - length (distinct (revocations kinds.Digest cs)); certificates = n; components = s.names; passed = i.passed } })) (counted made.certificates (distinct (revocations kinds.Certificate cs)) ∙ ap (λ r. length r - length (distinct (revocations kinds.Certificate cs))) (sym second))
-        ∙ (ap (λ n. replies.Confirmed (record { proposal = k; counts = record { digests = length (distinct (reverse i.digests ++ revocations kinds.Digest cs)) - length (distinct (revocations kinds.Digest cs)); certificates = length (distinct (reverse i.certificates ++ revocations kinds.Certificate cs)) - length (distinct (revocations kinds.Certificate cs)); components = n; passed = i.passed } })) (sym so_far.count)
+        ∙ (ap (λ n. replies.Confirmed (record { proposal = k; counts = record { digests = length (distinct (reverse i.digests ++ revocations kinds.Digest cs)) - length (distinct (revocations kinds.Digest cs)); certificates = length (distinct (reverse i.certificates ++ revocations kinds.Certificate cs)) - length (distinct (revocations kinds.Certificate cs)); components = n; passed = i.passed } })) (sym raised)
         ∙ ap (λ o. replies.Confirmed (record { proposal = k; counts = counts_of o })) (sym enforced))))
 
     pub puts : all_written changes.writes.items (tables owner cs) ≡ record (tables owner (item (called caller key (command.Confirm k)) ∷ cs)) { calls = minutes cs }

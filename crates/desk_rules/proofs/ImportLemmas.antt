@@ -164,6 +164,7 @@ module _ (asked old seen : List Component) (x : Component) (s : SoFar) (is_asked
   takes_below below =
       let under : is_above x.generation (greatest (seen ++ old) x.name) ≡ false = ap (λ o. is_above x.generation o) (sym current) ∙ below in
       record {
+        other = before.other;
         level = λ q h. before.level q h ∙ sym (elim (bytes_eq q x.name) as (λ b. bytes_eq q x.name ≡ b → (if b then Some (greater_of x.generation (greatest (seen ++ old) q)) else greatest (seen ++ old) q) ≡ greatest (seen ++ old) q) [
           | true ↦ λ e. greater_below x.generation (greatest (seen ++ old) q) (ap (λ k. is_above x.generation (greatest (seen ++ old) k)) (same_text q x.name e) ∙ under)
           | false ↦ λ e. refl
@@ -189,6 +190,7 @@ module _ (asked old seen : List Component) (x : Component) (s : SoFar) (is_asked
       let risen : is_among (raised_names old seen) x.name ≡ rose (get s.level.generations x.name) (get prev x.name) =
       names_rose old seen x.name ∙ (ap (λ o. rose o (greatest old x.name)) (sym current) ∙ ap (λ o. rose (get s.level.generations x.name) o) (sym was)) in
       record {
+        other = before.other;
         level = λ q h.
             ap (λ m. get m q) leveled ∙ (get-raised s.level.generations x q
             ∙ (ap (λ b. cond b (Some (greater (get s.level.generations q) x.generation)) (get s.level.generations q)) (ties_same q x.name)

@@ -1,10 +1,11 @@
 -- Words of the steps by which what is named is put into force.
-use Rattle.std.specs.Prelude.{◌≡◌, ℕ, Bool, false, if◌then◌else◌, IsTrue, List, [], ◌∷◌, ◌++◌, Option, Some, None, filter, length, map, nat_lt, reverse}
+use Rattle.std.specs.Prelude.{◌≡◌, ℕ, Bool, true, false, if◌then◌else◌, IsTrue, List, [], ◌∷◌, ◌++◌, Option, Some, None, filter, length, map, nat_lt, reverse}
 use Rattle.std.specs.FinMap.{get}
 use Rattle.std.specs.List.{list_any}
 use Rattle.sbat.specs.declared.component.Component.{Component}
 use Rattle.sbat.specs.Levels.{Generations}
 use Rattle.desk_texts.specs.Imports.{Imported}
+use Rattle.desk_texts.specs.Raising.{names_no_sbat}
 use Rattle.desk_texts.specs.declared.kind.ListedKind.TheVariants as kinds
 use Rattle.desk_texts.specs.declared.proposal.ProposalState.TheVariants as states
 use Rattle.desk_texts.specs.declared.reply.Reply.TheVariants as replies
@@ -55,8 +56,9 @@ abbrev pub HasRows : Generations → List Component → Type 0
 HasRows generations rows = (q : List ℕ) → is_sbat q ≡ false → get generations q ≡ generation_in rows q
 
 -- What the components seen so far, the last first, make of a level that names these: the generations of the names
--- that are asked, how many names were raised, and what is written, which takes no entry off.
+-- that are asked, `sbat` never one of them, how many names were raised, and what is written, which takes no entry off.
 pub record HasTaken (asked old seen : List Component) (s : SoFar) : Type 0 where
+  pub other : names_no_sbat asked ≡ true
   pub level : (q : List ℕ) → IsTrue (is_among (map (λ x. x.name) asked) q) → get s.level.generations q ≡ greatest (seen ++ old) q
   pub count : length (distinct (raised_names old seen)) ≡ s.names
   pub written : (t : Tables) → t.components ≡ level_rows old → all_written s.writes.items t ≡ record t { components = level_rows (seen ++ old) }

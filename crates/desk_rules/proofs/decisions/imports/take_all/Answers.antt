@@ -13,6 +13,7 @@ pub loop-component-init : goal.loop-component-init
 loop-component-init c = record {
   counted = omega arith;
   taken = λ old knows. record {
+    other = c.requires.other;
     level = λ q asked. c.in_ok-level_of.ensures.ok q (no_sbat c.args.components.now c.requires.other q asked) ∙ knows q asked;
     count = refl;
     written = λ t rows. ap (λ ws. all_written ws t) c.new.ensures.items ∙ ap (λ rs. record t { components = rs }) rows;
