@@ -102,6 +102,11 @@ others cs (Some q) state name p is h =
     not_own states.Confirmed own refused e = no_refusal e
     not_own states.Dropped own refused e = no_refusal e
 
+-- and by the second rules alone
+proposed_second : (c : Call) (rules : Rules) (n : Named) → proposed_by (under rules c) ≡ Some n → rules ≡ Second
+proposed_second c First n e = no_some n e
+proposed_second c Second n e = refl
+
 confirming : (cs : History) (c : Call) (k : ℕ) (entries : Imported) → c.command ≡ command.Confirm k → IsNewest cs (item c) → own_refusal cs (caller_name c.caller) (command.Confirm k) ≡ None
     → (o : Option Proposal) → proposal cs k ≡ o → option_map (λ (p : Proposal). p.named.entries) o ≡ Some entries → TwoOfficers cs (item c) entries
 confirming cs c k entries is here own None at e = no_some entries e
@@ -115,6 +120,7 @@ confirming cs c k entries is here own (Some p) at e =
       between = there.between;
       earlier = there.earlier;
       stands = there.stands;
+      second = proposed_second by.call by.rules p.named there.proposes;
       names = proposed_names by.call by.rules p.named there.proposes ∙ ap Some entries_are;
       confirms = is ∙ ap command.Confirm there.number;
       proposer = before.new.allowed;

@@ -17,12 +17,13 @@ abbrev pub Names : Item → Imported → Type 0
 Names i entries = option_map (λ n. n.entries) (named_by i.call.command) ≡ Some entries
 
 -- Two officers put these entries into force: after the calls `earlier` one officer proposed them by a call that names them,
--- and another one, of another name, confirms that proposal now. The roles of both allow it.
+-- judged by the second rules, and another one, of another name, confirms that proposal now. The roles of both allow it.
 pub record TwoOfficers (cs : History) (i : Item) (entries : Imported) : Type 0 where
   pub proposing : Item
   pub between : History
   pub earlier : History
   pub stands : cs ≡ between ++ proposing ∷ earlier
+  pub second : proposing.rules ≡ Second
   pub names : Names proposing entries
   pub confirms : i.call.command ≡ command.Confirm (length (proposals earlier) + 1)
   pub proposer : IsTrue (may_give earlier proposing.call.caller proposing.call.command)
