@@ -44,7 +44,7 @@ distinct_fewer (t ∷ ts) =
     let rest : length (distinct ts) ≤ length ts = distinct_fewer ts in
     elim (is_among ts t) as (λ b. length (if b then distinct ts else t ∷ distinct ts) ≤ length (t ∷ ts)) [ true ↦ omega arith | false ↦ omega arith ]
 
-filter_fewer : {X : Type 0} (p : X → Bool) (xs : List X) → length (filter p xs) ≤ length xs
+pub filter_fewer : {X : Type 0} (p : X → Bool) (xs : List X) → length (filter p xs) ≤ length xs
 filter_fewer p [] = omega arith
 filter_fewer p (x ∷ xs) =
     let rest : length (filter p xs) ≤ length xs = filter_fewer p xs in
@@ -111,7 +111,7 @@ minute_readable : (cs : History) (i : Item) → IsHistory (i ∷ cs) → IsReada
 minute_readable cs i h =
     let here = All-head IsItem i cs h.formed in
     let before = history_rest cs i h in
-    let few = enforced_few cs i.call i.rules before.formed here.limits in
+    let few = enforced_few cs i.call i.rules before.formed here in
     record {
       caller = here.caller;
       told = newest_told cs i h.legal;

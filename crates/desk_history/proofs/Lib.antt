@@ -13,6 +13,7 @@ pub mod ProposalRowLemmas
 pub mod RefusalLemmas
 pub mod RequestLemmas
 pub mod RequestRowLemmas
+pub mod RevocationLemmas
 pub mod RowLemmas
 pub mod RunLemmas
 pub mod SeriesLemmas

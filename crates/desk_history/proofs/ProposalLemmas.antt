@@ -4,7 +4,8 @@ use Rattle.std.specs.Prelude.{◌==◌, if◌then◌else◌, find, option_map}
 use Rattle.std.specs.List.{list_any}
 use Rattle.std.proofs.lemmas.List.Elements.{All-cons, All-head, All-nil, All-tail}
 use Rattle.desk_texts.specs.Callers.{caller_name}
-use Rattle.desk_texts.specs.Formed.{IsWithin}
+use Rattle.desk_texts.specs.Commands.{IsCommand}
+use Rattle.desk_texts.specs.Formed.{IsCall, IsWithin}
 use Rattle.desk_texts.specs.Forms.{most_imported}
 use Rattle.desk_texts.specs.Imports.{Imported, named_count}
 use Rattle.desk_texts.specs.declared.command.Call.{Call}
@@ -48,22 +49,25 @@ module _ (at : Proposal → ProposalState) where
 
 -- ---- what they name
 
--- the proposal names what its command names, which keeps within its limits
+-- the proposal names what its command names, which is in its forms and keeps within its limits
 pub record IsProposed (p : Proposal) : Type 0 where
   pub names : named_by p.command ≡ Some p.named
+  pub forms : IsCommand p.command
   pub limits : IsWithin p.command
 
-one_proposed : (ps : List Proposal) (c : Call) (rules : Rules) → IsWithin c.command → All IsProposed ps → All IsProposed (with_next ps c (proposed_by (under rules c)))
-one_proposed ps c First w h = h
-one_proposed ps c Second w h =
+one_proposed : (ps : List Proposal) (c : Call) (rules : Rules) → IsCommand c.command → IsWithin c.command → All IsProposed ps → All IsProposed (with_next ps c (proposed_by (under rules c)))
+one_proposed ps c First f w h = h
+one_proposed ps c Second f w h =
     elim (named_by c.command) as (λ o. named_by c.command ≡ o → All IsProposed (with_next ps c o)) [
       | None ↦ λ e. h
-      | Some named ↦ λ e. All-cons IsProposed (record { number = length ps + 1; officer = caller_name c.caller; command = c.command; named = named }) ps (record { names = e; limits = w }) h
+      | Some named ↦ λ e. All-cons IsProposed (record { number = length ps + 1; officer = caller_name c.caller; command = c.command; named = named }) ps (record { names = e; forms = f; limits = w }) h
     ] refl
 
 pub all_proposed : (cs : History) → All IsItem cs → All IsProposed (proposals cs)
 all_proposed [] h = All-nil IsProposed
-all_proposed (i ∷ cs) h = one_proposed (proposals cs) i.call i.rules (All-head IsItem i cs h).limits (all_proposed cs (All-tail IsItem i cs h))
+all_proposed (i ∷ cs) h =
+    let here = All-head IsItem i cs h in
+    one_proposed (proposals cs) i.call i.rules here.forms here.limits (all_proposed cs (All-tail IsItem i cs h))
 
 -- what is found is one of them
 found_all : {X : Type 0} (P : X → Type 0) (p : X → Bool) (xs : List X) → All P xs → IfSome (find p xs) P
@@ -98,31 +102,37 @@ all_named (i ∷ cs) = one_named (proposals cs) i.call i.rules (all_named cs)
 pub found_named : (cs : History) (k : ℕ) → IfSome (proposal cs k) HasNames
 found_named cs k = found_all HasNames (is_proposal k) (proposals cs) (all_named cs)
 
--- ---- how much they name
-
-abbrev pub AreFew : Imported → Type 0
-AreFew i = named_count i.passed i.digests i.certificates i.components ≤ most_imported
+-- ---- what is put into force
 
 -- the entries that a command names
 abbrev pub entries_of : Option Named → Option Imported
 entries_of o = option_map (λ n. n.entries) o
 
-named_few : (c : Command) → IsWithin c → IfSome (entries_of (named_by c)) AreFew
-named_few (command.RevokeDigest d) w = omega arith
-named_few (command.RevokeCertificate d) w = omega arith
-named_few (command.RaiseLevel r) w = omega arith
-named_few (command.ImportRevocations i) w = w.entries
-named_few _ w = tt
+-- what holds of all that a command in its forms names
+module _ (P : Imported → Type 0) (names_so : (c : Command) → IsCommand c → IsWithin c → IfSome (entries_of (named_by c)) P) where
+  proposed_so : (o : Option Proposal) → IfSome o IsProposed → IfSome (option_map (λ (p : Proposal). p.named.entries) o) P
+  proposed_so None h = tt
+  proposed_so (Some p) h = subst (λ o. IfSome (entries_of o) P) h.names (names_so p.command h.forms h.limits)
 
-proposed_few : (o : Option Proposal) → IfSome o IsProposed → IfSome (option_map (λ (p : Proposal). p.named.entries) o) AreFew
-proposed_few None h = tt
-proposed_few (Some p) h = subst (λ o. IfSome (entries_of o) AreFew) h.names (named_few p.command h.limits)
+  confirmed_so : (cs : History) (c : Command) → All IsItem cs → IfSome (confirmed_by cs c) P
+  confirmed_so cs (command.Confirm k) h = proposed_so (proposal cs k) (found_proposed cs k h)
+  confirmed_so cs _ h = tt
 
-confirmed_few : (cs : History) (c : Command) → All IsItem cs → IfSome (confirmed_by cs c) AreFew
-confirmed_few cs (command.Confirm k) h = proposed_few (proposal cs k) (found_proposed cs k h)
-confirmed_few cs _ h = tt
+  -- holds of all that a call in its forms puts into force
+  pub enforced_so : (cs : History) (c : Call) (rules : Rules) → All IsItem cs → IsCall c → IfSome (enforced_by cs (under rules c)) P
+  enforced_so cs c First h given = names_so c.command given.forms given.limits
+  enforced_so cs c Second h given = confirmed_so cs c.command h
+
+abbrev pub AreFew : Imported → Type 0
+AreFew i = named_count i.passed i.digests i.certificates i.components ≤ most_imported
+
+named_few : (c : Command) → IsCommand c → IsWithin c → IfSome (entries_of (named_by c)) AreFew
+named_few (command.RevokeDigest d) f w = omega arith
+named_few (command.RevokeCertificate d) f w = omega arith
+named_few (command.RaiseLevel r) f w = omega arith
+named_few (command.ImportRevocations i) f w = w.entries
+named_few _ f w = tt
 
 -- what a call in its forms puts into force is no more than an import may name
-pub enforced_few : (cs : History) (c : Call) (rules : Rules) → All IsItem cs → IsWithin c.command → IfSome (enforced_by cs (under rules c)) AreFew
-enforced_few cs c First h w = named_few c.command w
-enforced_few cs c Second h w = confirmed_few cs c.command h
+pub enforced_few : (cs : History) (c : Call) (rules : Rules) → All IsItem cs → IsCall c → IfSome (enforced_by cs (under rules c)) AreFew
+enforced_few cs c rules h given = enforced_so AreFew named_few cs c rules h given

@@ -154,7 +154,7 @@ any_level : (named : List Component) (t : List ℕ) (ts : List (List ℕ)) → l
 any_level named t [] = refl
 any_level named t (u ∷ ts) = ap (λ b. bytes_eq t u || b) (any_level named t ts)
 
-level_apart : (named : List Component) (ts : List (List ℕ)) → are_apart bytes_eq ts ≡ true → are_apart (λ (a b : Component). bytes_eq a.name b.name) (map (level_row named) ts) ≡ true
+pub level_apart : (named : List Component) (ts : List (List ℕ)) → are_apart bytes_eq ts ≡ true → are_apart (λ (a b : Component). bytes_eq a.name b.name) (map (level_row named) ts) ≡ true
 level_apart named [] h = refl
 level_apart named (t ∷ ts) h =
     let both : (not (list_any (bytes_eq t) ts) ≡ true) × (are_apart bytes_eq ts ≡ true) = and_parts (not (list_any (bytes_eq t) ts)) (are_apart bytes_eq ts) h in
