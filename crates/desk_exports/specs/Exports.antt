@@ -2,7 +2,7 @@
 -- level (shim's SBAT.md), and the minutes.
 use Rattle.std.specs.Prelude.{ℕ, List, ◌++◌, codes, decimal, filter, flat_map, map, reverse}
 use Rattle.sbat.specs.declared.component.Component.{Component}
-use Rattle.sbat.specs.Writing.{head_text, rows_text}
+use Rattle.sbat.specs.Writing.{level_lines}
 use Rattle.siglist.specs.SignatureLists.{SignatureList, spelling}
 use Rattle.siglist.specs.Writing.{sha256_row, x509_row, x509_sha256_row}
 use Rattle.desk_texts.specs.declared.kind.ListedKind.{ListedKind}
@@ -53,7 +53,7 @@ level_components cs = ascending_by (λ (x : Component). x.name) (level_rows (gen
 
 -- the text of the level: its stamp, and a line for each of these components
 abbrev pub level : History → List ℕ
-level cs = head_text (stamp cs) ++ rows_text (map (λ x. (x.name, x.generation)) (level_components cs))
+level cs = level_lines (stamp cs) (map (λ x. (x.name, x.generation)) (level_components cs))
 
 -- own: a line of the minutes: number, caller, key, text and reply, parted by tabs
 abbrev pub minute_line : Minute → List ℕ

@@ -16,6 +16,10 @@ abbrev pub rows_text : List (List ℕ × ℕ) → List ℕ
 rows_text [] = []
 rows_text (e ∷ es) = row_text e.0 e.1 ++ rows_text es
 
--- own: the first line, and a line for each name, ascending by the names' bytes
+-- own: the first line, and a line for each of these names with its generation, in their order
+abbrev pub level_lines : ℕ → List (List ℕ × ℕ) → List ℕ
+level_lines stamp named = head_text stamp ++ rows_text named
+
+-- own: the lines of a level, ascending by the names' bytes
 abbrev pub level_text : Stamped → List ℕ
-level_text l = head_text l.stamp ++ rows_text (entries l.generations)
+level_text l = level_lines l.stamp (entries l.generations)
