@@ -4,7 +4,7 @@ use Rattle.std.proofs.lemmas.List.Concat.{flat_map-append}
 use Rattle.std.specs.List.{flat_map}
 use Rattle.sbat.specs.declared.component.Component.{Component}
 use Rattle.sbat.specs.Writing.{row_text, rows_text}
-use Rattle.siglist.specs.SignatureLists.{SignatureList, list_bytes, spelling}
+use Rattle.siglist.specs.SignatureLists.{list_bytes, spelling}
 use Rattle.siglist.specs.Writing.{sha256_parts, sha256_row, x509_row, x509_sha256_parts, x509_sha256_row}
 use Rattle.siglist.proofs.WritingLemmas.{sha256_row-parts, x509_sha256_row-parts}
 use Rattle.desk_history.specs.declared.rows.Entry.{Entry}

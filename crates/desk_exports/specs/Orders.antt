@@ -1,5 +1,6 @@
 -- The order of exports.
 use Rattle.std.specs.Prelude.{ℕ, Bool, if◌then◌else◌, List, [], ◌∷◌}
+use Rattle.std.specs.List.Sorted.{IsPermutation, IsStrictlySortedBy}
 use Rattle.std.specs.Ordering.{is_le, nat_cmp}
 use Rattle.std.specs.Cmp.Lexicographic.{slice_cmp}
 
@@ -20,3 +21,8 @@ ascending_by key (x ∷ xs) = in_place key x (ascending_by key xs)
 -- texts in ascending order
 abbrev pub ascending : List (List ℕ) → List (List ℕ)
 ascending texts = ascending_by (λ text. text) texts
+
+-- The second list has the items of the first, and its keys ascend by bytes, each once.
+pub record IsInOrder {X : Type 0} (key : X → List ℕ) (xs ys : List X) : Type 0 where
+  pub ascends : IsStrictlySortedBy (λ x y. slice_cmp nat_cmp (key x) (key y)) ys
+  pub same : IsPermutation xs ys

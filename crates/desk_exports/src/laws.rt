@@ -1,13 +1,19 @@
 //! Laws of the exports, and worked ones: each clause of these is what the definitions give for one.
-ghost use Rattle.std.specs.Prelude.{◌≡◌, ◌++◌, ℕ, List, map};
+ghost use Rattle.std.specs.Prelude.{◌≡◌, ◌++◌, ℕ, List, filter, length, map};
 ghost use Rattle.std.specs.List.{flat_map};
 ghost use Rattle.sbat.specs.Writing.{head_text, row_text};
-ghost use Rattle.siglist.specs.SignatureLists.{spelling};
+ghost use Rattle.siglist.specs.SignatureLists.{Spells, spelling};
 ghost use Rattle.siglist.specs.Writing.{sha256_parts, x509_row, x509_sha256_parts};
+ghost use Rattle.desk_texts.specs.declared.kind.ListedKind.{ListedKind};
 ghost use Rattle.desk_texts.specs.declared.kind.ListedKind.TheVariants as kinds;
-ghost use Rattle.desk_history.specs.Calls.{History};
-ghost use Rattle.desk_history.specs.Level.{stamp};
-ghost use Rattle.desk_exports.specs.Exports.{db, dbx, entries_of, level, level_components, revoked};
+ghost use Rattle.desk_history.specs.Calls.{History, distinct, is_among, is_same_kind};
+ghost use Rattle.desk_history.specs.Formed.{IsHistory};
+ghost use Rattle.desk_history.specs.Level.{generations, stamp};
+ghost use Rattle.desk_history.specs.Listing.{listed};
+ghost use Rattle.desk_history.specs.Revocations.{is_revoked, revocations};
+ghost use Rattle.desk_history.specs.Tables.{level_rows};
+ghost use Rattle.desk_exports.specs.Exports.{db, db_lists, dbx, dbx_lists, entries_of, level, level_components, revoked};
+ghost use Rattle.desk_exports.specs.Orders.{IsInOrder};
 ghost use Rattle.desk_exports.specs.Worked as worked;
 
 /// An export is its parts, one after another: of dbx a head and its entries for each kind that is revoked, of db those
@@ -23,6 +29,29 @@ pub fn exports_are_their_parts()
     ensures level { (cs : History) → level cs
         ≡ head_text (stamp cs)
         ++ flat_map (λ x. row_text x.name x.generation) (level_components cs) }
+{}
+
+/// Of a desk's history and an owner of 16 bytes, the bytes of dbx spell the lists of dbx, and those of db the lists
+/// of db (UEFI 2.10, section 32.4.1): each size fits its field, and the bytes spell no other lists.
+pub fn exports_are_spelt()
+    ensures dbx { (owner : List ℕ) (cs : History) → length owner ≡ 16 → IsHistory cs
+        → Spells (dbx_lists owner cs) (dbx owner cs) }
+    ensures db { (owner : List ℕ) (cs : History) → length owner ≡ 16 → IsHistory cs
+        → Spells (db_lists owner cs) (db owner cs) }
+{}
+
+/// Each export has the items that it is of, in the order of their keys, each key once: dbx the digests of each kind that
+/// are revoked, all of them and no other; db the entries of each kind that are listed, by their digests; the level its
+/// components, by their names.
+pub fn exports_are_in_order()
+    ensures dbx { (kind : ListedKind) (cs : History)
+        → IsInOrder (λ digest. digest) (distinct (revocations kind cs)) (revoked kind cs) }
+    ensures all { (kind : ListedKind) (cs : History) (digest : List ℕ)
+        → is_among (revoked kind cs) digest ≡ is_revoked kind cs digest }
+    ensures db { (kind : ListedKind) (cs : History) → IsInOrder (λ e. e.digest)
+        (filter (λ e. is_same_kind kind e.kind) (listed cs)) (entries_of kind cs) }
+    ensures level { (cs : History)
+        → IsInOrder (λ x. x.name) (level_rows (generations cs)) (level_components cs) }
 {}
 
 /// Exports of worked histories are those that were written down by hand.

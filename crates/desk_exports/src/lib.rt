@@ -6,4 +6,6 @@ mod export;
 mod laws;
 
 pub use export::Export;
-pub use laws::{exports_are_their_parts, exports_are_written};
+pub use laws::{
+    exports_are_in_order, exports_are_spelt, exports_are_their_parts, exports_are_written,
+};
