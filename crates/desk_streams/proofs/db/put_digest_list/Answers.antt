@@ -12,7 +12,8 @@ use Rattle.desk_streams.specs.Exporting.{Exports}
 use Rattle.desk_reads.specs.declared.counts.Counted.TheVariants as what
 use Rattle.desk_streams.proofs.CountedLemmas.{empty, head_stopped, whole}
 use Rattle.desk_streams.proofs.StepLemmas.{same_bytes}
-use Rattle.desk_streams.proofs.PartLemmas.{length_ascending, sha256-none, sha256-some}
+use Rattle.desk_exports.proofs.OrderLemmas.{length_ascending}
+use Rattle.desk_streams.proofs.PartLemmas.{sha256-none, sha256-some}
 use Rattle.desk_streams.proofs.db.put_digest_list.Goals as goal
 
 sized : (cs : History) → count_by (λ e. is_same_kind kinds.Digest e.kind) (listed cs) ≡ length (map (λ e. e.digest) (entries_of kinds.Digest cs))

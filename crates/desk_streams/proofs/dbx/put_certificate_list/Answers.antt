@@ -8,7 +8,8 @@ use Rattle.desk_exports.specs.Exports.{revoked}
 use Rattle.desk_streams.specs.Exporting.{Exports}
 use Rattle.desk_reads.specs.declared.counts.Counted.TheVariants as what
 use Rattle.desk_streams.proofs.CountedLemmas.{head_stopped, whole}
-use Rattle.desk_streams.proofs.PartLemmas.{length_ascending, x509-none, x509-some}
+use Rattle.desk_exports.proofs.OrderLemmas.{length_ascending}
+use Rattle.desk_streams.proofs.PartLemmas.{x509-none, x509-some}
 use Rattle.desk_streams.proofs.dbx.put_certificate_list.Goals as goal
 
 pub returns-in_err-x509_sha256_head : goal.returns-in_err-x509_sha256_head

@@ -10,7 +10,8 @@ use Rattle.desk_streams.specs.Exporting.{Exports}
 use Rattle.desk_reads.specs.declared.counts.Counted.TheVariants as what
 use Rattle.desk_bytes.proofs.OutputLemmas.{AppendsBeginning-none}
 use Rattle.desk_streams.proofs.CountedLemmas.{head_stopped, whole}
-use Rattle.desk_streams.proofs.PartLemmas.{length_ascending, sha256-none, sha256-some}
+use Rattle.desk_exports.proofs.OrderLemmas.{length_ascending}
+use Rattle.desk_streams.proofs.PartLemmas.{sha256-none, sha256-some}
 use Rattle.desk_streams.proofs.StepLemmas.{stopped_read}
 use Rattle.desk_streams.proofs.dbx.put_digest_list.Goals as goal
 
