@@ -6,6 +6,7 @@ mod fault;
 mod field;
 mod front;
 mod header;
+mod input;
 mod laws;
 mod layout_reading;
 mod listing;
@@ -23,6 +24,7 @@ mod spans;
 mod start;
 
 pub use fault::LayoutFault;
+pub use input::Input;
 pub use laws::{hashes_all_else, no_slice_fails, none_fails_where_laid, sections_are_in_order};
 pub use layout_reading::layout;
 pub use listing::ranges;

@@ -1,11 +1,12 @@
 //! A source in memory, kept in pieces.
-ghost use Rattle.std.specs.Prelude.{◌≡◌, ◌+◌, ◌*◌, ◌<◌, ◌≤◌, ◌++◌, ℕ, List, All, length, slice_range, take, IfOk, OnOk, OnErr};
+ghost use Rattle.std.specs.Prelude.{◌≡◌, ◌+◌, ◌*◌, ◌<◌, ◌≤◌, ◌++◌, ℕ, List, All, length, slice_range, take, IfOk, IsErrOf, OnOk, OnErr};
 ghost use Rattle.std.specs.Io.KnownBytes.{Consumes, IsAtEnd};
 ghost use Rattle.std.specs.List.{flat_map};
 ghost use Rattle.pe_image.specs.Pieces.{refusal_of};
 ghost use Rattle.pe_image.specs.Sources.{HaveRisen, OnlyReads};
 ghost use Rattle.pe_image.specs.declared.pieces.TheConstants.{PIECE};
 
+use crate::input::Input;
 use crate::source::{ReadFailed, Source};
 use desk_bytes::Refusal;
 use std::alloc::Global;
@@ -59,17 +60,19 @@ impl Model for Pieces {
 }
 
 /// Reads until the slice is full or the input ends, and says how many bytes came.
-fn fill<R: Read>(reader: &mut R, out: &mut [u8]) -> Result<usize, PiecesFault>
+fn fill<I: Input>(input: &mut I, out: &mut [u8]) -> Result<usize, PiecesFault>
     ensures ok { IfOk result (λ count.
-        Consumes (R.remaining reader.old) (R.remaining reader.new) (take count out.new)) }
+        Consumes (I.remaining input.old) (I.remaining input.new) (take count out.new)) }
     ensures bound { IfOk result (λ count. count ≤ length out.old) }
     ensures end { IfOk result (λ count. count < length out.old
-        → IsAtEnd (R.remaining reader.new)) }
+        → IsAtEnd (I.remaining input.new)) }
     ensures len { length out.new ≡ length out.old }
+
+    ensures device { IsErrOf result PiecesFault.Read → I.failed input.new }
 {
     let mut count = 0;
     while count < out.len() {
-        match reader.read(&mut out[count..]) {
+        match input.read_once(&mut out[count..]) {
             Err(_) => return Err(PiecesFault::Read),
             Ok(0) => return Ok(count),
             Ok(more) => count += more,
@@ -79,37 +82,43 @@ fn fill<R: Read>(reader: &mut R, out: &mut [u8]) -> Result<usize, PiecesFault>
 }
 
 /// Reads so many bytes, or fewer where the input ends.
-fn read_piece<R: Read>(alloc: Global, reader: &mut R, most: usize) -> Result<Vec<u8>, PiecesFault>
+fn read_piece<I: Input>(alloc: Global, input: &mut I, most: usize) -> Result<Vec<u8>, PiecesFault>
     ensures ok { IfOk result (λ piece.
-        Consumes (R.remaining reader.old) (R.remaining reader.new) piece.items) }
+        Consumes (I.remaining input.old) (I.remaining input.new) piece.items) }
     ensures bound { IfOk result (λ piece. length piece.items ≤ most) }
     ensures end { IfOk result (λ piece. length piece.items < most
-        → IsAtEnd (R.remaining reader.new)) }
+        → IsAtEnd (I.remaining input.new)) }
+
+    ensures device { IsErrOf result PiecesFault.Read → I.failed input.new }
 {
     let Ok(mut piece) = vec![in alloc; 0u8; most] else {
         return Err(PiecesFault::NoMemory);
     };
-    let count = fill(reader, &mut piece)?;
+    let count = fill(input, &mut piece)?;
     piece.truncate(count);
     Ok(piece)
 }
 
 impl Pieces {
-    /// Reads until `most` bytes came or the input ended, and asks for no byte more. An interrupted
-    /// read is a fault: none is tried again. Takes memory for what it reads, in pieces of 65,536
-    /// bytes.
-    pub fn take<R: Read>(alloc: Global, reader: &mut R, most: u64) -> Result<Pieces, PiecesFault>
+    /// Takes what `take` does, from any input. Read only where a read of the input has just failed.
+    pub fn take_from<I: Input>(
+        alloc: Global,
+        input: &mut I,
+        most: u64,
+    ) -> Result<Pieces, PiecesFault>
         ensures whole { IfOk result (λ bytes.
-            Consumes (R.remaining reader.old) (R.remaining reader.new) bytes) }
+            Consumes (I.remaining input.old) (I.remaining input.new) bytes) }
         ensures bound { IfOk result (λ bytes. length bytes ≤ most) }
         ensures end { IfOk result (λ bytes. length bytes < most
-            → IsAtEnd (R.remaining reader.new)) }
+            → IsAtEnd (I.remaining input.new)) }
+
+        ensures device { IsErrOf result PiecesFault.Read → I.failed input.new }
     {
         let mut full: Vec<Vec<u8>> = Vec::new(alloc);
         let mut size = 0;
         loop {
             let room = (most - size).min(PIECE as u64) as usize;
-            let piece = read_piece(alloc, reader, room)?;
+            let piece = read_piece(alloc, input, room)?;
             size += piece.len() as u64;
             if piece.len() < PIECE {
                 return Ok(Pieces {
@@ -122,6 +131,19 @@ impl Pieces {
                 return Err(PiecesFault::NoMemory);
             }
         }
+    }
+
+    /// Reads until `most` bytes came or the input ended, and asks for no byte more. An interrupted
+    /// read is a fault: none is tried again. Takes memory for what it reads, in pieces of 65,536
+    /// bytes.
+    pub fn take<R: Read>(alloc: Global, reader: &mut R, most: u64) -> Result<Pieces, PiecesFault>
+        ensures whole { IfOk result (λ bytes.
+            Consumes (R.remaining reader.old) (R.remaining reader.new) bytes) }
+        ensures bound { IfOk result (λ bytes. length bytes ≤ most) }
+        ensures end { IfOk result (λ bytes. length bytes < most
+            → IsAtEnd (R.remaining reader.new)) }
+    {
+        Pieces::take_from(alloc, reader, most)
     }
 
     /// The bytes from a place up to the end of its piece.

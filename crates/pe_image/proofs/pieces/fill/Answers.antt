@@ -10,7 +10,7 @@ loop-count-preserved g c =
     let count = c.loop-count.count in
     let out = c.loop-count.out in
     let front = length-take-le count out c.loop-count.invariant.bound in
-    let read = take-behind (take count out) c.read.new.buf _ count c.in-Ok.more front c.in-Ok.ensures.bound.0 in
+    let read = take-behind (take count out) c.read_once.new.buf _ count c.in-Ok.more front c.in-Ok.ensures.bound.0 in
     record {
       bound = search (rules, places);
       size = search (rules, places);
