@@ -1,8 +1,11 @@
 -- The first line of a text that comes byte by byte.
-use Rattle.std.proofs.Common.{◌≡◌, ◌∙◌, ℕ, zero, suc, ◌<◌, eqb, false, List, [], ◌∷◌, ◌++◌, length, get_or, Option, None, Some, IfSome, sym, ap, subst, inl, inr, arith, append-nil, append_assoc}
+use Rattle.std.proofs.Common.{◌≡◌, ◌∙◌, ℕ, zero, suc, ◌<◌, ◌≤◌, eqb, false, List, [], ◌∷◌, ◌++◌, length, get_or, Option, None, Some, IfSome, sym, ap, subst, inl, inr, refl, arith, append-nil, append_assoc}
 use Rattle.std.specs.Io.KnownBytes.{Consumes, IsAtEnd}
+use Rattle.std.specs.List.{onto_first}
+use Rattle.std.proofs.lemmas.Grind.{common_steps}
 use Rattle.desk_bytes.proofs.LineLemmas.{HasNoLf, lines_of-crlf, lines_of-last, lines_of-lf}
-use Rattle.desk_service.specs.Tokens.{IsTextOf, first_line, first_of}
+use Rattle.desk_bytes.specs.Lines.{lines_of}
+use Rattle.desk_service.specs.Tokens.{IsTextOf, PassesTokens, first_line, first_of}
 
 HasNoLf-tail : (b : ℕ) (bs : List ℕ) → HasNoLf (b ∷ bs) → HasNoLf bs
 HasNoLf-tail b bs h = record { at = λ k l. h.at (suc k) (omega arith) }
@@ -49,3 +52,31 @@ first_line-last (Some given) (Some left) None line before end h = absurd end.0
 first_line-last (Some given) (Some left) (Some rest) line before end h =
     let whole : given ≡ line = before ∙ ap (λ l. line ++ l) (end.0 ∙ end.1) ∙ append-nil line in
     sym (ap first_line whole ∙ ap first_of (lines_of-last line h))
+
+-- a byte in front makes the first line longer by one
+length-onto : (b : ℕ) (lines : List (List ℕ)) → length (first_of (onto_first b lines)) ≡ suc (length (first_of lines))
+length-onto b [] = refl
+length-onto b (line ∷ lines) = refl
+
+-- two bytes that are no LF: the first of them belongs to the first line, as the second is no LF behind a CR
+lines_of-onto : (b c : ℕ) (text : List ℕ) → eqb b 10 ≡ false → eqb c 10 ≡ false → lines_of (b ∷ c ∷ text) ≡ onto_first b (lines_of (c ∷ text))
+lines_of-onto b c text first next = grind (arith, common_steps, first, next)
+
+-- bytes without an LF are of the first line, but for a CR that is the last of them
+length-first_line : (line rest : List ℕ) → HasNoLf line → length line ≤ suc (length (first_line (line ++ rest)))
+length-first_line [] rest h = omega arith
+length-first_line (b ∷ []) rest h = omega arith
+length-first_line (b ∷ c ∷ bs) rest h =
+    let tail = length-first_line (c ∷ bs) rest (HasNoLf-tail b (c ∷ bs) h) in
+    let onto = lines_of-onto b c (bs ++ rest) (h.at 0 (omega arith)) (h.at 1 (omega arith)) in
+    let longer = ap (λ lines. length (first_of lines)) onto ∙ length-onto b (lines_of (c ∷ (bs ++ rest))) in
+    omega arith
+
+-- so a text that begins with 130 of them has a line that passes tokens
+pub PassesTokens-read : (a b : Option (List ℕ)) (line : List ℕ) → Consumes a b line → HasNoLf line → 130 ≤ length line → IfSome a PassesTokens
+PassesTokens-read None b line read h size = tt
+PassesTokens-read (Some given) None line read h size = absurd read
+PassesTokens-read (Some given) (Some rest) line read h size =
+    let long = length-first_line line rest h in
+    let same = ap (λ text. length (first_line text)) read in
+    omega arith

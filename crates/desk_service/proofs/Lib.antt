@@ -1,2 +1,3 @@
 pub mod FirstLineLemmas
 pub mod PlacesLemmas
+pub mod TokenLemmas

@@ -1,5 +1,5 @@
 -- Tokens, by which people are known over HTTP.
-use Rattle.std.specs.Prelude.{◌≡◌, ◌⊎◌, ℕ, ◌+◌, ◌==◌, ◌&&◌, Bool, false, nat_le, length, if◌then◌else◌}
+use Rattle.std.specs.Prelude.{◌≡◌, ◌⊎◌, ℕ, ◌+◌, ◌<◌, ◌==◌, ◌&&◌, Bool, false, nat_le, length, if◌then◌else◌}
 use Rattle.std.specs.Prelude.{List, [], ◌∷◌, ◌++◌, Option, Some, None, slice_index}
 use Rattle.std.specs.List.{list_all}
 use Rattle.sha2.specs.Sha256.{sha256}
@@ -35,6 +35,14 @@ first_of (line ∷ lines) = line
 -- the first line of a text, empty or not
 abbrev pub first_line : List ℕ → List ℕ
 first_line text = first_of (lines_of text)
+
+-- the first line of a text is no token
+abbrev pub HasNoToken : List ℕ → Type 0
+HasNoToken text = is_token (first_line text) ≡ false
+
+-- it has more bytes than any token
+abbrev pub PassesTokens : List ℕ → Type 0
+PassesTokens text = longest_token < length (first_line text)
 
 -- own: what is kept of a line that is a token: its SHA-256 (FIPS 180-4)
 abbrev pub kept_of : List ℕ → Option (List ℕ)

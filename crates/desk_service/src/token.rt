@@ -1,5 +1,5 @@
 //! Tokens of people.
-ghost use Rattle.std.specs.Prelude.{◌≡◌, ◌<◌, ◌-◌, [], ◌∷◌, IfNone, IfOk, IfSome, IsTrue, false};
+ghost use Rattle.std.specs.Prelude.{◌≡◌, ◌<◌, ◌-◌, [], ◌∷◌, IfNone, IfOk, IfSome, IsErrOf, IsTrue, false};
 ghost use Rattle.std.specs.Prelude.{length, slice_index};
 ghost use Rattle.std.specs.Io.KnownBytes.{Consumes, IsAtEnd};
 ghost use Rattle.std.specs.List.{list_all};
@@ -72,6 +72,8 @@ fn next_byte<R: Read>(reader: &mut R) -> Result<Option<u8>, InputFault>
     ensures end { IfOk result (λ found. IfNone found
         (Consumes (R.remaining reader.old) (R.remaining reader.new) []
         × IsAtEnd (R.remaining reader.new))) }
+
+    ensures short { IsErrOf result InputFault.TooLong → ⊥ }
 {
     let mut byte = [0; 1];
     match reader.read(&mut byte) {
@@ -85,8 +87,11 @@ fn next_byte<R: Read>(reader: &mut R) -> Result<Option<u8>, InputFault>
 /// CR before it along; so does the end of the input, which takes none. TooLong where the line can't be a
 /// token for its length.
 fn read_first_line<R: Read>(alloc: Global, reader: &mut R) -> Result<Vec<u8>, InputFault>
-    ensures { IfOk result (λ line. IfSome (R.remaining reader.old)
+    ensures line { IfOk result (λ line. IfSome (R.remaining reader.old)
         (λ given. line.items ≡ spec.first_line given)) }
+
+    ensures long { IsErrOf result InputFault.TooLong
+        → IfSome (R.remaining reader.old) spec.PassesTokens }
 {
     let mut line = Vec::new(alloc);
     while line.len() < MOST_READ {
@@ -111,6 +116,9 @@ fn read_first_line<R: Read>(alloc: Global, reader: &mut R) -> Result<Vec<u8>, In
 pub fn read_token<R: Read>(alloc: Global, reader: &mut R) -> Result<Option<Digest>, InputFault>
     ensures exact { IfOk result (λ kept. IfSome (R.remaining reader.old)
         (λ given. kept ≡ spec.token_in given)) }
+
+    ensures long { IsErrOf result InputFault.TooLong
+        → IfSome (R.remaining reader.old) spec.PassesTokens }
 {
     let line = read_first_line(alloc, reader)?;
     if is_token(&line) {
