@@ -2,7 +2,7 @@
 use Rattle.std.specs.Prelude.{◌≡◌, ◌≢◌, ◌⊎◌, ℕ, false, true, List, Option, Some, IfSome}
 use Rattle.desk_bytes.specs.declared.refusal.Refusal.TheVariants as refusals
 use Rattle.desk_lines.specs.Faults.{row_of}
-use Rattle.desk_service.specs.Tokens.{token_in}
+use Rattle.desk_service.specs.Tokens.{HasNoToken, token_in}
 use Rattle.desk_texts.specs.Forms.{is_key, is_person_name}
 use Rattle.desk_texts.specs.Words.{role_text}
 use Rattle.desk_texts.specs.declared.command.Person.{Person}
@@ -21,21 +21,21 @@ module _ (name role key : List ℕ) where
   abbrev pub AreRight : Type 0
   AreRight = (is_person_name name ≡ true) × IsRole role × (is_key key ≡ true)
 
-  -- own: the words are looked at in their order, and then the token
-  abbrev pub IsFirstWrong : Word → Type 0
-  IsFirstWrong word.Owner = ⊥
-  IsFirstWrong word.Name = is_person_name name ≡ false
-  IsFirstWrong word.Role = (is_person_name name ≡ true) × ((r : Role) → role ≢ role_text r)
-  IsFirstWrong word.Key = (is_person_name name ≡ true) × IsRole role × (is_key key ≡ false)
-  IsFirstWrong word.Token = AreRight
-  IsFirstWrong word.Port = ⊥
-  IsFirstWrong word.Count = ⊥
+  -- own: the words are looked at in their order, and then the token, which is the first line that the input gives
+  abbrev pub IsFirstWrong : Option (List ℕ) → Word → Type 0
+  IsFirstWrong given word.Owner = ⊥
+  IsFirstWrong given word.Name = is_person_name name ≡ false
+  IsFirstWrong given word.Role = (is_person_name name ≡ true) × ((r : Role) → role ≢ role_text r)
+  IsFirstWrong given word.Key = (is_person_name name ≡ true) × IsRole role × (is_key key ≡ false)
+  IsFirstWrong given word.Token = AreRight × IfSome given HasNoToken
+  IsFirstWrong given word.Port = ⊥
+  IsFirstWrong given word.Count = ⊥
 
   -- own: the first word that is out of its form stops the subcommand, or want of memory, or a read that fails
   -- behind right words
-  abbrev pub StopsFirst : Stop → Type 0
-  StopsFirst (stops.Word w) = IsFirstWrong w
-  StopsFirst (stops.Fault fault) = (fault ≡ row_of refusals.NoMemory) ⊎ ((fault ≡ row_of refusals.Read) × AreRight)
+  abbrev pub StopsFirst : Option (List ℕ) → Stop → Type 0
+  StopsFirst given (stops.Word w) = IsFirstWrong given w
+  StopsFirst given (stops.Fault fault) = (fault ≡ row_of refusals.NoMemory) ⊎ ((fault ≡ row_of refusals.Read) × AreRight)
 
   -- the words' key and person, with what is kept of the token that the input gives
   pub record Reads (given : Option (List ℕ)) (kept : List ℕ) (person : Person) : Type 0 where

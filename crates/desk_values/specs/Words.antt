@@ -1,8 +1,9 @@
 -- The words of a subcommand that have a form.
-use Rattle.std.specs.Prelude.{◌≡◌, ◌⊎◌, ℕ, List, codes}
+use Rattle.std.specs.Prelude.{◌≡◌, ◌⊎◌, ℕ, List, Option, IfSome, codes}
 use Rattle.desk_bytes.specs.declared.refusal.Refusal.TheVariants as refusals
 use Rattle.desk_lines.specs.Faults.{row_of}
 use Rattle.desk_lines.specs.declared.fault.Fault.{Fault}
+use Rattle.desk_service.specs.Tokens.{HasNoToken}
 use Rattle.desk_values.specs.declared.stop.Stop.{Stop}
 use Rattle.desk_values.specs.declared.stop.Stop.TheVariants as stops
 use Rattle.desk_values.specs.declared.stop.Word.{Word}
@@ -26,8 +27,8 @@ of_fault fault = stops.Fault fault
 abbrev pub StopsBy : Word → Type 0 → Stop → Type 0
 StopsBy w wrong why = ((why ≡ stops.Word w) × wrong) ⊎ (why ≡ stops.Fault (row_of refusals.NoMemory))
 
--- the token stops it, or the input
-abbrev pub StopsByToken : Stop → Type 0
-StopsByToken why =
-    (why ≡ stops.Word word.Token)
+-- the token stops it, where the first line of the input is none, or the input
+abbrev pub StopsByToken : Option (List ℕ) → Stop → Type 0
+StopsByToken given why =
+    ((why ≡ stops.Word word.Token) × IfSome given HasNoToken)
     ⊎ ((why ≡ stops.Fault (row_of refusals.Read)) ⊎ (why ≡ stops.Fault (row_of refusals.NoMemory)))

@@ -54,11 +54,12 @@ fn key_from(alloc: Global, text: &str) -> Result<Key, Stop>
 fn token_from<R: Read>(alloc: Global, reader: &mut R) -> Result<Digest, Stop>
     ensures ok { IfOk result (λ token. IfSome (R.remaining reader.old)
         (λ given. Some token ≡ token_in given)) }
-    ensures err { IfErr result StopsByToken }
+    ensures err { IfErr result (StopsByToken (R.remaining reader.old)) }
 {
     match read_token(alloc, reader) {
         Ok(Some(token)) => Ok(token),
-        Ok(None) | Err(InputFault::TooLong) => Err(Stop::Word(Word::Token)),
+        Ok(None) => Err(Stop::Word(Word::Token)),
+        Err(InputFault::TooLong) => Err(Stop::Word(Word::Token)),
         Err(InputFault::Read) => Err(Stop::Fault(Fault::from(Refusal::Read))),
         Err(InputFault::NoMemory) => Err(Stop::Fault(Fault::from(Refusal::NoMemory))),
     }
@@ -75,7 +76,7 @@ pub fn person_from<R: Read>(
 ) -> Result<(Key, Person), Stop>
     ensures ok { IfOk result (λ read. Reads name.now role.now key.now
         (R.remaining reader.old) read.0 read.1) }
-    ensures first { IfErr result (StopsFirst name.now role.now key.now) }
+    ensures first { IfErr result (StopsFirst name.now role.now key.now (R.remaining reader.old)) }
 {
     let name = match name_from(alloc, name) {
         Ok(name) => name,
