@@ -1,5 +1,5 @@
 //! The lines that subcommands write, whole before anything else is done.
-ghost use Rattle.std.specs.Prelude.{◌≡◌, ◌⊎◌, IfErr, IfOk, OnErr, OnOk};
+ghost use Rattle.std.specs.Prelude.{◌≡◌, ◌≢◌, ◌⊎◌, IfErr, IfOk, OnErr, OnOk};
 ghost use Rattle.std.specs.Io.KnownBytes.{Appends, Keeps};
 ghost use Rattle.desk_bytes.specs.Output.{AppendsBeginning};
 ghost use Rattle.desk_lines.specs.Faults.{row_of};
@@ -38,6 +38,8 @@ pub(crate) fn say_reply<W: Write>(alloc: Global, reply: &Reply, writer: &mut W) 
         (reply_line reply.now)) }
     ensures err { OnErr result (AppendsBeginning (W.contents writer.old) (W.contents writer.new)
         (reply_line reply.now)) }
+    ensures unwritten { IfErr result (λ fault. fault ≢ row_of Refusal.Write
+        → writer.new ≡ writer.old) }
     ensures named { IfErr result (λ fault. (fault ≡ row_of Refusal.NoMemory)
         ⊎ (fault ≡ row_of Refusal.Write)) }
 {
