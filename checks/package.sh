@@ -1,0 +1,165 @@
+#!/bin/sh
+# The package of the built program, or of the one that is named: package.sh [PROGRAM]. packaging/deb.sh makes it twice, at other
+# times and with another umask, zone and folder, and the bytes have to be the same. It is unpacked into an empty root. The program
+# from there is the one that was named, does all of checks/runs.sh and checks/day.sh, and runs with that root as its own, where
+# beside the package stand only the files of the libraries that its Depends name. The manual is read: no warning, each
+# subcommand, route and refusal is there. The completions are those of the help. The service is verified, and has an exposure of 2.0
+# at most. lintian finds no error. What isn't installed (lintian, mandoc, systemd-analyze) is left out, and named at the end; so is the
+# root where chroot isn't allowed. Not part of the gate: it needs bash, dpkg-dev, git, groff, man, python3 and xxd.
+set -eu
+root=$(CDPATH='' cd -- "$(dirname -- "$(readlink -f -- "$0")")/.." && pwd -P)
+if [ $# -gt 0 ]; then
+    program=$(readlink -f -- "$1")
+else
+    "$root/desk" --version > /dev/null
+    program=$root/crates/desk/out/desk
+fi
+for tool in bash dpkg-deb dpkg-shlibdeps git groff man python3 xxd; do
+    command -v "$tool" > /dev/null || { echo "checks/package.sh: $tool is needed" >&2; exit 1; }
+done
+name=kovelamiru-desk
+room=$(mktemp -d)
+trap 'rm -rf "$room"' EXIT
+trap 'exit 1' HUP INT TERM
+cd "$room"
+found=0
+left_out=
+
+fail() {
+    echo "checks/package.sh: $*" >&2
+    exit 1
+}
+# holds WHAT COMMAND WORD..: the command succeeds.
+holds() {
+    what=$1
+    shift
+    "$@" > said 2>&1 || fail "$what: $(cat said)"
+    found=$((found + 1))
+}
+# silent WHAT COMMAND WORD..: it succeeds, and says nothing.
+silent() {
+    holds "$@"
+    [ ! -s said ] || fail "$what: $(cat said)"
+}
+# has TOOL: whether it is installed; where it isn't, that is named at the end.
+has() {
+    command -v "$1" > /dev/null && return 0
+    left_out="$left_out $1"
+    return 1
+}
+
+# ---- made twice, unpacked
+
+mkdir one two unpacked
+holds 'deb.sh' "$root/packaging/deb.sh" "$program" one
+sleep 1
+again() { (umask 077 && cd two && TZ=Asia/Tokyo TMPDIR=$room/two LC_ALL=C.UTF-8 "$root/packaging/deb.sh" "$program"); }
+holds 'deb.sh again' again
+deb=$(basename one/*.deb)
+silent 'the same bytes twice' cmp "one/$deb" "two/$deb"
+[ "$deb" = "${name}_$("$program" --version | cut -d' ' -f2)_amd64.deb" ] || fail "the name $deb"
+holds 'unpacking' dpkg-deb -x "one/$deb" unpacked
+holds 'its scripts' dpkg-deb -e "one/$deb" control
+silent 'the sums of its files' sh -c 'cd unpacked && md5sum --quiet -c ../control/md5sums'
+desk=$room/unpacked/usr/bin/desk
+silent 'the program is another one' cmp "$program" "$desk"
+for script in postinst prerm postrm; do silent "$script" sh -n "control/$script"; done
+
+# ---- the day at the desk, and each other subcommand
+
+holds 'runs.sh' "$root/checks/runs.sh" "$desk"
+holds 'day.sh' "$root/checks/day.sh" "$desk"
+day=$(tail -n 1 said)
+# The day that README.md prints is served at port 8080.
+if "$root/checks/readme.sh" "$desk" > said 2>&1; then
+    found=$((found + 1))
+elif grep -q 'is needed$\|port 8080 is taken$' said; then
+    left_out="$left_out readme.sh"
+else
+    fail "readme.sh: $(cat said)"
+fi
+
+# With the unpacked root as its own: the files of the libraries in Depends, and nothing else of this system.
+if chroot / true 2> /dev/null; then
+    for library in $(dpkg-deb -f "one/$deb" Depends | sed 's/([^)]*)//g; s/, systemd.*//; s/,/ /g'); do
+        dpkg -L "$library" | grep '/lib.*\.so' | while IFS= read -r file; do
+            if [ -f "$file" ]; then install -D "$file" "unpacked$file"; fi
+        done
+    done
+    silent 'init in a root of its own' chroot unpacked /usr/bin/desk init desk.db 00112233-4455-6677-8899-aabbccddeeff
+    holds 'level in a root of its own' chroot unpacked /usr/bin/desk level desk.db
+    [ "$(cat said)" = 'sbat,1,2021030218' ] || fail "level in a root of its own: $(cat said)"
+else
+    left_out="$left_out chroot"
+fi
+
+# ---- the manual
+
+subcommands=$("$desk" help | sed -n 's/^  \([a-z]*\)  .*/\1/p' | grep -v '^help$' | tr '\n' ' ')
+for page in man1/desk.1 man7/desk-http.7; do
+    gzip -dc "unpacked/usr/share/man/$page.gz" > "${page#*/}"
+    # What groff warns of stands on standard error.
+    warns() { groff -t -man -Tutf8 -ww "$1" > page; }
+    silent "groff of $page" warns "${page#*/}"
+    if has mandoc; then silent "mandoc of $page" mandoc -Tlint "${page#*/}"; fi
+    holds "man of $page" env MANWIDTH=100 man -l "${page#*/}"
+    cp said "${page#*/}.txt"
+done
+# tells PAGE TEXT: a line of the page begins so, behind spaces.
+tells() { grep -q "^ *$2\( \|\$\)" "$1.txt" || fail "$1 lacks $2"; }
+for subcommand in $subcommands; do
+    tells desk.1 "desk $subcommand"
+    grep -q "^ *Example: desk $subcommand" desk.1.txt || fail "desk.1 has no example of $subcommand"
+done
+for text in 'THE SERVICE' BACKUP 'EXIT STATUS'; do tells desk.1 "$text"; done
+sed -n '/^| Path/,/^$/s/^| \(`[^|]*\) |.*/\1/p' "$root/docs/FORMATS.md" | tr -d '`' > routes
+sed -n 's/^| \([0-9]*\) | \([A-Za-z0-9]*\) |.*/\1  *\2/p' "$root/docs/REFUSALS.md" > refusals
+if [ ! -s routes ] || [ ! -s refusals ]; then fail 'no routes or no refusals'; fi
+for rows in routes refusals; do
+    while IFS= read -r row; do tells desk-http.7 "$row"; done < "$rows"
+done
+found=$((found + $(cat routes refusals | wc -l)))
+
+# ---- completions: of nothing, of a file, of a role
+
+mkdir shelf
+: > shelf/shim.efi
+# completes WANTED WORD..: what the words are completed by; the last of them has been begun.
+completes() {
+    wanted=$1
+    shift
+    # shellcheck disable=SC2016
+    PATH=$room/unpacked/usr/bin:$PATH bash -c '
+        . "$0" && COMP_WORDS=(desk "$@") COMP_CWORD=$# && _desk && printf "%s\n" "${COMPREPLY[@]}"
+    ' "$room/unpacked/usr/share/bash-completion/completions/desk" "$@" > completed
+    [ "$(tr '\n' ' ' < completed)" = "$wanted " ] || fail "completions of desk $*: $(cat completed)"
+    found=$((found + 1))
+}
+completes "${subcommands}help" ''
+completes 'serve' ser
+completes "${subcommands}help" help ''
+completes 'shelf/shim.efi' verdict desk.db shelf/sh
+completes 'submitter reviewer officer signer' person desk.db olga ''
+completes 'officer' person desk.db olga o
+completes '' person desk.db ''
+
+# ---- the service
+
+service=usr/lib/systemd/system/$name.service
+grep -q '^ExecStart=/usr/bin/desk serve ' "unpacked/$service" || fail 'the service starts another program'
+grep -q "^User=$name\$" "unpacked/$service" || fail 'the service has another user'
+grep -q "^u $name " "unpacked/usr/lib/sysusers.d/$name.conf" || fail 'the user is not made'
+port=$(sed -n 's/^Environment=PORT=\([0-9]*\) .*/\1/p' "unpacked/$service")
+grep -q "server 127.0.0.1:$port;" "unpacked/usr/share/doc/$name/examples/nginx.conf" || fail "the proxy asks another port than $port"
+if has systemd-analyze; then
+    sed "s|^ExecStart=/|&${room#/}/unpacked/|" "unpacked/$service" > "$name.service"
+    silent 'the service' systemd-analyze verify --man=no "$room/$name.service"
+    holds 'its exposure' systemd-analyze security --offline=yes --threshold=20 --no-pager "$room/$name.service"
+    exposure=$(sed -n 's/.*Overall exposure level for .*: \([0-9.]*\) .*/\1/p' said)
+fi
+
+# ---- lintian
+
+if has lintian; then holds 'lintian' lintian --fail-on error "one/$deb"; fi
+
+echo "$found checks of $deb, each as it has to be; exposure ${exposure:-not seen}; the day: $day${left_out:+; left out:$left_out}"

@@ -1,0 +1,359 @@
+#!/bin/sh
+# nginx in front of `desk serve`, with the built program or the one that is named: proxy.sh [PROGRAM]. packaging/nginx.conf is taken as it
+# is, but for its ports and its certificate, which is made here; nginx is that of the system, or else of the distribution's package,
+# unpacked in the room. curl does a day at the desk through it, over TLS, and each status and body is compared with what has to be
+# there. Then one peer sends an image slowly, one takes a long dbx slowly, and thirty more ask at once, from addresses of their own:
+# all of them are answered while both slow ones are still under way, and then these get what is theirs. Without the proxy each
+# slow peer holds the next one up; that is shown first. Then what nginx refuses: a body that is too long, a flood from one address,
+# a call while the desk is stopped, which is repeated with its key once it serves again. Each run of the program, of curl and of
+# nginx ends after a stated time. It takes ports from 20000 to 32000. Not part of the gate: it needs curl, openssl and python3, and nginx or
+# the network to get it.
+set -eu
+root=$(CDPATH='' cd -- "$(dirname -- "$(readlink -f -- "$0")")/.." && pwd -P)
+if [ $# -gt 0 ]; then
+    program=$(readlink -f -- "$1")
+else
+    "$root/desk" --version > /dev/null
+    program=$root/crates/desk/out/desk
+fi
+for tool in curl openssl python3; do
+    command -v "$tool" > /dev/null || { echo "checks/proxy.sh: $tool is needed" >&2; exit 1; }
+done
+room=$(mktemp -d)
+server='' proxy='' slow='' taker=''
+# What this script started ends with it, by a signal too.
+leave() {
+    for one in $slow $taker $server $proxy; do kill "$one" 2> /dev/null || :; done
+    wait || :
+    rm -rf "$room"
+}
+trap leave EXIT
+trap 'exit 1' HUP INT TERM
+cd "$room"
+port=$((20000 + $$ % 600 * 20))
+tls=$((port + 1))
+site=desk.example.org
+base=https://$site:$tls
+requests=0
+
+fail() {
+    echo "checks/proxy.sh: $*" >&2
+    if [ -s error.log ]; then tail -n 5 error.log >&2; fi
+    exit 1
+}
+# within SECONDS COMMAND WORD..: the command succeeds some time soon.
+within() {
+    tries=$(($1 * 10))
+    shift
+    until "$@" > tried 2>&1; do
+        tries=$((tries - 1))
+        [ "$tries" -gt 0 ] || fail "in vain: $*: $(cat tried)"
+        sleep 0.1
+    done
+}
+# desk WORD..: the program, ended after five minutes.
+desk() { timeout -k 5 300 "$program" "$@"; }
+# listens PORT: whether somebody does; to connect would count.
+listens() { grep -q ":$(printf '%04X' "$1") 00000000:0000 0A" /proc/net/tcp; }
+# serve COUNT: serves so many connections of the desk in the background.
+serve() {
+    timeout -k 5 300 "$program" serve desk.db "$port" "$1" > served 2>&1 &
+    server=$!
+    within 20 listens "$port"
+}
+# served: the server has served them all, and ends.
+served() {
+    got=0
+    wait "$server" || got=$?
+    server=''
+    if [ "$got" -ne 0 ] || [ -s served ]; then fail "serve: status $got, $(cat served)"; fi
+}
+
+# ---- nginx, its certificate, the site
+
+nginx=$(command -v nginx || echo /usr/sbin/nginx)
+if [ ! -x "$nginx" ]; then
+    mkdir package
+    (cd package && apt-get -q download nginx > got 2>&1 && dpkg-deb -x nginx_*.deb .) || fail "no nginx: $(cat package/got)"
+    nginx=$room/package/usr/sbin/nginx
+fi
+openssl req -x509 -newkey ec -pkeyopt ec_paramgen_curve:prime256v1 -nodes -days 2 -subj "/CN=$site" \
+    -addext "subjectAltName=DNS:$site" -keyout site.key -out site.pem 2> openssl.err || fail "$(cat openssl.err)"
+# sndbuf: the system keeps so little of a response on its way to a peer that nginx has to.
+listen="listen 127.0.0.1:$tls ssl sndbuf=65536;"
+sed "s|127.0.0.1:8080;|127.0.0.1:$port;|
+     s|listen 443 ssl;|$listen|
+     /listen \[::\]:443 ssl;/d
+     s|/etc/ssl/certs/$site.pem|$room/site.pem|
+     s|/etc/ssl/private/$site.key|$room/site.key|" "$root/packaging/nginx.conf" > site.conf
+for line in "server 127.0.0.1:$port;" "$listen" "$room/site.pem;" "$room/site.key;"; do
+    [ "$(grep -cF "$line" site.conf)" -eq 1 ] || fail "packaging/nginx.conf has no place for $line"
+done
+{
+    if [ "$(id -u)" -eq 0 ]; then echo 'user root root;'; fi
+    echo "daemon off; worker_processes 2; pid $room/nginx.pid; error_log $room/error.log warn;"
+    echo "events { worker_connections 512; }"
+    echo "http {"
+    echo "    access_log $room/access.log;"
+    for kind in client_body proxy fastcgi uwsgi scgi; do echo "    ${kind}_temp_path $room/$kind;"; done
+    echo "    include $room/site.conf;"
+    echo "}"
+} > nginx.conf
+"$nginx" -t -q -p "$room/" -e "$room/error.log" -c nginx.conf 2> said || fail "nginx -t: $(cat said)"
+if [ -s said ] || [ -s error.log ]; then fail "nginx -t: $(cat said)"; fi
+timeout -k 5 400 "$nginx" -p "$room/" -e "$room/error.log" -c nginx.conf &
+proxy=$!
+within 20 listens "$tls"
+
+# ---- the desk, and what is sent
+
+token_of() { echo "$1-token-for-the-desk"; }
+desk init desk.db 00112233-4455-6677-8899-aabbccddeeff
+for person in ann/submitter rita/reviewer raul/reviewer sid/signer olga/officer otto/officer; do
+    token_of "${person%/*}" | desk person desk.db "${person%/*}" "${person#*/}" "k-${person%/*}" > said
+done
+image=$root/examples/signed.efi
+plain=$root/examples/tiny.efi
+hex='ba7816bf8f01cfea414140de5dae2223b00361a396177a9cb410ff61f20015ad'
+printf '\060\005\060\003\002\001\001' > certificate
+echo '{"note":"read it","vote":"yes"}' > yes
+echo "{\"digest\":\"$hex\"}" > digest
+echo '{"component":"grub","generation":3,"stamp":2024010100}' > raise
+
+# ask NAME PATH [CURL-WORD..]: this person asks through the proxy; `body` is what came, and `said` its status. The certificate has to
+# be that of the site.
+ask() {
+    who=$1 path=$2
+    shift 2
+    curl -sS --max-time 120 --cacert site.pem --resolve "$site:$tls:127.0.0.1" -H "Desk-Token: $(token_of "$who")" \
+        -o body -w '%{http_code}' "$@" "$base$path" > said 2> curl.err || fail "$path: $(cat curl.err)"
+    requests=$((requests + 1))
+}
+# is STATUS BODY: so it was answered.
+is() {
+    if [ "$(cat said)" != "$1" ] || [ "$(cat body)" != "$2" ]; then
+        fail "$who at $path: $(cat said) $(head -c 300 body) in place of $1 $2"
+    fi
+}
+# post STATUS BODY NAME KEY PATH FILE [CURL-WORD..]: this person posts the file under this key, and is answered so.
+post() {
+    status=$1 wanted=$2 name=$3 key=$4 at=$5 file=$6
+    shift 6
+    ask "$name" "$at" -H "Desk-Key: $key" --data-binary "@$file" "$@"
+    is "$status" "$wanted"
+}
+: > nothing
+
+# ---- a day at the desk
+
+serve 33
+post 200 '{"reply":"submitted","request":1}' ann k1 /requests "$image" -H 'Desk-Title: a signed loader'
+post 200 '{"reply":"submitted","request":1}' ann k1 /requests "$image" -H 'Desk-Title: a signed loader'
+post 200 '{"reply":"reviewed","request":1,"state":"open"}' rita k1 /requests/1/review yes
+post 200 '{"reply":"reviewed","request":1,"state":"approved"}' raul k1 /requests/1/review yes
+post 200 '{"reply":"listed"}' olga k1 /db/certificates certificate
+post 200 '{"reply":"returned","request":1}' sid k1 /requests/1/return "$image"
+post 200 '{"verdict":"allowed"}' ann k2 /verdict "$image"
+post 200 '{"proposal":1,"reply":"proposed"}' olga k2 /dbx/digests digest
+post 409 '{"name":"OwnProposal","refused":38}' olga k3 /proposals/1/confirm nothing
+confirmed='"passed":0,"proposal":1,"reply":"confirmed"}'
+post 200 "{\"certificates\":0,\"components\":0,\"digests\":1,$confirmed" otto k1 /proposals/1/confirm nothing
+# A body in chunks has no length: nginx counts it for the desk.
+post 200 '{"proposal":2,"reply":"proposed"}' olga k4 /level raise -H 'Transfer-Encoding: chunked'
+post 200 '{"proposal":2,"reply":"dropped"}' otto k2 /proposals/2/drop nothing
+ask olga /level
+is 200 'sbat,1,2021030218'
+ask nobody /level
+is 401 '{"name":"UnknownCaller","refused":20}'
+ask ann /nowhere
+is 404 '{"name":"NoRoute","refused":53}'
+# Ninety thousand digests, so that dbx is longer than what a system keeps of a response on its way (tcp_wmem: 4 MiB).
+for import in $(seq 3 11); do
+    awk -v first="${import}0000" 'BEGIN {
+        print "kind,value,generation"
+        for (at = 0; at < 10000; at++) printf "sha256,%064x,\n", first + at
+    }' > csv
+    post 200 "{\"proposal\":$import,\"reply\":\"proposed\"}" olga "import-$import" /imports/csv csv
+    confirmed="\"passed\":0,\"proposal\":$import,\"reply\":\"confirmed\"}"
+    post 200 "{\"certificates\":0,\"components\":0,\"digests\":10000,$confirmed" otto "import-$import" "/proposals/$import/confirm" nothing
+done
+served
+desk dbx desk.db > dbx
+[ "$(wc -c < dbx)" -eq $((28 + 90001 * 48)) ] || fail "dbx has $(wc -c < dbx) bytes"
+
+# ---- slow peers without the proxy: the next one waits
+
+cat > slow.py << 'end'
+import os, socket, ssl, sys, time
+
+port, site, how, given, go, out = sys.argv[1:]
+until = time.monotonic() + 20
+
+
+def pause():
+    while not os.path.exists(go) and time.monotonic() < until:
+        time.sleep(0.05)
+
+
+peer = socket.socket()
+peer.settimeout(60)
+# So little is on its way at once that a long response waits at its sender.
+peer.setsockopt(socket.SOL_SOCKET, socket.SO_RCVBUF, 4096)
+peer.connect(("127.0.0.1", int(port)))
+if site:
+    peer = ssl.create_default_context(cafile="site.pem").wrap_socket(peer, server_hostname=site)
+with open(given, "rb") as file:
+    request = file.read()
+half = len(request) // 2 if how == "sends" else len(request)
+peer.sendall(request[:half])
+begun = b"" if how == "sends" else peer.recv(1000)
+print(len(begun), flush=True)
+pause()
+peer.sendall(request[half:])
+with open(out, "wb") as file:
+    file.write(begun)
+    for piece in iter(lambda: peer.recv(65536), b""):
+        file.write(piece)
+end
+{
+    printf 'POST /requests HTTP/1.1\r\nHost: %s\r\nDesk-Token: %s\r\nDesk-Key: slow\r\nDesk-Title: slow\r\n' "$site" "$(token_of ann)"
+    printf 'Connection: close\r\nContent-Length: %s\r\n\r\n' "$(wc -c < "$plain")"
+    cat "$plain"
+} > sends
+printf 'GET /dbx HTTP/1.1\r\nHost: %s\r\nDesk-Token: %s\r\nConnection: close\r\n\r\n' "$site" "$(token_of rita)" > takes
+# begins HOW PORT SITE: a slow peer begins in the background, whose number is `peer`; it is done once the file go.HOW is there. Site: of
+# TLS, or none.
+begins() {
+    rm -f "go.$1" "begun.$1" "came.$1"
+    timeout -k 5 80 python3 slow.py "$2" "$3" "$1" "$1" "go.$1" "came.$1" > "begun.$1" 2> "slow.$1" &
+    peer=$!
+    within 10 test -s "begun.$1"
+}
+# got HOW: what the slow peer was answered, which is due to it: of a head, its first line and the body.
+got() {
+    [ "$(head -n 1 "came.$1" | tr -d '\r')" = 'HTTP/1.1 200 OK' ] || fail "the one that $1: $(head -c 300 "came.$1" "slow.$1")"
+    case $1 in
+        sends) [ "$(tail -n 1 came.sends)" = '{"reply":"submitted","request":2}' ] || fail "the one that sends: $(cat came.sends)" ;;
+        takes) tail -c "$(wc -c < dbx)" came.takes | cmp -s - dbx || fail 'the one that takes has another dbx' ;;
+    esac
+    requests=$((requests + 1))
+}
+for how in sends takes; do
+    serve 2
+    begins "$how" "$port" ''
+    slow=$peer
+    curl -sS --max-time 60 -H "Desk-Token: $(token_of olga)" -o held "http://127.0.0.1:$port/level" &
+    taker=$!
+    sleep 2
+    [ ! -e held ] || fail "without the proxy nobody waits for the one that $how"
+    : > "go.$how"
+    wait "$slow" || fail "the one that $how, without the proxy: $(cat "slow.$how")"
+    wait "$taker" || fail "nobody was answered behind the one that $how"
+    slow='' taker=''
+    got "$how"
+    [ "$(cat held)" = 'sbat,1,2021030218' ] || fail "behind the one that $how: $(cat held)"
+    rm held
+    served
+done
+
+# ---- thirty clients at once, beside one that sends slowly and one that takes slowly
+
+clients=30
+serve $((2 * clients + 2))
+begins sends "$tls" "$site"
+slow=$peer
+begins takes "$tls" "$site"
+taker=$peer
+# one NUMBER: a client at an address of its own: the level, and a verdict.
+one() {
+    for path in level verdict; do
+        if [ "$path" = verdict ]; then set -- "$1" --data-binary "@$image"; fi
+        number=$1
+        shift
+        curl -sS --max-time 60 --interface "127.0.0.$((number + 1))" --cacert site.pem --resolve "$site:$tls:127.0.0.1" \
+            -H "Desk-Token: $(token_of ann)" -o "$path.$number" -w '%{http_code} %{time_total}\n' "$@" "$base/$path"
+        set -- "$number"
+    done > "times.$1"
+}
+started=$(date +%s%N)
+waiting=''
+for client in $(seq "$clients"); do
+    one "$client" &
+    waiting="$waiting $!"
+done
+for client in $waiting; do wait "$client" || fail 'one of thirty clients'; done
+took=$((($(date +%s%N) - started) / 1000000))
+for how in sends takes; do
+    [ ! -e "came.$how" ] || fail "the one that $how ended before the thirty"
+done
+for client in $(seq "$clients"); do
+    [ "$(cut -d' ' -f1 "times.$client" | tr '\n' ' ')" = '200 200 ' ] || fail "client $client: $(cat "times.$client")"
+    [ "$(cat "level.$client")" = 'sbat,1,2021030218' ] || fail "client $client: $(cat "level.$client")"
+    [ "$(cat "verdict.$client")" = '{"verdict":"allowed"}' ] || fail "client $client: $(cat "verdict.$client")"
+done
+longest=$(cat times.* | cut -d' ' -f2 | sort -n | tail -n 1)
+: > go.sends
+: > go.takes
+wait "$slow" || fail "the one that sends: $(cat slow.sends)"
+wait "$taker" || fail "the one that takes: $(cat slow.takes)"
+slow='' taker=''
+got sends
+got takes
+served
+requests=$((requests + 2 * clients))
+
+# ---- what nginx refuses
+
+serve 1000
+truncate -s 4194305 long
+truncate -s 134217729 longer
+ask olga /dbx/digests -H 'Desk-Key: k6' --data-binary @long
+[ "$(cat said)" = 413 ] || fail "a long body: $(cat said)"
+ask ann /requests -H 'Desk-Key: k6' -H 'Desk-Title: long' --data-binary @longer
+[ "$(cat said)" = 413 ] || fail "a long image: $(cat said)"
+truncate -s 134217728 longer
+post 422 '{"name":"NoMz","refused":2}' ann k6 /requests longer -H 'Desk-Title: as long as may be'
+# 150 requests of one address: 60 wait for their turn at most, and the last of them are refused.
+waiting=''
+for client in $(seq 15); do
+    curl -sS --no-progress-meter --max-time 60 --interface 127.0.0.99 --cacert site.pem --resolve "$site:$tls:127.0.0.1" \
+        -H "Desk-Token: $(token_of ann)" -Z --parallel-max 10 -o '/dev/null' -w '%{http_code}\n' "$base/level?[1-10]" > "flood.$client" &
+    waiting="$waiting $!"
+done
+for client in $waiting; do wait "$client" || fail 'one of the flood'; done
+cat flood.* | sort | uniq -c > flood
+grep -q ' 429$' flood || fail "nobody of the flood was refused: $(cat flood)"
+[ "$(grep -vc ' 429$\| 404$' flood)" -eq 0 ] || fail "the flood: $(cat flood)"
+ask olga /level
+is 200 'sbat,1,2021030218'
+
+# ---- the desk is stopped at any moment, and what was acknowledged stays
+
+post 200 '{"proposal":12,"reply":"proposed"}' olga k7 /level raise
+kill "$server"
+wait "$server" 2> /dev/null || :
+server=''
+# A copy of the file with its log is the desk; the file alone is an older one, or none.
+mkdir copy alone
+cp desk.db desk.db-wal copy
+cp desk.db alone
+desk minutes copy/desk.db > minutes || fail 'no desk in the copy'
+[ "$(tail -n 1 minutes | cut -f2,3,5)" = 'olga	k7	proposed 12' ] || fail "the copy ends with $(tail -n 1 minutes)"
+if desk minutes alone/desk.db > minutes.alone 2> said && cmp -s minutes minutes.alone; then fail 'the log held nothing'; fi
+ask otto /proposals/12/confirm -H 'Desk-Key: k4' -d ''
+[ "$(cat said)" = 502 ] || fail "without the desk: $(cat said)"
+serve 2
+confirmed='"passed":0,"proposal":12,"reply":"confirmed"}'
+post 200 "{\"certificates\":0,\"components\":1,\"digests\":0,$confirmed" otto k4 /proposals/12/confirm nothing
+ask olga /level
+is 200 'sbat,1,2024010100
+grub,3'
+served
+desk minutes desk.db > minutes
+[ "$(tail -n 1 minutes | cut -f2-)" = 'otto	k4	confirm 12	confirmed 12 0 0 1 0' ] || fail "the minutes: $(tail -n 1 minutes)"
+if grep -q 'token-for-the-desk' access.log error.log; then fail 'a token stands in a log'; fi
+kill "$proxy"
+wait "$proxy" 2> /dev/null || :
+proxy=''
+echo "$requests requests through the proxy, each answered as it has to be; beside two slow ones, $clients clients of two requests" \
+    "each took $took ms, the longest request $longest s"

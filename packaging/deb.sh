@@ -1,0 +1,129 @@
+#!/bin/sh
+# Makes the package kovelamiru-desk_VERSION_amd64.deb of a built program, in the working folder or the one that is named, and prints
+# its path: deb.sh PROGRAM [OUT]. The program goes in as it is. Its own version is the package's, and has to be the newest of
+# CHANGELOG.md. The same program, tree and SOURCE_DATE_EPOCH (by itself the commit's date) give the same bytes. It needs dpkg-dev,
+# git, gzip and python3.
+set -eu
+umask 022
+export LC_ALL=C TZ=UTC
+root=$(CDPATH='' cd -- "$(dirname -- "$(readlink -f -- "$0")")/.." && pwd -P)
+here=$root/packaging
+
+fail() {
+    echo "packaging/deb.sh: $*" >&2
+    exit 1
+}
+if [ $# -lt 1 ] || [ $# -gt 2 ]; then fail 'deb.sh PROGRAM [OUT]'; fi
+program=$(readlink -f -- "$1")
+out=$(readlink -f -- "${2-.}")
+for tool in dpkg-deb dpkg-shlibdeps git gzip python3; do
+    command -v "$tool" > /dev/null || fail "$tool is needed"
+done
+# An executable for x86-64 that asks for the loader of every Debian system.
+readelf -hl "$program" 2> /dev/null > /dev/null || fail "$program is no program"
+readelf -h "$program" | grep -q 'Machine: .*X86-64' || fail "$program is for another machine"
+readelf -l "$program" | grep -q 'interpreter: /lib64/ld-linux-x86-64.so.2' || fail "$program asks for a loader of its own"
+
+name=kovelamiru-desk
+version=$("$program" --version | sed -n 's/^desk //p')
+newest=$(sed -n '/^## /{s/^## \([^ ,]*\).*/\1/p;q}' "$root/CHANGELOG.md")
+[ "$version" = "$newest" ] || fail "the program has version $version, and CHANGELOG.md $newest"
+commit=$(git -C "$root" describe --always --dirty --abbrev=40 --exclude='*')
+SOURCE_DATE_EPOCH=${SOURCE_DATE_EPOCH:-$(git -C "$root" log -1 --format=%ct)}
+export SOURCE_DATE_EPOCH
+maintainer=$(git -C "$root" log -1 --format='%an <%ae>')
+kit=$(sed -n 's/.*Proved with `\(.*\)`.*/\1/p' "$root/README.md")
+[ -n "$kit" ] || fail 'README.md names no kit'
+
+room=$(mktemp -d)
+trap 'rm -rf "$room"' EXIT
+trap 'exit 1' HUP INT TERM
+tree=$room/tree
+
+# place MODE FROM TO: a file of the package.
+place() { install -D -m "$1" "$2" "$tree/$3"; }
+# packed FILE: the same bytes each time.
+packed() { gzip -9n "$1"; }
+
+# ---- the files
+
+place 755 "$program" usr/bin/desk
+place 644 "$here/kovelamiru-desk.service" usr/lib/systemd/system/kovelamiru-desk.service
+place 644 "$here/kovelamiru-desk.sysusers" usr/lib/sysusers.d/kovelamiru-desk.conf
+place 644 "$here/desk.bash" usr/share/bash-completion/completions/desk
+place 644 "$here/nginx.conf" "usr/share/doc/$name/examples/nginx.conf"
+place 644 "$here/lintian-overrides" "usr/share/lintian/overrides/$name"
+
+python3 "$here/man.py" "$program" "$(date -d "@$SOURCE_DATE_EPOCH" +%F)" "$room"
+for page in desk.1 desk-http.7; do
+    packed "$room/$page"
+    place 644 "$room/$page.gz" "usr/share/man/man${page##*.}/$page.gz"
+done
+
+cp "$root/CHANGELOG.md" "$room/CHANGELOG.md"
+{
+    printf '%s (%s) unstable; urgency=medium\n\n  * CHANGELOG.md.gz has the changes.\n\n' "$name" "$version"
+    printf ' -- %s  %s\n' "$maintainer" "$(date -d "@$SOURCE_DATE_EPOCH" '+%a, %d %b %Y %H:%M:%S +0000')"
+} > "$room/changelog"
+for text in CHANGELOG.md changelog; do
+    packed "$room/$text"
+    place 644 "$room/$text.gz" "usr/share/doc/$name/$text.gz"
+done
+
+# What the repository says of copyright: a licence, or that there is none.
+{
+    printf 'Kovelamiru, a Secure Boot signing and revocation desk. Copyright: its owner, %s.\n\n' \
+        "$(date -d "@$SOURCE_DATE_EPOCH" +%Y)"
+    if [ -e "$root/LICENSE" ]; then
+        cat "$root/LICENSE"
+    else
+        grep 'no LICENSE file' "$root/CONTRIBUTING.md"
+        printf '%s\n' 'So this package is for those whom the owner lets have it, and is not to be passed on before a licence is named.'
+    fi
+    printf '\nThe program was built by the Rattle kit (%s), whose libraries are part of it.\n' "$kit"
+} > "$room/copyright"
+place 644 "$room/copyright" "usr/share/doc/$name/copyright"
+
+{
+    printf 'Commit %s, whose README.md says: proved with %s.\nSHA-256 of /usr/bin/desk: %s.\n\n' "$commit" "$kit" \
+        "$(sha256sum < "$program" | cut -d' ' -f1)"
+    printf 'No desk is made, and nothing is started, by the installation. desk(1) says how to make one, how to let it serve, how to\n'
+    printf 'copy it, and what an older copy means. Neither remove nor purge takes /var/lib/kovelamiru-desk away.\n'
+} > "$room/README.Debian"
+place 644 "$room/README.Debian" "usr/share/doc/$name/README.Debian"
+
+# ---- the package
+
+# What the program needs, by the libraries that it names and the versions of their symbols.
+mkdir "$room/debian" "$tree/DEBIAN"
+printf 'Source: %s\n\nPackage: %s\nArchitecture: amd64\n' "$name" "$name" > "$room/debian/control"
+needs=$(cd "$room" && dpkg-shlibdeps -O -e"$tree/usr/bin/desk" 2> needs.err | sed -n 's/^shlibs:Depends=//p') || fail "$(cat "$room/needs.err")"
+[ -n "$needs" ] || fail "no libraries are found: $(cat "$room/needs.err")"
+size=$(find "$tree" -type f -printf '%s\n' | awk '{ kib += int(($1 + 1023) / 1024) } END { print kib }')
+cat > "$tree/DEBIAN/control" << CONTROL
+Package: $name
+Version: $version
+Architecture: amd64
+Maintainer: $maintainer
+Installed-Size: $size
+Depends: $needs, systemd | systemd-standalone-sysusers | systemd-sysusers
+Suggests: nginx, bash-completion
+Section: admin
+Priority: optional
+Description: Secure Boot signing and revocation desk
+ For the people of a distribution who decide which boot images get a
+ signature and which are revoked. The desk keeps requests, reviews, what is
+ listed (db) and what is revoked (dbx, SBAT level) in one file, takes calls
+ over HTTP and on the command line, reads EFI images, gives verdicts and
+ exports the bytes. One officer proposes a revocation, another one confirms
+ it. The desk neither makes nor checks signatures.
+ .
+ That acknowledged commands are never lost is proved.
+CONTROL
+for script in postinst prerm postrm; do place 755 "$here/$script" "DEBIAN/$script"; done
+(cd "$tree" && find . -path ./DEBIAN -prune -o -type f -printf '%P\n' | sort | xargs md5sum) > "$room/md5sums"
+place 644 "$room/md5sums" DEBIAN/md5sums
+find "$tree" -exec touch -h -d "@$SOURCE_DATE_EPOCH" {} +
+deb=$out/${name}_${version}_amd64.deb
+dpkg-deb --root-owner-group --threads-max=1 -Zxz --build "$tree" "$deb" > "$room/built"
+echo "$deb"

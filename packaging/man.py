@@ -1,0 +1,278 @@
+#!/usr/bin/env python3
+"""man.py PROGRAM DATE FOLDER: writes the manual pages desk.1 and desk-http.7 into the folder.
+
+What they say stands once: the subcommands in the program's help, formats and routes in docs/FORMATS.md, refusals in
+docs/REFUSALS.md, the service and its backup in packaging/README.md. This script sets them in man(7), tables in tbl(1).
+"""
+
+import os
+import re
+import subprocess
+import sys
+import textwrap
+
+ROOT = os.path.dirname(os.path.dirname(os.path.realpath(__file__)))
+WIDTH = 78
+STATUSES = [
+    ("0", "Done."),
+    ("1", "The input was refused: by the verdict, or with a line on standard error."),
+    ("2", "The words are wrong."),
+    ("3", "A device failed: a file, a stream, memory or the database."),
+]
+DESK = """\
+desk keeps the Secure Boot decisions of a distribution in one file: requests for a signature, their reviews, what is listed (db)
+and what is revoked (dbx, SBAT level). It takes calls over HTTP and on the command line, reads EFI images, gives verdicts and exports
+the bytes. One officer proposes a revocation, another one confirms it. The desk neither makes nor checks signatures. A command
+that was acknowledged is never lost, while nobody else writes the file and the disk keeps what it synced."""
+HTTP = """\
+`desk serve` and `desk answer` read one HTTP/1.1 request of each connection and write one response. Who calls is told by a token,
+which `desk person` adds; `Desk-Key` names a command, so that the same command under the same key acts once and is answered again."""
+ENVIRONMENT = """\
+`GLIBC_TUNABLES=glibc.malloc.hugetlb=1` has the C library ask for large pages, which makes a subcommand on a small desk quicker. The
+service sets it."""
+EXAMPLES = """\
+One officer raises a generation of the level, and another one confirms it:
+
+    curl -H "Desk-Token: $(cat olga.token)" -H 'Desk-Key: k2' \\
+        -d '{"component":"grub","generation":3,"stamp":2024010100}' \\
+        http://127.0.0.1:8080/level
+    curl -H "Desk-Token: $(cat otto.token)" -H 'Desk-Key: k1' -d '' \\
+        http://127.0.0.1:8080/proposals/1/confirm
+"""
+
+
+def plain(text):
+    """The text in roff, the same on paper as here."""
+    for mark, name in (("\\", "\\e"), ("~", "\\(ti"), ("^", "\\(ha"), ("`", "\\(ga")):
+        text = text.replace(mark, name)
+    return text
+
+
+def literal(text):
+    """The same for what is typed: hyphens and quotes stay those of ASCII."""
+    return plain(text).replace("-", "\\-").replace("'", "\\(aq")
+
+
+def breaking(code):
+    """What is typed in a paragraph: a line may end behind a comma."""
+    return literal(code).replace(",", ",\\:")
+
+
+def inline(text):
+    """A text with `code` and **strong** words."""
+    parts = re.split(r"`([^`]+)`|\*\*([^*]+)\*\*", text)
+    found = ""
+    for before, code, strong in zip(parts[0::3], parts[1::3] + [None], parts[2::3] + [None]):
+        found += plain(before)
+        if code or strong:
+            found += "\\fB" + (breaking(code) if code else plain(strong)) + "\\fR"
+    return found
+
+
+def shielded(line):
+    """A line of text that is no request."""
+    return "\\&" + line if line[:1] in (".", "'") else line
+
+
+def filled(text):
+    """The lines of a paragraph."""
+    lines = textwrap.wrap(inline(text), WIDTH, break_long_words=False, break_on_hyphens=False)
+    return [shielded(line) for line in lines]
+
+
+def folded(line):
+    """A line that is typed; one that is too long ends behind a comma, where there is one."""
+    if len(line) <= WIDTH - 12 or "," not in line[: WIDTH - 12]:
+        return [line]
+    end = line.rindex(",", 0, WIDTH - 12) + 1
+    return [line[:end]] + folded(line[end:])
+
+
+def example(lines):
+    typed = [shielded(literal(part)) for line in lines for part in folded(line)]
+    return [".PP", ".nf", ".RS 4"] + typed + [".RE", ".fi"]
+
+
+def width(cell):
+    return len(cell.replace("`", ""))
+
+
+def table(rows):
+    """A table, whose first row is the head: by tbl(1), which fills the last column, or a list where that has no room."""
+    columns = list(zip(*rows))
+    if sum(max(map(width, column)) for column in columns[:-1]) > WIDTH / 2:
+        return listed(rows)
+    head = " ".join(["lb"] * (len(columns) - 1) + ["lbx"])
+    body = " ".join(["l"] * (len(columns) - 1) + ["lx"])
+    found = [".PP", ".TS", head, body + "."]
+    for row in rows:
+        found.append("\t".join(inline(cell) for cell in row[:-1]) + "\tT{")
+        found += (filled(row[-1]) or ["\\&"]) + ["T}"]
+    return found + [".TE"]
+
+
+def listed(rows):
+    """A table as a list: the first cell of a row, and below it the others, by their heads where there are several."""
+    found, heads = [], [head.split(",")[0] for head in rows[0][1:]]
+    for row in rows[1:]:
+        named = [(f"{head}: " if len(heads) > 1 else "") + cell for head, cell in zip(heads, row[1:]) if cell]
+        found += [".TP", inline(row[0])] + filled("; ".join(named) + ".")
+    return found
+
+
+def cells(line):
+    return [cell.strip() for cell in line.strip().strip("|").split("|")]
+
+
+def roff(text):
+    """Markdown as this repository writes it: paragraphs, tables, lists, and text that is typed."""
+    lines, found, at = text.strip("\n").split("\n"), [], 0
+    while at < len(lines):
+        line, begins = lines[at], at
+        if not line.strip():
+            at += 1
+        elif line.startswith("|"):
+            while at < len(lines) and lines[at].startswith("|"):
+                at += 1
+            found += table([cells(row) for row in lines[begins:at] if not row.startswith("|---")])
+        elif line.startswith("```"):
+            at = lines.index("```", at + 1) + 1
+            found += example(lines[begins + 1 : at - 1])
+        elif line.startswith("    "):
+            while at < len(lines) and lines[at].startswith("    "):
+                at += 1
+            found += example([row[4:] for row in lines[begins:at]])
+        else:
+            mark = re.match(r"(- |\d+\. )", line)
+            at += 1
+            while at < len(lines) and lines[at].strip() and not re.match(r"\||```|- |\d+\. ", lines[at]):
+                at += 1
+            part = " ".join(row.strip() for row in lines[begins:at])
+            for item in re.split(r" (?=\d+\. [A-Z])", part) if mark else [part]:
+                sign, text = re.match(r"(- |\d+\. |)(.*)", item).groups()
+                head = ".PP" if not sign else ".IP \\(bu 2" if sign == "- " else f".IP {sign.strip()} 4"
+                found += [head] + filled(text)
+    return found
+
+
+def section(file, title):
+    """The part of a page of the repository below this title, without what it says of a crate."""
+    with open(f"{ROOT}/{file}", encoding="utf-8") as page:
+        part = page.read().split(f"\n## {title}\n", 1)[1].split("\n## ", 1)[0]
+    return re.sub(r" \([^()]*\bdesk_\w+[^()]*\)", "", part)
+
+
+def refusals():
+    """The rows of docs/REFUSALS.md."""
+    with open(f"{ROOT}/docs/REFUSALS.md", encoding="utf-8") as page:
+        return "".join(line for line in page if line.startswith("|"))
+
+
+class Help:
+    """What the program's help says of itself and of its subcommands."""
+
+    def __init__(self, program):
+        self.program = program
+        self.version = self.said("--version").split()[1]
+        self.subcommands = [name for name, _ in self.rows(self.said("help"), "Commands") if name != "help"]
+
+    def said(self, *words):
+        return subprocess.run([self.program, *words], check=True, stdout=subprocess.PIPE, text=True).stdout
+
+    @staticmethod
+    def rows(text, title):
+        """The rows of a list in a text of help: a word and what it is."""
+        part = text.split(f"\n{title}:\n", 1)[1].split("\n\n", 1)[0]
+        return [row.strip().split(maxsplit=1) for row in part.split("\n")]
+
+    def of(self, subcommand):
+        """What it does, its words with what they are, and the paragraphs below."""
+        text = self.said("help", subcommand)
+        return text.split("\n", 1)[0], self.rows(text, "Arguments"), text.split("Print version\n", 1)[1]
+
+
+def called(subcommand, words):
+    """A subcommand with the names of its words."""
+    return " ".join([f"\\fBdesk {subcommand}\\fR"] + ["\\fI" + name.strip("<>") + "\\fR" for name, _ in words])
+
+
+def page(name, number, date, version, about, parts):
+    found = ["'\\\" t", ".nr HY 0", ".ad l", f'.TH {name.upper()} {number} {date} "Kovelamiru {version}" Kovelamiru', ".SH NAME"]
+    found.append(f"{literal(name)} \\- {about}")
+    for title, lines in parts:
+        found += [f'.SH "{title}"'] + (lines[1:] if lines[0] == ".PP" else lines)
+    return "\n".join(found) + "\n"
+
+
+def desk_page(said, date):
+    synopsis, subcommands = [], []
+    for subcommand in said.subcommands:
+        does, words, more = said.of(subcommand)
+        synopsis += [".br"] * bool(synopsis) + [called(subcommand, words)]
+        subcommands += [f'.SS "{called(subcommand, words)}"'] + filled(does + ".")
+        for name, about in words:
+            subcommands += [".TP", "\\fI" + name.strip("<>") + "\\fR"] + filled(about)
+        subcommands += roff(re.sub("(?m)^(Example): (.*)$", r"\1: `\2`", more))
+    statuses = []
+    for status, text in STATUSES:
+        statuses += [".TP", f"\\fB{status}\\fR"] + filled(text)
+    lines = []
+    for subcommand in ("pack", "ranges", "facts", "list"):
+        lines += [f'.SS "Lines of {subcommand}"'] + roff(section("docs/FORMATS.md", f"Lines of `{subcommand}`"))[1:]
+    files = []
+    for name, text in (
+        ("/var/lib/kovelamiru-desk/desk.db", "The desk of the service, with its log `desk.db-wal` beside it."),
+        ("/usr/share/doc/kovelamiru-desk/examples/nginx.conf", "An example of a proxy with TLS."),
+    ):
+        files += [".TP", f"\\fI{literal(name)}\\fR"] + filled(text)
+    return page(
+        "desk",
+        1,
+        date,
+        said.version,
+        "Secure Boot signing and revocation desk",
+        [
+            ("SYNOPSIS", synopsis),
+            ("DESCRIPTION", roff(DESK)),
+            ("SUBCOMMANDS", subcommands),
+            ("INPUT AND OUTPUT", lines),
+            ("EXIT STATUS", statuses),
+            ("DIAGNOSTICS", roff(section("docs/FORMATS.md", "Lines on standard error")) + roff("desk-http(7) lists all refusals.")),
+            ("THE SERVICE", roff(section("packaging/README.md", "The service"))),
+            ("BACKUP", roff(section("packaging/README.md", "Backup"))),
+            ("A PROXY IN FRONT", roff(section("packaging/README.md", "A proxy in front"))),
+            ("ENVIRONMENT", roff(ENVIRONMENT)),
+            ("FILES", files),
+            ("SEE ALSO", ["desk-http(7), systemctl(1), runuser(1), nginx(8)"]),
+        ],
+    )
+
+
+def http_page(said, date):
+    return page(
+        "desk-http",
+        7,
+        date,
+        said.version,
+        "requests to a Secure Boot desk, and its responses",
+        [
+            ("DESCRIPTION", roff(HTTP)),
+            ("REQUESTS", roff(section("docs/FORMATS.md", "Requests of HTTP"))),
+            ("RESPONSES", roff(section("docs/FORMATS.md", "Responses of HTTP"))),
+            ("REFUSALS", roff("A number and its name stay one refusal's for good.\n\n" + refusals())),
+            ("LIMITS AND FORMS", roff(section("docs/FORMATS.md", "Limits and forms"))),
+            ("EXAMPLES", roff(EXAMPLES)),
+            ("SEE ALSO", ["desk(1), curl(1)"]),
+        ],
+    )
+
+
+def main():
+    program, date, folder = sys.argv[1:]
+    said = Help(program)
+    for name, text in (("desk.1", desk_page(said, date)), ("desk-http.7", http_page(said, date))):
+        with open(f"{folder}/{name}", "w", encoding="utf-8") as out:
+            out.write(text)
+
+
+main()
