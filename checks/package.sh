@@ -150,7 +150,7 @@ grep -q '^ExecStart=/usr/bin/desk serve ' "unpacked/$service" || fail 'the servi
 grep -q "^User=$name\$" "unpacked/$service" || fail 'the service has another user'
 grep -q "^u $name " "unpacked/usr/lib/sysusers.d/$name.conf" || fail 'the user is not made'
 port=$(sed -n 's/^Environment=PORT=\([0-9]*\) .*/\1/p' "unpacked/$service")
-grep -q "at port $port of 127.0.0.1" desk.1.txt || fail "desk.1 has another port than $port"
+tr -s ' \n' ' ' < desk.1.txt | grep -q "at port $port of 127.0.0.1" || fail "desk.1 has another port than $port"
 grep -q "server 127.0.0.1:$port;" "unpacked/usr/share/doc/$name/examples/nginx.conf" || fail "the proxy asks another port than $port"
 if has systemd-analyze; then
     sed "s|^ExecStart=/|&${room#/}/unpacked/|" "unpacked/$service" > "$name.service"

@@ -120,13 +120,17 @@ echo '{"note":"read it","vote":"yes"}' > yes
 echo "{\"digest\":\"$hex\"}" > digest
 echo '{"component":"grub","generation":3,"stamp":2024010100}' > raise
 
-# ask NAME PATH [CURL-WORD..]: this person asks through the proxy; `body` is what came, and `said` its status. The certificate has to
-# be that of the site.
+# https NAME CURL-WORD..: curl as this person, by TLS; the certificate has to be that of the site.
+https() {
+    token=$(token_of "$1")
+    shift
+    curl -sS --no-progress-meter --max-time 120 --cacert site.pem --resolve "$site:$tls:127.0.0.1" -H "Desk-Token: $token" "$@"
+}
+# ask NAME PATH [CURL-WORD..]: this person asks through the proxy; `body` is what came, and `said` its status.
 ask() {
     who=$1 path=$2
     shift 2
-    curl -sS --max-time 120 --cacert site.pem --resolve "$site:$tls:127.0.0.1" -H "Desk-Token: $(token_of "$who")" \
-        -o body -w '%{http_code}' "$@" "$base$path" > said 2> curl.err || fail "$path: $(cat curl.err)"
+    https "$who" -o body -w '%{http_code}' "$@" "$base$path" > said 2> curl.err || fail "$path: $(cat curl.err)"
     requests=$((requests + 1))
 }
 # is STATUS BODY: so it was answered.
@@ -264,21 +268,16 @@ begins sends "$tls" "$site"
 slow=$peer
 begins takes "$tls" "$site"
 taker=$peer
-# one NUMBER: a client at an address of its own: the level, and a verdict.
+# one NUMBER: a client at an address of its own asks for the level, and for a verdict.
 one() {
-    for path in level verdict; do
-        if [ "$path" = verdict ]; then set -- "$1" --data-binary "@$image"; fi
-        number=$1
-        shift
-        curl -sS --max-time 60 --interface "127.0.0.$((number + 1))" --cacert site.pem --resolve "$site:$tls:127.0.0.1" \
-            -H "Desk-Token: $(token_of ann)" -o "$path.$number" -w '%{http_code} %{time_total}\n' "$@" "$base/$path"
-        set -- "$number"
-    done > "times.$1"
+    address=127.0.0.$(($1 + 1))
+    https ann --interface "$address" -o "level.$1" -w '%{http_code} %{time_total}\n' "$base/level"
+    https ann --interface "$address" -o "verdict.$1" -w '%{http_code} %{time_total}\n' --data-binary "@$image" "$base/verdict"
 }
 started=$(date +%s%N)
 waiting=''
 for client in $(seq "$clients"); do
-    one "$client" &
+    one "$client" > "times.$client" &
     waiting="$waiting $!"
 done
 for client in $waiting; do wait "$client" || fail 'one of thirty clients'; done
@@ -316,8 +315,7 @@ post 422 '{"name":"NoMz","refused":2}' ann k6 /requests longer -H 'Desk-Title: a
 # 150 requests of one address: 60 wait for their turn at most, and the last of them are refused.
 waiting=''
 for client in $(seq 15); do
-    curl -sS --no-progress-meter --max-time 60 --interface 127.0.0.99 --cacert site.pem --resolve "$site:$tls:127.0.0.1" \
-        -H "Desk-Token: $(token_of ann)" -Z --parallel-max 10 -o '/dev/null' -w '%{http_code}\n' "$base/level?[1-10]" > "flood.$client" &
+    https ann --interface 127.0.0.99 -Z --parallel-max 10 -o /dev/null -w '%{http_code}\n' "$base/level?[1-10]" > "flood.$client" &
     waiting="$waiting $!"
 done
 for client in $waiting; do wait "$client" || fail 'one of the flood'; done

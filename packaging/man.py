@@ -19,6 +19,15 @@ STATUSES = [
     ("2", "The words are wrong."),
     ("3", "A device failed: a file, a stream, memory or the database."),
 ]
+# Sections of docs/FORMATS.md.
+INPUT_AND_OUTPUT = [
+    "Lines of `pack`",
+    "Lines of `ranges`",
+    "Lines of `facts`",
+    "Lines of `list`",
+    "Signature lists (UEFI 2.10, section 32.4.1)",
+    "SBAT text (shim's SBAT.md)",
+]
 DESK = """\
 desk keeps the Secure Boot decisions of a distribution in one file: requests for a signature, their reviews, what is listed (db)
 and what is revoked (dbx, SBAT level). It takes calls over HTTP and on the command line, reads EFI images, gives verdicts and exports
@@ -200,8 +209,9 @@ def page(name, number, date, version, about, parts):
     found = ["'\\\" t", ".nr HY 0", ".ad l", f'.TH {name.upper()} {number} {date} "Kovelamiru {version}" Kovelamiru', ".SH NAME"]
     found.append(f"{literal(name)} \\- {about}")
     for title, lines in parts:
-        found += [f'.SH "{title}"'] + (lines[1:] if lines[0] == ".PP" else lines)
-    return "\n".join(found) + "\n"
+        found += [f'.SH "{title}"'] + lines
+    # A paragraph that follows a title needs no mark.
+    return re.sub(r"(?m)^(\.S[HS] .*)\n\.PP$", r"\1", "\n".join(found)) + "\n"
 
 
 def desk_page(said, date):
@@ -217,8 +227,8 @@ def desk_page(said, date):
     for status, text in STATUSES:
         statuses += [".TP", f"\\fB{status}\\fR"] + filled(text)
     lines = []
-    for subcommand in ("pack", "ranges", "facts", "list"):
-        lines += [f'.SS "Lines of {subcommand}"'] + roff(section("docs/FORMATS.md", f"Lines of `{subcommand}`"))[1:]
+    for title in INPUT_AND_OUTPUT:
+        lines += [f'.SS "{title.replace("`", "")}"'] + roff(section("docs/FORMATS.md", title))
     files = []
     for name, text in (
         ("/var/lib/kovelamiru-desk/desk.db", "The desk of the service, with its log `desk.db-wal` beside it."),
