@@ -3,8 +3,8 @@
 # times and with another umask, zone and folder, and the bytes have to be the same. It is unpacked into an empty root. The program
 # from there is the one that was named, does all of checks/runs.sh and checks/day.sh, and runs with that root as its own, where
 # beside the package stand only the files of the libraries that its Depends name. The manual is read: no warning, each
-# subcommand, route and refusal is there. The completions are those of the help. The service is verified, and has an exposure of 2.0
-# at most. lintian finds no error. What isn't installed (lintian, mandoc, systemd-analyze) is left out, and named at the end; so is the
+# subcommand, route and refusal is there. The completions are those of the help. The service's user is made; the service is verified,
+# and has an exposure of 2.0 at most. lintian finds no error. What isn't installed (lintian, mandoc, systemd) is left out, and named at the end; so is the
 # root where chroot isn't allowed. Not part of the gate: it needs bash, dpkg-dev, git, groff, man, python3 and xxd.
 set -eu
 root=$(CDPATH='' cd -- "$(dirname -- "$(readlink -f -- "$0")")/.." && pwd -P)
@@ -152,6 +152,11 @@ grep -q "^u $name " "unpacked/usr/lib/sysusers.d/$name.conf" || fail 'the user i
 port=$(sed -n 's/^Environment=PORT=\([0-9]*\) .*/\1/p' "unpacked/$service")
 tr -s ' \n' ' ' < desk.1.txt | grep -q "at port $port of 127.0.0.1" || fail "desk.1 has another port than $port"
 grep -q "server 127.0.0.1:$port;" "unpacked/usr/share/doc/$name/examples/nginx.conf" || fail "the proxy asks another port than $port"
+if has systemd-sysusers; then
+    mkdir -p unpacked/etc
+    holds 'the user' systemd-sysusers --root="$room/unpacked" "$name.conf"
+    grep -q "^$name:.*:/var/lib/$name:" unpacked/etc/passwd || fail "the user: $(cat unpacked/etc/passwd)"
+fi
 if has systemd-analyze; then
     sed "s|^ExecStart=/|&${room#/}/unpacked/|" "unpacked/$service" > "$name.service"
     silent 'the service' systemd-analyze verify --man=no "$room/$name.service"

@@ -77,7 +77,7 @@ done
     if [ -e "$root/LICENSE" ]; then
         cat "$root/LICENSE"
     else
-        grep 'no LICENSE file' "$root/CONTRIBUTING.md"
+        grep 'no LICENSE file' "$root/CONTRIBUTING.md" || fail 'CONTRIBUTING.md says nothing of a licence'
         printf '%s\n' 'So this package is for those whom the owner lets have it, and is not to be passed on before a licence is named.'
     fi
     printf '\nThe program was built by the Rattle kit (%s), whose libraries are part of it.\n' "$kit"
