@@ -167,7 +167,10 @@ def roff(text):
 def section(file, title):
     """The part of a page of the repository below this title, without what it says of a crate."""
     with open(f"{ROOT}/{file}", encoding="utf-8") as page:
-        part = page.read().split(f"\n## {title}\n", 1)[1].split("\n## ", 1)[0]
+        parts = page.read().split(f"\n## {title}\n", 1)
+    if len(parts) < 2:
+        sys.exit(f"packaging/man.py: {file} has no section {title}")
+    part = parts[1].split("\n## ", 1)[0]
     return re.sub(r" \([^()]*\bdesk_\w+[^()]*\)", "", part)
 
 
