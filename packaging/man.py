@@ -51,7 +51,7 @@ One officer raises a generation of the level, and another one confirms it:
 
 
 def plain(text):
-    """The text in roff, the same on paper as here."""
+    """The text in roff, the same in print as here."""
     for mark, name in (("\\", "\\e"), ("~", "\\(ti"), ("^", "\\(ha"), ("`", "\\(ga")):
         text = text.replace(mark, name)
     return text
