@@ -10,7 +10,7 @@ ghost use Rattle.desk_store.specs.Steps.{Founds};
 
 use desk_bytes::{Guid, Refusal};
 use desk_statements::make;
-use desk_tables::{WriteFault, put_desk};
+use desk_tables::{WriteFault, failed_commit, put_desk};
 use sqlite::{Alter, Connection, Transaction};
 
 /// Whether the store has no table, index or view.
@@ -57,7 +57,7 @@ pub(crate) fn found_at_once<S: Alter>(conn: &mut Connection<S>, owner: &Guid) ->
     match found(&mut tx, owner) {
         Ok(()) => match tx.commit() {
             Ok(()) => Ok(()),
-            Err(_) => Err(Refusal::Store),
+            Err(error) => Err(failed_commit(conn, &error).refusal()),
         },
         Err(fault) => Err(fault.refusal()),
     }

@@ -5,8 +5,10 @@ ghost use Rattle.sqlite.specs.State.{HasCleanDisk, IsUnchanged};
 ghost use Rattle.desk_sql.specs.States.{Spares};
 
 use crate::WriteFault;
-use desk_statements::SELECT_DESK;
 use sqlite::{Alter, Connection, Error, ErrorCode};
+
+/// A query of no table, so that any open store prepares it: where no desk could be made there is no table.
+const OF_NO_TABLE: &str = "SELECT 1";
 
 /// Why a commit failed. `NoMemory`: the store wanted memory and is open still, so nothing was
 /// committed. It asks the store for nothing but that it is open.
@@ -17,7 +19,7 @@ pub fn failed_commit<S: Alter>(conn: &mut Connection<S>, error: &Error) -> Write
     ensures survives { Spares S.Store conn.old conn.new }
 {
     match error {
-        Error::SqliteFailure(ErrorCode::OutOfMemory) => match conn.prepare(SELECT_DESK) {
+        Error::SqliteFailure(ErrorCode::OutOfMemory) => match conn.prepare(OF_NO_TABLE) {
             Ok(_) => WriteFault::NoMemory,
             Err(_) => WriteFault::Store,
         },
