@@ -1,3 +1,4 @@
 pub mod Heads
 pub mod Bodies
 pub mod Fields
+pub mod Watches

@@ -1,7 +1,9 @@
 //! A body of a known length.
-ghost use Rattle.std.specs.Prelude.{IfOk};
+ghost use Rattle.std.specs.Prelude.{IfErr, IfOk};
 ghost use Rattle.desk_heads.specs.Bodies.{TakesBody};
+ghost use Rattle.desk_heads.specs.Watches.{HasCause};
 
+use crate::Watch;
 use desk_bytes::InputFault;
 use std::alloc::Global;
 use std::io::Read;
@@ -14,15 +16,17 @@ const PIECE: usize = 8192;
 pub fn read_body<R: Read>(
     alloc: Global,
     reader: &mut R,
+    watch: &mut Watch,
     size: usize,
 ) -> Result<Option<Vec<u8>>, InputFault>
-    ensures { IfOk result (TakesBody size (R.remaining reader.old) (R.remaining reader.new)) }
+    ensures found { IfOk result (TakesBody size (R.remaining reader.old) (R.remaining reader.new)) }
+    ensures device { IfErr result (HasCause watch.new) }
 {
     let mut body = Vec::new(alloc);
     let mut piece = [0; PIECE];
     while body.len() < size {
         let room = (size - body.len()).min(PIECE);
-        match reader.read(&mut piece[..room]) {
+        match watch.read(reader, &mut piece[..room]) {
             Ok(0) => return Ok(None),
             Ok(count) => {
                 if body.extend_from_slice(&piece[..count]).is_err() {

@@ -1,8 +1,9 @@
 //! The head of a request, read byte by byte.
-ghost use Rattle.std.specs.Prelude.{IfOk};
+ghost use Rattle.std.specs.Prelude.{IfErr, IfOk};
 ghost use Rattle.desk_heads.specs.Heads.{FindsOf, Looks, TakesByte};
+ghost use Rattle.desk_heads.specs.Watches.{HasCause};
 
-use crate::Begun;
+use crate::{Begun, Watch};
 use desk_bytes::InputFault;
 use httparse::Status;
 use httparse::spans::{EMPTY_HEADER_SPAN, parse_request};
@@ -26,11 +27,12 @@ enum Look {
 }
 
 /// The next byte, or none at the input's end.
-fn read_byte<R: Read>(reader: &mut R) -> Result<Option<u8>, InputFault>
-    ensures { IfOk result (TakesByte (R.remaining reader.old) (R.remaining reader.new)) }
+fn read_byte<R: Read>(reader: &mut R, watch: &mut Watch) -> Result<Option<u8>, InputFault>
+    ensures taken { IfOk result (TakesByte (R.remaining reader.old) (R.remaining reader.new)) }
+    ensures device { IfErr result (HasCause watch.new) }
 {
     let mut byte = [0];
-    match reader.read(&mut byte) {
+    match watch.read(reader, &mut byte) {
         Ok(0) => Ok(None),
         Ok(_) => Ok(Some(byte[0])),
         Err(_) => Err(InputFault::Read),
@@ -53,12 +55,17 @@ fn examine(bytes: &[u8]) -> Look
 /// 64 fields. After a head the reader stands at the first byte of the body; one byte is asked for at a time,
 /// so a reader without a buffer is slow. All bytes so far are parsed at each LF, so the time goes by the bytes
 /// times the lines. An interrupted read is a fault. Takes memory for the head.
-pub fn read_head<R: Read>(alloc: Global, reader: &mut R) -> Result<Begun, InputFault>
-    ensures { IfOk result (FindsOf (R.remaining reader.old) (R.remaining reader.new)) }
+pub fn read_head<R: Read>(
+    alloc: Global,
+    reader: &mut R,
+    watch: &mut Watch,
+) -> Result<Begun, InputFault>
+    ensures found { IfOk result (FindsOf (R.remaining reader.old) (R.remaining reader.new)) }
+    ensures device { IfErr result (HasCause watch.new) }
 {
     let mut taken = Vec::new(alloc);
     while taken.len() < MOST_BYTES {
-        let Some(byte) = read_byte(reader)? else {
+        let Some(byte) = read_byte(reader, watch)? else {
             return Ok(if taken.is_empty() {
                 Begun::Nothing
             } else {

@@ -81,9 +81,10 @@ closed_ask head v (Ok due) found is =
 -- a head with a fault
 pub closed_refuse : (head : List ℕ) (f : WantedFault) (r : Result Due Unread)
     → ((h : RequestHead) (q : List ℕ) → ReadsRequest head h q → HasFewFields h → f ≢ faults.NoMemory → wanted_of (parts_of h) ≡ Err f)
-    → MatchResult r (λ due. (f ≢ faults.NoMemory) × (due ≡ Err (refused_by_head f))) (λ u. u ≡ unread.Outage outage.NoMemory)
+    → MatchResult r (λ due. (f ≢ faults.NoMemory) × (due ≡ Err (refused_by_head f)))
+    (λ u. (f ≡ faults.NoMemory) × (u ≡ unread.Outage outage.NoMemory))
     → MatchResult r (IsDueOfAll head) (λ u. (u ≡ unread.Outage outage.Reopen) ⊎ (u ≡ unread.Outage outage.NoMemory))
-closed_refuse head f (Err u) found is = inr is
+closed_refuse head f (Err u) found is = inr is.1
 closed_refuse head f (Ok due) found is =
     let P : Due → Type 0 = IsErr in
     (subst P (sym is.1) refl, λ h q reads few cs rest. is.1 ∙ rw (found h q reads few is.0) refl)

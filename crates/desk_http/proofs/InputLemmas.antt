@@ -70,7 +70,8 @@ wanted_is_due w v r known shows e found = rw e found
 -- the head has a fault
 pub refused_is_due : (w : Result Want WantedFault) (f : WantedFault) (r : Result Due Unread) (known : Option (List ℕ)) (shows : List ℕ → History → Type 0)
     → (f ≢ NoMemory → w ≡ Err f)
-    → MatchResult r (λ due. (f ≢ NoMemory) × (due ≡ Err (refused_by_head f))) (λ unread. unread ≡ Outage outage.NoMemory)
+    → MatchResult r (λ due. (f ≢ NoMemory) × (due ≡ Err (refused_by_head f)))
+    (λ unread. (f ≡ NoMemory) × (unread ≡ Outage outage.NoMemory))
     → IfOk r (λ due. IfSome known (λ rest. Views shows (λ _ cs. due ≡ of_head cs rest w)))
 refused_is_due w f (Err u) known shows given found = tt
 refused_is_due w f (Ok due) None shows given found = tt

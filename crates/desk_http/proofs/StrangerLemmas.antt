@@ -7,11 +7,12 @@ use Rattle.desk_history.specs.Calls.{History}
 use Rattle.desk_heads.specs.Fields.{parts_of}
 use Rattle.desk_heads.specs.Heads.{FindsOf, HasFewFields}
 use Rattle.desk_heads.specs.declared.begun.Begun.TheVariants.{Head, NoHead}
+use Rattle.desk_heads.proofs.HeadLemmas.{no_request_in_nothing}
 use Rattle.desk_requests.specs.Wanted.{Want, wanted_of}
 use Rattle.desk_requests.specs.declared.fault.WantedFault.{WantedFault}
 use Rattle.desk_calls.specs.Desks.{Views}
-use Rattle.desk_http.specs.Asked.{IsOfNobody, LeavesBody, caller_of}
-use Rattle.desk_http.specs.Serving.{LeavesStrangers}
+use Rattle.desk_http.specs.Asked.{HasByte, IsOfNobody, LeavesBody, caller_of}
+use Rattle.desk_http.specs.Serving.{IsOfBytes, LeavesStrangers}
 use Rattle.desk_http.specs.Unread.{IsOfInput, WhenAsked}
 use Rattle.desk_http.specs.declared.served.HttpFault.{HttpFault}
 use Rattle.desk_http.specs.declared.served.HttpFault.TheVariants as http
@@ -43,6 +44,17 @@ pub leaves_none : (old mid new : Option (List ℕ)) (shows : List ℕ → Histor
 leaves_none None mid new shows found = tt
 leaves_none (Some b) mid new shows found = λ owner cs shown h rest has nobody. absurd (found.1 h rest has)
 
+-- an input that begins with a head has a byte
+pub head_has_byte : (old mid : Option (List ℕ)) (taken : Vec ℕ Global) → FindsOf old mid (Head taken) → HasByte old
+head_has_byte None mid taken found = tt
+head_has_byte (Some b) mid taken found = λ nil.
+    let P : List ℕ → Type 0 = λ l. ReadsRequest l found.0 found.1 in no_request_in_nothing found.0 found.1 (subst P nil found.2.reads)
+
+-- so has one that begins with none
+pub none_has_byte : (old mid : Option (List ℕ)) → FindsOf old mid NoHead → HasByte old
+none_has_byte None mid found = tt
+none_has_byte (Some b) mid found = found.0
+
 -- nothing is known of what is asked for
 pub unread_leaves : (u : Unread) (holds : Type 0) → holds → WhenAsked (Err u) holds
 unread_leaves unread.Read holds h = tt
@@ -63,6 +75,20 @@ leaves_strangers old input left (Ok Nothing) h = (tt, tt)
 leaves_strangers old input left (Err http.Read) h = (tt, tt)
 leaves_strangers old input left (Err http.Write) h = (tt, h)
 leaves_strangers old input left (Err http.NoMemory) h = (tt, tt)
+
+-- an input that has a byte has it whatever became of its response
+pub is_of_bytes : (input : Option (List ℕ)) (r : Result Served HttpFault) → HasByte input → IsOfBytes input r
+is_of_bytes input (Ok (Answered code number)) h = (h, tt)
+is_of_bytes input (Ok Nothing) h = (tt, tt)
+is_of_bytes input (Err http.Read) h = (tt, tt)
+is_of_bytes input (Err http.Write) h = (tt, h)
+is_of_bytes input (Err http.NoMemory) h = (tt, tt)
+
+-- no response went out, so there is none to an input without a byte
+pub nothing_of_bytes : (input : Option (List ℕ)) (f : HttpFault) → f ≢ http.Write → IsOfBytes input (Err f)
+nothing_of_bytes input http.Read differs = (tt, tt)
+nothing_of_bytes input http.Write differs = absurd (differs refl)
+nothing_of_bytes input http.NoMemory differs = (tt, tt)
 
 -- no response went out
 pub nothing_left : (old : List ℕ → History → Type 0) (input left : Option (List ℕ)) (f : HttpFault) → f ≢ http.Write → LeavesStrangers old input left (Err f)

@@ -68,6 +68,10 @@ abbrev pub LeavesBody : (shows : List ℕ → History → Type 0) → (input lef
 LeavesBody shows input left = IfSome input (λ b. Views shows (λ _ cs. (h : RequestHead) (rest : List ℕ)
     → HasHead b h rest → IsOfNobody cs h → left ≡ Some rest))
 
+-- of the input at least a byte is known
+abbrev pub HasByte : Option (List ℕ) → Type 0
+HasByte input = IfSome input (λ b. b ≢ [])
+
 -- what the input b asks for: what the head says that begins it, or BadHead where no head does
 abbrev pub Asks : History → List ℕ → Due → Type 0
 Asks cs b due =

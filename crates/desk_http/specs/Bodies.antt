@@ -3,21 +3,12 @@ use Rattle.std.specs.Prelude.{ℕ, List, Bool, true, false, length, take, nat_le
 use Rattle.std.specs.declared.alloc.Global.{Global}
 use Rattle.desk_requests.specs.declared.ask.Asked.{Asked}
 use Rattle.desk_requests.specs.declared.ask.Asked.TheVariants as asked
-use Rattle.desk_requests.specs.declared.route.Route.{Route}
-use Rattle.desk_requests.specs.declared.route.Route.TheVariants as route
 
 -- the body of this length at the front of what follows the head; none where that is shorter
 abbrev pub body_in : ℕ → List ℕ → Option (List ℕ)
 body_in size rest = if nat_le size (length rest) then Some (take size rest) else None
 
--- own: the route's body is an image
-abbrev pub takes_image : Route → Bool
-takes_image route.Submit = true
-takes_image route.Return = true
-takes_image route.Verdict = true
-takes_image _ = false
-
--- the same of what is asked for
+-- own: the body of what is asked for is an image
 abbrev pub asks_with_image : Asked → Bool
 asks_with_image (asked.Submit key title) = true
 asks_with_image (asked.Return key number) = true

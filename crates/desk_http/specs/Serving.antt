@@ -5,12 +5,14 @@ use Rattle.desk_bytes.specs.Output.{AppendsBeginning}
 use Rattle.desk_bytes.specs.Refusals.{number_of}
 use Rattle.desk_bytes.specs.declared.refusal.Refusal.TheVariants as refusals
 use Rattle.desk_responses.specs.declared.refused.Refused.{Refused as Refusal}
+use Rattle.desk_heads.specs.Watches.{HasFailed}
+use Rattle.desk_heads.specs.declared.watch.Watch.{Watch}
 use Rattle.desk_history.specs.Calls.{History}
 use Rattle.desk_calls.specs.Answers.{Answers, IsClosed, no_memory, store_failed}
 use Rattle.desk_calls.specs.Desks.{Keeps as Stays, Views}
 use Rattle.desk_calls.specs.declared.answers.Answer.{Answer}
 use Rattle.desk_calls.specs.declared.answers.Answer.TheVariants.{Refused}
-use Rattle.desk_http.specs.Asked.{Asks, Due, LeavesBody}
+use Rattle.desk_http.specs.Asked.{Asks, Due, HasByte, LeavesBody}
 use Rattle.desk_http.specs.Responses.{IsTold, response_of}
 use Rattle.desk_http.specs.declared.served.HttpFault.{HttpFault}
 use Rattle.desk_http.specs.declared.served.HttpFault.TheVariants as fault
@@ -74,6 +76,12 @@ WhenUnwritten (Err fault.Read) holds = ⊤
 WhenUnwritten (Err fault.Write) holds = holds
 WhenUnwritten (Err fault.NoMemory) holds = ⊤
 
+-- that the reader failed is told only where a read failed
+abbrev pub HasCause : Watch → HttpFault → Type 0
+HasCause watch fault.Read = HasFailed watch
+HasCause watch fault.Write = ⊤
+HasCause watch fault.NoMemory = ⊤
+
 -- In what follows old and new are what the desk showed and shows, failed is that it has failed, input and left are what
 -- the reader had and has, and before and after are what the writer had and has.
 
@@ -127,3 +135,7 @@ pub record RespondsClosed (input before after : Option (List ℕ)) (result : Res
 abbrev pub LeavesStrangers : (old : List ℕ → History → Type 0) → (input left : Option (List ℕ)) → Result Served HttpFault → Type 0
 LeavesStrangers old input left result =
     WhenAnswered result (λ _ _. LeavesBody old input left) × WhenUnwritten result (LeavesBody old input left)
+
+-- where what was asked for is answered, the input has a byte
+abbrev pub IsOfBytes : (input : Option (List ℕ)) → Result Served HttpFault → Type 0
+IsOfBytes input result = WhenAnswered result (λ _ _. HasByte input) × WhenUnwritten result (HasByte input)

@@ -1,5 +1,7 @@
 -- Why nothing is known of what a request asks for.
 use Rattle.std.specs.Prelude.{◌≡◌, ⊤, ℕ, List, Option, Some, None, Result, Ok, Err, IfSome, IsErr}
+use Rattle.desk_heads.specs.Watches.{HasFailed}
+use Rattle.desk_heads.specs.declared.watch.Watch.{Watch}
 use Rattle.desk_history.specs.Calls.{History}
 use Rattle.desk_responses.specs.declared.outage.Outage.TheVariants as outage
 use Rattle.desk_http.specs.Asked.{Asks, Due}
@@ -29,6 +31,12 @@ abbrev pub IsOfInput : Unread → Type 0
 IsOfInput unread.Read = ⊤
 IsOfInput unread.NoMemory = ⊤
 IsOfInput (unread.Outage _) = ⊥
+
+-- that the reader failed is told only where a read failed
+abbrev pub HasCause : Watch → Unread → Type 0
+HasCause watch unread.Read = HasFailed watch
+HasCause watch unread.NoMemory = ⊤
+HasCause watch (unread.Outage _) = ⊤
 
 -- it can come of a desk that has failed: no call of it fails once more
 abbrev pub IsOfClosed : Unread → Type 0

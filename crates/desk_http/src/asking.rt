@@ -1,50 +1,23 @@
 //! What a person asks for with a body.
 ghost use Rattle.std.specs.Prelude.{◌≡◌, ◌≢◌, Err, IfErr, IfOk, IfSome, MatchResult, Ok, Some, false, true};
+ghost use Rattle.desk_requests.specs.Routes as routes;
 ghost use Rattle.desk_requests.specs.Wanted.{shown};
 ghost use Rattle.desk_http.specs.Asked as spec;
 ghost use Rattle.desk_http.specs.Bodies as bodies;
-ghost use Rattle.desk_http.specs.Unread.{IsOwn};
+ghost use Rattle.desk_http.specs.Unread.{HasCause, IsOwn};
 
 use crate::body_reading::read_bytes;
 use crate::image_reading::read_image;
 use crate::served::{Due, Unread};
 use crate::tasks::{task_with_body, task_with_image};
 use desk_calls::Call;
-use desk_requests::{AskedFault, Route, Wanted, asked};
+use desk_heads::Watch;
+use desk_requests::{AskedFault, Wanted, asked};
 use desk_responses::{Outage, Refused};
 use desk_texts::Person;
 use pe_image::Pieces;
 use std::alloc::{AllocError, Global};
 use std::io::Read;
-
-/// Whether the route's body is an image.
-fn takes_image(route: Route) -> bool
-    ensures { result ≡ bodies.takes_image route }
-{
-    match route {
-        Route::Submit | Route::Return | Route::Verdict => true,
-        Route::Requests
-        | Route::Request
-        | Route::Review
-        | Route::Withdraw
-        | Route::ListCertificate
-        | Route::ListDigest
-        | Route::Unlist
-        | Route::RevokeDigest
-        | Route::RevokeCertificate
-        | Route::RaiseLevel
-        | Route::ImportDbx
-        | Route::ImportCsv
-        | Route::ImportLevel
-        | Route::Confirm
-        | Route::Drop
-        | Route::Proposals
-        | Route::Dbx
-        | Route::Db
-        | Route::Level
-        | Route::Report => false,
-    }
-}
 
 /// What a person asks for with an image.
 fn ask_with_image(
@@ -53,7 +26,7 @@ fn ask_with_image(
     wanted: &Wanted<'_>,
     image: Pieces,
 ) -> Result<Due, AllocError>
-    requires { bodies.takes_image wanted.now.route ≡ true }
+    requires { routes.takes_image wanted.now.route ≡ true }
     ensures asked { IfOk result (λ due. due ≡ spec.of_body person (shown wanted.now) (Some image)) }
     ensures no_store { result ≢ Ok (Err (Refused.Unavailable Outage.Store)) }
 {
@@ -76,7 +49,7 @@ fn ask_with_body(
     wanted: &Wanted<'_>,
     body: Vec<u8>,
 ) -> Result<Due, AllocError>
-    requires { bodies.takes_image wanted.now.route ≡ false }
+    requires { routes.takes_image wanted.now.route ≡ false }
     ensures asked { IfOk result (λ due.
         due ≡ spec.of_body person (shown wanted.now) (Some body.items)) }
     ensures no_store { result ≢ Ok (Err (Refused.Unavailable Outage.Store)) }
@@ -110,19 +83,21 @@ pub(crate) fn ask<R: Read>(
     person: Person,
     wanted: &Wanted<'_>,
     reader: &mut R,
+    watch: &mut Watch,
 ) -> Result<Due, Unread>
     ensures asked { IfOk result (λ due. IfSome (R.remaining reader.old) (λ rest.
         due ≡ spec.of_body person (shown wanted.now) (bodies.body_in wanted.now.size rest))) }
     ensures no_store { result ≢ Ok (Err (Refused.Unavailable Outage.Store)) }
     ensures named { IfErr result IsOwn }
+    ensures device { IfErr result (HasCause watch.new) }
 {
-    if takes_image(wanted.route) {
-        match read_image(alloc, reader, wanted.size)? {
+    if wanted.route.takes_image() {
+        match read_image(alloc, reader, watch, wanted.size)? {
             Some(image) => or_unread(ask_with_image(alloc, person, wanted, image)),
             None => Ok(Err(Refused::BadHead)),
         }
     } else {
-        match read_bytes(alloc, reader, wanted.size)? {
+        match read_bytes(alloc, reader, watch, wanted.size)? {
             Some(body) => or_unread(ask_with_body(alloc, person, wanted, body)),
             None => Ok(Err(Refused::BadHead)),
         }

@@ -1,11 +1,13 @@
 //! A head, and a body that is no image.
 ghost use Rattle.std.specs.Prelude.{◌≡◌, IfErr, IfOk, IfSome};
+ghost use Rattle.desk_heads.specs.Watches as watches;
+ghost use Rattle.desk_heads.specs.declared.watch.Watch.{Watch as Watching};
 ghost use Rattle.desk_http.specs.Bodies.{body_in, items_of};
-ghost use Rattle.desk_http.specs.Unread.{IsOfInput, IsOwn};
+ghost use Rattle.desk_http.specs.Unread.{HasCause, IsOfInput, IsOwn};
 
 use crate::served::Unread;
 use desk_bytes::InputFault;
-use desk_heads::read_body;
+use desk_heads::{Watch, read_body};
 use std::alloc::Global;
 use std::io::Read;
 
@@ -13,6 +15,7 @@ use std::io::Read;
 pub(crate) fn unread(fault: InputFault) -> Unread
     ensures own { IsOwn result }
     ensures input { IsOfInput result }
+    ensures device { (watch : Watching) → watches.HasCause watch fault → HasCause watch result }
 {
     match fault {
         InputFault::TooLong | InputFault::Read => Unread::Read,
@@ -25,13 +28,15 @@ pub(crate) fn unread(fault: InputFault) -> Unread
 pub(crate) fn read_bytes<R: Read>(
     alloc: Global,
     reader: &mut R,
+    watch: &mut Watch,
     size: usize,
 ) -> Result<Option<Vec<u8>>, Unread>
     ensures body { IfOk result (λ body. IfSome (R.remaining reader.old)
         (λ b. items_of body ≡ body_in size b)) }
     ensures named { IfErr result IsOwn }
+    ensures device { IfErr result (HasCause watch.new) }
 {
-    match read_body(alloc, reader, size) {
+    match read_body(alloc, reader, watch, size) {
         Ok(body) => Ok(body),
         Err(fault) => Err(unread(fault)),
     }

@@ -4,19 +4,20 @@ ghost use Rattle.std.specs.Prelude.{IsErr, MatchOption, MatchResult};
 ghost use Rattle.httparse.specs.Grammar.{ReadsRequest, RequestHead};
 ghost use Rattle.desk_heads.specs.Fields.{parts_of};
 ghost use Rattle.desk_heads.specs.Heads.{HasFewFields};
+ghost use Rattle.desk_heads.specs.declared.watch.Watch.{Watch as Watching};
 ghost use Rattle.desk_requests.specs.Fields.{bytes_of};
 ghost use Rattle.desk_requests.specs.Wanted as wants;
 ghost use Rattle.desk_calls.specs.Desks.{Keeps, Views};
 ghost use Rattle.desk_history.specs.Calls.{History};
 ghost use Rattle.desk_http.specs.Asked as spec;
 ghost use Rattle.desk_http.specs.Refused.{refused_by_head};
-ghost use Rattle.desk_http.specs.Unread.{CanCome, IsKnownOfClosed, WhenAsked};
+ghost use Rattle.desk_http.specs.Unread.{CanCome, HasCause, IsKnownOfClosed, WhenAsked};
 
 use crate::asking::ask;
 use crate::body_reading::unread;
 use crate::served::{Due, Unread};
 use desk_calls::{Answering, caller};
-use desk_heads::{Begun, read_head};
+use desk_heads::{Begun, Watch, read_head};
 use desk_requests::{Wanted, WantedFault, wanted};
 use desk_responses::{Outage, Refused};
 use desk_texts::Person;
@@ -26,7 +27,8 @@ use std::io::Read;
 /// What is due where the head has this fault.
 fn refuse(fault: WantedFault) -> Result<Due, Unread>
     ensures refused { MatchResult result (λ due. (fault ≢ WantedFault.NoMemory)
-        × (due ≡ Err (refused_by_head fault))) (λ unread. unread ≡ Unread.Outage Outage.NoMemory) }
+        × (due ≡ Err (refused_by_head fault))) (λ unread. (fault ≡ WantedFault.NoMemory)
+        × (unread ≡ Unread.Outage Outage.NoMemory)) }
     ensures no_store { result ≢ Ok (Err (Refused.Unavailable Outage.Store)) }
 {
     match fault {
@@ -53,6 +55,7 @@ fn person_of<D: Answering>(desk: &mut D, token: Option<&[u8]>) -> Result<Option<
     ensures closed { D.failed desk.old → (desk.new ≡ desk.old) × MatchResult result
         (λ person. (person ≡ None) × (bytes_of token.entry ≡ None))
         (λ unread. unread ≡ Unread.Outage Outage.Reopen) }
+    ensures device { (watch : Watching) → IfErr result (HasCause watch) }
 {
     let Some(token) = token else {
         return Ok(None);
@@ -69,6 +72,7 @@ fn ask_as<D: Answering, R: Read>(
     desk: &mut D,
     wanted: &Wanted<'_>,
     reader: &mut R,
+    watch: &mut Watch,
 ) -> Result<Due, Unread>
     ensures asked { D.clean desk.new → IfOk result (λ due. IfSome (R.remaining reader.old) (λ rest.
         Views (D.shows desk.old) (λ _ cs. due ≡ spec.of_caller (wants.shown wanted.now) rest
@@ -85,9 +89,10 @@ fn ask_as<D: Answering, R: Read>(
     ensures stranger { D.clean desk.new → Views (D.shows desk.old) (λ _ cs.
         spec.caller_of cs (wants.shown wanted.now).token ≡ None
         → R.remaining reader.new ≡ R.remaining reader.old) }
+    ensures device { IfErr result (HasCause watch.new) }
 {
     match person_of(desk, wanted.token) {
-        Ok(Some(person)) => ask(alloc, person, wanted, reader),
+        Ok(Some(person)) => ask(alloc, person, wanted, reader, watch),
         Ok(None) => Ok(Err(Refused::UnknownCaller)),
         Err(unread) => Err(unread),
     }
@@ -99,6 +104,7 @@ fn ask_by_head<D: Answering, R: Read>(
     desk: &mut D,
     head: &[u8],
     reader: &mut R,
+    watch: &mut Watch,
 ) -> Result<Due, Unread>
     ensures asked { (h : RequestHead) (q : List ℕ) → ReadsRequest head.now h q → HasFewFields h
         → D.clean desk.new → IfOk result (λ due. IfSome (R.remaining reader.old) (λ rest.
@@ -116,9 +122,10 @@ fn ask_by_head<D: Answering, R: Read>(
     ensures stranger { (h : RequestHead) (q : List ℕ) → ReadsRequest head.now h q → HasFewFields h
         → D.clean desk.new → Views (D.shows desk.old) (λ _ cs. spec.IsOfNobody cs h
         → R.remaining reader.new ≡ R.remaining reader.old) }
+    ensures device { IfErr result (HasCause watch.new) }
 {
     match wanted(alloc, head) {
-        Ok(wanted) => ask_as(alloc, desk, &wanted, reader),
+        Ok(wanted) => ask_as(alloc, desk, &wanted, reader, watch),
         Err(fault) => refuse(fault),
     }
 }
@@ -128,6 +135,7 @@ pub(crate) fn read_due<D: Answering, R: Read>(
     alloc: Global,
     desk: &mut D,
     reader: &mut R,
+    watch: &mut Watch,
 ) -> Result<Option<Due>, Unread>
     ensures asked { D.clean desk.new → IfOk result (λ found. IfSome (R.remaining reader.old) (λ b.
         Views (D.shows desk.old) (λ _ cs. MatchOption found (b ≡ []) (spec.Asks cs b)))) }
@@ -141,14 +149,16 @@ pub(crate) fn read_due<D: Answering, R: Read>(
         × IsKnownOfClosed (R.remaining reader.old) result }
     ensures stranger { D.clean desk.new → WhenAsked result
         (spec.LeavesBody (D.shows desk.old) (R.remaining reader.old) (R.remaining reader.new)) }
+    ensures some { WhenAsked result (spec.HasByte (R.remaining reader.old)) }
+    ensures device { IfErr result (HasCause watch.new) }
 {
-    let head = match read_head(alloc, reader) {
+    let head = match read_head(alloc, reader, watch) {
         Ok(Begun::Head(head)) => head,
         Ok(Begun::Nothing) => return Ok(None),
         Ok(Begun::NoHead) => return Ok(Some(Err(Refused::BadHead))),
         Err(fault) => return Err(unread(fault)),
     };
-    let due = ask_by_head(alloc, desk, &head, reader);
+    let due = ask_by_head(alloc, desk, &head, reader, watch);
     drop(head);
     match due {
         Ok(due) => Ok(Some(due)),

@@ -4,7 +4,7 @@ ghost use Rattle.std.specs.Prelude.{IfErr, IfOk, IfSome, MatchOption, OnErr};
 ghost use Rattle.desk_calls.specs.Answers.{Serves, store_failed};
 ghost use Rattle.desk_calls.specs.Desks.{Keeps, Views};
 ghost use Rattle.desk_calls.specs.declared.answers.Answer.{Answer};
-ghost use Rattle.desk_http.specs.Asked.{LeavesBody};
+ghost use Rattle.desk_http.specs.Asked.{HasByte, LeavesBody};
 ghost use Rattle.desk_http.specs.Serving as spec;
 
 use crate::reading::read_due;
@@ -12,6 +12,7 @@ use crate::responding::send_answer;
 use crate::served::{Due, Unread};
 use crate::{HttpFault, Served};
 use desk_calls::{Answer, Answering, answer};
+use desk_heads::Watch;
 use desk_responses::{Outage, Refused};
 use std::alloc::Global;
 use std::io::{Read, Write};
@@ -36,6 +37,7 @@ fn answer_input<D: Answering, R: Read>(
     alloc: Global,
     desk: &mut D,
     reader: &mut R,
+    watch: &mut Watch,
 ) -> Result<Option<Answer>, HttpFault>
     ensures answered { D.clean desk.new → IfOk result (λ found.
         IfSome (R.remaining reader.old) (λ b. Views (D.shows desk.old) (λ owner cs.
@@ -49,8 +51,10 @@ fn answer_input<D: Answering, R: Read>(
         IfSome found (spec.TellsClosed (R.remaining reader.old))) }
     ensures stranger { D.clean desk.new → IfOk result (λ found. IfSome found (λ _.
         LeavesBody (D.shows desk.old) (R.remaining reader.old) (R.remaining reader.new))) }
+    ensures some { IfOk result (λ found. IfSome found (λ _. HasByte (R.remaining reader.old))) }
+    ensures device { IfErr result (spec.HasCause watch.new) }
 {
-    match read_due(alloc, desk, reader) {
+    match read_due(alloc, desk, reader, watch) {
         Ok(Some(due)) => Ok(Some(answer_due(alloc, desk, due))),
         Ok(None) => Ok(None),
         Err(Unread::Read) => Err(HttpFault::Read),
@@ -81,13 +85,15 @@ pub fn serve_one<D: Answering, R: Read, W: Write>(
         (D.failed desk.new) (R.remaining reader.old) (W.contents writer.old) (W.contents writer.new) result }
     ensures stranger { D.clean desk.new → spec.LeavesStrangers (D.shows desk.old)
         (R.remaining reader.old) (R.remaining reader.new) result }
+    ensures some { spec.IsOfBytes (R.remaining reader.old) result }
     ensures response { spec.HasResponded (W.contents writer.old) (W.contents writer.new) result }
     ensures poisons { spec.FailsFirst (D.failed desk.new) result }
     ensures closed { D.failed desk.old → (desk.new ≡ desk.old) × spec.RespondsClosed
         (R.remaining reader.old) (W.contents writer.old) (W.contents writer.new) result }
     ensures before { D.clean desk.new → D.clean desk.old }
 {
-    match answer_input(alloc, desk, reader) {
+    let mut watch = Watch::new();
+    match answer_input(alloc, desk, reader, &mut watch) {
         Ok(Some(answer)) => send_answer(alloc, &answer, writer),
         Ok(None) => Ok(Served::Nothing),
         Err(fault) => Err(fault),

@@ -68,9 +68,13 @@ is_read route.Level = true
 is_read route.Report = true
 is_read _ = false
 
+-- own: its body is an image
+abbrev pub takes_image : Route → Bool
+takes_image route.Submit = true
+takes_image route.Return = true
+takes_image route.Verdict = true
+takes_image _ = false
+
 -- own: the most bytes of a body; more where it is an image
 abbrev pub limit_of : Route → ℕ
-limit_of route.Submit = longest_image
-limit_of route.Return = longest_image
-limit_of route.Verdict = longest_image
-limit_of _ = 4194304
+limit_of r = if takes_image r then longest_image else 4194304

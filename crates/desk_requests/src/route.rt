@@ -81,12 +81,12 @@ impl Methods {
 }
 
 impl Route {
-    /// The most bytes of a body: `LONGEST_IMAGE` where it is an image, else `LONGEST_BODY`.
-    pub(crate) fn limit(self) -> u64
-        ensures { result ≡ spec.limit_of self }
+    /// Whether its body is an image.
+    pub fn takes_image(self) -> bool
+        ensures { result ≡ spec.takes_image self }
     {
         match self {
-            Route::Submit | Route::Return | Route::Verdict => LONGEST_IMAGE,
+            Route::Submit | Route::Return | Route::Verdict => true,
             Route::Requests
             | Route::Request
             | Route::Review
@@ -106,7 +106,18 @@ impl Route {
             | Route::Dbx
             | Route::Db
             | Route::Level
-            | Route::Report => LONGEST_BODY,
+            | Route::Report => false,
+        }
+    }
+
+    /// The most bytes of a body: `LONGEST_IMAGE` where it is an image, else `LONGEST_BODY`.
+    pub(crate) fn limit(self) -> u64
+        ensures { result ≡ spec.limit_of self }
+    {
+        if self.takes_image() {
+            LONGEST_IMAGE
+        } else {
+            LONGEST_BODY
         }
     }
 

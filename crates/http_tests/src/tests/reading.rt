@@ -1,6 +1,6 @@
 //! Heads and bodies from readers.
 use desk_bytes::InputFault;
-use desk_heads::{Begun, read_body, read_head};
+use desk_heads::{Begun, Watch, read_body, read_head};
 use desk_testing::{Slow, bytes_of};
 use std::alloc::{AllocError, Global};
 use std::test::Fail;
@@ -55,7 +55,9 @@ fn reads_a_head_alone(rt: HostRuntime) -> Result<(), Fail> {
     let head = bytes_of(rt.alloc(), HEAD)?;
     let all = bytes_of(rt.alloc(), ALL)?;
     let mut reader = slow(all.as_slice(), u64::MAX);
-    let answer = read_head(rt.alloc(), &mut reader);
+    let mut watch = Watch::new();
+    let answer = read_head(rt.alloc(), &mut reader, &mut watch);
+    assert!(rt; !watch.has_failed(), "no read failed");
     assert!(rt; is_head(&answer, head.as_slice()), "the head");
     assert!(rt; reader.rest == b"body".as_slice(), "what follows the head");
     Ok(())
@@ -64,8 +66,11 @@ fn reads_a_head_alone(rt: HostRuntime) -> Result<(), Fail> {
 /// What is read of these bytes, whole and by a reader that fails at their end.
 fn read_cut(alloc: Global, mut bytes: &[u8]) -> (Read, Read) {
     let mut failing = slow(bytes, bytes.len() as u64);
-    let failed = told(&read_head(alloc, &mut failing));
-    (told(&read_head(alloc, &mut bytes)), failed)
+    let failed = told(&read_head(alloc, &mut failing, &mut Watch::new()));
+    (
+        told(&read_head(alloc, &mut bytes, &mut Watch::new())),
+        failed,
+    )
 }
 
 #[test]
@@ -100,7 +105,7 @@ fn read_long(alloc: Global, size: usize, fields: usize) -> Result<Read, AllocErr
     if bytes.len() != size {
         return Ok(Read::Other);
     }
-    Ok(told(&read_head(alloc, &mut bytes.as_slice())))
+    Ok(told(&read_head(alloc, &mut bytes.as_slice(), &mut Watch::new())))
 }
 
 #[test]
@@ -116,7 +121,7 @@ const BODY: &[u8] = b"body and more";
 
 /// Whether the body of this size is these bytes, read one at a time.
 fn is_body(alloc: Global, size: usize, body: &[u8]) -> bool {
-    match read_body(alloc, &mut slow(BODY, u64::MAX), size) {
+    match read_body(alloc, &mut slow(BODY, u64::MAX), &mut Watch::new(), size) {
         Ok(Some(bytes)) => bytes.as_slice() == body,
         _ => false,
     }
@@ -124,10 +129,9 @@ fn is_body(alloc: Global, size: usize, body: &[u8]) -> bool {
 
 /// Whether a read of 14 bytes that fails behind so many is told of.
 fn tells_a_fault(alloc: Global, given: u64) -> bool {
-    matches!(
-        read_body(alloc, &mut slow(BODY, given), 14),
-        Err(InputFault::Read)
-    )
+    let mut watch = Watch::new();
+    let answer = read_body(alloc, &mut slow(BODY, given), &mut watch, 14);
+    matches!(answer, Err(InputFault::Read)) && watch.has_failed()
 }
 
 #[test]
@@ -138,6 +142,6 @@ fn reads_a_body_alone(rt: HostRuntime) {
         assert!(rt; tells_a_fault(rt.alloc(), size as u64), "read {size}");
     }
     let mut short = BODY;
-    let answer = read_body(rt.alloc(), &mut short, 14);
+    let answer = read_body(rt.alloc(), &mut short, &mut Watch::new(), 14);
     assert!(rt; matches!(answer, Ok(None)), "cut short");
 }

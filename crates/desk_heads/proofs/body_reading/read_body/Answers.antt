@@ -3,5 +3,5 @@ use Rattle.std.proofs.Common.{rules, IfOk, ◌≡◌, ℕ, ◌+◌, ◌-◌, ◌
 use Rattle.desk_heads.specs.Bodies.{TakesBody}
 use Rattle.desk_heads.proofs.body_reading.read_body.Goals as goal
 
-pub returns-in-Ok-eq0 : goal.returns-in-Ok-eq0
-returns-in-Ok-eq0 g c = search rules
+pub returns-in-Ok-eq0-clause-found : goal.returns-in-Ok-eq0-clause-found
+returns-in-Ok-eq0-clause-found g c = search rules

@@ -12,12 +12,12 @@ loop-reader-init g c =
       none = rw nil no_request_in_nothing;
     }
 
-pub returns-in-Whole : goal.returns-in-Whole
-returns-in-Whole g c =
+pub returns-in-Whole-clause-found : goal.returns-in-Whole-clause-found
+returns-in-Whole-clause-found g c =
     let kept = c.loop-reader.invariant in
     let pushed : c.push.new.self.items ≡ c.loop-reader.taken.items ++ c.in-Some.byte ∷ [] = search rules in
     let more = length-append c.loop-reader.taken.items (c.in-Some.byte ∷ []) in
-    let took : TakesByte (g.R.Read.remaining c.loop-reader.reader) (g.R.Read.remaining c.read_byte.new.reader) (Some c.in-Some.byte) = rw c.in-Some.is at c.in_ok-byte.ensures in
+    let took : TakesByte (g.R.Read.remaining c.loop-reader.reader) (g.R.Read.remaining c.read_byte.new.reader) (Some c.in-Some.byte) = rw c.in-Some.is at c.in_ok-byte.ensures.taken in
     let looks = rw (c.as_slice.ensures.value, pushed) at c.in-Whole.ensures in
     finds_head _ _ _ _ _ pushed kept.none (omega arith) (consumed_more _ _ _ _ _ kept.consumed took) looks
 
@@ -26,21 +26,21 @@ loop-reader-preserved g c =
     let kept = c.loop-reader.invariant in
     let pushed : c.push.new.self.items ≡ c.loop-reader.taken.items ++ c.in-Some.byte ∷ [] = search rules in
     let more = length-append c.loop-reader.taken.items (c.in-Some.byte ∷ []) in
-    let took : TakesByte (g.R.Read.remaining c.loop-reader.reader) (g.R.Read.remaining c.read_byte.new.reader) (Some c.in-Some.byte) = rw c.in-Some.is at c.in_ok-byte.ensures in
+    let took : TakesByte (g.R.Read.remaining c.loop-reader.reader) (g.R.Read.remaining c.read_byte.new.reader) (Some c.in-Some.byte) = rw c.in-Some.is at c.in_ok-byte.ensures.taken in
     record {
       short = rw pushed (omega arith);
       consumed = rw pushed (consumed_more _ _ _ _ _ kept.consumed took);
       none = rw pushed (no_request_yet _ _ kept.none (search rules));
     }
 
-pub returns-in-Never : goal.returns-in-Never
-returns-in-Never g c =
+pub returns-in-Never-clause-found : goal.returns-in-Never-clause-found
+returns-in-Never-clause-found g c =
     let kept = c.loop-reader.invariant in
     let pushed : c.push.new.self.items ≡ c.loop-reader.taken.items ++ c.in-Some.byte ∷ [] = search rules in
     let more = length-append c.loop-reader.taken.items (c.in-Some.byte ∷ []) in
-    let took : TakesByte (g.R.Read.remaining c.loop-reader.reader) (g.R.Read.remaining c.read_byte.new.reader) (Some c.in-Some.byte) = rw c.in-Some.is at c.in_ok-byte.ensures in
+    let took : TakesByte (g.R.Read.remaining c.loop-reader.reader) (g.R.Read.remaining c.read_byte.new.reader) (Some c.in-Some.byte) = rw c.in-Some.is at c.in_ok-byte.ensures.taken in
     let over = rw (c.as_slice.ensures.value, pushed) at c.in-Never.ensures in
     finds_never _ _ _ (consumed_more _ _ _ _ _ kept.consumed took) (omega arith) over
 
-pub returns : goal.returns
-returns g c = finds_long _ _ _ c.loop-reader.invariant.consumed c.loop-reader.invariant.none (omega arith)
+pub returns-clause-found : goal.returns-clause-found
+returns-clause-found g c = finds_long _ _ _ c.loop-reader.invariant.consumed c.loop-reader.invariant.none (omega arith)

@@ -1,13 +1,13 @@
-use Rattle.desk_http.specs.Asked.{LeavesBody}
+use Rattle.desk_http.specs.Asked.{HasByte, LeavesBody}
 use Rattle.desk_http.proofs.ClosedLemmas.{closed_head}
 use Rattle.desk_http.proofs.InputLemmas.{head_is_asked}
-use Rattle.desk_http.proofs.StrangerLemmas.{leaves_head, unread_leaves}
+use Rattle.desk_http.proofs.StrangerLemmas.{head_has_byte, leaves_head, unread_leaves}
 use Rattle.desk_http.proofs.reading.read_due.Goals as goal
 
 pub returns-in-Ok-clause-asked : goal.returns-in-Ok-clause-asked
 returns-in-Ok-clause-asked g c = λ clean.
     head_is_asked (g.R.Read.remaining c.args.reader.now) (g.R.Read.remaining c.read_head.new.reader) c.in-Ok-Head.head c.in-Ok.due (g.D.Answering.shows c.args.desk.now)
-    (rw c.in-Ok-Head.field-0-is at c.in-Ok-Head.ensures)
+    (rw c.in-Ok-Head.field-0-is at c.in-Ok-Head.ensures.found)
     (λ h q reads few. c.in-Ok.ensures.asked h q (rw c.deref.ensures.value reads) few clean)
 
 pub returns-in-Ok-clause-closed : goal.returns-in-Ok-clause-closed
@@ -17,7 +17,7 @@ returns-in-Ok-clause-closed g c was =
       (
         shut.1.0,
         closed_head (g.R.Read.remaining c.args.reader.now) (g.R.Read.remaining c.read_head.new.reader) c.in-Ok-Head.head c.in-Ok.due
-            (rw c.in-Ok-Head.field-0-is at c.in-Ok-Head.ensures)
+            (rw c.in-Ok-Head.field-0-is at c.in-Ok-Head.ensures.found)
             (shut.1.0, λ h q reads few. shut.1.1 h q (rw c.deref.ensures.value reads) few),
       ),
     )
@@ -25,7 +25,7 @@ returns-in-Ok-clause-closed g c was =
 pub returns-in-Ok-clause-stranger : goal.returns-in-Ok-clause-stranger
 returns-in-Ok-clause-stranger g c = λ clean.
     leaves_head (g.R.Read.remaining c.args.reader.now) (g.R.Read.remaining c.read_head.new.reader) (g.R.Read.remaining c.ask_by_head-due.new.reader)
-    c.in-Ok-Head.head (g.D.Answering.shows c.args.desk.now) (rw c.in-Ok-Head.field-0-is at c.in-Ok-Head.ensures)
+    c.in-Ok-Head.head (g.D.Answering.shows c.args.desk.now) (rw c.in-Ok-Head.field-0-is at c.in-Ok-Head.ensures.found)
     (λ h q reads few. c.in-Ok.ensures.stranger h q (rw c.deref.ensures.value reads) few clean)
 
 pub returns-in-Err-due-clause-stranger : goal.returns-in-Err-due-clause-stranger
@@ -33,5 +33,19 @@ returns-in-Err-due-clause-stranger g c = λ clean.
     unread_leaves c.in-Err-due.unread
     (LeavesBody (g.D.Answering.shows c.args.desk.now) (g.R.Read.remaining c.args.reader.now) (g.R.Read.remaining c.ask_by_head-due.new.reader))
     (leaves_head (g.R.Read.remaining c.args.reader.now) (g.R.Read.remaining c.read_head.new.reader) (g.R.Read.remaining c.ask_by_head-due.new.reader)
-    c.in-Ok-Head.head (g.D.Answering.shows c.args.desk.now) (rw c.in-Ok-Head.field-0-is at c.in-Ok-Head.ensures)
+    c.in-Ok-Head.head (g.D.Answering.shows c.args.desk.now) (rw c.in-Ok-Head.field-0-is at c.in-Ok-Head.ensures.found)
     (λ h q reads few. c.in-Err-due.ensures.stranger h q (rw c.deref.ensures.value reads) few clean))
+
+pub returns-in-Ok-clause-some : goal.returns-in-Ok-clause-some
+returns-in-Ok-clause-some g c =
+    head_has_byte (g.R.Read.remaining c.args.reader.now) (g.R.Read.remaining c.read_head.new.reader) c.in-Ok-Head.head
+    (rw c.in-Ok-Head.field-0-is at c.in-Ok-Head.ensures.found)
+
+pub returns-in-Err-due-clause-some : goal.returns-in-Err-due-clause-some
+returns-in-Err-due-clause-some g c =
+    unread_leaves c.in-Err-due.unread (HasByte (g.R.Read.remaining c.args.reader.now))
+    (head_has_byte (g.R.Read.remaining c.args.reader.now) (g.R.Read.remaining c.read_head.new.reader) c.in-Ok-Head.head
+    (rw c.in-Ok-Head.field-0-is at c.in-Ok-Head.ensures.found))
+
+pub returns-in-Err-clause-device : goal.returns-in-Err-clause-device
+returns-in-Err-clause-device g c = c.unread.ensures.device c.read_head.new.watch c.in-Err.ensures.device
