@@ -2,7 +2,7 @@
 use desk_bodies::{read_digest, read_level, read_review, read_unlist};
 use desk_bytes::Digest;
 use desk_texts::{ListedKind, Vote};
-use std::alloc::Global;
+use std::alloc::{AllocError, Global};
 
 /// Bodies, each behind the reader's name and what it answers.
 const BODIES: &str = r#"review Ok {"note":"","vote":"yes"}
@@ -121,6 +121,26 @@ fn gives_a_level(alloc: Global) -> Option<bool> {
     let level = read_level(alloc, text).ok()?;
     let is_component = level.component.as_str() == "grub" && level.generation.value() == 3;
     Some(is_component && level.stamp.value() == 2_024_010_100)
+}
+
+/// What a body for a component of this name of so many bytes is refused for, or `Ok`.
+fn outcome_of_name(alloc: Global, length: usize) -> Result<&'static str, AllocError> {
+    let mut body = Vec::new(alloc);
+    body.extend_from_slice(br#"{"component":""#)?;
+    for _ in 0..length {
+        body.push(b'n')?;
+    }
+    body.extend_from_slice(br#"","generation":3,"stamp":2024010100}"#)?;
+    Ok(outcome(alloc, "level", body.as_slice()))
+}
+
+#[test]
+fn takes_the_longest_names(rt: HostRuntime) {
+    assert!(rt; outcome_of_name(rt.alloc(), 128) == Ok("Ok"), "128 bytes");
+    assert!(rt;
+        outcome_of_name(rt.alloc(), 129) == Ok("BadBody"),
+        "129 bytes"
+    );
 }
 
 #[test]

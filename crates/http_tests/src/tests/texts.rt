@@ -145,6 +145,27 @@ fn writes_lists_of_requests(rt: HostRuntime) -> Result<(), Fail> {
     Ok(())
 }
 
+/// So many requests whose signed files were returned, and their array.
+fn many(alloc: Global, count: usize) -> Result<(Vec<ShownRequest>, String), Fail> {
+    let mut requests = Vec::new(alloc);
+    let mut text = String::new(alloc);
+    for index in 0..count {
+        requests.push(signed(alloc)?)?;
+        text.push_str(if index == 0 { "[" } else { "," })?;
+        text.push_str(SIGNED)?;
+    }
+    text.push_str("]")?;
+    Ok((requests, text))
+}
+
+#[test]
+fn writes_hundreds_of_requests(rt: HostRuntime) -> Result<(), Fail> {
+    let (requests, wanted) = many(rt.alloc(), 300)?;
+    let text = requests_json(rt.alloc(), requests.as_slice())?;
+    assert!(rt; text.as_slice() == wanted.as_bytes());
+    Ok(())
+}
+
 /// A proposal of that number and state.
 fn proposal(alloc: Global, number: u64, state: ProposalState) -> Result<Proposal, Fail> {
     Ok(Proposal {
