@@ -1,7 +1,7 @@
 -- How a head that is read byte by byte stands to the heads of the whole input.
-use Rattle.std.proofs.Common.{◌≡◌, ◌≢◌, ◌∙◌, ℕ, ◌<◌, ◌≤◌, List, [], ◌∷◌, ◌++◌, length, reverse, refl, sym, ap, arith, append_assoc, length-append, Option, Some, None, inl, inr, ◌⊎◌}
+use Rattle.std.proofs.Common.{◌≡◌, ◌≢◌, ◌∙◌, ℕ, ◌<◌, ◌≤◌, List, [], ◌∷◌, ◌++◌, length, refl, sym, ap, arith, append_assoc, length-append, Option, Some, None, inl, inr, ◌⊎◌}
 use Rattle.std.proofs.lemmas.Bool.{cases_lt}
-use Rattle.std.proofs.lemmas.List.{append-nil, reverse-append}
+use Rattle.std.proofs.lemmas.List.{append-nil}
 use Rattle.std.specs.List.{flat_map}
 use Rattle.std.specs.Io.KnownBytes.{Consumes, IsAtEnd}
 use Rattle.httparse.specs.Grammar.{LineEnd, crlf, lf, print_end, print_blank, print_version, print_field, RequestHead, print_request, ReadsRequest, HasNoRequest}
@@ -24,16 +24,8 @@ two_fronts (x ∷ a) b (y ∷ c) d e h =
     let rest = two_fronts a b c d tails (omega arith) in
     (rest.0, cc (rest.1, firsts), rest.2)
 
--- the last byte of a list
-pub last_byte : (s t : List ℕ) (x y : ℕ) → s ++ x ∷ [] ≡ t ++ y ∷ [] → x ≡ y
-last_byte s t x y e =
-    let r = ap reverse e in
-    let a = reverse-append s (x ∷ []) in
-    let b = reverse-append t (y ∷ []) in
-    let f : x ∷ reverse s ≡ y ∷ reverse t = sym a ∙ (r ∙ b) in
-    cc
-
-end_front : (e : LineEnd) → (f : List ℕ) × (print_end e ≡ f ++ 10 ∷ [])
+-- a line's end ends in LF
+pub end_front : (e : LineEnd) → (f : List ℕ) × (print_end e ≡ f ++ 10 ∷ [])
 end_front crlf = (13 ∷ [], refl)
 end_front lf = ([], refl)
 
@@ -67,15 +59,6 @@ whole_or_before t x h rest reads = elim (cases_lt (length t) (length (print_requ
         absurd (omega (arith, length-append t []))
     by_part (y ∷ []) e f lt = inl (cc, cc)
     by_part (y ∷ z ∷ q) e f lt = let bad : [] ≡ z ∷ (q ++ rest) = cc in absurd cc
-
--- a byte that is no LF ends no head
-pub no_request_yet : (t : List ℕ) (x : ℕ) → HasNoRequest t → x ≢ 10 → HasNoRequest (t ++ x ∷ [])
-no_request_yet t x none other h rest reads = elim (whole_or_before t x h rest reads) [
-  | inl whole ↦
-      let end = request_ends h in
-      other (last_byte t end.0 x 10 (sym whole.1 ∙ end.1))
-  | inr before ↦ none h before.0 before.1
-]
 
 -- nothing was taken so far
 pub consumed_none : (o : Option (List ℕ)) → Consumes o o []

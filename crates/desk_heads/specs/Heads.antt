@@ -1,5 +1,6 @@
 -- Which beginning of an input is the head of a request (RFC 9112, section 2.1).
-use Rattle.std.specs.Prelude.{◌≡◌, ◌≢◌, ℕ, ◌≤◌, List, [], ◌∷◌, length, Option, Some, None, ⊤}
+use Rattle.std.specs.Prelude.{◌≡◌, ◌≢◌, ℕ, ◌≤◌, ◌==◌, ◌||◌, Bool, false, nat_eq, if◌then◌else◌, List, [], ◌∷◌, length, Option, Some, None, ⊤}
+use Rattle.std.specs.List.{ends_with}
 use Rattle.httparse.specs.Grammar.{RequestHead, print_request, ReadsRequest, HasNoRequest}
 use Rattle.httparse.specs.Spans.{RequestOverflows}
 use Rattle.std.specs.Io.KnownBytes.{Consumes, IsAtEnd}
@@ -54,3 +55,21 @@ Looks bytes Whole =
     (h : RequestHead) × (rest : List ℕ) × ReadsRequest bytes h rest × HasFewFields h
 Looks bytes Open = HasNoRequest bytes
 Looks bytes Never = RequestOverflows most_fields bytes
+
+-- CR or LF
+abbrev pub is_line_break : ℕ → Bool
+is_line_break b = (b == 13) || (b == 10)
+
+-- the bytes end with an empty line: with LF LF, or with LF CR LF (RFC 9112, section 2.2)
+abbrev pub ends_empty_line : List ℕ → Bool
+ends_empty_line bytes = ends_with nat_eq bytes (10 ∷ 10 ∷ []) || ends_with nat_eq bytes (10 ∷ 13 ∷ 10 ∷ [])
+
+-- whether the bytes are looked at for a head: not where they are empty lines alone, else at the end of the first line that
+-- isn't, and then at each empty line
+abbrev pub may_end_head : (blank begun : Bool) → List ℕ → Bool
+may_end_head blank begun bytes =
+    if blank then false else (if begun then ends_empty_line bytes else ends_with nat_eq bytes (10 ∷ []))
+
+-- no head ends where the bytes do
+abbrev pub EndsNoHead : List ℕ → Type 0
+EndsNoHead bytes = (h : RequestHead) → print_request h ≢ bytes

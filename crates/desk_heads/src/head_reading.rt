@@ -1,5 +1,6 @@
 //! The head of a request, read byte by byte.
-ghost use Rattle.std.specs.Prelude.{IfErr, IfOk};
+ghost use Rattle.std.specs.Prelude.{◌≡◌, ◌&&◌, IfErr, IfOk};
+ghost use Rattle.desk_heads.specs.Heads as spec;
 ghost use Rattle.desk_heads.specs.Heads.{FindsOf, Looks, TakesByte};
 ghost use Rattle.desk_heads.specs.Watches.{HasCause};
 
@@ -51,10 +52,39 @@ fn examine(bytes: &[u8]) -> Look
     }
 }
 
+/// Whether the bytes are CR and LF alone, with one byte more.
+fn is_blank(blank: bool, byte: u8) -> bool
+    ensures { result ≡ (blank && spec.is_line_break byte) }
+{
+    blank && (byte == b'\r' || byte == b'\n')
+}
+
+/// Whether the bytes end with an empty line.
+fn ends_empty_line(bytes: &[u8]) -> bool
+    ensures { result ≡ spec.ends_empty_line bytes.now }
+{
+    bytes.ends_with(b"\n\n".as_slice()) || bytes.ends_with(b"\n\r\n".as_slice())
+}
+
+/// Whether the bytes are looked at for a head: `blank` where they are CR and LF alone, `begun` where they were
+/// looked at before.
+fn may_end_head(bytes: &[u8], blank: bool, begun: bool) -> bool
+    ensures { result ≡ spec.may_end_head blank begun bytes.now }
+{
+    if blank {
+        false
+    } else if begun {
+        ends_empty_line(bytes)
+    } else {
+        bytes.ends_with(b"\n".as_slice())
+    }
+}
+
 /// Reads the head of a request (RFC 9112, section 2.1, as `httparse` takes it) of at most 16,384 bytes and
 /// 64 fields. After a head the reader stands at the first byte of the body; one byte is asked for at a time,
-/// so a reader without a buffer is slow. All bytes so far are parsed at each LF, so the time goes by the bytes
-/// times the lines. An interrupted read is a fault. Takes memory for the head.
+/// so a reader without a buffer is slow. The bytes so far are parsed at the end of the first line that isn't
+/// empty, and at each empty line behind it: `NoHead` is told of a wrong first line at its end, of a wrong field
+/// at the empty line. An interrupted read is a fault. Takes memory for the head.
 pub fn read_head<R: Read>(
     alloc: Global,
     reader: &mut R,
@@ -64,6 +94,8 @@ pub fn read_head<R: Read>(
     ensures device { IfErr result (HasCause watch.new) }
 {
     let mut taken = Vec::new(alloc);
+    let mut blank = true;
+    let mut begun = false;
     while taken.len() < MOST_BYTES {
         let Some(byte) = read_byte(reader, watch)? else {
             return Ok(if taken.is_empty() {
@@ -75,7 +107,9 @@ pub fn read_head<R: Read>(
         if taken.push(byte).is_err() {
             return Err(InputFault::NoMemory);
         }
-        if byte == b'\n' {
+        blank = is_blank(blank, byte);
+        if may_end_head(taken.as_slice(), blank, begun) {
+            begun = true;
             match examine(taken.as_slice()) {
                 Look::Whole => return Ok(Begun::Head(taken)),
                 Look::Open => {}
