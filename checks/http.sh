@@ -3,8 +3,9 @@
 # officers, takes a day of requests over every route, and each status, field and body of a response is compared with what has to be
 # there; the same requests with the same keys a second time are answered the same and leave the same minutes. Then what HTTP itself is
 # refused for, a body that is cut short, `Expect`, an image of 64 MiB, three clients at once, the faults of `serve` and `answer`,
-# a connection that ends without a request and one that pauses. Each run of the program, of curl and of the raw client ends after a
-# stated time, so the script ends by itself. It takes ports from 20000 to 32000. Not part of the gate: it needs curl, python3 and xxd.
+# a connection that ends without a request and one that pauses, and that 127.0.0.1 alone is listened at. Each run of the program, of curl
+# and of the raw client ends after a stated time, so the script ends by itself. It takes ports from 20000 to 32000. Not part of the gate:
+# it needs curl, python3 and xxd.
 set -eu
 root=$(CDPATH='' cd -- "$(dirname -- "$(readlink -f -- "$0")")/.." && pwd -P)
 if [ $# -gt 0 ]; then
@@ -531,6 +532,10 @@ cp desk.db other.db
 serve 002 000
 get ann /level
 with ask '200 OK' text/plain level
+# It listens at 127.0.0.1 alone: another address of the loopback range finds nobody.
+got=0
+curl -sS --max-time 10 -o body "http://127.0.0.2:$port/level" 2> curl.err || got=$?
+[ "$got" -eq 7 ] || fail "127.0.0.2: status $got, $(cat curl.err)"
 told 3 'device 45 File' nothing verdict desk.db "$plain"
 told 3 'device 14 Read' nothing serve other.db "$port" 1
 get ann /level

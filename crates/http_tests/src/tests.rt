@@ -7,5 +7,4 @@ mod responses;
 mod results;
 mod routes;
 mod serving;
-mod stand_in;
 mod texts;

@@ -1,6 +1,6 @@
 //! What `serve_one` gives.
-use super::stand_in::StandIn;
 use desk_http::{HttpFault, Served, serve_one};
+use desk_stand_in::StandIn;
 use desk_testing::{Narrow, Slow, bytes_of};
 use std::alloc::Global;
 use std::io::ErrorKind;

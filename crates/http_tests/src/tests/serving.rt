@@ -1,6 +1,6 @@
 //! Serving a row.
-use super::stand_in::StandIn;
 use desk_http::serve_one;
+use desk_stand_in::StandIn;
 use desk_testing::bytes_of;
 use std::alloc::Global;
 use std::test::Fail;

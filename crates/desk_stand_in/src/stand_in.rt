@@ -16,17 +16,17 @@ use std::alloc::{AllocError, Global};
 
 /// A desk that shows no history. It knows one token, and fails where a command's key is `store`.
 #[derive(Drop)]
-pub(crate) struct StandIn {
-    pub(crate) alloc: Global,
+pub struct StandIn {
+    alloc: Global,
     /// What was asked of it.
-    pub(crate) asked: String,
+    pub asked: String,
     /// It answered a call with `Store`.
     has_failed: bool,
 }
 
 impl StandIn {
     /// A desk of which nothing was asked.
-    pub(super) fn new(alloc: Global) -> StandIn {
+    pub fn new(alloc: Global) -> StandIn {
         StandIn {
             alloc,
             asked: String::new(alloc),

@@ -1,0 +1,6 @@
+//! A desk that stands in for one, in the tests of what asks a desk.
+#![tactic(auto)]
+
+mod stand_in;
+
+pub use stand_in::StandIn;

@@ -1,0 +1,5 @@
+//! Tests of connections over the loopback.
+#![tactic(auto)]
+
+#[cfg(test)]
+mod tests;

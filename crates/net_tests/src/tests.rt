@@ -1,0 +1,3 @@
+//! Connections, one after another.
+mod clients;
+mod serving;
