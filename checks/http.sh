@@ -3,9 +3,9 @@
 # officers, takes a day of requests over every route, and each status, field and body of a response is compared with what has to be
 # there; the same requests with the same keys a second time are answered the same and leave the same minutes. Then what HTTP itself is
 # refused for, a body that is cut short, `Expect`, an image of 64 MiB, three clients at once, the faults of `serve` and `answer`,
-# a connection that ends without a request and one that pauses, and that 127.0.0.1 alone is listened at. Each run of the program, of curl
-# and of the raw client ends after a stated time, so the script ends by itself. It takes ports from 20000 to 32000. Not part of the gate:
-# it needs curl, python3 and xxd.
+# a connection that ends without a request, a head that comes a byte a second, a large export with bytes behind its request, and that
+# 127.0.0.1 alone is listened at. Each run of the program, of curl and of the raw client ends after a stated time, so the script ends by
+# itself. It takes ports from 20000 to 32000. Not part of the gate: it needs curl, python3 and xxd.
 set -eu
 root=$(CDPATH='' cd -- "$(dirname -- "$(readlink -f -- "$0")")/.." && pwd -P)
 if [ $# -gt 0 ]; then
@@ -419,9 +419,21 @@ served 0
 # ---- a body that is cut short, and a connection without a request
 
 cat > raw.py << 'end'
-import socket, sys, time
+import select, socket, sys, time
 
-port, name, ends = int(sys.argv[1]), sys.argv[2], sys.argv[3] == 'ends'
+port, name, way = int(sys.argv[1]), sys.argv[2], sys.argv[3]
+
+
+def drip(peer, given):
+    """A byte a second, until the other side ends."""
+    begun = time.monotonic()
+    for byte in given:
+        peer.sendall(bytes([byte]))
+        if select.select([peer], [], [], 1)[0]:
+            return time.monotonic() - begun
+    sys.exit('nobody ends it')
+
+
 tried_until = time.monotonic() + 10
 while True:
     try:
@@ -432,13 +444,25 @@ while True:
             sys.exit('nobody listens')
         time.sleep(0.1)
 with peer, open(name, 'rb') as given, open('body', 'wb') as body:
-    peer.sendall(given.read())
-    if ends:
+    if way == 'drips':
+        took = drip(peer, given.read())
+        if not 29 <= took < 40:
+            sys.exit(f'it ends after {took} seconds')
+    else:
+        peer.sendall(given.read())
+    if way == 'ends':
         peer.shutdown(socket.SHUT_WR)
-    for piece in iter(lambda: peer.recv(65536), b''):
-        body.write(piece)
+    if way == 'waits':
+        time.sleep(1)
+    try:
+        for piece in iter(lambda: peer.recv(65536), b''):
+            body.write(piece)
+    except ConnectionResetError:
+        if way != 'drips':
+            raise
 end
-# raw FILE WHAT: sends the file's bytes, `ends` its side or `pauses`, and keeps in `body` what comes until the other side ends.
+# raw FILE WAY: sends the file's bytes, and `ends` its side or `waits` for a second; or `drips` them, one a second, until the other side
+# ends, which has to be after half a minute. Keeps in `body` what comes until then.
 raw() {
     timeout -k 5 80 python3 raw.py "$port" "$1" "$2" 2> raw.err || fail "a connection of $1: $(cat raw.err served.err)"
     requests=$((requests + 1))
@@ -468,9 +492,9 @@ for input in nothing cut_short whole; do
     raw "$input" ends
     cmp -s body "${input}_due" || fail "a connection of $input: $(cat body)"
 done
-# A peer that pauses for 30 seconds is let go without a response.
-raw cut_short pauses
-[ ! -s body ] || fail "a connection that pauses: $(cat body)"
+# A peer whose head takes longer than 30 seconds is let go without a response, though it never pauses for long.
+raw whole drips
+[ ! -s body ] || fail "a head a byte a second: $(cat body)"
 get ann /level
 with ask '200 OK' text/plain level
 get ann /level
@@ -504,6 +528,34 @@ wait "$one" && wait "$two" && wait "$three" || fail 'three clients'
 served 0
 for name in ann rita olga; do cmp -s "level_$name" level || fail "three clients: $(cat "level_$name")"; done
 requests=$((requests + 3))
+
+# ---- a large export, with bytes behind its request
+
+python3 - > many << 'end'
+import sys
+
+owner = bytes.fromhex('33221100554477668899aabbccddeeff')
+entries = b''.join(owner + number.to_bytes(32, 'big') for number in range(1, 10001))
+sizes = b''.join(size.to_bytes(4, 'little') for size in (28 + len(entries), 0, 48))
+sys.stdout.buffer.write(bytes.fromhex('2616c4c14c509240aca941f936934328') + sizes + entries)
+end
+{
+    printf 'GET /dbx HTTP/1.1\r\nDesk-Token: ann-token-000001\r\n\r\n'
+    head -c 200000 /dev/zero
+} > behind
+serve 3
+post olga k50 /imports/dbx many
+proposes 11
+confirms 11 k50 0 0 10000 0
+raw behind waits
+served 0
+desk dbx desk.db > dbx
+{
+    printf 'HTTP/1.1 200 OK\r\nContent-Type: application/octet-stream\r\nContent-Length: %s\r\nConnection: close\r\n\r\n' \
+        "$(wc -c < dbx)"
+    cat dbx
+} > behind_due
+cmp -s body behind_due || fail "an export with bytes behind its request: $(wc -c < body) bytes came"
 
 # ---- the faults of `serve` and `answer`
 
@@ -546,7 +598,7 @@ served 0
 
 desk list dbx > lists_read
 desk minutes desk.db > minutes
-[ "$(wc -l < minutes)" -eq $((7 + commands + 3)) ] || fail "minutes: $(cat minutes)"
+[ "$(wc -l < minutes)" -eq $((7 + commands + 5)) ] || fail "minutes: $(cat minutes)"
 desk minutes other.db > again
 cmp -s minutes again || fail "the other desk's minutes: $(cat again)"
 if command -v sqlite3 > /dev/null; then

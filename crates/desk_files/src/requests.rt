@@ -90,7 +90,7 @@ fn serve_desk<D: Answering>(
         Ok(listener) => listener,
         Err(refusal) => return Err(refusal),
     };
-    serve(rt.alloc(), desk, &listener, count)
+    serve(rt.alloc(), rt, desk, &listener, count)
 }
 
 /// The same, as a subcommand's work.

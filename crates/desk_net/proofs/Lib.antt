@@ -1,1 +1,2 @@
+pub mod ReadingOffLemmas
 pub mod TurnLemmas

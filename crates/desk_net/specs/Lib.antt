@@ -1,3 +1,4 @@
+pub mod Allowances
 pub mod Faults
 pub mod Served
 pub mod Turns

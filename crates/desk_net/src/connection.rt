@@ -2,55 +2,29 @@
 ghost use Rattle.std.specs.Prelude.{◌≡◌};
 ghost use Rattle.desk_http.specs.Serving as spec;
 
+use crate::{Timed, read_off};
 use desk_calls::Answering;
 use desk_http::{HttpFault, Served, serve_one};
 use std::alloc::Global;
 use std::io::{BufReader, Read, Write};
 use std::net::{Shutdown, TcpStream};
-use std::time::Duration;
+use std::time::Clock;
 
-/// How long a peer may take between two pieces of its request, or before it takes a piece of the response, in seconds.
-const LONGEST_PAUSE: u64 = 30;
-
-/// How long a peer that was refused may take between two pieces of what it still sends, in milliseconds.
-const PATIENCE: u64 = 500;
-
-/// The most pieces that are read of a peer that was refused: an image and its head fit.
-const MOST_PIECES: u32 = 20_000;
-
-/// Bounds how long the peer may pause, and tells whether that could be had.
-fn bounds_pauses(stream: &TcpStream) -> bool {
-    let pause = Duration::from_secs(LONGEST_PAUSE);
-    stream.set_read_timeout(Some(pause)).is_ok() && stream.set_write_timeout(Some(pause)).is_ok()
-}
-
-/// Reads what a peer still sends, and drops it. A connection that is closed before is reset, and the peer may
-/// lose the response (RFC 9112, section 9.6).
-fn read_off(stream: &TcpStream) {
-    if stream.shutdown(Shutdown::Write).is_err()
-        || stream
-            .set_read_timeout(Some(Duration::from_millis(PATIENCE)))
-            .is_err()
-    {
-        return;
-    }
-    let mut peer = stream;
-    let mut piece = [0; 8192];
-    for _ in 0..MOST_PIECES {
-        match peer.read(&mut piece) {
-            Ok(0) => return,
-            Ok(_) => {}
-            Err(_) => return,
-        }
-    }
-}
-
-/// Whether the request may not have been read to its end.
-fn was_refused(served: &Result<Served, HttpFault>) -> bool {
+/// Whether a response was written.
+fn was_answered(served: &Result<Served, HttpFault>) -> bool {
     match served {
-        Ok(Served::Answered(_, number)) => *number != 0,
-        Ok(Served::Nothing) => false,
-        Err(HttpFault::Read | HttpFault::Write | HttpFault::NoMemory) => false,
+        Ok(Served::Answered(_, _)) => true,
+        Ok(Served::Nothing) | Err(HttpFault::Read | HttpFault::Write | HttpFault::NoMemory) =>
+            false,
+    }
+}
+
+/// Ends a connection behind its response: closes the writing side, and reads off what the peer still sends. A
+/// connection that is closed while bytes wait is reset, and the peer may lose the response (RFC 9112, section 9.6).
+fn end_response<C: Clock>(clock: &C, stream: &TcpStream) {
+    if stream.shutdown(Shutdown::Write).is_ok() {
+        let mut peer = stream;
+        read_off(clock, &mut peer);
     }
 }
 
@@ -82,10 +56,11 @@ pub fn answer<D: Answering, R: Read + Drop, W: Write>(
     serve_one(alloc, desk, &mut reader, writer)
 }
 
-/// Serves one request of a connection. Where there is no memory for the reader, or the peer pauses too long, this
-/// connection ends without a response.
-pub(crate) fn serve_stream<D: Answering>(
+/// Serves one request of a connection. Where there is no memory for the reader, or the peer takes longer than it may,
+/// this connection ends without a response, or with a beginning of one.
+pub(crate) fn serve_stream<C: Clock, D: Answering>(
     alloc: Global,
+    clock: &C,
     desk: &mut D,
     stream: &TcpStream,
 ) -> Result<Served, HttpFault>
@@ -93,13 +68,11 @@ pub(crate) fn serve_stream<D: Answering>(
     ensures poisons { spec.FailsFirst (D.failed desk.new) result }
     ensures closed { D.failed desk.old → desk.new ≡ desk.old }
 {
-    if !bounds_pauses(stream) {
-        return Err(HttpFault::Read);
-    }
-    let mut writer = stream;
-    let served = answer(alloc, desk, stream, &mut writer);
-    if was_refused(&served) {
-        read_off(stream);
+    let reader = Timed::new(clock, stream);
+    let mut writer = Timed::new(clock, stream);
+    let served = answer(alloc, desk, reader, &mut writer);
+    if was_answered(&served) {
+        end_response(clock, stream);
     }
     served
 }

@@ -1,11 +1,16 @@
 //! Requests over connections, one connection after another.
 #![tactic(auto)]
 
+mod allowance;
 mod connection;
 mod peers;
+mod reading_off;
 mod served;
 mod serving;
+mod timed;
 
 pub use connection::answer;
+pub use reading_off::read_off;
 pub use served::told;
 pub use serving::{listen, serve};
+pub use timed::{Timed, Waits};

@@ -14,6 +14,7 @@ use desk_calls::Answering;
 use desk_http::{HttpFault, Served};
 use std::alloc::Global;
 use std::net::{Ipv4Addr, Net, SocketAddr, SocketAddrV4, TcpListener, TcpStream};
+use std::time::Clock;
 
 /// Listens at this port of 127.0.0.1, and nowhere else. Read: the port can't be had.
 pub fn listen<N: Net<Listener = TcpListener, Stream = TcpStream>>(
@@ -29,18 +30,19 @@ pub fn listen<N: Net<Listener = TcpListener, Stream = TcpStream>>(
     }
 }
 
-/// The peers that connect to a listener.
-#[derive(Clone, Copy)]
-struct Callers<'l> {
+/// The peers that connect to a listener, each in its time by a clock.
+#[derive(Drop)]
+struct Callers<'l, C> {
     listener: &'l TcpListener,
+    clock: &'l C,
 }
 
-impl<'l, D: Answering> Peers<D> for Callers<'l> {
+impl<'l, C: Clock, D: Answering> Peers<D> for Callers<'l, C> {
     ghost serves = { λ _. IsOneRequest D.clean D.failed };
 
     fn serve_next(&self, alloc: Global, desk: &mut D) -> Option<Result<Served, HttpFault>> {
         match self.listener.accept() {
-            Ok((stream, _)) => Some(serve_stream(alloc, desk, &stream)),
+            Ok((stream, _)) => Some(serve_stream(alloc, self.clock, desk, &stream)),
             Err(_) => None,
         }
     }
@@ -72,12 +74,14 @@ fn serve_peers<D: Answering, P: Peers<D>>(
 }
 
 /// Serves so many connections, one request each, one after another. What stops one connection ends that
-/// connection alone; a peer that pauses for 30 seconds is let go. Takes memory for each.
+/// connection alone. By the clock a peer has 30 seconds for its request, and one more for each 64 KiB that came, and
+/// as long to take the response; then it is let go. Takes memory for each.
 ///
 /// Read: a connection couldn't be accepted. Store, Reopen: that response was written, and the desk has to be
 /// opened again.
-pub fn serve<D: Answering>(
+pub fn serve<C: Clock, D: Answering>(
     alloc: Global,
+    clock: &C,
     desk: &mut D,
     listener: &TcpListener,
     count: u32,
@@ -88,5 +92,5 @@ pub fn serve<D: Answering>(
     ensures poisons { IsErrOf result Refusal.Store → D.failed desk.new }
     ensures closed { D.failed desk.old → desk.new ≡ desk.old }
 {
-    serve_peers(alloc, desk, &Callers { listener }, count)
+    serve_peers(alloc, desk, &Callers { listener, clock }, count)
 }

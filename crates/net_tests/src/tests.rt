@@ -1,3 +1,4 @@
 //! Connections, one after another.
 mod clients;
 mod serving;
+mod slow_peers;

@@ -70,7 +70,7 @@ fn serves_three_clients_in_their_order(rt: HostRuntime) -> Result<(), Fail> {
     let mut two = client(&rt, &listener, DBX)?;
     let mut three = client(&rt, &listener, REPORT)?;
     let mut desk = StandIn::new(rt.alloc());
-    let served = serve(rt.alloc(), &mut desk, &listener, 3);
+    let served = serve(rt.alloc(), &rt, &mut desk, &listener, 3);
     assert!(rt; served == Ok(()), "three connections");
     assert!(rt; desk.asked.as_str() == "level dbx report", "the order");
     assert!(rt; got(&rt, &mut one, LEVEL_DUE)?, "the first");
@@ -100,7 +100,7 @@ fn acts_on_one_request_of_a_connection(rt: HostRuntime) -> Result<(), Fail> {
     let mut one = client(&rt, &listener, TWO)?;
     let mut two = client(&rt, &listener, LEVEL)?;
     let mut desk = StandIn::new(rt.alloc());
-    let served = serve(rt.alloc(), &mut desk, &listener, 2);
+    let served = serve(rt.alloc(), &rt, &mut desk, &listener, 2);
     assert!(rt; served == Ok(()), "two connections");
     assert!(rt;
         desk.asked.as_str() == "olga k1 withdraw 7 level",
@@ -118,7 +118,7 @@ fn goes_on_after_a_connections_own_fault(rt: HostRuntime) -> Result<(), Fail> {
     let mut broken = client(&rt, &listener, CUT)?;
     let mut whole = client(&rt, &listener, LEVEL)?;
     let mut desk = StandIn::new(rt.alloc());
-    let served = serve(rt.alloc(), &mut desk, &listener, 3);
+    let served = serve(rt.alloc(), &rt, &mut desk, &listener, 3);
     assert!(rt; served == Ok(()), "three connections");
     assert!(rt; desk.asked.as_str() == "level", "one request");
     assert!(rt; got(&rt, &mut broken, CUT_DUE)?, "no head");
@@ -132,10 +132,10 @@ fn ends_where_the_desk_has_failed(rt: HostRuntime) -> Result<(), Fail> {
     let mut one = client(&rt, &listener, STORE)?;
     let mut two = client(&rt, &listener, LEVEL)?;
     let mut desk = StandIn::new(rt.alloc());
-    let failed = serve(rt.alloc(), &mut desk, &listener, 3);
+    let failed = serve(rt.alloc(), &rt, &mut desk, &listener, 3);
     assert!(rt; failed == Err(Refusal::Store), "the store fails");
     assert!(rt; got(&rt, &mut one, STORE_DUE)?, "it is told");
-    let closed = serve(rt.alloc(), &mut desk, &listener, 3);
+    let closed = serve(rt.alloc(), &rt, &mut desk, &listener, 3);
     assert!(rt; closed == Err(Refusal::Reopen), "the desk has failed");
     assert!(rt; got(&rt, &mut two, REOPEN_DUE)?, "the next connection");
     Ok(())
