@@ -14,49 +14,7 @@ program=$root/crates/desk_tests/out/desk_tests_tests
 room=$(mktemp -d)
 trap 'rm -rf "$room"' EXIT
 
-cat > "$room/refuse.c" << 'C'
-#define _GNU_SOURCE
-#include <dlfcn.h>
-#include <stdlib.h>
-#include <unistd.h>
-
-/* The allocation of this number, from 1, is refused. */
-static long left = -1;
-
-static int refuses(void) {
-    if (left < 0) {
-        const char *text = getenv("REFUSE");
-        left = text ? atol(text) : 0;
-    }
-    if (left <= 0 || --left != 0) return 0;
-    return write(2, "refused\n", 8) == 8;
-}
-
-void *malloc(size_t size) {
-    static void *(*next)(size_t);
-    if (!next) next = (void *(*)(size_t))dlsym(RTLD_NEXT, "malloc");
-    return refuses() ? NULL : next(size);
-}
-
-void *realloc(void *at, size_t size) {
-    static void *(*next)(void *, size_t);
-    if (!next) next = (void *(*)(void *, size_t))dlsym(RTLD_NEXT, "realloc");
-    return refuses() ? NULL : next(at, size);
-}
-
-void *aligned_alloc(size_t alignment, size_t size) {
-    static void *(*next)(size_t, size_t);
-    if (!next) next = (void *(*)(size_t, size_t))dlsym(RTLD_NEXT, "aligned_alloc");
-    return refuses() ? NULL : next(alignment, size);
-}
-
-int posix_memalign(void **at, size_t alignment, size_t size) {
-    static int (*next)(void **, size_t, size_t);
-    if (!next) next = (int (*)(void **, size_t, size_t))dlsym(RTLD_NEXT, "posix_memalign");
-    return refuses() ? 12 : next(at, alignment, size);
-}
-C
-cc -shared -fPIC -O1 -o "$room/refuse.so" "$room/refuse.c" -ldl
+cc -shared -fPIC -O1 -o "$room/refuse.so" "$root/checks/refuse.c" -ldl
 
 # The tests whose names have the word; each runs in a process of its own.
 names=$("$program" --list | sed "s/: test$//" | grep "$test") || { echo "desk-memory.sh: no test has $test in its name" >&2; exit 1; }
@@ -64,7 +22,7 @@ for name in $names; do
     inside=0 elsewhere=0 n=1
     while :; do
         status=0
-        REFUSE=$n LD_PRELOAD=$room/refuse.so "$program" "$name" > "$room/out" 2> "$room/err" < /dev/null || status=$?
+        REFUSE=$n TELLS=yes LD_PRELOAD=$room/refuse.so "$program" "$name" > "$room/out" 2> "$room/err" < /dev/null || status=$?
         if ! grep -qx refused "$room/err"; then
             [ "$status" -eq 0 ] || { echo "$name: status $status with no refusal" >&2; exit 1; }
             break

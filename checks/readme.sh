@@ -1,7 +1,7 @@
 #!/bin/sh
 # The day at the desk in README.md, run as it is printed, with the built program or the one that is named: readme.sh [PROGRAM].
-# What each command writes to standard output is compared with the lines below it. Not part of the gate: it needs bash, curl,
-# python3 and port 8080.
+# What each command writes to standard output is compared with the lines below it. Where port 8080 is taken, another one stands in
+# the commands, and the last line says so. Not part of `rt ci`: it needs bash, curl and python3.
 set -eu
 root=$(CDPATH='' cd -- "$(dirname -- "$(readlink -f -- "$0")")/.." && pwd -P)
 if [ $# -gt 0 ]; then
@@ -22,7 +22,6 @@ timeout -k 5 120 python3 - "$root/README.md" << 'PYTHON'
 import subprocess, sys, time
 
 MARK = "-- that was all of it --"
-PORT = "1F90"  # 8080, as /proc/net/tcp writes it
 
 
 def day(readme):
@@ -39,18 +38,17 @@ def day(readme):
     return [("\n".join(command), lines) for command, lines in found]
 
 
-def listens():
+def listens(port):
     """Whether somebody listens at the port; a connection to find out would be one of those that are counted."""
     rows = [line.split() for line in open("/proc/net/tcp")][1:]
-    return any(row[1].endswith(":" + PORT) and row[3] == "0A" for row in rows)
+    return any(row[1].endswith(f":{port:04X}") and row[3] == "0A" for row in rows)
 
 
-if listens():
-    sys.exit("checks/readme.sh: port 8080 is taken")
+port = next(it for it in range(8080, 8180) if not listens(it))
 shell = subprocess.Popen(["bash"], stdin=subprocess.PIPE, stdout=subprocess.PIPE, text=True, bufsize=1)
 commands = day(open(sys.argv[1]).read())
 for command, wanted in commands:
-    shell.stdin.write(f"{command}\necho\necho '{MARK}'\n")
+    shell.stdin.write(f"{command.replace('8080', str(port))}\necho\necho '{MARK}'\n")
     shell.stdin.flush()
     got = []
     for line in iter(shell.stdout.readline, MARK + "\n"):
@@ -62,12 +60,13 @@ for command, wanted in commands:
         sys.exit(f"checks/readme.sh: {command}\nin place of\n" + "\n".join(wanted) + "\ncame\n" + "\n".join(got))
     if command.endswith("&"):
         until = time.monotonic() + 20
-        while not listens():
+        while not listens(port):
             if time.monotonic() > until:
                 sys.exit("checks/readme.sh: nobody listens")
             time.sleep(0.05)
 shell.stdin.close()
-if shell.wait() != 0 or listens():
+if shell.wait() != 0 or listens(port):
     sys.exit("checks/readme.sh: the shell failed, or serve goes on")
-print(f"{len(commands)} commands, each with the lines that README.md has")
+instead = "" if port == 8080 else f"; at port {port}, since 8080 is taken"
+print(f"{len(commands)} commands, each with the lines that README.md has{instead}")
 PYTHON

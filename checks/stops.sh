@@ -4,16 +4,18 @@
 # itself; so a run without a stop is listed first, and the k-th of the list is met by its kind and its number in its kind. An
 # answer is written by such a call too. It fails only where it is the k-th: else it goes out, whatever of the files fails.
 #
-# First `init`, and a person on a new desk. Then each of the fourteen commands on a desk that is ready for it: a person by
+# First `init`, after which there is an empty desk and `init` is Exists, or none and `init` makes it; and a person on a new desk. Then each of the fourteen commands on a desk that is ready for it: a person by
 # the command line, all others by `answer`; a Confirm of a digest, of a level and of an import. Each is stopped at k = 1, 2, .. up to
 # the last call of its run; in a run of a hundred calls or more, behind k = 20 a stride passes over some, so that some hundred stops
-# are left. After each stop the desk opens, and its minutes, dbx, db, level and proposals are those of the desk without the call, or
-# of the desk with it; where the answer went out, of the desk with it. The same call with the same key has the same answer again, and
-# the minutes have its key once.
+# are left. The Confirm of an import of 300 digests into an empty dbx is stopped at every one: dbx then has none of them, or all, in
+# 14,428 bytes. After each stop the desk opens, and its minutes, dbx, db, level, proposals and tables are those of the desk without the
+# call, or of the desk with it; where the answer went out, of the desk with it. The same call with the same key has the same answer
+# again, and the tables are those of one acceptance.
 #
 # Then ten lives of one desk, each with a person whose call is stopped; and ten lives of a desk where a second officer confirmed the
-# revocation of an image's digest: other commands are stopped, dbx keeps the digest, and the image stays refused. The files stand in
-# TMPDIR or /tmp; the 1,656 stops took 21 minutes in memory, beside other work. Not part of the gate: it needs strace.
+# revocation of an image's digest: other commands are stopped, and of one command in each life the response meets a full device; dbx
+# keeps the digest, the image stays refused, and the minutes have each key once, in order. The files stand in TMPDIR or /tmp; before the
+# tables were compared 1,656 stops took 21 minutes in memory, beside other work. Not part of the gate: it needs strace and sqlite3.
 set -eu
 root=$(CDPATH='' cd -- "$(dirname -- "$(readlink -f -- "$0")")/.." && pwd -P)
 if [ $# -gt 0 ]; then
@@ -22,7 +24,9 @@ else
     "$root/desk" --version > /dev/null
     program=$root/crates/desk/out/desk
 fi
-command -v strace > /dev/null || { echo 'checks/stops.sh: strace is needed' >&2; exit 1; }
+for tool in strace sqlite3; do
+    command -v "$tool" > /dev/null || { echo "checks/stops.sh: $tool is needed" >&2; exit 1; }
+done
 owner=00112233-4455-6677-8899-aabbccddeeff
 plain=$root/examples/tiny.efi
 signed=$root/examples/signed.efi
@@ -115,9 +119,10 @@ stopped() {
     [ "$got" -gt 128 ] || grep -q '(INJECTED)' trace
 }
 
-# next K: the place of the next stop.
+# next K: the place of the next stop. With `every` none is passed over.
+every=no
 next() {
-    if [ "$1" -lt 20 ]; then echo $(($1 + 1)); else echo $(($1 + 1 + length / 100)); fi
+    if [ "$1" -lt 20 ] || [ "$every" = yes ]; then echo $(($1 + 1)); else echo $(($1 + 1 + length / 100)); fi
 }
 
 # ---- what a desk has
@@ -128,15 +133,19 @@ copy() {
     for file in "$1".db*; do cp "$file" "$2${file#"$1"}"; done
 }
 
-# exported DB FOLDER: the folder has what the desk exports, and what it answers an officer who asks for the proposals.
+# tables DB: every row of every table of a desk that was closed, so that its file alone has them.
+tables() { sqlite3 "file:$1?immutable=1" .dump; }
+
+# exported DB FOLDER: the folder has what the desk exports, what it answers an officer who asks for the proposals, and its tables.
 exported() {
     for export in $exports; do "$program" "$export" "$1" > "$2/$export" 2> err || return 1; done
     "$program" answer "$1" < asking > "$2/proposals" 2> err || return 1
+    tables "$1" > "$2/tables" 2> err || return 1
 }
 
-# same FOLDER FOLDER: they have the same exports.
+# same FOLDER FOLDER: they have the same exports and tables.
 same() {
-    for export in $exports proposals; do cmp -s "$1/$export" "$2/$export" || return 1; done
+    for export in $exports proposals tables; do cmp -s "$1/$export" "$2/$export" || return 1; done
 }
 
 # keys DB: the keys of the minutes of this desk, in order, on one line.
@@ -168,12 +177,12 @@ kept() {
     [ "$answered" = no ] || fail "$2: an answered call isn't there"
 }
 
-# again DB WHEN: the same call with the same key has the same answer, and its key is there once.
+# again DB WHEN: the same call with the same key has the same answer, and all tables are those of one acceptance.
 again() {
     given "$1" || fail "$2: status $got for its key"
     cmp -s out answer || fail "$2: another answer to its key"
-    "$program" minutes "$1" > minutes 2> err || fail "$2: no minutes after its key"
-    cmp -s minutes after/minutes || fail "$2: its key isn't there once"
+    tables "$1" > tables 2> err || fail "$2: no tables after its key"
+    cmp -s tables after/tables || fail "$2: other tables after its key"
 }
 
 # meets WHAT DESK: the call that is set meets each stop, on copies of this desk.
@@ -219,7 +228,14 @@ for how in kill fail; do
         stops=$((stops + 1))
         if found=$(keys new.db); then
             [ -z "$found" ] || fail "init stopped at $k by $how: minutes of $found"
+            if "$program" init new.db "$owner" > out 2> err || [ "$(cat err)" != 'refused 46 Exists' ]; then
+                fail "init stopped at $k by $how: a desk, and init again"
+            fi
         else
+            case $(cat err) in
+                'refused 43 NotADesk' | 'device 45 File') ;;
+                *) fail "init stopped at $k by $how: neither a desk nor none" ;;
+            esac
             "$program" init new.db "$owner" > out 2> err || fail "init stopped at $k by $how: no desk after it"
         fi
         found=$(keys new.db) || fail "init stopped at $k by $how: no desk in the end"
@@ -317,8 +333,14 @@ request otto k9 /proposals/1/confirm nothing
 meets 'a confirmed digest' ready
 request otto k9 /proposals/2/confirm nothing
 meets 'a confirmed level' ready
+# The import of 300 digests: before it dbx has no byte, after it one list of 28 bytes and 48 a digest.
 request otto k9 /proposals/3/confirm nothing
+every=yes
 meets 'a confirmed import' ready
+every=no
+[ ! -s before/dbx ] || fail 'the import: dbx is not empty before it'
+[ "$(wc -c < after/dbx)" -eq 14428 ] || fail 'the import: dbx has another length'
+[ "$(od -An -v -tx1 -j16 -N4 after/dbx | tr -d ' \n')" = 5c380000 ] || fail 'the import: another SignatureListSize'
 request olga k9 /proposals/3/drop nothing
 meets 'a dropped import' ready
 
@@ -372,11 +394,26 @@ gives() {
     esac
 }
 
+# loses DB LIFE: a submission is accepted though its response meets a full device; its key has the reply.
+loses() {
+    request ann "lost-$2" /requests "$signed" 'Desk-Title: lost'
+    got=0
+    "$program" answer "$1" < input > /dev/full 2> err || got=$?
+    [ "$got" -eq 3 ] && [ "$(cat err)" = 'device 17 Write' ] || fail "life $2, a lost response: status $got"
+    tables "$1" > tables
+    takes "$1"
+    grep -q '{"reply":"submitted","request":[0-9]*}' out || fail "life $2, a lost response: another reply to its key"
+    tables "$1" | cmp -s - tables || fail "life $2, a lost response: its key changed the tables"
+    lost=$((lost + 1))
+}
+
+lost=0
 for how in kill fail; do
     copy ready bar
     judged bar.db 0 allowed 'before the image is revoked'
     request otto life-0 /proposals/1/confirm nothing
     takes bar.db
+    wanted=$(keys bar.db)
     life=1
     while [ "$life" -le 10 ]; do
         gives "$life"
@@ -384,7 +421,11 @@ for how in kill fail; do
         bars bar.db "life $life by $how"
         again bar.db "life $life by $how"
         bars bar.db "life $life by $how, its key given again"
+        loses bar.db "$life"
+        bars bar.db "life $life by $how, after a lost response"
+        wanted="$wanted life-$life lost-$life "
         life=$((life + 1))
     done
+    [ "$(keys bar.db | tr -s ' ')" = "$(echo "$wanted" | tr -s ' ')" ] || fail "ten lives by $how: other keys in the minutes"
 done
-echo "checks/stops.sh: $stops stops, and the desk was opened after each"
+echo "checks/stops.sh: $stops stops and $lost lost responses, and the desk was opened after each"

@@ -1,16 +1,29 @@
 #!/bin/sh
 # Writes a day of a desk into a file by desk_tables, and lets sqlite3's own shell read it: its integrity check, the columns
-# and keys of each table, and every row. A name that is taken and a number past SQL's integers have to be refused. Not part of the
-# gate: it needs sqlite3. The program runs unproved, in a room of its own ($TABLES_ROOM, kept between runs), over the proved libraries.
+# and keys of each table, and every row. A name that is taken and a number past SQL's integers have to be refused. Not part of `rt
+# ci`: it needs sqlite3. The program runs unproved over the proved libraries, in a room of its own; where $TABLES_ROOM names a folder
+# that is the room, and it is kept for the next run.
 set -eu
 root=$(CDPATH='' cd -- "$(dirname -- "$(readlink -f -- "$0")")/.." && pwd -P)
-room=${TABLES_ROOM:-${TMPDIR:-/tmp}/desk_tables_room}
+for tool in rt sqlite3; do
+    command -v "$tool" > /dev/null || { echo "checks/tables.sh: $tool is needed" >&2; exit 1; }
+done
+if [ -n "${TABLES_ROOM:-}" ]; then
+    room=$TABLES_ROOM
+else
+    room=$(mktemp -d)
+    trap 'rm -rf "$room"' EXIT
+    trap 'exit 1' HUP INT TERM
+fi
 mkdir -p "$room/crates"
 below="desk_bytes sbat desk_texts desk_history desk_sql desk_statements desk_contents desk_tables"
 : > "$room/crates.txt"
 for crate in $below; do
     rm -rf "$room/crates/$crate"
-    cp -a "$root/crates/$crate" "$room/crates/$crate"
+    mkdir -p "$room/crates/$crate/out"
+    (cd "$root/crates/$crate" && tar -cf - --exclude=out --exclude=must-fail .) | (cd "$room/crates/$crate" && tar -xf -)
+    # (by links where the room is on the same disk)
+    cp -al "$root/crates/$crate/out/rlib" "$room/crates/$crate/out/" 2> /dev/null || cp -a "$root/crates/$crate/out/rlib" "$room/crates/$crate/out/"
     grep "^$crate:" "$root/crates.txt" >> "$room/crates.txt"
 done
 mkdir -p "$room/crates/write_day/src"

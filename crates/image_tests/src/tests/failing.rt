@@ -114,7 +114,8 @@ fn hashes_an_image_by_one_read_of_a_piece(rt: HostRuntime) -> Result<(), Fail> {
 #[test]
 fn prints_no_range_where_a_read_fails(rt: HostRuntime) -> Result<(), Fail> {
     let bytes = image(rt.alloc(), "1024 +")?;
-    for left in 0..12 {
+    let mut last = 0;
+    for left in 0..100 {
         let mut source = Failing {
             bytes: &bytes,
             left,
@@ -122,8 +123,12 @@ fn prints_no_range_where_a_read_fails(rt: HostRuntime) -> Result<(), Fail> {
         };
         let mut out = Vec::new(rt.alloc());
         let answer = print_ranges(&mut source, &mut out);
-        assert!(rt; answer == Err(Fault::from(Refusal::Read)) && out.is_empty());
+        if answer.is_err() {
+            assert!(rt; answer == Err(Fault::from(Refusal::Read)) && out.is_empty());
+            last = left;
+        }
     }
+    assert!(rt; 11 <= last && last < 99, "so many reads");
     Ok(())
 }
 

@@ -92,8 +92,8 @@ fn prints_a_beginning_of_the_facts_before_a_failed_write(rt: HostRuntime) -> Res
     Ok(())
 }
 
-/// A SHA256 list of one digest, an X509_SHA256 list of one certificate, a list of another type, all of them or
-/// cut, and an X509 list.
+/// An X509 list; a SHA256 list of one digest, an X509_SHA256 list of one certificate and a list of another type; the same
+/// without their last byte; and the last one so.
 const LISTS: &str = " = nothing
 a159c0a5e494a74a87b5ab155c2bf072310000000000000015000000\
 33221100554477668899aabbccddeeff0102030405 = 0 x509 1;
@@ -107,6 +107,15 @@ e8070101000000000000000000000000\
 33221100554477668899aabbccddeeff300000000000000014000000\
 33221100554477668899aabbccddeeff01020304 = \
 0 sha256 1;76 x509_sha256 1;168 00112233-4455-6677-8899-aabbccddeeff 1;
+2616c4c14c509240aca941f9369343284c0000000000000030000000\
+33221100554477668899aabbccddeeff\
+aaaaaaaaaaaaaaaaaaaaaaaaaaaaaaaaaaaaaaaaaaaaaaaaaaaaaaaaaaaaaaaa\
+92a4d23bc0967940b420fcf98ef103ed5c0000000000000040000000\
+33221100554477668899aabbccddeeff\
+bbbbbbbbbbbbbbbbbbbbbbbbbbbbbbbbbbbbbbbbbbbbbbbbbbbbbbbbbbbbbbbb\
+e8070101000000000000000000000000\
+33221100554477668899aabbccddeeff300000000000000014000000\
+33221100554477668899aabbccddeeff010203 = refused 15 List at 168;
 33221100554477668899aabbccddeeff300000000000000014000000\
 33221100554477668899aabbccddeeff010203 = refused 15 List at 0;
 33221100554477668899aabbccddeeff1c000000000000000f000000 = refused 16 EntrySize at 0;

@@ -133,6 +133,32 @@ fn refuses_each_truncation_at_its_list(rt: HostRuntime) -> Result<(), Fail> {
     Ok(())
 }
 
+/// A SHA256 list of two digests: 124 bytes.
+const TWO: &str = "\
+2616c4c14c509240aca941f9369343287c0000000000000030000000\
+33221100554477668899aabbccddeeff\
+aaaaaaaaaaaaaaaaaaaaaaaaaaaaaaaaaaaaaaaaaaaaaaaaaaaaaaaaaaaaaaaa\
+33221100554477668899aabbccddeeff\
+bbbbbbbbbbbbbbbbbbbbbbbbbbbbbbbbbbbbbbbbbbbbbbbbbbbbbbbbbbbbbbbb";
+
+/// The fault of its beginning of this length.
+fn fault_of_two(size: usize) -> Option<ListsFault> {
+    match size {
+        0 | 124 => None,
+        _ => Some(ListsFault::List { offset: 0 }),
+    }
+}
+
+#[test]
+fn reads_no_beginning_of_a_list(rt: HostRuntime) -> Result<(), Fail> {
+    let bytes = hex::decode(rt.alloc(), TWO)?;
+    for size in 0..125 {
+        let fault = lists(bytes.get(..size).unwrap_or(&[])).err();
+        assert!(rt; fault == fault_of_two(size), "{size}");
+    }
+    Ok(())
+}
+
 /// What is written: two digests out of order, once plain and once with times of zeros, and a certificate.
 const WRITTEN: &str = "\
 2616c4c14c509240aca941f9369343287c0000000000000030000000\

@@ -1,0 +1,19 @@
+#!/bin/sh
+# bench/requests.sh [SIZE ..]: how many instructions a request takes of `desk serve`, from its connection to its response, on desks of
+# 1,000, 10,000 and 100,000 accepted calls, or those given; by valgrind's callgrind, which neither other work nor the processor's cache
+# changes. The program is ./desk's, or the one that $DESK_BENCH_PROGRAM names. The desks are filled over HTTP: of each hundred calls 42 are
+# RevokeDigest and their Confirms, 5 are proposed and dropped, the others are submissions, reviews and listed digests. Then every kind of
+# request is made some twenty times, of digests, components and proposals that the desk hasn't met; the ratio to the first size stands beside
+# each. Not part of the gate: it needs valgrind and python3. With 100,000 it takes some five minutes of one processor.
+set -eu
+root=$(CDPATH='' cd -- "$(dirname -- "$(readlink -f -- "$0")")/.." && pwd -P)
+if [ -n "${DESK_BENCH_PROGRAM:-}" ]; then
+    program=$(readlink -f -- "$DESK_BENCH_PROGRAM")
+else
+    "$root/desk" --version > /dev/null
+    program=$root/crates/desk/out/desk
+fi
+for tool in callgrind_control python3 valgrind; do
+    command -v "$tool" > /dev/null || { echo "bench/requests.sh: $tool is needed" >&2; exit 1; }
+done
+PYTHONPATH=$root/checks/requests exec python3 -B "$root/bench/requests/instructions.py" "$program" "$@"

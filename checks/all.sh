@@ -1,0 +1,54 @@
+#!/usr/bin/env bash
+# Runs each check of the built program, or of the one that is named, that takes under five minutes: all.sh [PROGRAM [CHECK..]]. CHECK: the
+# names of those that are to run, in place of all. As many run side by side as there are processors. Each gives one line when it ends: whether
+# it passed, its name, its seconds and what it says of itself; what a check that failed wrote goes to standard error. The last line is
+# `N passed, M failed`, and the status is 1 where one failed. Ten minutes after the start none is begun and those that run are ended, as failed.
+#
+# They need bash, cc, curl, gzip, openssl, python3, rt, sqlite3 and xxd, and the libraries that rt left in crates/NAME/out. efitools, where it
+# is installed, reads what the desk exports.
+set -u
+root=$(CDPATH='' cd -- "$(dirname -- "$(readlink -f -- "$0")")/.." && pwd -P) || exit 1
+if [ $# -gt 0 ]; then
+    program=$(readlink -f -- "$1")
+    shift
+else
+    "$root/desk" --version > /dev/null || exit 1
+    program=$root/crates/desk/out/desk
+fi
+[ -x "$program" ] || { echo "checks/all.sh: there is no program $program" >&2; exit 1; }
+# The longest first, so that the last ones fill the lanes.
+checks=${*:-refused-memory.sh refused-requests.sh http.sh tables.sh requests.sh cuts.sh exports.sh day.sh readme.sh version1.sh prove.sh runs.sh}
+until=$((SECONDS + 600))
+room=$(mktemp -d) || exit 1
+trap 'rm -rf "$room"' EXIT
+trap 'kill $(jobs -p) 2> /dev/null; exit 1' HUP INT TERM
+
+# run CHECK: runs it, and gives its line.
+run() {
+    local begun=$SECONDS words=("$program") left=$((until - SECONDS)) how=failed
+    case $1 in prove.sh | tables.sh) words=() ;; esac
+    if [ "$left" -le 0 ]; then
+        echo 'no time was left for it' > "$room/$1"
+    else
+        timeout -k 5 "$((left < 300 ? left : 300))" "$root/checks/$1" "${words[@]}" > "$room/$1" 2>&1 < /dev/null &
+        trap 'kill "$!" 2> /dev/null' TERM
+        if wait "$!"; then how=passed; fi
+    fi
+    echo "$how $1 in $((SECONDS - begun)) s: $(tail -n 1 "$room/$1")"
+    if [ "$how" = passed ]; then
+        : > "$room/$1.passed"
+    else
+        tail -n 40 "$room/$1" | sed "s/^/    /" >&2
+    fi
+}
+
+lanes=$(nproc) count=0
+for check in $checks; do
+    count=$((count + 1))
+    while [ "$(jobs -pr | wc -l)" -ge "$lanes" ]; do wait -n; done
+    run "$check" &
+done
+wait
+passed=$(find "$room" -name '*.passed' | wc -l)
+echo "$passed passed, $((count - passed)) failed"
+[ "$passed" -eq "$count" ]

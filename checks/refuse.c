@@ -1,0 +1,112 @@
+/* A malloc that refuses one allocation, for checks: it is loaded before a program (LD_PRELOAD). What the environment names:
+   REFUSE   the number, from 1, of the allocation that is refused
+   TELLS    the line `refused` goes to standard error then
+   COUNTED  a file that gets the number of allocations at the end
+   SERVED   a file of four numbers, shared with whoever asks a server: which allocation of the next connection is to be refused (0 for
+            none); how many the last one made; whether one of them was refused; and how often the server waited for a connection. A
+            connection's allocations are those from one accept to the next. */
+#define _GNU_SOURCE
+#include <dlfcn.h>
+#include <fcntl.h>
+#include <stdio.h>
+#include <stdlib.h>
+#include <sys/mman.h>
+#include <sys/socket.h>
+#include <unistd.h>
+
+struct served {
+    long wanted, made, refused, waits;
+};
+
+static volatile struct served *served;
+static long left, made;
+static int tells;
+
+__attribute__((constructor)) static void begin(void) {
+    const char *number = getenv("REFUSE"), *path = getenv("SERVED");
+    tells = getenv("TELLS") != NULL;
+    if (path) {
+        int file = open(path, O_RDWR);
+        void *at = mmap(NULL, sizeof(struct served), PROT_READ | PROT_WRITE, MAP_SHARED, file, 0);
+        if (file < 0 || at == MAP_FAILED) abort();
+        served = at;
+        close(file);
+    }
+    made = 0;
+    left = number ? atol(number) : 0;
+}
+
+__attribute__((destructor)) static void end(void) {
+    const char *path = getenv("COUNTED");
+    if (!path) return;
+    int file = open(path, O_WRONLY | O_CREAT | O_TRUNC, 0600);
+    char text[32];
+    int size = snprintf(text, sizeof text, "%ld\n", made);
+    if (file < 0 || write(file, text, (size_t)size) != size || close(file) != 0) abort();
+}
+
+static int refuses(void) {
+    made++;
+    if (served) served->made++;
+    if (left <= 0 || --left != 0) return 0;
+    if (served) served->refused = 1;
+    return !tells || write(2, "refused\n", 8) == 8;
+}
+
+/* The server waits for a connection. */
+static void wait_for_one(void) {
+    if (!served) return;
+    left = 0;
+    __sync_synchronize();
+    served->waits++;
+}
+
+/* It has one. */
+static void begin_one(void) {
+    if (!served) return;
+    served->made = 0;
+    served->refused = 0;
+    left = served->wanted;
+}
+
+int accept(int fd, struct sockaddr *address, socklen_t *size) {
+    static int (*next)(int, struct sockaddr *, socklen_t *);
+    if (!next) next = (int (*)(int, struct sockaddr *, socklen_t *))dlsym(RTLD_NEXT, "accept");
+    wait_for_one();
+    int found = next(fd, address, size);
+    begin_one();
+    return found;
+}
+
+int accept4(int fd, struct sockaddr *address, socklen_t *size, int flags) {
+    static int (*next)(int, struct sockaddr *, socklen_t *, int);
+    if (!next) next = (int (*)(int, struct sockaddr *, socklen_t *, int))dlsym(RTLD_NEXT, "accept4");
+    wait_for_one();
+    int found = next(fd, address, size, flags);
+    begin_one();
+    return found;
+}
+
+void *malloc(size_t size) {
+    static void *(*next)(size_t);
+    if (!next) next = (void *(*)(size_t))dlsym(RTLD_NEXT, "malloc");
+    return refuses() ? NULL : next(size);
+}
+
+void *realloc(void *at, size_t size) {
+    static void *(*next)(void *, size_t);
+    if (!next) next = (void *(*)(void *, size_t))dlsym(RTLD_NEXT, "realloc");
+    return refuses() ? NULL : next(at, size);
+}
+
+void *aligned_alloc(size_t alignment, size_t size) {
+    static void *(*next)(size_t, size_t);
+    if (!next) next = (void *(*)(size_t, size_t))dlsym(RTLD_NEXT, "aligned_alloc");
+    return refuses() ? NULL : next(alignment, size);
+}
+
+int posix_memalign(void **at, size_t alignment, size_t size) {
+    static int (*next)(void **, size_t, size_t);
+    if (!next) next = (int (*)(void **, size_t, size_t))dlsym(RTLD_NEXT, "posix_memalign");
+    return refuses() ? 12 : next(at, alignment, size);
+}

@@ -1,0 +1,27 @@
+#!/bin/sh
+# Refuses allocations of `desk serve`, with the built program or the one that is named, on a desk that stays open:
+# refused-requests.sh [PROGRAM [DAY..]]. Each request of each day in checks/requests/days.py, but of that of the largest inputs, is asked
+# with its first allocation refused, then with its second, and so on, each once, until it made none more. A refused one is answered by
+# the 503 of NoMemory, or its connection ends without a response, or it does without the memory. After each the desk's report is as it
+# was; where it isn't, the command was accepted and its response found no memory: then the same request has the reply that is kept, and
+# changes nothing more. With ample memory the request has the response that is due, on the same open desk. At the end of a day all exports
+# and all tables are those of a day on which no memory was refused.
+#
+# Not part of `rt ci`: it needs python3, sqlite3, and a C compiler for a malloc that refuses (refuse.c).
+set -eu
+root=$(CDPATH='' cd -- "$(dirname -- "$(readlink -f -- "$0")")/.." && pwd -P)
+if [ $# -gt 0 ]; then
+    program=$(readlink -f -- "$1")
+    shift
+else
+    "$root/desk" --version > /dev/null
+    program=$root/crates/desk/out/desk
+fi
+for tool in cc python3 sqlite3; do
+    command -v "$tool" > /dev/null || { echo "checks/refused-requests.sh: $tool is needed" >&2; exit 1; }
+done
+room=$(mktemp -d)
+trap 'rm -rf "$room"' EXIT
+trap 'exit 1' HUP INT TERM
+cc -shared -fPIC -O1 -o "$room/refuse.so" "$root/checks/refuse.c" -ldl
+timeout --foreground -k 5 1800 python3 -B "$root/checks/requests/refused.py" "$program" "$room/refuse.so" "$@"

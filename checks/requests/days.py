@@ -1,0 +1,349 @@
+"""Days at a desk of seven people, two of them officers: who asks for what, and every byte of the answer that is due."""
+from typing import NamedTuple
+
+from desk import (
+    CERTIFICATE, PLAIN, SIGNED, TBS, THREE_LISTS, authenticode, certificate_list, changed, digest, digest_list, got, octets, ok, posted,
+    refused, request, response, said, sha256, signature_list, text, with_table, with_text, X509_KIND,
+)
+
+
+class Step(NamedTuple):
+    """A request, the response that is due, and whether the desk accepts a command by it for the first time."""
+
+    given: bytes
+    due: bytes
+    accepted: bool = False
+
+
+def takes(name, key, path, body, reply, *fields):
+    """The desk accepts this person's command with this reply."""
+    return Step(posted(name, key, path, body, *fields), ok(reply), True)
+
+
+def again(name, key, path, body, reply, *fields):
+    """A key that was given before, with the same command, has the same reply."""
+    return takes(name, key, path, body, reply, *fields)._replace(accepted=False)
+
+
+def refuses(number, name, key, path, body, *fields, at=None):
+    return Step(posted(name, key, path, body, *fields), refused(number, at))
+
+
+def reads(name, path, due):
+    return Step(got(name, path), due)
+
+
+def judges(name, image, verdict):
+    return Step(posted(name, "unused", "/verdict", image), ok(verdict))
+
+
+# ---- commands
+
+
+def submits(name, key, image, title, number):
+    return takes(name, key, "/requests", image, {"reply": "submitted", "request": number}, ("Desk-Title", title))
+
+
+def vote(ballot, note=""):
+    return said({"note": note, "vote": ballot})
+
+
+def reviews(name, key, number, ballot, state):
+    reply = {"reply": "reviewed", "request": number, "state": state}
+    return takes(name, key, f"/requests/{number}/review", vote(ballot), reply)
+
+
+def returns(name, key, number, image):
+    return takes(name, key, f"/requests/{number}/return", image, {"reply": "returned", "request": number})
+
+
+def named(hexadecimal, **more):
+    return said({"digest": hexadecimal, **more})
+
+
+def lists(name, key, image_digest):
+    return takes(name, key, "/db/digests", named(image_digest), {"reply": "listed"})
+
+
+def raising(component, generation, stamp):
+    return said({"component": component, "generation": generation, "stamp": stamp})
+
+
+def proposes(name, key, path, body, number, *fields):
+    return takes(name, key, path, body, {"proposal": number, "reply": "proposed"}, *fields)
+
+
+def confirms(name, key, number, digests, certificates, components, passed):
+    counts = {"certificates": certificates, "components": components, "digests": digests, "passed": passed}
+    return takes(name, key, f"/proposals/{number}/confirm", b"", {**counts, "proposal": number, "reply": "confirmed"})
+
+
+def drops(name, key, number):
+    return takes(name, key, f"/proposals/{number}/drop", b"", {"proposal": number, "reply": "dropped"})
+
+
+def closes(number, what, name, key, proposal):
+    """A Confirm or a Drop that is refused."""
+    return refuses(number, name, key, f"/proposals/{proposal}/{what}", b"")
+
+
+# ---- what is shown
+
+
+def shown(number, submitter, title, state, votes, returned=None):
+    """The request of the plain image, with its votes (reviewer, vote, note) ascending by reviewer."""
+    return {
+        "carried": [], "components": [], "digest": authenticode(PLAIN), "file": sha256(PLAIN), "gap": 0, "length": 1024,
+        "number": number, "returned": returned, "signing": authenticode(PLAIN), "state": state, "submitter": submitter, "title": title,
+        "votes": [{"note": note, "reviewer": reviewer, "vote": ballot} for reviewer, ballot, note in votes],
+    }
+
+
+def proposal(number, officer, state, digests=0, certificates=0, components=0):
+    counts = {"certificates": certificates, "components": components, "digests": digests}
+    return {**counts, "number": number, "officer": officer, "state": state}
+
+
+APPROVED = shown(1, "ann", "A", "approved", [("raul", "yes", ""), ("rita", "yes", "")])
+REJECTED = shown(2, "rita", "B", "rejected", [("rosa", "no", "")])
+EMPTY_LEVEL = "sbat,1,2021030218\n"
+
+# ---- days
+
+# Who may review, and when; what a submitter is shown.
+REVIEWS = [
+    submits("ann", "k1", PLAIN, "A", 1),
+    refuses(21, "ann", "k2", "/requests/1/review", vote("yes")),
+    reviews("rita", "k1", 1, "yes", "open"),
+    refuses(26, "rita", "k2", "/requests/1/review", vote("yes")),
+    reviews("raul", "k1", 1, "yes", "approved"),
+    refuses(24, "rosa", "k1", "/requests/1/review", vote("yes")),
+    submits("rita", "k2", PLAIN, "B", 2),
+    refuses(25, "rita", "k3", "/requests/2/review", vote("yes")),
+    reviews("rosa", "k1", 2, "no", "rejected"),
+    reads("ann", "/requests/2", refused(23)),
+    reads("ann", "/requests/1", ok(APPROVED)),
+    reads("ann", "/requests", ok([APPROVED])),
+    reads("rita", "/requests", ok([APPROVED, REJECTED])),
+]
+
+# What is returned has to be listed, and to be the image that was approved; then verdicts, and a revoked certificate.
+SIGNED_REQUEST = shown(1, "ann", "A", "signed", [("raul", "yes", ""), ("rita", "yes", "")], sha256(SIGNED))
+RETURNS = [
+    *REVIEWS,
+    refuses(29, "sid", "k1", "/requests/1/return", SIGNED),
+    takes("olga", "k1", "/db/certificates", CERTIFICATE, {"reply": "listed"}),
+    refuses(33, "olga", "k2", "/db/certificates", CERTIFICATE),
+    refuses(27, "sid", "k1", "/requests/1/return", changed(SIGNED, (600, "01"))),
+    returns("sid", "k1", 1, SIGNED),
+    refuses(24, "sid", "k2", "/requests/1/return", SIGNED),
+    reads("ann", "/requests/1", ok(SIGNED_REQUEST)),
+    reads("ann", "/db", octets(signature_list(X509_KIND, [CERTIFICATE]))),
+    judges("ann", SIGNED, {"verdict": "allowed"}),
+    judges("ann", PLAIN, {"verdict": "not-listed"}),
+    proposes("olga", "k2", "/dbx/certificates", named(TBS), 1),
+    judges("ann", SIGNED, {"verdict": "allowed"}),
+    confirms("otto", "k1", 1, 0, 1, 0, 0),
+    judges("ann", SIGNED, {"verdict": "dbx-certificate"}),
+    takes("olga", "k3", "/db/unlist", named(TBS, kind="certificate"), {"reply": "unlisted"}),
+    refuses(34, "olga", "k4", "/db/unlist", named(TBS, kind="certificate")),
+    judges("ann", SIGNED, {"verdict": "dbx-certificate"}),
+    refuses(30, "olga", "k4", "/dbx/certificates", named(TBS)),
+    reads("ann", "/dbx", octets(certificate_list([TBS]))),
+]
+
+# The approved image is revoked before it is returned.
+REVOKED_BEFORE = [
+    *REVIEWS[:5],
+    takes("olga", "k1", "/db/certificates", CERTIFICATE, {"reply": "listed"}),
+    proposes("olga", "k2", "/dbx/digests", named(authenticode(PLAIN)), 1),
+    confirms("otto", "k1", 1, 1, 0, 0, 0),
+    refuses(28, "sid", "k1", "/requests/1/return", SIGNED),
+    refuses(28, "ann", "k2", "/requests", PLAIN, ("Desk-Title", "again")),
+    reads("ann", "/requests/1", ok(APPROVED)),
+    judges("ann", SIGNED, {"verdict": "dbx-digest"}),
+]
+
+# The level rises, and the verdict on an image with a component follows it.
+def grub(generation):
+    return with_text(PLAIN, f"sbat,1,a,b,1,u\ngrub,{generation},a,b,1,u\n".encode())
+
+
+LEVELS = [
+    reads("ann", "/level", text(EMPTY_LEVEL)),
+    reads("ann", "/dbx", octets(b"")),
+    *(lists("olga", f"k{number}", authenticode(grub(generation))) for number, generation in enumerate((2, 3, 4294967295), 1)),
+    judges("ann", grub(2), {"verdict": "allowed"}),
+    proposes("olga", "k4", "/level", raising("grub", 3, 2024010100), 1),
+    reads("ann", "/level", text(EMPTY_LEVEL)),
+    confirms("otto", "k1", 1, 0, 0, 1, 0),
+    reads("ann", "/level", text("sbat,1,2024010100\ngrub,3\n")),
+    refuses(31, "olga", "k5", "/level", raising("grub", 2, 2024010101)),
+    refuses(32, "olga", "k5", "/level", raising("grub", 4, 2024010100)),
+    refuses(31, "olga", "k5", "/level", raising("sbat", 2, 2024010101)),
+    judges("ann", grub(2), {"component": "grub", "generation": 2, "level": 3, "verdict": "sbat"}),
+    judges("ann", grub(3), {"verdict": "allowed"}),
+    judges("ann", grub(4294967295), {"verdict": "allowed"}),
+]
+
+# A key stands for one command of its caller.
+KEYS = [
+    submits("ann", "k1", PLAIN, "A", 1),
+    again("ann", "k1", "/requests", PLAIN, {"reply": "submitted", "request": 1}, ("Desk-Title", "A")),
+    reads("ann", "/requests", ok([shown(1, "ann", "A", "open", [])])),
+    refuses(22, "ann", "k1", "/requests", PLAIN, ("Desk-Title", "another")),
+    submits("rita", "k1", PLAIN, "A", 2),
+    takes("ann", "k2", "/requests/1/withdraw", b"", {"reply": "withdrawn", "request": 1}),
+    refuses(24, "ann", "k3", "/requests/1/withdraw", b""),
+    refuses(23, "ann", "k3", "/requests/2/withdraw", b""),
+    reads("rita", "/requests", ok([shown(1, "ann", "A", "withdrawn", []), shown(2, "rita", "A", "open", [])])),
+]
+
+# Signature lists are imported; a second time nothing is new.
+IMPORTED = digest_list([digest("aa")]) + certificate_list([digest("bb")])
+LISTS = [
+    refuses(15, "olga", "k1", "/imports/dbx", THREE_LISTS[:215], at=168),
+    reads("olga", "/proposals", ok([])),
+    proposes("olga", "k1", "/imports/dbx", THREE_LISTS, 1),
+    reads("ann", "/dbx", octets(b"")),
+    confirms("otto", "k1", 1, 1, 1, 0, 1),
+    proposes("olga", "k2", "/imports/dbx", THREE_LISTS, 2),
+    confirms("otto", "k2", 2, 0, 0, 0, 1),
+    reads("ann", "/dbx", octets(IMPORTED)),
+    again("olga", "k1", "/imports/dbx", THREE_LISTS, {"proposal": 1, "reply": "proposed"}),
+]
+
+# A file of CSV is imported: without a stamp only where it raises nothing.
+CSV = f"kind,value,generation\nsha256,{digest('aa')},\nsbat,grub,2\nsbat,grub,3\n".encode()
+FILES = [
+    refuses(32, "olga", "k1", "/imports/csv", CSV),
+    reads("ann", "/level", text(EMPTY_LEVEL)),
+    proposes("olga", "k1", "/imports/csv", CSV, 1, ("Desk-Stamp", "2024010100")),
+    confirms("otto", "k1", 1, 1, 0, 1, 0),
+    reads("ann", "/level", text("sbat,1,2024010100\ngrub,3\n")),
+    reads("ann", "/dbx", octets(digest_list([digest("aa")]))),
+    proposes("olga", "k2", "/imports/csv", CSV, 2),
+    confirms("otto", "k2", 2, 0, 0, 0, 0),
+    reads("ann", "/level", text("sbat,1,2024010100\ngrub,3\n")),
+]
+
+# A level that raises nothing is taken whatever its stamp is.
+RAISES_NOTHING = [
+    proposes("olga", "k1", "/level", raising("grub", 2, 2024010100), 1),
+    confirms("otto", "k1", 1, 0, 0, 1, 0),
+    proposes("olga", "k2", "/imports/level", b"sbat,1,2024010100\ngrub,2\n", 2),
+    confirms("otto", "k2", 2, 0, 0, 0, 0),
+    reads("ann", "/level", text("sbat,1,2024010100\ngrub,2\n")),
+]
+
+# One officer proposes, and another one confirms.
+TWO_OFFICERS = [
+    proposes("olga", "k1", "/dbx/digests", named(digest("aa")), 1),
+    reads("ann", "/dbx", octets(b"")),
+    closes(38, "confirm", "olga", "k2", 1),
+    closes(21, "confirm", "ann", "k1", 1),
+    confirms("otto", "k1", 1, 1, 0, 0, 0),
+    reads("ann", "/dbx", octets(digest_list([digest("aa")]))),
+    closes(39, "confirm", "otto", "k2", 1),
+    closes(37, "confirm", "otto", "k2", 2),
+    refuses(30, "olga", "k2", "/dbx/digests", named(digest("aa"))),
+    reads("otto", "/proposals", ok([proposal(1, "olga", "confirmed", digests=1)])),
+    reads("ann", "/proposals", refused(21)),
+]
+
+# Two proposals of one digest, and two of one component: what is refused when it is confirmed stays open, and is dropped.
+TWO_PROPOSALS = [
+    proposes("olga", "k1", "/dbx/digests", named(digest("bb")), 1),
+    proposes("olga", "k2", "/dbx/digests", named(digest("bb")), 2),
+    confirms("otto", "k1", 1, 1, 0, 0, 0),
+    closes(30, "confirm", "otto", "k2", 2),
+    drops("olga", "k3", 2),
+    closes(39, "drop", "otto", "k2", 2),
+    closes(37, "drop", "otto", "k2", 3),
+    proposes("olga", "k4", "/level", raising("grub", 3, 2024010100), 3),
+    proposes("olga", "k5", "/level", raising("grub", 4, 2024010101), 4),
+    confirms("otto", "k2", 4, 0, 0, 1, 0),
+    closes(31, "confirm", "otto", "k3", 3),
+    reads(
+        "otto", "/proposals",
+        ok([
+            proposal(1, "olga", "confirmed", digests=1), proposal(2, "olga", "dropped", digests=1),
+            proposal(3, "olga", "open", components=1), proposal(4, "olga", "confirmed", components=1),
+        ]),
+    ),
+]
+
+# The first requests of a desk: one with a token, one without, one whose body is a byte short, one without a byte.
+FIRST_REQUESTS = [
+    Step(
+        b"GET /level HTTP/1.1\r\nDesk-Token: olga-token-000001\r\n\r\n",
+        b"HTTP/1.1 200 OK\r\nContent-Type: text/plain\r\nContent-Length: 18\r\nConnection: close\r\n\r\nsbat,1,2021030218\n",
+    ),
+    Step(
+        b"GET /level HTTP/1.1\r\n\r\n",
+        b"HTTP/1.1 401 Unauthorized\r\nContent-Type: application/json\r\nContent-Length: 37\r\nWWW-Authenticate: Desk\r\n"
+        b'Connection: close\r\n\r\n{"name":"UnknownCaller","refused":20}',
+    ),
+    Step(
+        submits("ann", "k1", PLAIN, "A", 1).given[:-1],
+        b"HTTP/1.1 400 Bad Request\r\nContent-Type: application/json\r\nContent-Length: 31\r\nConnection: close\r\n\r\n"
+        b'{"name":"BadHead","refused":50}',
+    ),
+    Step(b"", b""),
+    reads("ann", "/requests", ok([])),
+    Step(
+        submits("ann", "k1", PLAIN, "A", 1).given,
+        b"HTTP/1.1 200 OK\r\nContent-Type: application/json\r\nContent-Length: 33\r\nConnection: close\r\n\r\n"
+        b'{"reply":"submitted","request":1}',
+        True,
+    ),
+]
+
+# ---- the largest of each
+
+MANY = [f"{number:064x}" for number in range(1, 10_002)]
+
+
+def der(tag, content):
+    """A DER element, its length in four bytes."""
+    return bytes([tag, 0x84]) + len(content).to_bytes(4, "big") + content
+
+
+def table_of(count):
+    """A certificate table of one entry with so many certificates, no two of them alike."""
+    row = b"".join(bytes([0x30, 5, 0x30, 3, 2, 1, number]) for number in range(count))
+    signed = der(0x30, bytes.fromhex("020101" "3100" "3000") + der(0xA0, row))
+    body = der(0x30, bytes.fromhex("0600") + der(0xA0, signed))
+    entry = (8 + len(body)).to_bytes(4, "little") + bytes.fromhex("00020200") + body
+    return entry.ljust(-(-len(entry) // 8) * 8, b"\0")
+
+
+def largest(certificates, components):
+    """An image with so many certificates and components."""
+    rows = b"".join(b"c%d,1,a,b,1,u\n" % number for number in range(components))
+    return with_table(with_text(PLAIN, rows), table_of(certificates))
+
+
+LONGEST = bytes.fromhex("3082fffc" "3003020101").ljust(65_536, b"\0")
+LARGEST = [
+    refuses(13, "olga", "k1", "/imports/dbx", digest_list(MANY)),
+    reads("olga", "/proposals", ok([])),
+    proposes("olga", "k1", "/imports/dbx", digest_list(MANY[:-1]), 1),
+    confirms("otto", "k1", 1, 10_000, 0, 0, 0),
+    reads("ann", "/dbx", octets(digest_list(MANY[:-1]))),
+    refuses(13, "olga", "k2", "/db/certificates", LONGEST + b"\0"),
+    takes("olga", "k2", "/db/certificates", LONGEST, {"reply": "listed"}),
+    reads("ann", "/db", octets(signature_list(X509_KIND, [LONGEST]))),
+    refuses(13, "ann", "k1", "/requests", largest(65, 256), ("Desk-Title", "t" * 120)),
+    refuses(13, "ann", "k1", "/requests", largest(64, 257), ("Desk-Title", "t" * 120)),
+    refuses(51, "ann", "k1", "/requests", largest(64, 256), ("Desk-Title", "t" * 121)),
+    submits("ann", "k1", largest(64, 256), "t" * 120, 1),
+    again("ann", "k1", "/requests", largest(64, 256), {"reply": "submitted", "request": 1}, ("Desk-Title", "t" * 120)),
+]
+
+# By name. Each begins on a desk of the people alone.
+DAYS = {
+    "reviews": REVIEWS, "returns": RETURNS, "revoked before": REVOKED_BEFORE, "levels": LEVELS, "keys": KEYS, "lists": LISTS,
+    "files": FILES, "raises nothing": RAISES_NOTHING, "two officers": TWO_OFFICERS, "two proposals": TWO_PROPOSALS,
+    "first requests": FIRST_REQUESTS, "the largest": LARGEST,
+}

@@ -1,0 +1,166 @@
+"""Each allocation of a subcommand is refused, one a run: see ../refused-memory.sh."""
+import gzip
+import os
+import struct
+import subprocess
+import sys
+from concurrent.futures import ThreadPoolExecutor
+from typing import NamedTuple
+
+from days import RETURNS
+from desk import CERTIFICATE, NO_MEMORY, OWNER, PLAIN, SIGNED, STORED, X509_KIND, Program, expect, fail, got, signature_list, text, token
+
+PROGRAM, LIBRARY, ROOT, STRIDE = sys.argv[1], sys.argv[2], sys.argv[3], int(sys.argv[4])
+NO_MEMORY_LINE, STORE_LINE = b"device 40 NoMemory\n", b"device 41 Store\n"
+
+
+class Case(NamedTuple):
+    """A subcommand: its words, where DESK stands for the desk's file, what it reads and writes, and its status."""
+
+    name: str
+    words: tuple
+    wanted: bytes
+    given: bytes = b""
+    status: int = 0
+    # How much may be written before memory is refused; whether what stands in place of it may be the response of NoMemory.
+    most: int = 0
+    answers: bool = False
+    # The desk's file that it finds: one of the desks below, or none; and its minutes, where they are compared.
+    desk: str = ""
+    minutes: bytes = b""
+
+
+class Refusing:
+    """Runs of one case, in a folder of its own."""
+
+    def __init__(self, program, case):
+        self.program, self.case = program, case
+        self.desk = os.path.join(program.room.name, f"{case.name.replace(' ', '_')}.db")
+        self.count_file = f"{self.desk}.count"
+        self.words = [self.desk if it == "DESK" else it for it in case.words]
+        self.found = self.contents(program.at(case.desk)) if case.desk else {}
+        # How many refused runs left other files than they found.
+        self.changed = 0
+
+    @staticmethod
+    def contents(path):
+        """The bytes of a desk's file and of its log, where they are there."""
+        found = {}
+        for end in ("", "-wal"):
+            if os.path.exists(path + end):
+                with open(path + end, "rb") as it:
+                    found[end] = it.read()
+        return found
+
+    def put(self):
+        """The files that each run finds."""
+        for end in ("", "-wal"):
+            if end in self.found:
+                with open(self.desk + end, "wb") as it:
+                    it.write(self.found[end])
+            elif os.path.exists(self.desk + end):
+                os.remove(self.desk + end)
+
+    def run(self, number):
+        """A run with the allocation of this number refused, 0 for none."""
+        env = {**self.program.env, "REFUSE": str(number), "COUNTED": self.count_file, "LD_PRELOAD": LIBRARY}
+        ran = subprocess.run([PROGRAM, *self.words], input=self.case.given, capture_output=True, timeout=120, env=env, check=False)
+        return ran.returncode, ran.stdout, ran.stderr
+
+    def is_whole(self, ran):
+        return ran == (self.case.status, self.case.wanted, b"")
+
+    def is_told(self, ran):
+        """Whether want of memory is told, with no more than a beginning written."""
+        status, out, err = ran
+        if self.case.answers and (status, out, err) == (0, NO_MEMORY, b""):
+            return True
+        is_beginning = len(out) <= self.case.most and self.case.wanted.startswith(out) or self.case.answers and out == NO_MEMORY
+        return status == 3 and is_beginning and err in (NO_MEMORY_LINE, STORE_LINE)
+
+    def again(self, number):
+        """The same words on the files that were left. Where they are those that were found the run would be the one with ample memory."""
+        if self.contents(self.desk) == self.found:
+            return
+        ran = self.program.run(*self.words, given=self.case.given)
+        if self.case.name == "init" and ran == (1, b"", b"refused 46 Exists\n"):
+            ran = (0, b"", b"")
+        if not self.is_whole(ran):
+            fail(f"{self.case.name}, allocation {number} refused: on the files that were left: {ran}")
+        self.changed += 1
+        if self.case.minutes:
+            expect(self.program.minutes(self.desk), self.case.minutes, f"{self.case.name}, allocation {number} refused: the minutes")
+        if self.case.name == "init":
+            expect(self.program.gives("minutes", self.desk), b"", f"init, allocation {number} refused: the desk's minutes")
+
+    def numbers(self, count):
+        """Each, or the first and the last hundred and one in STRIDE of the others."""
+        return [it for it in range(1, count + 1) if it <= 100 or it > count - 100 or it % STRIDE == 0]
+
+    def each(self):
+        self.put()
+        ran = self.run(0)
+        if not self.is_whole(ran):
+            fail(f"{self.case.name}, with ample memory: {ran}")
+        with open(self.count_file, encoding="ascii") as it:
+            count = int(it.read())
+        numbers, borne, stores = self.numbers(count), 0, 0
+        for number in numbers:
+            self.put()
+            ran = self.run(number)
+            if self.is_whole(ran):
+                borne += 1
+            elif not self.is_told(ran):
+                fail(f"{self.case.name}, allocation {number} of {count} refused: {ran}")
+            stores += ran[2] == STORE_LINE
+            self.again(number)
+        self.put()
+        if not self.is_whole(self.run(count + 1)):
+            fail(f"{self.case.name}: with {count} allocations and no more it isn't done")
+        more = f"; {self.changed} left other files, and the same words did what they have to"
+        more += f"; {borne} did without the memory" if borne else ""
+        more += f"; {stores} were told as device 41 Store" if stores else ""
+        print(f"{self.case.name}: {len(numbers)} of {count} allocations refused, one a run{more}", flush=True)
+        return len(numbers)
+
+
+def cases():
+    with open(f"{ROOT}/crates/desk/stdin", "rb") as lines, open(f"{ROOT}/crates/desk/stdout", "rb") as packed:
+        yield Case("pack", ("pack", OWNER), packed.read(), lines.read())
+    signed, plain = f"{ROOT}/examples/signed.efi", f"{ROOT}/examples/tiny.efi"
+    yield Case("facts", ("facts", signed), subprocess.run([PROGRAM, "facts", signed], capture_output=True, check=True).stdout)
+    other = STORED + struct.pack("<III", 48, 0, 20) + STORED + bytes(4)
+    # The offset goes out before the GUID's text finds no memory.
+    yield Case("list", ("list", program.file("list", other)), f"0 {OWNER} 1\n".encode(), most=2)
+    yield Case("init", ("init", "DESK", OWNER), b"")
+    yield Case("person", ("person", "DESK", "eva", "submitter", "k1"), b"added eva\n", b"eva-token-000001\n", most=10, desk="people.db")
+    yield Case("verdict", ("verdict", "DESK", plain), b"refused not-listed\n", status=1, most=19, desk="people.db")
+    yield Case("level", ("level", "DESK"), b"sbat,1,2021030218\n", most=18, desk="people.db")
+    yield Case("dbx", ("dbx", "DESK"), b"", desk="people.db")
+    listed = signature_list(X509_KIND, [CERTIFICATE])
+    yield Case("db", ("db", "DESK"), listed, most=len(listed), desk="listed.db")
+    image = program.file("signed", SIGNED)
+    yield Case("verdict on a listed image", ("verdict", "DESK", image), b"allowed\n", most=8, desk="listed.db")
+    minutes = program.minutes(program.at("listed.db"))
+    yield Case("minutes", ("minutes", "DESK"), minutes, most=len(minutes), desk="listed.db")
+    # Its first opening makes of a file of version 1 one of version 2.
+    with gzip.open(f"{ROOT}/examples/version-1/desk.db.gz") as it:
+        program.file("first.db", it.read())
+    with open(f"{ROOT}/examples/version-1/minutes", "rb") as it:
+        minutes = it.read()
+    with open(f"{ROOT}/examples/version-1/dbx.esl", "rb") as it:
+        dbx = it.read()
+    yield Case("dbx of version 1", ("dbx", "DESK"), dbx, most=len(dbx), desk="first.db", minutes=minutes)
+    level = text("sbat,1,2021030218\n")
+    yield Case("answer", ("answer", "DESK"), level, got("olga", "/level"), most=len(level), answers=True, desk="people.db")
+
+
+with Program(PROGRAM) as program:
+    people = program.founded("people.db")
+    desk = program.copied(people, "listed.db")
+    for step in RETURNS[:19]:
+        expect(program.gives("answer", desk, given=step.given), step.due, "the desk of a listed image")
+    how = "each" if STRIDE == 1 else f"the first and the last hundred of each, and one in {STRIDE} between them"
+    with ThreadPoolExecutor(len(os.sched_getaffinity(0))) as pool:
+        total = sum(pool.map(lambda case: Refusing(program, case).each(), list(cases())))
+    print(f"{total} allocations refused ({how}), and the same words then did what they have to")
