@@ -5,8 +5,8 @@ import re
 import subprocess
 import sys
 
-from days import confirms, drops, judges, lists, named, proposes, raising, reads, returns, reviews, submits, takes, vote
-from desk import CERTIFICATE, PEOPLE, PLAIN, SIGNED, Program, Server, digest, expect, fail, got, ok, posted, sha256
+from days import confirms, drops, judges, lists, named, proposes, raising, returns, reviews, submits, takes
+from desk import CERTIFICATE, PEOPLE, PLAIN, SIGNED, Program, Server, expect, fail, got, posted, sha256
 
 sys.stdout.reconfigure(line_buffering=True)
 SIZES = [int(it) for it in sys.argv[2:]] or [1_000, 10_000, 100_000]

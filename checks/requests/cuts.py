@@ -1,11 +1,10 @@
 """Inputs that are cut off, and lengths that lie: see ../cuts.sh."""
-import struct
 import sys
 
 from days import submits
 from desk import (
-    CERTIFICATE, OWNER, PEOPLE, PLAIN, REFUSALS, TABLE, TBS, THREE_LISTS, Program, Server, changed, digest, digest_list, expect, fail, got,
-    ok, posted, refused, request, response, text, token, with_table,
+    CERTIFICATE, OWNER, PLAIN, REFUSALS, TABLE, TBS, THREE_LISTS, Program, Server, changed, digest, digest_list, expect, fail, got, ok,
+    posted, refused, request, text, token, with_table,
 )
 
 compared = 0

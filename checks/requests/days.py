@@ -3,7 +3,7 @@ from typing import NamedTuple
 
 from desk import (
     CERTIFICATE, PLAIN, SIGNED, TBS, THREE_LISTS, authenticode, certificate_list, changed, digest, digest_list, got, octets, ok, posted,
-    refused, request, response, said, sha256, signature_list, text, with_table, with_text, X509_KIND,
+    refused, said, sha256, signature_list, text, with_table, with_text, X509_KIND,
 )
 
 

@@ -7,7 +7,7 @@ import sys
 import time
 
 from days import DAYS
-from desk import NO_MEMORY, PEOPLE, Program, Server, dump, expect, fail, got, ok
+from desk import NO_MEMORY, Program, Server, dump, expect, fail, got
 
 NUMBERS = struct.Struct("qqqq")
 REPORT = got("olga", "/report")
@@ -38,6 +38,7 @@ class Refusing:
             _, made, refused, waits = NUMBERS.unpack_from(self.numbers)
             if waits == self.waits:
                 return made, bool(refused)
+            time.sleep(0.0001)
             if self.server.process.poll() is not None:
                 fail(f"serve has ended: {self.server.process.communicate()}")
             if waits > self.waits or time.monotonic() > until:

@@ -8,7 +8,7 @@ from concurrent.futures import ThreadPoolExecutor
 from typing import NamedTuple
 
 from days import RETURNS
-from desk import CERTIFICATE, NO_MEMORY, OWNER, PLAIN, SIGNED, STORED, X509_KIND, Program, expect, fail, got, signature_list, text, token
+from desk import CERTIFICATE, NO_MEMORY, OWNER, SIGNED, STORED, X509_KIND, Program, expect, fail, got, signature_list, text
 
 PROGRAM, LIBRARY, ROOT, STRIDE = sys.argv[1], sys.argv[2], sys.argv[3], int(sys.argv[4])
 NO_MEMORY_LINE, STORE_LINE = b"device 40 NoMemory\n", b"device 41 Store\n"
