@@ -1,7 +1,7 @@
 /* A malloc that refuses one allocation, for checks: it is loaded before a program (LD_PRELOAD). What the environment names:
    REFUSE   the number, from 1, of the allocation that is refused
    TELLS    the line `refused` goes to standard error then
-   COUNTED  a file that gets the number of allocations at the end
+   SIZES    a file that gets the size of each allocation at the end, a line each
    SERVED   a file of four numbers, shared with whoever asks a server: which allocation of the next connection is to be refused (0 for
             none); how many the last one made; whether one of them was refused; and how often the server waited for a connection. A
             connection's allocations are those from one accept to the next. */
@@ -21,6 +21,8 @@ struct served {
 static volatile struct served *served;
 static long left, made;
 static int tells;
+/* The sizes of the first allocations; more aren't told. */
+static size_t sizes[1 << 18];
 
 __attribute__((constructor)) static void begin(void) {
     const char *number = getenv("REFUSE"), *path = getenv("SERVED");
@@ -37,15 +39,18 @@ __attribute__((constructor)) static void begin(void) {
 }
 
 __attribute__((destructor)) static void end(void) {
-    const char *path = getenv("COUNTED");
+    const char *path = getenv("SIZES");
     if (!path) return;
-    int file = open(path, O_WRONLY | O_CREAT | O_TRUNC, 0600);
-    char text[32];
-    int size = snprintf(text, sizeof text, "%ld\n", made);
-    if (file < 0 || write(file, text, (size_t)size) != size || close(file) != 0) abort();
+    /* (the file's own memory is none of the program's) */
+    long count = made;
+    FILE *file = fopen(path, "w");
+    if (!file || count > 1 << 18) abort();
+    for (long place = 0; place < count; place++) fprintf(file, "%zu\n", sizes[place]);
+    if (fclose(file) != 0) abort();
 }
 
-static int refuses(void) {
+static int refuses(size_t size) {
+    if (made < 1 << 18) sizes[made] = size;
     made++;
     if (served) served->made++;
     if (left <= 0 || --left != 0) return 0;
@@ -90,23 +95,23 @@ int accept4(int fd, struct sockaddr *address, socklen_t *size, int flags) {
 void *malloc(size_t size) {
     static void *(*next)(size_t);
     if (!next) next = (void *(*)(size_t))dlsym(RTLD_NEXT, "malloc");
-    return refuses() ? NULL : next(size);
+    return refuses(size) ? NULL : next(size);
 }
 
 void *realloc(void *at, size_t size) {
     static void *(*next)(void *, size_t);
     if (!next) next = (void *(*)(void *, size_t))dlsym(RTLD_NEXT, "realloc");
-    return refuses() ? NULL : next(at, size);
+    return refuses(size) ? NULL : next(at, size);
 }
 
 void *aligned_alloc(size_t alignment, size_t size) {
     static void *(*next)(size_t, size_t);
     if (!next) next = (void *(*)(size_t, size_t))dlsym(RTLD_NEXT, "aligned_alloc");
-    return refuses() ? NULL : next(alignment, size);
+    return refuses(size) ? NULL : next(alignment, size);
 }
 
 int posix_memalign(void **at, size_t alignment, size_t size) {
     static int (*next)(void **, size_t, size_t);
     if (!next) next = (int (*)(void **, size_t, size_t))dlsym(RTLD_NEXT, "posix_memalign");
-    return refuses() ? 12 : next(at, alignment, size);
+    return refuses(size) ? 12 : next(at, alignment, size);
 }

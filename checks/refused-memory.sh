@@ -8,9 +8,10 @@
 # without the memory. The same words on the files that a refused run left have to end as they do on the files that it found. A store
 # that closes may tell `device 41 Store`: such runs are counted apart.
 #
-# The first and the last hundred allocations of each are refused, and between them one in STRIDE: 50 where none is given, which takes a
-# minute or two; 1 refuses each, some 12,000 of each that opens a desk. Requests over HTTP are refused-requests.sh's. Not part of `rt
-# ci`: it needs python3, and a C compiler for a malloc that refuses (refuse.c).
+# The first and the last hundred allocations of each are refused, and between them one in STRIDE: 100 where none is given, which takes a
+# minute or two. 1 refuses each, but one in a hundred of a long row of one size: of the 13,000 of a run that opens a desk 8,000 are the
+# store's pages, taken at once. 0 refuses each whatever it is. Requests over HTTP are refused-requests.sh's. Not part of `rt ci`: it needs
+# python3, and a C compiler for a malloc that refuses (refuse.c).
 set -eu
 root=$(CDPATH='' cd -- "$(dirname -- "$(readlink -f -- "$0")")/.." && pwd -P)
 if [ $# -gt 0 ]; then
@@ -26,4 +27,4 @@ room=$(mktemp -d)
 trap 'rm -rf "$room"' EXIT
 trap 'exit 1' HUP INT TERM
 cc -shared -fPIC -O1 -o "$room/refuse.so" "$root/checks/refuse.c" -ldl
-python3 -B "$root/checks/requests/subcommands.py" "$program" "$room/refuse.so" "$root" "${2:-50}"
+python3 -B "$root/checks/requests/subcommands.py" "$program" "$room/refuse.so" "$root" "${2:-100}"

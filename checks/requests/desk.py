@@ -312,7 +312,7 @@ class Server:
     def ask(self, given, ends=True):
         """What comes until the server closes the connection. With `ends` our side is closed first, as one that has sent all."""
         pieces = []
-        with socket.create_connection(("127.0.0.1", self.port), timeout=120) as peer:
+        with socket.create_connection(("127.0.0.1", self.port), timeout=600) as peer:
             try:
                 peer.sendall(given)
                 if ends:

@@ -1,5 +1,6 @@
 """Each allocation of a subcommand is refused, one a run: see ../refused-memory.sh."""
 import gzip
+import itertools
 import os
 import struct
 import subprocess
@@ -11,6 +12,8 @@ from days import RETURNS
 from desk import CERTIFICATE, NO_MEMORY, OWNER, SIGNED, STORED, X509_KIND, Program, expect, fail, got, signature_list, text
 
 PROGRAM, LIBRARY, ROOT, STRIDE = sys.argv[1], sys.argv[2], sys.argv[3], int(sys.argv[4])
+# Of more allocations of one size in a row, which are the store's pages taken at once, the first, the last and one in so many are refused.
+LONG_ROW = 100
 NO_MEMORY_LINE, STORE_LINE = b"device 40 NoMemory\n", b"device 41 Store\n"
 
 
@@ -36,7 +39,7 @@ class Refusing:
     def __init__(self, program, case):
         self.program, self.case = program, case
         self.desk = os.path.join(program.room.name, f"{case.name.replace(' ', '_')}.db")
-        self.count_file = f"{self.desk}.count"
+        self.sizes_file = f"{self.desk}.sizes"
         self.words = [self.desk if it == "DESK" else it for it in case.words]
         self.found = self.contents(program.at(case.desk)) if case.desk else {}
         # How many refused runs left other files than they found.
@@ -61,9 +64,9 @@ class Refusing:
             elif os.path.exists(self.desk + end):
                 os.remove(self.desk + end)
 
-    def run(self, number):
+    def run(self, number, **more):
         """A run with the allocation of this number refused, 0 for none."""
-        env = {**self.program.env, "REFUSE": str(number), "COUNTED": self.count_file, "LD_PRELOAD": LIBRARY}
+        env = {**self.program.env, "REFUSE": str(number), "LD_PRELOAD": LIBRARY, **more}
         ran = subprocess.run([PROGRAM, *self.words], input=self.case.given, capture_output=True, timeout=120, env=env, check=False)
         return ran.returncode, ran.stdout, ran.stderr
 
@@ -93,18 +96,27 @@ class Refusing:
         if self.case.name == "init":
             expect(self.program.gives("minutes", self.desk), b"", f"init, allocation {number} refused: the desk's minutes")
 
-    def numbers(self, count):
-        """Each, or the first and the last hundred and one in STRIDE of the others."""
-        return [it for it in range(1, count + 1) if it <= 100 or it > count - 100 or it % STRIDE == 0]
+    def numbers(self):
+        """The allocations that are refused, and how many there are."""
+        ran = self.run(0, SIZES=self.sizes_file)
+        if not self.is_whole(ran):
+            fail(f"{self.case.name}, with ample memory: {ran}")
+        with open(self.sizes_file, encoding="ascii") as it:
+            sizes = [int(line) for line in it]
+        count = len(sizes)
+        if STRIDE != 1:
+            return [it for it in range(1, count + 1) if it <= 100 or it > count - 100 or STRIDE and it % STRIDE == 0 or not STRIDE], count
+        found, place = [], 0
+        for _, row in itertools.groupby(sizes):
+            length = len(list(row))
+            found += [place + it for it in range(1, length + 1) if length <= LONG_ROW or it in (1, length) or it % LONG_ROW == 0]
+            place += length
+        return found, count
 
     def each(self):
         self.put()
-        ran = self.run(0)
-        if not self.is_whole(ran):
-            fail(f"{self.case.name}, with ample memory: {ran}")
-        with open(self.count_file, encoding="ascii") as it:
-            count = int(it.read())
-        numbers, borne, stores = self.numbers(count), 0, 0
+        numbers, count = self.numbers()
+        borne = stores = 0
         for number in numbers:
             self.put()
             ran = self.run(number)
@@ -160,7 +172,9 @@ with Program(PROGRAM) as program:
     desk = program.copied(people, "listed.db")
     for step in RETURNS[:19]:
         expect(program.gives("answer", desk, given=step.given), step.due, "the desk of a listed image")
-    how = "each" if STRIDE == 1 else f"the first and the last hundred of each, and one in {STRIDE} between them"
+    how = f"the first and the last hundred of each, and one in {STRIDE} between them"
+    if STRIDE <= 1:
+        how = f"each, but of a row of more than {LONG_ROW} of one size one in {LONG_ROW}" if STRIDE else "each"
     with ThreadPoolExecutor(len(os.sched_getaffinity(0))) as pool:
         total = sum(pool.map(lambda case: Refusing(program, case).each(), list(cases())))
     print(f"{total} allocations refused ({how}), and the same words then did what they have to")
