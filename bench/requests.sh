@@ -4,7 +4,7 @@
 # changes. The program is ./desk's, or the one that $DESK_BENCH_PROGRAM names. The desks are filled over HTTP: of each hundred calls 42 are
 # RevokeDigest and their Confirms, 5 are proposed and dropped, the others are submissions, reviews and listed digests. Then every kind of
 # request is made some twenty times, of digests, components and proposals that the desk hasn't met; the ratio to the first size stands beside
-# each. Not part of the gate: it needs valgrind and python3. With 100,000 it takes some five minutes of one processor.
+# each. Not part of the gate: it needs valgrind and python3. The three sizes took two minutes of one processor.
 set -eu
 root=$(CDPATH='' cd -- "$(dirname -- "$(readlink -f -- "$0")")/.." && pwd -P)
 if [ -n "${DESK_BENCH_PROGRAM:-}" ]; then
