@@ -3,7 +3,7 @@
 # people are added, an image is judged, and all is exported; each output, error line and status is compared with what has to be
 # there. Then each fault of each subcommand in its order, two terminals at one file, and a writer that is full. Then two officers
 # list, propose, confirm and drop by `answer`, one request each, and after each change what is exported and judged is compared.
-# At the end sqlite3 reads the file; without sqlite3 that part is left out. Not part of the gate: it needs xxd.
+# At the end sqlite3 reads the file; without sqlite3 that part is left out. Not part of `rt ci`: it needs xxd.
 set -eu
 root=$(CDPATH='' cd -- "$(dirname -- "$(readlink -f -- "$0")")/.." && pwd -P)
 if [ $# -gt 0 ]; then

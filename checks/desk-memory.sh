@@ -3,7 +3,7 @@
 # part of its name; STRIDE n refuses every n-th allocation alone. A day asks a line once more where the desk answers NoMemory, and
 # goes on: so a run passes where memory was refused inside a call of the desk, and the desk then gave each answer that it has to
 # give, also after it was opened again. A run where memory was refused elsewhere (the script's own words, the store's SQL, the
-# opening) ends with that line as an error. Any other end is a wrong answer. Not part of the gate: it takes the tests' program as
+# opening) ends with that line as an error. Any other end is a wrong answer. Not part of `rt ci`: it takes the tests' program as
 # `rt test` has proved and built it, and a C compiler, for a malloc that refuses.
 set -eu
 root=$(CDPATH='' cd -- "$(dirname -- "$(readlink -f -- "$0")")/.." && pwd -P)

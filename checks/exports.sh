@@ -4,7 +4,7 @@
 # exported. `desk list` has to find their lists. sig-list-to-certs of efitools has to find each entry in order, with its owner and
 # body. dbxtool has to list as many entries. And `desk list` reads what hash-to-efi-sig-list writes for an image of efitools, which
 # has to hold the digest that `desk facts` gives. Each tool is left out where it isn't installed, and named at the end. Not part of
-# the gate: it needs openssl and xxd.
+# `rt ci`: it needs openssl and xxd.
 set -eu
 root=$(CDPATH='' cd -- "$(dirname -- "$(readlink -f -- "$0")")/.." && pwd -P)
 if [ $# -gt 0 ]; then

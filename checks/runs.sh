@@ -1,6 +1,6 @@
 #!/bin/sh
 # Runs each subcommand of the built program, or of the one that is named, on the examples and on words and files that are wrong,
-# and compares every byte of both outputs and the status: runs.sh [PROGRAM]. Not part of the gate.
+# and compares every byte of both outputs and the status: runs.sh [PROGRAM]. Not part of `rt ci`.
 set -eu
 root=$(CDPATH='' cd -- "$(dirname -- "$(readlink -f -- "$0")")/.." && pwd -P)
 if [ $# -gt 0 ]; then
