@@ -14,8 +14,8 @@
 #
 # Then ten lives of one desk, each with a person whose call is stopped; and ten lives of a desk where a second officer confirmed the
 # revocation of an image's digest: other commands are stopped, and of one command in each life the response meets a full device; dbx
-# keeps the digest, the image stays refused, and the minutes have each key once, in order. The files stand in TMPDIR or /tmp; before the
-# tables were compared 1,656 stops took 21 minutes in memory, beside other work. Not part of `rt ci`, nor of all.sh: it needs strace and sqlite3.
+# keeps the digest, the image stays refused, and the minutes have each key once, in order. The files stand in TMPDIR or /tmp; the 1,656
+# stops took 18 minutes in memory, beside other work. Not part of `rt ci`, nor of all.sh: it needs strace and sqlite3.
 set -eu
 root=$(CDPATH='' cd -- "$(dirname -- "$(readlink -f -- "$0")")/.." && pwd -P)
 if [ $# -gt 0 ]; then
