@@ -21,7 +21,7 @@ checks=${*:-refused-memory.sh refused-requests.sh http.sh tables.sh requests.sh 
 until=$((SECONDS + 600))
 room=$(mktemp -d) || exit 1
 trap 'rm -rf "$room"' EXIT
-trap 'kill $(jobs -p) 2> /dev/null; exit 1' HUP INT TERM
+trap 'kill $(jobs -p) 2> /dev/null; wait; exit 1' HUP INT TERM
 
 # run CHECK: runs it, and gives its line.
 run() {
@@ -33,6 +33,8 @@ run() {
         timeout -k 5 "$left" "$root/checks/$1" "${words[@]}" > "$room/$1" 2>&1 < /dev/null &
         trap 'kill "$!" 2> /dev/null' TERM
         if wait "$!"; then how=passed; fi
+        # (one that was ended takes a moment)
+        wait
     fi
     echo "$how $1 in $((SECONDS - begun)) s: $(tail -n 1 "$room/$1")"
     if [ "$how" = passed ]; then
