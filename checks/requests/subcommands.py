@@ -104,8 +104,10 @@ class Refusing:
         with open(self.sizes_file, encoding="ascii") as it:
             sizes = [int(line) for line in it]
         count = len(sizes)
-        if STRIDE != 1:
-            return [it for it in range(1, count + 1) if it <= 100 or it > count - 100 or STRIDE and it % STRIDE == 0 or not STRIDE], count
+        if STRIDE > 1:
+            return [it for it in range(1, count + 1) if it <= 100 or it > count - 100 or it % STRIDE == 0], count
+        if STRIDE == 0:
+            return list(range(1, count + 1)), count
         found, place = [], 0
         for _, row in itertools.groupby(sizes):
             length = len(list(row))
