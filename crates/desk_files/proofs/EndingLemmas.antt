@@ -5,6 +5,7 @@ use Rattle.desk_bytes.specs.declared.refusal.Refusal.{Refusal}
 use Rattle.desk_bytes.specs.declared.refusal.Refusal.TheVariants as refusals
 use Rattle.desk_lines.specs.declared.fault.Fault.{Fault}
 use Rattle.desk_reads.specs.Failures.{IsFailure}
+use Rattle.desk_files.specs.Closing.{FailsForGood, LeavesUsable}
 use Rattle.desk_files.specs.Faults.{IsLasting}
 use Rattle.desk_works.specs.Faults.{IsClosingRefusal}
 use Rattle.desk_works.specs.declared.ending.Outcome.{Outcome}
@@ -29,3 +30,8 @@ pub not_lasting : (work : Result Outcome Fault) (lets_go : Bool) (closing : Opti
 not_lasting (Ok outcome) lets_go closing stays found = tt
 not_lasting (Err fault) lets_go closing stays found = λ lasting.
     let bad : false ≡ true = sym stays ∙ found lasting in absurd (cc)
+
+-- no work both fails for good and leaves the desk usable
+pub never_both : {X : Type 0} (work : Result Outcome Fault) → FailsForGood work → LeavesUsable work → X
+never_both (Ok outcome) fails usable = absurd fails
+never_both (Err fault) fails usable = absurd (usable fails)

@@ -1,2 +1,4 @@
 mod EndingLemmas
+mod OpeningLemmas
 mod ServingLemmas
+mod WorkLemmas

@@ -1,7 +1,9 @@
 //! A desk's file: made, opened and closed.
-ghost use Rattle.std.specs.Prelude.{◌≡◌, None, IfErr, IfSome, false, true};
+ghost use Rattle.std.specs.Prelude.{◌≡◌, None, IfErr, IfOk, IfSome, OnOk, false, true};
+ghost use Rattle.desk_files.specs.Closing.{Ends, FailsForGood, IsClosed};
 ghost use Rattle.desk_files.specs.Faults.{IsFileRefusal, IsLasting, IsMakingRefusal};
 ghost use Rattle.desk_files.specs.Faults.{IsOpeningRefusal};
+ghost use Rattle.desk_files.specs.Opening.{IsMade, IsOpened, Makes, Opens};
 ghost use Rattle.desk_works.specs.Faults.{IsClosingRefusal, IsRow};
 
 use desk_bytes::{Guid, Refusal};
@@ -40,7 +42,8 @@ fn make_over<S: Alter + Drop>(
     owner: &Guid,
 ) -> Result<Desk<S>, Refusal>
     requires { conn.in_transaction ≡ false }
-    ensures { IfErr result IsMakingRefusal }
+    ensures made { IfOk result (Makes S.Store conn owner.now) }
+    ensures named { IfErr result IsMakingRefusal }
 {
     match Desk::create(alloc, conn, owner) {
         Ok(desk) => Ok(desk),
@@ -53,7 +56,8 @@ fn make_over<S: Alter + Drop>(
 
 /// Makes a desk in a file, which is made where it isn't there.
 pub(crate) fn make(rt: &HostRuntime, path: &str, owner: &Guid) -> Result<FileDesk, Refusal>
-    ensures { IfErr result IsMakingRefusal }
+    ensures made { IfOk result (IsMade ⟦<File as Disk>⟧ owner.now) }
+    ensures named { IfErr result IsMakingRefusal }
 {
     match connect(rt, path, Unknown) {
         Ok(conn) => make_over(rt.alloc(), conn, owner),
@@ -64,7 +68,8 @@ pub(crate) fn make(rt: &HostRuntime, path: &str, owner: &Guid) -> Result<FileDes
 /// Opens the desk that a connection leads to. The connection is let go where there is none.
 fn open_over<S: Alter + Drop>(alloc: Global, conn: Connection<S>) -> Result<Desk<S>, Refusal>
     requires { conn.in_transaction ≡ false }
-    ensures { IfErr result IsOpeningRefusal }
+    ensures opened { IfOk result (Opens S.Store conn) }
+    ensures named { IfErr result IsOpeningRefusal }
 {
     match Desk::open(alloc, conn) {
         Ok(desk) => Ok(desk),
@@ -77,7 +82,8 @@ fn open_over<S: Alter + Drop>(alloc: Global, conn: Connection<S>) -> Result<Desk
 
 /// Opens a file that is there, and the desk in it.
 fn open_there(rt: &HostRuntime, path: &str) -> Result<FileDesk, Refusal>
-    ensures { IfErr result IsOpeningRefusal }
+    ensures opened { IfOk result (IsOpened ⟦<File as Disk>⟧) }
+    ensures named { IfErr result IsOpeningRefusal }
 {
     match connect(rt, path, Unknown) {
         Ok(conn) => open_over(rt.alloc(), conn),
@@ -87,7 +93,8 @@ fn open_there(rt: &HostRuntime, path: &str) -> Result<FileDesk, Refusal>
 
 /// Opens the desk in a file. File: it isn't there; it isn't made then.
 pub(crate) fn open(rt: &HostRuntime, path: &str) -> Result<FileDesk, Refusal>
-    ensures { IfErr result IsOpeningRefusal }
+    ensures opened { IfOk result (IsOpened ⟦<File as Disk>⟧) }
+    ensures named { IfErr result IsOpeningRefusal }
 {
     match is_there(rt, path) {
         Ok(true) => open_there(rt, path),
@@ -99,7 +106,8 @@ pub(crate) fn open(rt: &HostRuntime, path: &str) -> Result<FileDesk, Refusal>
 /// Closes a desk's file: what stands in its log is copied into it. A failure leaves both together as
 /// the desk.
 fn close<D: Disk + Drop>(desk: Desk<FileStore<D>>) -> Result<(), Refusal>
-    ensures { IfErr result IsClosingRefusal }
+    ensures closed { OnOk result (IsClosed D.Disk desk) }
+    ensures named { IfErr result IsClosingRefusal }
 {
     match desk.close() {
         Ok(_) => Ok(()),
@@ -110,13 +118,22 @@ fn close<D: Disk + Drop>(desk: Desk<FileStore<D>>) -> Result<(), Refusal>
     }
 }
 
+/// Whether a desk that answered this has to be opened again.
+fn is_lasting(refusal: Refusal) -> bool
+    ensures lasting { IsLasting refusal → result ≡ true }
+    ensures only { result ≡ true → IsLasting refusal }
+{
+    matches!(refusal, Refusal::Store | Refusal::Reopen)
+}
+
 /// Whether the desk has to be opened again after this work, so that it can't be closed.
 fn needs_reopening(work: &Result<Outcome, Fault>) -> bool
-    ensures { IfErr work.now (λ fault. IsLasting fault.refusal → result ≡ true) }
+    ensures lasting { IfErr work.now (λ fault. IsLasting fault.refusal → result ≡ true) }
+    ensures only { result ≡ true → FailsForGood work.now }
 {
     match work {
         Ok(_) => false,
-        Err(fault) => matches!(fault.refusal, Refusal::Store | Refusal::Reopen),
+        Err(fault) => is_lasting(fault.refusal),
     }
 }
 
@@ -127,6 +144,7 @@ pub(crate) fn ended<D: Disk + Drop>(
     work: Result<Outcome, Fault>,
 ) -> Ending
     ensures work { result.work ≡ work }
+    ensures closed { Ends D.Disk desk result }
     ensures closing { IfSome result.closing (IsRow IsClosingRefusal) }
     ensures let_go { IfErr work (λ fault. IsLasting fault.refusal → result.closing ≡ None) }
 {

@@ -2,7 +2,10 @@
 ghost use Rattle.std.specs.Prelude.{◌≡◌, ◌⊎◌, None, IfErr, IfOk, IfSome};
 ghost use Rattle.std.specs.Io.KnownBytes.{Keeps};
 ghost use Rattle.desk_net.specs.Faults.{IsServingRefusal, IsToldRefusal};
+ghost use Rattle.desk_net.specs.Wire.{IsOneRequest};
 ghost use Rattle.desk_files.specs.Faults.{IsLasting, IsOfOpening, IsOpeningRefusal};
+ghost use Rattle.desk_files.specs.Works.{AnswersOnce, AnswersOne, AtADesk, IsUnopened, Serves};
+ghost use Rattle.desk_files.specs.Works.{ServesPort, WorksInTurn, WorksOnce};
 ghost use Rattle.desk_works.specs.Faults.{IsClosingRefusal, IsRow};
 
 use crate::desk_file::{ended, open};
@@ -13,7 +16,7 @@ use desk_lines::Fault;
 use desk_net::{answer, listen, serve, told};
 use desk_store::Desk;
 use desk_works::{Ending, Outcome};
-use sqlite::FileStore;
+use sqlite::{File, FileStore};
 use sqlite_disk::Disk;
 use std::alloc::Global;
 use std::io::{Read, Write};
@@ -25,6 +28,8 @@ fn answer_one<D: Answering, R: Read + Drop, W: Write>(
     reader: R,
     writer: &mut W,
 ) -> Result<Outcome, Fault>
+    ensures answered { WorksOnce (AnswersOne D.shows D.clean D.failed (R.remaining reader)
+        (W.contents writer.old) (W.contents writer.new)) desk.old desk.new result }
     ensures done { IfOk result (λ outcome. outcome ≡ Outcome.Done) }
     ensures named { IfErr result (IsRow IsToldRefusal) }
 {
@@ -41,6 +46,8 @@ fn answer_at<D: Disk + Drop, R: Read + Drop, W: Write>(
     reader: R,
     writer: &mut W,
 ) -> Ending
+    ensures answered { AnswersOnce D.Disk (R.remaining reader)
+        (W.contents writer.old) (W.contents writer.new) result desk }
     ensures done { IfOk result.work (λ outcome. outcome ≡ Outcome.Done) }
     ensures named { IfErr result.work (IsRow IsToldRefusal) }
     ensures closing { IfSome result.closing (IsRow IsClosingRefusal) }
@@ -63,6 +70,9 @@ pub fn answer_from<R: Read + Drop, W: Write>(
     reader: R,
     writer: &mut W,
 ) -> Ending
+    ensures answered { (IsUnopened result × Keeps (W.contents writer.old) (W.contents writer.new))
+        ⊎ AtADesk (AnswersOnce ⟦<File as Disk>⟧ (R.remaining reader)
+        (W.contents writer.old) (W.contents writer.new) result) }
     ensures done { IfOk result.work (λ outcome. outcome ≡ Outcome.Done) }
     ensures named { IfErr result.work (IsRow (λ refusal.
         IsOpeningRefusal refusal ⊎ IsToldRefusal refusal)) }
@@ -84,7 +94,8 @@ fn serve_desk<D: Answering>(
     port: u16,
     count: u32,
 ) -> Result<(), Refusal>
-    ensures { IfErr result IsServingRefusal }
+    ensures in_turn { ServesPort (IsOneRequest D.clean D.failed) count desk.old desk.new result }
+    ensures named { IfErr result IsServingRefusal }
 {
     let listener = match listen(rt, port) {
         Ok(listener) => listener,
@@ -100,6 +111,7 @@ fn serve_all<D: Answering>(
     port: u16,
     count: u32,
 ) -> Result<Outcome, Fault>
+    ensures in_turn { WorksInTurn (IsOneRequest D.clean D.failed) count desk.old desk.new result }
     ensures done { IfOk result (λ outcome. outcome ≡ Outcome.Done) }
     ensures named { IfErr result (IsRow IsServingRefusal) }
 {
@@ -116,6 +128,7 @@ fn serve_at<D: Disk + Drop>(
     port: u16,
     count: u32,
 ) -> Ending
+    ensures served { Serves D.Disk count result desk }
     ensures done { IfOk result.work (λ outcome. outcome ≡ Outcome.Done) }
     ensures named { IfErr result.work (IsRow IsServingRefusal) }
     ensures closing { IfSome result.closing (IsRow IsClosingRefusal) }
@@ -132,6 +145,7 @@ fn serve_at<D: Disk + Drop>(
 /// First the faults of the desk's file, as `add_person` has them. Read: the port can't be had, or no connection
 /// could be accepted. Store, Reopen: that response was written, and the desk has to be opened again.
 pub fn serve_from(rt: &HostRuntime, path: &str, port: u16, count: u32) -> Ending
+    ensures served { IsUnopened result ⊎ AtADesk (Serves ⟦<File as Disk>⟧ count result) }
     ensures done { IfOk result.work (λ outcome. outcome ≡ Outcome.Done) }
     ensures named { IfErr result.work (IsRow (λ refusal.
         IsOpeningRefusal refusal ⊎ IsServingRefusal refusal)) }

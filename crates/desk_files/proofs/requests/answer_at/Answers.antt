@@ -1,4 +1,15 @@
+use Rattle.std.proofs.Common.{subst}
+use Rattle.desk_files.specs.Closing.{Ends}
 use Rattle.desk_files.proofs.requests.answer_at.Goals as goal
+
+pub returns-clause-answered : goal.returns-clause-answered
+returns-clause-answered g c = record {
+  opened = c.new-desk.result;
+  left = c.answer_one-work.new.desk;
+  same = c.new-desk.ensures;
+  served = rw c.ended.ensures.work c.answer_one-work.ensures.answered;
+  ended = subst (λ d. Ends g.D.Disk d c.ended.result) c.into_desk.ensures c.ended.ensures.closed;
+}
 
 pub returns-clause-done : goal.returns-clause-done
 returns-clause-done g c = rw c.ended.ensures.work c.answer_one-work.ensures.done

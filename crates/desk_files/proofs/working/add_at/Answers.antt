@@ -1,5 +1,13 @@
 use Rattle.desk_files.proofs.working.add_at.Goals as goal
 
+pub returns-clause-added : goal.returns-clause-added
+returns-clause-added g c = record {
+  left = c.add-work.new.desk;
+  told = rw c.ended.ensures.work c.add-work.ensures.told;
+  stopped = c.add-work.ensures.stopped;
+  ended = c.ended.ensures.closed;
+}
+
 pub returns-clause-done : goal.returns-clause-done
 returns-clause-done g c = rw c.ended.ensures.work c.add-work.ensures.done
 

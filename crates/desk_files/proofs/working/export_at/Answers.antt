@@ -1,4 +1,11 @@
+use Rattle.desk_files.proofs.WorkLemmas.{exports}
 use Rattle.desk_files.proofs.working.export_at.Goals as goal
+
+pub returns-clause-exported : goal.returns-clause-exported
+returns-clause-exported g c =
+    exports g.D.Disk c.args.desk c.write_export-work.new.desk c.ended.result c.write_export-work.result c.ended.ensures.work
+    c.args.what _ _ c.write_export-work.ensures.same c.write_export-work.ensures.spares
+    c.write_export-work.ensures.ok c.write_export-work.ensures.beginning c.ended.ensures.closed
 
 pub returns-clause-done : goal.returns-clause-done
 returns-clause-done g c = rw c.ended.ensures.work c.write_export-work.ensures.done
