@@ -88,6 +88,30 @@ run 1 nothing 'refused 15 List at 0' nothing list long
 truncate -s 8388609 text
 run 1 nothing 'refused 13 TooLong' text pack "$owner"
 
+# A desk stands in the file at its path and in that file's log, and no other file is made. One that isn't there is made by `init`
+# alone.
+there() { find . -type f | LC_ALL=C sort; }
+mkdir desks
+echo ann-token-000001 > token
+echo 'added ann' > added
+printf '1\tconsole\tk1\tadd-person ann officer %s\tadded ann\n' \
+    "$(printf ann-token-000001 | sha256sum | cut -d' ' -f1)" > minutes
+before=$(there)
+for subcommand in db dbx level minutes answer; do
+    run 3 nothing 'device 45 File' nothing "$subcommand" desks/ann.db
+done
+run 3 nothing 'device 45 File' nothing serve desks/ann.db 20000 1
+run 3 nothing 'device 45 File' token person desks/ann.db ann officer k1
+run 3 nothing 'device 45 File' nothing verdict desks/ann.db "$root/examples/signed.efi"
+[ "$(there)" = "$before" ] || { echo "a file that was missing was made: $(there)" >&2; exit 1; }
+run 0 nothing '' nothing init desks/ann.db "$owner"
+run 0 nothing '' nothing init desks/bea.db "$owner"
+run 0 added '' token person desks/ann.db ann officer k1
+run 0 minutes '' nothing minutes desks/ann.db
+run 0 nothing '' nothing minutes desks/bea.db
+rm -f desks/ann.db desks/ann.db-wal desks/bea.db desks/bea.db-wal
+[ "$(there)" = "$before" ] || { echo "other files were made: $(there)" >&2; exit 1; }
+
 # A writer that is full: /dev/full takes no byte.
 got=0
 "$program" list list > /dev/full 2> err || got=$?
