@@ -5,7 +5,7 @@
 # refused for, a body that is cut short, `Expect`, an image of 64 MiB, three clients at once, the faults of `serve` and `answer`,
 # a connection that ends without a request, a head that comes a byte a second, a large export with bytes behind its request, and that
 # 127.0.0.1 alone is listened at. Each run of the program, of curl and of the raw client ends after a stated time, so the script ends by
-# itself. It takes ports from 20000 to 32000. Not part of the gate: it needs curl, python3 and xxd.
+# itself. It takes ports from 20000 to 32000. Not part of `rt ci`: it needs curl, python3 and xxd.
 set -eu
 root=$(CDPATH='' cd -- "$(dirname -- "$(readlink -f -- "$0")")/.." && pwd -P)
 if [ $# -gt 0 ]; then
