@@ -3,7 +3,7 @@ use Rattle.sqlite.specs.Held.{Held, state}
 use Rattle.sqlite.specs.State.{HasCleanDisk, IsRolledBack, KeepsCommit, Survives}
 use Rattle.sqlite.specs.Steps.{FailsToCommit}
 use Rattle.desk_history.specs.Calls.{History}
-use Rattle.desk_sql.proofs.CommitLemmas.{and_then, leaves_more, open_spares, rolled_back, through, unchanged_shows, undone_shows}
+use Rattle.desk_sql.proofs.CommitLemmas.{and_then, open_spares, rolled_back, unchanged_shows, undone_shows}
 use Rattle.desk_contents.specs.Histories.{ShowsFirst, ShowsHistory}
 use Rattle.desk_tables.specs.Faults.{refusal_of}
 use Rattle.desk_tables.specs.declared.fault.WriteFault.TheVariants.{Store}
