@@ -5,6 +5,7 @@ import os
 import struct
 import subprocess
 import sys
+import threading
 from concurrent.futures import ThreadPoolExecutor
 from typing import NamedTuple
 
@@ -14,6 +15,8 @@ from desk import CERTIFICATE, NO_MEMORY, OWNER, SIGNED, STORED, X509_KIND, Progr
 PROGRAM, LIBRARY, ROOT, STRIDE = sys.argv[1], sys.argv[2], sys.argv[3], int(sys.argv[4])
 # Of more allocations of one size in a row, which are the store's pages taken at once, the first, the last and one in so many are refused.
 LONG_ROW = 100
+# Set where this ends early, by a fault of one case or by a signal: then the other cases end too.
+ENDING = threading.Event()
 NO_MEMORY_LINE, STORE_LINE = b"device 40 NoMemory\n", b"device 41 Store\n"
 
 
@@ -120,6 +123,8 @@ class Refusing:
         numbers, count = self.numbers()
         borne = stores = 0
         for number in numbers:
+            if ENDING.is_set():
+                return 0
             self.put()
             ran = self.run(number)
             if self.is_whole(ran):
@@ -178,5 +183,9 @@ with Program(PROGRAM) as program:
     if STRIDE <= 1:
         how = f"each, but of a row of more than {LONG_ROW} of one size one in {LONG_ROW}" if STRIDE else "each"
     with ThreadPoolExecutor(len(os.sched_getaffinity(0))) as pool:
-        total = sum(pool.map(lambda case: Refusing(program, case).each(), list(cases())))
+        try:
+            total = sum(pool.map(lambda case: Refusing(program, case).each(), list(cases())))
+        except BaseException:
+            ENDING.set()
+            raise
     print(f"{total} allocations refused ({how}), and the same words then did what they have to")
