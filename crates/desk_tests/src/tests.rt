@@ -26,5 +26,6 @@ mod proposing;
 mod scripts;
 mod serving;
 mod telling;
+mod thousands;
 
 type Memory = Desk<MemStore>;

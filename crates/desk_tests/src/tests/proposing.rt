@@ -17,7 +17,7 @@ console p1 add olga officer 1 : added olga
 console p2 add otto officer 2 : added otto";
 
 /// A file in memory.
-trait Empty: Disk + Drop {
+pub(super) trait Empty: Disk + Drop {
     /// One without bytes.
     fn empty(alloc: Global) -> Self;
 }
