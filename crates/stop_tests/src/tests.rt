@@ -3,7 +3,7 @@ use desk_bytes::{Guid, Refusal};
 use desk_exports::Export;
 use desk_history::Verdict;
 use desk_scripts::Words;
-use desk_store::{Desk, restart};
+use desk_store::{Desk, reopen, restart};
 use desk_texts::{Call, Reply, reply_text};
 use sqlite::{Alter, Connection, FileStore, Files, Options};
 use sqlite_disk::{Crash, Disk, Fuse, Memory};
@@ -12,9 +12,14 @@ use std::test::Fail;
 
 mod asking;
 mod calls;
+mod crossing;
 mod disks;
+mod first_version;
 mod lives;
+mod losing;
 mod making;
+mod migrating;
+mod selects;
 
 /// Two pages are kept in memory, so that each call reads the database file, and the log is copied into it as soon as it has eight.
 const OPTIONS: Options = Options {
@@ -26,3 +31,6 @@ const OPTIONS: Options = Options {
 
 /// The owner of the entries that the desks export.
 const OWNER: [u8; 16] = [7; 16];
+
+/// The level of a desk that never raised it.
+const NEW_LEVEL: &[u8] = b"sbat,1,2021030218\n";

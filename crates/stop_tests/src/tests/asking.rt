@@ -1,4 +1,5 @@
 //! What a desk is asked here, over any store. A function makes one call of the desk.
+use super::lives::Barred;
 use super::*;
 
 /// Gives the desk one call.
@@ -53,23 +54,38 @@ pub(super) fn is_closed<S: Alter + Drop>(desk: &mut Desk<S>) -> bool {
     }
 }
 
-/// The desk's minutes: its history.
-pub(super) fn minutes<S: Alter + Drop>(alloc: Global, desk: &mut Desk<S>) -> Option<Vec<u8>> {
-    let mut text = Vec::new(alloc);
-    desk.export(Export::Minutes, &mut text).ok()?;
-    Some(text)
+/// Whether the desk gives each call of a script the answer behind it.
+pub(super) fn does_each<S: Alter + Drop>(
+    alloc: Global,
+    desk: &mut Desk<S>,
+    script: &str,
+) -> Option<bool> {
+    for told in script.lines() {
+        if !does(alloc, desk, told)? {
+            return Some(false);
+        }
+    }
+    Some(true)
 }
 
-/// Whether the desk refuses an image for a certificate that it revoked.
+/// All that the desk exports, one behind another: its minutes, dbx, db and level.
+pub(super) fn exports<S: Alter + Drop>(alloc: Global, desk: &mut Desk<S>) -> Option<Vec<u8>> {
+    let mut bytes = Vec::new(alloc);
+    for what in [Export::Minutes, Export::Dbx, Export::Db, Export::Level] {
+        desk.export(what, &mut bytes).ok()?;
+    }
+    Some(bytes)
+}
+
+/// Whether the desk refuses the image, for what was revoked.
 pub(super) fn bars<S: Alter + Drop>(
     alloc: Global,
     desk: &mut Desk<S>,
-    image: &str,
+    barred: Barred<'_>,
 ) -> Option<bool> {
-    let facts = Words::new(alloc, image).facts()?;
+    let facts = Words::new(alloc, barred.image).facts()?;
     match desk.verdict(&facts) {
-        Ok(Verdict::DbxCertificate) => Some(true),
-        Ok(_) => Some(false),
+        Ok(verdict) => Some(verdict == barred.verdict),
         Err(_) => None,
     }
 }

@@ -1,6 +1,9 @@
 //! One call of a desk, where a file stops at each of its calls in turn.
-use super::asking::{answered, answers, is_closed, minutes, parted};
-use super::disks::{NEVER, Stopping, Stops, Which, bytes_of, calls_to, files, new_desk, opened};
+use super::asking::{answered, answers, exports, is_closed, parted};
+use super::disks::{
+    Goal, NEVER, Stopping, Stops, Which, bytes_of, calls_to, files, new_desk, opened,
+};
+use super::selects::all_rows;
 use super::*;
 
 /// A day with each of the fourteen commands, a call and its answer a line.
@@ -40,19 +43,20 @@ enum Ended {
     Answered,
 }
 
-/// A call, its answer, and the desk's minutes before and after it, where no file stops.
+/// A call, its answer, what the desk exports before and after it, and the rows of all tables after it, where no file stops.
 #[derive(Drop)]
 struct Wanted<'a> {
     line: &'a str,
     answer: String,
     before: Vec<u8>,
     after: Vec<u8>,
+    rows: String,
 }
 
 impl<'a> Wanted<'a> {
-    /// Whether these are the minutes after the call, or those before it where it may be missing.
-    fn is_found(&self, minutes: &[u8], may_miss: bool) -> bool {
-        minutes == self.after.as_slice() || may_miss && minutes == self.before.as_slice()
+    /// Whether this is exported after the call, or before it where it may be missing.
+    fn is_found(&self, exported: &[u8], may_miss: bool) -> bool {
+        exported == self.after.as_slice() || may_miss && exported == self.before.as_slice()
     }
 }
 
@@ -74,25 +78,31 @@ fn is_answered<S: Alter + Drop>(
 }
 
 /// Whether a desk that was opened again has the call, or not where it may be missing; and whether the call then has its answer,
-/// and the desk the minutes with it.
+/// and the desk exports what it does with it.
 fn goes_on<S: Alter + Drop>(
     alloc: Global,
     desk: &mut Desk<S>,
     wanted: &Wanted,
     may_miss: bool,
 ) -> Option<bool> {
-    let found = minutes(alloc, desk)?;
+    let found = exports(alloc, desk)?;
     if !wanted.is_found(found.as_slice(), may_miss) {
         return Some(false);
     }
     if !answers(alloc, desk, wanted.line, wanted.answer.as_str())? {
         return Some(false);
     }
-    let found = minutes(alloc, desk)?;
+    let found = exports(alloc, desk)?;
     Some(wanted.is_found(found.as_slice(), false))
 }
 
-/// Whether the desk goes on after a crash.
+/// Whether the desk's tables have the rows of one acceptance.
+fn has_rows<S: Alter + Drop>(alloc: Global, desk: Desk<S>, wanted: &Wanted) -> Option<bool> {
+    let mut conn = desk.release();
+    Some(all_rows(alloc, &mut conn)? == wanted.rows)
+}
+
+/// Whether the desk goes on after a crash, and its tables then are those of one acceptance.
 fn outlives<D: Crash + Drop>(
     alloc: Global,
     desk: Desk<FileStore<D>>,
@@ -100,7 +110,9 @@ fn outlives<D: Crash + Drop>(
     may_miss: bool,
 ) -> Option<bool> {
     match restart(alloc, desk, OPTIONS) {
-        Ok(mut again) => goes_on(alloc, &mut again, wanted, may_miss),
+        Ok(mut again) => {
+            Some(goes_on(alloc, &mut again, wanted, may_miss)? && has_rows(alloc, again, wanted)?)
+        }
         Err(_) => None,
     }
 }
@@ -136,7 +148,7 @@ fn tried<D: Crash + Drop>(alloc: Global, files: Files<D>, wanted: &Wanted) -> Op
 fn stopped<D: Stopping>(alloc: Global, bytes: &[u8], wanted: &Wanted, which: Which) -> Option<u64> {
     let mut stopped = 0u64;
     let mut answered = 0u64;
-    for calls in calls_to::<D>(alloc, bytes, which, "")?..100_000 {
+    for calls in calls_to::<D>(alloc, bytes, which, Goal::Desk)?..100_000 {
         let stopping: Files<D> = files(alloc, bytes, Stops::at(which, calls))?;
         match tried(alloc, stopping, wanted)? {
             Ended::Unopened => return None,
@@ -150,24 +162,25 @@ fn stopped<D: Stopping>(alloc: Global, bytes: &[u8], wanted: &Wanted, which: Whi
     None
 }
 
-/// The call of a line at the desk, if its answer is the one behind it.
+/// The call of a line at the desk, if its answer is the one behind it. The rows after it aren't there yet.
 fn given<'a, S: Alter + Drop>(
     alloc: Global,
     desk: &mut Desk<S>,
     told: &'a str,
 ) -> Option<Wanted<'a>> {
     let (line, wanted) = parted(told, " : ");
-    let before = minutes(alloc, desk)?;
+    let before = exports(alloc, desk)?;
     let answer = answered(alloc, desk, line)?;
     if answer.as_str() != wanted {
         return None;
     }
-    let after = minutes(alloc, desk)?;
+    let after = exports(alloc, desk)?;
     Some(Wanted {
         line,
         answer,
         before,
         after,
+        rows: String::new(alloc),
     })
 }
 
@@ -178,9 +191,10 @@ fn played<'a, D: Disk + Drop>(
     line: &'a str,
 ) -> Option<(Wanted<'a>, Files<D>)> {
     let mut desk = opened(alloc, files).ok()?;
-    let wanted = given(alloc, &mut desk, line);
-    let files = desk.close().ok()?;
-    Some((wanted?, files))
+    let mut wanted = given(alloc, &mut desk, line)?;
+    let mut conn = desk.release();
+    wanted.rows = all_rows(alloc, &mut conn)?;
+    Some((wanted, conn.close_files().ok()?))
 }
 
 /// The database file after the call of a line, which is stopped at each call of the log and then at each of the database file.

@@ -1,5 +1,5 @@
 //! Files that stop, and the desks in them.
-use super::asking::does;
+use super::losing::done;
 use super::*;
 
 /// One of the two files.
@@ -69,8 +69,19 @@ pub(super) fn bytes_of<D: Stopping>(alloc: Global, files: &Files<D>) -> Option<V
     Vec::from_slice(alloc, files.db.bytes()).ok()
 }
 
+/// The same files, which stop so from here on: all that stands in them is synced.
+pub(super) fn with_stops<D: Stopping>(
+    alloc: Global,
+    files: &Files<D>,
+    stops: Stops,
+) -> Option<Files<D>> {
+    let log = D::with(alloc, files.log.bytes(), stops.log)?;
+    let db = D::with(alloc, files.db.bytes(), stops.db)?;
+    Some(Files { log, db })
+}
+
 /// A connection to the files, or the files, where they don't open.
-fn connected<D: Disk + Drop>(
+pub(super) fn connected<D: Disk + Drop>(
     alloc: Global,
     files: Files<D>,
 ) -> Result<Connection<FileStore<D>>, Files<D>> {
@@ -84,7 +95,7 @@ fn connected<D: Disk + Drop>(
 }
 
 /// The files of the connection.
-fn files_of<D: Disk + Drop>(conn: Connection<FileStore<D>>) -> Files<D> {
+pub(super) fn files_of<D: Disk + Drop>(conn: Connection<FileStore<D>>) -> Files<D> {
     conn.into_store().close()
 }
 
@@ -127,6 +138,17 @@ pub(super) fn opened<D: Disk + Drop>(
     }
 }
 
+/// The desk that the files hold; else what refused it, and the files as the disks leave them then, where they were opened.
+pub(super) fn reopened<D: Crash + Drop>(
+    alloc: Global,
+    files: Files<D>,
+) -> Result<Desk<FileStore<D>>, (Refusal, Option<Files<D>>)> {
+    if !files.may_be_used() {
+        return Err((Refusal::Store, None));
+    }
+    reopen(alloc, files, OPTIONS)
+}
+
 /// A desk that is made in the files, or the files.
 pub(super) fn made<D: Disk + Drop>(
     alloc: Global,
@@ -153,40 +175,56 @@ pub(super) fn new_desk<D: Stopping>(alloc: Global) -> Option<Vec<u8>> {
     bytes_of(alloc, &desk.close().ok()?)
 }
 
-/// Whether the desk gives a call the answer behind it, if there is one.
-fn does_or_is_there<S: Alter + Drop>(
-    alloc: Global,
-    desk: &mut Desk<S>,
-    told: &str,
-) -> Option<bool> {
-    if told.is_empty() {
-        return Some(true);
-    }
-    does(alloc, desk, told)
+/// What files reach that don't stop before.
+#[derive(Clone, Copy)]
+pub(super) enum Goal<'a> {
+    /// They are opened.
+    Connection,
+    /// The desk in them is.
+    Desk,
+    /// The desk then gives a call the answer behind it; where there is a request for the call, the response is lost.
+    Call { request: &'a str, told: &'a str },
 }
 
-/// Whether a desk is opened in the files, and then gives a call the answer behind it, if there is one.
-fn reaches<D: Disk + Drop>(alloc: Global, files: Files<D>, told: &str) -> Option<bool> {
+/// Whether the desk in the files gives a call the answer behind it.
+fn answers_in<D: Disk + Drop>(
+    alloc: Global,
+    files: Files<D>,
+    request: &str,
+    told: &str,
+) -> Option<bool> {
     match opened(alloc, files) {
-        Ok(mut desk) => does_or_is_there(alloc, &mut desk, told),
+        Ok(desk) => {
+            let (_, is_done) = done(alloc, desk, request, told)?;
+            Some(is_done)
+        }
         Err(_) => Some(false),
     }
 }
 
-/// The least number of calls with which that is so of the database file with these bytes: of the 65,536 from 0 on by halves, since it
-/// stays so with more.
+/// Whether the files reach the goal.
+fn reaches<D: Disk + Drop>(alloc: Global, files: Files<D>, goal: Goal<'_>) -> Option<bool> {
+    match goal {
+        Goal::Connection => Some(connected(alloc, files).is_ok()),
+        Goal::Desk => Some(opened(alloc, files).is_ok()),
+        Goal::Call { request, told } => answers_in(alloc, files, request, told),
+    }
+}
+
+/// The least number of calls with which the database file with these bytes reaches the goal: of the 65,536 from 0 on by halves, since
+/// it is reached with more.
 pub(super) fn calls_to<D: Stopping>(
     alloc: Global,
     bytes: &[u8],
     which: Which,
-    told: &str,
+    goal: Goal<'_>,
 ) -> Option<u64> {
     let mut calls = 0u64;
     let mut half = 32_768u64;
     for _ in 0..16 {
         let most = calls.saturating_add(half).saturating_sub(1);
         let tried: Files<D> = files(alloc, bytes, Stops::at(which, most))?;
-        if !reaches(alloc, tried, told)? {
+        if !reaches(alloc, tried, goal)? {
             calls = calls.saturating_add(half);
         }
         half /= 2;

@@ -1,39 +1,68 @@
 //! Ten lives of a desk, in each of which one call is answered Ok and the next is stopped.
-use super::asking::{bars, does, is_closed, minutes, parted};
-use super::disks::{NEVER, Stopping, Stops, Which, bytes_of, calls_to, files, made, opened};
+use super::asking::{bars, does, does_each, exports, is_closed, parted};
+use super::disks::{Goal, NEVER, Stopping, Stops, Which, bytes_of, calls_to, files, made, opened};
+use super::losing::{add_officer, done};
 use super::*;
 
-/// What the desk was given before: two officers, and the proposal to revoke the certificate of an image.
+/// What the desk was given before by two officers: the proposal to revoke the certificate of an image.
 const BEFORE: &str = "\
-console p1 add olga officer 5 : added olga
-console p2 add otto officer 6 : added otto
 olga o1 list-certificate 204 : listed
 olga o2 revoke-certificate 204 : proposed 1";
 
-/// A life a line: the call that is answered Ok, and the one that is stopped. In the first life the certificate is revoked.
-const LIVES: &str = "\
-otto a0 confirm 1 : confirmed 1 0 1 0 0 => olga b0 revoke 51 : proposed 2
-olga a1 raise grub 3 2024010100 : proposed 3 => otto b1 confirm 2 : confirmed 2 1 0 0 0
-otto a2 confirm 3 : confirmed 3 0 0 1 0 => olga b2 list 52 : listed
-olga a3 unlist-certificate 204 : unlisted => olga b3 import-digests 40 : proposed 4
-olga a4 revoke 53 : proposed 5 => otto b4 confirm 4 : confirmed 4 40 0 0 0
-otto a5 drop 5 : dropped 5 => olga b5 raise shim 4 2024010101 : proposed 6
-console a6 add ann submitter 7 : added ann => console b6 add rita reviewer 8 : added rita
-ann a7 submit shim 160 160 0 0 : submitted 1 => rita b7 yes 1 : reviewed 1 open
-olga a8 import-digests 50 : proposed 7 => otto b8 drop 6 : dropped 6
-otto a9 confirm 7 : confirmed 7 10 0 0 0 => ann b9 withdraw 1 : withdrawn 1";
+/// A life a line: the request whose response is lost, the call that it asks for, and the call that is stopped. In the first life the
+/// certificate is revoked.
+const LIVES: &str =
+    r#"POST /proposals/1/confirm HTTP/1.1|Desk-Token: otto-token-000006|Desk-Key: a0|Content-Length: 0|| == otto a0 confirm 1 : confirmed 1 0 1 0 0 => olga b0 revoke 51 : proposed 2
+POST /level HTTP/1.1|Desk-Token: olga-token-000005|Desk-Key: a1|Content-Length: 54||{"component":"grub","generation":3,"stamp":2024010100} == olga a1 raise grub 3 2024010100 : proposed 3 => otto b1 confirm 2 : confirmed 2 1 0 0 0
+POST /proposals/3/confirm HTTP/1.1|Desk-Token: otto-token-000006|Desk-Key: a2|Content-Length: 0|| == otto a2 confirm 3 : confirmed 3 0 0 1 0 => olga b2 list 52 : listed
+POST /db/unlist HTTP/1.1|Desk-Token: olga-token-000005|Desk-Key: a3|Content-Length: 98||{"digest":"cccccccccccccccccccccccccccccccccccccccccccccccccccccccccccccccc","kind":"certificate"} == olga a3 unlist-certificate 204 : unlisted => olga b3 import-digests 40 : proposed 4
+POST /dbx/digests HTTP/1.1|Desk-Token: olga-token-000005|Desk-Key: a4|Content-Length: 77||{"digest":"3535353535353535353535353535353535353535353535353535353535353535"} == olga a4 revoke 53 : proposed 5 => otto b4 confirm 4 : confirmed 4 40 0 0 0
+POST /proposals/5/drop HTTP/1.1|Desk-Token: otto-token-000006|Desk-Key: a5|Content-Length: 0|| == otto a5 drop 5 : dropped 5 => olga b5 raise shim 4 2024010101 : proposed 6
+POST /db/digests HTTP/1.1|Desk-Token: olga-token-000005|Desk-Key: a6|Content-Length: 77||{"digest":"3636363636363636363636363636363636363636363636363636363636363636"} == olga a6 list 54 : listed => console b6 add rita reviewer 8 : added rita
+POST /dbx/certificates HTTP/1.1|Desk-Token: olga-token-000005|Desk-Key: a7|Content-Length: 77||{"digest":"3737373737373737373737373737373737373737373737373737373737373737"} == olga a7 revoke-certificate 55 : proposed 7 => console b7 add ann submitter 9 : added ann
+POST /db/unlist HTTP/1.1|Desk-Token: olga-token-000005|Desk-Key: a8|Content-Length: 93||{"digest":"3636363636363636363636363636363636363636363636363636363636363636","kind":"digest"} == olga a8 unlist 54 : unlisted => ann b8 submit shim 160 160 0 0 : submitted 1
+POST /proposals/7/confirm HTTP/1.1|Desk-Token: otto-token-000006|Desk-Key: a9|Content-Length: 0|| == otto a9 confirm 7 : confirmed 7 0 1 0 0 => rita b9 yes 1 : reviewed 1 open"#;
 
-/// The image that carries the certificate.
-const IMAGE: &str = "160 160 1 204 0";
+/// A life: the request whose response is lost, if there is one; the call that is answered Ok, with its answer; and the call that is
+/// stopped, with the answer that it has to get.
+#[derive(Clone, Copy)]
+struct Life<'a> {
+    request: &'a str,
+    first: &'a str,
+    second: &'a str,
+}
 
-/// Whether the desk answers the calls before the lives.
-fn is_begun<S: Alter + Drop>(alloc: Global, desk: &mut Desk<S>) -> Option<bool> {
-    for told in BEFORE.lines() {
-        if !does(alloc, desk, told)? {
-            return Some(false);
+impl<'a> Life<'a> {
+    /// The life of a line.
+    fn read(line: &'a str) -> Life<'a> {
+        let (calls, second) = parted(line, " => ");
+        let (request, first) = calls.split_once(" == ").unwrap_or(("", calls));
+        Life {
+            request,
+            first,
+            second,
         }
     }
-    Some(true)
+}
+
+/// An image that is barred after each life.
+#[derive(Clone, Copy)]
+pub(super) struct Barred<'a> {
+    pub(super) image: &'a str,
+    pub(super) verdict: Verdict,
+}
+
+/// The image that carries the certificate.
+const REVOKED: Barred<'static> = Barred {
+    image: "160 160 1 204 0",
+    verdict: Verdict::DbxCertificate,
+};
+
+/// Whether the desk takes the calls before the lives.
+fn is_begun<S: Alter + Drop>(alloc: Global, desk: &mut Desk<S>) -> Option<bool> {
+    add_officer(alloc, desk, "olga", "olga-token-000005")?;
+    add_officer(alloc, desk, "otto", "otto-token-000006")?;
+    does_each(alloc, desk, BEFORE)
 }
 
 /// The files of a new desk that was given the calls before the lives.
@@ -46,106 +75,134 @@ fn begun<D: Disk + Drop>(alloc: Global, files: Files<D>) -> Option<Files<D>> {
 }
 
 /// The database file of that desk.
-fn first<D: Stopping>(alloc: Global) -> Option<Vec<u8>> {
+fn before_lives<D: Stopping>(alloc: Global) -> Option<Vec<u8>> {
     let empty: Files<D> = files(alloc, b"", NEVER)?;
     bytes_of(alloc, &begun(alloc, empty)?)
 }
 
-/// Whether the desk answers the first call of a life, and the second is stopped.
-fn is_stopped<S: Alter + Drop>(alloc: Global, desk: &mut Desk<S>, life: &str) -> Option<bool> {
-    let (first, second) = parted(life, " => ");
-    let is_first = does(alloc, desk, first)?;
-    let is_second = does(alloc, desk, second)?;
-    Some(is_first && !is_second && is_closed(desk))
+/// Whether the call is stopped, so that the desk has to be opened again.
+fn is_stopped<S: Alter + Drop>(alloc: Global, desk: &mut Desk<S>, told: &str) -> Option<bool> {
+    let is_done = does(alloc, desk, told)?;
+    Some(!is_done && is_closed(desk))
 }
 
 /// The desk that is opened after a life, in which the first call is answered and the second stopped.
 fn lived<D: Crash + Drop>(
     alloc: Global,
     desk: Desk<FileStore<D>>,
-    life: &str,
+    life: Life<'_>,
 ) -> Option<Desk<FileStore<D>>> {
-    let mut desk = desk;
-    if is_stopped(alloc, &mut desk, life)? {
+    let (mut desk, is_done) = done(alloc, desk, life.request, life.first)?;
+    if is_done && is_stopped(alloc, &mut desk, life.second)? {
         restart(alloc, desk, OPTIONS).ok()
     } else {
         None
     }
 }
 
-/// Whether the desk bars the image, and gives the stopped call its answer.
-fn goes_on<S: Alter + Drop>(alloc: Global, desk: &mut Desk<S>, life: &str) -> Option<bool> {
-    let (_, second) = parted(life, " => ");
-    let is_barred = bars(alloc, desk, IMAGE)?;
-    Some(does(alloc, desk, second)? && is_barred)
+/// Whether the desk bars the image, and gives both calls their answers.
+fn goes_on<S: Alter + Drop>(
+    alloc: Global,
+    desk: &mut Desk<S>,
+    life: Life<'_>,
+    barred: Barred<'_>,
+) -> Option<bool> {
+    Some(
+        bars(alloc, desk, barred)?
+            && does(alloc, desk, life.first)?
+            && does(alloc, desk, life.second)?,
+    )
 }
 
-/// The files after a life over these files. The desk that is opened after it bars the image and gives the stopped call its answer.
-fn after<D: Crash + Drop>(alloc: Global, files: Files<D>, life: &str) -> Option<Files<D>> {
+/// The files after a life over these files. The desk that is opened after it bars the image and gives both calls their answers.
+fn after<D: Crash + Drop>(
+    alloc: Global,
+    files: Files<D>,
+    life: Life<'_>,
+    barred: Barred<'_>,
+) -> Option<Files<D>> {
     let desk = opened(alloc, files).ok()?;
     let mut desk = lived(alloc, desk, life)?;
-    if !goes_on(alloc, &mut desk, life)? {
+    if !goes_on(alloc, &mut desk, life, barred)? {
         return None;
     }
     desk.close().ok()
 }
 
-/// The database file after a life, in which the log stops at the next of its calls once the first call of the desk is answered.
-fn outlived<D: Stopping>(alloc: Global, bytes: &[u8], life: &str) -> Option<Vec<u8>> {
-    let (first, _) = parted(life, " => ");
-    let calls = calls_to::<D>(alloc, bytes, Which::Log, first)?;
+/// Whether the desk in this file bars the image.
+fn holds<D: Stopping>(alloc: Global, bytes: &[u8], barred: Barred<'_>) -> Option<bool> {
+    let all: Files<D> = files(alloc, bytes, NEVER)?;
+    match opened(alloc, all) {
+        Ok(mut desk) => bars(alloc, &mut desk, barred),
+        Err(_) => None,
+    }
+}
+
+/// The database file after a life, in which the log stops at the next of its calls once the first call of the desk is answered. The
+/// desk that is opened in it bars the image.
+pub(super) fn outlived<D: Stopping>(
+    alloc: Global,
+    bytes: &[u8],
+    line: &str,
+    barred: Barred<'_>,
+) -> Option<Vec<u8>> {
+    let life = Life::read(line);
+    let goal = Goal::Call {
+        request: life.request,
+        told: life.first,
+    };
+    let calls = calls_to::<D>(alloc, bytes, Which::Log, goal)?;
     let stopping: Files<D> = files(alloc, bytes, Stops::at(Which::Log, calls))?;
-    let left = after(alloc, stopping, life)?;
-    bytes_of(alloc, &left)
+    let left = after(alloc, stopping, life, barred)?;
+    let bytes = bytes_of(alloc, &left)?;
+    if holds::<D>(alloc, bytes.as_slice(), barred)? {
+        Some(bytes)
+    } else {
+        None
+    }
 }
 
 /// Gives the desk the calls of all lives.
-fn play<S: Alter + Drop>(alloc: Global, desk: &mut Desk<S>) -> Option<bool> {
-    for life in LIVES.lines() {
-        let (first, second) = parted(life, " => ");
-        let is_first = does(alloc, desk, first)?;
-        if !does(alloc, desk, second)? || !is_first {
+fn play<S: Alter + Drop>(alloc: Global, desk: &mut Desk<S>, lives: &str) -> Option<bool> {
+    for line in lives.lines() {
+        let life = Life::read(line);
+        if !does(alloc, desk, life.first)? || !does(alloc, desk, life.second)? {
             return Some(false);
         }
     }
     Some(true)
 }
 
-/// The desk's minutes, once it was given the calls of all lives.
-fn minutes_after<S: Alter + Drop>(alloc: Global, desk: &mut Desk<S>) -> Option<Vec<u8>> {
-    if play(alloc, desk)? {
-        minutes(alloc, desk)
+/// What the desk exports, once it was given the calls of all lives.
+fn exports_after<S: Alter + Drop>(
+    alloc: Global,
+    desk: &mut Desk<S>,
+    lives: &str,
+) -> Option<Vec<u8>> {
+    if play(alloc, desk, lives)? {
+        exports(alloc, desk)
     } else {
         None
     }
 }
 
-/// The minutes of a desk that was given the calls of all lives without a stop.
-fn whole<D: Stopping>(alloc: Global, bytes: &[u8]) -> Option<Vec<u8>> {
+/// What the desk in this file exports, once it was given the calls of all lives without a stop.
+pub(super) fn whole<D: Stopping>(alloc: Global, bytes: &[u8], lives: &str) -> Option<Vec<u8>> {
     let all: Files<D> = files(alloc, bytes, NEVER)?;
     match opened(alloc, all) {
-        Ok(mut desk) => minutes_after(alloc, &mut desk),
+        Ok(mut desk) => exports_after(alloc, &mut desk, lives),
         Err(_) => None,
     }
 }
 
-/// The minutes of the desk in this file.
-fn minutes_of<D: Stopping>(alloc: Global, bytes: &[u8]) -> Option<Vec<u8>> {
-    let all: Files<D> = files(alloc, bytes, NEVER)?;
-    match opened(alloc, all) {
-        Ok(mut desk) => minutes(alloc, &mut desk),
-        Err(_) => None,
-    }
-}
-
-/// Lives all lives, and compares the minutes at their end.
+/// Lives all lives, and compares what is exported at their end.
 fn live<D: Stopping>(alloc: Global) -> Result<(), Fail> {
-    let mut bytes = first::<D>(alloc).ok_or("a desk before its lives")?;
-    let wanted = whole::<D>(alloc, bytes.as_slice()).ok_or("a desk without a stop")?;
+    let mut bytes = before_lives::<D>(alloc).ok_or("a desk before its lives")?;
+    let wanted = whole::<D>(alloc, bytes.as_slice(), LIVES).ok_or("a desk without a stop")?;
     for life in LIVES.lines() {
-        bytes = outlived::<D>(alloc, bytes.as_slice(), life).ok_or(life)?;
+        bytes = outlived::<D>(alloc, bytes.as_slice(), life, REVOKED).ok_or(life)?;
     }
-    if minutes_of::<D>(alloc, bytes.as_slice()).ok_or("minutes")? != wanted {
+    if whole::<D>(alloc, bytes.as_slice(), "").ok_or("exports")? != wanted {
         return Err("each call once, in order")?;
     }
     Ok(())

@@ -1,5 +1,5 @@
 //! A desk that is made, where a file stops at each of its calls in turn.
-use super::asking::minutes;
+use super::asking::exports;
 use super::disks::{Stopping, Stops, Which, crashed, files, made, opened};
 use super::*;
 
@@ -11,14 +11,14 @@ fn at_last<D: Crash + Drop>(alloc: Global, files: Files<D>) -> Option<Desk<FileS
     }
 }
 
-/// Whether a desk is made in the files at once. After a crash it is there; else there is one or none, and then one is made. It has
-/// no calls.
+/// Whether a desk is made in the files at once. After a crash it is there; else there is one or none, and then one is made. It exports
+/// the level of a new desk, and nothing else.
 fn is_made<D: Crash + Drop>(alloc: Global, files: Files<D>) -> Option<bool> {
     let (is_whole, mut desk) = match made(alloc, files) {
         Ok(desk) => (true, restart(alloc, desk, OPTIONS).ok()?),
         Err(files) => (false, at_last(alloc, files)?),
     };
-    if !minutes(alloc, &mut desk)?.is_empty() {
+    if exports(alloc, &mut desk)?.as_slice() != NEW_LEVEL {
         return None;
     }
     Some(is_whole)

@@ -1,0 +1,89 @@
+//! A series of lives of one desk that cross the change of version: openings of version 1 that are stopped, and lives of version 2.
+use super::asking::bars;
+use super::disks::{
+    Goal, NEVER, Stopping, Stops, Which, bytes_of, calls_to, crashed, files, files_of, reopened,
+    with_stops,
+};
+use super::first_version::first_file;
+use super::lives::{Barred, outlived, whole};
+use super::*;
+
+/// The lives of version 2, one a line: the call that is answered Ok, and the one that is stopped. Before each the openings are stopped.
+const LIVES: &str = "\
+console a0 add otto officer 7 : added otto => olga b0 revoke 35 : proposed 1
+otto a1 confirm 1 : confirmed 1 1 0 0 0 => olga b1 list 52 : listed
+olga a2 raise grub 3 2024010100 : proposed 2 => otto b2 confirm 2 : confirmed 2 0 0 1 0
+ann a3 submit shim 160 160 0 0 : submitted 1 => olga b3 import-digests 301 : proposed 3";
+
+/// An image whose digest was imported in the life of version 1.
+const REVOKED: Barred<'static> = Barred {
+    image: "0 160 0 0",
+    verdict: Verdict::DbxDigest,
+};
+
+/// The files after an opening of their desk that stops so, and whether it was stopped; nothing where it is refused for another cause.
+fn after_opening<D: Stopping>(
+    alloc: Global,
+    left: Files<D>,
+    stops: Stops,
+) -> Option<(bool, Files<D>)> {
+    let next = with_stops(alloc, &left, stops)?;
+    match reopened(alloc, next) {
+        Ok(desk) => Some((false, crashed(files_of(desk.release())))),
+        Err((Refusal::Store, Some(files))) => Some((true, files)),
+        Err((Refusal::Store, None)) => Some((true, left)),
+        Err(_) => None,
+    }
+}
+
+/// The files after openings of the desk in this file, each of what the one before left, in which one of the two stops at one more of its
+/// calls each time, from the first with which the files are opened until the desk is.
+fn after_openings<D: Stopping>(alloc: Global, bytes: &[u8], which: Which) -> Option<Files<D>> {
+    let mut left: Files<D> = files(alloc, bytes, NEVER)?;
+    for calls in calls_to::<D>(alloc, bytes, which, Goal::Connection)?..100_000 {
+        let (is_stopped, next) = after_opening(alloc, left, Stops::at(which, calls))?;
+        if !is_stopped {
+            return Some(next);
+        }
+        left = next;
+    }
+    None
+}
+
+/// The database file of the desk that is opened after them, which bars the image.
+fn opened_at_last<D: Stopping>(alloc: Global, bytes: &[u8], which: Which) -> Option<Vec<u8>> {
+    let left: Files<D> = after_openings(alloc, bytes, which)?;
+    let mut desk = reopened(alloc, left).ok()?;
+    if !bars(alloc, &mut desk, REVOKED)? {
+        return None;
+    }
+    bytes_of(alloc, &desk.close().ok()?)
+}
+
+/// Lives all lives, and compares what is exported at their end.
+fn cross<D: Stopping>(alloc: Global, first: &[u8], which: Which) -> Result<(), Fail> {
+    let wanted = whole::<D>(alloc, first, LIVES).ok_or("a desk without a stop")?;
+    let mut bytes = Vec::from_slice(alloc, first)?;
+    for life in LIVES.lines() {
+        bytes = opened_at_last::<D>(alloc, bytes.as_slice(), which).ok_or(life)?;
+        bytes = outlived::<D>(alloc, bytes.as_slice(), life, REVOKED).ok_or(life)?;
+    }
+    if whole::<D>(alloc, bytes.as_slice(), "").ok_or("exports")? != wanted {
+        return Err("each call once, in order")?;
+    }
+    Ok(())
+}
+
+/// The same, where each of the two files stops the openings.
+fn cross_each<D: Stopping>(alloc: Global) -> Result<(), Fail> {
+    let first = first_file::<D>(alloc).ok_or("a file of version 1")?;
+    for which in [Which::Log, Which::Db] {
+        cross::<D>(alloc, first.as_slice(), which)?;
+    }
+    Ok(())
+}
+
+#[test]
+fn lives_that_cross_the_change_lose_nothing(rt: HostRuntime) -> Result<(), Fail> {
+    cross_each::<Fuse<Memory>>(rt.alloc())
+}

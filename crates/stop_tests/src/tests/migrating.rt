@@ -1,0 +1,300 @@
+//! The file of version 1, opened by a desk: its first opening and the next, files that are refused, and stops within the opening.
+use super::asking::{does_each, exports};
+use super::disks::{
+    Goal, NEVER, Stopping, Stops, Which, bytes_of, calls_to, connected, crashed, files, files_of,
+    opened, reopened,
+};
+use super::first_version::{first_exports, first_file};
+use super::selects::{ADDED, TABLES, VERSION, execute, selected};
+use super::*;
+
+/// What its desk is asked, and answers: a key of before gives its reply, and what was revoked is revoked. A digest is filled with its
+/// number: 0 is the first of those that were imported.
+const ASKED: &str = "\
+olga o1 import-digests 300 : imported 300 0 0 0
+console p6 add olga officer 6 : added olga
+olga o1 import-digests 299 : KeyReused
+olga o2 revoke 0 : AlreadyRevoked
+olga o2 revoke 35 : proposed 1
+olga o3 confirm 1 : OwnProposal
+olga o1 import-digests 300 : imported 300 0 0 0";
+
+/// Texts in SQL, each of which makes another file of this one, and what refuses that.
+const REFUSED: &str = "\
+UPDATE desk SET version = 3 : Version
+UPDATE desk SET version = 0 : Version
+UPDATE desk SET mark = 'boot' : NotADesk
+CREATE TABLE Proposals (no INTEGER PRIMARY KEY) : NotADesk
+CREATE TABLE PROPOSAL_ITEMS (place INTEGER) : NotADesk
+CREATE INDEX Migrated ON people (role) : NotADesk
+CREATE VIEW proposalS AS SELECT no FROM calls : NotADesk";
+
+/// The version and the number of tables of the file.
+const AS_FIRST: &str = "1\n12\n";
+
+/// The same after its migration, and the rows of the tables that it adds: seven calls were accepted before.
+const AS_SECOND: &str = "2\n15\n\n\n1 7\n";
+
+/// The file, what its desk exports, and the rows of its tables.
+#[derive(Drop)]
+struct Original {
+    bytes: Vec<u8>,
+    exports: Vec<u8>,
+    rows: String,
+}
+
+/// The rows of the twelve tables in these files.
+fn rows_in<D: Disk + Drop>(alloc: Global, files: Files<D>) -> Option<String> {
+    let mut conn = connected(alloc, files).ok()?;
+    selected(alloc, &mut conn, TABLES)
+}
+
+impl Original {
+    /// The file, which has stood before any desk opened it.
+    fn new<D: Stopping>(alloc: Global) -> Option<Original> {
+        let bytes = first_file::<D>(alloc)?;
+        let whole: Files<D> = files(alloc, bytes.as_slice(), NEVER)?;
+        let rows = rows_in(alloc, whole)?;
+        let exports = first_exports(alloc).ok()?;
+        Some(Original {
+            bytes,
+            exports,
+            rows,
+        })
+    }
+
+    /// The version that these tables and their rows are of, 1 or 2, if they are those of the file.
+    fn version<S: Alter + Drop>(&self, alloc: Global, conn: &mut Connection<S>) -> Option<u64> {
+        if selected(alloc, conn, TABLES)? != self.rows {
+            return None;
+        }
+        let mut told = selected(alloc, conn, VERSION)?;
+        if told.as_str() == AS_FIRST {
+            return Some(1);
+        }
+        told.push_str(selected(alloc, conn, ADDED)?.as_str()).ok()?;
+        if told.as_str() == AS_SECOND {
+            return Some(2);
+        }
+        None
+    }
+}
+
+/// The version that the files are of, and the files.
+fn found<D: Disk + Drop>(
+    alloc: Global,
+    files: Files<D>,
+    original: &Original,
+) -> Option<(u64, Files<D>)> {
+    let mut conn = connected(alloc, files).ok()?;
+    let version = original.version(alloc, &mut conn)?;
+    Some((version, files_of(conn)))
+}
+
+/// Whether the files open, and the desk in them exports what that of the file does.
+fn is_there<D: Crash + Drop>(alloc: Global, files: Files<D>, original: &Original) -> Option<bool> {
+    let mut desk = reopened(alloc, files).ok()?;
+    Some(exports(alloc, &mut desk)? == original.exports)
+}
+
+/// The version that a stop left in these files, if the next opening succeeds.
+fn left<D: Crash + Drop>(alloc: Global, files: Files<D>, original: &Original) -> Option<u64> {
+    let (version, files) = found(alloc, files, original)?;
+    if is_there(alloc, files, original)? {
+        Some(version)
+    } else {
+        None
+    }
+}
+
+/// How the opening of a desk ends in files of which one stops.
+#[derive(Drop)]
+enum Ended {
+    /// The desk wasn't opened, and a stop leaves this version.
+    Stopped(u64),
+    /// It was.
+    Opened,
+}
+
+/// How the opening of the desk in these files ends; nothing where it doesn't end as it has to.
+fn ending<D: Crash + Drop>(alloc: Global, files: Files<D>, original: &Original) -> Option<Ended> {
+    match reopened(alloc, files) {
+        Ok(desk) => match left(alloc, crashed(files_of(desk.release())), original)? {
+            2 => Some(Ended::Opened),
+            _ => None,
+        },
+        Err((Refusal::Store, Some(files))) => Some(Ended::Stopped(left(alloc, files, original)?)),
+        Err(_) => None,
+    }
+}
+
+/// How often an opening was stopped that left version 1, and version 2.
+#[derive(Clone, Copy)]
+struct Counts {
+    first: u64,
+    second: u64,
+}
+
+impl Counts {
+    /// One more that left this version.
+    fn add(&mut self, version: u64) {
+        if version == 1 {
+            self.first = self.first.saturating_add(1);
+        } else {
+            self.second = self.second.saturating_add(1);
+        }
+    }
+}
+
+/// Opens the desk in the file, where this one of the two stops after each number of its calls, from the first with which the files are
+/// opened until the desk was 64 times.
+fn stopped<D: Stopping>(alloc: Global, original: &Original, which: Which) -> Option<Counts> {
+    let mut counts = Counts {
+        first: 0,
+        second: 0,
+    };
+    let mut opened = 0u64;
+    let bytes = original.bytes.as_slice();
+    for calls in calls_to::<D>(alloc, bytes, which, Goal::Connection)?..100_000 {
+        let stopping: Files<D> = files(alloc, bytes, Stops::at(which, calls))?;
+        match ending(alloc, stopping, original)? {
+            Ended::Stopped(version) => counts.add(version),
+            Ended::Opened => opened = opened.saturating_add(1),
+        }
+        if opened == 64 {
+            return Some(counts);
+        }
+    }
+    None
+}
+
+/// Stops each of the two files at each of its calls.
+fn stop_each<D: Stopping>(alloc: Global) -> Result<(), Fail> {
+    let original = Original::new::<D>(alloc).ok_or("a file of version 1")?;
+    for which in [Which::Log, Which::Db] {
+        let counts = stopped::<D>(alloc, &original, which).ok_or("version 1 or 2, and its desk")?;
+        if counts.first == 0 {
+            return Err("a stop")?;
+        }
+    }
+    Ok(())
+}
+
+#[test]
+fn a_stopped_opening_leaves_version_1_or_2(rt: HostRuntime) -> Result<(), Fail> {
+    stop_each::<Fuse<Memory>>(rt.alloc())
+}
+
+/// Whether the desk exports this, and answers what it is asked.
+fn goes_on<S: Alter + Drop>(alloc: Global, desk: &mut Desk<S>, wanted: &[u8]) -> Option<bool> {
+    Some(exports(alloc, desk)?.as_slice() == wanted && does_each(alloc, desk, ASKED)?)
+}
+
+/// Whether both have the same bytes.
+fn are_alike<D: Stopping>(these: &Files<D>, those: &Files<D>) -> bool {
+    these.log.bytes() == those.log.bytes() && these.db.bytes() == those.db.bytes()
+}
+
+/// The files of this file, connected to and given back.
+fn touched<D: Stopping>(alloc: Global, bytes: &[u8]) -> Option<Files<D>> {
+    let whole: Files<D> = files(alloc, bytes, NEVER)?;
+    Some(files_of(connected(alloc, whole).ok()?))
+}
+
+/// The files of this file once its desk was opened, and given back without a call.
+fn looked_at<D: Stopping>(alloc: Global, bytes: &[u8]) -> Option<Files<D>> {
+    let whole: Files<D> = files(alloc, bytes, NEVER)?;
+    Some(files_of(opened(alloc, whole).ok()?.release()))
+}
+
+/// Whether the opening of the desk in this file writes anything.
+fn writes<D: Stopping>(alloc: Global, bytes: &[u8]) -> Option<bool> {
+    let before: Files<D> = touched(alloc, bytes)?;
+    let after: Files<D> = looked_at(alloc, bytes)?;
+    Some(!are_alike(&before, &after))
+}
+
+/// The file once its desk was opened and closed.
+fn migrated<D: Stopping>(alloc: Global, bytes: &[u8]) -> Option<Vec<u8>> {
+    let whole: Files<D> = files(alloc, bytes, NEVER)?;
+    bytes_of(alloc, &opened(alloc, whole).ok()?.close().ok()?)
+}
+
+/// Whether the desk in this file goes on.
+fn holds<D: Stopping>(alloc: Global, bytes: &[u8], wanted: &[u8]) -> Option<bool> {
+    let whole: Files<D> = files(alloc, bytes, NEVER)?;
+    match opened(alloc, whole) {
+        Ok(mut desk) => goes_on(alloc, &mut desk, wanted),
+        Err(_) => None,
+    }
+}
+
+/// Opens the file, and opens it again.
+fn open_twice<D: Stopping>(alloc: Global) -> Result<(), Fail> {
+    let original = Original::new::<D>(alloc).ok_or("a file of version 1")?;
+    let before = original.bytes.as_slice();
+    let after = migrated::<D>(alloc, before).ok_or("a file of version 2")?;
+    for bytes in [before, after.as_slice()] {
+        if !holds::<D>(alloc, bytes, original.exports.as_slice()).ok_or("a desk")? {
+            return Err("the desk of before")?;
+        }
+    }
+    if !writes::<D>(alloc, before).ok_or("the first opening")? {
+        return Err("a migration")?;
+    }
+    if writes::<D>(alloc, after.as_slice()).ok_or("the next opening")? {
+        return Err("nothing to commit")?;
+    }
+    Ok(())
+}
+
+#[test]
+fn a_file_of_version_1_is_opened_and_goes_on(rt: HostRuntime) -> Result<(), Fail> {
+    open_twice::<Fuse<Memory>>(rt.alloc())
+}
+
+/// The file once this text in SQL was executed in it.
+fn altered<D: Stopping>(alloc: Global, bytes: &[u8], text: &str) -> Option<Vec<u8>> {
+    let whole: Files<D> = files(alloc, bytes, NEVER)?;
+    let mut conn = connected(alloc, whole).ok()?;
+    execute(&mut conn, text)?;
+    bytes_of(alloc, &conn.close_files().ok()?)
+}
+
+/// What refuses to open the desk in this file, and the files after it; `a desk` where it is opened.
+fn refusal_of<D: Stopping>(alloc: Global, bytes: &[u8]) -> Option<(&'static str, Files<D>)> {
+    let whole: Files<D> = files(alloc, bytes, NEVER)?;
+    let conn = connected(alloc, whole).ok()?;
+    if !conn.is_autocommit() {
+        return None;
+    }
+    match Desk::open(alloc, conn) {
+        Ok(desk) => Some(("a desk", files_of(desk.release()))),
+        Err((refusal, conn)) => Some((refusal.name(), files_of(conn))),
+    }
+}
+
+/// Whether that is what refuses the file that the text makes, and nothing is written.
+fn is_refused<D: Stopping>(alloc: Global, bytes: &[u8], text: &str, wanted: &str) -> Option<bool> {
+    let other = altered::<D>(alloc, bytes, text)?;
+    let (name, after) = refusal_of::<D>(alloc, other.as_slice())?;
+    let before: Files<D> = touched(alloc, other.as_slice())?;
+    Some(name == wanted && are_alike(&before, &after))
+}
+
+/// Makes each of the other files.
+fn refuse_each<D: Stopping>(alloc: Global) -> Result<(), Fail> {
+    let bytes = first_file::<D>(alloc).ok_or("a file of version 1")?;
+    for line in REFUSED.lines() {
+        let (text, wanted) = line.split_once(" : ").ok_or(line)?;
+        if !is_refused::<D>(alloc, bytes.as_slice(), text, wanted).ok_or(line)? {
+            return Err(line)?;
+        }
+    }
+    Ok(())
+}
+
+#[test]
+fn another_version_or_a_taken_name_is_refused(rt: HostRuntime) -> Result<(), Fail> {
+    refuse_each::<Fuse<Memory>>(rt.alloc())
+}
