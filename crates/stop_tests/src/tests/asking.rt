@@ -1,5 +1,4 @@
 //! What a desk is asked here, over any store. A function makes one call of the desk.
-use super::lives::Barred;
 use super::*;
 
 /// Gives the desk one call.
@@ -77,15 +76,18 @@ pub(super) fn exports<S: Alter + Drop>(alloc: Global, desk: &mut Desk<S>) -> Opt
     Some(bytes)
 }
 
-/// Whether the desk refuses the image, for what was revoked.
+/// Whether the desk refuses an image for what it revoked, its `digest` or a `certificate`: that word, and the image.
 pub(super) fn bars<S: Alter + Drop>(
     alloc: Global,
     desk: &mut Desk<S>,
-    barred: Barred<'_>,
+    barred: &str,
 ) -> Option<bool> {
-    let facts = Words::new(alloc, barred.image).facts()?;
+    let (revoked, image) = parted(barred, " ");
+    let facts = Words::new(alloc, image).facts()?;
     match desk.verdict(&facts) {
-        Ok(verdict) => Some(verdict == barred.verdict),
+        Ok(Verdict::DbxDigest) => Some(revoked == "digest"),
+        Ok(Verdict::DbxCertificate) => Some(revoked == "certificate"),
+        Ok(_) => Some(false),
         Err(_) => None,
     }
 }

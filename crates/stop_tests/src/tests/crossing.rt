@@ -5,7 +5,7 @@ use super::disks::{
     with_stops,
 };
 use super::first_version::first_file;
-use super::lives::{Barred, outlived, whole};
+use super::lives::{outlived, whole};
 use super::*;
 
 /// The lives of version 2, one a line: the call that is answered Ok, and the one that is stopped. Before each the openings are stopped.
@@ -16,10 +16,7 @@ olga a2 raise grub 3 2024010100 : proposed 2 => otto b2 confirm 2 : confirmed 2 
 ann a3 submit shim 160 160 0 0 : submitted 1 => olga b3 import-digests 301 : proposed 3";
 
 /// An image whose digest was imported in the life of version 1.
-const REVOKED: Barred<'static> = Barred {
-    image: "0 160 0 0",
-    verdict: Verdict::DbxDigest,
-};
+const REVOKED: &str = "digest 0 160 0 0";
 
 /// The files after an opening of their desk that stops so, and whether it was stopped; nothing where it is refused for another cause.
 fn after_opening<D: Stopping>(

@@ -45,18 +45,8 @@ impl<'a> Life<'a> {
     }
 }
 
-/// An image that is barred after each life.
-#[derive(Clone, Copy)]
-pub(super) struct Barred<'a> {
-    pub(super) image: &'a str,
-    pub(super) verdict: Verdict,
-}
-
 /// The image that carries the certificate.
-const REVOKED: Barred<'static> = Barred {
-    image: "160 160 1 204 0",
-    verdict: Verdict::DbxCertificate,
-};
+const REVOKED: &str = "certificate 160 160 1 204 0";
 
 /// Whether the desk takes the calls before the lives.
 fn is_begun<S: Alter + Drop>(alloc: Global, desk: &mut Desk<S>) -> Option<bool> {
@@ -105,7 +95,7 @@ fn goes_on<S: Alter + Drop>(
     alloc: Global,
     desk: &mut Desk<S>,
     life: Life<'_>,
-    barred: Barred<'_>,
+    barred: &str,
 ) -> Option<bool> {
     Some(
         bars(alloc, desk, barred)?
@@ -119,7 +109,7 @@ fn after<D: Crash + Drop>(
     alloc: Global,
     files: Files<D>,
     life: Life<'_>,
-    barred: Barred<'_>,
+    barred: &str,
 ) -> Option<Files<D>> {
     let desk = opened(alloc, files).ok()?;
     let mut desk = lived(alloc, desk, life)?;
@@ -130,7 +120,7 @@ fn after<D: Crash + Drop>(
 }
 
 /// Whether the desk in this file bars the image.
-fn holds<D: Stopping>(alloc: Global, bytes: &[u8], barred: Barred<'_>) -> Option<bool> {
+fn holds<D: Stopping>(alloc: Global, bytes: &[u8], barred: &str) -> Option<bool> {
     let all: Files<D> = files(alloc, bytes, NEVER)?;
     match opened(alloc, all) {
         Ok(mut desk) => bars(alloc, &mut desk, barred),
@@ -144,7 +134,7 @@ pub(super) fn outlived<D: Stopping>(
     alloc: Global,
     bytes: &[u8],
     line: &str,
-    barred: Barred<'_>,
+    barred: &str,
 ) -> Option<Vec<u8>> {
     let life = Life::read(line);
     let goal = Goal::Call {
