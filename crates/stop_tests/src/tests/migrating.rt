@@ -29,11 +29,11 @@ CREATE TABLE PROPOSAL_ITEMS (place INTEGER) : NotADesk
 CREATE INDEX Migrated ON people (role) : NotADesk
 CREATE VIEW proposalS AS SELECT no FROM calls : NotADesk";
 
-/// The version and the number of tables of the file.
-const AS_FIRST: &str = "1\n12\n";
+/// The version of the file.
+const AS_FIRST: &str = "1\n";
 
 /// The same after its migration, and the rows of the tables that it adds: seven calls were accepted before.
-const AS_SECOND: &str = "2\n15\n\n\n1 7\n";
+const AS_SECOND: &str = "2\n\n\n1 7\n";
 
 /// The file, what its desk exports, and the rows of its tables.
 #[derive(Drop)]
@@ -70,7 +70,11 @@ impl Original {
         }
         let mut told = selected(alloc, conn, VERSION)?;
         if told.as_str() == AS_FIRST {
-            return Some(1);
+            // (the tables that version 2 adds aren't there)
+            return match selected(alloc, conn, ADDED) {
+                Some(_) => None,
+                None => Some(1),
+            };
         }
         told.push_str(selected(alloc, conn, ADDED)?.as_str()).ok()?;
         if told.as_str() == AS_SECOND {

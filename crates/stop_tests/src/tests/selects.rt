@@ -23,10 +23,8 @@ SELECT group_concat(no || ' ' || officer || ' ' || kind || ' ' || stamp || ' ' |
 SELECT group_concat(proposal || ' ' || place || ' ' || kind || ' ' || hex(digest) || ' ' || name || ' ' || generation) FROM proposal_items
 SELECT group_concat(id || ' ' || calls) FROM migrated";
 
-/// The version of the desk's row, and how many tables there are.
-pub(super) const VERSION: &str = "\
-SELECT version || '' FROM desk
-SELECT count(*) || '' FROM sqlite_schema WHERE type = 'table'";
+/// The version of the desk's row.
+pub(super) const VERSION: &str = "SELECT version || '' FROM desk";
 
 /// Executes a text in SQL.
 pub(super) fn execute<S: Alter + Drop>(conn: &mut Connection<S>, text: &str) -> Option<()> {
