@@ -5,8 +5,7 @@
 # listed too), `level`, `dbx`, `db`, `minutes` and `answer` over a desk's file; on `dbx` over a file of version 1 (examples/version-1) too,
 # of which the opening makes one of version 2. Each such run has to end with status 3, the line `device 40 NoMemory` and no more than a
 # beginning written (`answer` may write the response of NoMemory, with status 0), or to do all without the memory. The same words on the
-# files that a refused run left have to end as they do on the files that it found. A store that closes may tell `device 41 Store`: such
-# runs are counted apart.
+# files that a refused run left have to end as they do on the files that it found.
 #
 # The first and the last hundred allocations of each are refused, and between them one in STRIDE: 100 where none is given, which takes a
 # minute or two. 1 refuses each, but one in a hundred of a long row of one size: of the 13,000 of a run that opens a desk 8,000 are the

@@ -17,7 +17,7 @@ PROGRAM, LIBRARY, ROOT, STRIDE = sys.argv[1], sys.argv[2], sys.argv[3], int(sys.
 LONG_ROW = 100
 # Set where this ends early, by a fault of one case or by a signal: then the other cases end too.
 ENDING = threading.Event()
-NO_MEMORY_LINE, STORE_LINE = b"device 40 NoMemory\n", b"device 41 Store\n"
+NO_MEMORY_LINE = b"device 40 NoMemory\n"
 
 
 class Case(NamedTuple):
@@ -82,7 +82,7 @@ class Refusing:
         if self.case.answers and (status, out, err) == (0, NO_MEMORY, b""):
             return True
         is_beginning = len(out) <= self.case.most and self.case.wanted.startswith(out) or self.case.answers and out == NO_MEMORY
-        return status == 3 and is_beginning and err in (NO_MEMORY_LINE, STORE_LINE)
+        return status == 3 and is_beginning and err == NO_MEMORY_LINE
 
     def again(self, number):
         """The same words on the files that were left. Where they are those that were found the run would be the one with ample memory."""
@@ -121,7 +121,7 @@ class Refusing:
     def each(self):
         self.put()
         numbers, count = self.numbers()
-        borne = stores = 0
+        borne = 0
         for number in numbers:
             if ENDING.is_set():
                 return 0
@@ -131,14 +131,12 @@ class Refusing:
                 borne += 1
             elif not self.is_told(ran):
                 fail(f"{self.case.name}, allocation {number} of {count} refused: {ran}")
-            stores += ran[2] == STORE_LINE
             self.again(number)
         self.put()
         if not self.is_whole(self.run(count + 1)):
             fail(f"{self.case.name}: with {count} allocations and no more it isn't done")
         more = f"; {self.changed} left other files, and the same words did what they have to"
         more += f"; {borne} did without the memory" if borne else ""
-        more += f"; {stores} were told as device 41 Store" if stores else ""
         print(f"{self.case.name}: {len(numbers)} of {count} allocations refused, one a run{more}", flush=True)
         return len(numbers)
 
