@@ -4,8 +4,8 @@
 # it passed, its name, its seconds and what it says of itself; what a check that failed wrote goes to standard error. The last line is
 # `N passed, M failed`, and the status is 1 where one failed. Ten minutes after the start none is begun and those that run are ended, as failed.
 #
-# They need bash, cc, curl, gzip, openssl, python3, rt, sqlite3 and xxd, and the libraries that rt left in crates/NAME/out. efitools, where it
-# is installed, reads what the desk exports.
+# They need bash, cc, curl, gzip, openssl, python3, sqlite3 and xxd. efitools, where it is installed, reads what the desk exports. tables.sh is
+# run by its name: it builds a program of the libraries that ./prove left.
 set -u
 root=$(CDPATH='' cd -- "$(dirname -- "$(readlink -f -- "$0")")/.." && pwd -P) || exit 1
 if [ $# -gt 0 ]; then
@@ -17,7 +17,7 @@ else
 fi
 [ -x "$program" ] || { echo "checks/all.sh: there is no program $program" >&2; exit 1; }
 # The longest first, so that the last ones fill the lanes.
-checks=${*:-refused-memory.sh refused-requests.sh http.sh tables.sh requests.sh cuts.sh exports.sh day.sh readme.sh version1.sh prove.sh runs.sh}
+checks=${*:-refused-memory.sh refused-requests.sh http.sh requests.sh cuts.sh exports.sh day.sh readme.sh version1.sh prove.sh runs.sh}
 until=$((SECONDS + 600))
 room=$(mktemp -d) || exit 1
 trap 'rm -rf "$room"' EXIT
