@@ -6,14 +6,14 @@ set -eu
 root=$(CDPATH='' cd -- "$(dirname -- "$(readlink -f -- "$0")")/.." && pwd -P)
 room=${STORE_BENCH_ROOM:-${TMPDIR:-/tmp}/desk_store_bench}
 mkdir -p "$room/crates/store_bench"
-for crate in desk_sql desk_statements; do
+for crate in store_sql store_schema; do
     mkdir -p "$room/crates/$crate"
     (cd "$root/crates/$crate" && tar -cf - --exclude=out --exclude=must-fail .) | (cd "$room/crates/$crate" && tar -xf -)
 done
 mkdir -p "$room/crates/store_bench/src"
 cp "$root/bench/store/main.rt.txt" "$room/crates/store_bench/src/main.rt"
-grep -E '^(desk_sql|desk_statements):' "$root/crates.txt" > "$room/crates.txt"
-echo 'store_bench: desk_statements desk_sql sqlite' >> "$room/crates.txt"
+grep -E '^(store_sql|store_schema):' "$root/crates.txt" > "$room/crates.txt"
+echo 'store_bench: store_schema store_sql sqlite' >> "$room/crates.txt"
 (cd "$room/crates/store_bench" && rt run > "$room/build.log" 2>&1) || true
 program="$room/crates/store_bench/out/store_bench"
 test -x "$program" || { tail -20 "$room/build.log" >&2; exit 1; }

@@ -1,5 +1,5 @@
 #!/bin/sh
-# Refuses each allocation in turn of a day of a desk in memory: desk-memory.sh [TEST [STRIDE]]. TEST is one of desk_tests, by a
+# Refuses each allocation in turn of a day of a desk in memory: desk-memory.sh [TEST [STRIDE]]. TEST is one of tests_store, by a
 # part of its name; STRIDE n refuses every n-th allocation alone. A day asks a line once more where the desk answers NoMemory, and
 # goes on: so a run passes where memory was refused inside a call of the desk, and the desk then gave each answer that it has to
 # give, also after it was opened again. A run where memory was refused elsewhere (the script's own words, the store's SQL, the
@@ -9,8 +9,8 @@ set -eu
 root=$(CDPATH='' cd -- "$(dirname -- "$(readlink -f -- "$0")")/.." && pwd -P)
 test=${1:-a_day_of_levels}
 stride=${2:-1}
-program=$root/crates/desk_tests/out/desk_tests_tests
-[ -x "$program" ] || (cd "$root/crates/desk_tests" && rt test > /dev/null)
+program=$root/crates/tests_store/out/desk_tests_tests
+[ -x "$program" ] || (cd "$root/crates/tests_store" && rt test > /dev/null)
 room=$(mktemp -d)
 trap 'rm -rf "$room"' EXIT
 

@@ -1,5 +1,5 @@
 #!/bin/sh
-# Writes a day of a desk into a file by desk_tables, and lets sqlite3's own shell read it: its integrity check, the columns
+# Writes a day of a desk into a file by store_writes, and lets sqlite3's own shell read it: its integrity check, the columns
 # and keys of each table, and every row. A name that is taken and a number past SQL's integers have to be refused. Not part of `rt
 # ci`: it needs sqlite3. The program runs unproved over the proved libraries, in a room of its own; where $TABLES_ROOM names a folder
 # that is the room, and it is kept for the next run.
@@ -16,7 +16,7 @@ else
     trap 'exit 1' HUP INT TERM
 fi
 mkdir -p "$room/crates"
-below="desk_bytes sbat desk_texts desk_history desk_sql desk_statements desk_contents desk_tables"
+below="desk_bytes sbat desk_texts desk_history store_sql store_schema store_schema store_writes"
 : > "$room/crates.txt"
 for crate in $below; do
     rm -rf "$room/crates/$crate"
@@ -29,7 +29,7 @@ done
 mkdir -p "$room/crates/write_day/src"
 cp "$root/checks/tables/main.rt.txt" "$room/crates/write_day/src/main.rt"
 cp "$root/checks/tables/writes.rt.txt" "$room/crates/write_day/src/writes.rt"
-echo 'write_day: desk_tables desk_statements desk_history desk_texts sbat desk_bytes sqlite' >> "$room/crates.txt"
+echo 'write_day: store_writes store_schema desk_history desk_texts sbat desk_bytes sqlite' >> "$room/crates.txt"
 rm -f "$room/desk.db" "$room/desk.db-wal"
 (cd "$room/crates/write_day" && rt try --seconds 600 -- "$room/desk.db" > "$room/run.log" 2>&1) || { tail -20 "$room/run.log" >&2; exit 1; }
 test -s "$room/desk.db"

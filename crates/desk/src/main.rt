@@ -3,10 +3,9 @@
 
 mod run;
 
+use cli_lines::Fault;
+use cli_words::{Stop, WordsFault, words};
 use desk_bytes::Refusal;
-use desk_lines::Fault;
-use desk_values::Stop;
-use desk_words::{WordsFault, words};
 use run::{MISUSED, run, stop};
 use std::process::ExitCode;
 use std::rt::Env;

@@ -1,14 +1,13 @@
 //! From what the words say to the work.
-use desk_bytes::{Guid, Refusal, WriteFailed};
-use desk_exports::Export;
-use desk_files::{
+use cli_commands::{Ending, print_ending};
+use cli_files::{
     add_person, answer_from, export_from, judge_image, make_desk, read_file, read_image, serve_from,
 };
-use desk_lines::{Fault, print_facts, print_fault, print_list, print_ranges};
+use cli_lines::{Fault, print_facts, print_fault, print_list, print_ranges};
+use cli_words::{PersonWords, ServeWords, Stop, Words, owner_from, person_from, place_from};
+use desk_bytes::{Guid, Refusal, WriteFailed};
+use desk_exports::Export;
 use desk_service::facts;
-use desk_values::{Stop, owner_from, person_from, place_from};
-use desk_words::{PersonWords, ServeWords, Words};
-use desk_works::{Ending, print_ending};
 use siglist::pack;
 use std::alloc::Global;
 use std::io::{BufWriter, Read, Write};

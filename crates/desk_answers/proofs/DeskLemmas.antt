@@ -11,8 +11,8 @@ use Rattle.desk_history.specs.Calls.{History}
 use Rattle.desk_history.specs.People.{has_token, people}
 use Rattle.desk_history.specs.Runs.{answer}
 use Rattle.desk_history.specs.declared.answer.Answer.TheVariants as ruled
-use Rattle.desk_reads.specs.Reads.{listed}
-use Rattle.desk_streams.specs.Faults.{IsExportFailure}
+use Rattle.store_reads.specs.Reads.{listed}
+use Rattle.store_exports.specs.Faults.{IsExportFailure}
 use Rattle.desk_store.specs.Desks.{Refuses, ShowsDesk}
 use Rattle.desk_store.specs.Showing as showing
 use Rattle.desk_store.specs.declared.desk.Desk.{Desk}

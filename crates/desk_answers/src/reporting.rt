@@ -3,15 +3,15 @@ ghost use Rattle.std.specs.Prelude.{◌≡◌, ◌≢◌, Err, IfErr, IfOk, IsEr
 ghost use Rattle.sqlite.specs.Held.{state};
 ghost use Rattle.sqlite.specs.State.{HasCleanDisk};
 ghost use Rattle.desk_exports.specs.Reports as exports;
-ghost use Rattle.desk_reads.specs.Failures.{IsFailure};
-ghost use Rattle.desk_sql.specs.States.{Spares};
+ghost use Rattle.store_reads.specs.Failures.{IsFailure};
+ghost use Rattle.store_sql.specs.States.{Spares};
 ghost use Rattle.desk_store.specs.Desks.{KeepsDesk, Views};
 
 use desk_bytes::Refusal;
-use desk_reports::report_is_the_history;
 use desk_store::Desk;
 use sqlite::Alter;
 use std::alloc::Global;
+use store_counts::report_is_the_history;
 
 /// The report of what the desk counts, fourteen lines of text. Nothing is changed. Takes memory.
 ///
@@ -37,7 +37,7 @@ pub fn report<S: Alter + Drop>(alloc: Global, desk: &mut Desk<S>) -> Result<Stri
         Ok(counts) => counts,
         Err(refusal) => return Err(refusal),
     };
-    match desk_reports::report(alloc, &counts) {
+    match store_counts::report(alloc, &counts) {
         Ok(text) => Ok(text),
         Err(_) => Err(Refusal::NoMemory),
     }

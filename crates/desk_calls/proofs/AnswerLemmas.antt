@@ -10,10 +10,10 @@ use Rattle.desk_history.specs.Calls.{History}
 use Rattle.desk_history.specs.Runs as runs
 use Rattle.desk_history.specs.declared.answer.Answer as ruling
 use Rattle.desk_history.specs.declared.answer.Answer.TheVariants as ruled
-use Rattle.desk_responses.specs.Refusals.{refused_of}
-use Rattle.desk_responses.specs.declared.outage.Outage.TheVariants as outage
-use Rattle.desk_responses.specs.declared.refused.Refused.{Refused}
-use Rattle.desk_responses.specs.declared.refused.Refused.TheVariants as refused
+use Rattle.http_responses.specs.Refusals.{refused_of}
+use Rattle.http_responses.specs.declared.outage.Outage.TheVariants as outage
+use Rattle.http_responses.specs.declared.refused.Refused.{Refused}
+use Rattle.http_responses.specs.declared.refused.Refused.TheVariants as refused
 use Rattle.desk_calls.specs.Answers.{AnswersTask, IsClosed, IsRead, IsReadAndTaken, IsRefusal, IsRuled, IsTaken, Judges, Serves, call_of}
 use Rattle.desk_calls.specs.Bodies.{Gives, ReadsFacts, RefusesImage}
 use Rattle.desk_calls.specs.Desks.{IsOutage}

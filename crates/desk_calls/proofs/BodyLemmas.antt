@@ -1,8 +1,8 @@
 -- What bodies are read as.
 use Rattle.std.proofs.Common.{◌≡◌, ℕ, List, length, Option, Some, None, Err, refl, nat_lt, false}
 use Rattle.desk_bytes.specs.Elements.{IsCertificate}
-use Rattle.desk_responses.specs.declared.refused.Refused.TheVariants as refused
-use Rattle.desk_imports.specs.FromLists.{tbs_of}
+use Rattle.http_responses.specs.declared.refused.Refused.TheVariants as refused
+use Rattle.desk_service.specs.imports.FromLists.{tbs_of}
 use Rattle.desk_calls.specs.Bodies.{listing_of}
 
 -- bytes that are no certificate have no TBSCertificate

@@ -8,7 +8,7 @@ use Rattle.desk_history.specs.Runs.{is_accepted}
 use Rattle.desk_history.specs.declared.answer.Answer as ruling
 use Rattle.desk_history.specs.declared.answer.Answer.TheVariants as ruled
 use Rattle.desk_history.proofs.ShownLemmas.{submitters_see_own}
-use Rattle.desk_responses.specs.declared.refused.Refused.{Refused}
+use Rattle.http_responses.specs.declared.refused.Refused.{Refused}
 use Rattle.desk_calls.specs.Answers.{raise_of, AnswersTask, IsRuled, IsTaken, ShowsRequest, ShowsRequests}
 use Rattle.desk_calls.specs.Bodies.{listing_of}
 use Rattle.desk_calls.specs.Laws.{RefusalsChangeNothing, SubmittersAreAnsweredByOwn}

@@ -5,10 +5,10 @@ use Rattle.desk_bytes.specs.contracts.refusal.Refusal.{the_type}
 use Rattle.desk_bytes.specs.declared.refusal.Refusal.{Refusal}
 use Rattle.desk_bytes.specs.declared.refusal.Refusal.TheVariants as refusals
 use Rattle.desk_history.specs.DecisionRefusals.{may_answer}
-use Rattle.desk_responses.specs.Refusals.{place_of, refused_of, refusal_of}
-use Rattle.desk_responses.specs.declared.outage.Outage.TheVariants as outage
-use Rattle.desk_responses.specs.declared.refused.Refused.{Refused}
-use Rattle.desk_responses.specs.declared.refused.Refused.TheVariants as refused
+use Rattle.http_responses.specs.Refusals.{place_of, refused_of, refusal_of}
+use Rattle.http_responses.specs.declared.outage.Outage.TheVariants as outage
+use Rattle.http_responses.specs.declared.refused.Refused.{Refused}
+use Rattle.http_responses.specs.declared.refused.Refused.TheVariants as refused
 use Rattle.desk_calls.specs.Bodies.{Tells}
 use Rattle.desk_calls.specs.Desks.{IsOutage, IsReadingRefusal}
 

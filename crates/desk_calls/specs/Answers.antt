@@ -20,10 +20,10 @@ use Rattle.desk_history.specs.declared.answer.Answer as ruling
 use Rattle.desk_history.specs.declared.answer.Answer.TheVariants as ruled
 use Rattle.desk_exports.specs.Exports as exports
 use Rattle.desk_exports.specs.Reports.{report}
-use Rattle.desk_bodies.specs.declared.body.LevelBody.{LevelBody}
-use Rattle.desk_responses.specs.declared.outage.Outage.TheVariants as outage
-use Rattle.desk_responses.specs.declared.refused.Refused.{Refused}
-use Rattle.desk_responses.specs.declared.refused.Refused.TheVariants as refused
+use Rattle.http_requests.specs.declared.bodies.body.LevelBody.{LevelBody}
+use Rattle.http_responses.specs.declared.outage.Outage.TheVariants as outage
+use Rattle.http_responses.specs.declared.refused.Refused.{Refused}
+use Rattle.http_responses.specs.declared.refused.Refused.TheVariants as refused
 use Rattle.desk_service.specs.ImageFacts.{IsFactsOf}
 use Rattle.desk_calls.specs.Bodies.{ReadsCsv, ReadsDbx, ReadsImage, ReadsLevel, RefusesImage, Tells, listing_of}
 use Rattle.desk_calls.specs.Desks.{called}

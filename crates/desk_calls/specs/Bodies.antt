@@ -6,17 +6,17 @@ use Rattle.desk_bytes.specs.declared.refusal.Refusal.TheVariants as refusals
 use Rattle.desk_texts.specs.declared.command.Command.{Command}
 use Rattle.desk_texts.specs.declared.command.Command.TheVariants as command
 use Rattle.desk_texts.specs.declared.facts.Facts.{Facts}
-use Rattle.desk_responses.specs.Refusals as told
-use Rattle.desk_responses.specs.declared.outage.Outage.TheVariants as outage
-use Rattle.desk_responses.specs.declared.refused.Refused.{Refused}
-use Rattle.desk_responses.specs.declared.refused.Refused.TheVariants as refused
+use Rattle.http_responses.specs.Refusals as told
+use Rattle.http_responses.specs.declared.outage.Outage.TheVariants as outage
+use Rattle.http_responses.specs.declared.refused.Refused.{Refused}
+use Rattle.http_responses.specs.declared.refused.Refused.TheVariants as refused
 use Rattle.desk_service.specs.Faults as facts
 use Rattle.desk_service.specs.ImageFacts.{IsFactsOf, IsFirstFault}
-use Rattle.desk_imports.specs.Faults as imports
-use Rattle.desk_imports.specs.FromCsv.{IsCsvImport, RefusesCsv}
-use Rattle.desk_imports.specs.FromLevel.{IsLevelImport, RefusesLevelImport}
-use Rattle.desk_imports.specs.FromLists.{IsDbxImport, RefusesDbx, tbs_of}
-use Rattle.desk_imports.specs.declared.fault.ImportFault.{ImportFault}
+use Rattle.desk_service.specs.imports.Faults as imports
+use Rattle.desk_service.specs.imports.FromCsv.{IsCsvImport, RefusesCsv}
+use Rattle.desk_service.specs.imports.FromLevel.{IsLevelImport, RefusesLevelImport}
+use Rattle.desk_service.specs.imports.FromLists.{IsDbxImport, RefusesDbx, tbs_of}
+use Rattle.desk_service.specs.declared.imports.fault.ImportFault.{ImportFault}
 
 -- a request is refused so for this row of the table of refusals, with this place or none
 pub record Tells (row : Refusal) (place : Option ℕ) (refused : Refused) : Type 0 where

@@ -3,8 +3,8 @@ use crate::octets::Octets;
 use crate::shown_proposals::ShownProposals;
 use crate::shown_requests::ShownRequests;
 use desk_history::Verdict;
-use desk_responses::Refused;
 use desk_texts::{Facts, Reply, ShownRequest};
+use http_responses::Refused;
 
 /// What the desk answers to a call.
 #[derive(Drop)]

@@ -6,15 +6,14 @@ ghost use Rattle.desk_calls.specs.Bodies as spec;
 
 use crate::octets::Octets;
 use crate::refusing::{NO_MEMORY, of_facts, of_import};
-use desk_bodies::{LevelBody, ReviewBody, UnlistBody};
 use desk_bytes::{Refusal, tbs};
-use desk_imports::{import_csv, import_dbx, import_level, tbs_is_read};
-use desk_responses::{Outage, Refused};
-use desk_service::{facts, token_digest};
+use desk_service::{facts, import_csv, import_dbx, import_level, tbs_is_read, token_digest};
 use desk_texts::{
     Ballot, Certificate, Command, Facts, LONGEST_CERTIFICATE, Listing, Raise, RequestNumber,
     ReturnedFile, Submission, Title,
 };
+use http_requests::{LevelBody, ReviewBody, UnlistBody};
+use http_responses::{Outage, Refused};
 use pe_image::{Pieces, no_slice_fails};
 use sbat::{Component, Stamp};
 use std::alloc::Global;

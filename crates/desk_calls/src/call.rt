@@ -1,8 +1,8 @@
 //! What people call the desk for.
 use crate::octets::Octets;
-use desk_bodies::{LevelBody, ReviewBody, UnlistBody};
 use desk_bytes::Digest;
 use desk_texts::{Key, Person, ProposalNumber, RequestNumber, Title};
+use http_requests::{LevelBody, ReviewBody, UnlistBody};
 use pe_image::Pieces;
 use sbat::Stamp;
 

@@ -11,8 +11,8 @@ use crate::answers::Answer;
 use crate::bodies::read_facts;
 use crate::refusing::told;
 use desk_exports::Export;
-use desk_responses::Refused;
 use desk_texts::{Caller, PersonName, RequestNumber, Role};
+use http_responses::Refused;
 use pe_image::Pieces;
 use std::alloc::Global;
 

@@ -14,9 +14,9 @@ use crate::call::{Call, Task};
 use crate::reading::{db, dbx, judge, level, proposals, report, request, requests};
 use crate::refusing::outage;
 use crate::taking::take;
-use desk_responses::Outage;
 use desk_service::token_digest;
 use desk_texts::{Command, Person};
+use http_responses::Outage;
 use std::alloc::Global;
 
 /// The person whose token this is, if there is one. Takes memory.

@@ -6,8 +6,8 @@ ghost use Rattle.desk_calls.specs.Answers.{IsClosed, IsTaken, Serves, store_fail
 use crate::answering::Answering;
 use crate::answers::Answer;
 use crate::refusing::told;
-use desk_responses::{Outage, Refused};
 use desk_texts::{Caller, Command, Key, PersonName};
+use http_responses::{Outage, Refused};
 
 /// Answers a command of the person of this name, under a key, or tells what its body is refused for.
 pub(crate) fn take<D: Answering>(

@@ -2,14 +2,14 @@
 use Rattle.std.proofs.Common.{◌≡◌, ℕ, List, [], refl, sym, subst, Option, Some, None, Result, Ok, Err, IfOk}
 use Rattle.std.proofs.lemmas.List.{append-nil}
 use Rattle.httparse.specs.Grammar.{RequestHead, print_request, ReadsRequest}
-use Rattle.desk_heads.specs.Heads.{HasHead}
-use Rattle.desk_requests.specs.Asked.{asked_at, asked_of, keyed, titled, stamped, numbered, of_proposal, key_in, title_in, stamp_in, number_in}
-use Rattle.desk_requests.specs.Routes.{takes_image}
-use Rattle.desk_requests.specs.Wanted.{Want}
-use Rattle.desk_requests.specs.declared.ask.Asked.{Asked}
-use Rattle.desk_requests.specs.declared.fault.AskedFault.{AskedFault}
-use Rattle.desk_requests.specs.declared.route.Route.{Route}
-use Rattle.desk_requests.specs.declared.route.Route.TheVariants as route
+use Rattle.http_requests.specs.heads.Heads.{HasHead}
+use Rattle.http_requests.specs.Asked.{asked_at, asked_of, keyed, titled, stamped, numbered, of_proposal, key_in, title_in, stamp_in, number_in}
+use Rattle.http_requests.specs.Routes.{takes_image}
+use Rattle.http_requests.specs.Wanted.{Want}
+use Rattle.http_requests.specs.declared.ask.Asked.{Asked}
+use Rattle.http_requests.specs.declared.fault.AskedFault.{AskedFault}
+use Rattle.http_requests.specs.declared.route.Route.{Route}
+use Rattle.http_requests.specs.declared.route.Route.TheVariants as route
 use Rattle.desk_http.specs.Bodies.{asks_with_image}
 
 -- ---- the body of what is asked for is an image exactly where the route's is

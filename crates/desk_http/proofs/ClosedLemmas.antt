@@ -5,15 +5,15 @@ use Rattle.std.specs.declared.alloc.Global.{Global}
 use Rattle.httparse.specs.Grammar.{ReadsRequest, RequestHead}
 use Rattle.desk_bytes.specs.Output.{AppendsBeginning}
 use Rattle.desk_history.specs.Calls.{History}
-use Rattle.desk_heads.specs.Fields.{parts_of}
-use Rattle.desk_heads.specs.Heads.{FindsOf, HasFewFields}
-use Rattle.desk_heads.specs.declared.begun.Begun.TheVariants.{Head, NoHead}
-use Rattle.desk_requests.specs.Wanted.{Want, wanted_of}
-use Rattle.desk_requests.specs.declared.fault.WantedFault.{WantedFault}
-use Rattle.desk_requests.specs.declared.fault.WantedFault.TheVariants as faults
-use Rattle.desk_responses.specs.declared.outage.Outage.{Outage}
-use Rattle.desk_responses.specs.declared.outage.Outage.TheVariants as outage
-use Rattle.desk_responses.specs.declared.refused.Refused.TheVariants as refused
+use Rattle.http_requests.specs.heads.Fields.{parts_of}
+use Rattle.http_requests.specs.heads.Heads.{FindsOf, HasFewFields}
+use Rattle.http_requests.specs.declared.heads.begun.Begun.TheVariants.{Head, NoHead}
+use Rattle.http_requests.specs.Wanted.{Want, wanted_of}
+use Rattle.http_requests.specs.declared.fault.WantedFault.{WantedFault}
+use Rattle.http_requests.specs.declared.fault.WantedFault.TheVariants as faults
+use Rattle.http_responses.specs.declared.outage.Outage.{Outage}
+use Rattle.http_responses.specs.declared.outage.Outage.TheVariants as outage
+use Rattle.http_responses.specs.declared.refused.Refused.TheVariants as refused
 use Rattle.desk_calls.specs.Answers.{IsClosed, no_memory}
 use Rattle.desk_calls.specs.declared.answers.Answer.{Answer}
 use Rattle.desk_calls.specs.declared.answers.Answer.TheVariants.{Refused}

@@ -4,13 +4,13 @@ use Rattle.std.specs.declared.alloc.Global.{Global}
 use Rattle.httparse.specs.Grammar.{ReadsRequest, RequestHead}
 use Rattle.httparse.proofs.GrammarLemmas.{ReadsRequest-append, request_unique}
 use Rattle.desk_history.specs.Calls.{History}
-use Rattle.desk_heads.specs.Fields.{parts_of}
-use Rattle.desk_heads.specs.Heads.{FindsOf, HasFewFields, HasHead}
-use Rattle.desk_heads.specs.declared.begun.Begun.TheVariants.{Head}
-use Rattle.desk_requests.specs.Wanted.{Want, wanted_of}
-use Rattle.desk_requests.specs.declared.fault.WantedFault.{WantedFault}
-use Rattle.desk_requests.specs.declared.fault.WantedFault.TheVariants.{NoMemory}
-use Rattle.desk_responses.specs.declared.outage.Outage.TheVariants as outage
+use Rattle.http_requests.specs.heads.Fields.{parts_of}
+use Rattle.http_requests.specs.heads.Heads.{FindsOf, HasFewFields, HasHead}
+use Rattle.http_requests.specs.declared.heads.begun.Begun.TheVariants.{Head}
+use Rattle.http_requests.specs.Wanted.{Want, wanted_of}
+use Rattle.http_requests.specs.declared.fault.WantedFault.{WantedFault}
+use Rattle.http_requests.specs.declared.fault.WantedFault.TheVariants.{NoMemory}
+use Rattle.http_responses.specs.declared.outage.Outage.TheVariants as outage
 use Rattle.desk_calls.specs.Desks.{Views}
 use Rattle.desk_texts.specs.declared.command.Person.{Person}
 use Rattle.desk_http.specs.Asked.{Asks, Due, HasRequest, caller_of, due_of, of_body, of_caller, of_head}

@@ -4,12 +4,12 @@ use Rattle.std.specs.declared.alloc.Global.{Global}
 use Rattle.httparse.specs.Grammar.{ReadsRequest, RequestHead}
 use Rattle.httparse.proofs.GrammarLemmas.{request_unique}
 use Rattle.desk_history.specs.Calls.{History}
-use Rattle.desk_heads.specs.Fields.{parts_of}
-use Rattle.desk_heads.specs.Heads.{FindsOf, HasFewFields}
-use Rattle.desk_heads.specs.declared.begun.Begun.TheVariants.{Head, NoHead}
-use Rattle.desk_heads.proofs.HeadLemmas.{no_request_in_nothing}
-use Rattle.desk_requests.specs.Wanted.{Want, wanted_of}
-use Rattle.desk_requests.specs.declared.fault.WantedFault.{WantedFault}
+use Rattle.http_requests.specs.heads.Fields.{parts_of}
+use Rattle.http_requests.specs.heads.Heads.{FindsOf, HasFewFields}
+use Rattle.http_requests.specs.declared.heads.begun.Begun.TheVariants.{Head, NoHead}
+use Rattle.http_requests.proofs.HeadLemmas.{no_request_in_nothing}
+use Rattle.http_requests.specs.Wanted.{Want, wanted_of}
+use Rattle.http_requests.specs.declared.fault.WantedFault.{WantedFault}
 use Rattle.desk_calls.specs.Desks.{Views}
 use Rattle.desk_http.specs.Asked.{HasByte, IsOfNobody, LeavesBody, caller_of}
 use Rattle.desk_http.specs.Serving.{IsOfBytes, LeavesStrangers}

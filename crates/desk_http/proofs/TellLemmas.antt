@@ -1,8 +1,8 @@
 -- What is told is what was served, or the want of memory in its place.
 use Rattle.std.proofs.Common.{◌≡◌, ◌⊎◌, ℕ, List, inl, inr, refl, sym, subst, true, false, Option, Some, None, IfSome}
 use Rattle.desk_history.specs.Calls.{History}
-use Rattle.desk_responses.specs.declared.outage.Outage.TheVariants as outage
-use Rattle.desk_responses.specs.declared.refused.Refused.TheVariants as refused
+use Rattle.http_responses.specs.declared.outage.Outage.TheVariants as outage
+use Rattle.http_responses.specs.declared.refused.Refused.TheVariants as refused
 use Rattle.desk_calls.specs.Answers.{Serves, no_memory, store_failed}
 use Rattle.desk_calls.specs.Desks.{Keeps, Views}
 use Rattle.desk_calls.specs.declared.answers.Answer.{Answer}

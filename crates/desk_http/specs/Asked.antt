@@ -4,15 +4,15 @@ use Rattle.httparse.specs.Grammar.{RequestHead}
 use Rattle.sha2.specs.Sha256.{sha256}
 use Rattle.desk_history.specs.Calls.{History}
 use Rattle.desk_texts.specs.declared.command.Person.{Person}
-use Rattle.desk_heads.specs.Fields.{parts_of}
-use Rattle.desk_heads.specs.Heads.{HasHead, HasNoHead}
-use Rattle.desk_requests.specs.Asked.{asked_of}
-use Rattle.desk_requests.specs.Wanted.{Want, wanted_of}
-use Rattle.desk_requests.specs.declared.ask.Asked.{Asked}
-use Rattle.desk_requests.specs.declared.fault.AskedFault.{AskedFault}
-use Rattle.desk_requests.specs.declared.fault.WantedFault.{WantedFault}
-use Rattle.desk_responses.specs.declared.refused.Refused.{Refused}
-use Rattle.desk_responses.specs.declared.refused.Refused.TheVariants as refused
+use Rattle.http_requests.specs.heads.Fields.{parts_of}
+use Rattle.http_requests.specs.heads.Heads.{HasHead, HasNoHead}
+use Rattle.http_requests.specs.Asked.{asked_of}
+use Rattle.http_requests.specs.Wanted.{Want, wanted_of}
+use Rattle.http_requests.specs.declared.ask.Asked.{Asked}
+use Rattle.http_requests.specs.declared.fault.AskedFault.{AskedFault}
+use Rattle.http_requests.specs.declared.fault.WantedFault.{WantedFault}
+use Rattle.http_responses.specs.declared.refused.Refused.{Refused}
+use Rattle.http_responses.specs.declared.refused.Refused.TheVariants as refused
 use Rattle.desk_calls.specs.declared.call.Call.{Call}
 use Rattle.desk_calls.specs.declared.call.Task.{Task}
 use Rattle.desk_calls.specs.Desks.{Views, person_with}

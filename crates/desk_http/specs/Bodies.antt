@@ -1,8 +1,8 @@
 -- The body of a request, which follows its head (RFC 9112, section 6).
 use Rattle.std.specs.Prelude.{ℕ, List, Bool, true, false, length, take, nat_le, if◌then◌else◌, Option, Some, None, option_map, Vec}
 use Rattle.std.specs.declared.alloc.Global.{Global}
-use Rattle.desk_requests.specs.declared.ask.Asked.{Asked}
-use Rattle.desk_requests.specs.declared.ask.Asked.TheVariants as asked
+use Rattle.http_requests.specs.declared.ask.Asked.{Asked}
+use Rattle.http_requests.specs.declared.ask.Asked.TheVariants as asked
 
 -- the body of this length at the front of what follows the head; none where that is shorter
 abbrev pub body_in : ℕ → List ℕ → Option (List ℕ)

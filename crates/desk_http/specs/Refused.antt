@@ -1,11 +1,11 @@
 -- own: what a request is refused for by the checks on it.
-use Rattle.desk_requests.specs.declared.fault.AskedFault.{AskedFault}
-use Rattle.desk_requests.specs.declared.fault.AskedFault.TheVariants as asked
-use Rattle.desk_requests.specs.declared.fault.WantedFault.{WantedFault}
-use Rattle.desk_requests.specs.declared.fault.WantedFault.TheVariants as wanted
-use Rattle.desk_responses.specs.declared.outage.Outage.TheVariants as outage
-use Rattle.desk_responses.specs.declared.refused.Refused.{Refused}
-use Rattle.desk_responses.specs.declared.refused.Refused.TheVariants as refused
+use Rattle.http_requests.specs.declared.fault.AskedFault.{AskedFault}
+use Rattle.http_requests.specs.declared.fault.AskedFault.TheVariants as asked
+use Rattle.http_requests.specs.declared.fault.WantedFault.{WantedFault}
+use Rattle.http_requests.specs.declared.fault.WantedFault.TheVariants as wanted
+use Rattle.http_responses.specs.declared.outage.Outage.TheVariants as outage
+use Rattle.http_responses.specs.declared.refused.Refused.{Refused}
+use Rattle.http_responses.specs.declared.refused.Refused.TheVariants as refused
 
 -- for a fault of the head
 abbrev pub refused_by_head : WantedFault → Refused

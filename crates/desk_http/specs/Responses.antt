@@ -4,16 +4,16 @@ use Rattle.std.specs.declared.alloc.Global.{Global}
 use Rattle.serde_json.specs.Data.{Data}
 use Rattle.serde_json.specs.Written.{compact_text}
 use Rattle.desk_bytes.specs.Refusals as rows
-use Rattle.desk_json.specs.Proposals.{proposals_data}
-use Rattle.desk_json.specs.Replies.{reply_data}
-use Rattle.desk_json.specs.Requests.{request_data, requests_data}
-use Rattle.desk_json.specs.Verdicts.{verdict_data}
-use Rattle.desk_responses.specs.Refusals as refusals
-use Rattle.desk_responses.specs.Responses.{code_of, response_text}
-use Rattle.desk_responses.specs.declared.content.Content.{Content}
-use Rattle.desk_responses.specs.declared.content.Content.TheVariants as content
-use Rattle.desk_responses.specs.declared.status.Status.{Status}
-use Rattle.desk_responses.specs.declared.status.Status.TheVariants as status
+use Rattle.http_responses.specs.json.Proposals.{proposals_data}
+use Rattle.http_responses.specs.json.Replies.{reply_data}
+use Rattle.http_responses.specs.json.Requests.{request_data, requests_data}
+use Rattle.http_responses.specs.json.Verdicts.{verdict_data}
+use Rattle.http_responses.specs.Refusals as refusals
+use Rattle.http_responses.specs.Responses.{code_of, response_text}
+use Rattle.http_responses.specs.declared.content.Content.{Content}
+use Rattle.http_responses.specs.declared.content.Content.TheVariants as content
+use Rattle.http_responses.specs.declared.status.Status.{Status}
+use Rattle.http_responses.specs.declared.status.Status.TheVariants as status
 use Rattle.desk_calls.specs.declared.answers.Answer.{Answer}
 use Rattle.desk_calls.specs.declared.answers.Answer.TheVariants.{Reply, Request, Requests, Proposals, Verdict, Dbx, Db, Level, Report, Refused}
 

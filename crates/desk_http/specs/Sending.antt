@@ -1,7 +1,7 @@
 -- own: what sending the response to an answer does to a writer.
 use Rattle.std.specs.Prelude.{◌≡◌, ◌⊎◌, ℕ, List, Bool, true, false, Option, Result, Ok, Err}
 use Rattle.desk_bytes.specs.Output.{AppendsBeginning}
-use Rattle.desk_responses.specs.declared.refused.Refused.TheVariants as refused
+use Rattle.http_responses.specs.declared.refused.Refused.TheVariants as refused
 use Rattle.desk_calls.specs.Answers.{no_memory}
 use Rattle.desk_calls.specs.declared.answers.Answer.{Answer}
 use Rattle.desk_calls.specs.declared.answers.Answer.TheVariants as answer

@@ -4,9 +4,9 @@ use Rattle.std.specs.Io.KnownBytes.{Appends, Keeps}
 use Rattle.desk_bytes.specs.Output.{AppendsBeginning}
 use Rattle.desk_bytes.specs.Refusals.{number_of}
 use Rattle.desk_bytes.specs.declared.refusal.Refusal.TheVariants as refusals
-use Rattle.desk_responses.specs.declared.refused.Refused.{Refused as Refusal}
-use Rattle.desk_heads.specs.Watches.{HasFailed}
-use Rattle.desk_heads.specs.declared.watch.Watch.{Watch}
+use Rattle.http_responses.specs.declared.refused.Refused.{Refused as Refusal}
+use Rattle.http_requests.specs.heads.Watches.{HasFailed}
+use Rattle.http_requests.specs.declared.heads.watch.Watch.{Watch}
 use Rattle.desk_history.specs.Calls.{History}
 use Rattle.desk_calls.specs.Answers.{Answers, IsClosed, no_memory, store_failed}
 use Rattle.desk_calls.specs.Desks.{Keeps as Stays, Views}

@@ -1,8 +1,8 @@
 -- own: what a request with a body calls the desk for.
 use Rattle.std.specs.Prelude.{ℕ, List, Option, Some, option_map}
-use Rattle.desk_bodies.specs.Bodies.{review_of, named_digest, unlist_of, level_of}
-use Rattle.desk_requests.specs.declared.ask.Asked.{Asked}
-use Rattle.desk_requests.specs.declared.ask.Asked.TheVariants as asked
+use Rattle.http_requests.specs.bodies.Bodies.{review_of, named_digest, unlist_of, level_of}
+use Rattle.http_requests.specs.declared.ask.Asked.{Asked}
+use Rattle.http_requests.specs.declared.ask.Asked.TheVariants as asked
 use Rattle.desk_calls.specs.declared.call.Task.{Task}
 use Rattle.desk_calls.specs.declared.call.Task.TheVariants as task
 

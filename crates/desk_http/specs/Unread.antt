@@ -1,9 +1,9 @@
 -- Why nothing is known of what a request asks for.
 use Rattle.std.specs.Prelude.{◌≡◌, ⊤, ℕ, List, Option, Some, None, Result, Ok, Err, IfSome, IsErr}
-use Rattle.desk_heads.specs.Watches.{HasFailed}
-use Rattle.desk_heads.specs.declared.watch.Watch.{Watch}
+use Rattle.http_requests.specs.heads.Watches.{HasFailed}
+use Rattle.http_requests.specs.declared.heads.watch.Watch.{Watch}
 use Rattle.desk_history.specs.Calls.{History}
-use Rattle.desk_responses.specs.declared.outage.Outage.TheVariants as outage
+use Rattle.http_responses.specs.declared.outage.Outage.TheVariants as outage
 use Rattle.desk_http.specs.Asked.{Asks, Due}
 use Rattle.desk_http.specs.declared.served.Unread.{Unread}
 use Rattle.desk_http.specs.declared.served.Unread.TheVariants as unread

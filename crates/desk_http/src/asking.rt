@@ -1,7 +1,7 @@
 //! What a person asks for with a body.
 ghost use Rattle.std.specs.Prelude.{◌≡◌, ◌≢◌, Err, IfErr, IfOk, IfSome, MatchResult, Ok, Some, false, true};
-ghost use Rattle.desk_requests.specs.Routes as routes;
-ghost use Rattle.desk_requests.specs.Wanted.{shown};
+ghost use Rattle.http_requests.specs.Routes as routes;
+ghost use Rattle.http_requests.specs.Wanted.{shown};
 ghost use Rattle.desk_http.specs.Asked as spec;
 ghost use Rattle.desk_http.specs.Bodies as bodies;
 ghost use Rattle.desk_http.specs.Unread.{HasCause, IsOwn};
@@ -11,10 +11,9 @@ use crate::image_reading::read_image;
 use crate::served::{Due, Unread};
 use crate::tasks::{task_with_body, task_with_image};
 use desk_calls::Call;
-use desk_heads::Watch;
-use desk_requests::{AskedFault, Wanted, asked};
-use desk_responses::{Outage, Refused};
 use desk_texts::Person;
+use http_requests::{AskedFault, Wanted, Watch, asked};
+use http_responses::{Outage, Refused};
 use pe_image::Pieces;
 use std::alloc::{AllocError, Global};
 use std::io::Read;

@@ -1,13 +1,13 @@
 //! A head, and a body that is no image.
 ghost use Rattle.std.specs.Prelude.{◌≡◌, IfErr, IfOk, IfSome};
-ghost use Rattle.desk_heads.specs.Watches as watches;
-ghost use Rattle.desk_heads.specs.declared.watch.Watch.{Watch as Watching};
+ghost use Rattle.http_requests.specs.heads.Watches as watches;
+ghost use Rattle.http_requests.specs.declared.heads.watch.Watch.{Watch as Watching};
 ghost use Rattle.desk_http.specs.Bodies.{body_in, items_of};
 ghost use Rattle.desk_http.specs.Unread.{HasCause, IsOfInput, IsOwn};
 
 use crate::served::Unread;
 use desk_bytes::InputFault;
-use desk_heads::{Watch, read_body};
+use http_requests::{Watch, read_body};
 use std::alloc::Global;
 use std::io::Read;
 

@@ -4,7 +4,7 @@ ghost use Rattle.desk_http.specs.Bodies.{body_in};
 ghost use Rattle.desk_http.specs.Unread.{HasCause, IsOwn};
 
 use crate::served::Unread;
-use desk_heads::Watch;
+use http_requests::Watch;
 use pe_image::{Pieces, Source};
 use std::alloc::Global;
 use std::io;

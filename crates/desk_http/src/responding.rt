@@ -2,9 +2,9 @@
 ghost use Rattle.std.specs.Prelude.{◌≡◌, IfOk, MatchOption, MatchResult, false};
 ghost use Rattle.std.specs.Io.KnownBytes.{Appends};
 ghost use Rattle.desk_bytes.specs.Output.{AppendsBeginning};
-ghost use Rattle.desk_responses.specs.Responses.{code_of, response_text};
-ghost use Rattle.desk_responses.specs.declared.content.Content.TheVariants.{Json};
-ghost use Rattle.desk_responses.specs.declared.status.Status.TheVariants as status;
+ghost use Rattle.http_responses.specs.Responses.{code_of, response_text};
+ghost use Rattle.http_responses.specs.declared.content.Content.TheVariants.{Json};
+ghost use Rattle.http_responses.specs.declared.status.Status.TheVariants as status;
 ghost use Rattle.desk_calls.specs.declared.answers.Answer.{Answer};
 ghost use Rattle.desk_http.specs.Responses as spec;
 ghost use Rattle.desk_http.specs.Sending as sending;
@@ -12,9 +12,9 @@ ghost use Rattle.desk_http.specs.Sending as sending;
 use crate::{HttpFault, Served};
 use desk_bytes::put;
 use desk_calls::Answer;
-use desk_json::{proposals_json, reply_json, request_json, requests_json, verdict_json};
-use desk_responses::{
-    Content, Outage, Refused, Status, outage_response, refused_response, response,
+use http_responses::{
+    Content, Outage, Refused, Status, outage_response, proposals_json, refused_response,
+    reply_json, request_json, requests_json, response, verdict_json,
 };
 use std::alloc::{AllocError, Global};
 use std::io::Write;

@@ -1,6 +1,6 @@
 //! What became of a connection.
 use desk_calls::Call;
-use desk_responses::{Outage, Refused};
+use http_responses::{Outage, Refused};
 
 /// What was served.
 #[derive(Clone, Copy, Debug, PartialEq, Eq)]

@@ -12,8 +12,8 @@ use crate::responding::send_answer;
 use crate::served::{Due, Unread};
 use crate::{HttpFault, Served};
 use desk_calls::{Answer, Answering, answer};
-use desk_heads::Watch;
-use desk_responses::{Outage, Refused};
+use http_requests::Watch;
+use http_responses::{Outage, Refused};
 use std::alloc::Global;
 use std::io::{Read, Write};
 

@@ -1,15 +1,15 @@
 //! What a request with a body calls the desk for.
 ghost use Rattle.std.specs.Prelude.{◌≡◌, IfOk, Some, false, true};
-ghost use Rattle.desk_bodies.specs.Bodies as bodies;
+ghost use Rattle.http_requests.specs.bodies.Bodies as bodies;
 ghost use Rattle.desk_http.specs.Bodies.{asks_with_image};
 ghost use Rattle.desk_http.specs.Tasks as spec;
 
-use desk_bodies::{
-    BodyFault, LevelBody, ReviewBody, UnlistBody, read_digest, read_level, read_review, read_unlist,
-};
 use desk_bytes::Digest;
 use desk_calls::{Octets, Task};
-use desk_requests::Asked;
+use http_requests::{
+    Asked, BodyFault, LevelBody, ReviewBody, UnlistBody, read_digest, read_level, read_review,
+    read_unlist,
+};
 use pe_image::Pieces;
 use std::alloc::{AllocError, Global};
 

@@ -1,3 +1,9 @@
+pub mod CsvLemmas
+pub mod GatheringLemmas
+pub mod RecordLemmas
+pub mod LevelLemmas
+pub mod ReadingLemmas
+pub mod TbsLemmas
 pub mod FirstLineLemmas
 pub mod PlacesLemmas
 pub mod TokenLemmas

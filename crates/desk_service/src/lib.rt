@@ -3,9 +3,11 @@
 
 mod collecting;
 mod fault;
+mod imports;
 mod part;
 mod token;
 
 pub use collecting::facts;
 pub use fault::FactsFault;
+pub use imports::{ImportFault, import_csv, import_dbx, import_is_one, import_level, tbs_is_read};
 pub use token::{is_token, read_token, token_digest};

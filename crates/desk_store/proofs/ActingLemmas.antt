@@ -4,7 +4,7 @@ use Rattle.std.proofs.lemmas.List.Elements.{All-cons}
 use Rattle.sqlite.specs.State.{State}
 use Rattle.desk_texts.specs.Formed.{IsCall}
 use Rattle.desk_texts.specs.declared.command.Call.{Call}
-use Rattle.desk_contents.specs.Contents.{contents}
+use Rattle.store_schema.specs.rows.Contents.{contents}
 use Rattle.desk_history.specs.Calls.{History, item}
 use Rattle.desk_history.specs.Formed.{IsHistory, IsItem}
 use Rattle.desk_history.specs.Replies.{minutes}
@@ -18,12 +18,12 @@ use Rattle.desk_rules.specs.Decisions as rules
 use Rattle.desk_rules.specs.Shown.{Shows}
 use Rattle.desk_rules.specs.declared.view.Changes.{Changes as Decided}
 use Rattle.desk_rules.specs.declared.view.View.{View}
-use Rattle.desk_sizes.specs.Sizes.{AreRight, Follows}
-use Rattle.desk_sizes.specs.declared.kept.KeptSizes.{KeptSizes}
-use Rattle.desk_sql.specs.States.{Changes, Sees}
-use Rattle.desk_statements.specs.Tables.{desk_schema}
+use Rattle.store_views.specs.sizes.Sizes.{AreRight, Follows}
+use Rattle.store_views.specs.declared.sizes.kept.KeptSizes.{KeptSizes}
+use Rattle.store_sql.specs.States.{Changes, Sees}
+use Rattle.store_schema.specs.Tables.{desk_schema}
 use Rattle.desk_store.specs.Acts.{Acts}
-use Rattle.desk_contents.specs.Histories.{rows_of}
+use Rattle.store_schema.specs.rows.Histories.{rows_of}
 use Rattle.desk_store.specs.Pasts.{Past, before}
 
 no_items : {X : Type 0} (xs : List X) → length xs ≡ 0 → xs ≡ []

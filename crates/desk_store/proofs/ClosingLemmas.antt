@@ -15,11 +15,11 @@ use Rattle.sqlite_trees.specs.View.{IsClean, IsQuiet}
 use Rattle.sqlite_trees.specs.declared.error.StoreError.TheVariants.{OutOfMemory, Io, Corrupt, Full, Broken, Unstorable}
 use Rattle.sqlite_wal.specs.Reads.{AreClean}
 use Rattle.desk_bytes.specs.declared.refusal.Refusal.TheVariants as refusals
-use Rattle.desk_contents.specs.Histories.{HoldsHistory, rows_of}
-use Rattle.desk_sql.proofs.StopLemmas.{committed_tables}
-use Rattle.desk_statements.specs.Tables.{desk_schema}
+use Rattle.store_schema.specs.rows.Histories.{HoldsHistory, rows_of}
+use Rattle.store_sql.proofs.StopLemmas.{committed_tables}
+use Rattle.store_schema.specs.Tables.{desk_schema}
 use Rattle.desk_history.specs.Calls.{History}
-use Rattle.desk_tables.specs.Faults.{fault_of, refusal_of}
+use Rattle.store_writes.specs.Faults.{fault_of, refusal_of}
 use Rattle.desk_store.specs.Closed.{AreClosed, OpenAgain}
 use Rattle.desk_store.specs.Desks.{ShowsDesk}
 use Rattle.desk_store.specs.declared.desk.Desk.{Desk}

@@ -10,13 +10,13 @@ use Rattle.sqlite.proofs.Callers.{survives_begin}
 use Rattle.desk_texts.specs.declared.command.Call.{Call}
 use Rattle.desk_history.specs.Calls.{History}
 use Rattle.desk_history.specs.Runs.{is_accepted}
-use Rattle.desk_sizes.specs.declared.kept.KeptSizes.{KeptSizes}
-use Rattle.desk_sql.specs.Contents.{AreTablesOf}
-use Rattle.desk_sql.proofs.CommitLemmas.{undone_shows}
-use Rattle.desk_sql.proofs.StopLemmas.{holds_all, shows_all, tables_of}
-use Rattle.desk_statements.specs.Tables.{desk_schema}
+use Rattle.store_views.specs.declared.sizes.kept.KeptSizes.{KeptSizes}
+use Rattle.store_sql.specs.Contents.{AreTablesOf}
+use Rattle.store_sql.proofs.CommitLemmas.{undone_shows}
+use Rattle.store_sql.proofs.StopLemmas.{holds_all, shows_all, tables_of}
+use Rattle.store_schema.specs.Tables.{desk_schema}
 use Rattle.desk_store.specs.Acts.{Acts, Answers, LeavesNext, Runs}
-use Rattle.desk_contents.specs.Histories.{ShowsHistory, rows_of}
+use Rattle.store_schema.specs.rows.Histories.{ShowsHistory, rows_of}
 use Rattle.desk_store.specs.Pasts.{Past, after, before}
 use Rattle.desk_store.specs.declared.acting.Acted.{Acted}
 use Rattle.desk_store.proofs.ActingLemmas.{next_same}

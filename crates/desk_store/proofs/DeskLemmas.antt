@@ -8,11 +8,11 @@ use Rattle.desk_texts.specs.declared.command.Call.{Call}
 use Rattle.desk_history.specs.Calls.{History}
 use Rattle.desk_history.specs.Runs.{answer, is_accepted, next}
 use Rattle.desk_history.specs.Tables.{tables}
-use Rattle.desk_sizes.specs.Sizes.{AreRight}
-use Rattle.desk_sql.specs.States.{Leaves}
+use Rattle.store_views.specs.sizes.Sizes.{AreRight}
+use Rattle.store_sql.specs.States.{Leaves}
 use Rattle.desk_store.specs.Acts.{LeavesNext, Runs}
 use Rattle.desk_store.specs.Desks.{ShowsDesk}
-use Rattle.desk_contents.specs.Histories.{HoldsHistory, HoldsLeft, LeavesHistory, ShowsHistory}
+use Rattle.store_schema.specs.rows.Histories.{HoldsHistory, HoldsLeft, LeavesHistory, ShowsHistory}
 use Rattle.desk_store.specs.Pasts.{Past}
 use Rattle.desk_store.specs.declared.acting.Acted.{Acted}
 use Rattle.desk_store.specs.declared.desk.Desk.{Desk}

@@ -8,12 +8,12 @@ use Rattle.sqlite.specs.State as states
 use Rattle.sqlite.specs.State.{State, HasCleanDisk, KeepsCommit, Survives}
 use Rattle.sqlite.proofs.StateLemmas.{survives_then}
 use Rattle.sqlite.proofs.Callers.{survives_begin}
-use Rattle.desk_sql.specs.Contents.{Holds, no_rows}
-use Rattle.desk_sql.specs.States.{Makes, Sees, Turns}
-use Rattle.desk_sql.proofs.ContentLemmas.{database_of}
-use Rattle.desk_sql.proofs.StopLemmas.{tables_of}
-use Rattle.desk_statements.specs.Tables.{defined, desk_schema, desk_tables, no_schema}
-use Rattle.desk_contents.specs.Histories.{HoldsHistory, ShowsHistory, rows_of}
+use Rattle.store_sql.specs.Contents.{Holds, no_rows}
+use Rattle.store_sql.specs.States.{Makes, Sees, Turns}
+use Rattle.store_sql.proofs.ContentLemmas.{database_of}
+use Rattle.store_sql.proofs.StopLemmas.{tables_of}
+use Rattle.store_schema.specs.Tables.{defined, desk_schema, desk_tables, no_schema}
+use Rattle.store_schema.specs.rows.Histories.{HoldsHistory, ShowsHistory, rows_of}
 use Rattle.desk_store.specs.Steps.{Founds}
 
 pub founds : (first mid new : State) (owner : List ℕ) → Makes first mid no_schema desk_schema (map defined desk_tables)

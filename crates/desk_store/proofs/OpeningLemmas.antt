@@ -17,17 +17,17 @@ use Rattle.sqlite.specs.State.{State, HasCleanDisk, IsNotRun, IsUnchanged, Keeps
 use Rattle.sqlite_trees.specs.declared.error.StoreError.{StoreError}
 use Rattle.sqlite_trees.specs.declared.error.StoreError.TheVariants.{OutOfMemory, Io, Corrupt, Full, Broken, Unstorable}
 use Rattle.sqlite_resolve.specs.declared.error.CompileError.{CompileError}
-use Rattle.desk_sql.specs.Contents.{Contents, Holds}
-use Rattle.desk_sql.specs.Effects.{IsSelected, Selects}
-use Rattle.desk_sql.specs.Meanings.{SelectsRows}
+use Rattle.store_sql.specs.Contents.{Contents, Holds}
+use Rattle.store_sql.specs.Effects.{IsSelected, Selects}
+use Rattle.store_sql.specs.Meanings.{SelectsRows}
 use Rattle.desk_bytes.specs.declared.refusal.Refusal.{Refusal}
 use Rattle.desk_bytes.specs.declared.refusal.Refusal.TheVariants as refusals
-use Rattle.desk_sql.specs.States.{Leaves, Sees}
+use Rattle.store_sql.specs.States.{Leaves, Sees}
 use Rattle.sqlite.specs.Tree.{Trees}
-use Rattle.desk_statements.specs.Columns.{by_first, columns_after, names_of}
-use Rattle.desk_statements.specs.Tables.{desk}
-use Rattle.desk_statements.specs.declared.selecting.TheConstants.{SELECT_DESK}
-use Rattle.desk_statements.proofs.SelectFacts.{select_desk, select_first_desk}
+use Rattle.store_schema.specs.Columns.{by_first, columns_after, names_of}
+use Rattle.store_schema.specs.Tables.{desk}
+use Rattle.store_schema.specs.declared.selecting.TheConstants.{SELECT_DESK}
+use Rattle.store_schema.proofs.SelectFacts.{select_desk, select_first_desk}
 use Rattle.desk_store.specs.Rows.{AreOf, AreOfNone, ReadsAs, desk_columns}
 use Rattle.desk_store.specs.Steps.{AreShownAs, AreShownAsNone, IsDeskSchema, ReadsInside, RefusesColumns, RefusesText, SeesRows, ShowsRows, TellsOpen, UnreadInside}
 

@@ -2,8 +2,8 @@
 use Rattle.sqlite.specs.State.{State}
 use Rattle.desk_history.specs.Calls.{History}
 use Rattle.desk_history.specs.Tables.{Tables, tables}
-use Rattle.desk_reads.specs.Reads.{Tells}
-use Rattle.desk_shown.specs.Telling.{TellsOf}
+use Rattle.store_reads.specs.Reads.{Tells}
+use Rattle.store_requests.specs.Telling.{TellsOf}
 use Rattle.desk_store.specs.Questions.{Answers}
 
 pub of_tables : (old new : State) (P : Tables → Type 0) → Tells P old new → Answers (λ owner cs. P (tables owner cs)) old new

@@ -9,11 +9,11 @@ use Rattle.sqlite_catalog.specs.Listing.{AreListed}
 use Rattle.sqlite_trees.specs.Objects.{catalog_tree}
 use Rattle.desk_bytes.specs.declared.refusal.Refusal.{Refusal}
 use Rattle.desk_bytes.specs.declared.refusal.Refusal.TheVariants as refusals
-use Rattle.desk_reads.specs.Failures.{IsFailure}
+use Rattle.store_reads.specs.Failures.{IsFailure}
 use Rattle.desk_store.specs.Steps.{IsReadRefusal}
-use Rattle.desk_sql.specs.Contents.{AreTablesOf, Contents}
-use Rattle.desk_sql.specs.States.{Shows}
-use Rattle.desk_sql.proofs.ContentLemmas.{catalog_of}
+use Rattle.store_sql.specs.Contents.{AreTablesOf, Contents}
+use Rattle.store_sql.specs.States.{Shows}
+use Rattle.store_sql.proofs.ContentLemmas.{catalog_of}
 
 -- a connection shows the tables of its last commit: their catalog lists their schema, and so no other
 pub shown_by_catalog : (s : State) (schema : Schema) (c : Contents) → schema.views ≡ []

@@ -20,10 +20,10 @@ use Rattle.std.specs.Prelude.{IfSome}
 use Rattle.std.proofs.lemmas.List.Folds.{list_all-append}
 use Rattle.desk_history.specs.Calls.{History, Second}
 use Rattle.desk_history.specs.Lives.{Life, NotOpened, is_opened_by_second}
-use Rattle.desk_sql.specs.Contents.{AreTablesOf, Contents}
-use Rattle.desk_sql.specs.States.{Leaves, Shows}
-use Rattle.desk_statements.specs.Tables.{desk_schema, first_schema}
-use Rattle.desk_contents.specs.Histories.{HoldsFirst, HoldsHistory, ShowsFirst, ShowsHistory, first_rows_of, rows_of}
+use Rattle.store_sql.specs.Contents.{AreTablesOf, Contents}
+use Rattle.store_sql.specs.States.{Leaves, Shows}
+use Rattle.store_schema.specs.Tables.{desk_schema, first_schema}
+use Rattle.store_schema.specs.rows.Histories.{HoldsFirst, HoldsHistory, ShowsFirst, ShowsHistory, first_rows_of, rows_of}
 use Rattle.desk_store.specs.Living.{and_refused}
 use Rattle.desk_store.specs.Reopening.{FilesHold, FoundAgain, HoldsEither, LeavesLives, Seen, none_by_second}
 use Rattle.desk_store.specs.Steps.{Brings}

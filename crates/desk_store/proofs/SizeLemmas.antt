@@ -1,8 +1,8 @@
 -- Sizes of tables that aren't known.
 use Rattle.std.proofs.Common.{sym, ◌∙◌}
 use Rattle.desk_history.specs.Tables.{Tables}
-use Rattle.desk_sizes.specs.declared.kept.KeptSizes.{KeptSizes}
-use Rattle.desk_sizes.specs.Sizes.{AreRight, IsUnknown}
+use Rattle.store_views.specs.declared.sizes.kept.KeptSizes.{KeptSizes}
+use Rattle.store_views.specs.sizes.Sizes.{AreRight, IsUnknown}
 
 pub unknown_are_right : (k : KeptSizes) (t : Tables) → IsUnknown k → AreRight k t
 unknown_are_right k t unknown = record {

@@ -12,15 +12,15 @@ use Rattle.desk_history.specs.Calls.{History}
 use Rattle.desk_history.specs.Formed.{IsHistory}
 use Rattle.desk_history.specs.Level.{stamp}
 use Rattle.desk_history.specs.Tables.{tables}
-use Rattle.desk_reads.specs.Failures.{IsFailure}
-use Rattle.desk_sql.specs.Contents.{Contents}
-use Rattle.desk_sql.specs.States.{Shows}
-use Rattle.desk_statements.specs.Tables.{desk_schema, first_schema}
-use Rattle.desk_contents.specs.Values.{desk_values}
-use Rattle.desk_contents.specs.Histories.{ShowsFirst, ShowsHistory, first_rows_of, rows_of}
-use Rattle.desk_migration.specs.Migrations.{KeepsShown, Migrates}
-use Rattle.desk_migration.specs.Names.{takes_a_name}
-use Rattle.desk_migration.proofs.NameLemmas.{none_taken}
+use Rattle.store_reads.specs.Failures.{IsFailure}
+use Rattle.store_sql.specs.Contents.{Contents}
+use Rattle.store_sql.specs.States.{Shows}
+use Rattle.store_schema.specs.Tables.{desk_schema, first_schema}
+use Rattle.store_schema.specs.rows.Values.{desk_values}
+use Rattle.store_schema.specs.rows.Histories.{ShowsFirst, ShowsHistory, first_rows_of, rows_of}
+use Rattle.store_migration.specs.Migrations.{KeepsShown, Migrates}
+use Rattle.store_migration.specs.Names.{takes_a_name}
+use Rattle.store_migration.proofs.NameLemmas.{none_taken}
 use Rattle.desk_store.specs.Rows.{AreOf, desk_columns}
 use Rattle.desk_store.specs.Steps.{AreShownAs, AreShownFree, AreShownTaken, Brings, FindsNone, FindsOther, IsReadRefusal}
 use Rattle.desk_store.proofs.StampLemmas.{stamp_is_formed}

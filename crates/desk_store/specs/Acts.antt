@@ -8,11 +8,11 @@ use Rattle.desk_history.specs.Runs.{answer, is_accepted, next}
 use Rattle.desk_history.specs.Tables.{tables}
 use Rattle.desk_history.specs.declared.answer.Answer.{Answer}
 use Rattle.desk_history.specs.declared.answer.Answer.TheVariants.{Accepted, Refused, Repeated}
-use Rattle.desk_sizes.specs.Sizes.{AreRight}
-use Rattle.desk_sizes.specs.declared.kept.KeptSizes.{KeptSizes}
-use Rattle.desk_sql.specs.States.{Sees, Turns}
-use Rattle.desk_statements.specs.Tables.{desk_schema}
-use Rattle.desk_contents.specs.Histories.{HoldsHistory, ShowsHistory}
+use Rattle.store_views.specs.sizes.Sizes.{AreRight}
+use Rattle.store_views.specs.declared.sizes.kept.KeptSizes.{KeptSizes}
+use Rattle.store_sql.specs.States.{Sees, Turns}
+use Rattle.store_schema.specs.Tables.{desk_schema}
+use Rattle.store_schema.specs.rows.Histories.{HoldsHistory, ShowsHistory}
 use Rattle.desk_store.specs.Pasts.{Past, after, before}
 use Rattle.desk_store.specs.declared.acting.Acted.{Acted}
 

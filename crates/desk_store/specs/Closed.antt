@@ -10,7 +10,7 @@ use Rattle.sqlite_store.specs.declared.store.FileStore.{FileStore}
 use Rattle.sqlite_wal.specs.Files.{outcomes}
 use Rattle.sqlite_wal.specs.Recovery.{Image}
 use Rattle.desk_history.specs.Calls.{History}
-use Rattle.desk_contents.specs.Histories.{HoldsHistory}
+use Rattle.store_schema.specs.rows.Histories.{HoldsHistory}
 
 -- the log and the database file hold the tables of the history, and so does the database file without the log
 pub record HoldsClosed (image : Image) (owner : List ℕ) (cs : History) : Type 0 where

@@ -12,10 +12,10 @@ use Rattle.desk_history.specs.Formed.{IsHistory}
 use Rattle.desk_history.specs.Runs.{answer, is_accepted, next, reply_in}
 use Rattle.desk_history.specs.Tables.{tables}
 use Rattle.desk_history.specs.declared.answer.Answer.TheVariants.{Refused}
-use Rattle.desk_sizes.specs.Sizes.{AreRight}
-use Rattle.desk_sql.specs.States.{Leaves, Spares}
+use Rattle.store_views.specs.sizes.Sizes.{AreRight}
+use Rattle.store_sql.specs.States.{Leaves, Spares}
 use Rattle.desk_store.specs.declared.desk.Desk.{Desk}
-use Rattle.desk_contents.specs.Histories.{HoldsLeft, LeavesHistory, ShowsHistory}
+use Rattle.store_schema.specs.rows.Histories.{HoldsLeft, LeavesHistory, ShowsHistory}
 
 -- The desk answers for a history: it is one that a desk may have, the connection shows its tables, what the
 -- desk keeps of their sizes is right, and a stop leaves them.

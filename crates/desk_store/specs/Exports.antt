@@ -4,7 +4,7 @@ use Rattle.std.specs.Io.KnownBytes.{Appends}
 use Rattle.sqlite.specs.Store.{Ghosts}
 use Rattle.desk_bytes.specs.Output.{AppendsBeginning}
 use Rattle.desk_history.specs.Calls.{History}
-use Rattle.desk_sql.specs.States.{Spares}
+use Rattle.store_sql.specs.States.{Spares}
 use Rattle.desk_store.specs.Desks.{ShowsDesk}
 use Rattle.desk_store.specs.declared.desk.Desk.{Desk}
 

@@ -5,10 +5,10 @@ use Rattle.desk_history.specs.Calls.{History}
 use Rattle.desk_history.specs.Formed.{IsHistory}
 use Rattle.desk_history.specs.Runs.{next}
 use Rattle.desk_history.specs.Tables.{tables}
-use Rattle.desk_contents.specs.Histories.{rows_of}
-use Rattle.desk_sizes.specs.Sizes.{AreRight}
-use Rattle.desk_sizes.specs.declared.kept.KeptSizes.{KeptSizes}
-use Rattle.desk_sql.specs.Contents.{Contents}
+use Rattle.store_schema.specs.rows.Histories.{rows_of}
+use Rattle.store_views.specs.sizes.Sizes.{AreRight}
+use Rattle.store_views.specs.declared.sizes.kept.KeptSizes.{KeptSizes}
+use Rattle.store_sql.specs.Contents.{Contents}
 
 -- A history that the tables may stand for, with the desk's owner: a desk may have it, and what is known of its tables'
 -- sizes is right.

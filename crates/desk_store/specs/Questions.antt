@@ -1,12 +1,12 @@
 -- What answers a question about a desk's history.
 use Rattle.std.specs.Prelude.{ℕ, List}
 use Rattle.sqlite.specs.State.{State}
-use Rattle.desk_contents.specs.Contents.{contents}
-use Rattle.desk_contents.specs.Histories.{rows_of}
+use Rattle.store_schema.specs.rows.Contents.{contents}
+use Rattle.store_schema.specs.rows.Histories.{rows_of}
 use Rattle.desk_history.specs.Calls.{History}
 use Rattle.desk_history.specs.Formed.{IsHistory}
-use Rattle.desk_sql.specs.States.{Changes, Sees}
-use Rattle.desk_statements.specs.Tables.{desk_schema}
+use Rattle.store_sql.specs.States.{Changes, Sees}
+use Rattle.store_schema.specs.Tables.{desk_schema}
 
 -- Nothing changes, and this is told of each history that a desk may have and whose tables the store holds, with the owner.
 pub record Answers (told : List ℕ → History → Type 0) (old new : State) : Type 0 where

@@ -18,8 +18,8 @@ use Rattle.desk_history.specs.Formed.{IsItem}
 use Rattle.desk_history.specs.Lives.{Ends, Event, Life, MayLeave, events_of, is_opened_by_second}
 use Rattle.desk_history.specs.Verdicts.{is_barred, verdict}
 use Rattle.desk_history.specs.declared.finding.Verdict.TheVariants.{Allowed}
-use Rattle.desk_sql.specs.States.{Leaves}
-use Rattle.desk_contents.specs.Histories.{HoldsFirst, HoldsHistory}
+use Rattle.store_sql.specs.States.{Leaves}
+use Rattle.store_schema.specs.rows.Histories.{HoldsFirst, HoldsHistory}
 use Rattle.desk_store.specs.Desks.{ShowsDesk}
 use Rattle.desk_store.specs.declared.desk.Desk.{Desk}
 

@@ -4,9 +4,9 @@ use Rattle.sqlite.specs.declared.types.Value.{Value}
 use Rattle.sqlite.specs.declared.types.Value.TheVariants.{Int, Text, Blob}
 use Rattle.sqlite.specs.Order.{Row}
 use Rattle.sbat.specs.Fields.{is_stamp}
-use Rattle.desk_sql.specs.Effects.{IsSelected}
-use Rattle.desk_statements.specs.Columns.{by_first, columns_after}
-use Rattle.desk_statements.specs.Tables.{desk}
+use Rattle.store_sql.specs.Effects.{IsSelected}
+use Rattle.store_schema.specs.Columns.{by_first, columns_after}
+use Rattle.store_schema.specs.Tables.{desk}
 
 -- own: the columns of the desk's row: id, mark, version, owner, stamp
 abbrev pub desk_columns : List ℕ → ℕ → ℕ → Row

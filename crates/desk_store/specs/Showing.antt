@@ -2,8 +2,8 @@
 use Rattle.std.specs.Prelude.{◌≡◌, ◌⊎◌}
 use Rattle.desk_bytes.specs.declared.refusal.Refusal.{Refusal}
 use Rattle.desk_bytes.specs.declared.refusal.Refusal.TheVariants as refusals
-use Rattle.desk_reads.specs.Failures.{IsFailure}
-use Rattle.desk_shown.specs.Telling.{IsRequestRefusal}
+use Rattle.store_reads.specs.Failures.{IsFailure}
+use Rattle.store_requests.specs.Telling.{IsRequestRefusal}
 
 -- own: the console asks, or the person isn't there, or the request isn't, or a device failed
 abbrev pub IsReadingRefusal : Refusal → Type 0

@@ -10,13 +10,13 @@ use Rattle.sqlite.specs.declared.error.Error.TheVariants.{SqlInputError}
 use Rattle.sqlite_resolve.specs.declared.error.CompileError.{CompileError}
 use Rattle.desk_bytes.specs.declared.refusal.Refusal.{Refusal}
 use Rattle.desk_bytes.specs.declared.refusal.Refusal.TheVariants as refusals
-use Rattle.desk_reads.specs.Failures.{IsFailure}
-use Rattle.desk_sql.specs.Contents.{Contents}
-use Rattle.desk_sql.specs.States.{Sees, Shows}
-use Rattle.desk_statements.specs.Tables.{desk_schema, first_schema, no_schema}
-use Rattle.desk_contents.specs.Histories.{rows_of}
-use Rattle.desk_migration.specs.Migrations.{Migrates}
-use Rattle.desk_migration.specs.Names.{takes_a_name}
+use Rattle.store_reads.specs.Failures.{IsFailure}
+use Rattle.store_sql.specs.Contents.{Contents}
+use Rattle.store_sql.specs.States.{Sees, Shows}
+use Rattle.store_schema.specs.Tables.{desk_schema, first_schema, no_schema}
+use Rattle.store_schema.specs.rows.Histories.{rows_of}
+use Rattle.store_migration.specs.Migrations.{Migrates}
+use Rattle.store_migration.specs.Names.{takes_a_name}
 use Rattle.desk_store.specs.Rows.{AreOf, AreOfNone}
 
 -- in a sound store without tables the desk's are made, with the rows of a desk without calls; nothing is committed

@@ -5,20 +5,19 @@ ghost use Rattle.sqlite.specs.State.{HasCleanDisk, Survives};
 ghost use Rattle.desk_history.specs.Calls.{History};
 ghost use Rattle.desk_history.specs.Runs as runs;
 ghost use Rattle.desk_rules.specs.Decisions.{called};
-ghost use Rattle.desk_sql.specs.States.{DoesInside, Keeps, Spares, StaysInside};
+ghost use Rattle.store_sql.specs.States.{DoesInside, Keeps, Spares, StaysInside};
 ghost use Rattle.desk_store.specs.Acts.{Acts, IsNamed, LeavesNext, Runs};
-ghost use Rattle.desk_contents.specs.Histories.{ShowsHistory};
-ghost use Rattle.desk_reads.specs.Failures.{IsFailure};
+ghost use Rattle.store_schema.specs.rows.Histories.{ShowsHistory};
+ghost use Rattle.store_reads.specs.Failures.{IsFailure};
 
 use desk_bytes::Refusal;
 use desk_history::Answer;
 use desk_rules::decide;
-use desk_sizes::KeptSizes;
-use desk_tables::{failed_commit, write_all};
 use desk_texts::{Caller, Command, Key, Reply};
-use desk_views::view;
 use sqlite::{Alter, Connection, Transaction};
 use std::alloc::Global;
+use store_views::{KeptSizes, view};
+use store_writes::{failed_commit, write_all};
 
 /// What became of a call: its answer, and how many rows the tables have after it, as far as that
 /// is known.

@@ -2,22 +2,22 @@
 ghost use Rattle.std.specs.Prelude.{◌≡◌, ◌≢◌, Err, filter, true, false, IfErr, IfOk, IsErrOf};
 ghost use Rattle.sqlite.specs.Held.{state};
 ghost use Rattle.sqlite.specs.State.{HasCleanDisk};
-ghost use Rattle.desk_counts.specs.Counts.{CountHistory};
+ghost use Rattle.store_counts.specs.Counts.{CountHistory};
 ghost use Rattle.desk_history.specs.People.{has_token, people};
 ghost use Rattle.desk_history.specs.Verdicts as verdicts;
-ghost use Rattle.desk_reads.specs.Failures.{IsFailure};
-ghost use Rattle.desk_reads.specs.Reads.{listed};
-ghost use Rattle.desk_sql.specs.States.{Spares};
+ghost use Rattle.store_reads.specs.Failures.{IsFailure};
+ghost use Rattle.store_reads.specs.Reads.{listed};
+ghost use Rattle.store_sql.specs.States.{Spares};
 ghost use Rattle.desk_store.specs.Desks.{KeepsDesk, Views};
 
 use crate::desk::Desk;
 use crate::questions::{HowMany, WhoHas};
 use desk_bytes::{Digest, Refusal};
-use desk_counts::{Counts, tables_count_their_history};
 use desk_history::Verdict;
 use desk_rules::verdict;
 use desk_texts::{Facts, Person};
 use sqlite::Alter;
+use store_counts::{Counts, tables_count_their_history};
 
 impl<S: Alter + Drop> Desk<S> {
     /// The person whose token has this SHA-256, if there is one. Takes memory for the row.

@@ -2,11 +2,11 @@
 ghost use Rattle.std.specs.Prelude.{◌≡◌, ◌≢◌, ℕ, List, Err, true, false, IfErr, IfOk, IsErrOf};
 ghost use Rattle.sqlite.specs.Held.{state};
 ghost use Rattle.sqlite.specs.State.{HasCleanDisk};
-ghost use Rattle.desk_contents.specs.Histories.{ShowsHistory};
+ghost use Rattle.store_schema.specs.rows.Histories.{ShowsHistory};
 ghost use Rattle.desk_history.specs.Calls.{History};
 ghost use Rattle.desk_history.specs.Formed.{IsHistory};
-ghost use Rattle.desk_reads.specs.Failures.{IsFailure};
-ghost use Rattle.desk_sql.specs.States.{DoesInside, Keeps, Spares, StaysInside};
+ghost use Rattle.store_reads.specs.Failures.{IsFailure};
+ghost use Rattle.store_sql.specs.States.{DoesInside, Keeps, Spares, StaysInside};
 ghost use Rattle.desk_store.specs.Desks.{KeepsDesk, Views};
 ghost use Rattle.desk_store.specs.Questions.{Answers};
 

@@ -7,18 +7,18 @@ ghost use Rattle.sqlite_disk.specs.Disk.{MoreFaults};
 ghost use Rattle.sqlite_store.specs.FileStore.{faults, is_shielded, recovers, view};
 ghost use Rattle.sqlite_trees.specs.View.{IsClean, IsQuiet};
 ghost use Rattle.sqlite_wal.specs.Reads.{AreClean};
-ghost use Rattle.desk_contents.specs.Histories.{HoldsHistory};
+ghost use Rattle.store_schema.specs.rows.Histories.{HoldsHistory};
 ghost use Rattle.desk_history.specs.Calls.{History};
-ghost use Rattle.desk_reads.specs.Failures.{IsFailure};
+ghost use Rattle.store_reads.specs.Failures.{IsFailure};
 ghost use Rattle.desk_store.specs.Closed.{AreClosed, OpenAgain};
 ghost use Rattle.desk_store.specs.Desks.{ShowsDesk};
-ghost use Rattle.desk_tables.specs.Faults.{fault_of, refusal_of};
+ghost use Rattle.store_writes.specs.Faults.{fault_of, refusal_of};
 
 use crate::desk::Desk;
 use desk_bytes::Refusal;
-use desk_tables::WriteFault;
 use sqlite::{Error, FileStore, Files};
 use sqlite_disk::Disk;
+use store_writes::WriteFault;
 
 /// What a failed close is refused.
 fn refusal_of_error(error: Error) -> Refusal

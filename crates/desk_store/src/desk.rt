@@ -5,20 +5,20 @@ ghost use Rattle.sqlite.specs.Held.{state};
 ghost use Rattle.sqlite.specs.State.{HasCleanDisk, Survives};
 ghost use Rattle.desk_history.specs.Calls.{History};
 ghost use Rattle.desk_history.specs.Formed.{IsHistory};
-ghost use Rattle.desk_statements.specs.Tables.{no_schema};
-ghost use Rattle.desk_sql.specs.States.{Spares};
+ghost use Rattle.store_schema.specs.Tables.{no_schema};
+ghost use Rattle.store_sql.specs.States.{Spares};
 ghost use Rattle.desk_history.specs.Tables.{tables};
-ghost use Rattle.desk_list_views.specs.Lists.{HoldsNoOther};
+ghost use Rattle.store_views.specs.lists.Lists.{HoldsNoOther};
 ghost use Rattle.desk_rules.specs.Decisions.{called};
 ghost use Rattle.desk_rules.specs.Shown.{Shows};
 ghost use Rattle.desk_rules.specs.Views.{ShowsLists, keys_of};
-ghost use Rattle.desk_views.specs.Named.{HoldsNoRowBeyond};
+ghost use Rattle.store_views.specs.Named.{HoldsNoRowBeyond};
 ghost use Rattle.desk_store.specs.Desks.{CommitsOnlyAccepted, IsCallRefusal, KeepsDesk, MayStop};
 ghost use Rattle.desk_store.specs.Desks.{Refuses, Replies, ShowsDesk, Views};
 ghost use Rattle.desk_store.specs.Reopening.{FindsADesk, Recovers};
-ghost use Rattle.desk_contents.specs.Histories.{HoldsHistory, LeavesHistory, ShowsFirst};
-ghost use Rattle.desk_contents.specs.Histories.{ShowsHistory};
-ghost use Rattle.desk_reads.specs.Failures.{IsFailure};
+ghost use Rattle.store_schema.specs.rows.Histories.{HoldsHistory, LeavesHistory, ShowsFirst};
+ghost use Rattle.store_schema.specs.rows.Histories.{ShowsHistory};
+ghost use Rattle.store_reads.specs.Failures.{IsFailure};
 ghost use Rattle.desk_store.specs.Steps.{Brings, FindsKnown, FindsNone, FindsOther, IsReadRefusal};
 
 use crate::acting::{run, told};
@@ -29,11 +29,11 @@ use crate::questions::{ListsFor, RowsFor};
 use desk_bytes::{Guid, Refusal};
 use desk_history::{keys_stand_once, lives_keep_what_was_answered};
 use desk_rules::{ListView, View};
-use desk_sizes::KeptSizes;
-use desk_sql::stop_leaves_what_is_shown;
 use desk_texts::{Caller, Command, Facts, Key, Reply};
 use sqlite::{Alter, Connection};
 use std::alloc::Global;
+use store_sql::stop_leaves_what_is_shown;
+use store_views::KeptSizes;
 
 /// A desk in a store. It keeps the connection, and how many rows its tables have, as far as it
 /// has counted them.

@@ -4,16 +4,16 @@ ghost use Rattle.std.specs.Prelude.{IfErr, IsErrOf, OnErr, OnOk};
 ghost use Rattle.sqlite.specs.Held.{state};
 ghost use Rattle.sqlite.specs.State.{HasCleanDisk};
 ghost use Rattle.desk_exports.specs.Exports.{exported};
-ghost use Rattle.desk_streams.specs.Faults.{IsExportFailure};
+ghost use Rattle.store_exports.specs.Faults.{IsExportFailure};
 ghost use Rattle.desk_store.specs.Desks.{KeepsDesk, Views};
 ghost use Rattle.desk_store.specs.Exports.{SparesDesk, Writes, WritesBeginning};
 
 use crate::desk::Desk;
 use desk_bytes::Refusal;
 use desk_exports::Export;
-use desk_streams::export;
 use sqlite::Alter;
 use std::io::Write;
+use store_exports::export;
 
 impl<S: Alter + Drop> Desk<S> {
     /// Writes an export. Each row is written as the store gives it. Takes memory for the desk's own row and for one row of

@@ -2,16 +2,16 @@
 ghost use Rattle.std.specs.Prelude.{◌≡◌, ◌≢◌, [], false, IfErr, IsTrue, OnOk};
 ghost use Rattle.sqlite.specs.Held.{state};
 ghost use Rattle.sqlite.specs.State.{HasCleanDisk, Survives};
-ghost use Rattle.desk_statements.specs.Tables.{no_schema};
-ghost use Rattle.desk_sql.specs.States.{Keeps, Spares, StaysInside};
-ghost use Rattle.desk_contents.specs.Histories.{HoldsHistory, ShowsHistory};
-ghost use Rattle.desk_reads.specs.Failures.{IsFailure};
+ghost use Rattle.store_schema.specs.Tables.{no_schema};
+ghost use Rattle.store_sql.specs.States.{Keeps, Spares, StaysInside};
+ghost use Rattle.store_schema.specs.rows.Histories.{HoldsHistory, ShowsHistory};
+ghost use Rattle.store_reads.specs.Failures.{IsFailure};
 ghost use Rattle.desk_store.specs.Steps.{Founds};
 
 use desk_bytes::{Guid, Refusal};
-use desk_statements::make;
-use desk_tables::{WriteFault, failed_commit, put_desk};
 use sqlite::{Alter, Connection, Transaction};
+use store_schema::make;
+use store_writes::{WriteFault, failed_commit, put_desk};
 
 /// Whether the store has no table, index or view.
 pub(crate) fn has_no_tables<S: Alter>(conn: &Connection<S>) -> bool

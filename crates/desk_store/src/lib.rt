@@ -16,6 +16,6 @@ mod restarting;
 mod showing;
 
 pub use desk::Desk;
-pub use desk_counts::{Counts, KindCounts, ListCounts, RequestCounts};
 pub use living::{calls_make_lives, openings_begin_lives};
 pub use restarting::{reopen, restart};
+pub use store_counts::{Counts, KindCounts, ListCounts, RequestCounts};

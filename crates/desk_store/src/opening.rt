@@ -6,23 +6,22 @@ ghost use Rattle.sqlite.specs.State.{HasCleanDisk, IsUnchanged, Survives};
 ghost use Rattle.sqlite.specs.declared.types.Value.TheVariants.{Blob, Int, Text};
 ghost use Rattle.sqlite_value.specs.Order.{column};
 ghost use Rattle.desk_history.specs.Calls.{History};
-ghost use Rattle.desk_sql.specs.States.{Keeps, Spares};
-ghost use Rattle.desk_contents.specs.Histories.{HoldsFirst, HoldsHistory, ShowsFirst, ShowsHistory};
-ghost use Rattle.desk_migration.specs.Migrations.{KeepsShown};
+ghost use Rattle.store_sql.specs.States.{Keeps, Spares};
+ghost use Rattle.store_schema.specs.rows.Histories.{HoldsFirst, HoldsHistory, ShowsFirst, ShowsHistory};
+ghost use Rattle.store_migration.specs.Migrations.{KeepsShown};
 ghost use Rattle.desk_store.specs.Rows.{IsGuid, ReadsAs};
 ghost use Rattle.desk_store.specs.Steps.{AreShownAs, AreShownAsNone, Brings, FindsKnown, FindsNone};
 ghost use Rattle.desk_store.specs.Steps.{FindsOther, IsReadRefusal, ReadsInside, RefusesColumns};
 ghost use Rattle.desk_store.specs.Steps.{RefusesText, TellsOpen, UnreadInside};
 
 use desk_bytes::Refusal;
-use desk_catalog::catalog_lists_one_schema;
-use desk_migration::migrate;
-use desk_sql::select;
-use desk_statements::SELECT_DESK;
-use desk_tables::{VERSION, WriteFault};
 use sbat::Stamp;
 use sqlite::types::ValueRef;
 use sqlite::{Alter, Connection, Error, Row, Transaction};
+use store_migration::migrate;
+use store_schema::SELECT_DESK;
+use store_sql::{catalog_lists_one_schema, select};
+use store_writes::{VERSION, WriteFault};
 
 /// The mark by which the file of a desk is known.
 const MARK: &str = "boot-desk";

@@ -1,34 +1,32 @@
 //! The questions that a desk is asked.
 ghost use Rattle.std.specs.Prelude.{◌≡◌, ⊤, filter, map, IfErr};
-ghost use Rattle.desk_counts.specs.Counts.{CountTables};
+ghost use Rattle.store_counts.specs.Counts.{CountTables};
 ghost use Rattle.desk_history.specs.People.{has_token};
 ghost use Rattle.desk_history.specs.Shown.{AreShown, GivesRequest, IsGiven, requests_for};
 ghost use Rattle.desk_history.specs.Shown.{proposals_for, shown_proposal};
 ghost use Rattle.desk_history.specs.Tables.{tables};
-ghost use Rattle.desk_list_views.specs.Lists.{HoldsNoOther};
-ghost use Rattle.desk_reads.specs.Reads.{listed};
+ghost use Rattle.store_views.specs.lists.Lists.{HoldsNoOther};
+ghost use Rattle.store_reads.specs.Reads.{listed};
 ghost use Rattle.desk_rules.specs.Decisions.{called};
 ghost use Rattle.desk_rules.specs.Shown.{Shows};
 ghost use Rattle.desk_rules.specs.Views.{ShowsLists, keys_of};
-ghost use Rattle.desk_shown.specs.Telling.{IsOfficerRefusal, IsReaderRefusal, IsRequestRefusal};
-ghost use Rattle.desk_sizes.specs.Sizes.{AreRight};
+ghost use Rattle.store_requests.specs.Telling.{IsOfficerRefusal, IsReaderRefusal, IsRequestRefusal};
+ghost use Rattle.store_views.specs.sizes.Sizes.{AreRight};
 ghost use Rattle.desk_texts.specs.declared.caller.Caller.TheVariants as callers;
-ghost use Rattle.desk_views.specs.Named.{HoldsNoRowBeyond};
+ghost use Rattle.store_views.specs.Named.{HoldsNoRowBeyond};
 
 use crate::asking::Question;
 use desk_bytes::{Digest, Refusal};
-use desk_counts::{Counts, counts};
-use desk_list_views::list_view;
-use desk_reads::person_of_token;
 use desk_rules::{ListView, View};
-use desk_shown::{proposals_of, request, requests_of};
-use desk_sizes::KeptSizes;
 use desk_texts::{
     Caller, Command, Facts, Key, Person, PersonName, Proposal, RequestNumber, ShownRequest,
 };
-use desk_views::view;
 use sqlite::{Alter, Transaction};
 use std::alloc::Global;
+use store_counts::{Counts, counts};
+use store_reads::person_of_token;
+use store_requests::{proposals_of, request, requests_of};
+use store_views::{KeptSizes, list_view, view};
 
 /// Who has the token of this SHA-256?
 #[derive(Drop)]

@@ -12,10 +12,10 @@ ghost use Rattle.desk_store.specs.Steps.{IsReadRefusal};
 use crate::desk::Desk;
 use crate::opening::found_is_shown;
 use desk_bytes::Refusal;
-use desk_sql::stop_leaves_what_is_shown;
 use sqlite::{Connection, FileStore, Files, Options};
 use sqlite_disk::{Crash, Disk};
 use std::alloc::Global;
+use store_sql::stop_leaves_what_is_shown;
 
 /// The files of a desk's store at which the machine stops: of each stands there what its disk leaves.
 fn crashed<D: Crash + Drop>(conn: Connection<FileStore<D>>) -> Files<D>

@@ -5,7 +5,7 @@ ghost use Rattle.sqlite.specs.Held.{state};
 ghost use Rattle.sqlite.specs.State.{HasCleanDisk};
 ghost use Rattle.desk_history.specs.Shown.{AreShown, IsShown, request_for, requests_for};
 ghost use Rattle.desk_history.specs.Shown.{proposals_for, shown_proposal};
-ghost use Rattle.desk_sql.specs.States.{Spares};
+ghost use Rattle.store_sql.specs.States.{Spares};
 ghost use Rattle.desk_store.specs.Desks.{KeepsDesk, Views};
 ghost use Rattle.desk_store.specs.Showing.{IsReadingRefusal};
 

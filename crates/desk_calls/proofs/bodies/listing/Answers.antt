@@ -1,5 +1,5 @@
 use Rattle.std.proofs.Common.{◌≡◌, ℕ, List, length, None, nat_lt, false, rules, tests, sym, subst}
-use Rattle.desk_imports.specs.FromLists.{tbs_of}
+use Rattle.desk_service.specs.imports.FromLists.{tbs_of}
 use Rattle.desk_bytes.specs.Elements.{IsCertificate}
 use Rattle.desk_calls.proofs.BodyLemmas.{lists_none, no_tbs}
 use Rattle.desk_calls.proofs.bodies.listing.Goals as goal

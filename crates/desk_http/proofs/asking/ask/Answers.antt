@@ -1,6 +1,6 @@
 use Rattle.std.proofs.Common.{rules}
 use Rattle.std.proofs.Common.{rules, ◌≡◌, Err, IfErr, IfOk, IfSome, MatchResult, Ok, Some, false, true, ℕ, ◌+◌, ◌-◌, ◌*◌, ◌<◌, ◌≤◌, length, ◌/◌, ◌%◌, Bool, nat_eq, nat_lt, List, [], ◌∷◌, ◌++◌, slice_index_or, slice_set, bit_and, bit_or, Fits, w8, w32, w64, Bor, MutBor}
-use Rattle.desk_requests.specs.Wanted.{shown}
+use Rattle.http_requests.specs.Wanted.{shown}
 use Rattle.desk_http.specs.Asked as spec
 use Rattle.desk_http.specs.Bodies as bodies
 use Rattle.desk_http.specs.Unread.{CanCome}

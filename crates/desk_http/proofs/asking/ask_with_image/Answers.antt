@@ -1,5 +1,5 @@
 use Rattle.std.proofs.Common.{◌∙◌}
-use Rattle.desk_requests.specs.Wanted.{shown}
+use Rattle.http_requests.specs.Wanted.{shown}
 use Rattle.desk_http.proofs.AskLemmas.{asks_as_its_route}
 use Rattle.desk_http.proofs.asking.ask_with_image.Goals as goal
 

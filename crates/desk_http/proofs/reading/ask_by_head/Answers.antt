@@ -1,5 +1,5 @@
-use Rattle.desk_heads.specs.Fields.{parts_of}
-use Rattle.desk_requests.specs.Wanted.{shown, wanted_of}
+use Rattle.http_requests.specs.heads.Fields.{parts_of}
+use Rattle.http_requests.specs.Wanted.{shown, wanted_of}
 use Rattle.desk_http.proofs.ClosedLemmas.{closed_ask}
 use Rattle.desk_http.proofs.InputLemmas.{refused_is_due, wanted_is_due}
 use Rattle.desk_http.proofs.reading.ask_by_head.Goals as goal

@@ -1,5 +1,5 @@
 use Rattle.std.proofs.Common.{refl, sym, inl, inr, ◌∙◌}
-use Rattle.desk_responses.specs.declared.refused.Refused.TheVariants.{Unavailable}
+use Rattle.http_responses.specs.declared.refused.Refused.TheVariants.{Unavailable}
 use Rattle.desk_calls.specs.Answers.{no_memory}
 use Rattle.desk_calls.specs.declared.answers.Answer.TheVariants.{Refused}
 use Rattle.desk_http.proofs.SendLemmas.{sends_response}

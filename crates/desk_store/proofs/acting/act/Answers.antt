@@ -2,13 +2,13 @@ use Rattle.std.proofs.Common.{◌≡◌, ◌≢◌, inl, inr, rules, refl, subst
 use Rattle.sqlite.specs.Held.{state}
 use Rattle.sqlite.specs.State.{HasCleanDisk}
 use Rattle.desk_bytes.specs.declared.refusal.Refusal.TheVariants as refusals
-use Rattle.desk_contents.specs.Contents.{contents}
+use Rattle.store_schema.specs.rows.Contents.{contents}
 use Rattle.desk_history.specs.Writes.{all_written}
 use Rattle.desk_history.specs.declared.answer.Answer.TheVariants.{Refused, Repeated}
 use Rattle.desk_rules.specs.Decisions.{called}
-use Rattle.desk_sizes.specs.Sizes.{Follows}
-use Rattle.desk_sql.specs.States.{Changes}
-use Rattle.desk_statements.specs.Tables.{desk_schema}
+use Rattle.store_views.specs.sizes.Sizes.{Follows}
+use Rattle.store_sql.specs.States.{Changes}
+use Rattle.store_schema.specs.Tables.{desk_schema}
 use Rattle.desk_store.proofs.ActingLemmas.{Viewed, acts_accepted, acts_not, repeats}
 use Rattle.desk_store.proofs.acting.act.Goals as goal
 

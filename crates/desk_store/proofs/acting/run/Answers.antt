@@ -5,11 +5,11 @@ use Rattle.desk_rules.specs.Decisions.{called}
 use Rattle.desk_history.specs.Runs.{is_accepted}
 use Rattle.desk_store.specs.Acts.{Acts, LeavesNext, Runs}
 use Rattle.sqlite.specs.Steps.{FailsToCommit}
-use Rattle.desk_sql.proofs.CommitLemmas.{and_then, leaves_more, open_spares, rolled_back, through, unchanged_shows, undone_shows}
-use Rattle.desk_statements.specs.Tables.{desk_schema}
-use Rattle.desk_contents.specs.Histories.{rows_of}
-use Rattle.desk_tables.specs.Faults.{refusal_of}
-use Rattle.desk_tables.specs.declared.fault.WriteFault.TheVariants.{Store}
+use Rattle.store_sql.proofs.CommitLemmas.{and_then, leaves_more, open_spares, rolled_back, through, unchanged_shows, undone_shows}
+use Rattle.store_schema.specs.Tables.{desk_schema}
+use Rattle.store_schema.specs.rows.Histories.{rows_of}
+use Rattle.store_writes.specs.Faults.{refusal_of}
+use Rattle.store_writes.specs.declared.fault.WriteFault.TheVariants.{Store}
 use Rattle.desk_store.proofs.CommitLemmas.{answered, committed, leaves_next}
 use Rattle.desk_store.proofs.acting.run.Goals as goal
 

@@ -1,12 +1,12 @@
 use Rattle.std.proofs.Common.{◌≡◌, true, rules, refl, subst, arith, ℕ, List, IsTrue}
 use Rattle.sqlite.specs.Held.{Held, state}
 use Rattle.sqlite.specs.State.{HasCleanDisk, KeepsCommit, Survives}
-use Rattle.desk_contents.specs.Histories.{ShowsHistory, rows_of}
+use Rattle.store_schema.specs.rows.Histories.{ShowsHistory, rows_of}
 use Rattle.desk_history.specs.Calls.{History}
 use Rattle.desk_history.specs.Formed.{IsHistory}
 use Rattle.desk_store.specs.Questions.{Answers}
-use Rattle.desk_sql.proofs.CommitLemmas.{undone_shows}
-use Rattle.desk_statements.specs.Tables.{desk_schema}
+use Rattle.store_sql.proofs.CommitLemmas.{undone_shows}
+use Rattle.store_schema.specs.Tables.{desk_schema}
 use Rattle.desk_store.proofs.asking.ask.Goals as goal
 
 pub returns-in-Ok-clause-same : goal.returns-in-Ok-clause-same

@@ -3,11 +3,11 @@ use Rattle.sqlite.specs.Effect.{IsDatabase}
 use Rattle.sqlite.specs.Held.{Held, state}
 use Rattle.sqlite.specs.State.{HasCleanDisk, IsRolledBack, KeepsCommit, Survives}
 use Rattle.sqlite.specs.Steps.{FailsToCommit}
-use Rattle.desk_statements.specs.Tables.{no_schema}
-use Rattle.desk_sql.proofs.CommitLemmas.{and_then, open_spares, rolled_back}
-use Rattle.desk_contents.specs.Histories.{HoldsHistory, ShowsHistory}
-use Rattle.desk_tables.specs.Faults.{refusal_of}
-use Rattle.desk_tables.specs.declared.fault.WriteFault.TheVariants.{Store}
+use Rattle.store_schema.specs.Tables.{no_schema}
+use Rattle.store_sql.proofs.CommitLemmas.{and_then, open_spares, rolled_back}
+use Rattle.store_schema.specs.rows.Histories.{HoldsHistory, ShowsHistory}
+use Rattle.store_writes.specs.Faults.{refusal_of}
+use Rattle.store_writes.specs.declared.fault.WriteFault.TheVariants.{Store}
 use Rattle.desk_store.specs.Steps.{Founds}
 use Rattle.desk_store.proofs.FoundingLemmas.{founded_left, founded_shown}
 use Rattle.desk_store.proofs.founding.found_at_once.Goals as goal

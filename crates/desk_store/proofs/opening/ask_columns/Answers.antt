@@ -1,6 +1,6 @@
 use Rattle.std.proofs.Common.{inr, [], rules, refl}
 use Rattle.sqlite.specs.Held.{state}
-use Rattle.desk_statements.specs.declared.selecting.TheConstants.{SELECT_DESK}
+use Rattle.store_schema.specs.declared.selecting.TheConstants.{SELECT_DESK}
 use Rattle.desk_store.specs.Steps.{RefusesText}
 use Rattle.desk_store.proofs.OpeningLemmas.{no_tables, not_run_keeps}
 use Rattle.desk_store.proofs.opening.ask_columns.Goals as goal

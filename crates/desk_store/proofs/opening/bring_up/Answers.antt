@@ -1,9 +1,9 @@
 use Rattle.std.proofs.Common.{◌≡◌, ◌≢◌, inl, inr, rules, subst, arith}
 use Rattle.sqlite.specs.Held.{state}
 use Rattle.sqlite.specs.State.{HasCleanDisk}
-use Rattle.desk_sql.proofs.CommitLemmas.{and_then, leaves_more}
-use Rattle.desk_statements.specs.Tables.{desk_schema, first_schema}
-use Rattle.desk_contents.specs.Histories.{first_rows_of, rows_of}
+use Rattle.store_sql.proofs.CommitLemmas.{and_then, leaves_more}
+use Rattle.store_schema.specs.Tables.{desk_schema, first_schema}
+use Rattle.store_schema.specs.rows.Histories.{first_rows_of, rows_of}
 use Rattle.desk_store.specs.Steps.{AreShownAs, Brings}
 use Rattle.desk_store.proofs.ReopeningLemmas.{never_version}
 use Rattle.desk_store.proofs.VersionLemmas.{brought_left, first_version, free_there, second_version, taken_there}

@@ -1,7 +1,7 @@
 use Rattle.std.proofs.Common.{rules, refl}
 use Rattle.sqlite.specs.Held.{state}
-use Rattle.desk_statements.specs.Tables.{desk_schema, first_schema}
-use Rattle.desk_contents.specs.Histories.{first_rows_of, rows_of}
+use Rattle.store_schema.specs.Tables.{desk_schema, first_schema}
+use Rattle.store_schema.specs.rows.Histories.{first_rows_of, rows_of}
 use Rattle.desk_store.proofs.ReopeningLemmas.{shown_by_catalog}
 use Rattle.desk_store.proofs.opening.found_is_shown.Goals as goal
 

@@ -3,8 +3,8 @@ use Rattle.std.specs.Prelude.{IfErr, IfOk}
 use Rattle.sqlite.specs.Held.{Held, state}
 use Rattle.sqlite.specs.State.{HasCleanDisk, KeepsCommit, Survives}
 use Rattle.desk_bytes.specs.declared.refusal.Refusal.TheVariants as refusals
-use Rattle.desk_sql.proofs.CommitLemmas.{undone_shows}
-use Rattle.desk_migration.specs.Migrations.{KeepsShown}
+use Rattle.store_sql.proofs.CommitLemmas.{undone_shows}
+use Rattle.store_migration.specs.Migrations.{KeepsShown}
 use Rattle.desk_store.specs.Steps.{AreShownAs, AreShownAsNone, ReadsInside, TellsOpen, UnreadInside}
 use Rattle.desk_store.proofs.OpeningLemmas.{read_before, unread_before}
 use Rattle.desk_store.proofs.opening.read_version.Goals as goal

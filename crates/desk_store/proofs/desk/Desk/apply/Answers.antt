@@ -2,9 +2,9 @@ use Rattle.std.proofs.Common.{◌≡◌, ◌∙◌, false, inl, inr, rules, refl
 use Rattle.desk_history.specs.Calls.{History}
 use Rattle.desk_history.specs.Runs.{is_accepted, reply_in}
 use Rattle.desk_rules.specs.Decisions.{called}
-use Rattle.desk_statements.specs.Tables.{desk_schema}
+use Rattle.store_schema.specs.Tables.{desk_schema}
 use Rattle.desk_store.specs.Desks.{ShowsDesk}
-use Rattle.desk_contents.specs.Histories.{rows_of}
+use Rattle.store_schema.specs.rows.Histories.{rows_of}
 use Rattle.desk_store.specs.declared.desk.Desk.{Desk}
 use Rattle.desk_store.proofs.ActingLemmas.{next_same}
 use Rattle.desk_store.proofs.DeskLemmas.{goes_on, spares, stays_shown, stopped}

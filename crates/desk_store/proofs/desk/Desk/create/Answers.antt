@@ -3,8 +3,8 @@ use Rattle.sqlite.specs.Held.{state}
 use Rattle.std.proofs.lemmas.List.Elements.{All-nil}
 use Rattle.desk_history.specs.Formed.{IsItem}
 use Rattle.desk_history.specs.Tables.{tables}
-use Rattle.desk_statements.specs.Tables.{desk_schema, no_schema}
-use Rattle.desk_contents.specs.Histories.{rows_of}
+use Rattle.store_schema.specs.Tables.{desk_schema, no_schema}
+use Rattle.store_schema.specs.rows.Histories.{rows_of}
 use Rattle.desk_store.proofs.SizeLemmas.{unknown_are_right}
 use Rattle.desk_store.proofs.desk.Desk.create.Goals as goal
 

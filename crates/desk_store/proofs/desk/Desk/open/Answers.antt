@@ -5,9 +5,9 @@ use Rattle.sqlite.specs.State.{HasCleanDisk}
 use Rattle.desk_history.specs.Tables.{tables}
 use Rattle.desk_history.proofs.LifeLemmas.{left_goes_on}
 use Rattle.desk_history.proofs.VerdictLemmas.{barred_not_allowed, what_is_barred_stays_barred}
-use Rattle.desk_contents.specs.Histories.{HoldsHistory, first_rows_of, rows_of}
-use Rattle.desk_reads.specs.Failures.{IsFailure}
-use Rattle.desk_statements.specs.Tables.{desk_schema, first_schema}
+use Rattle.store_schema.specs.rows.Histories.{HoldsHistory, first_rows_of, rows_of}
+use Rattle.store_reads.specs.Failures.{IsFailure}
+use Rattle.store_schema.specs.Tables.{desk_schema, first_schema}
 use Rattle.desk_store.specs.Reopening.{HoldsLives}
 use Rattle.desk_store.proofs.OpeningLemmas.{still_leaves}
 use Rattle.desk_store.proofs.ReopeningLemmas.{no_failure, no_version, not_missing}

@@ -1,5 +1,5 @@
 use Rattle.sqlite.specs.Held.{state}
-use Rattle.desk_counts.specs.Counts.{CountTables}
+use Rattle.store_counts.specs.Counts.{CountTables}
 use Rattle.desk_store.proofs.QuestionLemmas.{of_tables}
 use Rattle.desk_store.proofs.questions.HowManyQuestion.read.Goals as goal
 

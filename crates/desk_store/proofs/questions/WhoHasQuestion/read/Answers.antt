@@ -1,7 +1,7 @@
 use Rattle.std.proofs.Common.{◌≡◌, filter}
 use Rattle.sqlite.specs.Held.{state}
 use Rattle.desk_history.specs.People.{has_token}
-use Rattle.desk_reads.specs.Reads.{listed}
+use Rattle.store_reads.specs.Reads.{listed}
 use Rattle.desk_store.proofs.QuestionLemmas.{of_tables}
 use Rattle.desk_store.proofs.questions.WhoHasQuestion.read.Goals as goal
 

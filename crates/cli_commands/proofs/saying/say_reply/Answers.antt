@@ -1,0 +1,11 @@
+use Rattle.std.proofs.Common.{◌∙◌, ap}
+use Rattle.desk_bytes.proofs.OutputLemmas.{OnErr-fact}
+use Rattle.cli_lines.proofs.LineLemmas.{Appends-same}
+use Rattle.cli_commands.specs.Works.{line_of}
+use Rattle.cli_commands.proofs.LineLemmas.{whole_kept}
+use Rattle.cli_commands.proofs.saying.say_reply.Goals as goal
+
+pub returns-in_err-flush-clause-err : goal.returns-in_err-flush-clause-err
+returns-in_err-flush-clause-err g c =
+    let line = Appends-same _ _ _ _ (ap line_of (c.as_str.ensures.value ∙ c.in-Ok.ensures)) c.in_ok-put_line.ensures.ok in
+    OnErr-fact _ _ (whole_kept _ _ _ _ line c.flush.ensures)

@@ -1,0 +1,36 @@
+//! How a subcommand over a desk's file ends.
+ghost use Rattle.std.specs.Prelude.{◌≡◌};
+ghost use Rattle.cli_commands.specs.Endings.{unopened};
+
+use cli_lines::Fault;
+use desk_bytes::Refusal;
+
+/// What a subcommand's work came to.
+#[derive(Clone, Copy, Debug, PartialEq, Eq)]
+pub enum Outcome {
+    /// It is done.
+    Done,
+    /// The desk doesn't allow the image.
+    Refused,
+}
+
+/// How a subcommand over a desk's file ended.
+#[derive(Clone, Copy, Debug, PartialEq, Eq)]
+pub struct Ending {
+    /// What its work came to, or what stopped it.
+    pub work: Result<Outcome, Fault>,
+    /// What failed when the desk was closed behind it.
+    pub closing: Option<Fault>,
+}
+
+impl Ending {
+    /// The end of a subcommand that has no desk to close.
+    pub fn without_desk(refusal: Refusal) -> Ending
+        ensures { result ≡ unopened refusal }
+    {
+        Ending {
+            work: Err(Fault::from(refusal)),
+            closing: None,
+        }
+    }
+}

@@ -1,0 +1,81 @@
+//! The lines that subcommands write, whole before anything else is done.
+ghost use Rattle.std.specs.Prelude.{◌≡◌, ◌≢◌, ◌⊎◌, IfErr, IfOk, OnErr, OnOk};
+ghost use Rattle.std.specs.Io.KnownBytes.{Appends, Keeps};
+ghost use Rattle.desk_bytes.specs.Output.{AppendsBeginning};
+ghost use Rattle.cli_lines.specs.Faults.{row_of};
+ghost use Rattle.cli_lines.specs.VerdictLines.{verdict_line};
+ghost use Rattle.cli_commands.specs.Works.{line_of, outcome_of, reply_line};
+
+use crate::ending::Outcome;
+use cli_lines::{Fault, print_verdict};
+use desk_bytes::{Refusal, WriteFailed, put};
+use desk_history::Verdict;
+use desk_texts::{Facts, Reply, reply_text};
+use std::alloc::Global;
+use std::io::Write;
+
+/// Writes out what is buffered.
+pub(crate) fn flush<W: Write>(writer: &mut W) -> Result<(), WriteFailed>
+    ensures { Keeps (W.contents writer.old) (W.contents writer.new) }
+{
+    writer.flush().map_err(|_| WriteFailed)
+}
+
+/// Writes a text and LF.
+fn put_line<W: Write>(text: &str, writer: &mut W) -> Result<(), WriteFailed>
+    ensures ok { OnOk result (Appends (W.contents writer.old) (W.contents writer.new)
+        (line_of text.now)) }
+    ensures err { OnErr result (AppendsBeginning (W.contents writer.old) (W.contents writer.new)
+        (line_of text.now)) }
+{
+    put(text.as_bytes(), writer)?;
+    put(b"\n", writer)
+}
+
+/// Writes the reply's text and LF.
+pub(crate) fn say_reply<W: Write>(alloc: Global, reply: &Reply, writer: &mut W) -> Result<(), Fault>
+    ensures ok { OnOk result (Appends (W.contents writer.old) (W.contents writer.new)
+        (reply_line reply.now)) }
+    ensures err { OnErr result (AppendsBeginning (W.contents writer.old) (W.contents writer.new)
+        (reply_line reply.now)) }
+    ensures unwritten { IfErr result (λ fault. fault ≢ row_of Refusal.Write
+        → writer.new ≡ writer.old) }
+    ensures named { IfErr result (λ fault. (fault ≡ row_of Refusal.NoMemory)
+        ⊎ (fault ≡ row_of Refusal.Write)) }
+{
+    let Ok(text) = reply_text(alloc, reply) else {
+        return Err(Fault::from(Refusal::NoMemory));
+    };
+    put_line(text.as_str(), writer)?;
+    flush(writer)?;
+    Ok(())
+}
+
+/// What a verdict is to a subcommand.
+fn outcome(said: &Verdict) -> Outcome
+    ensures { result ≡ outcome_of said.now }
+{
+    match said {
+        Verdict::Allowed => Outcome::Done,
+        Verdict::DbxDigest | Verdict::DbxCertificate | Verdict::NotListed => Outcome::Refused,
+        Verdict::Sbat(_) => Outcome::Refused,
+    }
+}
+
+/// Writes the line of a verdict.
+pub(crate) fn say_verdict<W: Write>(
+    said: &Verdict,
+    found: &Facts,
+    writer: &mut W,
+) -> Result<Outcome, Fault>
+    ensures ok { OnOk result (Appends (W.contents writer.old) (W.contents writer.new)
+        (verdict_line said.now found.now)) }
+    ensures err { OnErr result (AppendsBeginning (W.contents writer.old) (W.contents writer.new)
+        (verdict_line said.now found.now)) }
+    ensures exact { IfOk result (λ outcome. outcome ≡ outcome_of said.now) }
+    ensures named { IfErr result (λ fault. fault ≡ row_of Refusal.Write) }
+{
+    print_verdict(said, found, writer)?;
+    flush(writer)?;
+    Ok(outcome(said))
+}

@@ -1,0 +1,47 @@
+//! What a subcommand over a desk's file tells of its end.
+ghost use Rattle.std.specs.Prelude.{◌≡◌};
+ghost use Rattle.desk_bytes.specs.Output.{AppendsBeginning};
+ghost use Rattle.cli_commands.specs.Endings.{TellsEnding, closing_line, status_after};
+ghost use Rattle.cli_commands.specs.Endings.{status_of_ending, status_of_work, work_line};
+
+use crate::ending::{Ending, Outcome};
+use cli_lines::{Fault, print_fault};
+use std::io::Write;
+
+/// The status of an image that a desk doesn't allow.
+const REFUSED: u8 = 1;
+
+/// Writes the line of what stopped the work, and gives the work's status.
+fn print_work<W: Write>(work: Result<Outcome, Fault>, writer: &mut W) -> u8
+    ensures status { result ≡ status_of_work work }
+    ensures out { AppendsBeginning (W.contents writer.old) (W.contents writer.new)
+        (work_line work) }
+{
+    match work {
+        Ok(Outcome::Done) => 0,
+        Ok(Outcome::Refused) => REFUSED,
+        Err(fault) => print_fault(fault.refusal, fault.place, writer),
+    }
+}
+
+/// Writes the line of a close that failed, and gives the status after it.
+fn print_closing<W: Write>(status: u8, closing: Option<Fault>, writer: &mut W) -> u8
+    ensures status { result ≡ status_after status closing }
+    ensures out { AppendsBeginning (W.contents writer.old) (W.contents writer.new)
+        (closing_line closing) }
+{
+    match closing {
+        None => status,
+        Some(fault) => print_fault(fault.refusal, fault.place, writer),
+    }
+}
+
+/// Writes the line of what stopped a subcommand, and then the line of a close that failed, and gives the exit
+/// status, also where a write fails. Takes no memory.
+pub fn print_ending<W: Write>(ending: Ending, writer: &mut W) -> u8
+    ensures status { result ≡ status_of_ending ending }
+    ensures out { TellsEnding (W.contents writer.old) (W.contents writer.new) ending }
+{
+    let status = print_work(ending.work, writer);
+    print_closing(status, ending.closing, writer)
+}

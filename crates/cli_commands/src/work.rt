@@ -1,0 +1,136 @@
+//! What a subcommand does with an open desk, in any store.
+ghost use Rattle.std.specs.Prelude.{◌≡◌, ◌≢◌, Err, IfErr, IfOk, IsErrOf, OnErr, OnOk, true};
+ghost use Rattle.std.specs.Io.KnownBytes.{Appends};
+ghost use Rattle.sqlite.specs.Held.{state};
+ghost use Rattle.sqlite.specs.State.{HasCleanDisk};
+ghost use Rattle.desk_bytes.specs.declared.refusal.Refusal.TheVariants as refusals;
+ghost use Rattle.desk_exports.specs.Exports.{exported};
+ghost use Rattle.desk_history.specs.Verdicts as verdicts;
+ghost use Rattle.desk_history.specs.declared.finding.Verdict.{Verdict};
+ghost use Rattle.cli_lines.specs.Faults.{row_of};
+ghost use Rattle.cli_lines.specs.VerdictLines.{verdict_line};
+ghost use Rattle.desk_rules.specs.Decisions.{called};
+ghost use Rattle.store_sql.specs.States.{Spares};
+ghost use Rattle.desk_store.specs.Desks.{KeepsDesk, MayStop, Replies, Views};
+ghost use Rattle.desk_store.specs.Exports.{SparesDesk, Writes, WritesBeginning};
+ghost use Rattle.desk_texts.specs.declared.reply.Reply.{Reply};
+ghost use Rattle.cli_commands.specs.Faults.{IsAddingRefusal, IsRow, IsWritingRefusal};
+ghost use Rattle.cli_commands.specs.Works.{answer_line, outcome_of, reply_line};
+
+use crate::ending::Outcome;
+use crate::saying::{flush, say_reply, say_verdict};
+use cli_lines::Fault;
+use desk_exports::Export;
+use desk_store::Desk;
+use desk_texts::{Caller, Command, Facts, Key, Person};
+use sqlite::Alter;
+use std::alloc::Global;
+use std::io::Write;
+
+/// Has the console add the person, and writes the reply's text and LF. `Write` leaves a beginning of this line in
+/// the writer; any other fault leaves the writer as it was. After `Write`, `NoMemory` and `Store` the person may
+/// have been added.
+pub fn add<S: Alter + Drop, W: Write>(
+    alloc: Global,
+    desk: &mut Desk<S>,
+    key: &Key,
+    person: Person,
+    writer: &mut W,
+) -> Result<Outcome, Fault>
+    ensures told { HasCleanDisk (state S.Store desk.new.conn) → OnOk result ((reply : Reply)
+        × Replies S.Store desk.old desk.new
+        (called Caller.Console key.now (Command.AddPerson person)) reply
+        × Appends (W.contents writer.old) (W.contents writer.new) (reply_line reply)) }
+    ensures done { IfOk result (λ outcome. outcome ≡ Outcome.Done) }
+
+    ensures beginning { HasCleanDisk (state S.Store desk.new.conn) → OnErr result
+        (Views S.Store desk.old desk.new
+        (WritesBeginning (W.contents writer.old) (W.contents writer.new)
+        (answer_line (called Caller.Console key.now (Command.AddPerson person))))) }
+    ensures unwritten { IfErr result (λ fault. fault ≢ row_of refusals.Write
+        → writer.new ≡ writer.old) }
+    ensures poisons { IsErrOf result (row_of refusals.Store) → desk.new.needs_reopening ≡ true }
+    ensures closed { desk.old.needs_reopening ≡ true → (result ≡ Err (row_of refusals.Reopen))
+        × (desk.new ≡ desk.old) × (writer.new ≡ writer.old) }
+    ensures named { IfErr result (IsRow IsAddingRefusal) }
+
+    ensures stopped { MayStop S.Store desk.old desk.new
+        (called Caller.Console key.now (Command.AddPerson person)) }
+{
+    let reply = match desk.apply(&Caller::Console, key, &Command::AddPerson(person)) {
+        Ok(reply) => reply,
+        Err(refusal) => return Err(Fault::from(refusal)),
+    };
+    match say_reply(alloc, &reply, writer) {
+        Ok(()) => Ok(Outcome::Done),
+        Err(fault) => Err(fault),
+    }
+}
+
+/// Writes the line of the desk's verdict on the image of these facts. `Write` leaves a beginning of the line in the
+/// writer; any other fault leaves the writer as it was. Nothing is changed.
+pub fn judge<S: Alter + Drop, W: Write>(
+    desk: &mut Desk<S>,
+    found: &Facts,
+    writer: &mut W,
+) -> Result<Outcome, Fault>
+    ensures told { IfOk result (λ outcome. (said : Verdict) × (outcome ≡ outcome_of said)
+        × Appends (W.contents writer.old) (W.contents writer.new) (verdict_line said found.now)
+        × (HasCleanDisk (state S.Store desk.new.conn) → Views S.Store desk.old desk.new
+        (λ owner cs. said ≡ verdicts.verdict cs found.now))) }
+
+    ensures beginning { HasCleanDisk (state S.Store desk.new.conn) → OnErr result
+        (Views S.Store desk.old desk.new
+        (WritesBeginning (W.contents writer.old) (W.contents writer.new)
+        (λ owner cs. verdict_line (verdicts.verdict cs found.now) found.now))) }
+    ensures unwritten { IfErr result (λ fault. fault ≢ row_of refusals.Write
+        → writer.new ≡ writer.old) }
+    ensures poisons { IsErrOf result (row_of refusals.Store) → desk.new.needs_reopening ≡ true }
+    ensures closed { desk.old.needs_reopening ≡ true → (result ≡ Err (row_of refusals.Reopen))
+        × (desk.new ≡ desk.old) × (writer.new ≡ writer.old) }
+    ensures named { IfErr result (IsRow IsWritingRefusal) }
+
+    ensures same { HasCleanDisk (state S.Store desk.new.conn)
+        → result ≢ Err (row_of refusals.Store) → KeepsDesk S.Store desk.old desk.new }
+    ensures spares { Spares S.Store desk.old.conn desk.new.conn }
+{
+    let said = match desk.verdict(found) {
+        Ok(said) => said,
+        Err(refusal) => return Err(Fault::from(refusal)),
+    };
+    say_verdict(&said, found, writer)
+}
+
+/// Writes an export of the desk, and writes out what is buffered. A fault leaves a beginning of the export in the
+/// writer, which may be empty. Nothing is changed.
+pub fn write_export<S: Alter + Drop, W: Write>(
+    desk: &mut Desk<S>,
+    what: Export,
+    writer: &mut W,
+) -> Result<Outcome, Fault>
+    ensures ok { HasCleanDisk (state S.Store desk.new.conn) → OnOk result
+        (Views S.Store desk.old desk.new
+        (Writes (W.contents writer.old) (W.contents writer.new) (exported what))) }
+    ensures done { IfOk result (λ outcome. outcome ≡ Outcome.Done) }
+
+    ensures beginning { HasCleanDisk (state S.Store desk.new.conn) → OnErr result
+        (Views S.Store desk.old desk.new
+        (WritesBeginning (W.contents writer.old) (W.contents writer.new) (exported what))) }
+    ensures poisons { IsErrOf result (row_of refusals.Store) → desk.new.needs_reopening ≡ true }
+    ensures closed { desk.old.needs_reopening ≡ true → (result ≡ Err (row_of refusals.Reopen))
+        × (desk.new ≡ desk.old) × (writer.new ≡ writer.old) }
+    ensures named { IfErr result (IsRow IsWritingRefusal) }
+
+    ensures same { HasCleanDisk (state S.Store desk.new.conn)
+        → result ≢ Err (row_of refusals.Store) → KeepsDesk S.Store desk.old desk.new }
+    ensures spares { SparesDesk S.Store desk.old desk.new }
+{
+    match desk.export(what, writer) {
+        Ok(()) => {}
+        Err(refusal) => return Err(Fault::from(refusal)),
+    }
+    match flush(writer) {
+        Ok(()) => Ok(Outcome::Done),
+        Err(failed) => Err(Fault::from(failed)),
+    }
+}

@@ -1,0 +1,83 @@
+-- What a subcommand came to, of the desk that its work left and was closed.
+use Rattle.std.proofs.Common.{◌≡◌, ◌≢◌, Option, ℕ, List, Result, Ok, Err, subst, sym}
+use Rattle.std.specs.Prelude.{IfOk, OnErr, OnOk}
+use Rattle.std.specs.Io.KnownBytes.{Appends}
+use Rattle.sqlite.specs.Files.{file_state, over_files}
+use Rattle.sqlite.specs.Held.{state}
+use Rattle.sqlite.specs.State.{HasCleanDisk}
+use Rattle.sqlite.specs.Store as store
+use Rattle.sqlite_disk.specs.declared.Disk.{Ghosts}
+use Rattle.sqlite_store.specs.declared.store.FileStore.{FileStore}
+use Rattle.desk_bytes.specs.declared.refusal.Refusal.TheVariants as refusals
+use Rattle.desk_exports.specs.Exports.{exported}
+use Rattle.desk_exports.specs.declared.export.Export.{Export}
+use Rattle.desk_history.specs.Verdicts as verdicts
+use Rattle.desk_history.specs.declared.finding.Verdict.{Verdict}
+use Rattle.cli_lines.specs.Faults.{row_of}
+use Rattle.cli_lines.specs.VerdictLines.{verdict_line}
+use Rattle.cli_lines.specs.declared.fault.Fault.{Fault}
+use Rattle.desk_service.specs.ImageFacts.{IsFactsOf}
+use Rattle.desk_store.specs.Desks.{KeepsDesk, Views}
+use Rattle.desk_store.specs.Exports.{SparesDesk, Writes, WritesBeginning}
+use Rattle.desk_store.specs.declared.desk.Desk.{Desk}
+use Rattle.desk_texts.specs.declared.facts.Facts.{Facts}
+use Rattle.cli_files.specs.Closing.{Ends}
+use Rattle.cli_files.specs.Opening.{IsMade}
+use Rattle.cli_files.specs.Works.{Exports, Judges, JudgesImage, MakesDesk, Reads}
+use Rattle.cli_commands.specs.Works.{outcome_of}
+use Rattle.cli_commands.specs.declared.ending.Ending.{Ending}
+use Rattle.cli_commands.specs.declared.ending.Outcome.{Outcome}
+
+-- what is told of the verdict on these facts is told of the image that has them
+pub judged : {S : Type 0} (g : store.Ghosts S) (old new : Desk S) (before after : Option (List ℕ)) (work : Result Outcome Fault)
+    (found : Facts) → ((image : List ℕ) × IsFactsOf image found)
+    → IfOk work (λ outcome. (said : Verdict) × (outcome ≡ outcome_of said) × Appends before after (verdict_line said found)
+    × (HasCleanDisk (state g new.conn) → Views g old new (λ owner cs. said ≡ verdicts.verdict cs found)))
+    → IfOk work (JudgesImage g old new before after)
+judged g old new before after (Err fault) found of told = tt
+judged g old new before after (Ok outcome) found of told =
+    record { image = of.0; found = found; facts = of.1; said = told.0; exact = told.3; line = told.2; told = told.1 }
+
+-- a desk that was made is told where the work is done
+pub made_desk : {D : Type 0} {g : Ghosts D} (owner : List ℕ) (ending : Ending) (desk : Desk (FileStore D g))
+    → IsMade g owner desk → Ends g desk ending → OnOk ending.work (MakesDesk g owner ending)
+made_desk {D} {g} owner ending desk made ended = done ending.work
+  where
+    done : (work : Result Outcome Fault) → OnOk work (MakesDesk g owner ending)
+    done (Ok outcome) = record { desk = desk; made = made; ended = ended }
+    done (Err fault) = tt
+
+module _ {D : Type 0} (g : Ghosts D) (desk left : Desk (FileStore D g)) (ending : Ending) (work : Result Outcome Fault) (is : ending.work ≡ work) where
+  -- what is told of the work is told of the end
+  pub reads : (told : Result Outcome Fault → Desk (FileStore D g) → Type 0)
+      → (HasCleanDisk (file_state left.conn) → work ≢ Err (row_of refusals.Store) → KeepsDesk over_files desk left)
+      → SparesDesk over_files desk left → told work left → Ends g left ending → Reads g desk ending (told ending.work)
+  reads told same spares done ended = record {
+    left = left;
+    same = subst (λ (w : Result Outcome Fault). HasCleanDisk (file_state left.conn) → w ≢ Err (row_of refusals.Store) → KeepsDesk over_files desk left) (sym is) same;
+    spares = spares;
+    done = subst (λ (w : Result Outcome Fault). told w left) (sym is) done;
+    ended = ended;
+  }
+
+  -- an export
+  pub exports : (what : Export) (before after : Option (List ℕ))
+      → (HasCleanDisk (file_state left.conn) → work ≢ Err (row_of refusals.Store) → KeepsDesk over_files desk left)
+      → SparesDesk over_files desk left
+      → (HasCleanDisk (file_state left.conn) → OnOk work (Views over_files desk left (Writes before after (exported what))))
+      → (HasCleanDisk (file_state left.conn) → OnErr work (Views over_files desk left (WritesBeginning before after (exported what))))
+      → Ends g left ending → Exports g what before after ending desk
+  exports what before after same spares ok beginning ended =
+      let P : Result Outcome Fault → Desk (FileStore D g) → Type 0 = λ w l. HasCleanDisk (file_state l.conn)
+      → OnOk w (Views over_files desk l (Writes before after (exported what)))
+      × OnErr w (Views over_files desk l (WritesBeginning before after (exported what))) in
+      reads P same spares (λ clean. (ok clean, beginning clean)) ended
+
+  -- a verdict on an image
+  pub judges : (before after : Option (List ℕ))
+      → (HasCleanDisk (file_state left.conn) → work ≢ Err (row_of refusals.Store) → KeepsDesk over_files desk left)
+      → SparesDesk over_files desk left → IfOk work (JudgesImage over_files desk left before after)
+      → Ends g left ending → Judges g before after ending desk
+  judges before after same spares told ended =
+      let P : Result Outcome Fault → Desk (FileStore D g) → Type 0 = λ w l. IfOk w (JudgesImage over_files desk l before after) in
+      reads P same spares told ended

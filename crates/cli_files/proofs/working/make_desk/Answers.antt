@@ -1,0 +1,38 @@
+use Rattle.std.proofs.Common.{refl}
+use Rattle.cli_files.proofs.WorkLemmas.{made_desk}
+use Rattle.cli_files.proofs.working.make_desk.Goals as goal
+
+-- the desk was made
+
+pub returns-in-Ok-clause-made : goal.returns-in-Ok-clause-made
+returns-in-Ok-clause-made c =
+    made_desk c.args.owner.now c.ended.result c.in-Ok.desk c.in-Ok.ensures.made c.ended.ensures.closed
+
+pub returns-in-Ok-clause-done : goal.returns-in-Ok-clause-done
+returns-in-Ok-clause-done c = rw c.ended.ensures.work refl
+
+pub returns-in-Ok-clause-named : goal.returns-in-Ok-clause-named
+returns-in-Ok-clause-named c = rw c.ended.ensures.work tt
+
+pub returns-in-Ok-clause-first : goal.returns-in-Ok-clause-first
+returns-in-Ok-clause-first c = rw c.ended.ensures.work tt
+
+pub returns-in-Ok-clause-closing : goal.returns-in-Ok-clause-closing
+returns-in-Ok-clause-closing c = c.ended.ensures.closing
+
+-- no desk was made
+
+pub returns-in-Err-clause-made : goal.returns-in-Err-clause-made
+returns-in-Err-clause-made c = rw c.without_desk.ensures tt
+
+pub returns-in-Err-clause-done : goal.returns-in-Err-clause-done
+returns-in-Err-clause-done c = rw c.without_desk.ensures tt
+
+pub returns-in-Err-clause-named : goal.returns-in-Err-clause-named
+returns-in-Err-clause-named c = rw c.without_desk.ensures (refl, c.in-Err.ensures.named)
+
+pub returns-in-Err-clause-first : goal.returns-in-Err-clause-first
+returns-in-Err-clause-first c = rw c.without_desk.ensures refl
+
+pub returns-in-Err-clause-closing : goal.returns-in-Err-clause-closing
+returns-in-Err-clause-closing c = rw c.without_desk.ensures tt

@@ -1,0 +1,36 @@
+//! Files that are read to their end.
+ghost use Rattle.std.specs.Prelude.{◌+◌, ◌≤◌, length, IfOk};
+
+use cli_lines::{Fault, MOST_BYTES};
+use desk_bytes::{LONGEST_IMAGE, Refusal, read_all};
+use pe_image::Pieces;
+use std::rt::Files;
+use std::{fs, io};
+
+/// Opens a file.
+fn open<R: Files + AllocGlobal>(rt: &R, path: &str) -> Result<R::File, Fault> {
+    match fs::open(rt, path) {
+        Ok(file) => Ok(file),
+        Err(error) if error.kind() == io::ErrorKind::OutOfMemory => {
+            Err(Fault::from(Refusal::NoMemory))
+        }
+        Err(_) => Err(Fault::from(Refusal::File)),
+    }
+}
+
+/// All bytes of a file. TooLong: it has more than `MOST_BYTES`.
+pub fn read_file<R: Files + AllocGlobal>(rt: &R, path: &str) -> Result<Vec<u8>, Fault>
+    ensures bound { IfOk result (λ bytes. length bytes.items ≤ MOST_BYTES) }
+{
+    let mut file = open(rt, path)?;
+    Ok(read_all(rt.alloc(), &mut file, MOST_BYTES)?)
+}
+
+/// An image's file, in pieces. Of a file that is too long for an image one byte more than
+/// `LONGEST_IMAGE` is taken: its layout is refused for its length.
+pub fn read_image<R: Files + AllocGlobal>(rt: &R, path: &str) -> Result<Pieces, Fault>
+    ensures bound { IfOk result (λ bytes. length bytes ≤ LONGEST_IMAGE + 1) }
+{
+    let mut file = open(rt, path)?;
+    Ok(Pieces::take(rt.alloc(), &mut file, LONGEST_IMAGE + 1)?)
+}

@@ -1,0 +1,192 @@
+//! The work of each subcommand over a desk's file. Faults are found in one order: the file, the desk in
+//! it, another file, the command.
+ghost use Rattle.std.specs.Prelude.{◌≡◌, ◌≢◌, ◌⊎◌, ℕ, List, None, Err};
+ghost use Rattle.std.specs.Prelude.{IfErr, IfOk, IfSome, OnErr, OnOk};
+ghost use Rattle.std.specs.Io.KnownBytes.{Keeps};
+ghost use Rattle.sqlite.specs.Held.{state};
+ghost use Rattle.sqlite.specs.State.{HasCleanDisk};
+ghost use Rattle.cli_lines.specs.Faults.{row_of};
+ghost use Rattle.desk_service.specs.ImageFacts.{IsFactsOf};
+ghost use Rattle.store_sql.specs.States.{Spares};
+ghost use Rattle.desk_store.specs.Desks.{KeepsDesk};
+ghost use Rattle.cli_files.specs.Faults.{IsLasting, IsMakingRefusal, IsOfOpening, IsOpeningRefusal};
+ghost use Rattle.cli_files.specs.Works.{AtADesk, Calls, Exports, IsUnopened, Judges, JudgesImage};
+ghost use Rattle.cli_files.specs.Works.{MakesDesk, adding};
+ghost use Rattle.cli_commands.specs.Faults.{IsAddingRefusal, IsClosingRefusal, IsRow};
+ghost use Rattle.cli_commands.specs.Faults.{IsWritingRefusal};
+
+use crate::desk_file::{ended, make, open};
+use crate::file::read_image;
+use cli_commands::{Ending, Outcome, add, judge, write_export};
+use cli_lines::Fault;
+use desk_bytes::{Guid, Refusal};
+use desk_exports::Export;
+use desk_service::facts;
+use desk_store::Desk;
+use desk_texts::{Facts, Key, Person};
+use sqlite::{Alter, File, FileStore};
+use sqlite_disk::Disk;
+use std::alloc::Global;
+use std::io::Write;
+use std::rt::Files;
+
+/// Makes a desk with this owner and without calls in a file, which is made where it isn't there.
+///
+/// Exists: the file has tables already. File: it can't be opened or made, or is no database.
+pub fn make_desk(rt: &HostRuntime, path: &str, owner: &Guid) -> Ending
+    ensures done { IfOk result.work (λ outcome. outcome ≡ Outcome.Done) }
+    ensures named { IfErr result.work (IsRow IsMakingRefusal) }
+    ensures made { OnOk result.work (MakesDesk ⟦<File as Disk>⟧ owner.now result) }
+    ensures first { OnErr result.work (result.closing ≡ None) }
+    ensures closing { IfSome result.closing (IsRow IsClosingRefusal) }
+{
+    match make(rt, path, owner) {
+        Ok(desk) => ended(desk, Ok(Outcome::Done)),
+        Err(refusal) => Ending::without_desk(refusal),
+    }
+}
+
+/// Adds a person to an open desk over files, and closes it.
+fn add_at<D: Disk + Drop, W: Write>(
+    alloc: Global,
+    mut desk: Desk<FileStore<D>>,
+    key: &Key,
+    person: Person,
+    writer: &mut W,
+) -> Ending
+    ensures added { Calls D.Disk (adding key.now person)
+        (W.contents writer.old) (W.contents writer.new) result desk }
+    ensures done { IfOk result.work (λ outcome. outcome ≡ Outcome.Done) }
+    ensures named { IfErr result.work (IsRow IsAddingRefusal) }
+    ensures closing { IfSome result.closing (IsRow IsClosingRefusal) }
+    ensures let_go { IfErr result.work (λ fault. IsLasting fault.refusal → result.closing ≡ None) }
+{
+    let work = add(alloc, &mut desk, key, person, writer);
+    ended(desk, work)
+}
+
+/// Adds a person to the desk in a file, as the console's call under this key, and writes the reply's
+/// text and LF. A call that was accepted stays so where its reply isn't written: the same call under
+/// the same key is replied to again.
+///
+/// File: no file is there, or it can't be opened. NotADesk, Version: it holds no desk that this program
+/// knows. Otherwise what the desk answers.
+pub fn add_person<W: Write>(
+    rt: &HostRuntime,
+    path: &str,
+    key: &Key,
+    person: Person,
+    writer: &mut W,
+) -> Ending
+    ensures added { (IsUnopened result × Keeps (W.contents writer.old) (W.contents writer.new))
+        ⊎ AtADesk (Calls ⟦<File as Disk>⟧ (adding key.now person)
+        (W.contents writer.old) (W.contents writer.new) result) }
+    ensures done { IfOk result.work (λ outcome. outcome ≡ Outcome.Done) }
+    ensures named { IfErr result.work (IsRow (λ refusal.
+        IsOpeningRefusal refusal ⊎ IsAddingRefusal refusal)) }
+    ensures first { IfErr result.work (λ fault. IsOfOpening fault.refusal
+        → (result.closing ≡ None) × Keeps (W.contents writer.old) (W.contents writer.new)) }
+    ensures closing { IfSome result.closing (IsRow IsClosingRefusal) }
+    ensures let_go { IfErr result.work (λ fault. IsLasting fault.refusal → result.closing ≡ None) }
+{
+    match open(rt, path) {
+        Ok(desk) => add_at(rt.alloc(), desk, key, person, writer),
+        Err(refusal) => Ending::without_desk(refusal),
+    }
+}
+
+/// What the desk keeps of the image in a file.
+fn facts_in<R: Files + AllocGlobal>(rt: &R, file: &str) -> Result<Facts, Fault>
+    ensures { IfOk result (λ found. (image : List ℕ) × IsFactsOf image found) }
+{
+    let mut image = read_image(rt, file)?;
+    Ok(facts(rt.alloc(), &mut image)?)
+}
+
+/// Writes the line of the desk's verdict on the image in a file.
+fn judge_file<S: Alter + Drop, W: Write>(
+    rt: &HostRuntime,
+    desk: &mut Desk<S>,
+    file: &str,
+    writer: &mut W,
+) -> Result<Outcome, Fault>
+    ensures told { IfOk result (JudgesImage S.Store desk.old desk.new
+        (W.contents writer.old) (W.contents writer.new)) }
+    ensures same { HasCleanDisk (state S.Store desk.new.conn)
+        → result ≢ Err (row_of Refusal.Store) → KeepsDesk S.Store desk.old desk.new }
+    ensures spares { Spares S.Store desk.old.conn desk.new.conn }
+{
+    match facts_in(rt, file) {
+        Ok(found) => judge(desk, &found, writer),
+        Err(fault) => Err(fault),
+    }
+}
+
+/// Writes what an open desk over files says of the image in a file, and closes it.
+fn judge_at<D: Disk + Drop, W: Write>(
+    rt: &HostRuntime,
+    mut desk: Desk<FileStore<D>>,
+    file: &str,
+    writer: &mut W,
+) -> Ending
+    ensures judged { Judges D.Disk (W.contents writer.old) (W.contents writer.new) result desk }
+    ensures closing { IfSome result.closing (IsRow IsClosingRefusal) }
+    ensures let_go { IfErr result.work (λ fault. IsLasting fault.refusal → result.closing ≡ None) }
+{
+    let work = judge_file(rt, &mut desk, file, writer);
+    ended(desk, work)
+}
+
+/// Writes what the desk in a file says of the image in another, `allowed` or `refused` and why, and LF.
+/// The desk stays as it is.
+///
+/// First the faults of the desk's file, as `add_person` has them; then what the image is refused for.
+pub fn judge_image<W: Write>(rt: &HostRuntime, path: &str, file: &str, writer: &mut W) -> Ending
+    ensures judged { (IsUnopened result × Keeps (W.contents writer.old) (W.contents writer.new))
+        ⊎ AtADesk (Judges ⟦<File as Disk>⟧
+        (W.contents writer.old) (W.contents writer.new) result) }
+    ensures closing { IfSome result.closing (IsRow IsClosingRefusal) }
+    ensures let_go { IfErr result.work (λ fault. IsLasting fault.refusal → result.closing ≡ None) }
+{
+    match open(rt, path) {
+        Ok(desk) => judge_at(rt, desk, file, writer),
+        Err(refusal) => Ending::without_desk(refusal),
+    }
+}
+
+/// Writes an export of an open desk over files, and closes it.
+fn export_at<D: Disk + Drop, W: Write>(
+    mut desk: Desk<FileStore<D>>,
+    what: Export,
+    writer: &mut W,
+) -> Ending
+    ensures exported { Exports D.Disk what
+        (W.contents writer.old) (W.contents writer.new) result desk }
+    ensures done { IfOk result.work (λ outcome. outcome ≡ Outcome.Done) }
+    ensures named { IfErr result.work (IsRow IsWritingRefusal) }
+    ensures closing { IfSome result.closing (IsRow IsClosingRefusal) }
+    ensures let_go { IfErr result.work (λ fault. IsLasting fault.refusal → result.closing ≡ None) }
+{
+    let work = write_export(&mut desk, what, writer);
+    ended(desk, work)
+}
+
+/// Writes an export of the desk in a file, whose faults are told as `add_person` tells them. What stops
+/// it may leave a beginning of the export in the writer. The desk stays as it is.
+pub fn export_from<W: Write>(rt: &HostRuntime, path: &str, what: Export, writer: &mut W) -> Ending
+    ensures exported { (IsUnopened result × Keeps (W.contents writer.old) (W.contents writer.new))
+        ⊎ AtADesk (Exports ⟦<File as Disk>⟧ what
+        (W.contents writer.old) (W.contents writer.new) result) }
+    ensures done { IfOk result.work (λ outcome. outcome ≡ Outcome.Done) }
+    ensures named { IfErr result.work (IsRow (λ refusal.
+        IsOpeningRefusal refusal ⊎ IsWritingRefusal refusal)) }
+    ensures first { IfErr result.work (λ fault. IsOfOpening fault.refusal
+        → (result.closing ≡ None) × Keeps (W.contents writer.old) (W.contents writer.new)) }
+    ensures closing { IfSome result.closing (IsRow IsClosingRefusal) }
+    ensures let_go { IfErr result.work (λ fault. IsLasting fault.refusal → result.closing ≡ None) }
+{
+    match open(rt, path) {
+        Ok(desk) => export_at(desk, what, writer),
+        Err(refusal) => Ending::without_desk(refusal),
+    }
+}

@@ -1,0 +1,44 @@
+-- Rows of the table of refusals with their places.
+use Rattle.std.specs.Prelude.{None, Some}
+use Rattle.desk_bytes.specs.Inputs as input
+use Rattle.desk_bytes.specs.declared.input.InputFault.{InputFault}
+use Rattle.desk_bytes.specs.declared.refusal.Refusal.{Refusal}
+use Rattle.cli_lines.specs.declared.fault.Fault.{Fault}
+use Rattle.desk_service.specs.Faults as facts
+use Rattle.desk_service.specs.declared.fault.FactsFault.{FactsFault}
+use Rattle.pe_image.specs.Faults as layout
+use Rattle.pe_image.specs.Pieces as pieces
+use Rattle.pe_image.specs.declared.fault.LayoutFault.{LayoutFault}
+use Rattle.pe_image.specs.declared.pieces.PiecesFault.{PiecesFault}
+use Rattle.siglist.specs.ListsFaults as lists
+use Rattle.siglist.specs.PackFaults as pack
+use Rattle.siglist.specs.declared.fault.ListsFault.{ListsFault}
+use Rattle.siglist.specs.declared.fault.PackFault.{PackFault}
+
+-- own: a row without a place
+abbrev pub row_of : Refusal → Fault
+row_of refusal = record { refusal = refusal; place = None }
+
+-- own: what a text that isn't packed is told as
+abbrev pub of_pack : PackFault → Fault
+of_pack fault = record { refusal = pack.refusal_of fault; place = pack.place_of fault }
+
+-- own: what bytes that are no lists are told as
+abbrev pub of_lists : ListsFault → Fault
+of_lists fault = record { refusal = lists.refusal_of fault; place = Some (lists.place_of fault) }
+
+-- own: what an image without a layout is told as
+abbrev pub of_layout : LayoutFault → Fault
+of_layout fault = row_of (layout.refusal_of fault)
+
+-- own: what an image without facts is told as
+abbrev pub of_facts : FactsFault → Fault
+of_facts fault = record { refusal = facts.refusal_of fault; place = facts.place_of fault }
+
+-- own: what an input that isn't read is told as
+abbrev pub of_input : InputFault → Fault
+of_input fault = row_of (input.refusal_of fault)
+
+-- what an input that isn't read into pieces is told as
+abbrev pub of_pieces : PiecesFault → Fault
+of_pieces fault = row_of (pieces.refusal_of fault)

@@ -1,0 +1,143 @@
+-- What the program's words say.
+use Rattle.std.specs.Prelude.{◌≡◌, ◌≢◌, ℕ, codes, List, [], ◌∷◌, Option, None, Result, Ok, Err}
+use Rattle.std.specs.Prelude.{⊤, Some, if◌then◌else◌, option_and_then}
+use Rattle.std.specs.List.{All}
+use Rattle.std.specs.Str.{bytes_eq}
+use Rattle.clap.specs.Words.{IsAmong, Row, Text, fault_of, first_of, kind_of, subcommand_of}
+use Rattle.cli_grammar.specs.Commands.{desk_app, id_of}
+use Rattle.cli_words.specs.declared.line.Words.{Words}
+use Rattle.cli_words.specs.declared.line.Words.TheVariants as said
+use Rattle.cli_words.specs.declared.line.WordsFault.{WordsFault}
+use Rattle.cli_words.specs.declared.line.WordsFault.TheVariants.{Missing, NoMemory, Refused}
+
+-- a subcommand with its words, as texts
+pub data Line : Type 0 where
+  init : Text → Text → Line
+  person : Text → Text → Text → Text → Line
+  serve : Text → Text → Text → Line
+  answer : Text → Line
+  facts : Text → Line
+  ranges : Text → Line
+  verdict : Text → Text → Line
+  db : Text → Line
+  dbx : Text → Line
+  level : Text → Line
+  list : Text → Line
+  pack : Text → Line
+  minutes : Text → Line
+
+-- own: the name of its subcommand
+abbrev pub subcommand_name : Line → Text
+subcommand_name (init path owner) = codes "init"
+subcommand_name (person path name role key) = codes "person"
+subcommand_name (serve path port count) = codes "serve"
+subcommand_name (answer path) = codes "answer"
+subcommand_name (facts file) = codes "facts"
+subcommand_name (ranges file) = codes "ranges"
+subcommand_name (verdict path file) = codes "verdict"
+subcommand_name (db path) = codes "db"
+subcommand_name (dbx path) = codes "dbx"
+subcommand_name (level path) = codes "level"
+subcommand_name (list file) = codes "list"
+subcommand_name (pack owner) = codes "pack"
+subcommand_name (minutes path) = codes "minutes"
+
+-- own: the words after it
+abbrev pub words_after : Line → List Text
+words_after (init path owner) = path ∷ owner ∷ []
+words_after (person path name role key) = path ∷ name ∷ role ∷ key ∷ []
+words_after (serve path port count) = path ∷ port ∷ count ∷ []
+words_after (answer path) = path ∷ []
+words_after (facts file) = file ∷ []
+words_after (ranges file) = file ∷ []
+words_after (verdict path file) = path ∷ file ∷ []
+words_after (db path) = path ∷ []
+words_after (dbx path) = path ∷ []
+words_after (level path) = path ∷ []
+words_after (list file) = file ∷ []
+words_after (pack owner) = owner ∷ []
+words_after (minutes path) = path ∷ []
+
+-- what the program takes the line for
+abbrev pub line_of : Words → Line
+line_of (said.Init path owner) = init path.now owner.now
+line_of (said.Person words) = person words.db.now words.name.now words.role.now words.key.now
+line_of (said.Serve words) = serve words.db.now words.port.now words.count.now
+line_of (said.Answer path) = answer path.now
+line_of (said.Facts file) = facts file.now
+line_of (said.Ranges file) = ranges file.now
+line_of (said.Verdict path file) = verdict path.now file.now
+line_of (said.Db path) = db path.now
+line_of (said.Dbx path) = dbx path.now
+line_of (said.Level path) = level path.now
+line_of (said.List file) = list file.now
+line_of (said.Pack owner) = pack owner.now
+line_of (said.Minutes path) = minutes path.now
+
+-- what follows from the word at a place, where the rows that `clap` found have it
+abbrev pub with_word : List Row → ℕ → (Text → Option Line) → Option Line
+with_word rows place next = option_and_then next (first_of (id_of place) rows)
+
+-- what a subcommand of one word says by its rows
+abbrev pub one_in : (Text → Line) → List Row → Option Line
+one_in line rows = with_word rows 0 (λ word. Some (line word))
+
+-- what one of two words says
+abbrev pub two_in : (Text → Text → Line) → List Row → Option Line
+two_in line rows = with_word rows 0 (λ word. with_word rows 1 (λ other. Some (line word other)))
+
+-- what `serve` says
+abbrev pub serve_in : List Row → Option Line
+serve_in rows =
+    with_word rows 0 (λ path. with_word rows 1 (λ port. with_word rows 2 (λ count. Some (serve path port count))))
+
+-- what `person` says
+abbrev pub person_in : List Row → Option Line
+person_in rows =
+    with_word rows 0 (λ path. with_word rows 1 (λ name. with_word rows 2 (λ role. with_word rows 3 (λ key.
+    Some (person path name role key)))))
+
+-- what a subcommand of that name says by its rows
+abbrev pub line_in : Text × List Row → Option Line
+line_in (name, rows) =
+    if bytes_eq name (codes "init") then two_in init rows
+    else if bytes_eq name (codes "person") then person_in rows
+    else if bytes_eq name (codes "serve") then serve_in rows
+    else if bytes_eq name (codes "answer") then one_in answer rows
+    else if bytes_eq name (codes "facts") then one_in facts rows
+    else if bytes_eq name (codes "ranges") then one_in ranges rows
+    else if bytes_eq name (codes "verdict") then two_in verdict rows
+    else if bytes_eq name (codes "db") then one_in db rows
+    else if bytes_eq name (codes "dbx") then one_in dbx rows
+    else if bytes_eq name (codes "level") then one_in level rows
+    else if bytes_eq name (codes "list") then one_in list rows
+    else if bytes_eq name (codes "pack") then one_in pack rows
+    else if bytes_eq name (codes "minutes") then one_in minutes rows
+    else None
+
+-- a word that stands for itself: it isn't empty and doesn't begin with a hyphen (45)
+abbrev pub IsPlainWord : Text → Type 0
+IsPlainWord [] = ⊥
+IsPlainWord (b ∷ bs) = b ≢ 45
+
+-- the words are the line's, and none of those after the subcommand could be an option
+pub record Spells (words : List Text) (line : Line) : Type 0 where
+  pub same : words ≡ subcommand_name line ∷ words_after line
+  pub plain : All IsPlainWord (words_after line)
+
+-- the line that `clap` finds in the words, by its own definition
+abbrev pub line_found : List Text → Option Line
+line_found words = option_and_then line_in (subcommand_of desk_app words)
+
+-- where `clap` finds no fault, the line that it finds, and else a fault that it finds
+abbrev pub Answers : List Text → Result Words WordsFault → Type 0
+Answers words (Ok said) =
+    (fault_of desk_app words ≡ []) × (line_found words ≡ Some (line_of said))
+Answers words (Err (Refused error)) = IsAmong (kind_of error) (fault_of desk_app words)
+Answers words (Err Missing) = (fault_of desk_app words ≡ []) × (line_found words ≡ None)
+Answers words (Err NoMemory) = ⊤
+
+-- taken as just that line, want of memory aside
+abbrev pub Takes : Line → Result Words WordsFault → Type 0
+Takes line (Ok words) = line_of words ≡ line
+Takes line (Err fault) = fault ≡ NoMemory

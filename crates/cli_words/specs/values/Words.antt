@@ -1,0 +1,34 @@
+-- The words of a subcommand that have a form.
+use Rattle.std.specs.Prelude.{◌≡◌, ◌⊎◌, ℕ, List, Option, IfSome, codes}
+use Rattle.desk_bytes.specs.declared.refusal.Refusal.TheVariants as refusals
+use Rattle.cli_lines.specs.Faults.{row_of}
+use Rattle.cli_lines.specs.declared.fault.Fault.{Fault}
+use Rattle.desk_service.specs.Tokens.{HasNoToken}
+use Rattle.cli_words.specs.declared.values.stop.Stop.{Stop}
+use Rattle.cli_words.specs.declared.values.stop.Stop.TheVariants as stops
+use Rattle.cli_words.specs.declared.values.stop.Word.{Word}
+use Rattle.cli_words.specs.declared.values.stop.Word.TheVariants as word
+
+-- own: the name that help gives it, as `bad NAME` tells it
+abbrev pub name_of : Word → List ℕ
+name_of word.Owner = codes "OWNER"
+name_of word.Name = codes "NAME"
+name_of word.Role = codes "ROLE"
+name_of word.Key = codes "KEY"
+name_of word.Token = codes "TOKEN"
+name_of word.Port = codes "PORT"
+name_of word.Count = codes "COUNT"
+
+-- own: a fault stops a subcommand as itself
+abbrev pub of_fault : Fault → Stop
+of_fault fault = stops.Fault fault
+
+-- a word stops the subcommand for what is wrong with it, or memory was refused
+abbrev pub StopsBy : Word → Type 0 → Stop → Type 0
+StopsBy w wrong why = ((why ≡ stops.Word w) × wrong) ⊎ (why ≡ stops.Fault (row_of refusals.NoMemory))
+
+-- the token stops it, where the first line of the input is none, or the input
+abbrev pub StopsByToken : Option (List ℕ) → Stop → Type 0
+StopsByToken given why =
+    ((why ≡ stops.Word word.Token) × IfSome given HasNoToken)
+    ⊎ ((why ≡ stops.Fault (row_of refusals.Read)) ⊎ (why ≡ stops.Fault (row_of refusals.NoMemory)))

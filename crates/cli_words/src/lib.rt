@@ -1,0 +1,10 @@
+//! The words of the program's command line, and what they say.
+#![tactic(auto)]
+
+mod line;
+mod values;
+mod words_reading;
+
+pub use line::{PersonWords, ServeWords, Words, WordsFault};
+pub use values::{Place, Stop, Word, owner_from, person_from, place_from};
+pub use words_reading::words;

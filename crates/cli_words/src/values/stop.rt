@@ -1,0 +1,49 @@
+//! What stops a subcommand.
+ghost use Rattle.std.specs.Prelude.{◌≡◌};
+ghost use Rattle.cli_words.specs.values.Words.{name_of, of_fault};
+
+use cli_lines::Fault;
+
+/// A word of a subcommand that has a form, or the token, the first line of its standard input.
+#[derive(Clone, Copy, Debug, PartialEq, Eq)]
+pub enum Word {
+    Owner,
+    Name,
+    Role,
+    Key,
+    Token,
+    Port,
+    Count,
+}
+
+impl Word {
+    /// The name that help gives it.
+    pub fn name(self) -> &'static str
+        ensures { result.now ≡ name_of self }
+    {
+        match self {
+            Word::Owner => "OWNER",
+            Word::Name => "NAME",
+            Word::Role => "ROLE",
+            Word::Key => "KEY",
+            Word::Token => "TOKEN",
+            Word::Port => "PORT",
+            Word::Count => "COUNT",
+        }
+    }
+}
+
+/// What stops a subcommand: a word that is out of its form, or a fault.
+#[derive(Clone, Copy, Debug, PartialEq, Eq)]
+pub enum Stop {
+    Word(Word),
+    Fault(Fault),
+}
+
+impl From<Fault> for Stop {
+    ghost from_gives = { λ fault stop. stop ≡ of_fault fault };
+
+    fn from(fault: Fault) -> Stop {
+        Stop::Fault(fault)
+    }
+}

@@ -1,0 +1,142 @@
+//! From the program's words to what they say.
+ghost use Rattle.std.specs.Prelude.{◌≡◌, ◌<◌, length, map, option_and_then, option_map, string_bytes};
+ghost use Rattle.clap.specs.Words.{first_of, found_of, rows_of, subcommand_rows_of};
+ghost use Rattle.cli_grammar.specs.Commands.{id_of, ids};
+ghost use Rattle.cli_words.specs.Lines.{Answers, Line, Spells, Takes, line_in, line_of, one_in};
+ghost use Rattle.cli_words.specs.Lines.{init, person_in, serve_in, two_in, verdict};
+
+use crate::line::{PersonWords, ServeWords, Words, WordsFault};
+use clap::ArgMatches;
+use clap::error::ErrorKind;
+use cli_grammar::{desk_command, id_at};
+use std::alloc::Global;
+
+/// The word at this place of a subcommand.
+fn word_at<'a>(matches: &ArgMatches<'a>, place: usize) -> Option<&'a str>
+    requires { place < length ids }
+    ensures { option_map (λ word. word.now) result
+        ≡ first_of (id_of place) (rows_of (found_of matches.now)) }
+{
+    matches.get_str(id_at(place))
+}
+
+/// `init` with its words.
+fn init_at<'a>(matches: &ArgMatches<'a>) -> Option<Words<'a>>
+    ensures { option_map line_of result ≡ two_in init (rows_of (found_of matches.now)) }
+{
+    let db = word_at(matches, 0)?;
+    let owner = word_at(matches, 1)?;
+    Some(Words::Init { db, owner })
+}
+
+/// `person` with its words.
+fn person_at<'a>(matches: &ArgMatches<'a>) -> Option<Words<'a>>
+    ensures { option_map line_of result ≡ person_in (rows_of (found_of matches.now)) }
+{
+    let db = word_at(matches, 0)?;
+    let name = word_at(matches, 1)?;
+    let role = word_at(matches, 2)?;
+    let key = word_at(matches, 3)?;
+    Some(Words::Person(PersonWords {
+        db,
+        name,
+        role,
+        key,
+    }))
+}
+
+/// `serve` with its words.
+fn serve_at<'a>(matches: &ArgMatches<'a>) -> Option<Words<'a>>
+    ensures { option_map line_of result ≡ serve_in (rows_of (found_of matches.now)) }
+{
+    let db = word_at(matches, 0)?;
+    let port = word_at(matches, 1)?;
+    let count = word_at(matches, 2)?;
+    Some(Words::Serve(ServeWords { db, port, count }))
+}
+
+/// `verdict` with its words.
+fn verdict_at<'a>(matches: &ArgMatches<'a>) -> Option<Words<'a>>
+    ensures { option_map line_of result ≡ two_in verdict (rows_of (found_of matches.now)) }
+{
+    let db = word_at(matches, 0)?;
+    let file = word_at(matches, 1)?;
+    Some(Words::Verdict { db, file })
+}
+
+/// The subcommand of this name, with its words.
+fn line_at<'a>(name: &'a str, matches: &ArgMatches<'a>) -> Option<Words<'a>>
+    ensures { option_map line_of result ≡ line_in (name.now, rows_of (found_of matches.now)) }
+{
+    match name {
+        "init" => init_at(matches),
+        "person" => person_at(matches),
+        "serve" => serve_at(matches),
+        "answer" => {
+            let db = word_at(matches, 0)?;
+            Some(Words::Answer { db })
+        }
+        "facts" => {
+            let file = word_at(matches, 0)?;
+            Some(Words::Facts { file })
+        }
+        "ranges" => {
+            let file = word_at(matches, 0)?;
+            Some(Words::Ranges { file })
+        }
+        "verdict" => verdict_at(matches),
+        "db" => {
+            let db = word_at(matches, 0)?;
+            Some(Words::Db { db })
+        }
+        "dbx" => {
+            let db = word_at(matches, 0)?;
+            Some(Words::Dbx { db })
+        }
+        "level" => {
+            let db = word_at(matches, 0)?;
+            Some(Words::Level { db })
+        }
+        "list" => {
+            let file = word_at(matches, 0)?;
+            Some(Words::List { file })
+        }
+        "pack" => {
+            let owner = word_at(matches, 0)?;
+            Some(Words::Pack { owner })
+        }
+        "minutes" => {
+            let db = word_at(matches, 0)?;
+            Some(Words::Minutes { db })
+        }
+        _ => None,
+    }
+}
+
+/// What `clap` found, as a subcommand with its words.
+fn met<'a>(matches: &ArgMatches<'a>) -> Option<Words<'a>>
+    ensures { option_map line_of result ≡ option_and_then line_in (subcommand_rows_of matches.now) }
+{
+    let (name, found) = matches.subcommand()?;
+    line_at(name, found)
+}
+
+/// Reads the words after the program's name.
+pub fn words<'a>(alloc: Global, given: &'a [String]) -> Result<Words<'a>, WordsFault>
+    ensures exact { Answers (map string_bytes given.entry.now) result }
+    ensures taken { (line : Line) → Spells (map string_bytes given.entry.now) line
+        → Takes line result }
+{
+    let Ok(command) = desk_command(alloc) else {
+        return Err(WordsFault::NoMemory);
+    };
+    match command.try_get_matches_from(given) {
+        Err(error) => {
+            if error.kind() == ErrorKind::OutOfMemory {
+                return Err(WordsFault::NoMemory);
+            }
+            Err(WordsFault::Refused(error))
+        }
+        Ok(matches) => met(&matches).ok_or(WordsFault::Missing),
+    }
+}

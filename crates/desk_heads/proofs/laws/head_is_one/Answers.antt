@@ -1,5 +1,0 @@
-use Rattle.httparse.proofs.GrammarLemmas.{request_unique}
-use Rattle.desk_heads.proofs.laws.head_is_one.Goals as goal
-
-pub returns : goal.returns
-returns c = λ b h k rest others first second. request_unique b h k rest others first.reads second.reads

@@ -1,6 +1,0 @@
-mod FindLemmas
-mod GatherLemmas
-mod KeyLemmas
-mod OrderLemmas
-mod ShownLemmas
-mod StepLemmas

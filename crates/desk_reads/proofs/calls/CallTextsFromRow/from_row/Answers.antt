@@ -1,8 +1,0 @@
-use Rattle.std.proofs.Common.{◌≡◌, length, rules}
-use Rattle.desk_reads.proofs.RowLemmas.{whole_row}
-use Rattle.desk_reads.proofs.calls.CallTextsFromRow.from_row.Goals as goal
-
-pub returns-clause-only : goal.returns-clause-only
-returns-clause-only c =
-    let count : length c.args.row.now ≡ 5 = search rules in
-    whole_row _ c.args.row.now (c.in_ok-number.ensures.value, (c.in_ok-caller.ensures, (c.in_ok-key.ensures, (c.in_ok-text.ensures, (c.in_ok-reply.ensures, count)))))

@@ -1,8 +1,0 @@
-//! The report of a desk: what it counts, as fourteen lines of text.
-#![tactic(auto)]
-
-mod laws;
-mod text;
-
-pub use laws::report_is_the_history;
-pub use text::report;

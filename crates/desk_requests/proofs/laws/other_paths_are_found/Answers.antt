@@ -1,8 +1,0 @@
-use Rattle.std.proofs.Common.{refl}
-use Rattle.matchit.proofs.OnLiterals.{matchit_on_literals}
-use Rattle.desk_requests.specs.Paths.{added, with_requests, with_proposals, with_lists, with_rest, table, path_of}
-use Rattle.desk_requests.proofs.laws.other_paths_are_found.Goals as goal
-
-pub returns : goal.returns
-unfolding matchit_on_literals added with_requests with_proposals with_lists with_rest table path_of
-returns c = record { level = refl; imports_dbx = refl; imports_csv = refl; imports_level = refl; verdict = refl; report = refl }

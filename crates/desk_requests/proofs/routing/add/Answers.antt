@@ -1,8 +1,0 @@
-use Rattle.matchit.specs.Route.{parse_route}
-use Rattle.desk_requests.specs.Paths.{added}
-use Rattle.desk_requests.proofs.RouteLemmas.{inserted}
-use Rattle.desk_requests.proofs.routing.add.Goals as goal
-
-pub returns : goal.returns
-unfolding added
-returns c = inserted (parse_route c.args.route.now) c.args.path c.args.router.now c.insert.new.self c.insert.result c.insert.ensures

@@ -1,7 +1,0 @@
-use Rattle.std.proofs.Common.{refl}
-use Rattle.desk_requests.specs.Paths.{with_lists}
-use Rattle.desk_requests.proofs.routing.add_lists.Goals as goal
-
-pub returns : goal.returns
-unfolding with_lists
-returns c = rw (c.in_ok-add-6.ensures, c.in_ok-add-5.ensures, c.in_ok-add-4.ensures, c.in_ok-add-3.ensures, c.in_ok-add-2.ensures, c.in_ok-add.ensures) refl

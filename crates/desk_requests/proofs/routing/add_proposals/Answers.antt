@@ -1,7 +1,0 @@
-use Rattle.std.proofs.Common.{refl}
-use Rattle.desk_requests.specs.Paths.{with_proposals}
-use Rattle.desk_requests.proofs.routing.add_proposals.Goals as goal
-
-pub returns : goal.returns
-unfolding with_proposals
-returns c = rw (c.in_ok-add-3.ensures, c.in_ok-add-2.ensures, c.in_ok-add.ensures) refl

@@ -1,7 +1,0 @@
-use Rattle.std.proofs.Common.{refl}
-use Rattle.desk_requests.specs.Paths.{table}
-use Rattle.desk_requests.proofs.routing.router.Goals as goal
-
-pub returns : goal.returns
-unfolding table
-returns c = rw (c.in_ok-add_rest.ensures, c.in_ok-add_lists.ensures, c.in_ok-add_proposals.ensures, c.in_ok-add_requests.ensures, c.new-router.ensures) refl

@@ -1,7 +1,0 @@
-pub mod Faults
-pub mod Fields
-pub mod Lengths
-pub mod Paths
-pub mod Routes
-pub mod Wanted
-pub mod Asked

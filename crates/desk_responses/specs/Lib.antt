@@ -1,3 +1,0 @@
-pub mod Outages
-pub mod Refusals
-pub mod Responses

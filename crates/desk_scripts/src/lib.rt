@@ -1,7 +1,0 @@
-//! Calls and questions of a desk, read from the words of a script's lines. For tests.
-#![tactic(auto)]
-
-mod largest;
-mod word;
-
-pub use word::Words;

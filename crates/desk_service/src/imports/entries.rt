@@ -1,0 +1,55 @@
+//! What an entry of a signature list is to the desk.
+ghost use Rattle.std.specs.Prelude.{◌≡◌, ◌≤◌, length, take, true};
+ghost use Rattle.sha2.specs.Sha256.{sha256};
+ghost use Rattle.siglist.specs.EntryViews.{seen_entry};
+ghost use Rattle.desk_service.specs.imports.Entries as spec;
+ghost use Rattle.desk_service.specs.imports.FromLists as items;
+ghost use Rattle.desk_service.specs.imports.Gathering.{is_free};
+
+use crate::imports::item::Item;
+use desk_bytes::{Digest, tbs};
+use sha2::{Digest as _, Sha256};
+use siglist::{Entry, Kind};
+
+/// The digest in the first 32 bytes.
+fn first_digest(bytes: &[u8]) -> Digest
+    requires { 32 ≤ length bytes.now }
+    ensures { result ≡ take 32 bytes.now }
+{
+    let (front, _) = bytes.split_at(32);
+    let mut digest = [0; 32];
+    digest.copy_from_slice(front);
+    Digest::from(digest)
+}
+
+/// The SHA-256 of some bytes.
+fn hash_of(bytes: &[u8]) -> Digest
+    ensures { result ≡ sha256 bytes.now }
+{
+    Digest::from(Sha256::digest(bytes))
+}
+
+/// The SHA-256 of the TBSCertificate of the certificate that the bytes are, or nothing of other
+/// bytes.
+fn certificate_item(bytes: &[u8]) -> Item
+    ensures { result ≡ items.certificate_item (items.tbs_of bytes.now) }
+{
+    match tbs(bytes) {
+        Ok(tbs) => Item::Certificate(hash_of(tbs)),
+        Err(_) => Item::Passed,
+    }
+}
+
+/// What an entry of a list of this kind is.
+pub(crate) fn item_of(kind: &Kind, entry: &Entry<'_>) -> Item
+    requires { spec.Suits kind.now (seen_entry entry.now) }
+    ensures value { result ≡ items.item_of kind.now (seen_entry entry.now) }
+    ensures other { is_free result ≡ true }
+{
+    match kind {
+        Kind::Sha256 => Item::Digest(first_digest(entry.body)),
+        Kind::X509 => certificate_item(entry.body),
+        Kind::X509Sha256 => Item::Certificate(first_digest(entry.body)),
+        Kind::Other(_) => Item::Passed,
+    }
+}

@@ -1,0 +1,68 @@
+//! SBAT levels imported.
+ghost use Rattle.std.specs.Prelude.{◌≡◌, IfErr, IfOk, IfSome, true};
+ghost use Rattle.sbat.specs.Fields.{is_name};
+ghost use Rattle.desk_service.specs.imports.FromLevel.{IsLevelImport, RefusesLevelImport, level_items};
+ghost use Rattle.desk_service.specs.imports.Gathering.{Gathers};
+
+use crate::imports::fault::ImportFault;
+use crate::imports::gathering::Gathered;
+use crate::imports::item::Item;
+use desk_texts::Command;
+use sbat::{Component, ComponentName, Generation, Level, NameFault, SbatFault, read_level};
+use std::alloc::Global;
+
+/// The component of a name, or nothing where memory was refused.
+fn component_of(alloc: Global, name: &str, generation: Generation) -> Option<Component>
+    requires { is_name name.now ≡ true }
+    ensures { IfSome result (λ component.
+        component ≡ record { name = name.now; generation = generation }) }
+{
+    match ComponentName::parse(alloc, name.as_bytes()) {
+        Ok(name) => Some(Component { name, generation }),
+        Err(NameFault::Form) => unreachable!(),
+        Err(NameFault::NoMemory) => None,
+    }
+}
+
+/// Gathers the names of a level, or nothing where memory was refused.
+fn gather(alloc: Global, level: &Level) -> Option<Gathered>
+    ensures { IfSome result (Gathers (level_items level.now)) }
+{
+    let mut gathered = Gathered::new(alloc);
+    for (name, generation) in level.iter() {
+        let Some(component) = component_of(alloc, name, generation) else {
+            return None;
+        };
+        if gathered.keep(Item::Component(component)).is_err() {
+            return None;
+        }
+    }
+    Some(gathered)
+}
+
+/// The import of the text of an SBAT level (shim's SBAT.md), which is one command with the level's
+/// stamp. It names the level's names ascending by their bytes, each once with its greatest
+/// generation. The text is read as `sbat::read_level` reads it. Takes memory for 10,001 names at
+/// most, twice.
+///
+/// The first wrong line is answered as Line with its number, line 1 where there is none at all.
+/// TooLong, for more than 10,000 different names, comes only where no line is wrong.
+pub fn import_level(alloc: Global, text: &[u8]) -> Result<Command, ImportFault>
+    ensures exact { IfOk result (IsLevelImport text.now) }
+
+    ensures first { IfErr result (RefusesLevelImport text.now) }
+{
+    let level = match read_level(alloc, text) {
+        Ok(level) => level,
+        Err(SbatFault::Row(line)) => return Err(ImportFault::Line(line)),
+        Err(SbatFault::TooLong) => return Err(ImportFault::TooLong),
+        Err(SbatFault::NoMemory) => return Err(ImportFault::NoMemory),
+    };
+    let Some(gathered) = gather(alloc, &level) else {
+        return Err(ImportFault::NoMemory);
+    };
+    match gathered.into_command(Some(level.stamp())) {
+        Some(command) => Ok(command),
+        None => unreachable!(),
+    }
+}

@@ -1,0 +1,56 @@
+//! Signature lists imported.
+ghost use Rattle.std.specs.Prelude.{◌≡◌, ◌++◌, List, IfErr, IfOk, OnOk};
+ghost use Rattle.siglist.specs.SignatureLists.{IsList, Placed};
+ghost use Rattle.desk_service.specs.imports.FromLists.{IsDbxImport, RefusesDbx, list_items};
+ghost use Rattle.desk_service.specs.imports.Gathering.{Gathers};
+ghost use Rattle.desk_service.specs.declared.imports.item.Item.{Item};
+
+use crate::imports::entries::item_of;
+use crate::imports::fault::ImportFault;
+use crate::imports::gathering::Gathered;
+use desk_texts::Command;
+use siglist::{SignatureList, lists};
+use std::alloc::{AllocError, Global};
+
+/// Gathers the entries of one list.
+fn keep_list(gathered: &mut Gathered, list: &SignatureList<'_>) -> Result<(), AllocError>
+    requires { IsList list.now.list }
+    ensures ok { OnOk result ((items : List Item)
+        → Gathers items gathered.old → Gathers (items ++ list_items list.now.list) gathered.new) }
+{
+    let kind = list.kind();
+    for entry in list.entries() {
+        gathered.keep(item_of(&kind, &entry))?;
+    }
+    Ok(())
+}
+
+/// The import of the signature lists that the bytes are (UEFI 2.10, section 32.4.1), which is one
+/// command without a stamp. An entry of a list of EFI_CERT_SHA256_GUID revokes a digest of an
+/// image; one of EFI_CERT_X509_SHA256_GUID the certificate with that SHA-256 of its TBSCertificate,
+/// at any time; one of EFI_CERT_X509_GUID the certificate that its body is. All other entries, and
+/// bodies that are no certificate, are passed over and counted. Takes memory for 10,001 entries at
+/// most.
+///
+/// Bytes that are no row of lists are refused as Lists, with the offset of the first list that is
+/// wrong. TooLong, for more than 10,000 entries, comes only where all lists are right.
+pub fn import_dbx(alloc: Global, bytes: &[u8]) -> Result<Command, ImportFault>
+    ensures exact { IfOk result (IsDbxImport bytes.now) }
+
+    ensures first { IfErr result (RefusesDbx bytes.now) }
+{
+    let mut gathered = Gathered::new(alloc);
+    let row = match lists(bytes) {
+        Ok(row) => row,
+        Err(fault) => return Err(ImportFault::Lists(fault)),
+    };
+    for list in row {
+        if keep_list(&mut gathered, &list).is_err() {
+            return Err(ImportFault::NoMemory);
+        }
+    }
+    match gathered.into_command(None) {
+        Some(command) => Ok(command),
+        None => Err(ImportFault::TooLong),
+    }
+}

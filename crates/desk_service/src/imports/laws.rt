@@ -1,0 +1,24 @@
+//! Laws of the definitions that this crate's contracts cite.
+ghost use Rattle.std.specs.Prelude.{◌≡◌, ℕ, List, Option, Some};
+ghost use Rattle.desk_bytes.specs.Elements.{IsCertificate};
+ghost use Rattle.desk_texts.specs.declared.command.Command.{Command};
+ghost use Rattle.desk_service.specs.imports.FromCsv.{IsCsvImport};
+ghost use Rattle.desk_service.specs.imports.FromLevel.{IsLevelImport};
+ghost use Rattle.desk_service.specs.imports.FromLists.{IsDbxImport, tbs_of};
+
+/// What `tbs_of` reads of bytes is the TBSCertificate of the certificate that they are, and it
+/// reads that of each.
+pub fn tbs_is_read()
+    ensures found { (b t : List ℕ) → tbs_of b ≡ Some t → IsCertificate b t }
+    ensures each { (b t : List ℕ) → IsCertificate b t → tbs_of b ≡ Some t }
+{}
+
+/// An input is one import at most.
+pub fn import_is_one()
+    ensures dbx { (bytes : List ℕ) (c d : Command)
+        → IsDbxImport bytes c → IsDbxImport bytes d → c ≡ d }
+    ensures csv { (text : List ℕ) (stamp : Option ℕ) (c d : Command)
+        → IsCsvImport text stamp c → IsCsvImport text stamp d → c ≡ d }
+    ensures level { (text : List ℕ) (c d : Command)
+        → IsLevelImport text c → IsLevelImport text d → c ≡ d }
+{}

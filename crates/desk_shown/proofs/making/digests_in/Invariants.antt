@@ -1,6 +1,0 @@
-use Rattle.std.proofs.Common.{◌≡◌, take}
-use Rattle.desk_shown.specs.Steps.{digests_of}
-use Rattle.desk_shown.proofs.making.digests_in.Given as goal
-
-abbrev pub invariant-loop-row : goal.invariant-loop-row
-invariant-loop-row l = l.digests.items ≡ digests_of (take l.row-index l.rows)

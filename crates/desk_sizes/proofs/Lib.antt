@@ -1,2 +1,0 @@
-pub mod ListedLemmas
-pub mod SizeLemmas

@@ -1,8 +1,0 @@
-use Rattle.sqlite.specs.Held.{state}
-use Rattle.sqlite.specs.Values.{bound}
-use Rattle.desk_sql.proofs.WriteLemmas.{inserts}
-use Rattle.desk_sql.proofs.writing.insert.Goals as goal
-
-pub returns-clause-value : goal.returns-clause-value
-returns-clause-value g c clean inside =
-    inserts c.args.sql.now (bound c.args.params.now) (state g.S.Store c.args.tx.now.conn.now) (state g.S.Store c.execute.new.self.conn.now) c.in_ok-_inserted._inserted (c.in_ok-_inserted.ensures.runs clean inside)

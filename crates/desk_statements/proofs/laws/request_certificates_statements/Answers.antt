@@ -1,9 +1,0 @@
-use Rattle.desk_statements.proofs.InsertFacts.{insert_request_certificate}
-use Rattle.desk_statements.proofs.SelectFacts.{select_request_certificates}
-use Rattle.desk_statements.proofs.laws.request_certificates_statements.Goals as goal
-
-pub returns-clause-inserted : goal.returns-clause-inserted
-returns-clause-inserted g = insert_request_certificate
-
-pub returns-clause-of_request : goal.returns-clause-of_request
-returns-clause-of_request g = select_request_certificates

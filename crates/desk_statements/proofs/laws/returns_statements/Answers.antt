@@ -1,9 +1,0 @@
-use Rattle.desk_statements.proofs.InsertFacts.{insert_return}
-use Rattle.desk_statements.proofs.SelectFacts.{select_return}
-use Rattle.desk_statements.proofs.laws.returns_statements.Goals as goal
-
-pub returns-clause-inserted : goal.returns-clause-inserted
-returns-clause-inserted g = insert_return
-
-pub returns-clause-of_request : goal.returns-clause-of_request
-returns-clause-of_request g = select_return

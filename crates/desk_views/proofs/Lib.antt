@@ -1,3 +1,0 @@
-mod FindLemmas
-mod LearningLemmas
-mod NamedLemmas

@@ -1,3 +1,0 @@
-pub mod Learning
-pub mod Named
-pub mod Steps

@@ -1,0 +1,96 @@
+//! Connections, one after another.
+ghost use Rattle.std.specs.Prelude.{◌≡◌, IfErr, IsErrOf, Result};
+ghost use Rattle.desk_http.specs.declared.served.HttpFault.{HttpFault as Fault};
+ghost use Rattle.desk_http.specs.declared.served.Served.{Served as Came};
+ghost use Rattle.http_net.specs.Faults.{IsServingRefusal};
+ghost use Rattle.http_net.specs.Turns.{ServesInTurn};
+ghost use Rattle.http_net.specs.Wire.{IsOneRequest};
+
+use crate::connection::serve_stream;
+use crate::peers::Peers;
+use crate::served::ending;
+use desk_bytes::Refusal;
+use desk_calls::Answering;
+use desk_http::{HttpFault, Served};
+use std::alloc::Global;
+use std::net::{Ipv4Addr, Net, SocketAddr, SocketAddrV4, TcpListener, TcpStream};
+use std::time::Clock;
+
+/// Listens at this port of 127.0.0.1, and nowhere else. Read: the port can't be had.
+pub fn listen<N: Net<Listener = TcpListener, Stream = TcpStream>>(
+    net: &N,
+    port: u16,
+) -> Result<TcpListener, Refusal>
+    ensures { IfErr result (λ refusal. refusal ≡ Refusal.Read) }
+{
+    let home = SocketAddr::V4(SocketAddrV4::new(Ipv4Addr::new(127, 0, 0, 1), port));
+    match TcpListener::bind(net, home) {
+        Ok(listener) => Ok(listener),
+        Err(_) => Err(Refusal::Read),
+    }
+}
+
+/// The peers that connect to a listener, each in its time by a clock.
+#[derive(Drop)]
+struct Callers<'l, C> {
+    listener: &'l TcpListener,
+    clock: &'l C,
+}
+
+impl<'l, C: Clock, D: Answering> Peers<D> for Callers<'l, C> {
+    ghost serves = { λ _. IsOneRequest D.clean D.failed };
+
+    fn serve_next(&self, alloc: Global, desk: &mut D) -> Option<Result<Served, HttpFault>> {
+        match self.listener.accept() {
+            Ok((stream, _)) => Some(serve_stream(alloc, self.clock, desk, &stream)),
+            Err(_) => None,
+        }
+    }
+}
+
+/// Serves so many peers, one after another, unless one ends the program before.
+fn serve_peers<D: Answering, P: Peers<D>>(
+    alloc: Global,
+    desk: &mut D,
+    peers: &P,
+    count: u32,
+) -> Result<(), Refusal>
+    ensures in_turn { ServesInTurn (P.serves peers.now) count desk.old desk.new result }
+    ensures named { IfErr result IsServingRefusal }
+    ensures before { D.clean desk.new → D.clean desk.old }
+    ensures poisons { IsErrOf result Refusal.Store → D.failed desk.new }
+    ensures closed { D.failed desk.old → desk.new ≡ desk.old }
+{
+    for _ in 0..count {
+        let Some(served) = peers.serve_next(alloc, desk) else {
+            return Err(Refusal::Read);
+        };
+        match ending(served) {
+            Some(refusal) => return Err(refusal),
+            None => {}
+        }
+    }
+    Ok(())
+}
+
+/// Serves so many connections, one request each, one after another. What stops one connection ends that
+/// connection alone. By the clock a peer has 30 seconds for its request, and one more for each 64 KiB that came, and
+/// as long to take the response; then it is let go. Takes memory for each.
+///
+/// Read: a connection couldn't be accepted. Store, Reopen: that response was written, and the desk has to be
+/// opened again.
+pub fn serve<C: Clock, D: Answering>(
+    alloc: Global,
+    clock: &C,
+    desk: &mut D,
+    listener: &TcpListener,
+    count: u32,
+) -> Result<(), Refusal>
+    ensures in_turn { ServesInTurn (IsOneRequest D.clean D.failed) count desk.old desk.new result }
+    ensures named { IfErr result IsServingRefusal }
+    ensures before { D.clean desk.new → D.clean desk.old }
+    ensures poisons { IsErrOf result Refusal.Store → D.failed desk.new }
+    ensures closed { D.failed desk.old → desk.new ≡ desk.old }
+{
+    serve_peers(alloc, desk, &Callers { listener, clock }, count)
+}

@@ -1,0 +1,7 @@
+use Rattle.std.proofs.Common.{refl}
+use Rattle.http_requests.specs.Paths.{with_proposals}
+use Rattle.http_requests.proofs.routing.add_proposals.Goals as goal
+
+pub returns : goal.returns
+unfolding with_proposals
+returns c = rw (c.in_ok-add-3.ensures, c.in_ok-add-2.ensures, c.in_ok-add.ensures) refl

@@ -1,0 +1,9 @@
+pub mod Faults
+pub mod Fields
+pub mod Lengths
+pub mod Paths
+pub mod Routes
+pub mod Wanted
+pub mod Asked
+pub mod bodies
+pub mod heads

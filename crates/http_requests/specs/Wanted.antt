@@ -1,0 +1,86 @@
+-- own: what a head asks for, or the first of the checks on it that fails.
+use Rattle.std.specs.Prelude.{◌≡◌, ◌≢◌, ℕ, List, Bool, Option, Some, None, Result, Ok, Err, nat_le, ◌==◌, if◌then◌else◌}
+use Rattle.std.specs.List.{before_first, after_first}
+use Rattle.http_requests.specs.heads.Fields.{Parts}
+use Rattle.http_requests.specs.Fields.{Values, fields_of, bytes_of}
+use Rattle.http_requests.specs.Paths.{path_of}
+use Rattle.http_requests.specs.Routes.{route_of, methods_of, is_read, limit_of}
+use Rattle.http_requests.specs.declared.path.Path.{Path}
+use Rattle.http_requests.specs.declared.route.Route.{Route}
+use Rattle.http_requests.specs.declared.want.Wanted.{Wanted}
+use Rattle.http_requests.specs.declared.fault.WantedFault.{WantedFault}
+use Rattle.http_requests.specs.declared.fault.WantedFault.TheVariants.{BadField, NoRoute, BadMethod, LengthNeeded, TooLarge, NoMemory}
+
+-- whether a byte is a slash (47)
+abbrev pub is_slash : ℕ → Bool
+is_slash b = b == 47
+
+-- the part of a target between its second slash and the third, or the end: {no} where its path has it
+abbrev pub number_part : List ℕ → List ℕ
+number_part target = before_first is_slash (after_first is_slash (after_first is_slash target))
+
+-- what is asked for: a route, the length of the body, and the fields as they stand
+pub record Want : Type 0 where
+  pub route : Route
+  pub size : ℕ
+  pub number : List ℕ
+  pub token : Option (List ℕ)
+  pub key : Option (List ℕ)
+  pub title : Option (List ℕ)
+  pub stamp : Option (List ℕ)
+
+-- the length of a route's body, where this one is announced: GET has none, POST announces it within the limit
+abbrev pub size_of : Route → Option ℕ → Result ℕ WantedFault
+size_of route None = if is_read route then Ok 0 else Err LengthNeeded
+size_of route (Some n) =
+    if is_read route then (if n == 0 then Ok 0 else Err BadField)
+    else (if nat_le n (limit_of route) then Ok n else Err TooLarge)
+
+-- what is asked for at a route with a body of that length
+abbrev pub of_size : Parts → Values → Route → Result ℕ WantedFault → Result Want WantedFault
+of_size p values route (Err fault) = Err fault
+of_size p values route (Ok size) = Ok (record {
+  route = route;
+  size = size;
+  number = number_part p.target;
+  token = values.token;
+  key = values.key;
+  title = values.title;
+  stamp = values.stamp;
+})
+
+-- what is asked for at a path, where its method has this route
+abbrev pub of_route : Parts → Values → Path → Option Route → Result Want WantedFault
+of_route p values path None = Err (BadMethod (methods_of path))
+of_route p values path (Some route) = of_size p values route (size_of route values.length)
+
+-- what is asked for, where the target is this path
+abbrev pub of_path : Parts → Values → Option Path → Result Want WantedFault
+of_path p values None = Err NoRoute
+of_path p values (Some path) = of_route p values path (route_of path p.method)
+
+-- what is asked for, where these are the fields
+abbrev pub of_fields : Parts → Result Values WantedFault → Result Want WantedFault
+of_fields p (Err fault) = Err fault
+of_fields p (Ok values) = of_path p values (path_of p.target)
+
+-- what a head asks for: first its fields are looked at, then path, method and length
+abbrev pub wanted_of : Parts → Result Want WantedFault
+wanted_of p = of_fields p (fields_of p)
+
+-- what a value of the code asks for
+abbrev pub shown : Wanted → Want
+shown w = record {
+  route = w.route;
+  size = w.size;
+  number = w.number.now;
+  token = bytes_of w.token;
+  key = bytes_of w.key;
+  title = bytes_of w.title;
+  stamp = bytes_of w.stamp;
+}
+
+-- the code gives this, or tells that memory was refused
+abbrev pub Gives : Result Want WantedFault → Result Wanted WantedFault → Type 0
+Gives want (Ok given) = want ≡ Ok (shown given)
+Gives want (Err fault) = fault ≢ NoMemory → want ≡ Err fault

@@ -1,0 +1,106 @@
+//! The bodies of requests.
+ghost use Rattle.std.specs.Prelude.{◌≡◌, IfOk, IfErr, IfSome, Some};
+ghost use Rattle.serde_json.specs.View.{view};
+ghost use Rattle.http_requests.specs.bodies.Bodies as spec;
+
+use crate::bodies::members::{one, three, two};
+use crate::bodies::values::{component, digest, generation, kind, note, parse, stamp, vote};
+use crate::{BodyFault, LevelBody, ReviewBody, UnlistBody};
+use desk_bytes::Digest;
+use serde_json::Value;
+use std::alloc::Global;
+
+/// The review that a value is.
+fn review_in(alloc: Global, value: &Value) -> Result<ReviewBody, BodyFault>
+    ensures ok { IfOk result (λ body. spec.review_in (view value.now) ≡ Some body) }
+    ensures err { IfErr result (spec.Refuses (spec.review_in (view value.now))) }
+{
+    let Some((said, word)) = two(value, ("note", "vote")) else {
+        return Err(BodyFault::BadBody);
+    };
+    let Some(vote) = vote(word) else {
+        return Err(BodyFault::BadBody);
+    };
+    let note = note(alloc, said)?;
+    Ok(ReviewBody { note, vote })
+}
+
+/// The digest of an object of one.
+fn digest_in(value: &Value) -> Result<Digest, BodyFault>
+    ensures ok { IfOk result (λ body. spec.digest_object (view value.now) ≡ Some body) }
+    ensures err { IfErr result (spec.Refuses (spec.digest_object (view value.now))) }
+{
+    let Some(text) = one(value, "digest") else {
+        return Err(BodyFault::BadBody);
+    };
+    digest(text).ok_or(BodyFault::BadBody)
+}
+
+/// What a value says is taken off the list.
+fn unlist_in(value: &Value) -> Result<UnlistBody, BodyFault>
+    ensures ok { IfOk result (λ body. spec.unlist_in (view value.now) ≡ Some body) }
+    ensures err { IfErr result (spec.Refuses (spec.unlist_in (view value.now))) }
+{
+    let Some((text, word)) = two(value, ("digest", "kind")) else {
+        return Err(BodyFault::BadBody);
+    };
+    let (Some(digest), Some(kind)) = (digest(text), kind(word)) else {
+        return Err(BodyFault::BadBody);
+    };
+    Ok(UnlistBody { digest, kind })
+}
+
+/// What a value says the level is raised by.
+fn level_in(alloc: Global, value: &Value) -> Result<LevelBody, BodyFault>
+    ensures ok { IfOk result (λ body. spec.level_in (view value.now) ≡ Some body) }
+    ensures err { IfErr result (spec.Refuses (spec.level_in (view value.now))) }
+{
+    let Some((name, least, time)) = three(value, ("component", "generation", "stamp")) else {
+        return Err(BodyFault::BadBody);
+    };
+    let (Some(generation), Some(stamp)) = (generation(least), stamp(time)) else {
+        return Err(BodyFault::BadBody);
+    };
+    let component = component(alloc, name)?;
+    Ok(LevelBody {
+        component,
+        generation,
+        stamp,
+    })
+}
+
+/// Reads the body `{"note":TEXT,"vote":"yes" or "no"}`. Takes memory.
+pub fn read_review(alloc: Global, body: &[u8]) -> Result<ReviewBody, BodyFault>
+    ensures ok { IfOk result (λ review. spec.review_of body.now ≡ Some review) }
+    ensures err { IfErr result (spec.Refuses (spec.review_of body.now)) }
+{
+    let value = parse(alloc, body)?;
+    review_in(alloc, &value)
+}
+
+/// Reads the body `{"digest":HEX}`, with 64 hexadecimal digits of either case. Takes memory.
+pub fn read_digest(alloc: Global, body: &[u8]) -> Result<Digest, BodyFault>
+    ensures ok { IfOk result (λ digest. spec.named_digest body.now ≡ Some digest) }
+    ensures err { IfErr result (spec.Refuses (spec.named_digest body.now)) }
+{
+    let value = parse(alloc, body)?;
+    digest_in(&value)
+}
+
+/// Reads the body `{"digest":HEX,"kind":"digest" or "certificate"}`. Takes memory.
+pub fn read_unlist(alloc: Global, body: &[u8]) -> Result<UnlistBody, BodyFault>
+    ensures ok { IfOk result (λ unlist. spec.unlist_of body.now ≡ Some unlist) }
+    ensures err { IfErr result (spec.Refuses (spec.unlist_of body.now)) }
+{
+    let value = parse(alloc, body)?;
+    unlist_in(&value)
+}
+
+/// Reads the body `{"component":NAME,"generation":N,"stamp":N}`. Takes memory.
+pub fn read_level(alloc: Global, body: &[u8]) -> Result<LevelBody, BodyFault>
+    ensures ok { IfOk result (λ level. spec.level_of body.now ≡ Some level) }
+    ensures err { IfErr result (spec.Refuses (spec.level_of body.now)) }
+{
+    let value = parse(alloc, body)?;
+    level_in(alloc, &value)
+}

@@ -1,0 +1,72 @@
+//! Why a request is refused by its head.
+ghost use Rattle.std.specs.Prelude.{◌≡◌};
+ghost use Rattle.http_requests.specs.Faults as spec;
+
+use crate::Methods;
+use desk_bytes::Refusal;
+
+/// Why a head asks for nothing that the desk could do, before the caller is looked for.
+#[derive(Clone, Copy, Debug, PartialEq, Eq)]
+pub enum WantedFault {
+    /// No head of at most 64 fields begins the bytes.
+    BadHead,
+    /// There is a field Transfer-Encoding.
+    NotSupported,
+    /// A field that counts comes twice, Content-Length isn't 1 to 10 digits, or GET announces a body.
+    BadField,
+    /// The target is no path of the table.
+    NoRoute,
+    /// The path has these methods, and not the request's.
+    BadMethod(Methods),
+    /// POST without Content-Length.
+    LengthNeeded,
+    /// The body is longer than the route's limit.
+    TooLarge,
+    /// Memory was refused.
+    NoMemory,
+}
+
+/// Why the fields of a request don't say what its route needs.
+#[derive(Clone, Copy, Debug, PartialEq, Eq)]
+pub enum AskedFault {
+    /// Desk-Key, Desk-Title or Desk-Stamp is missing where it is needed, or out of its form.
+    BadField,
+    /// What stands for `{no}` is no request's number.
+    NoSuchRequest,
+    /// What stands for `{no}` is no proposal's number.
+    NoSuchProposal,
+    /// Memory was refused.
+    NoMemory,
+}
+
+impl WantedFault {
+    /// Its row in the table of refusals.
+    pub fn refusal(self) -> Refusal
+        ensures { result ≡ spec.wanted_refusal self }
+    {
+        match self {
+            WantedFault::BadHead => Refusal::BadHead,
+            WantedFault::NotSupported => Refusal::NotSupported,
+            WantedFault::BadField => Refusal::BadField,
+            WantedFault::NoRoute => Refusal::NoRoute,
+            WantedFault::BadMethod(_) => Refusal::BadMethod,
+            WantedFault::LengthNeeded => Refusal::LengthNeeded,
+            WantedFault::TooLarge => Refusal::TooLarge,
+            WantedFault::NoMemory => Refusal::NoMemory,
+        }
+    }
+}
+
+impl AskedFault {
+    /// Its row in the table of refusals.
+    pub fn refusal(self) -> Refusal
+        ensures { result ≡ spec.asked_refusal self }
+    {
+        match self {
+            AskedFault::BadField => Refusal::BadField,
+            AskedFault::NoSuchRequest => Refusal::NoSuchRequest,
+            AskedFault::NoSuchProposal => Refusal::NoSuchProposal,
+            AskedFault::NoMemory => Refusal::NoMemory,
+        }
+    }
+}

@@ -1,0 +1,121 @@
+//! The head of a request, read byte by byte.
+ghost use Rattle.std.specs.Prelude.{◌≡◌, ◌&&◌, IfErr, IfOk};
+ghost use Rattle.http_requests.specs.heads.Heads as spec;
+ghost use Rattle.http_requests.specs.heads.Heads.{FindsOf, Looks, TakesByte};
+ghost use Rattle.http_requests.specs.heads.Watches.{HasCause};
+
+use crate::{Begun, Watch};
+use desk_bytes::InputFault;
+use httparse::Status;
+use httparse::spans::{EMPTY_HEADER_SPAN, parse_request};
+use std::alloc::Global;
+use std::io::Read;
+
+/// The most bytes of a head, with the empty lines before it.
+const MOST_BYTES: usize = 16_384;
+
+/// The most fields of a head.
+pub(crate) const MOST_FIELDS: usize = 64;
+
+/// How the bytes so far stand to a head.
+enum Look {
+    /// They begin with one.
+    Whole,
+    /// They don't begin with one.
+    Open,
+    /// They don't, whatever follows, or with one of too many fields.
+    Never,
+}
+
+/// The next byte, or none at the input's end.
+fn read_byte<R: Read>(reader: &mut R, watch: &mut Watch) -> Result<Option<u8>, InputFault>
+    ensures taken { IfOk result (TakesByte (R.remaining reader.old) (R.remaining reader.new)) }
+    ensures device { IfErr result (HasCause watch.new) }
+{
+    let mut byte = [0];
+    match watch.read(reader, &mut byte) {
+        Ok(0) => Ok(None),
+        Ok(_) => Ok(Some(byte[0])),
+        Err(_) => Err(InputFault::Read),
+    }
+}
+
+/// Looks for a head at the front.
+fn examine(bytes: &[u8]) -> Look
+    ensures { Looks bytes.now result }
+{
+    let mut fields = [EMPTY_HEADER_SPAN; MOST_FIELDS];
+    match parse_request(bytes, &mut fields) {
+        Ok(Status::Complete(_)) => Look::Whole,
+        Ok(Status::Partial) => Look::Open,
+        Err(_) => Look::Never,
+    }
+}
+
+/// Whether the bytes are CR and LF alone, with one byte more.
+fn is_blank(blank: bool, byte: u8) -> bool
+    ensures { result ≡ (blank && spec.is_line_break byte) }
+{
+    blank && (byte == b'\r' || byte == b'\n')
+}
+
+/// Whether the bytes end with an empty line.
+fn ends_empty_line(bytes: &[u8]) -> bool
+    ensures { result ≡ spec.ends_empty_line bytes.now }
+{
+    bytes.ends_with(b"\n\n".as_slice()) || bytes.ends_with(b"\n\r\n".as_slice())
+}
+
+/// Whether the bytes are looked at for a head: `blank` where they are CR and LF alone, `begun` where they were
+/// looked at before.
+fn may_end_head(bytes: &[u8], blank: bool, begun: bool) -> bool
+    ensures { result ≡ spec.may_end_head blank begun bytes.now }
+{
+    if blank {
+        false
+    } else if begun {
+        ends_empty_line(bytes)
+    } else {
+        bytes.ends_with(b"\n".as_slice())
+    }
+}
+
+/// Reads the head of a request (RFC 9112, section 2.1, as `httparse` takes it) of at most 16,384 bytes and
+/// 64 fields. After a head the reader stands at the first byte of the body; one byte is asked for at a time,
+/// so a reader without a buffer is slow. The bytes so far are parsed at the end of the first line that isn't
+/// empty, and at each empty line behind it: `NoHead` is told of a wrong first line at its end, of a wrong field
+/// at the empty line. An interrupted read is a fault. Takes memory for the head.
+pub fn read_head<R: Read>(
+    alloc: Global,
+    reader: &mut R,
+    watch: &mut Watch,
+) -> Result<Begun, InputFault>
+    ensures found { IfOk result (FindsOf (R.remaining reader.old) (R.remaining reader.new)) }
+    ensures device { IfErr result (HasCause watch.new) }
+{
+    let mut taken = Vec::new(alloc);
+    let mut blank = true;
+    let mut begun = false;
+    while taken.len() < MOST_BYTES {
+        let Some(byte) = read_byte(reader, watch)? else {
+            return Ok(if taken.is_empty() {
+                Begun::Nothing
+            } else {
+                Begun::NoHead
+            });
+        };
+        if taken.push(byte).is_err() {
+            return Err(InputFault::NoMemory);
+        }
+        blank = is_blank(blank, byte);
+        if may_end_head(taken.as_slice(), blank, begun) {
+            begun = true;
+            match examine(taken.as_slice()) {
+                Look::Whole => return Ok(Begun::Head(taken)),
+                Look::Open => {}
+                Look::Never => return Ok(Begun::NoHead),
+            }
+        }
+    }
+    Ok(Begun::NoHead)
+}

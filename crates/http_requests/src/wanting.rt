@@ -1,0 +1,105 @@
+//! What a head asks for, or the first check on it that fails.
+ghost use Rattle.std.specs.Prelude.{◌≡◌, ◌≢◌, ℕ, List, Err, position};
+ghost use Rattle.std.specs.List.{after_first, before_first};
+ghost use Rattle.httparse.specs.Grammar.{ReadsRequest, RequestHead};
+ghost use Rattle.http_requests.specs.heads.Fields.{parts_of};
+ghost use Rattle.http_requests.specs.heads.Fields as parts;
+ghost use Rattle.http_requests.specs.heads.Heads.{HasFewFields};
+ghost use Rattle.http_requests.specs.Wanted as spec;
+ghost use Rattle.http_requests.specs.declared.fault.WantedFault.TheVariants.{BadHead};
+
+use crate::fields::checked_fields;
+use crate::route::{methods_of, route_of};
+use crate::routing::path_of;
+use crate::{Head, Route, Wanted, WantedFault, parse_head};
+use std::alloc::Global;
+
+/// The place of the first slash.
+fn slash(text: &[u8]) -> Option<usize>
+    ensures { result ≡ position spec.is_slash text.now }
+{
+    text.iter().position(|byte| *byte == b'/')
+}
+
+/// What follows the first slash, or nothing.
+fn after_slash(text: &[u8]) -> &[u8]
+    ensures { result.now ≡ after_first spec.is_slash text.now }
+{
+    match slash(text) {
+        Some(place) => &text[place + 1..],
+        None => &[],
+    }
+}
+
+/// What stands before the first slash, or all.
+fn before_slash(text: &[u8]) -> &[u8]
+    ensures { result.now ≡ before_first spec.is_slash text.now }
+{
+    match slash(text) {
+        Some(place) => &text[..place],
+        None => text,
+    }
+}
+
+/// What stands for `{no}` in a target.
+fn number_part(target: &[u8]) -> &[u8]
+    ensures { result.now ≡ spec.number_part target.now }
+{
+    before_slash(after_slash(after_slash(target)))
+}
+
+/// The length of the route's body, where this one is announced.
+fn size(route: Route, length: Option<u64>) -> Result<usize, WantedFault>
+    ensures { result ≡ spec.size_of route length }
+{
+    match length {
+        None if route.is_read() => Ok(0),
+        None => Err(WantedFault::LengthNeeded),
+        Some(0) if route.is_read() => Ok(0),
+        Some(_) if route.is_read() => Err(WantedFault::BadField),
+        Some(length) if length <= route.limit() => Ok(length as usize),
+        Some(_) => Err(WantedFault::TooLarge),
+    }
+}
+
+/// What the parts of a head ask for.
+fn wanted_by<'b>(alloc: Global, head: &Head<'b>) -> Result<Wanted<'b>, WantedFault>
+    ensures { spec.Gives (spec.wanted_of (parts.shown head.now)) result }
+{
+    let fields = checked_fields(head)?;
+    let Ok(path) = path_of(alloc, head.target) else {
+        return Err(WantedFault::NoMemory);
+    };
+    let Some(path) = path else {
+        return Err(WantedFault::NoRoute);
+    };
+    let Some(route) = route_of(path, head.method) else {
+        return Err(WantedFault::BadMethod(methods_of(path)));
+    };
+    let size = size(route, fields.length)?;
+    Ok(Wanted {
+        route,
+        size,
+        number: number_part(head.target.as_bytes()),
+        token: fields.token,
+        key: fields.key,
+        title: fields.title,
+        stamp: fields.stamp,
+    })
+}
+
+/// What the head that begins the bytes asks for, or the first check that fails, in this order: there is a head
+/// of at most 64 fields; no Transfer-Encoding; each field that counts comes once at most and Content-Length
+/// has 1 to 10 digits; the target is a path of the table; the path has the method; POST has a Content-Length
+/// and GET has none above 0; the length is within the route's limit. Who calls isn't looked at. Takes memory.
+pub fn wanted(alloc: Global, head: &[u8]) -> Result<Wanted<'_>, WantedFault>
+    ensures found { (h : RequestHead) (rest : List ℕ) → ReadsRequest head.now h rest
+        → HasFewFields h → spec.Gives (spec.wanted_of (parts_of h)) result }
+    ensures no_head { ((h : RequestHead) (rest : List ℕ) → ReadsRequest head.now h rest
+        → HasFewFields h → ⊥) → result ≡ Err BadHead }
+{
+    let Some(head) = parse_head(head) else {
+        return Err(WantedFault::BadHead);
+    };
+    wanted_by(alloc, &head)
+}

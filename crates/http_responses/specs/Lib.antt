@@ -1,0 +1,4 @@
+pub mod Outages
+pub mod Refusals
+pub mod Responses
+pub mod json

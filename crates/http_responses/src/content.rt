@@ -1,0 +1,27 @@
+//! What the body of a response is.
+ghost use Rattle.std.specs.Prelude.{◌≡◌};
+ghost use Rattle.http_responses.specs.Responses as spec;
+
+/// What the body of a response is, for the field `Content-Type` (RFC 9110, section 8.3).
+#[derive(Clone, Copy, Debug, PartialEq, Eq)]
+pub enum Content {
+    /// Replies, requests, verdicts and refusals.
+    Json,
+    /// A level, and the report.
+    Text,
+    /// Signature lists: dbx and db.
+    Bytes,
+}
+
+impl Content {
+    /// Its media type.
+    pub fn text(self) -> &'static str
+        ensures { result.now ≡ spec.content_text self }
+    {
+        match self {
+            Content::Json => "application/json",
+            Content::Text => "text/plain",
+            Content::Bytes => "application/octet-stream",
+        }
+    }
+}

@@ -1,0 +1,16 @@
+//! What the desk answers, in JSON (RFC 8259): replies, requests, proposals and verdicts, without a space between
+//! tokens, each object's keys in ascending order.
+
+mod in_json;
+mod laws;
+mod proposals;
+mod replies;
+mod requests;
+mod values;
+mod verdicts;
+
+pub use laws::each_verdict_is_said;
+pub use proposals::proposals_json;
+pub use replies::reply_json;
+pub use requests::{request_json, requests_json};
+pub use verdicts::verdict_json;

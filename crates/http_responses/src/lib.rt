@@ -1,0 +1,21 @@
+//! The responses of the desk over HTTP/1.1, to the byte, and the status of each refusal.
+#![tactic(auto)]
+
+mod content;
+mod heads;
+mod json;
+mod outage;
+mod refused;
+mod refused_texts;
+mod responses;
+mod status;
+
+pub use content::Content;
+pub use json::{
+    each_verdict_is_said, proposals_json, reply_json, request_json, requests_json, verdict_json,
+};
+pub use outage::{Outage, outage_response};
+pub use refused::Refused;
+pub use refused_texts::refused_json;
+pub use responses::{refused_response, response};
+pub use status::Status;

@@ -1,0 +1,26 @@
+use Rattle.std.proofs.Common.{arith}
+use Rattle.sqlite.specs.Held.{state}
+use Rattle.sqlite.specs.State.{HasCleanDisk}
+use Rattle.store_schema.specs.rows.Contents.{contents}
+use Rattle.store_sql.proofs.StopLemmas.{changes_then}
+use Rattle.store_schema.specs.Tables.{desk_schema}
+use Rattle.store_counts.proofs.counting.count_ended.Goals as goal
+
+pub returns-clause-value : goal.returns-clause-value
+returns-clause-value g c clean inside =
+    let s0 = state g.S.Store c.args.tx.now.conn.now in
+    let s1 = state g.S.Store c.count.new.tx.conn.now in
+    let s2 = state g.S.Store c.count-2.new.tx.conn.now in
+    let s3 = state g.S.Store c.count-3.new.tx.conn.now in
+    let c2 : HasCleanDisk s2 = omega (arith, c.in_ok-signed.ensures.survives.clean, clean) in
+    let c1 : HasCleanDisk s1 = omega (arith, c.in_ok-withdrawn.ensures.survives.clean, c2) in
+    let a = c.in_ok-rejected.ensures.value c1 inside in
+    let b = c.in_ok-withdrawn.ensures.value c2 a.kept.inside in
+    let d = c.in_ok-signed.ensures.value clean b.kept.inside in
+    record {
+      kept = changes_then desk_schema contents s0 s1 s3 (λ t. t) (λ t. t) a.kept (changes_then desk_schema contents s1 s2 s3 (λ t. t) (λ t. t) b.kept d.kept);
+      tells = λ t sees.
+          let sees1 = a.kept.value t sees in
+          let sees2 = b.kept.value t sees1 in
+          record { rejected = a.tells t sees; withdrawn = b.tells t sees1; signed = d.tells t sees2 };
+    }

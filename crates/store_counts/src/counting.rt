@@ -1,0 +1,166 @@
+//! Counting, inside a transaction: each count visits every row of its table.
+ghost use Rattle.std.specs.Prelude.{◌≡◌};
+ghost use Rattle.store_counts.specs.Counts as spec;
+ghost use Rattle.store_counts.specs.Parts.{CountEnded, CountWaiting};
+ghost use Rattle.store_reads.specs.Reads.{Tells};
+ghost use Rattle.store_sql.specs.States.{DoesInside, Keeps, Spares, StaysInside};
+
+use crate::numbers::{Counts, KindCounts, ListCounts, RequestCounts};
+use desk_texts::{ListedKind, State};
+use sqlite::{Alter, Transaction};
+use std::alloc::Global;
+use store_reads::{Counted, ReadFault, count, own_row};
+
+/// How many requests wait for a vote, and for a signature.
+#[derive(Clone, Copy)]
+struct Waiting {
+    still_open: u64,
+    approved: u64,
+}
+
+/// How many requests were rejected, withdrawn and signed.
+#[derive(Clone, Copy)]
+struct Ended {
+    rejected: u64,
+    withdrawn: u64,
+    signed: u64,
+}
+
+/// Counts the requests that wait.
+fn count_waiting<S: Alter>(tx: &mut Transaction<'_, S>) -> Result<Waiting, ReadFault>
+    ensures same_reference { tx.new.conn.ghost_name ≡ tx.old.conn.ghost_name }
+    ensures value { DoesInside S.Store tx.old.conn.now tx.new.conn.now result
+        (λ n. Tells (CountWaiting n)) }
+    ensures inside { StaysInside S.Store tx.old.conn.now tx.new.conn.now result }
+    ensures kept { Keeps S.Store tx.old.conn.now tx.new.conn.now }
+    ensures survives { Spares S.Store tx.old.conn.now tx.new.conn.now }
+{
+    let still_open = count(tx, Counted::RequestsIn(State::Open))?;
+    let approved = count(tx, Counted::RequestsIn(State::Approved))?;
+    Ok(Waiting {
+        still_open,
+        approved,
+    })
+}
+
+/// Counts the requests that wait no more.
+fn count_ended<S: Alter>(tx: &mut Transaction<'_, S>) -> Result<Ended, ReadFault>
+    ensures same_reference { tx.new.conn.ghost_name ≡ tx.old.conn.ghost_name }
+    ensures value { DoesInside S.Store tx.old.conn.now tx.new.conn.now result
+        (λ n. Tells (CountEnded n)) }
+    ensures inside { StaysInside S.Store tx.old.conn.now tx.new.conn.now result }
+    ensures kept { Keeps S.Store tx.old.conn.now tx.new.conn.now }
+    ensures survives { Spares S.Store tx.old.conn.now tx.new.conn.now }
+{
+    let rejected = count(tx, Counted::RequestsIn(State::Rejected))?;
+    let withdrawn = count(tx, Counted::RequestsIn(State::Withdrawn))?;
+    let signed = count(tx, Counted::RequestsIn(State::Signed))?;
+    Ok(Ended {
+        rejected,
+        withdrawn,
+        signed,
+    })
+}
+
+/// Counts the requests.
+fn count_by_state<S: Alter>(tx: &mut Transaction<'_, S>) -> Result<RequestCounts, ReadFault>
+    ensures same_reference { tx.new.conn.ghost_name ≡ tx.old.conn.ghost_name }
+    ensures value { DoesInside S.Store tx.old.conn.now tx.new.conn.now result
+        (λ n. Tells (spec.CountRequests n)) }
+    ensures inside { StaysInside S.Store tx.old.conn.now tx.new.conn.now result }
+    ensures kept { Keeps S.Store tx.old.conn.now tx.new.conn.now }
+    ensures survives { Spares S.Store tx.old.conn.now tx.new.conn.now }
+{
+    let all = count(tx, Counted::Requests)?;
+    let waiting = count_waiting(tx)?;
+    let ended = count_ended(tx)?;
+    Ok(RequestCounts {
+        all,
+        still_open: waiting.still_open,
+        approved: waiting.approved,
+        rejected: ended.rejected,
+        withdrawn: ended.withdrawn,
+        signed: ended.signed,
+    })
+}
+
+/// Counts what is listed.
+fn count_entries<S: Alter>(tx: &mut Transaction<'_, S>) -> Result<KindCounts, ReadFault>
+    ensures same_reference { tx.new.conn.ghost_name ≡ tx.old.conn.ghost_name }
+    ensures value { DoesInside S.Store tx.old.conn.now tx.new.conn.now result
+        (λ n. Tells (spec.CountEntries n)) }
+    ensures inside { StaysInside S.Store tx.old.conn.now tx.new.conn.now result }
+    ensures kept { Keeps S.Store tx.old.conn.now tx.new.conn.now }
+    ensures survives { Spares S.Store tx.old.conn.now tx.new.conn.now }
+{
+    let digests = count(tx, Counted::ListedOf(ListedKind::Digest))?;
+    let certificates = count(tx, Counted::ListedOf(ListedKind::Certificate))?;
+    Ok(KindCounts {
+        digests,
+        certificates,
+    })
+}
+
+/// Counts what is revoked.
+fn count_revoked<S: Alter>(tx: &mut Transaction<'_, S>) -> Result<KindCounts, ReadFault>
+    ensures same_reference { tx.new.conn.ghost_name ≡ tx.old.conn.ghost_name }
+    ensures value { DoesInside S.Store tx.old.conn.now tx.new.conn.now result
+        (λ n. Tells (spec.CountRevoked n)) }
+    ensures inside { StaysInside S.Store tx.old.conn.now tx.new.conn.now result }
+    ensures kept { Keeps S.Store tx.old.conn.now tx.new.conn.now }
+    ensures survives { Spares S.Store tx.old.conn.now tx.new.conn.now }
+{
+    let images = count(tx, Counted::RevokedDigests)?;
+    let certificates = count(tx, Counted::RevokedCertificates)?;
+    Ok(KindCounts {
+        digests: images,
+        certificates,
+    })
+}
+
+/// Counts what is listed and revoked, and the level.
+fn count_lists<S: Alter>(
+    alloc: Global,
+    tx: &mut Transaction<'_, S>,
+) -> Result<ListCounts, ReadFault>
+    ensures same_reference { tx.new.conn.ghost_name ≡ tx.old.conn.ghost_name }
+    ensures value { DoesInside S.Store tx.old.conn.now tx.new.conn.now result
+        (λ n. Tells (spec.CountLists n)) }
+    ensures inside { StaysInside S.Store tx.old.conn.now tx.new.conn.now result }
+    ensures kept { Keeps S.Store tx.old.conn.now tx.new.conn.now }
+    ensures survives { Spares S.Store tx.old.conn.now tx.new.conn.now }
+{
+    let listed = count_entries(tx)?;
+    let revoked = count_revoked(tx)?;
+    let components = count(tx, Counted::Components)?;
+    let own = own_row(alloc, tx)?;
+    Ok(ListCounts {
+        listed,
+        revoked,
+        components,
+        stamp: own.stamp,
+    })
+}
+
+/// Counts all that a desk counts: thirteen counts, each of which visits a whole table. Takes memory for the desk's own row.
+///
+/// `Row`: the desk's own row isn't one that a desk writes. `NoMemory`, `Store`: as they say.
+pub fn counts<S: Alter>(alloc: Global, tx: &mut Transaction<'_, S>) -> Result<Counts, ReadFault>
+    ensures same_reference { tx.new.conn.ghost_name ≡ tx.old.conn.ghost_name }
+    ensures value { DoesInside S.Store tx.old.conn.now tx.new.conn.now result
+        (λ n. Tells (spec.CountTables n)) }
+    ensures inside { StaysInside S.Store tx.old.conn.now tx.new.conn.now result }
+    ensures kept { Keeps S.Store tx.old.conn.now tx.new.conn.now }
+    ensures survives { Spares S.Store tx.old.conn.now tx.new.conn.now }
+{
+    let people = count(tx, Counted::People)?;
+    let calls = count(tx, Counted::Calls)?;
+    let requests = count_by_state(tx)?;
+    let lists = count_lists(alloc, tx)?;
+    Ok(Counts {
+        people,
+        calls,
+        requests,
+        lists,
+    })
+}

@@ -1,0 +1,7 @@
+//! The report of a desk: what it counts, as fourteen lines of text.
+
+mod laws;
+mod text;
+
+pub use laws::report_is_the_history;
+pub use text::report;

@@ -1,0 +1,44 @@
+use Rattle.std.proofs.Common.{◌≡◌, ◌++◌, ◌∙◌, ℕ, flat_map, ap, sym, subst}
+use Rattle.std.proofs.lemmas.Result.{err_from_is_err_and}
+use Rattle.sqlite.specs.Held.{state}
+use Rattle.sbat.specs.Writing.{head_text, row_text}
+use Rattle.desk_bytes.specs.Output.{AppendsBeginning}
+use Rattle.desk_bytes.proofs.OutputLemmas.{AppendsBeginning-before}
+use Rattle.desk_history.specs.Calls.{History}
+use Rattle.desk_history.specs.Level.{stamp}
+use Rattle.desk_exports.specs.Exports.{level, level_components}
+use Rattle.desk_exports.proofs.PartLemmas.{rows-parts}
+use Rattle.store_exports.specs.Exporting.{Exports}
+use Rattle.store_exports.proofs.StepLemmas.{after_read, after_write, stopped_read}
+use Rattle.store_exports.proofs.level.put_level.Goals as goal
+
+-- the stamp that was read is the level's
+is_level : (n : ℕ) (cs : History) → n ≡ stamp cs → head_text n ++ flat_map (λ x. row_text x.name x.generation) (level_components cs) ≡ level cs
+is_level n cs is =
+    ap (λ k. head_text k ++ flat_map (λ x. row_text x.name x.generation) (level_components cs)) is ∙ ap (λ l. head_text (stamp cs) ++ l) (sym (rows-parts (level_components cs)))
+
+pub returns-in_err-level_head : goal.returns-in_err-level_head
+returns-in_err-level_head g c =
+    let old = c.args.conn.now in
+    let mid = c.own.new.conn in
+    let n = c.in_ok-row.row.stamp in
+    let x = g.W.Write.contents c.args.writer.now in
+    let y = g.W.Write.contents c.level_head.new.writer in
+    let p = err_from_is_err_and c.from_residual-in_err-level_head.result c.from_residual-in_err-level_head.ensures.1 in
+    subst (λ r. Exports g.S.Store old mid x y r (λ _ cs. level cs)) (sym p.1)
+    (stopped_read g.S.Store old mid x y p.0 (λ _ cs. level cs) c.in_ok-row.ensures.same c.in_ok-row.ensures.survives
+    (λ clean owner cs was. subst (AppendsBeginning x y) (is_level n cs (c.in_ok-row.ensures.ok clean owner cs was).1)
+    (AppendsBeginning-before x y (head_text n) (flat_map (λ x. row_text x.name x.generation) (level_components cs)) c.in_err-level_head.ensures.err)))
+
+pub returns : goal.returns
+returns g c =
+    let old = c.args.conn.now in
+    let mid = c.own.new.conn in
+    let end = c.put_components.new.conn in
+    let n = c.in_ok-row.row.stamp in
+    let x = g.W.Write.contents c.args.writer.now in
+    let y = g.W.Write.contents c.level_head.new.writer in
+    let z = g.W.Write.contents c.put_components.new.writer in
+    after_read g.S.Store old mid end x z c.put_components.result (λ _ cs. head_text n ++ flat_map (λ x. row_text x.name x.generation) (level_components cs)) (λ _ cs. level cs)
+    c.in_ok-row.ensures.same c.in_ok-row.ensures.survives (λ clean owner cs was. is_level n cs (c.in_ok-row.ensures.ok clean owner cs was).1)
+    (after_write g.S.Store mid end x y z c.put_components.result (head_text n) (λ _ cs. flat_map (λ x. row_text x.name x.generation) (level_components cs)) c.in_ok-level_head.ensures.ok c.put_components.ensures)

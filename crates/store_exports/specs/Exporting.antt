@@ -1,0 +1,45 @@
+-- What an export of a desk writes, and what it leaves of the connection.
+use Rattle.std.specs.Prelude.{◌≡◌, ℕ, List, Option, Result, MatchResult}
+use Rattle.std.specs.Io.KnownBytes.{Appends}
+use Rattle.sqlite.specs.Held.{Held, state}
+use Rattle.sqlite.specs.State.{State, HasCleanDisk}
+use Rattle.sqlite.specs.Store.{Ghosts}
+use Rattle.desk_bytes.specs.Output.{AppendsBeginning}
+use Rattle.desk_history.specs.Calls.{History}
+use Rattle.desk_history.specs.Tables.{tables}
+use Rattle.store_schema.specs.rows.Histories.{ShowsHistory}
+use Rattle.store_reads.specs.Counting.{counted}
+use Rattle.store_reads.specs.declared.counts.Counted.{Counted}
+use Rattle.store_sql.specs.States.{Spares}
+
+-- the bytes of each history that the connection showed are written
+abbrev pub WritesOf : State → Option (List ℕ) → Option (List ℕ) → (List ℕ → History → List ℕ) → Type 0
+WritesOf old before after bytes = (owner : List ℕ) (cs : History) → ShowsHistory old owner cs → Appends before after (bytes owner cs)
+
+-- a beginning of them is
+abbrev pub BeginsOf : State → Option (List ℕ) → Option (List ℕ) → (List ℕ → History → List ℕ) → Type 0
+BeginsOf old before after bytes = (owner : List ℕ) (cs : History) → ShowsHistory old owner cs → AppendsBeginning before after (bytes owner cs)
+
+-- the connection shows each history that it showed
+abbrev pub StaysOf : State → State → Type 0
+StaysOf old new = (owner : List ℕ) (cs : History) → ShowsHistory old owner cs → ShowsHistory new owner cs
+
+-- where it showed one, a stop leaves what it left before
+abbrev pub SparesOf : {S : Type 0} → Ghosts S → Held S → Held S → Type 0
+SparesOf g old new = (owner : List ℕ) (cs : History) → ShowsHistory (state g old) owner cs → Spares g old new
+
+-- A step of an export: on a clean disk it wrote these bytes, or where it failed a beginning of them; and what it leaves
+pub record Exports {S X E : Type 0} (g : Ghosts S) (old new : Held S) (before after : Option (List ℕ)) (result : Result X E) (bytes : List ℕ → History → List ℕ) : Type 0 where
+  pub wrote : HasCleanDisk (state g new) → MatchResult result (λ _. WritesOf (state g old) before after bytes) (λ _. BeginsOf (state g old) before after bytes)
+  pub same : StaysOf (state g old) (state g new)
+  pub spares : SparesOf g old new
+  pub clean : HasCleanDisk (state g new) → HasCleanDisk (state g old)
+
+-- the number is that of the tables of each history that the connection showed
+abbrev pub IsSizeOf : State → Counted → ℕ → Type 0
+IsSizeOf old what n = (owner : List ℕ) (cs : History) → ShowsHistory old owner cs → n ≡ counted what (tables owner cs)
+
+-- the owner and the stamp are those of each such history
+abbrev pub AreOwn : State → List ℕ → ℕ → Type 0
+AreOwn old owner stamp =
+    (o : List ℕ) (cs : History) → ShowsHistory old o cs → (owner ≡ (tables o cs).desk.owner) × (stamp ≡ (tables o cs).desk.stamp)

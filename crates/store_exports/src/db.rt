@@ -1,0 +1,90 @@
+//! db: what is listed.
+ghost use Rattle.std.specs.Prelude.{◌≡◌, IfErr, OnErr, OnOk, map};
+ghost use Rattle.std.specs.List.{flat_map};
+ghost use Rattle.sqlite.specs.Held.{state};
+ghost use Rattle.sqlite.specs.State.{HasCleanDisk};
+ghost use Rattle.siglist.specs.SignatureLists.{spelling};
+ghost use Rattle.siglist.specs.Writing.{sha256_entry_bytes, sha256_parts, x509_row};
+ghost use Rattle.desk_texts.specs.declared.kind.ListedKind.TheVariants as kinds;
+ghost use Rattle.desk_exports.specs.Exports.{db, entries_of};
+ghost use Rattle.store_exports.specs.Exporting.{BeginsOf, Exports, SparesOf, StaysOf, WritesOf};
+ghost use Rattle.store_exports.specs.Faults.{IsExportFailure};
+
+use crate::fault::ExportFault;
+use crate::heads::{head_count, own, size};
+use crate::listed_forms::{ListedCertificate, ListedDigest};
+use crate::taking::put_rows;
+use desk_bytes::{Guid, Refusal};
+use desk_texts::ListedKind;
+use siglist::sha256_head;
+use sqlite::{Alter, Connection, params};
+use std::alloc::Global;
+use std::io::Write;
+use store_reads::Counted;
+use store_schema::SELECT_LISTED_OF;
+
+/// Writes an entry for each listed digest of an image, ascending.
+fn put_digests<S: Alter, W: Write>(
+    alloc: Global,
+    conn: &mut Connection<S>,
+    owner: Guid,
+    writer: &mut W,
+) -> Result<(), ExportFault>
+    ensures { Exports S.Store conn.old conn.new
+        (W.contents writer.old) (W.contents writer.new) result
+        (λ _ cs. flat_map (λ e. sha256_entry_bytes owner e.digest) (entries_of kinds.Digest cs)) }
+{
+    let form = ListedDigest { owner };
+    let kind = ListedKind::Digest.text();
+    put_rows(alloc, conn, SELECT_LISTED_OF, params![kind], &form, writer)
+}
+
+/// Writes the list of the listed digests of images, if there is one.
+fn put_digest_list<S: Alter, W: Write>(
+    alloc: Global,
+    conn: &mut Connection<S>,
+    owner: Guid,
+    writer: &mut W,
+) -> Result<(), ExportFault>
+    ensures { Exports S.Store conn.old conn.new
+        (W.contents writer.old) (W.contents writer.new) result
+        (λ _ cs. sha256_parts owner (map (λ e. e.digest) (entries_of kinds.Digest cs))) }
+{
+    let counted = size(conn, Counted::ListedOf(ListedKind::Digest))?;
+    if counted == 0 {
+        return Ok(());
+    }
+    let count = head_count(counted)?;
+    sha256_head(count, writer)?;
+    put_digests(alloc, conn, owner, writer)
+}
+
+/// Writes a list for each listed certificate, ascending by its digest.
+fn put_certificates<S: Alter, W: Write>(
+    alloc: Global,
+    conn: &mut Connection<S>,
+    owner: Guid,
+    writer: &mut W,
+) -> Result<(), ExportFault>
+    ensures { Exports S.Store conn.old conn.new
+        (W.contents writer.old) (W.contents writer.new) result
+        (λ _ cs. flat_map (λ e. spelling (x509_row owner e.body)) (entries_of kinds.Certificate cs)) }
+{
+    let form = ListedCertificate { owner };
+    let kind = ListedKind::Certificate.text();
+    put_rows(alloc, conn, SELECT_LISTED_OF, params![kind], &form, writer)
+}
+
+/// Writes all of these lists.
+pub(crate) fn put_db<S: Alter, W: Write>(
+    alloc: Global,
+    conn: &mut Connection<S>,
+    writer: &mut W,
+) -> Result<(), ExportFault>
+    ensures { Exports S.Store conn.old conn.new
+        (W.contents writer.old) (W.contents writer.new) result db }
+{
+    let row = own(alloc, conn)?;
+    put_digest_list(alloc, conn, row.owner, writer)?;
+    put_certificates(alloc, conn, row.owner, writer)
+}

@@ -1,0 +1,65 @@
+//! What a desk exports, written row by row.
+ghost use Rattle.std.specs.Prelude.{◌≡◌, IfErr, OnErr, OnOk};
+ghost use Rattle.sqlite.specs.Held.{state};
+ghost use Rattle.sqlite.specs.State.{HasCleanDisk};
+ghost use Rattle.desk_exports.specs.Exports.{exported};
+ghost use Rattle.store_exports.specs.Exporting.{BeginsOf, Exports, SparesOf, StaysOf, WritesOf};
+ghost use Rattle.store_exports.specs.Faults.{IsExportFailure};
+
+use crate::db::put_db;
+use crate::dbx::put_dbx;
+use crate::fault::ExportFault;
+use crate::level::put_level;
+use crate::lines::put_minutes;
+use desk_bytes::Refusal;
+use desk_exports::Export;
+use sqlite::{Alter, Connection};
+use std::alloc::Global;
+use std::io::Write;
+
+/// Writes an export.
+fn put<S: Alter, W: Write>(
+    alloc: Global,
+    conn: &mut Connection<S>,
+    what: Export,
+    writer: &mut W,
+) -> Result<(), ExportFault>
+    ensures { Exports S.Store conn.old conn.new
+        (W.contents writer.old) (W.contents writer.new) result (exported what) }
+{
+    match what {
+        Export::Db => put_db(alloc, conn, writer),
+        Export::Dbx => put_dbx(alloc, conn, writer),
+        Export::Level => put_level(alloc, conn, writer),
+        Export::Minutes => put_minutes(alloc, conn, writer),
+    }
+}
+
+/// Writes an export. Each row is written as the store gives it, and none is kept. Takes memory for the desk's own row and
+/// for one row of the export; the minutes take none beside the store's.
+///
+/// `Write`: the writer failed. `NoMemory`: memory was refused, also to the store. `Store`: the store failed,
+/// or isn't as a desk left it. Each leaves a beginning of the export in the writer, which may be empty.
+pub fn export<S: Alter, W: Write>(
+    alloc: Global,
+    conn: &mut Connection<S>,
+    what: Export,
+    writer: &mut W,
+) -> Result<(), Refusal>
+    ensures ok { HasCleanDisk (state S.Store conn.new)
+        → OnOk result (WritesOf (state S.Store conn.old)
+        (W.contents writer.old) (W.contents writer.new) (exported what)) }
+    ensures beginning { HasCleanDisk (state S.Store conn.new)
+        → OnErr result (BeginsOf (state S.Store conn.old)
+        (W.contents writer.old) (W.contents writer.new) (exported what)) }
+    ensures named { IfErr result IsExportFailure }
+
+    ensures same { StaysOf (state S.Store conn.old) (state S.Store conn.new) }
+    ensures spares { SparesOf S.Store conn.old conn.new }
+    ensures clean { HasCleanDisk (state S.Store conn.new) → HasCleanDisk (state S.Store conn.old) }
+{
+    match put(alloc, conn, what, writer) {
+        Ok(()) => Ok(()),
+        Err(fault) => Err(fault.refusal()),
+    }
+}

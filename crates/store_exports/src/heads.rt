@@ -1,0 +1,63 @@
+//! What is read before the rows of an export: its owner, its stamp, and how many rows come.
+ghost use Rattle.std.specs.Prelude.{◌≡◌, ◌≤◌, IfOk};
+ghost use Rattle.sqlite.specs.Held.{state};
+ghost use Rattle.sqlite.specs.State.{HasCleanDisk};
+ghost use Rattle.siglist.specs.Writing.{most_digests};
+ghost use Rattle.store_sql.specs.States.{Spares};
+ghost use Rattle.store_exports.specs.Exporting.{AreOwn, IsSizeOf, StaysOf};
+
+use crate::fault::ExportFault;
+use sqlite::{Alter, Connection};
+use std::alloc::Global;
+use store_reads::{Counted, DeskRow, ReadFault, count, own_row};
+
+/// The most digests of a list.
+const MOST_DIGESTS: u64 = 1_000_000;
+
+/// How many there are of what is counted. It commits nothing.
+pub(crate) fn size<S: Alter>(conn: &mut Connection<S>, what: Counted) -> Result<u64, ReadFault>
+    ensures ok { HasCleanDisk (state S.Store conn.new)
+        → IfOk result (IsSizeOf (state S.Store conn.old) what) }
+    ensures same { StaysOf (state S.Store conn.old) (state S.Store conn.new) }
+    ensures survives { Spares S.Store conn.old conn.new }
+{
+    if !conn.is_autocommit() {
+        return Err(ReadFault::Store);
+    }
+    let mut tx = conn.transaction();
+    let read = count(&mut tx, what);
+    tx.rollback();
+    match read {
+        Ok(counted) => Ok(counted),
+        Err(fault) => Err(fault),
+    }
+}
+
+/// The desk's own row. It commits nothing. Takes memory for the row.
+pub(crate) fn own<S: Alter>(alloc: Global, conn: &mut Connection<S>) -> Result<DeskRow, ReadFault>
+    ensures ok { HasCleanDisk (state S.Store conn.new)
+        → IfOk result (λ row. AreOwn (state S.Store conn.old) row.owner row.stamp) }
+    ensures same { StaysOf (state S.Store conn.old) (state S.Store conn.new) }
+    ensures survives { Spares S.Store conn.old conn.new }
+{
+    if !conn.is_autocommit() {
+        return Err(ReadFault::Store);
+    }
+    let mut tx = conn.transaction();
+    let read = own_row(alloc, &mut tx);
+    tx.rollback();
+    match read {
+        Ok(row) => Ok(row),
+        Err(fault) => Err(fault),
+    }
+}
+
+/// The size of a list as its head tells it. `Read`: it has more digests than a list may have.
+pub(crate) fn head_count(counted: u64) -> Result<u32, ExportFault>
+    ensures { IfOk result (λ n. (n ≡ counted) × (n ≤ most_digests)) }
+{
+    if counted > MOST_DIGESTS {
+        return Err(ExportFault::Read(ReadFault::Row));
+    }
+    Ok(counted as u32)
+}

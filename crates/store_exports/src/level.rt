@@ -1,0 +1,47 @@
+//! The level, as SBAT text.
+ghost use Rattle.std.specs.Prelude.{◌≡◌, IfErr, OnErr, OnOk};
+ghost use Rattle.std.specs.List.{flat_map};
+ghost use Rattle.sqlite.specs.Held.{state};
+ghost use Rattle.sqlite.specs.State.{HasCleanDisk};
+ghost use Rattle.sbat.specs.Writing.{row_text};
+ghost use Rattle.desk_exports.specs.Exports.{level, level_components};
+ghost use Rattle.store_exports.specs.Exporting.{BeginsOf, Exports, SparesOf, StaysOf, WritesOf};
+ghost use Rattle.store_exports.specs.Faults.{IsExportFailure};
+
+use crate::fault::ExportFault;
+use crate::forms::LevelLine;
+use crate::heads::own;
+use crate::taking::put_rows;
+use desk_bytes::Refusal;
+use sbat::level_head;
+use sqlite::{Alter, Connection};
+use std::alloc::Global;
+use std::io::Write;
+use store_schema::SELECT_COMPONENTS;
+
+/// Writes a line for each component, ascending by name.
+fn put_components<S: Alter, W: Write>(
+    alloc: Global,
+    conn: &mut Connection<S>,
+    writer: &mut W,
+) -> Result<(), ExportFault>
+    ensures { Exports S.Store conn.old conn.new
+        (W.contents writer.old) (W.contents writer.new) result
+        (λ _ cs. flat_map (λ x. row_text x.name x.generation) (level_components cs)) }
+{
+    put_rows(alloc, conn, SELECT_COMPONENTS, &[], &LevelLine, writer)
+}
+
+/// Writes the first line and the components' lines.
+pub(crate) fn put_level<S: Alter, W: Write>(
+    alloc: Global,
+    conn: &mut Connection<S>,
+    writer: &mut W,
+) -> Result<(), ExportFault>
+    ensures { Exports S.Store conn.old conn.new
+        (W.contents writer.old) (W.contents writer.new) result (λ _ cs. level cs) }
+{
+    let row = own(alloc, conn)?;
+    level_head(row.stamp, writer)?;
+    put_components(alloc, conn, writer)
+}

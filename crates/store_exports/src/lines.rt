@@ -1,0 +1,132 @@
+//! The minutes, a line for each call.
+ghost use Rattle.std.specs.Prelude.{◌≡◌, ◌++◌, ◌∷◌, [], IfErr, IfOk, OnErr, OnOk, codes, decimal, length, pos};
+ghost use Rattle.std.specs.Io.KnownBytes.{Appends};
+ghost use Rattle.sqlite.specs.Held.{state};
+ghost use Rattle.sqlite.specs.State.{HasCleanDisk};
+ghost use Rattle.sqlite.specs.declared.types.Value.TheVariants.{Int, Text};
+ghost use Rattle.sqlite_value.specs.Order.{column};
+ghost use Rattle.desk_bytes.specs.Output.{AppendsBeginning};
+ghost use Rattle.desk_exports.specs.Exports.{minutes_text};
+ghost use Rattle.store_exports.specs.Exporting.{BeginsOf, Exports, SparesOf, StaysOf, WritesOf};
+ghost use Rattle.store_exports.specs.Faults.{IsExportFailure};
+ghost use Rattle.store_exports.specs.Lines.{columns_row, line, line_of};
+ghost use Rattle.store_exports.specs.Rows.{IsPart};
+
+use crate::fault::ExportFault;
+use crate::forms::RowForm;
+use crate::taking::put_rows;
+use desk_bytes::{Refusal, WriteFailed, put, put_decimal};
+use sqlite::types::ValueRef;
+use sqlite::{Alter, Connection, Row};
+use std::alloc::Global;
+use std::io::Write;
+use store_reads::ReadFault;
+use store_schema::SELECT_CALLS;
+
+/// The columns of a call as they stand in its row.
+#[derive(Drop)]
+struct CallColumns<'a> {
+    number: u64,
+    caller: &'a [u8],
+    key: &'a [u8],
+    text: &'a [u8],
+    reply: &'a [u8],
+}
+
+/// The text of a column. `Row`: it holds something else, or there is none.
+fn text_at(row: &Row, at: usize) -> Result<&[u8], ReadFault>
+    ensures { IfOk result (λ text. column row.now at ≡ Text text.now) }
+{
+    match row.get_ref(at) {
+        Ok(ValueRef::Text(text)) => Ok(text),
+        _ => Err(ReadFault::Row),
+    }
+}
+
+/// The number of a column. `Row`: it holds something else, or there is none.
+fn number_at(row: &Row, at: usize) -> Result<u64, ReadFault>
+    ensures { IfOk result (λ n. column row.now at ≡ Int (pos n)) }
+{
+    match row.get(at) {
+        Ok(number) => Ok(number),
+        Err(_) => Err(ReadFault::Row),
+    }
+}
+
+/// The columns of a call's row. `Row`: it has others.
+fn columns_of(row: &Row) -> Result<CallColumns<'_>, ReadFault>
+    ensures { IfOk result (λ c. row.now ≡ Int (pos c.number) ∷ Text c.caller.now ∷ Text c.key.now
+        ∷ Text c.text.now ∷ Text c.reply.now ∷ []) }
+{
+    if row.column_count() != 5 {
+        return Err(ReadFault::Row);
+    }
+    let number = number_at(row, 0)?;
+    let caller = text_at(row, 1)?;
+    let key = text_at(row, 2)?;
+    let text = text_at(row, 3)?;
+    let reply = text_at(row, 4)?;
+    Ok(CallColumns {
+        number,
+        caller,
+        key,
+        text,
+        reply,
+    })
+}
+
+/// Writes the text and what ends it.
+fn put_text<W: Write>(text: &[u8], end: &[u8], writer: &mut W) -> Result<(), WriteFailed>
+    ensures ok { OnOk result (Appends (W.contents writer.old) (W.contents writer.new)
+        (text.now ++ end.now)) }
+    ensures err { OnErr result (AppendsBeginning (W.contents writer.old) (W.contents writer.new)
+        (text.now ++ end.now)) }
+{
+    put(text, writer)?;
+    put(end, writer)?;
+    Ok(())
+}
+
+/// Writes the line of these columns.
+fn put_line<W: Write>(columns: &CallColumns<'_>, writer: &mut W) -> Result<(), WriteFailed>
+    ensures ok { OnOk result (Appends (W.contents writer.old) (W.contents writer.new)
+        (line_of columns.now.number columns.now.caller.now columns.now.key.now
+        columns.now.text.now columns.now.reply.now)) }
+    ensures err { OnErr result (AppendsBeginning (W.contents writer.old) (W.contents writer.new)
+        (line_of columns.now.number columns.now.caller.now columns.now.key.now
+        columns.now.text.now columns.now.reply.now)) }
+{
+    put_decimal(columns.number, writer)?;
+    put(b"\t", writer)?;
+    put_text(columns.caller, b"\t", writer)?;
+    put_text(columns.key, b"\t", writer)?;
+    put_text(columns.text, b"\t", writer)?;
+    put_text(columns.reply, b"\n", writer)?;
+    Ok(())
+}
+
+/// A call, as its line in the minutes.
+#[derive(Drop)]
+struct MinuteLine;
+
+impl RowForm for MinuteLine {
+    ghost spells = { λ _. IsPart columns_row line };
+
+    fn put<W: Write>(&self, _alloc: Global, row: &Row, writer: &mut W) -> Result<(), ExportFault> {
+        let columns = columns_of(row)?;
+        put_line(&columns, writer)?;
+        Ok(())
+    }
+}
+
+/// Writes a line for each call, the first first.
+pub(crate) fn put_minutes<S: Alter, W: Write>(
+    alloc: Global,
+    conn: &mut Connection<S>,
+    writer: &mut W,
+) -> Result<(), ExportFault>
+    ensures { Exports S.Store conn.old conn.new
+        (W.contents writer.old) (W.contents writer.new) result (λ _ cs. minutes_text cs) }
+{
+    put_rows(alloc, conn, SELECT_CALLS, &[], &MinuteLine, writer)
+}

@@ -1,0 +1,70 @@
+-- From what the migration does inside its transaction to what the connection shows after it, and what a stop leaves.
+use Rattle.std.proofs.Common.{◌≡◌, ℕ, List, length, map, true, false, refl, sym, subst, ◌∙◌, arith, IsTrue}
+use Rattle.sqlite.specs.Store as store
+use Rattle.sqlite.specs.Tree.{Trees}
+use Rattle.sqlite.specs.Held.{Held, state}
+use Rattle.sqlite.specs.State as states
+use Rattle.sqlite.specs.Effect.{Database}
+use Rattle.sqlite.specs.State.{State, HasCleanDisk, Survives}
+use Rattle.sqlite.proofs.StateLemmas.{survives_then}
+use Rattle.sqlite.proofs.Callers.{survives_begin}
+use Rattle.desk_history.specs.Calls.{History}
+use Rattle.desk_history.specs.Tables.{tables}
+use Rattle.store_sql.specs.Contents.{Holds}
+use Rattle.store_sql.specs.States.{Changes, Makes, Sees}
+use Rattle.store_sql.proofs.ContentLemmas.{keeps_then}
+use Rattle.store_sql.proofs.StopLemmas.{tables_of}
+use Rattle.store_schema.specs.Tables.{added_tables, defined, desk_schema, first_schema}
+use Rattle.store_writes.specs.Steps.{with_migrated, with_version}
+use Rattle.store_reads.specs.Reads.{Tells}
+use Rattle.store_schema.specs.rows.Contents.{contents}
+use Rattle.store_schema.specs.rows.Histories.{HoldsHistory, ShowsFirst, ShowsHistory, first_rows_of, rows_of}
+use Rattle.store_migration.specs.Migrations.{Migrates, TurnsFirst}
+use Rattle.store_migration.proofs.HistoryLemmas.{as_first, migrated_tables}
+
+-- the three tables are made, the calls are counted, their number is put in, and the version is set
+pub turned : (old made told noted new : State) (n : ℕ) → Makes old made first_schema desk_schema (map defined added_tables) → Tells (λ t. n ≡ length t.calls) made told
+    → Changes desk_schema contents told noted (with_migrated n) → Changes desk_schema contents noted new (with_version 2) → TurnsFirst old new
+turned old made told noted new n makes tells notes sets = record {
+  is_open = λ o. sets.is_open (notes.is_open (tells.kept.is_open (makes.is_open o)));
+  inside = sets.inside;
+  kept = keeps_then old noted new (keeps_then old told noted (keeps_then old made told makes.kept tells.kept.kept) notes.kept) sets.kept;
+  value = λ owner cs first sees.
+      let t = as_first (tables owner cs) in
+      let there : Sees desk_schema made (contents t) = record { inside = makes.inside; holds = makes.value (first_rows_of owner cs) sees.holds } in
+      let end = sets.value (with_migrated n t) (notes.value t (tells.kept.value t there)) in
+      subst (λ t. Sees desk_schema new (contents t)) (migrated_tables owner cs n first (tells.tells t there)) end;
+}
+
+module _ {S : Type 0} (g : store.Ghosts S) (old last end : Held S) where
+  abbrev begun : State
+  begun = state g (record old { in_transaction = true })
+
+  -- what stands inside the transaction, of what the connection shows before it
+  stands : HasCleanDisk (state g old) → IsTrue (state g last).is_open → TurnsFirst begun (state g last) → (owner : List ℕ) (cs : History)
+      → ShowsFirst (state g old) owner cs → Sees desk_schema (state g last) (rows_of owner cs)
+  stands clean live turns owner cs shows = turns.value owner cs shows.0 (record { inside = refl; holds = (shows.1.holds clean (turns.kept.was_open live)).0 })
+
+  pub migrated_left : Survives begun (state g last) (λ _. ⊥) → (HasCleanDisk (state g last) → IsTrue (state g last).is_open × TurnsFirst begun (state g last))
+      → Survives (state g last) (state g end) (λ db. db ≡ (state g last).now.trees) → Survives (state g old) (state g end) (Migrates (state g old))
+  migrated_left s did e = survives_then (state g old) (state g last) (state g end) (λ _. ⊥) (λ db. db ≡ (state g last).now.trees) (Migrates (state g old))
+      (λ _ db none. absurd none)
+      (λ clean db is owner cs shows. let late : HasCleanDisk (state g last) = omega (arith, e.clean, clean) in
+      let it = did late in
+      subst (λ (d : Trees). HoldsHistory d owner cs) (sym is)
+      (tables_of desk_schema (state g last).now (rows_of owner cs) (stands (omega (arith, s.clean, late)) it.0 it.1 owner cs shows).holds))
+      (survives_begin g old (state g last) (λ _. ⊥) s) e
+
+  pub migrated_shown : Survives begun (state g last) (λ _. ⊥) → HasCleanDisk (state g last) → IsTrue (state g last).is_open → TurnsFirst begun (state g last)
+      → states.Shows (state g last) (state g end) (state g last).now (state g last).now false
+      → IsTrue (state g end).is_open × ((owner : List ℕ) (cs : History) → ShowsFirst (state g old) owner cs → ShowsHistory (state g end) owner cs)
+  migrated_shown s late live turns done = (
+    done.is_open,
+    λ owner cs shows. record {
+      outside = done.mode;
+      holds = λ _ _. (
+        subst (λ (d : Database). Holds desk_schema d (rows_of owner cs)) (sym done.now_is) (stands (omega (arith, s.clean, late)) live turns owner cs shows).holds,
+        done.now_is ∙ sym done.committed_is,
+      );
+    },
+  )

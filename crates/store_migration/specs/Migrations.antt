@@ -1,0 +1,26 @@
+-- What a migration does: inside its transaction, and as a whole.
+use Rattle.std.specs.Prelude.{ℕ, List, IsTrue}
+use Rattle.sqlite.specs.Schema.{Schema}
+use Rattle.sqlite.specs.State.{State, KeepsCommit}
+use Rattle.sqlite.specs.Tree.{Trees}
+use Rattle.desk_history.specs.Calls.{History}
+use Rattle.store_sql.specs.Contents.{Contents}
+use Rattle.store_sql.specs.States.{Sees, Shows}
+use Rattle.store_schema.specs.Tables.{desk_schema, first_schema}
+use Rattle.store_schema.specs.rows.Histories.{AreFirst, HoldsHistory, ShowsFirst, first_rows_of, rows_of}
+
+-- inside a transaction the tables of version 1 are turned into those of version 2 that stand for the same history; nothing is
+-- committed
+pub record TurnsFirst (old new : State) : Type 0 where
+  pub is_open : IsTrue old.is_open → IsTrue new.is_open
+  pub inside : IsTrue new.in_transaction
+  pub kept : KeepsCommit old new
+  pub value : (owner : List ℕ) (cs : History) → AreFirst cs → Sees first_schema old (first_rows_of owner cs) → Sees desk_schema new (rows_of owner cs)
+
+-- the trees hold the tables of version 2, of each history that the connection showed in tables of version 1
+abbrev pub Migrates : State → Trees → Type 0
+Migrates old db = (owner : List ℕ) (cs : History) → ShowsFirst old owner cs → HoldsHistory db owner cs
+
+-- whatever the connection showed, it shows
+abbrev pub KeepsShown : State → State → Type 0
+KeepsShown old new = (schema : Schema) (contents : Contents) → Shows schema old contents → Shows schema new contents

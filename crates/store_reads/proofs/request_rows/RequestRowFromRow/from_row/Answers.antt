@@ -1,0 +1,8 @@
+use Rattle.std.proofs.Common.{◌≡◌, length, rules}
+use Rattle.store_reads.proofs.RowLemmas.{whole_row}
+use Rattle.store_reads.proofs.request_rows.RequestRowFromRow.from_row.Goals as goal
+
+pub returns-clause-only : goal.returns-clause-only
+returns-clause-only c =
+    let count : length c.args.row.now ≡ 9 = search rules in
+    whole_row _ c.args.row.now (c.in_ok-number.ensures, (c.in_ok-submitter.ensures, (c.in_ok-title.ensures, (c.in_ok-length.ensures.value, (c.in_ok-gap.ensures.value, (c.in_ok-file.ensures, (c.in_ok-digest.ensures, (c.in_ok-signing.ensures, (c.in_ok-state.ensures, count)))))))))

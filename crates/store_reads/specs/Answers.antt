@@ -1,0 +1,39 @@
+-- Rows as a SELECT of whole rows shows them, and what asks for those of a kind.
+use Rattle.std.specs.Prelude.{ℕ, pos, List, [], ◌∷◌}
+use Rattle.sqlite.specs.declared.types.Value.TheVariants.{Int, Text, Blob}
+use Rattle.sqlite.specs.Order.{Row}
+use Rattle.store_schema.specs.declared.selecting.TheConstants as texts
+use Rattle.desk_texts.specs.Words.{state_text}
+use Rattle.desk_texts.specs.declared.kind.ListedKind.{ListedKind}
+use Rattle.desk_texts.specs.declared.kind.ListedKind.TheVariants as kinds
+use Rattle.desk_history.specs.declared.rows.RequestRow.{RequestRow}
+use Rattle.desk_history.specs.declared.rows.ReturnRow.{ReturnRow}
+use Rattle.desk_history.specs.Tables.{DeskRow}
+use Rattle.store_reads.specs.declared.desk_row.DeskRow.{DeskRow as ReadDeskRow}
+
+-- own: the columns of the desk's row: id, mark, version, owner, stamp
+abbrev pub desk_columns : DeskRow → Row
+desk_columns d = Int (pos d.id) ∷ Text d.mark ∷ Int (pos d.version) ∷ Blob d.owner ∷ Int (pos d.stamp) ∷ []
+
+-- the desk's row that was read, as the tables have it
+abbrev pub desk_row : ReadDeskRow → DeskRow
+desk_row d = record { id = d.id; mark = d.mark; version = d.version; owner = d.owner; stamp = d.stamp }
+
+-- a row of the tables, as a read gives it
+abbrev pub read_row : DeskRow → ReadDeskRow
+read_row d = record { id = d.id; mark = d.mark; version = d.version; owner = d.owner; stamp = d.stamp }
+
+-- own: the columns of a request: number, submitter, title, length, gap, file, digest, signing, state
+abbrev pub request_columns : RequestRow → Row
+request_columns r =
+    Int (pos r.number) ∷ Text r.submitter ∷ Text r.title ∷ Int (pos r.length) ∷ Int (pos r.gap) ∷ Blob r.file ∷ Blob r.digest
+    ∷ Blob r.signing ∷ Text (state_text r.state) ∷ []
+
+-- own: the columns of a returned file: request, signer, length, file, digest
+abbrev pub return_columns : ReturnRow → Row
+return_columns r = Int (pos r.request) ∷ Text r.signer ∷ Int (pos r.length) ∷ Blob r.file ∷ Blob r.digest ∷ []
+
+-- the text that looks among what is revoked of a kind
+abbrev pub select_revoked : ListedKind → List ℕ
+select_revoked kinds.Digest = texts.SELECT_REVOKED_DIGEST.now
+select_revoked kinds.Certificate = texts.SELECT_REVOKED_CERTIFICATE.now

@@ -1,0 +1,45 @@
+//! Why a read failed.
+ghost use Rattle.std.specs.Prelude.{◌≡◌};
+ghost use Rattle.store_reads.specs.Faults.{fault_of, refusal_of};
+
+use desk_bytes::Refusal;
+use sqlite::{Error, ErrorCode};
+use thiserror::Error as ErrorText;
+
+/// Why rows weren't read.
+#[derive(Clone, Copy, Debug, PartialEq, Eq, ErrorText)]
+pub enum ReadFault {
+    /// A row isn't one that the desk writes: a column is of another kind or out of its form, or a key stands twice.
+    #[error("a row isn't the desk's")]
+    Row,
+    /// Memory was refused, also to the store.
+    #[error("no memory")]
+    NoMemory,
+    /// The store failed.
+    #[error("the database failed")]
+    Store,
+}
+
+impl From<Error> for ReadFault {
+    ghost from_gives = { λ error fault. fault ≡ fault_of error };
+
+    fn from(error: Error) -> ReadFault {
+        match error {
+            Error::SqliteFailure(ErrorCode::OutOfMemory) => ReadFault::NoMemory,
+            _ => ReadFault::Store,
+        }
+    }
+}
+
+impl ReadFault {
+    /// Its row in the table of refusals: `NoMemory`, or `Store` for the two others.
+    pub fn refusal(self) -> Refusal
+        ensures { result ≡ refusal_of self }
+    {
+        match self {
+            ReadFault::Row => Refusal::Store,
+            ReadFault::NoMemory => Refusal::NoMemory,
+            ReadFault::Store => Refusal::Store,
+        }
+    }
+}

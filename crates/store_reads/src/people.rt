@@ -1,0 +1,47 @@
+//! People, by their keys.
+ghost use Rattle.std.specs.Prelude.{◌≡◌, filter};
+ghost use Rattle.desk_history.specs.People.{has_name, has_token};
+ghost use Rattle.store_reads.specs.Reads.{Tells, listed};
+ghost use Rattle.store_sql.specs.States.{DoesInside, Keeps, Spares, StaysInside};
+
+use crate::ReadFault;
+use crate::reading::row_of;
+use desk_bytes::Digest;
+use desk_texts::Person;
+use sqlite::{Alter, Transaction, params};
+use std::alloc::Global;
+use store_schema::{SELECT_PERSON, SELECT_PERSON_OF_TOKEN};
+
+/// The person of a name, if there is one. Takes memory for the row.
+pub fn person_named<S: Alter>(
+    alloc: Global,
+    tx: &mut Transaction<'_, S>,
+    name: &str,
+) -> Result<Option<Person>, ReadFault>
+    ensures same_reference { tx.new.conn.ghost_name ≡ tx.old.conn.ghost_name }
+    ensures value { DoesInside S.Store tx.old.conn.now tx.new.conn.now result
+        (λ person. Tells (λ t. filter (has_name name.now) t.people ≡ listed person)) }
+    ensures inside { StaysInside S.Store tx.old.conn.now tx.new.conn.now result }
+    ensures kept { Keeps S.Store tx.old.conn.now tx.new.conn.now }
+    ensures survives { Spares S.Store tx.old.conn.now tx.new.conn.now }
+{
+    let person = row_of(alloc, tx, SELECT_PERSON, params![name])?;
+    Ok(person)
+}
+
+/// The person with the token of a digest, if there is one. Takes memory for the row.
+pub fn person_of_token<S: Alter>(
+    alloc: Global,
+    tx: &mut Transaction<'_, S>,
+    token: &Digest,
+) -> Result<Option<Person>, ReadFault>
+    ensures same_reference { tx.new.conn.ghost_name ≡ tx.old.conn.ghost_name }
+    ensures value { DoesInside S.Store tx.old.conn.now tx.new.conn.now result
+        (λ person. Tells (λ t. filter (has_token token.now) t.people ≡ listed person)) }
+    ensures inside { StaysInside S.Store tx.old.conn.now tx.new.conn.now result }
+    ensures kept { Keeps S.Store tx.old.conn.now tx.new.conn.now }
+    ensures survives { Spares S.Store tx.old.conn.now tx.new.conn.now }
+{
+    let person = row_of(alloc, tx, SELECT_PERSON_OF_TOKEN, params![token.as_bytes()])?;
+    Ok(person)
+}

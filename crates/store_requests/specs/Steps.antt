@@ -1,0 +1,64 @@
+-- What the reads of a request tell, part by part: no reader has to believe these words.
+use Rattle.std.specs.Prelude.{◌≡◌, ◌<◌, ℕ, ◌==◌, List, map, filter, bytes_eq, if◌then◌else◌, Option, Some, None, option_map}
+use Rattle.std.specs.List.Sorted.{IsPermutation}
+use Rattle.sqlite_trees.specs.Tree.{IsAscending}
+use Rattle.desk_bytes.specs.Digests.{IsArranged}
+use Rattle.desk_texts.specs.declared.command.Person.{Person}
+use Rattle.desk_texts.specs.declared.shown.ShownRequest.{ShownRequest}
+use Rattle.desk_texts.specs.declared.shown.ShownReturn.{ShownReturn}
+use Rattle.desk_history.specs.Shown.{sees, shown_vote}
+use Rattle.desk_history.specs.Tables.{Tables, placed_from}
+use Rattle.desk_history.specs.declared.rows.RequestCertificateRow.{RequestCertificateRow}
+use Rattle.desk_history.specs.declared.rows.RequestRow.{RequestRow}
+use Rattle.desk_history.specs.declared.rows.ReturnRow.{ReturnRow}
+use Rattle.store_reads.specs.Reads.{listed}
+use Rattle.store_requests.specs.declared.parts.Parts.{Parts}
+
+-- a returned file's row, as it is shown
+abbrev pub shown_row : ReturnRow → ShownReturn
+shown_row r = record { length = r.length; file = r.file; digest = r.digest }
+
+-- the certificates of rows
+abbrev pub digests_of : List RequestCertificateRow → List (List ℕ)
+digests_of rows = map (λ r. r.digest) rows
+
+-- the rows of these tables that belong to the request of this number
+pub record ArePartsOf (parts : Parts) (t : Tables) (k : ℕ) : Type 0 where
+  pub certificates : IsPermutation (filter (λ r. k == r.request) t.request_certificates) parts.certificates.items
+  pub components : IsPermutation (filter (λ r. k == r.request) t.request_components) parts.components.items
+  pub votes : IsPermutation (filter (λ v. k == v.request) t.votes) parts.votes.items
+  pub returned : filter (λ r. k == r.request) t.returns ≡ listed parts.returned
+
+-- the request's row and the rows that belong to it, as they are shown
+pub record IsMadeOf (row : RequestRow) (parts : Parts) (s : ShownRequest) : Type 0 where
+  pub number : s.number ≡ row.number
+  pub submitter : s.submitter ≡ row.submitter
+  pub title : s.title ≡ row.title
+  pub state : s.state ≡ row.state
+  pub extent : s.facts.extent ≡ record { length = row.length; gap = row.gap }
+  pub file : s.facts.file ≡ row.file
+  pub digest : s.facts.digest ≡ row.digest
+  pub signing : s.facts.signing ≡ row.signing
+  pub carried : IsArranged (digests_of parts.certificates.items) s.facts.carried
+  pub components : parts.components.items ≡ placed_from row.number 0 s.facts.components
+  pub votes : IsPermutation (map shown_vote parts.votes.items) s.votes
+  pub returned : s.returned ≡ option_map shown_row parts.returned
+
+-- the request's row is shown with the rows of these tables that belong to it
+pub record IsShownIn (t : Tables) (row : RequestRow) (s : ShownRequest) : Type 0 where
+  pub parts : Parts
+  pub are : ArePartsOf parts t row.number
+  pub made : IsMadeOf row parts s
+
+-- the numbers of the rows ascend, each once
+abbrev pub AreInOrder : List RequestRow → Type 0
+AreInOrder rows = IsAscending (λ a b. a.number < b.number) rows
+
+-- the rows of these tables that a person is shown
+pub record AreRowsFor (reader : Person) (t : Tables) (rows : List RequestRow) : Type 0 where
+  pub all : IsPermutation (filter (λ r. sees reader.role (bytes_eq reader.name r.submitter)) t.requests) rows
+
+-- the row, if it is there and the person is shown its request
+abbrev pub visible_row : Person → Option RequestRow → Option RequestRow
+visible_row reader None = None
+visible_row reader (Some row) = if sees reader.role (bytes_eq reader.name row.submitter) then Some row else None

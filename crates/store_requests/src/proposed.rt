@@ -1,0 +1,55 @@
+//! All proposals, as an officer is shown them.
+ghost use Rattle.std.specs.Prelude.{◌≡◌, IfErr, IfOk, map};
+ghost use Rattle.desk_history.specs.Roles.{is_officer};
+ghost use Rattle.desk_history.specs.Shown.{IsGiven, proposals_for, shown_proposal};
+ghost use Rattle.store_requests.specs.Telling.{IsOfficerRefusal, TellsOf};
+ghost use Rattle.store_sql.specs.States.{DoesInside, Keeps, Spares, StaysInside};
+ghost use Rattle.desk_texts.specs.declared.caller.Caller.TheVariants as callers;
+
+use desk_bytes::Refusal;
+use desk_texts::{PersonName, Proposal, Role};
+use sqlite::{Alter, Transaction};
+use std::alloc::Global;
+use store_proposals::{proposals, stamps_are_above_none};
+use store_reads::{ReadFault, person_named};
+
+/// Whether the role is shown proposals.
+fn sees_proposals(role: Role) -> bool
+    ensures { result ≡ is_officer role }
+{
+    match role {
+        Role::Officer => true,
+        Role::Submitter | Role::Reviewer | Role::Signer => false,
+    }
+}
+
+/// All proposals, ascending by number, for the person of this name, who has to be an officer. Takes
+/// memory for what is shown of them, and for all that one of them names at a time.
+///
+/// `UnknownCaller`: nobody has the name. `NotYourRole`: the person is no officer; no proposal is read
+/// then.
+pub fn proposals_of<S: Alter>(
+    alloc: Global,
+    tx: &mut Transaction<'_, S>,
+    name: &PersonName,
+) -> Result<Result<Vec<Proposal>, Refusal>, ReadFault>
+    ensures same_reference { tx.new.conn.ghost_name ≡ tx.old.conn.ghost_name }
+    ensures value { DoesInside S.Store tx.old.conn.now tx.new.conn.now result
+        (λ given. TellsOf (λ cs. IsGiven (proposals_for cs (callers.Person name.now)) given
+        (λ ps shown. shown.items ≡ map (shown_proposal cs) ps))) }
+    ensures named { IfOk result (λ given. IfErr given IsOfficerRefusal) }
+    ensures inside { StaysInside S.Store tx.old.conn.now tx.new.conn.now result }
+    ensures kept { Keeps S.Store tx.old.conn.now tx.new.conn.now }
+    ensures survives { Spares S.Store tx.old.conn.now tx.new.conn.now }
+{
+    stamps_are_above_none();
+    let found = person_named(alloc, tx, name.as_str())?;
+    let Some(reader) = found else {
+        return Ok(Err(Refusal::UnknownCaller));
+    };
+    if !sees_proposals(reader.role) {
+        return Ok(Err(Refusal::NotYourRole));
+    }
+    let shown = proposals(alloc, tx)?;
+    Ok(Ok(shown))
+}

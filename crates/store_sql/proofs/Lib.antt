@@ -1,0 +1,17 @@
+mod CatalogLemmas
+pub mod PartLemmas
+pub mod ValueLemmas
+pub mod QueryLemmas
+pub mod RowLemmas
+pub mod InsertLemmas
+pub mod RowidLemmas
+pub mod EditLemmas
+pub mod ContentLemmas
+pub mod WriteLemmas
+pub mod TableLemmas
+pub mod StopLemmas
+pub mod CommitLemmas
+pub mod ReadLemmas
+pub mod CountLemmas
+pub mod ItemLemmas
+pub mod StreamLemmas

@@ -1,0 +1,92 @@
+-- What a text means where a schema stands. Each of these is told by computing, for a schema and a text that are known.
+use Rattle.std.specs.Prelude.{◌≡◌, ℕ, ◌/◌, List, [], ◌∷◌, ◌++◌, length, true, false, slice_get, Option, Some, None, Ok, ⊤}
+use Rattle.sqlite.proofs.Callers.{IsPlain, command_of, statement_of}
+use Rattle.sqlite.specs.Change.{created}
+use Rattle.sqlite.specs.Command.TheVariants.{CreateTable, Delete, Insert, Select, Update}
+use Rattle.sqlite.specs.Compile.{table_defined_by}
+use Rattle.sqlite.specs.declared.types.Value.{Value}
+use Rattle.sqlite.specs.declared.types.Value.TheVariants.{Null}
+use Rattle.sqlite.specs.Does.{lacks_sequence}
+use Rattle.sqlite.specs.Listing.{understood, reads_listing}
+use Rattle.sqlite.specs.Order.{Row}
+use Rattle.sqlite.specs.Schema.{Schema}
+use Rattle.sqlite.specs.Source.TheVariants.{Values}
+use Rattle.sqlite.specs.Table.{Table}
+use Rattle.sqlite.specs.Term.{Term, col}
+use Rattle.sqlite_rules.specs.Action.{works}
+use Rattle.sqlite_schema.specs.declared.schema.Keys.TheVariants.{Enforced}
+use Rattle.sqlite_value.specs.declared.keys.Key.{Key}
+use Rattle.store_sql.specs.Contents.{seen, is_apart}
+use Rattle.store_sql.specs.Queries.{plain_query, count_query, finding, meets, projected, rewritten, keys_of}
+
+-- the table stands at this place, alone has its tree, and no trigger or foreign key of another acts on it
+pub record StandsAt (schema : Schema) (at : ℕ) (table : Table) : Type 0 where
+  pub place : slice_get schema.tables at ≡ Some table
+  pub apart : is_apart at table.tree schema.tables ≡ true
+  pub quiet : (olds news : List Row) → works schema Enforced 0 table.tree olds news ≡ []
+
+-- INSERT: one row of these terms, the first the row id
+pub record InsertsRow (schema : Schema) (at : ℕ) (table : Table) (text : List ℕ) (terms : List Term) : Type 0 where
+  pub stands : StandsAt schema at table
+  pub uncounted : table.is_counted ≡ false
+  pub unstamped : table.stamps.terms ≡ []
+  pub one : length terms / length terms ≡ 1
+  pub means : command_of (understood schema text) ≡ Insert at (Values terms (length terms))
+  pub plain : IsPlain (understood schema text)
+
+-- no row id that doesn't count is read
+abbrev pub OverlooksRowid : {Y : Type 0} → Option ℕ → (Row → Y) → Type 0
+OverlooksRowid (Some _) f = ⊤
+OverlooksRowid None f = (id : Value) (row : Row) → f (id ∷ row) ≡ f (Null ∷ row)
+
+-- UPDATE: in the rows that meet the terms, these columns, the first the row id
+pub record UpdatesRows (schema : Schema) (at : ℕ) (table : Table) (text : List ℕ) (terms rest : List Term) : Type 0 where
+  pub stands : StandsAt schema at table
+  pub means : command_of (understood schema text) ≡ Update at (finding table.tree terms (col 1 0 ∷ rest))
+  pub plain : IsPlain (understood schema text)
+  pub overlooks : (params : Row) → OverlooksRowid table.key (meets terms params)
+  pub passes_over : (params : Row) → OverlooksRowid table.key (λ r. seen table (rewritten table rest params r))
+
+-- DELETE: the rows that meet the terms
+pub record DeletesRows (schema : Schema) (at : ℕ) (table : Table) (text : List ℕ) (terms : List Term) : Type 0 where
+  pub stands : StandsAt schema at table
+  pub means : command_of (understood schema text) ≡ Delete at (finding table.tree terms (col 1 0 ∷ []))
+  pub plain : IsPlain (understood schema text)
+  pub overlooks : (params : Row) → OverlooksRowid table.key (meets terms params)
+
+-- SELECT: of the rows that meet the terms, the columns of ORDER BY and then these others, in that order of rows
+pub record SelectsRows (schema : Schema) (at : ℕ) (table : Table) (text : List ℕ) (terms : List Term) (order : List (Term × Key)) (rest : List Term) (names : List (List ℕ)) : Type 0 where
+  pub place : slice_get schema.tables at ≡ Some table
+  pub means : command_of (understood schema text) ≡ Select (record { lets = []; body = plain_query table.tree terms (keys_of order ++ rest) order }) names
+  pub unlisted : reads_listing schema text ≡ false
+  pub plain : IsPlain (understood schema text)
+  pub overlooks : (params : Row) → OverlooksRowid table.key (meets terms params)
+  pub passes_over : (params : Row) → OverlooksRowid table.key (projected (keys_of order ++ rest) params)
+
+-- SELECT count(*): the rows that meet the terms
+pub record CountsRows (schema : Schema) (at : ℕ) (table : Table) (text : List ℕ) (terms : List Term) (names : List (List ℕ)) : Type 0 where
+  pub place : slice_get schema.tables at ≡ Some table
+  pub means : command_of (understood schema text) ≡ Select (record { lets = []; body = count_query table.tree terms }) names
+  pub unlisted : reads_listing schema text ≡ false
+  pub plain : IsPlain (understood schema text)
+  pub overlooks : (params : Row) → OverlooksRowid table.key (meets terms params)
+
+-- CREATE TABLE: this table
+pub record MakesTable (schema : Schema) (table : Table) (text : List ℕ) : Type 0 where
+  pub defined : table_defined_by text ≡ Ok table
+  pub means : command_of (understood schema text) ≡ CreateTable
+  pub whole : statement_of text (understood schema text) ≡ text
+  pub plain : IsPlain (understood schema text)
+  pub complete : lacks_sequence (created schema table) ≡ false
+
+-- the schema after these tables were made
+abbrev pub schema_after : Schema → List Table → Schema
+schema_after schema [] = schema
+schema_after schema (t ∷ ts) = schema_after (created schema t) ts
+
+-- each of the texts makes its table, where the tables before it stand
+abbrev pub MakeTables : Schema → List Table → List (List ℕ) → Type 0
+MakeTables schema [] [] = ⊤
+MakeTables schema [] (x ∷ xs) = ⊥
+MakeTables schema (t ∷ ts) [] = ⊥
+MakeTables schema (t ∷ ts) (x ∷ xs) = MakesTable schema t x × MakeTables (created schema t) ts xs

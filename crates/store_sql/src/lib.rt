@@ -1,0 +1,14 @@
+//! What SQL statements do to the rows of a store, stated once for any schema.
+#![tactic(auto)]
+
+mod catalog;
+mod laws;
+mod reading;
+mod streaming;
+mod writing;
+
+pub use catalog::catalog_lists_one_schema;
+pub use laws::stop_leaves_what_is_shown;
+pub use reading::{count, select};
+pub use streaming::{Halt, TakesRow, stream};
+pub use writing::{create_table, create_tables, delete, insert, update};

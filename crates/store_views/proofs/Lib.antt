@@ -1,0 +1,11 @@
+mod ListedFindLemmas
+mod GatherLemmas
+mod KeyLemmas
+mod OrderLemmas
+mod ShownLemmas
+mod StepLemmas
+pub mod ListedLemmas
+pub mod SizeLemmas
+mod FindLemmas
+mod LearningLemmas
+mod NamedLemmas

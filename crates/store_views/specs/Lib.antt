@@ -1,0 +1,5 @@
+pub mod Learning
+pub mod Named
+pub mod Steps
+pub mod lists
+pub mod sizes

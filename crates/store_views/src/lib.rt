@@ -1,0 +1,13 @@
+//! What a decision on a call needs of a desk's tables: rows by the call's own keys, and sizes.
+#![tactic(auto)]
+
+mod keyed;
+mod lists;
+mod loading;
+mod sizes;
+mod sizing;
+mod viewing;
+
+pub use lists::{list_view, lists_asked};
+pub use sizes::{KeptSizes, may_put};
+pub use viewing::view;

@@ -1,0 +1,11 @@
+//! The rows of what is listed, of what is revoked and of the level that an image's facts or a command name, by keyed
+//! statements inside a transaction.
+
+mod finding;
+mod gathering;
+mod keys;
+mod naming;
+mod reading;
+mod viewing;
+
+pub use viewing::{list_view, lists_asked};

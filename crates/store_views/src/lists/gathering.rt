@@ -1,0 +1,97 @@
+//! The rows of many keys, key by key.
+ghost use Rattle.std.specs.Prelude.{◌≡◌, ◌++◌, [], All, IfOk, IsTrue, OnOk, map};
+ghost use Rattle.desk_history.specs.Calls.{is_among};
+ghost use Rattle.store_views.specs.lists.Gathering.{Gathers, PutsOnly, levels_of, listings_of, revocations_of};
+ghost use Rattle.store_reads.specs.Reads.{Tells, listed};
+ghost use Rattle.store_sql.specs.States.{DoesInside, Keeps, Spares};
+
+use crate::lists::finding::{find_component, find_listed, find_revoked};
+use desk_bytes::Digest;
+use desk_texts::{ListedKind, Listing};
+use sbat::Component;
+use sqlite::{Alter, Transaction};
+use std::alloc::Global;
+use store_reads::ReadFault;
+
+/// Puts the row after the others, if there is one.
+fn put<T: Drop>(row: Option<T>, rows: &mut Vec<T>) -> Result<(), ReadFault>
+    ensures { OnOk result (rows.new.items ≡ rows.old.items ++ listed row) }
+{
+    let Some(row) = row else {
+        return Ok(());
+    };
+    if rows.push(row).is_err() {
+        return Err(ReadFault::NoMemory);
+    }
+    Ok(())
+}
+
+/// Puts the keys of the listed entries of this kind and these digests after the others.
+pub(crate) fn gather_listed<S: Alter>(
+    alloc: Global,
+    tx: &mut Transaction<'_, S>,
+    kind: ListedKind,
+    digests: &[Digest],
+    rows: &mut Vec<Listing>,
+) -> Result<(), ReadFault>
+    ensures same_reference { tx.new.conn.ghost_name ≡ tx.old.conn.ghost_name }
+    ensures value { DoesInside S.Store tx.old.conn.now tx.new.conn.now result
+        (λ _. Tells (Gathers (listings_of kind) digests.now rows.old.items rows.new.items)) }
+    ensures only { OnOk result (PutsOnly
+        (λ x. (x.kind ≡ kind) × IsTrue (is_among digests.now x.digest))
+        rows.old.items rows.new.items) }
+    ensures kept { Keeps S.Store tx.old.conn.now tx.new.conn.now }
+    ensures survives { Spares S.Store tx.old.conn.now tx.new.conn.now }
+{
+    for digest in digests {
+        let row = find_listed(alloc, tx, kind, digest)?;
+        put(row, rows)?;
+    }
+    Ok(())
+}
+
+/// Puts those of these digests of this kind that are revoked after the others.
+pub(crate) fn gather_revoked<S: Alter>(
+    alloc: Global,
+    tx: &mut Transaction<'_, S>,
+    kind: ListedKind,
+    digests: &[Digest],
+    rows: &mut Vec<Digest>,
+) -> Result<(), ReadFault>
+    ensures same_reference { tx.new.conn.ghost_name ≡ tx.old.conn.ghost_name }
+    ensures value { DoesInside S.Store tx.old.conn.now tx.new.conn.now result
+        (λ _. Tells (Gathers (revocations_of kind) digests.now rows.old.items rows.new.items)) }
+    ensures only { OnOk result (PutsOnly (λ x. IsTrue (is_among digests.now x))
+        rows.old.items rows.new.items) }
+    ensures kept { Keeps S.Store tx.old.conn.now tx.new.conn.now }
+    ensures survives { Spares S.Store tx.old.conn.now tx.new.conn.now }
+{
+    for digest in digests {
+        let row = find_revoked(alloc, tx, kind, digest)?;
+        put(row, rows)?;
+    }
+    Ok(())
+}
+
+/// Puts the level's components of the names of these components after the others.
+pub(crate) fn gather_components<S: Alter>(
+    alloc: Global,
+    tx: &mut Transaction<'_, S>,
+    named: &[Component],
+    rows: &mut Vec<Component>,
+) -> Result<(), ReadFault>
+    ensures same_reference { tx.new.conn.ghost_name ≡ tx.old.conn.ghost_name }
+    ensures value { DoesInside S.Store tx.old.conn.now tx.new.conn.now result
+        (λ _. Tells (Gathers levels_of named.now rows.old.items rows.new.items)) }
+    ensures only { OnOk result (PutsOnly
+        (λ x. IsTrue (is_among (map (λ y. y.name) named.now) x.name))
+        rows.old.items rows.new.items) }
+    ensures kept { Keeps S.Store tx.old.conn.now tx.new.conn.now }
+    ensures survives { Spares S.Store tx.old.conn.now tx.new.conn.now }
+{
+    for component in named {
+        let row = find_component(alloc, tx, &component.name)?;
+        put(row, rows)?;
+    }
+    Ok(())
+}

@@ -1,0 +1,135 @@
+//! The rows of the lists that commands of one kind name.
+ghost use Rattle.std.specs.Prelude.{◌≡◌, IfErr, IfOk};
+ghost use Rattle.desk_bytes.specs.Digests.{IsArranged};
+ghost use Rattle.store_views.specs.lists.Gathering.{barring_keys, entry_keys, import_keys};
+ghost use Rattle.store_views.specs.lists.Gathering.{listed_keys, revoked_keys, submission_keys};
+ghost use Rattle.store_views.specs.lists.Lists.{HoldsNoOther};
+ghost use Rattle.store_reads.specs.Reads.{Tells};
+ghost use Rattle.desk_rules.specs.Views.{ShowsLists};
+ghost use Rattle.store_sql.specs.States.{DoesInside, Keeps, Spares, StaysInside};
+
+use crate::lists::keys::Digests;
+use crate::lists::reading::rows_of;
+use desk_bytes::{Digest, arrange};
+use desk_rules::ListView;
+use desk_texts::{Facts, Import, ListedKind};
+use sbat::Component;
+use sqlite::{Alter, Transaction};
+use std::alloc::Global;
+use store_reads::ReadFault;
+
+/// The row of this kind and digest in what is listed.
+pub(crate) fn listed_view<S: Alter>(
+    alloc: Global,
+    tx: &mut Transaction<'_, S>,
+    kind: ListedKind,
+    digest: Digest,
+) -> Result<ListView, ReadFault>
+    ensures same_reference { tx.new.conn.ghost_name ≡ tx.old.conn.ghost_name }
+    ensures value { DoesInside S.Store tx.old.conn.now tx.new.conn.now result
+        (λ view. Tells (λ t. ShowsLists view t (listed_keys kind digest))) }
+    ensures only { IfOk result (λ view. HoldsNoOther view (listed_keys kind digest)) }
+    ensures inside { StaysInside S.Store tx.old.conn.now tx.new.conn.now result }
+    ensures kept { Keeps S.Store tx.old.conn.now tx.new.conn.now }
+    ensures survives { Spares S.Store tx.old.conn.now tx.new.conn.now }
+{
+    let listed = Digests::one(kind, &digest);
+    rows_of(alloc, tx, listed, Digests::none(), &[])
+}
+
+/// The row of this kind and digest in what is revoked.
+pub(crate) fn revoked_view<S: Alter>(
+    alloc: Global,
+    tx: &mut Transaction<'_, S>,
+    kind: ListedKind,
+    digest: Digest,
+) -> Result<ListView, ReadFault>
+    ensures same_reference { tx.new.conn.ghost_name ≡ tx.old.conn.ghost_name }
+    ensures value { DoesInside S.Store tx.old.conn.now tx.new.conn.now result
+        (λ view. Tells (λ t. ShowsLists view t (revoked_keys kind digest))) }
+    ensures only { IfOk result (λ view. HoldsNoOther view (revoked_keys kind digest)) }
+    ensures inside { StaysInside S.Store tx.old.conn.now tx.new.conn.now result }
+    ensures kept { Keeps S.Store tx.old.conn.now tx.new.conn.now }
+    ensures survives { Spares S.Store tx.old.conn.now tx.new.conn.now }
+{
+    let revoked = Digests::one(kind, &digest);
+    rows_of(alloc, tx, Digests::none(), revoked, &[])
+}
+
+/// The rows of what bars an image: those of these keys in what is revoked, and those of these components' names in the level.
+fn barring_view<S: Alter>(
+    alloc: Global,
+    tx: &mut Transaction<'_, S>,
+    revoked: Digests<'_>,
+    named: &[Component],
+) -> Result<ListView, ReadFault>
+    ensures same_reference { tx.new.conn.ghost_name ≡ tx.old.conn.ghost_name }
+    ensures value { DoesInside S.Store tx.old.conn.now tx.new.conn.now result
+        (λ view. Tells (λ t. ShowsLists view t (barring_keys (entry_keys revoked.entry) named.now))) }
+    ensures only { IfOk result (λ view.
+        HoldsNoOther view (barring_keys (entry_keys revoked.entry) named.now)) }
+    ensures inside { StaysInside S.Store tx.old.conn.now tx.new.conn.now result }
+    ensures kept { Keeps S.Store tx.old.conn.now tx.new.conn.now }
+    ensures survives { Spares S.Store tx.old.conn.now tx.new.conn.now }
+{
+    rows_of(alloc, tx, Digests::none(), revoked, named)
+}
+
+/// The digests, ascending, each once: what stands side by side in a table is then looked up one after another. Takes memory for
+/// them.
+fn in_order(alloc: Global, digests: &[Digest]) -> Result<Vec<Digest>, ReadFault>
+    ensures arranged { IfOk result (λ ordered. IsArranged digests.now ordered.items) }
+    ensures named { IfErr result (λ fault. fault ≡ ReadFault.NoMemory) }
+{
+    let Ok(mut ordered) = Vec::from_slice(alloc, digests) else {
+        return Err(ReadFault::NoMemory);
+    };
+    arrange(&mut ordered);
+    Ok(ordered)
+}
+
+/// The rows of what an import names. A digest that it names twice is looked up once.
+pub(crate) fn import_view<S: Alter>(
+    alloc: Global,
+    tx: &mut Transaction<'_, S>,
+    import: &Import,
+) -> Result<ListView, ReadFault>
+    ensures same_reference { tx.new.conn.ghost_name ≡ tx.old.conn.ghost_name }
+    ensures value { DoesInside S.Store tx.old.conn.now tx.new.conn.now result
+        (λ view. Tells (λ t. ShowsLists view t (import_keys import.now))) }
+    ensures only { IfOk result (λ view. HoldsNoOther view (import_keys import.now)) }
+    ensures inside { StaysInside S.Store tx.old.conn.now tx.new.conn.now result }
+    ensures kept { Keeps S.Store tx.old.conn.now tx.new.conn.now }
+    ensures survives { Spares S.Store tx.old.conn.now tx.new.conn.now }
+{
+    let images = in_order(alloc, import.digests().as_slice())?;
+    let certificates = in_order(alloc, import.certificates().as_slice())?;
+    let revoked = Digests {
+        images: &images,
+        certificates: &certificates,
+    };
+    let view = barring_view(alloc, tx, revoked, import.components().as_slice())?;
+    Ok(view)
+}
+
+/// The rows of what a submission of these facts names: of what is revoked and of the level.
+pub(crate) fn submission_view<S: Alter>(
+    alloc: Global,
+    tx: &mut Transaction<'_, S>,
+    facts: &Facts,
+) -> Result<ListView, ReadFault>
+    ensures same_reference { tx.new.conn.ghost_name ≡ tx.old.conn.ghost_name }
+    ensures value { DoesInside S.Store tx.old.conn.now tx.new.conn.now result
+        (λ view. Tells (λ t. ShowsLists view t (submission_keys facts.now))) }
+    ensures only { IfOk result (λ view. HoldsNoOther view (submission_keys facts.now)) }
+    ensures inside { StaysInside S.Store tx.old.conn.now tx.new.conn.now result }
+    ensures kept { Keeps S.Store tx.old.conn.now tx.new.conn.now }
+    ensures survives { Spares S.Store tx.old.conn.now tx.new.conn.now }
+{
+    let digests = [facts.digest, facts.signing];
+    let revoked = Digests {
+        images: &digests,
+        certificates: facts.carried.as_slice(),
+    };
+    barring_view(alloc, tx, revoked, facts.components.as_slice())
+}

@@ -1,0 +1,92 @@
+//! The rows of the lists that an image's facts or a command name.
+ghost use Rattle.std.specs.Prelude.{◌≡◌, IfOk, option_copied};
+ghost use Rattle.store_views.specs.lists.Lists.{HoldsNoOther};
+ghost use Rattle.store_reads.specs.Reads.{Tells};
+ghost use Rattle.desk_rules.specs.Keys.{keys_with};
+ghost use Rattle.desk_rules.specs.Views.{ShowsLists, keys_of};
+ghost use Rattle.store_sql.specs.States.{DoesInside, Keeps, Spares, StaysInside};
+
+use crate::lists::keys::Digests;
+use crate::lists::naming::{import_view, listed_view, revoked_view, submission_view};
+use crate::lists::reading::rows_of;
+use desk_history::ProposalRow;
+use desk_rules::ListView;
+use desk_texts::{Command, Facts, ListedKind};
+use sqlite::{Alter, Transaction};
+use std::alloc::Global;
+use std::slice;
+use store_reads::ReadFault;
+
+/// The rows of the lists that an image's facts name: the listed entry of its digest and those of the certificates that
+/// it carries, the revocations of its two digests and of these certificates, and the level's components that it names.
+/// Takes memory for them. Costs one keyed statement for each.
+pub fn list_view<S: Alter>(
+    alloc: Global,
+    tx: &mut Transaction<'_, S>,
+    facts: &Facts,
+) -> Result<ListView, ReadFault>
+    ensures same_reference { tx.new.conn.ghost_name ≡ tx.old.conn.ghost_name }
+    ensures value { DoesInside S.Store tx.old.conn.now tx.new.conn.now result
+        (λ view. Tells (λ t. ShowsLists view t (keys_of facts.now))) }
+    ensures only { IfOk result (λ view. HoldsNoOther view (keys_of facts.now)) }
+    ensures inside { StaysInside S.Store tx.old.conn.now tx.new.conn.now result }
+    ensures kept { Keeps S.Store tx.old.conn.now tx.new.conn.now }
+    ensures survives { Spares S.Store tx.old.conn.now tx.new.conn.now }
+{
+    let digests = [facts.digest, facts.signing];
+    let carried = facts.carried.as_slice();
+    let listed = Digests {
+        images: slice::from_ref(&facts.digest),
+        certificates: carried,
+    };
+    let revoked = Digests {
+        images: &digests,
+        certificates: carried,
+    };
+    rows_of(alloc, tx, listed, revoked, facts.components.as_slice())
+}
+
+/// The rows of the lists that the command names, or for a Confirm those that its proposal names, of which this is the row.
+/// Takes memory for them. Costs one keyed statement for each key.
+pub fn lists_asked<S: Alter>(
+    alloc: Global,
+    tx: &mut Transaction<'_, S>,
+    command: &Command,
+    proposal: Option<&ProposalRow>,
+) -> Result<ListView, ReadFault>
+    ensures same_reference { tx.new.conn.ghost_name ≡ tx.old.conn.ghost_name }
+    ensures value { DoesInside S.Store tx.old.conn.now tx.new.conn.now result
+        (λ view. Tells (λ t.
+        ShowsLists view t (keys_with command.now (λ k. option_copied proposal.entry)))) }
+    ensures only { IfOk result (λ view.
+        HoldsNoOther view (keys_with command.now (λ k. option_copied proposal.entry))) }
+    ensures inside { StaysInside S.Store tx.old.conn.now tx.new.conn.now result }
+    ensures kept { Keeps S.Store tx.old.conn.now tx.new.conn.now }
+    ensures survives { Spares S.Store tx.old.conn.now tx.new.conn.now }
+{
+    match command {
+        Command::AddPerson(_) | Command::Review(_) | Command::Withdraw(_) | Command::Drop(_) => {
+            rows_of(alloc, tx, Digests::none(), Digests::none(), &[])
+        }
+        Command::Submit(submission) => submission_view(alloc, tx, &submission.facts),
+        Command::Return(returned) => list_view(alloc, tx, &returned.facts),
+        Command::ListCertificate(certificate) => {
+            listed_view(alloc, tx, ListedKind::Certificate, certificate.tbs())
+        }
+        Command::ListDigest(digest) => listed_view(alloc, tx, ListedKind::Digest, *digest),
+        Command::Unlist(listing) => listed_view(alloc, tx, listing.kind, listing.digest),
+        Command::RevokeDigest(digest) => revoked_view(alloc, tx, ListedKind::Digest, *digest),
+        Command::RevokeCertificate(digest) => {
+            revoked_view(alloc, tx, ListedKind::Certificate, *digest)
+        }
+        Command::RaiseLevel(raise) => {
+            let named = slice::from_ref(&raise.component);
+            rows_of(alloc, tx, Digests::none(), Digests::none(), named)
+        }
+        Command::ImportRevocations(import) => import_view(alloc, tx, import),
+        Command::Confirm(_) => match proposal {
+            None => rows_of(alloc, tx, Digests::none(), Digests::none(), &[]),
+            Some(row) => import_view(alloc, tx, &row.named),
+        },
+    }
+}

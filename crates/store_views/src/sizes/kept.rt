@@ -1,0 +1,188 @@
+//! The sizes of the counted tables, as far as they are known.
+ghost use Rattle.std.specs.Prelude.{◌≡◌, Some};
+ghost use Rattle.store_views.specs.sizes.Sizes as spec;
+ghost use Rattle.store_views.specs.sizes.Steps as steps;
+
+use desk_history::Write;
+use desk_rules::{Counted, Sizes, count};
+use desk_texts::Command;
+
+/// How many rows each table has that a limit of the desk counts, or nothing where that isn't known.
+#[derive(Clone, Copy, Debug, PartialEq, Eq)]
+pub struct KeptSizes {
+    people: Option<u64>,
+    calls: Option<u64>,
+    requests: Option<u64>,
+    listed: Option<u64>,
+    revoked_digests: Option<u64>,
+    revoked_certificates: Option<u64>,
+    components: Option<u64>,
+    proposals: Option<u64>,
+}
+
+/// A size and so many rows more; nothing where the size isn't known.
+fn more(size: Option<u64>, count: usize) -> Option<u64>
+    ensures { result ≡ steps.more size count }
+{
+    size?.checked_add(count as u64)
+}
+
+/// A size and one row less; nothing where the size isn't known.
+fn one_less(size: Option<u64>) -> Option<u64>
+    ensures { result ≡ steps.one_less size }
+{
+    size?.checked_sub(1)
+}
+
+/// How many entries are listed after an accepted command.
+fn listed_after(size: Option<u64>, command: &Command) -> Option<u64>
+    ensures { result ≡ steps.listed_after size command.now }
+{
+    match command {
+        Command::ListCertificate(_) | Command::ListDigest(_) => more(size, 1),
+        Command::Unlist(_) => one_less(size),
+        Command::AddPerson(_)
+        | Command::Submit(_)
+        | Command::Review(_)
+        | Command::Withdraw(_)
+        | Command::Return(_)
+        | Command::RevokeDigest(_)
+        | Command::RevokeCertificate(_)
+        | Command::RaiseLevel(_)
+        | Command::ImportRevocations(_)
+        | Command::Confirm(_)
+        | Command::Drop(_) => size,
+    }
+}
+
+impl KeptSizes {
+    /// No size is known.
+    pub fn unknown() -> KeptSizes
+        ensures { spec.IsUnknown result }
+    {
+        KeptSizes {
+            people: None,
+            calls: None,
+            requests: None,
+            listed: None,
+            revoked_digests: None,
+            revoked_certificates: None,
+            components: None,
+            proposals: None,
+        }
+    }
+
+    /// How many calls there are, where that is known.
+    pub fn calls(&self) -> Option<u64>
+        ensures { result ≡ self.now.calls }
+    {
+        self.calls
+    }
+
+    /// How many rows the table has, where that is known.
+    pub fn size(&self, table: Counted) -> Option<u64>
+        ensures { result ≡ spec.known self.now table }
+    {
+        match table {
+            Counted::People => self.people,
+            Counted::Requests => self.requests,
+            Counted::Listed => self.listed,
+            Counted::RevokedDigests => self.revoked_digests,
+            Counted::RevokedCertificates => self.revoked_certificates,
+            Counted::Components => self.components,
+            Counted::Proposals => self.proposals,
+        }
+    }
+
+    /// These sizes, where there are so many calls.
+    pub fn with_calls(self, size: u64) -> KeptSizes
+        ensures told { result.calls ≡ Some size }
+        ensures kept { spec.HaveSameRows self result }
+    {
+        KeptSizes {
+            calls: Some(size),
+            ..self
+        }
+    }
+
+    /// These sizes, where the table has so many rows.
+    pub fn with_size(self, table: Counted, size: u64) -> KeptSizes
+        ensures told { spec.known result table ≡ Some size }
+        ensures kept { spec.HaveSameOthers table self result }
+    {
+        let size = Some(size);
+        match table {
+            Counted::People => KeptSizes {
+                people: size,
+                ..self
+            },
+            Counted::Requests => KeptSizes {
+                requests: size,
+                ..self
+            },
+            Counted::Listed => KeptSizes {
+                listed: size,
+                ..self
+            },
+            Counted::RevokedDigests => KeptSizes {
+                revoked_digests: size,
+                ..self
+            },
+            Counted::RevokedCertificates => KeptSizes {
+                revoked_certificates: size,
+                ..self
+            },
+            Counted::Components => KeptSizes {
+                components: size,
+                ..self
+            },
+            Counted::Proposals => KeptSizes {
+                proposals: size,
+                ..self
+            },
+        }
+    }
+
+    /// The sizes that are known, and 0 for each other.
+    pub fn sizes(&self) -> Sizes
+        ensures { spec.TellWhatIsKnown self.now result }
+    {
+        Sizes {
+            people: self.people.unwrap_or(0),
+            calls: self.calls.unwrap_or(0),
+            requests: self.requests.unwrap_or(0),
+            listed: self.listed.unwrap_or(0),
+            revoked_digests: self.revoked_digests.unwrap_or(0),
+            revoked_certificates: self.revoked_certificates.unwrap_or(0),
+            components: self.components.unwrap_or(0),
+            proposals: self.proposals.unwrap_or(0),
+        }
+    }
+
+    /// The sizes after an accepted command, from those before it and what the command wrote.
+    fn next(&self, command: &Command, writes: &[Write]) -> KeptSizes
+        ensures { result ≡ steps.sizes_after self.now command.now writes.now }
+    {
+        KeptSizes {
+            people: more(self.people, count(Counted::People, writes)),
+            calls: more(self.calls, 1),
+            requests: more(self.requests, count(Counted::Requests, writes)),
+            listed: listed_after(self.listed, command),
+            revoked_digests: more(self.revoked_digests, count(Counted::RevokedDigests, writes)),
+            revoked_certificates: more(
+                self.revoked_certificates,
+                count(Counted::RevokedCertificates, writes),
+            ),
+            components: more(self.components, count(Counted::Components, writes)),
+            proposals: more(self.proposals, count(Counted::Proposals, writes)),
+        }
+    }
+
+    /// The sizes after an accepted command, from those before it and what the command wrote: right where these were, and
+    /// none is lost. It counts writes, never rows.
+    pub fn after(&self, command: &Command, writes: &[Write]) -> KeptSizes
+        ensures { spec.Follows self.now command.now writes.now result }
+    {
+        self.next(command, writes)
+    }
+}

@@ -1,0 +1,138 @@
+//! The sizes that a command needs: counted where they aren't known.
+ghost use Rattle.std.specs.Prelude.{◌≡◌, ◌&&◌, [], ◌∷◌, IfOk, is_some, not};
+ghost use Rattle.desk_history.specs.Tables.{Tables};
+ghost use Rattle.store_reads.specs.Counting.{counted};
+ghost use Rattle.store_reads.specs.Reads.{Tells};
+ghost use Rattle.desk_rules.specs.Shown as spec;
+ghost use Rattle.store_views.specs.sizes.Sizes.{AreRight, known};
+ghost use Rattle.store_sql.specs.States.{DoesInside, Keeps, Spares, StaysInside};
+ghost use Rattle.store_views.specs.Learning.{Learns};
+ghost use Rattle.store_views.specs.Steps.{LearnsCalls, LearnsOf};
+
+use crate::{KeptSizes, may_put};
+use desk_rules::Counted;
+use desk_texts::Command;
+use sqlite::{Alter, Transaction};
+use store_reads::{Counted as Told, ReadFault, count};
+
+/// What is counted where the table's size is asked for.
+fn told_of(table: Counted) -> Told
+    ensures { (t : Tables) → counted result t ≡ spec.rows_in t table }
+{
+    match table {
+        Counted::People => Told::People,
+        Counted::Requests => Told::Requests,
+        Counted::Listed => Told::Listed,
+        Counted::RevokedDigests => Told::RevokedDigests,
+        Counted::RevokedCertificates => Told::RevokedCertificates,
+        Counted::Components => Told::Components,
+        Counted::Proposals => Told::Proposals,
+    }
+}
+
+/// How many rows the table has.
+fn count_of<S: Alter>(tx: &mut Transaction<'_, S>, table: Counted) -> Result<u64, ReadFault>
+    ensures same_reference { tx.new.conn.ghost_name ≡ tx.old.conn.ghost_name }
+    ensures value { DoesInside S.Store tx.old.conn.now tx.new.conn.now result
+        (λ n. Tells (λ t. n ≡ spec.rows_in t table)) }
+    ensures kept { Keeps S.Store tx.old.conn.now tx.new.conn.now }
+    ensures survives { Spares S.Store tx.old.conn.now tx.new.conn.now }
+{
+    let counted = count(tx, told_of(table))?;
+    Ok(counted)
+}
+
+/// Whether the command needs the table's size and it isn't known.
+fn is_lacking(sizes: &KeptSizes, command: &Command, table: Counted) -> bool
+    ensures { result ≡ (spec.may_put command.now table && not (is_some (known sizes.now table))) }
+{
+    may_put(command, table) && sizes.size(table).is_none()
+}
+
+/// The sizes, with that of the table where the command needs it.
+fn learn_one<S: Alter>(
+    tx: &mut Transaction<'_, S>,
+    sizes: KeptSizes,
+    command: &Command,
+    table: Counted,
+) -> Result<KeptSizes, ReadFault>
+    ensures same_reference { tx.new.conn.ghost_name ≡ tx.old.conn.ghost_name }
+    ensures value { DoesInside S.Store tx.old.conn.now tx.new.conn.now result
+        (λ after. Tells (λ t. AreRight sizes t → AreRight after t)) }
+    ensures learnt { IfOk result (LearnsOf (table ∷ []) command.now sizes) }
+    ensures kept { Keeps S.Store tx.old.conn.now tx.new.conn.now }
+    ensures survives { Spares S.Store tx.old.conn.now tx.new.conn.now }
+{
+    if !is_lacking(&sizes, command, table) {
+        return Ok(sizes);
+    }
+    let counted = count_of(tx, table)?;
+    Ok(sizes.with_size(table, counted))
+}
+
+/// The sizes, with those of these tables that the command needs.
+fn learn_each<S: Alter>(
+    tx: &mut Transaction<'_, S>,
+    sizes: KeptSizes,
+    command: &Command,
+    tables: &[Counted],
+) -> Result<KeptSizes, ReadFault>
+    ensures same_reference { tx.new.conn.ghost_name ≡ tx.old.conn.ghost_name }
+    ensures value { DoesInside S.Store tx.old.conn.now tx.new.conn.now result
+        (λ after. Tells (λ t. AreRight sizes t → AreRight after t)) }
+    ensures learnt { IfOk result (LearnsOf tables.now command.now sizes) }
+    ensures kept { Keeps S.Store tx.old.conn.now tx.new.conn.now }
+    ensures survives { Spares S.Store tx.old.conn.now tx.new.conn.now }
+{
+    let mut known = sizes;
+    for table in tables {
+        known = learn_one(tx, known, command, *table)?;
+    }
+    Ok(known)
+}
+
+/// The sizes, with how many calls there are.
+fn learn_calls<S: Alter>(
+    tx: &mut Transaction<'_, S>,
+    sizes: KeptSizes,
+) -> Result<KeptSizes, ReadFault>
+    ensures same_reference { tx.new.conn.ghost_name ≡ tx.old.conn.ghost_name }
+    ensures value { DoesInside S.Store tx.old.conn.now tx.new.conn.now result
+        (λ after. Tells (λ t. AreRight sizes t → AreRight after t)) }
+    ensures learnt { IfOk result (LearnsCalls sizes) }
+    ensures kept { Keeps S.Store tx.old.conn.now tx.new.conn.now }
+    ensures survives { Spares S.Store tx.old.conn.now tx.new.conn.now }
+{
+    if sizes.calls().is_some() {
+        return Ok(sizes);
+    }
+    let counted = count(tx, Told::Calls)?;
+    Ok(sizes.with_calls(counted))
+}
+
+/// The sizes, with those that the command needs: what isn't known is counted.
+pub(crate) fn learn<S: Alter>(
+    tx: &mut Transaction<'_, S>,
+    sizes: KeptSizes,
+    command: &Command,
+) -> Result<KeptSizes, ReadFault>
+    ensures same_reference { tx.new.conn.ghost_name ≡ tx.old.conn.ghost_name }
+    ensures value { DoesInside S.Store tx.old.conn.now tx.new.conn.now result
+        (λ after. Tells (λ t. AreRight sizes t → AreRight after t)) }
+    ensures learnt { IfOk result (Learns command.now sizes) }
+    ensures kept { Keeps S.Store tx.old.conn.now tx.new.conn.now }
+    ensures survives { Spares S.Store tx.old.conn.now tx.new.conn.now }
+{
+    let known = learn_calls(tx, sizes)?;
+    let tables = [
+        Counted::People,
+        Counted::Requests,
+        Counted::Listed,
+        Counted::RevokedDigests,
+        Counted::RevokedCertificates,
+        Counted::Components,
+        Counted::Proposals,
+    ];
+    let all = learn_each(tx, known, command, &tables)?;
+    Ok(all)
+}

@@ -1,0 +1,116 @@
+//! The rows and sizes that a decision is made from.
+ghost use Rattle.std.specs.Prelude.{◌≡◌, ℕ, List, IfErr, IfOk, OnErr};
+ghost use Rattle.store_schema.specs.rows.Contents.{contents};
+ghost use Rattle.desk_history.specs.Calls.{History};
+ghost use Rattle.desk_history.specs.Formed.{IsHistory};
+ghost use Rattle.desk_history.specs.Tables.{tables};
+ghost use Rattle.store_reads.specs.Reads.{Tells};
+ghost use Rattle.desk_rules.specs.Decisions.{called};
+ghost use Rattle.desk_rules.specs.Shown.{Shows};
+ghost use Rattle.store_views.specs.sizes.Sizes.{AreRight};
+ghost use Rattle.store_sql.specs.States.{Changes, DoesInside, Keeps, Sees, Spares, StaysInside};
+ghost use Rattle.store_schema.specs.Tables.{desk_schema};
+ghost use Rattle.store_reads.specs.Failures.{IsFailure};
+ghost use Rattle.store_views.specs.Named.{HoldsNoRowBeyond};
+ghost use Rattle.store_views.specs.Learning.{Learns};
+ghost use Rattle.store_views.specs.Steps.{ReadsBack};
+
+use crate::loading::{named_row, rows_of_call};
+use crate::sizing::learn;
+use crate::{KeptSizes, lists_asked};
+use desk_bytes::Refusal;
+use desk_history::minutes_are_readable;
+use desk_rules::View;
+use desk_texts::{Caller, Command, Key};
+use sqlite::{Alter, Transaction};
+use std::alloc::Global;
+use store_proposals::stamps_are_above_none;
+use store_reads::{ReadFault, own_row};
+
+/// A view for a call, and the sizes that are known with it.
+#[derive(Drop)]
+struct Seen {
+    view: View,
+    sizes: KeptSizes,
+}
+
+/// The rows and sizes that the call needs, with the sizes that are known.
+fn see<S: Alter>(
+    alloc: Global,
+    tx: &mut Transaction<'_, S>,
+    sizes: KeptSizes,
+    caller: &Caller,
+    key: &Key,
+    command: &Command,
+) -> Result<Seen, ReadFault>
+    ensures same_reference { tx.new.conn.ghost_name ≡ tx.old.conn.ghost_name }
+    ensures value { DoesInside S.Store tx.old.conn.now tx.new.conn.now result (λ seen. Tells (λ t.
+        ReadsBack t → AreRight sizes t
+        → Shows seen.view t (called caller.now key.now command.now) × AreRight seen.sizes t)) }
+    ensures only { IfOk result (λ seen. HoldsNoRowBeyond seen.view
+        (called caller.now key.now command.now)) }
+    ensures learnt { IfOk result (λ seen. Learns command.now sizes seen.sizes) }
+    ensures inside { StaysInside S.Store tx.old.conn.now tx.new.conn.now result }
+    ensures kept { Keeps S.Store tx.old.conn.now tx.new.conn.now }
+    ensures survives { Spares S.Store tx.old.conn.now tx.new.conn.now }
+{
+    let own = own_row(alloc, tx)?;
+    let rows = rows_of_call(alloc, tx, caller, key, command)?;
+    let proposal = named_row(&rows.proposals, command);
+    let lists = lists_asked(alloc, tx, command, proposal)?;
+    let known = learn(tx, sizes, command)?;
+    let view = View {
+        stamp: own.stamp,
+        sizes: known.sizes(),
+        people: rows.people,
+        calls: rows.calls,
+        requests: rows.requests,
+        votes: rows.votes,
+        proposals: rows.proposals,
+        lists,
+    };
+    Ok(Seen { view, sizes: known })
+}
+
+/// The rows and sizes by which the tables are shown for the call. Sizes that the command needs and
+/// that aren't known are counted, and known from then on. Takes memory for the rows.
+///
+/// `Store`: the store failed, or a row that the call names isn't one that the desk writes.
+pub fn view<S: Alter>(
+    alloc: Global,
+    tx: &mut Transaction<'_, S>,
+    sizes: &mut KeptSizes,
+    caller: &Caller,
+    key: &Key,
+    command: &Command,
+) -> Result<View, Refusal>
+    ensures same_reference { tx.new.conn.ghost_name ≡ tx.old.conn.ghost_name }
+    ensures value { DoesInside S.Store tx.old.conn.now tx.new.conn.now result
+        (λ v before after. Changes desk_schema contents before after (λ t. t)) }
+    ensures shown { DoesInside S.Store tx.old.conn.now tx.new.conn.now result
+        (λ v before after. (owner : List ℕ) (cs : History) → IsHistory cs
+        → Sees desk_schema before (contents (tables owner cs))
+        → AreRight sizes.old (tables owner cs)
+        → Shows v (tables owner cs) (called caller.now key.now command.now)
+        × AreRight sizes.new (tables owner cs)) }
+    ensures only { IfOk result (λ v. HoldsNoRowBeyond v
+        (called caller.now key.now command.now)) }
+    ensures learnt { IfOk result (λ _. Learns command.now sizes.old sizes.new) }
+    ensures inside { StaysInside S.Store tx.old.conn.now tx.new.conn.now result }
+
+    ensures failed { IfErr result IsFailure }
+    ensures unlearnt { OnErr result (sizes.new ≡ sizes.old) }
+
+    ensures kept { Keeps S.Store tx.old.conn.now tx.new.conn.now }
+    ensures survives { Spares S.Store tx.old.conn.now tx.new.conn.now }
+{
+    minutes_are_readable();
+    stamps_are_above_none();
+    match see(alloc, tx, *sizes, caller, key, command) {
+        Ok(seen) => {
+            *sizes = seen.sizes;
+            Ok(seen.view)
+        }
+        Err(fault) => Err(fault.refusal()),
+    }
+}

@@ -1,0 +1,143 @@
+//! The desk itself, people, calls and the level's components: rows that are put in.
+ghost use Rattle.std.specs.Prelude.{◌≡◌};
+ghost use Rattle.desk_history.specs.Writes.{written};
+ghost use Rattle.desk_history.specs.declared.write.Write.TheVariants as writes;
+ghost use Rattle.store_sql.specs.States.{Keeps, Spares, StaysInside};
+ghost use Rattle.store_writes.specs.Steps.{Begins, Founds, Steps, unmigrated, with_migrated};
+
+use crate::WriteFault;
+use crate::stored::stored;
+use desk_bytes::Guid;
+use desk_history::Minute;
+use desk_texts::{Person, reply_text};
+use sbat::Component;
+use sqlite::{Alter, Transaction, params};
+use std::alloc::Global;
+use store_schema::{INSERT_CALL, INSERT_COMPONENT, INSERT_DESK, INSERT_MIGRATED, INSERT_PERSON};
+use store_sql::insert;
+
+/// The mark by which the file of a desk is known.
+const MARK: &str = "boot-desk";
+
+/// The version of the tables.
+pub const VERSION: u32 = 2;
+
+/// The stamp of shim's first level.
+const FIRST_STAMP: u32 = 2021030218;
+
+/// Puts in the desk's own row, in tables without a row.
+fn put_own<S: Alter>(tx: &mut Transaction<'_, S>, owner: &Guid) -> Result<(), WriteFault>
+    ensures same_reference { tx.new.conn.ghost_name ≡ tx.old.conn.ghost_name }
+    ensures value { Founds S.Store tx.old.conn.now tx.new.conn.now result (unmigrated owner.now) }
+    ensures inside { StaysInside S.Store tx.old.conn.now tx.new.conn.now result }
+    ensures kept { Keeps S.Store tx.old.conn.now tx.new.conn.now }
+    ensures survives { Spares S.Store tx.old.conn.now tx.new.conn.now }
+{
+    insert(
+        tx,
+        INSERT_DESK,
+        params![1u32, MARK, VERSION, owner.as_bytes(), FIRST_STAMP],
+    )?;
+    Ok(())
+}
+
+/// Puts in how many calls were accepted by the first rules.
+pub fn put_migrated<S: Alter>(tx: &mut Transaction<'_, S>, calls: u64) -> Result<(), WriteFault>
+    ensures same_reference { tx.new.conn.ghost_name ≡ tx.old.conn.ghost_name }
+    ensures value { Steps S.Store tx.old.conn.now tx.new.conn.now result (with_migrated calls) }
+    ensures inside { StaysInside S.Store tx.old.conn.now tx.new.conn.now result }
+    ensures kept { Keeps S.Store tx.old.conn.now tx.new.conn.now }
+    ensures survives { Spares S.Store tx.old.conn.now tx.new.conn.now }
+{
+    let calls = stored(calls)?;
+    insert(tx, INSERT_MIGRATED, params![1u32, &calls])?;
+    Ok(())
+}
+
+/// Puts in the rows of a desk without calls, in tables without a row. Every entry that the desk exports is this owner's.
+pub fn put_desk<S: Alter>(tx: &mut Transaction<'_, S>, owner: &Guid) -> Result<(), WriteFault>
+    ensures same_reference { tx.new.conn.ghost_name ≡ tx.old.conn.ghost_name }
+    ensures value { Begins S.Store tx.old.conn.now tx.new.conn.now result owner.now }
+    ensures inside { StaysInside S.Store tx.old.conn.now tx.new.conn.now result }
+    ensures kept { Keeps S.Store tx.old.conn.now tx.new.conn.now }
+    ensures survives { Spares S.Store tx.old.conn.now tx.new.conn.now }
+{
+    put_own(tx, owner)?;
+    put_migrated(tx, 0)?;
+    Ok(())
+}
+
+/// Puts in a person.
+pub(crate) fn put_person<S: Alter>(
+    tx: &mut Transaction<'_, S>,
+    person: &Person,
+) -> Result<(), WriteFault>
+    ensures same_reference { tx.new.conn.ghost_name ≡ tx.old.conn.ghost_name }
+    ensures value { Steps S.Store tx.old.conn.now tx.new.conn.now result
+        (written (writes.Person person.now)) }
+    ensures inside { StaysInside S.Store tx.old.conn.now tx.new.conn.now result }
+    ensures kept { Keeps S.Store tx.old.conn.now tx.new.conn.now }
+    ensures survives { Spares S.Store tx.old.conn.now tx.new.conn.now }
+{
+    insert(
+        tx,
+        INSERT_PERSON,
+        params![
+            person.name.as_str(),
+            person.role.text(),
+            person.token.as_bytes()
+        ],
+    )?;
+    Ok(())
+}
+
+/// Puts in an accepted call, with the caller's name and the reply's text. Takes memory for that text.
+pub(crate) fn put_call<S: Alter>(
+    alloc: Global,
+    tx: &mut Transaction<'_, S>,
+    minute: &Minute,
+) -> Result<(), WriteFault>
+    ensures same_reference { tx.new.conn.ghost_name ≡ tx.old.conn.ghost_name }
+    ensures value { Steps S.Store tx.old.conn.now tx.new.conn.now result
+        (written (writes.Call minute.now)) }
+    ensures inside { StaysInside S.Store tx.old.conn.now tx.new.conn.now result }
+    ensures kept { Keeps S.Store tx.old.conn.now tx.new.conn.now }
+    ensures survives { Spares S.Store tx.old.conn.now tx.new.conn.now }
+{
+    let number = stored(minute.number)?;
+    let Ok(reply) = reply_text(alloc, &minute.reply) else {
+        return Err(WriteFault::NoMemory);
+    };
+    insert(
+        tx,
+        INSERT_CALL,
+        params![
+            &number,
+            minute.caller.name(),
+            minute.key.as_str(),
+            minute.text.as_str(),
+            reply.as_str()
+        ],
+    )?;
+    Ok(())
+}
+
+/// Puts in a component of the level.
+pub(crate) fn put_component<S: Alter>(
+    tx: &mut Transaction<'_, S>,
+    component: &Component,
+) -> Result<(), WriteFault>
+    ensures same_reference { tx.new.conn.ghost_name ≡ tx.old.conn.ghost_name }
+    ensures value { Steps S.Store tx.old.conn.now tx.new.conn.now result
+        (written (writes.Component component.now)) }
+    ensures inside { StaysInside S.Store tx.old.conn.now tx.new.conn.now result }
+    ensures kept { Keeps S.Store tx.old.conn.now tx.new.conn.now }
+    ensures survives { Spares S.Store tx.old.conn.now tx.new.conn.now }
+{
+    insert(
+        tx,
+        INSERT_COMPONENT,
+        params![component.name.as_str(), component.generation.value()],
+    )?;
+    Ok(())
+}

@@ -1,0 +1,108 @@
+//! Listed entries and revoked digests.
+ghost use Rattle.std.specs.Prelude.{◌≡◌};
+ghost use Rattle.desk_history.specs.declared.write.Write.TheVariants as writes;
+ghost use Rattle.desk_texts.specs.declared.kind.ListedKind.TheVariants as kinds;
+ghost use Rattle.desk_history.specs.Writes.{with_revoked, written};
+ghost use Rattle.store_sql.specs.States.{Keeps, Spares, StaysInside};
+ghost use Rattle.store_writes.specs.Steps.{Steps};
+
+use crate::WriteFault;
+use desk_bytes::Digest;
+use desk_history::Entry;
+use desk_texts::{ListedKind, Listing};
+use sqlite::{Alter, Transaction, params};
+use store_schema::{
+    DELETE_LISTED, INSERT_LISTED, INSERT_REVOKED_CERTIFICATE, INSERT_REVOKED_DIGEST,
+};
+use store_sql::{delete, insert};
+
+/// Puts in a listed entry.
+pub(crate) fn put_entry<S: Alter>(
+    tx: &mut Transaction<'_, S>,
+    entry: &Entry,
+) -> Result<(), WriteFault>
+    ensures same_reference { tx.new.conn.ghost_name ≡ tx.old.conn.ghost_name }
+    ensures value { Steps S.Store tx.old.conn.now tx.new.conn.now result
+        (written (writes.List entry.now)) }
+    ensures inside { StaysInside S.Store tx.old.conn.now tx.new.conn.now result }
+    ensures kept { Keeps S.Store tx.old.conn.now tx.new.conn.now }
+    ensures survives { Spares S.Store tx.old.conn.now tx.new.conn.now }
+{
+    insert(
+        tx,
+        INSERT_LISTED,
+        params![
+            entry.kind.text(),
+            entry.digest.as_bytes(),
+            entry.body.as_slice()
+        ],
+    )?;
+    Ok(())
+}
+
+/// Takes out the listed entry of a kind and digest.
+pub(crate) fn unlist<S: Alter>(
+    tx: &mut Transaction<'_, S>,
+    listing: &Listing,
+) -> Result<(), WriteFault>
+    ensures same_reference { tx.new.conn.ghost_name ≡ tx.old.conn.ghost_name }
+    ensures value { Steps S.Store tx.old.conn.now tx.new.conn.now result
+        (written (writes.Unlist listing.now)) }
+    ensures inside { StaysInside S.Store tx.old.conn.now tx.new.conn.now result }
+    ensures kept { Keeps S.Store tx.old.conn.now tx.new.conn.now }
+    ensures survives { Spares S.Store tx.old.conn.now tx.new.conn.now }
+{
+    delete(
+        tx,
+        DELETE_LISTED,
+        params![listing.kind.text(), listing.digest.as_bytes()],
+    )?;
+    Ok(())
+}
+
+/// Puts in a revoked digest of an image.
+fn revoke_digest<S: Alter>(tx: &mut Transaction<'_, S>, digest: &Digest) -> Result<(), WriteFault>
+    ensures same_reference { tx.new.conn.ghost_name ≡ tx.old.conn.ghost_name }
+    ensures value { Steps S.Store tx.old.conn.now tx.new.conn.now result
+        (with_revoked kinds.Digest digest.now) }
+    ensures inside { StaysInside S.Store tx.old.conn.now tx.new.conn.now result }
+    ensures kept { Keeps S.Store tx.old.conn.now tx.new.conn.now }
+    ensures survives { Spares S.Store tx.old.conn.now tx.new.conn.now }
+{
+    insert(tx, INSERT_REVOKED_DIGEST, params![digest.as_bytes()])?;
+    Ok(())
+}
+
+/// Puts in a revoked certificate, by its digest.
+fn revoke_certificate<S: Alter>(
+    tx: &mut Transaction<'_, S>,
+    digest: &Digest,
+) -> Result<(), WriteFault>
+    ensures same_reference { tx.new.conn.ghost_name ≡ tx.old.conn.ghost_name }
+    ensures value { Steps S.Store tx.old.conn.now tx.new.conn.now result
+        (with_revoked kinds.Certificate digest.now) }
+    ensures inside { StaysInside S.Store tx.old.conn.now tx.new.conn.now result }
+    ensures kept { Keeps S.Store tx.old.conn.now tx.new.conn.now }
+    ensures survives { Spares S.Store tx.old.conn.now tx.new.conn.now }
+{
+    insert(tx, INSERT_REVOKED_CERTIFICATE, params![digest.as_bytes()])?;
+    Ok(())
+}
+
+/// Puts in what is revoked.
+pub(crate) fn revoke<S: Alter>(
+    tx: &mut Transaction<'_, S>,
+    listing: &Listing,
+) -> Result<(), WriteFault>
+    ensures same_reference { tx.new.conn.ghost_name ≡ tx.old.conn.ghost_name }
+    ensures value { Steps S.Store tx.old.conn.now tx.new.conn.now result
+        (written (writes.Revoke listing.now)) }
+    ensures inside { StaysInside S.Store tx.old.conn.now tx.new.conn.now result }
+    ensures kept { Keeps S.Store tx.old.conn.now tx.new.conn.now }
+    ensures survives { Spares S.Store tx.old.conn.now tx.new.conn.now }
+{
+    match listing.kind {
+        ListedKind::Digest => revoke_digest(tx, &listing.digest),
+        ListedKind::Certificate => revoke_certificate(tx, &listing.digest),
+    }
+}

@@ -1,0 +1,151 @@
+//! Requests, and what belongs to them: rows that are put in.
+ghost use Rattle.std.specs.Prelude.{◌≡◌};
+ghost use Rattle.desk_history.specs.Writes.{written};
+ghost use Rattle.desk_history.specs.declared.write.Write.TheVariants as writes;
+ghost use Rattle.store_sql.specs.States.{Keeps, Spares, StaysInside};
+ghost use Rattle.store_writes.specs.Steps.{Steps};
+
+use crate::WriteFault;
+use crate::stored::stored;
+use desk_history::{RequestCertificateRow, RequestComponentRow, RequestRow, ReturnRow, VoteRow};
+use sqlite::{Alter, Transaction, params};
+use store_schema::{
+    INSERT_REQUEST, INSERT_REQUEST_CERTIFICATE, INSERT_REQUEST_COMPONENT, INSERT_RETURN,
+    INSERT_VOTE,
+};
+use store_sql::insert;
+
+/// Puts in a request.
+pub(crate) fn put_request<S: Alter>(
+    tx: &mut Transaction<'_, S>,
+    request: &RequestRow,
+) -> Result<(), WriteFault>
+    ensures same_reference { tx.new.conn.ghost_name ≡ tx.old.conn.ghost_name }
+    ensures value { Steps S.Store tx.old.conn.now tx.new.conn.now result
+        (written (writes.Request request.now)) }
+    ensures inside { StaysInside S.Store tx.old.conn.now tx.new.conn.now result }
+    ensures kept { Keeps S.Store tx.old.conn.now tx.new.conn.now }
+    ensures survives { Spares S.Store tx.old.conn.now tx.new.conn.now }
+{
+    let number = stored(request.number.value())?;
+    let length = stored(request.length)?;
+    let gap = stored(request.gap)?;
+    insert(
+        tx,
+        INSERT_REQUEST,
+        params![
+            &number,
+            request.submitter.as_str(),
+            request.title.as_str(),
+            &length,
+            &gap,
+            request.file.as_bytes(),
+            request.digest.as_bytes(),
+            request.signing.as_bytes(),
+            request.state.text()
+        ],
+    )?;
+    Ok(())
+}
+
+/// Puts in a certificate of a request's image.
+pub(crate) fn put_request_certificate<S: Alter>(
+    tx: &mut Transaction<'_, S>,
+    certificate: &RequestCertificateRow,
+) -> Result<(), WriteFault>
+    ensures same_reference { tx.new.conn.ghost_name ≡ tx.old.conn.ghost_name }
+    ensures value { Steps S.Store tx.old.conn.now tx.new.conn.now result
+        (written (writes.RequestCertificate certificate.now)) }
+    ensures inside { StaysInside S.Store tx.old.conn.now tx.new.conn.now result }
+    ensures kept { Keeps S.Store tx.old.conn.now tx.new.conn.now }
+    ensures survives { Spares S.Store tx.old.conn.now tx.new.conn.now }
+{
+    let request = stored(certificate.request.value())?;
+    insert(
+        tx,
+        INSERT_REQUEST_CERTIFICATE,
+        params![&request, certificate.digest.as_bytes()],
+    )?;
+    Ok(())
+}
+
+/// Puts in a component of a request's image.
+pub(crate) fn put_request_component<S: Alter>(
+    tx: &mut Transaction<'_, S>,
+    component: &RequestComponentRow,
+) -> Result<(), WriteFault>
+    ensures same_reference { tx.new.conn.ghost_name ≡ tx.old.conn.ghost_name }
+    ensures value { Steps S.Store tx.old.conn.now tx.new.conn.now result
+        (written (writes.RequestComponent component.now)) }
+    ensures inside { StaysInside S.Store tx.old.conn.now tx.new.conn.now result }
+    ensures kept { Keeps S.Store tx.old.conn.now tx.new.conn.now }
+    ensures survives { Spares S.Store tx.old.conn.now tx.new.conn.now }
+{
+    let request = stored(component.request.value())?;
+    let place = stored(component.place)?;
+    insert(
+        tx,
+        INSERT_REQUEST_COMPONENT,
+        params![
+            &request,
+            &place,
+            component.name.as_str(),
+            component.generation.value()
+        ],
+    )?;
+    Ok(())
+}
+
+/// Puts in a vote.
+pub(crate) fn put_vote<S: Alter>(
+    tx: &mut Transaction<'_, S>,
+    vote: &VoteRow,
+) -> Result<(), WriteFault>
+    ensures same_reference { tx.new.conn.ghost_name ≡ tx.old.conn.ghost_name }
+    ensures value { Steps S.Store tx.old.conn.now tx.new.conn.now result
+        (written (writes.Vote vote.now)) }
+    ensures inside { StaysInside S.Store tx.old.conn.now tx.new.conn.now result }
+    ensures kept { Keeps S.Store tx.old.conn.now tx.new.conn.now }
+    ensures survives { Spares S.Store tx.old.conn.now tx.new.conn.now }
+{
+    let request = stored(vote.request.value())?;
+    insert(
+        tx,
+        INSERT_VOTE,
+        params![
+            &request,
+            vote.reviewer.as_str(),
+            vote.vote.text(),
+            vote.note.as_str()
+        ],
+    )?;
+    Ok(())
+}
+
+/// Puts in a returned file.
+pub(crate) fn put_return<S: Alter>(
+    tx: &mut Transaction<'_, S>,
+    returned: &ReturnRow,
+) -> Result<(), WriteFault>
+    ensures same_reference { tx.new.conn.ghost_name ≡ tx.old.conn.ghost_name }
+    ensures value { Steps S.Store tx.old.conn.now tx.new.conn.now result
+        (written (writes.Return returned.now)) }
+    ensures inside { StaysInside S.Store tx.old.conn.now tx.new.conn.now result }
+    ensures kept { Keeps S.Store tx.old.conn.now tx.new.conn.now }
+    ensures survives { Spares S.Store tx.old.conn.now tx.new.conn.now }
+{
+    let request = stored(returned.request.value())?;
+    let length = stored(returned.length)?;
+    insert(
+        tx,
+        INSERT_RETURN,
+        params![
+            &request,
+            returned.signer.as_str(),
+            &length,
+            returned.file.as_bytes(),
+            returned.digest.as_bytes()
+        ],
+    )?;
+    Ok(())
+}

@@ -1,0 +1,285 @@
+//! What heads ask for.
+use desk_texts::{ProposalNumber, RequestNumber};
+use http_requests::{Asked, asked, wanted};
+use sbat::Stamp;
+use std::alloc::Global;
+use std::test::Fail;
+use testing::bytes_of;
+
+/// Heads, each behind the name of the first check that fails, or of the route. Of two faults the earlier is told.
+const HEADS: &str = "\
+BadHead POST /nowhere HTTP/1.1|Transfer-Encoding: chunked|No Field: x||
+BadHead GET /level HTTP/1.1|Desk-Token: a|Desk-Token: a|No Field: x||
+BadHead PUT /level HTTP/1.1|No Field: x||
+BadHead POST /verdict HTTP/1.1|No Field: x||
+BadHead GET /level HTTP/1.1|Content-Length: 1|No Field: x||
+BadHead POST /verdict HTTP/1.1|Content-Length: 134217729|No Field: x||
+BadHead POST /level HTTP/1.1|Content-Length: 1|Desk-Key: a b|No Field: x||
+BadHead GET /requests/007 HTTP/1.1|No Field: x||
+BadHead GET /level HTTP/2.0||
+BadHead GET /level||
+BadHead GET  /level HTTP/1.1||
+BadHead GET /level HTTP/1.1|Desk-Token : a||
+BadHead GET /level HTTP/1.1| Desk-Token: a||
+BadHead GET /level HTTP/1.1|
+NotSupported GET /level HTTP/1.1|Transfer-Encoding: chunked||
+NotSupported GET /level HTTP/1.1|Transfer-Encoding: a|Transfer-Encoding: b||
+NotSupported GET /level HTTP/1.1|Transfer-Encoding:||
+NotSupported POST /verdict HTTP/1.1|Transfer-Encoding: chunked|Content-Length: x||
+NotSupported POST /nowhere HTTP/1.1|Transfer-Encoding: chunked|Content-Length: 1||
+NotSupported PUT /verdict HTTP/1.1|Transfer-Encoding: chunked|Content-Length: 1||
+NotSupported POST /verdict HTTP/1.1|Transfer-Encoding: chunked||
+NotSupported GET /level HTTP/1.1|Transfer-Encoding: chunked|Content-Length: 1||
+NotSupported POST /verdict HTTP/1.1|Transfer-Encoding: chunked|Content-Length: 134217729||
+NotSupported POST /level HTTP/1.1|Transfer-Encoding: chunked|Content-Length: 1||
+NotSupported GET /requests/x HTTP/1.1|Transfer-Encoding: chunked||
+BadField POST /verdict HTTP/1.1|Content-Length: 1|Content-Length: 1||
+BadField POST /verdict HTTP/1.1|Content-Length: 1|content-length: 2||
+BadField GET /level HTTP/1.1|Desk-Token: a|Desk-Token: a||
+BadField GET /level HTTP/1.1|Desk-Key: a|Desk-Key: b||
+BadField GET /level HTTP/1.1|Desk-Title: a|Desk-Title: b||
+BadField GET /level HTTP/1.1|Desk-Stamp: a|Desk-Stamp: b||
+BadField POST /verdict HTTP/1.1|Content-Length:||
+BadField POST /verdict HTTP/1.1|Content-Length: +1||
+BadField POST /verdict HTTP/1.1|Content-Length: -1||
+BadField POST /verdict HTTP/1.1|Content-Length: 1 1||
+BadField POST /verdict HTTP/1.1|Content-Length: 1,1||
+BadField POST /verdict HTTP/1.1|Content-Length: 0x1||
+BadField POST /verdict HTTP/1.1|Content-Length: 00000000001||
+BadField POST /nowhere HTTP/1.1|Content-Length: x||
+BadField PUT /verdict HTTP/1.1|Content-Length: x||
+BadField POST /verdict HTTP/1.1|Desk-Token: a|Desk-Token: a||
+BadField POST /verdict HTTP/1.1|Content-Length: 134217729|Desk-Token: a|Desk-Token: a||
+BadField POST /requests/x/review HTTP/1.1|Content-Length: 2|Desk-Key: a|Desk-Key: a||
+BadField GET /level HTTP/1.1|Content-Length: 1|Content-Length: 1||
+BadField POST /level HTTP/1.1|Content-Length: 1|Desk-Key: a b|Desk-Key: a b||
+BadField POST /level HTTP/1.1|Content-Length: x|Desk-Key: a b||
+NoRoute GET / HTTP/1.1||
+NoRoute GET /level/ HTTP/1.1||
+NoRoute GET /level?x HTTP/1.1||
+NoRoute GET /LEVEL HTTP/1.1||
+NoRoute GET /requests/ HTTP/1.1||
+NoRoute POST /requests//review HTTP/1.1|Content-Length: 1||
+NoRoute GET http://desk/level HTTP/1.1||
+NoRoute OPTIONS * HTTP/1.1||
+NoRoute PUT /nowhere HTTP/1.1||
+NoRoute POST /nowhere HTTP/1.1||
+NoRoute GET /nowhere HTTP/1.1|Content-Length: 1||
+NoRoute POST /nowhere HTTP/1.1|Content-Length: 134217729||
+NoRoute GET /requests/007/x HTTP/1.1||
+NoRoute POST /requests/12/review/x HTTP/1.1|Content-Length: 1||
+NoRoute GET /proposals/ HTTP/1.1||
+NoRoute GET /proposals/12 HTTP/1.1||
+NoRoute POST /proposals//confirm HTTP/1.1|Content-Length: 0||
+BadMethod PUT /level HTTP/1.1||
+BadMethod get /level HTTP/1.1||
+BadMethod HEAD /level HTTP/1.1||
+BadMethod POST /report HTTP/1.1|Content-Length: 1||
+BadMethod GET /verdict HTTP/1.1||
+BadMethod POST /report HTTP/1.1||
+BadMethod GET /verdict HTTP/1.1|Content-Length: 1||
+BadMethod PUT /verdict HTTP/1.1|Content-Length: 134217729||
+BadMethod GET /imports/csv HTTP/1.1||
+BadMethod GET /requests/x/review HTTP/1.1||
+BadMethod POST /proposals HTTP/1.1||
+BadMethod GET /proposals/x/confirm HTTP/1.1||
+BadMethod GET /proposals/x/drop HTTP/1.1||
+LengthNeeded POST /verdict HTTP/1.1||
+LengthNeeded POST /level HTTP/1.1||
+LengthNeeded POST /requests/x/review HTTP/1.1|Desk-Key: k||
+LengthNeeded POST /proposals/x/confirm HTTP/1.1|Desk-Key: k||
+LengthNeeded POST /proposals/x/drop HTTP/1.1||
+BadField GET /level HTTP/1.1|Content-Length: 1||
+BadField GET /requests/x HTTP/1.1|Content-Length: 9999999999||
+BadField GET /proposals HTTP/1.1|Content-Length: 1||
+TooLarge POST /verdict HTTP/1.1|Content-Length: 134217729||
+TooLarge POST /requests HTTP/1.1|Content-Length: 9999999999||
+TooLarge POST /requests/1/return HTTP/1.1|Content-Length: 134217729||
+TooLarge POST /level HTTP/1.1|Content-Length: 4194305||
+TooLarge POST /imports/dbx HTTP/1.1|Content-Length: 134217728||
+TooLarge POST /requests/x/withdraw HTTP/1.1|Content-Length: 4194305|Desk-Key: k||
+TooLarge POST /proposals/x/confirm HTTP/1.1|Content-Length: 4194305||
+TooLarge POST /proposals/x/drop HTTP/1.1|Content-Length: 4194305||
+BadField POST /level HTTP/1.1|Content-Length: 4194304||
+BadField POST /requests HTTP/1.1|Content-Length: 1|Desk-Title: t||
+BadField POST /requests HTTP/1.1|Content-Length: 1|Desk-Key: k||
+BadField POST /requests HTTP/1.1|Content-Length: 1|Desk-Key: k|Desk-Title:  ||
+BadField POST /requests HTTP/1.1|Content-Length: 1|Desk-Key: a b|Desk-Title: t||
+BadField POST /imports/csv HTTP/1.1|Content-Length: 1|Desk-Key: k|Desk-Stamp: 202401010||
+BadField POST /imports/csv HTTP/1.1|Content-Length: 1|Desk-Stamp: 2024010100||
+BadField POST /imports/csv HTTP/1.1|Content-Length: 1|Desk-Key: k|Desk-Stamp:||
+BadField POST /requests/x/review HTTP/1.1|Content-Length: 1||
+BadField POST /proposals/x/confirm HTTP/1.1|Content-Length: 0||
+BadField POST /proposals/0/drop HTTP/1.1|Content-Length: 0|Desk-Key: a b||
+NoSuchRequest POST /requests/x/review HTTP/1.1|Content-Length: 1|Desk-Key: k||
+NoSuchRequest GET /requests/0 HTTP/1.1||
+NoSuchRequest GET /requests/007 HTTP/1.1||
+NoSuchRequest GET /requests/+7 HTTP/1.1||
+NoSuchRequest GET /requests/1000000 HTTP/1.1||
+NoSuchRequest GET /requests/%31 HTTP/1.1||
+NoSuchRequest POST /requests/07/withdraw HTTP/1.1|Content-Length: 0|Desk-Key: k||
+NoSuchProposal POST /proposals/x/confirm HTTP/1.1|Content-Length: 0|Desk-Key: k||
+NoSuchProposal POST /proposals/0/confirm HTTP/1.1|Content-Length: 0|Desk-Key: k||
+NoSuchProposal POST /proposals/07/confirm HTTP/1.1|Content-Length: 0|Desk-Key: k||
+NoSuchProposal POST /proposals/1000000/drop HTTP/1.1|Content-Length: 0|Desk-Key: k||
+NoSuchProposal POST /proposals/+1/drop HTTP/1.1|Content-Length: 0|Desk-Key: k||
+Submit POST /requests HTTP/1.1|Content-Length: 0134217728|Desk-Key: k|Desk-Title: t||
+Requests GET /requests HTTP/1.1||
+Request GET /requests/999999 HTTP/1.1||
+Review POST /requests/12/review HTTP/1.1|Content-Length: 4194304|Desk-Key: k||
+Withdraw POST /requests/12/withdraw HTTP/1.1|Content-Length: 0|Desk-Key: k||
+Return POST /requests/1/return HTTP/1.1|Content-Length: 134217728|Desk-Key: k||
+ListCertificate POST /db/certificates HTTP/1.1|Content-Length: 1|Desk-Key: k||
+ListDigest POST /db/digests HTTP/1.1|Content-Length: 1|Desk-Key: k||
+Unlist POST /db/unlist HTTP/1.1|Content-Length: 1|Desk-Key: k||
+RevokeDigest POST /dbx/digests HTTP/1.1|Content-Length: 1|Desk-Key: k||
+RevokeCertificate POST /dbx/certificates HTTP/1.1|Content-Length: 1|Desk-Key: k||
+RaiseLevel POST /level HTTP/1.1|Content-Length: 1|Desk-Key: k||
+ImportDbx POST /imports/dbx HTTP/1.1|Content-Length: 1|Desk-Key: k||
+ImportCsv POST /imports/csv HTTP/1.1|Content-Length: 1|Desk-Key: k||
+ImportLevel POST /imports/level HTTP/1.1|Content-Length: 1|Desk-Key: k|Desk-Stamp: x||
+Confirm POST /proposals/1/confirm HTTP/1.1|Content-Length: 4194304|Desk-Key: k||
+Drop POST /proposals/999999/drop HTTP/1.1|Content-Length: 0|Desk-Key: k||
+Proposals GET /proposals HTTP/1.1||
+Verdict POST /verdict HTTP/1.1|Content-Length: 134217728||
+Dbx GET /dbx HTTP/1.1|Content-Length: 0000000000||
+Db GET /db HTTP/1.1|Desk-Key: a b||
+Level GET /level HTTP/1.1||
+Report GET /report HTTP/1.1||
+Level GET /level HTTP/1.0~~
+Level ~|~GET /level HTTP/1.1~Host: desk~~
+RaiseLevel POST /level HTTP/1.1|CONTENT-LENGTH:\t 7 \t|desk-key:k||
+";
+
+/// The name of the first check that fails, or of the route.
+fn outcome(alloc: Global, head: &[u8]) -> &'static str {
+    let wanted = match wanted(alloc, head) {
+        Ok(wanted) => wanted,
+        Err(fault) => return fault.refusal().name(),
+    };
+    match asked(alloc, &wanted) {
+        Ok(asked) => name_of(&asked),
+        Err(fault) => fault.refusal().name(),
+    }
+}
+
+/// The name of the route.
+fn name_of(asked: &Asked) -> &'static str {
+    match asked {
+        Asked::Submit(..) => "Submit",
+        Asked::Requests => "Requests",
+        Asked::Request(_) => "Request",
+        Asked::Review(..) => "Review",
+        Asked::Withdraw(..) => "Withdraw",
+        Asked::Return(..) => "Return",
+        Asked::ListCertificate(_) => "ListCertificate",
+        Asked::ListDigest(_) => "ListDigest",
+        Asked::Unlist(_) => "Unlist",
+        Asked::RevokeDigest(_) => "RevokeDigest",
+        Asked::RevokeCertificate(_) => "RevokeCertificate",
+        Asked::RaiseLevel(_) => "RaiseLevel",
+        Asked::ImportDbx(_) => "ImportDbx",
+        Asked::ImportCsv(..) => "ImportCsv",
+        Asked::ImportLevel(_) => "ImportLevel",
+        Asked::Confirm(..) => "Confirm",
+        Asked::Drop(..) => "Drop",
+        Asked::Proposals => "Proposals",
+        Asked::Verdict => "Verdict",
+        Asked::Dbx => "Dbx",
+        Asked::Db => "Db",
+        Asked::Level => "Level",
+        Asked::Report => "Report",
+    }
+}
+
+/// Whether the line's head gives what its first word names.
+fn is_told(alloc: Global, line: &str) -> Result<bool, Fail> {
+    let (name, head) = line.split_once(' ').ok_or("a name and a head")?;
+    let bytes = bytes_of(alloc, head)?;
+    Ok(outcome(alloc, bytes.as_slice()) == name)
+}
+
+#[test]
+fn tells_the_first_check_that_fails(rt: HostRuntime) -> Result<(), Fail> {
+    for line in HEADS.lines() {
+        assert!(rt; is_told(rt.alloc(), line)?, "{line}");
+    }
+    Ok(())
+}
+
+/// A head with each field but the title.
+const CSV: &str = "POST /imports/csv HTTP/1.1|desk-KEY: k1\t|Content-Length: 0042|Desk-Token:  a b|\
+Desk-Stamp: 2024010100||rest";
+
+#[test]
+fn gives_the_values_of_fields(rt: HostRuntime) -> Result<(), Fail> {
+    let head = bytes_of(rt.alloc(), CSV)?;
+    let wanted = wanted(rt.alloc(), head.as_slice()).ok().ok_or("a head")?;
+    assert!(rt; wanted.size == 42, "the length");
+    assert!(rt; wanted.token == Some(b"a b".as_slice()), "the token");
+    assert!(rt; wanted.title.is_none(), "no title");
+    Ok(())
+}
+
+/// What a head asks for.
+fn asked_by(alloc: Global, head: &str) -> Option<Asked> {
+    let head = bytes_of(alloc, head).ok()?;
+    let wanted = wanted(alloc, head.as_slice()).ok()?;
+    asked(alloc, &wanted).ok()
+}
+
+/// Whether this head asks for an import of CSV with its key and stamp.
+fn asks_for_csv(alloc: Global) -> bool {
+    match asked_by(alloc, CSV) {
+        Some(Asked::ImportCsv(key, stamp)) => {
+            key.as_str() == "k1" && stamp == Stamp::new(2_024_010_100)
+        }
+        _ => false,
+    }
+}
+
+/// A head with a title.
+const TITLE: &str = "POST /requests HTTP/1.1|Desk-Key: k|Desk-Title: shim 15.8|Content-Length: 1||";
+
+/// Whether this head asks for a request with its title.
+fn asks_for_title(alloc: Global) -> bool {
+    match asked_by(alloc, TITLE) {
+        Some(Asked::Submit(_, title)) => title.as_str() == "shim 15.8",
+        _ => false,
+    }
+}
+
+/// Whether the request of this number is asked for.
+fn is_request(asked: &Asked, number: u64) -> bool {
+    match asked {
+        Asked::Request(found) => Some(*found) == RequestNumber::new(number),
+        _ => false,
+    }
+}
+
+/// Whether a head with a number asks for the request of that number.
+fn asks_for_number(alloc: Global) -> bool {
+    match asked_by(alloc, "GET /requests/120 HTTP/1.1||") {
+        Some(asked) => is_request(&asked, 120),
+        None => false,
+    }
+}
+
+/// Whether a head with a number asks to confirm the proposal of that number.
+fn asks_for_proposal(alloc: Global) -> bool {
+    let head = "POST /proposals/120/confirm HTTP/1.1|Desk-Key: k1|Content-Length: 0||";
+    match asked_by(alloc, head) {
+        Some(Asked::Confirm(key, found)) => {
+            key.as_str() == "k1" && Some(found) == ProposalNumber::new(120)
+        }
+        _ => false,
+    }
+}
+
+#[test]
+fn gives_keys_stamps_titles_and_numbers(rt: HostRuntime) {
+    assert!(rt; asks_for_csv(rt.alloc()), "a key and a stamp");
+    assert!(rt; asks_for_title(rt.alloc()), "a title");
+    assert!(rt; asks_for_number(rt.alloc()), "a number");
+    assert!(rt; asks_for_proposal(rt.alloc()), "the number of a proposal");
+}

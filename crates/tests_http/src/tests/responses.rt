@@ -1,0 +1,130 @@
+//! Whole responses.
+use desk_bytes::Refusal;
+use http_requests::Methods;
+use http_responses::{Content, Refused, Status, outage_response, refused_response, response};
+use std::alloc::Global;
+use std::test::Fail;
+use testing::bytes_of;
+
+/// Responses, each behind the name of what the request is refused for, or the methods of its path.
+const REFUSALS: &str =
+    r#"BadHead HTTP/1.1 400 Bad Request|Content-Type: application/json|Content-Length: 31|Connection: close||{"name":"BadHead","refused":50}
+UnknownCaller HTTP/1.1 401 Unauthorized|Content-Type: application/json|Content-Length: 37|WWW-Authenticate: Desk|Connection: close||{"name":"UnknownCaller","refused":20}
+NotYourRole HTTP/1.1 403 Forbidden|Content-Type: application/json|Content-Length: 35|Connection: close||{"name":"NotYourRole","refused":21}
+NoSuchRequest HTTP/1.1 404 Not Found|Content-Type: application/json|Content-Length: 37|Connection: close||{"name":"NoSuchRequest","refused":23}
+Get HTTP/1.1 405 Method Not Allowed|Content-Type: application/json|Content-Length: 33|Allow: GET|Connection: close||{"name":"BadMethod","refused":54}
+Post HTTP/1.1 405 Method Not Allowed|Content-Type: application/json|Content-Length: 33|Allow: POST|Connection: close||{"name":"BadMethod","refused":54}
+GetAndPost HTTP/1.1 405 Method Not Allowed|Content-Type: application/json|Content-Length: 33|Allow: GET, POST|Connection: close||{"name":"BadMethod","refused":54}
+KeyReused HTTP/1.1 409 Conflict|Content-Type: application/json|Content-Length: 33|Connection: close||{"name":"KeyReused","refused":22}
+NoSuchProposal HTTP/1.1 404 Not Found|Content-Type: application/json|Content-Length: 38|Connection: close||{"name":"NoSuchProposal","refused":37}
+OwnProposal HTTP/1.1 409 Conflict|Content-Type: application/json|Content-Length: 35|Connection: close||{"name":"OwnProposal","refused":38}
+ProposalClosed HTTP/1.1 409 Conflict|Content-Type: application/json|Content-Length: 38|Connection: close||{"name":"ProposalClosed","refused":39}
+LengthNeeded HTTP/1.1 411 Length Required|Content-Type: application/json|Content-Length: 36|Connection: close||{"name":"LengthNeeded","refused":55}
+TooLarge HTTP/1.1 413 Payload Too Large|Content-Type: application/json|Content-Length: 32|Connection: close||{"name":"TooLarge","refused":56}
+BadBody HTTP/1.1 422 Unprocessable Entity|Content-Type: application/json|Content-Length: 31|Connection: close||{"name":"BadBody","refused":52}
+SbatRow HTTP/1.1 422 Unprocessable Entity|Content-Type: application/json|Content-Length: 38|Connection: close||{"at":7,"name":"SbatRow","refused":12}
+List HTTP/1.1 422 Unprocessable Entity|Content-Type: application/json|Content-Length: 35|Connection: close||{"at":0,"name":"List","refused":15}
+EntrySize HTTP/1.1 422 Unprocessable Entity|Content-Type: application/json|Content-Length: 41|Connection: close||{"at":28,"name":"EntrySize","refused":16}
+CsvRow HTTP/1.1 422 Unprocessable Entity|Content-Type: application/json|Content-Length: 56|Connection: close||{"at":18446744073709551615,"name":"CsvRow","refused":19}
+NotSupported HTTP/1.1 501 Not Implemented|Content-Type: application/json|Content-Length: 36|Connection: close||{"name":"NotSupported","refused":57}
+NoMemory HTTP/1.1 503 Service Unavailable|Content-Type: application/json|Content-Length: 32|Connection: close||{"name":"NoMemory","refused":40}
+Store HTTP/1.1 503 Service Unavailable|Content-Type: application/json|Content-Length: 29|Connection: close||{"name":"Store","refused":41}
+Reopen HTTP/1.1 503 Service Unavailable|Content-Type: application/json|Content-Length: 30|Connection: close||{"name":"Reopen","refused":42}
+NotADesk HTTP/1.1 503 Service Unavailable|Content-Type: application/json|Content-Length: 32|Connection: close||{"name":"NotADesk","refused":43}
+"#;
+
+/// What is refused under the name.
+fn refused(name: &str) -> Option<Refused> {
+    match name {
+        "BadHead" => Refused::of(Refusal::BadHead),
+        "UnknownCaller" => Refused::of(Refusal::UnknownCaller),
+        "NotYourRole" => Refused::of(Refusal::NotYourRole),
+        "NoSuchRequest" => Refused::of(Refusal::NoSuchRequest),
+        "Get" => Some(Refused::BadMethod(Methods::Get)),
+        "Post" => Some(Refused::BadMethod(Methods::Post)),
+        "GetAndPost" => Some(Refused::BadMethod(Methods::GetAndPost)),
+        "KeyReused" => Refused::of(Refusal::KeyReused),
+        "NoSuchProposal" => Refused::of(Refusal::NoSuchProposal),
+        "OwnProposal" => Refused::of(Refusal::OwnProposal),
+        "ProposalClosed" => Refused::of(Refusal::ProposalClosed),
+        "LengthNeeded" => Refused::of(Refusal::LengthNeeded),
+        "TooLarge" => Refused::of(Refusal::TooLarge),
+        "BadBody" => Refused::of(Refusal::BadBody),
+        "SbatRow" => Some(Refused::SbatRow(7)),
+        "List" => Some(Refused::List(0)),
+        "EntrySize" => Some(Refused::EntrySize(28)),
+        "CsvRow" => Some(Refused::CsvRow(u64::MAX)),
+        "NotSupported" => Refused::of(Refusal::NotSupported),
+        "NoMemory" => Refused::of(Refusal::NoMemory),
+        "Store" => Refused::of(Refusal::Store),
+        "Reopen" => Refused::of(Refusal::Reopen),
+        _ => Refused::of(Refusal::NotADesk),
+    }
+}
+
+/// The response that takes no memory, where there is one.
+fn written(refused: Refused) -> Option<&'static [u8]> {
+    match refused {
+        Refused::Unavailable(outage) => Some(outage_response(outage)),
+        _ => None,
+    }
+}
+
+/// Whether the line's response is what its first word is answered, also without memory.
+fn is_answered(alloc: Global, line: &str) -> Result<bool, Fail> {
+    let (name, text) = line.split_once(' ').ok_or("a name and a response")?;
+    let refused = refused(name).ok_or("what is refused")?;
+    let wanted = bytes_of(alloc, text)?;
+    let bytes = refused_response(alloc, refused)?;
+    let written = written(refused).unwrap_or(wanted.as_slice());
+    Ok(bytes.as_slice() == wanted.as_slice() && written == wanted.as_slice())
+}
+
+#[test]
+fn answers_what_is_refused(rt: HostRuntime) -> Result<(), Fail> {
+    for line in REFUSALS.lines() {
+        assert!(rt; is_answered(rt.alloc(), line)?, "{line}");
+    }
+    assert!(rt; Refused::of(Refusal::Write).is_none(), "a write");
+    assert!(rt; Refused::of(Refusal::List).is_none(), "a place is told");
+    Ok(())
+}
+
+/// Whether the response with this content is the text.
+fn is_response(alloc: Global, content: Content, body: &[u8], text: &str) -> Result<bool, Fail> {
+    let wanted = bytes_of(alloc, text)?;
+    let bytes = response(alloc, Status::Ok, content, body)?;
+    Ok(bytes.as_slice() == wanted.as_slice())
+}
+
+/// The response with a level.
+const LEVEL: &str =
+    "HTTP/1.1 200 OK|Content-Type: text/plain|Content-Length: 18|Connection: close||\
+sbat,1,2021030218~";
+
+/// The response with a reply.
+const REPLY: &str =
+    r#"HTTP/1.1 200 OK|Content-Type: application/json|Content-Length: 33|Connection: close||{"reply":"submitted","request":1}"#;
+
+/// The response with no byte.
+const EMPTY: &str =
+    "HTTP/1.1 200 OK|Content-Type: application/octet-stream|Content-Length: 0|Connection: close||";
+
+#[test]
+fn answers_what_is_accepted(rt: HostRuntime) -> Result<(), Fail> {
+    let level = b"sbat,1,2021030218\n".as_slice();
+    assert!(rt;
+        is_response(rt.alloc(), Content::Text, level, LEVEL)?,
+        "a level"
+    );
+    let reply = br#"{"reply":"submitted","request":1}"#.as_slice();
+    assert!(rt;
+        is_response(rt.alloc(), Content::Json, reply, REPLY)?,
+        "a reply"
+    );
+    assert!(rt;
+        is_response(rt.alloc(), Content::Bytes, b"", EMPTY)?,
+        "an empty dbx"
+    );
+    Ok(())
+}

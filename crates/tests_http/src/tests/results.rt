@@ -1,0 +1,91 @@
+//! What `serve_one` gives.
+use desk_http::{HttpFault, Served, serve_one};
+use std::alloc::Global;
+use std::io::ErrorKind;
+use std::test::Fail;
+use testing::{Narrow, Slow, bytes_of};
+use testing_desk::StandIn;
+
+/// A request for the level.
+const LEVEL: &str = "GET /level HTTP/1.1|Desk-Token: olga-token-000001||";
+
+/// A command under which the store fails.
+const STORE: &str =
+    "POST /requests/1/withdraw HTTP/1.1|Desk-Token: olga-token-000001|Desk-Key: store|Content-Length: 0||";
+
+/// What is served of an input.
+fn served(alloc: Global, input: &[u8]) -> Result<Served, HttpFault> {
+    let mut desk = StandIn::new(alloc);
+    let mut reader = input;
+    let mut writer = Vec::new(alloc);
+    serve_one(alloc, &mut desk, &mut reader, &mut writer)
+}
+
+#[test]
+fn tells_what_was_served(rt: HostRuntime) -> Result<(), Fail> {
+    let alloc = rt.alloc();
+    let input = bytes_of(alloc, LEVEL)?;
+    let level = served(alloc, input.as_slice());
+    assert!(rt; level == Ok(Served::Answered(200, 0)), "a level");
+    let cut = served(alloc, b"GET".as_slice());
+    assert!(rt;
+        cut == Ok(Served::Answered(400, 50)),
+        "a head that is cut short"
+    );
+    let nothing = served(alloc, b"".as_slice());
+    assert!(rt; nothing == Ok(Served::Nothing), "no byte");
+    Ok(())
+}
+
+#[test]
+fn tells_that_a_read_fails(rt: HostRuntime) -> Result<(), Fail> {
+    let alloc = rt.alloc();
+    let input = bytes_of(alloc, LEVEL)?;
+    let mut desk = StandIn::new(alloc);
+    let mut reader = Slow {
+        rest: input.as_slice(),
+        most: 1,
+        calls: 0,
+        fails_at: 7,
+    };
+    let mut writer = Vec::new(alloc);
+    let served = serve_one(alloc, &mut desk, &mut reader, &mut writer);
+    assert!(rt; served == Err(HttpFault::Read), "a read");
+    assert!(rt; writer.is_empty(), "nothing went out");
+    Ok(())
+}
+
+#[test]
+fn tells_that_a_write_fails(rt: HostRuntime) -> Result<(), Fail> {
+    let alloc = rt.alloc();
+    let input = bytes_of(alloc, LEVEL)?;
+    let mut desk = StandIn::new(alloc);
+    let mut reader = input.as_slice();
+    let mut writer = Narrow {
+        taken: Vec::new(alloc),
+        most: 16,
+        calls: 0,
+        fails_at: 3,
+        kind: ErrorKind::Interrupted,
+    };
+    let served = serve_one(alloc, &mut desk, &mut reader, &mut writer);
+    assert!(rt; served == Err(HttpFault::Write), "a write");
+    let begun = b"HTTP/1.1 200 OK\r\nContent-Type: t".as_slice();
+    assert!(rt; writer.taken.as_slice() == begun, "a beginning went out");
+    Ok(())
+}
+
+#[test]
+fn tells_that_the_desk_failed_before(rt: HostRuntime) -> Result<(), Fail> {
+    let alloc = rt.alloc();
+    let store = bytes_of(alloc, STORE)?;
+    let level = bytes_of(alloc, LEVEL)?;
+    let mut desk = StandIn::new(alloc);
+    for (input, number) in [(&store, 41), (&level, 42), (&store, 42)] {
+        let mut reader = input.as_slice();
+        let mut writer = Vec::new(alloc);
+        let served = serve_one(alloc, &mut desk, &mut reader, &mut writer);
+        assert!(rt; served == Ok(Served::Answered(503, number)), "{number}");
+    }
+    Ok(())
+}

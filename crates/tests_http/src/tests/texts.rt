@@ -1,0 +1,294 @@
+//! Replies, requests, proposals and verdicts in JSON.
+use desk_bytes::Digest;
+use desk_history::{Below, Verdict};
+use desk_texts::{
+    Carried, Components, Confirmation, Counts, Extent, Facts, Note, Outcome, PersonName, Proposal,
+    ProposalNumber, ProposalState, Reply, RequestNumber, ShownRequest, ShownReturn, ShownVote,
+    ShownVotes, State, Title, Vote,
+};
+use http_responses::{proposals_json, reply_json, request_json, requests_json, verdict_json};
+use sbat::{Component, ComponentName, Generation};
+use std::alloc::Global;
+use std::test::Fail;
+
+fn component(alloc: Global, name: &str, generation: u32) -> Result<Component, Fail> {
+    Ok(Component {
+        name: ComponentName::parse(alloc, name.as_bytes())?,
+        generation: Generation::new(generation).ok_or("a generation")?,
+    })
+}
+
+/// Two certificates.
+fn carried(alloc: Global) -> Result<Carried, Fail> {
+    let mut digests = Vec::new(alloc);
+    digests.push(Digest::from([2; 32]))?;
+    digests.push(Digest::from([1; 32]))?;
+    Ok(Carried::new(digests).ok_or("certificates")?)
+}
+
+/// Two components.
+fn components(alloc: Global) -> Result<Components, Fail> {
+    let mut components = Vec::new(alloc);
+    components.push(component(alloc, "sbat", 1)?)?;
+    components.push(component(alloc, "shim", 4)?)?;
+    Ok(Components::new(components).ok_or("components")?)
+}
+
+/// An image with two certificates and two components.
+fn facts(alloc: Global) -> Result<Facts, Fail> {
+    let extent = Extent::new(1024, 0).ok_or("an extent")?;
+    let carried = carried(alloc)?;
+    let components = components(alloc)?;
+    Ok(Facts {
+        extent,
+        file: Digest::from([0xff; 32]),
+        digest: Digest::from([0xaa; 32]),
+        signing: Digest::from([0xbb; 32]),
+        carried,
+        components,
+    })
+}
+
+fn vote(alloc: Global, reviewer: &str, vote: Vote, note: &str) -> Result<ShownVote, Fail> {
+    Ok(ShownVote {
+        reviewer: PersonName::parse(alloc, reviewer.as_bytes())?,
+        vote,
+        note: Note::parse(alloc, note.as_bytes())?,
+    })
+}
+
+/// A request with these votes, of which this was returned.
+fn request(
+    alloc: Global,
+    number: RequestNumber,
+    state: State,
+    votes: ShownVotes,
+    returned: Option<ShownReturn>,
+) -> Result<ShownRequest, Fail> {
+    let submitter = PersonName::parse(alloc, b"ann")?;
+    let title = Title::parse(alloc, br#" a "b" \ ~"#)?;
+    let facts = facts(alloc)?;
+    Ok(ShownRequest {
+        number,
+        submitter,
+        title,
+        facts,
+        state,
+        votes,
+        returned,
+    })
+}
+
+/// A request with two votes, handed in as rita's and raul's.
+const OPEN: &str =
+    r#"{"carried":["0101010101010101010101010101010101010101010101010101010101010101","0202020202020202020202020202020202020202020202020202020202020202"],"components":[["sbat",1],["shim",4]],"digest":"aaaaaaaaaaaaaaaaaaaaaaaaaaaaaaaaaaaaaaaaaaaaaaaaaaaaaaaaaaaaaaaa","file":"ffffffffffffffffffffffffffffffffffffffffffffffffffffffffffffffff","gap":0,"length":1024,"number":999999,"returned":null,"signing":"bbbbbbbbbbbbbbbbbbbbbbbbbbbbbbbbbbbbbbbbbbbbbbbbbbbbbbbbbbbbbbbb","state":"open","submitter":"ann","title":" a \"b\" \\ ~","votes":[{"note":"no \"x\" \\ ~ ","reviewer":"raul","vote":"no"},{"note":"","reviewer":"rita","vote":"yes"}]}"#;
+
+/// A request whose signed file was returned.
+const SIGNED: &str =
+    r#"{"carried":["0101010101010101010101010101010101010101010101010101010101010101","0202020202020202020202020202020202020202020202020202020202020202"],"components":[["sbat",1],["shim",4]],"digest":"aaaaaaaaaaaaaaaaaaaaaaaaaaaaaaaaaaaaaaaaaaaaaaaaaaaaaaaaaaaaaaaa","file":"ffffffffffffffffffffffffffffffffffffffffffffffffffffffffffffffff","gap":0,"length":1024,"number":1,"returned":"cccccccccccccccccccccccccccccccccccccccccccccccccccccccccccccccc","signing":"bbbbbbbbbbbbbbbbbbbbbbbbbbbbbbbbbbbbbbbbbbbbbbbbbbbbbbbbbbbbbbbb","state":"signed","submitter":"ann","title":" a \"b\" \\ ~","votes":[]}"#;
+
+fn votes(alloc: Global) -> Result<ShownVotes, Fail> {
+    let mut votes = Vec::new(alloc);
+    votes.push(vote(alloc, "rita", Vote::Yes, "")?)?;
+    votes.push(vote(alloc, "raul", Vote::No, r#"no "x" \ ~ "#)?)?;
+    Ok(ShownVotes::new(votes))
+}
+
+fn open(alloc: Global) -> Result<ShownRequest, Fail> {
+    let number = RequestNumber::new(999_999).ok_or("a number")?;
+    request(alloc, number, State::Open, votes(alloc)?, None)
+}
+
+fn signed(alloc: Global) -> Result<ShownRequest, Fail> {
+    let number = RequestNumber::new(1).ok_or("a number")?;
+    let returned = ShownReturn {
+        length: 2048,
+        file: Digest::from([0xcc; 32]),
+        digest: Digest::from([0xaa; 32]),
+    };
+    let none = ShownVotes::new(Vec::new(alloc));
+    request(alloc, number, State::Signed, none, Some(returned))
+}
+
+#[test]
+fn writes_a_request(rt: HostRuntime) -> Result<(), Fail> {
+    let open = open(rt.alloc())?;
+    let text = request_json(rt.alloc(), &open)?;
+    assert!(rt; text.as_slice() == OPEN.as_bytes(), "two votes");
+    Ok(())
+}
+
+#[test]
+fn writes_a_request_with_a_return(rt: HostRuntime) -> Result<(), Fail> {
+    let signed = signed(rt.alloc())?;
+    let text = request_json(rt.alloc(), &signed)?;
+    assert!(rt; text.as_slice() == SIGNED.as_bytes(), "a return");
+    Ok(())
+}
+
+/// The two requests.
+fn two(alloc: Global) -> Result<Vec<ShownRequest>, Fail> {
+    let mut requests = Vec::new(alloc);
+    requests.push(open(alloc)?)?;
+    requests.push(signed(alloc)?)?;
+    Ok(requests)
+}
+
+#[test]
+fn writes_lists_of_requests(rt: HostRuntime) -> Result<(), Fail> {
+    let none = requests_json(rt.alloc(), &[])?;
+    assert!(rt; none.as_slice() == b"[]".as_slice(), "none");
+    let requests = two(rt.alloc())?;
+    let text = requests_json(rt.alloc(), requests.as_slice())?;
+    let both = format!(in rt.alloc(); "[{OPEN},{SIGNED}]")?;
+    assert!(rt; text.as_slice() == both.as_bytes(), "two requests");
+    Ok(())
+}
+
+/// So many requests whose signed files were returned, and their array.
+fn many(alloc: Global, count: usize) -> Result<(Vec<ShownRequest>, String), Fail> {
+    let mut requests = Vec::new(alloc);
+    let mut text = String::new(alloc);
+    for index in 0..count {
+        requests.push(signed(alloc)?)?;
+        text.push_str(if index == 0 { "[" } else { "," })?;
+        text.push_str(SIGNED)?;
+    }
+    text.push_str("]")?;
+    Ok((requests, text))
+}
+
+#[test]
+fn writes_hundreds_of_requests(rt: HostRuntime) -> Result<(), Fail> {
+    let (requests, wanted) = many(rt.alloc(), 300)?;
+    let text = requests_json(rt.alloc(), requests.as_slice())?;
+    assert!(rt; text.as_slice() == wanted.as_bytes());
+    Ok(())
+}
+
+/// A proposal of that number and state.
+fn proposal(alloc: Global, number: u64, state: ProposalState) -> Result<Proposal, Fail> {
+    Ok(Proposal {
+        number: ProposalNumber::new(number).ok_or("a number")?,
+        officer: PersonName::parse(alloc, b"olga")?,
+        state,
+        digests: number,
+        certificates: 0,
+        components: 1_000_000,
+    })
+}
+
+/// Three proposals.
+const PROPOSALS: &str =
+    r#"[{"certificates":0,"components":1000000,"digests":1,"number":1,"officer":"olga","state":"open"},{"certificates":0,"components":1000000,"digests":2,"number":2,"officer":"olga","state":"confirmed"},{"certificates":0,"components":1000000,"digests":999999,"number":999999,"officer":"olga","state":"dropped"}]"#;
+
+#[test]
+fn writes_lists_of_proposals(rt: HostRuntime) -> Result<(), Fail> {
+    let none = proposals_json(rt.alloc(), &[])?;
+    assert!(rt; none.as_slice() == b"[]".as_slice(), "none");
+    let mut proposals = Vec::new(rt.alloc());
+    proposals.push(proposal(rt.alloc(), 1, ProposalState::Open)?)?;
+    proposals.push(proposal(rt.alloc(), 2, ProposalState::Confirmed)?)?;
+    proposals.push(proposal(rt.alloc(), 999_999, ProposalState::Dropped)?)?;
+    let text = proposals_json(rt.alloc(), proposals.as_slice())?;
+    assert!(rt; text.as_slice() == PROPOSALS.as_bytes(), "each state");
+    Ok(())
+}
+
+/// Replies, each behind its name.
+const REPLIES: &str = r#"submitted {"reply":"submitted","request":7}
+reviewed {"reply":"reviewed","request":7,"state":"approved"}
+withdrawn {"reply":"withdrawn","request":7}
+returned {"reply":"returned","request":7}
+listed {"reply":"listed"}
+unlisted {"reply":"unlisted"}
+revoked {"reply":"revoked"}
+raised {"reply":"raised"}
+imported {"certificates":2,"components":3,"digests":1,"passed":18446744073709551615,"reply":"imported"}
+proposed {"proposal":9,"reply":"proposed"}
+confirmed {"certificates":2,"components":3,"digests":1,"passed":18446744073709551615,"proposal":9,"reply":"confirmed"}
+dropped {"proposal":9,"reply":"dropped"}
+"#;
+
+/// The reply of this name.
+fn reply(name: &str, request: RequestNumber, proposal: ProposalNumber) -> Reply {
+    let counts = Counts {
+        digests: 1,
+        certificates: 2,
+        components: 3,
+        passed: u64::MAX,
+    };
+    let state = State::Approved;
+    match name {
+        "submitted" => Reply::Submitted(request),
+        "reviewed" => Reply::Reviewed(Outcome { request, state }),
+        "withdrawn" => Reply::Withdrawn(request),
+        "returned" => Reply::Returned(request),
+        "listed" => Reply::Listed,
+        "unlisted" => Reply::Unlisted,
+        "revoked" => Reply::Revoked,
+        "raised" => Reply::Raised,
+        "proposed" => Reply::Proposed(proposal),
+        "confirmed" => Reply::Confirmed(Confirmation { proposal, counts }),
+        "dropped" => Reply::Dropped(proposal),
+        _ => Reply::Imported(counts),
+    }
+}
+
+/// Whether the reply that the line names is its text.
+fn is_reply(alloc: Global, line: &str) -> Result<bool, Fail> {
+    let (name, wanted) = line.split_once(' ').ok_or("a name and a text")?;
+    let request = RequestNumber::new(7).ok_or("a number")?;
+    let proposal = ProposalNumber::new(9).ok_or("a number")?;
+    let text = reply_json(alloc, &reply(name, request, proposal))?.ok_or("a text")?;
+    Ok(text.as_slice() == wanted.as_bytes())
+}
+
+#[test]
+fn writes_replies(rt: HostRuntime) -> Result<(), Fail> {
+    for line in REPLIES.lines() {
+        assert!(rt; is_reply(rt.alloc(), line)?, "{line}");
+    }
+    let added = Reply::Added(PersonName::parse(rt.alloc(), b"ann")?);
+    assert!(rt;
+        reply_json(rt.alloc(), &added)?.is_none(),
+        "a person who was added"
+    );
+    Ok(())
+}
+
+/// Verdicts, each behind its name.
+const VERDICTS: &str = r#"digest {"verdict":"dbx-digest"}
+certificate {"verdict":"dbx-certificate"}
+listed {"verdict":"not-listed"}
+sbat {"component":"shim","generation":4,"level":5,"verdict":"sbat"}
+allowed {"verdict":"allowed"}
+"#;
+
+/// The verdict of this name.
+fn verdict(name: &str, needs: Generation) -> Verdict {
+    match name {
+        "digest" => Verdict::DbxDigest,
+        "certificate" => Verdict::DbxCertificate,
+        "listed" => Verdict::NotListed,
+        "sbat" => Verdict::Sbat(Below { place: 1, needs }),
+        _ => Verdict::Allowed,
+    }
+}
+
+/// Whether the verdict that the line names is its text.
+fn is_verdict(alloc: Global, facts: &Facts, line: &str) -> Result<bool, Fail> {
+    let (name, wanted) = line.split_once(' ').ok_or("a name and a text")?;
+    let needs = Generation::new(5).ok_or("a generation")?;
+    let text = verdict_json(alloc, verdict(name, needs), facts)?.ok_or("a text")?;
+    Ok(text.as_slice() == wanted.as_bytes())
+}
+
+#[test]
+fn writes_verdicts(rt: HostRuntime) -> Result<(), Fail> {
+    let facts = facts(rt.alloc())?;
+    for line in VERDICTS.lines() {
+        assert!(rt; is_verdict(rt.alloc(), &facts, line)?, "{line}");
+    }
+    Ok(())
+}
