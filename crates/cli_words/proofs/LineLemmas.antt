@@ -12,7 +12,7 @@ use Rattle.clap.specs.declared.error.kind.ErrorKind.TheVariants.{OutOfMemory}
 use Rattle.clap.specs.declared.parser.matches.ArgMatches.{ArgMatches}
 use Rattle.clap.proofs.OnLiterals.{clap_on_literals}
 use Rattle.cli_grammar.specs.Commands.{desk_app}
-use Rattle.cli_words.specs.Lines.{Answers, IsPlainWord, Line, Spells, Takes, answer, db, dbx, facts, init, level, line_found, line_in, line_of, list, minutes, pack, person, ranges, serve, subcommand_name, verdict, words_after}
+use Rattle.cli_words.specs.Lines.{ReadsWords, IsPlainWord, Line, Spells, Takes, answer, db, dbx, facts, init, level, line_found, line_in, line_of, list, minutes, pack, person, ranges, serve, subcommand_name, verdict, words_after}
 use Rattle.cli_words.specs.declared.line.Words.{Words}
 use Rattle.cli_words.specs.declared.line.WordsFault.{WordsFault}
 use Rattle.cli_words.specs.declared.line.WordsFault.TheVariants.{Missing}
@@ -96,7 +96,7 @@ no_fault app words is known = ap (λ (a : App). fault_of a words) (sym is) ∙ k
 
 -- so that is what `words` answers
 pub line_given : (words : List Text) (o : Option Words) (r : Result Words WordsFault) → r ≡ ok_or o Missing
-    → fault_of desk_app words ≡ [] → option_map line_of o ≡ line_found words → Answers words r
+    → fault_of desk_app words ≡ [] → option_map line_of o ≡ line_found words → ReadsWords words r
 line_given words None r is whole said = rw is (whole, sym said)
 line_given words (Some w) r is whole said = rw is (whole, sym said)
 

@@ -130,12 +130,12 @@ abbrev pub line_found : List Text → Option Line
 line_found words = option_and_then line_in (subcommand_of desk_app words)
 
 -- where `clap` finds no fault, the line that it finds, and else a fault that it finds
-abbrev pub Answers : List Text → Result Words WordsFault → Type 0
-Answers words (Ok said) =
+abbrev pub ReadsWords : List Text → Result Words WordsFault → Type 0
+ReadsWords words (Ok said) =
     (fault_of desk_app words ≡ []) × (line_found words ≡ Some (line_of said))
-Answers words (Err (Refused error)) = IsAmong (kind_of error) (fault_of desk_app words)
-Answers words (Err Missing) = (fault_of desk_app words ≡ []) × (line_found words ≡ None)
-Answers words (Err NoMemory) = ⊤
+ReadsWords words (Err (Refused error)) = IsAmong (kind_of error) (fault_of desk_app words)
+ReadsWords words (Err Missing) = (fault_of desk_app words ≡ []) × (line_found words ≡ None)
+ReadsWords words (Err NoMemory) = ⊤
 
 -- taken as just that line, want of memory aside
 abbrev pub Takes : Line → Result Words WordsFault → Type 0

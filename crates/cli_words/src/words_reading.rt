@@ -2,7 +2,7 @@
 ghost use Rattle.std.specs.Prelude.{◌≡◌, ◌<◌, length, map, option_and_then, option_map, string_bytes};
 ghost use Rattle.clap.specs.Words.{first_of, found_of, rows_of, subcommand_rows_of};
 ghost use Rattle.cli_grammar.specs.Commands.{id_of, ids};
-ghost use Rattle.cli_words.specs.Lines.{Answers, Line, Spells, Takes, line_in, line_of, one_in};
+ghost use Rattle.cli_words.specs.Lines.{ReadsWords, Line, Spells, Takes, line_in, line_of, one_in};
 ghost use Rattle.cli_words.specs.Lines.{init, person_in, serve_in, two_in, verdict};
 
 use crate::line::{PersonWords, ServeWords, Words, WordsFault};
@@ -123,7 +123,7 @@ fn met<'a>(matches: &ArgMatches<'a>) -> Option<Words<'a>>
 
 /// Reads the words after the program's name.
 pub fn words<'a>(alloc: Global, given: &'a [String]) -> Result<Words<'a>, WordsFault>
-    ensures exact { Answers (map string_bytes given.entry.now) result }
+    ensures exact { ReadsWords (map string_bytes given.entry.now) result }
     ensures taken { (line : Line) → Spells (map string_bytes given.entry.now) line
         → Takes line result }
 {

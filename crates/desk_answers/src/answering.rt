@@ -2,7 +2,7 @@
 ghost use Rattle.std.specs.Prelude.{◌≡◌, ◌≢◌, Err, IfErr, IfOk, IsErrOf, true};
 ghost use Rattle.sqlite.specs.Held.{state};
 ghost use Rattle.sqlite.specs.State.{HasCleanDisk};
-ghost use Rattle.desk_calls.specs.Desks.{IsOutage, Keeps, Views};
+ghost use Rattle.desk_calls.specs.Desks.{IsOutage, StillShows, ForEachShown};
 ghost use Rattle.desk_exports.specs.Exports.{exported};
 ghost use Rattle.desk_store.specs.Desks.{ShowsDesk};
 
@@ -36,13 +36,13 @@ fn octets_of<S: Alter + Drop>(
     what: Export,
 ) -> Result<Octets, Refusal>
     ensures given { HasCleanDisk (state S.Store desk.new.conn) → IfOk result (λ bytes.
-        Views (ShowsDesk S.Store desk.old) (λ owner cs. bytes ≡ exported what owner cs)) }
+        ForEachShown (ShowsDesk S.Store desk.old) (λ owner cs. bytes ≡ exported what owner cs)) }
     ensures same { HasCleanDisk (state S.Store desk.new.conn) → result ≢ Err Refusal.Store
-        → Keeps (ShowsDesk S.Store desk.old) (ShowsDesk S.Store desk.new) }
+        → StillShows (ShowsDesk S.Store desk.old) (ShowsDesk S.Store desk.new) }
     ensures before { HasCleanDisk (state S.Store desk.new.conn)
         → HasCleanDisk (state S.Store desk.old.conn) }
     ensures named { IfErr result IsOutage }
-    ensures usable { Views (ShowsDesk S.Store desk.old) (λ _ _. result ≢ Err Refusal.Reopen) }
+    ensures usable { ForEachShown (ShowsDesk S.Store desk.old) (λ _ _. result ≢ Err Refusal.Reopen) }
     ensures poisons { IsErrOf result Refusal.Store → desk.new.needs_reopening ≡ true }
     ensures closed { desk.old.needs_reopening ≡ true
         → (result ≡ Err Refusal.Reopen) × (desk.new ≡ desk.old) }

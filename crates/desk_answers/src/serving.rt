@@ -2,7 +2,7 @@
 ghost use Rattle.std.specs.Prelude.{◌≡◌, ℕ, List, true};
 ghost use Rattle.sqlite.specs.Held.{state};
 ghost use Rattle.sqlite.specs.State.{HasCleanDisk};
-ghost use Rattle.desk_calls.specs.Answers.{Answers, IsClosed, Serves, store_failed};
+ghost use Rattle.desk_calls.specs.Answers.{AnswersCall, IsClosed, Serves, store_failed};
 ghost use Rattle.desk_history.specs.Calls.{History};
 ghost use Rattle.desk_store.specs.Desks.{ShowsDesk};
 
@@ -17,12 +17,12 @@ pub fn answer<S: Alter + Drop>(alloc: Global, desk: &mut OpenDesk<S>, call: Call
         → (owner : List ℕ) (cs : History)
         → ShowsDesk S.Store desk.old.desk owner cs
         → Serves (ShowsDesk S.Store desk.new.desk owner) (desk.new.desk.needs_reopening ≡ true) cs
-        (Answers owner cs call) result }
+        (AnswersCall owner cs call) result }
     ensures before { HasCleanDisk (state S.Store desk.new.desk.conn)
         → HasCleanDisk (state S.Store desk.old.desk.conn) }
     ensures poisons { result ≡ store_failed → desk.new.desk.needs_reopening ≡ true }
     ensures closed { desk.old.desk.needs_reopening ≡ true
-        → IsClosed (λ owner cs. Answers owner cs call) result × (desk.new ≡ desk.old) }
+        → IsClosed (λ owner cs. AnswersCall owner cs call) result × (desk.new ≡ desk.old) }
 {
     desk_calls::answer(alloc, desk, call)
 }

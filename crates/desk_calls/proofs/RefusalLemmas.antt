@@ -9,7 +9,7 @@ use Rattle.http_responses.specs.Refusals.{place_of, refused_of, refusal_of}
 use Rattle.http_responses.specs.declared.outage.Outage.TheVariants as outage
 use Rattle.http_responses.specs.declared.refused.Refused.{Refused}
 use Rattle.http_responses.specs.declared.refused.Refused.TheVariants as refused
-use Rattle.desk_calls.specs.Bodies.{Tells}
+use Rattle.desk_calls.specs.Bodies.{RefusesAs}
 use Rattle.desk_calls.specs.Desks.{IsOutage, IsReadingRefusal}
 
 -- two refusals are one or differ, by the tags of the enum
@@ -100,14 +100,14 @@ told_reading r (inr (inl e)) = subst (λ x. IsSome (refused_of x)) (sym e) refl
 told_reading r (inr (inr (inl e))) = subst (λ x. IsSome (refused_of x)) (sym e) refl
 told_reading r (inr (inr (inr e))) = told_outage r e
 
-tells_same : (x y : Refused) → Some x ≡ Some y → Tells (refusal_of x) (place_of x) y
+tells_same : (x y : Refused) → Some x ≡ Some y → RefusesAs (refusal_of x) (place_of x) y
 tells_same x y e = let same : x ≡ y = cc in record { of = ap refusal_of (sym same); at = ap place_of (sym same) }
 
 not_some : (y : Refused) → None ≡ Some y → ⊥
 not_some y e = cc
 
 -- a refusal that is told by its row has no place
-pub placeless : (r : Refusal) (x : Refused) → refused_of r ≡ Some x → Tells r None x
+pub placeless : (r : Refusal) (x : Refused) → refused_of r ≡ Some x → RefusesAs r None x
 placeless refusals.Short x e = tells_same refused.Short x e
 placeless refusals.NoMz x e = tells_same refused.NoMz x e
 placeless refusals.NoPe x e = tells_same refused.NoPe x e

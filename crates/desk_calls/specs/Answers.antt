@@ -25,7 +25,7 @@ use Rattle.http_responses.specs.declared.outage.Outage.TheVariants as outage
 use Rattle.http_responses.specs.declared.refused.Refused.{Refused}
 use Rattle.http_responses.specs.declared.refused.Refused.TheVariants as refused
 use Rattle.desk_service.specs.ImageFacts.{IsFactsOf}
-use Rattle.desk_calls.specs.Bodies.{ReadsCsv, ReadsDbx, ReadsImage, ReadsLevel, RefusesImage, Tells, listing_of}
+use Rattle.desk_calls.specs.Bodies.{ReadsCsv, ReadsDbx, ReadsImage, ReadsLevel, RefusesImage, RefusesAs, listing_of}
 use Rattle.desk_calls.specs.Desks.{called}
 use Rattle.desk_calls.specs.declared.answers.Answer.{Answer}
 use Rattle.desk_calls.specs.declared.answers.Answer.TheVariants as answer
@@ -36,7 +36,7 @@ use Rattle.desk_calls.specs.declared.call.Task.TheVariants as task
 -- a refusal that the desk gives, which has no place
 pub record IsRefusal (row : Refusal) (a : Answer) : Type 0 where
   pub refused : Refused
-  pub told : Tells row None refused
+  pub told : RefusesAs row None refused
   pub is : a ≡ answer.Refused refused
 
 -- ---- commands
@@ -133,8 +133,8 @@ AnswersTask owner cs p task.Level = IsRead cs (λ a. a ≡ answer.Level (exports
 AnswersTask owner cs p task.Report = IsRead cs (λ a. a ≡ report_to p.role cs)
 
 -- the same of a call
-abbrev pub Answers : List ℕ → History → Call → Answer → History → Type 0
-Answers owner cs call = AnswersTask owner cs call.person call.task
+abbrev pub AnswersCall : List ℕ → History → Call → Answer → History → Type 0
+AnswersCall owner cs call = AnswersTask owner cs call.person call.task
 
 -- ---- what may fail
 

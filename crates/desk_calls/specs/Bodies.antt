@@ -19,7 +19,7 @@ use Rattle.desk_service.specs.imports.FromLists.{IsDbxImport, RefusesDbx, tbs_of
 use Rattle.desk_service.specs.declared.imports.fault.ImportFault.{ImportFault}
 
 -- a request is refused so for this row of the table of refusals, with this place or none
-pub record Tells (row : Refusal) (place : Option ℕ) (refused : Refused) : Type 0 where
+pub record RefusesAs (row : Refusal) (place : Option ℕ) (refused : Refused) : Type 0 where
   pub of : told.refusal_of refused ≡ row
   pub at : told.place_of refused ≡ place
 
@@ -27,7 +27,7 @@ pub record Tells (row : Refusal) (place : Option ℕ) (refused : Refused) : Type
 pub record TellsFault {F : Type 0} (is_first : F → Type 0) (row : F → Refusal) (place : F → Option ℕ) (refused : Refused) : Type 0 where
   pub fault : F
   pub first : is_first fault
-  pub told : Tells (row fault) (place fault) refused
+  pub told : RefusesAs (row fault) (place fault) refused
   pub own : row fault ≢ refusals.NoMemory
 
 -- an image in memory, of which no read fails, is refused for this

@@ -10,12 +10,12 @@ use Rattle.desk_history.specs.Calls.{History}
 use Rattle.desk_history.specs.People.{has_token, people}
 
 -- this holds of each owner and history that a desk shows
-abbrev pub Views : (List ℕ → History → Type 0) → (List ℕ → History → Type 0) → Type 0
-Views shows told = (owner : List ℕ) (cs : History) → shows owner cs → told owner cs
+abbrev pub ForEachShown : (List ℕ → History → Type 0) → (List ℕ → History → Type 0) → Type 0
+ForEachShown shows told = (owner : List ℕ) (cs : History) → shows owner cs → told owner cs
 
 -- what was shown is shown still
-abbrev pub Keeps : (List ℕ → History → Type 0) → (List ℕ → History → Type 0) → Type 0
-Keeps before after = (owner : List ℕ) (cs : History) → before owner cs → after owner cs
+abbrev pub StillShows : (List ℕ → History → Type 0) → (List ℕ → History → Type 0) → Type 0
+StillShows before after = (owner : List ℕ) (cs : History) → before owner cs → after owner cs
 
 -- the person who has the token of this SHA-256
 abbrev pub person_with : List ℕ → History → Option Person

@@ -5,7 +5,7 @@ use Rattle.desk_texts.specs.declared.role.Role.TheVariants as roles
 use Rattle.desk_history.specs.Calls.{History}
 use Rattle.desk_history.specs.Shown.{own, role_of}
 use Rattle.http_responses.specs.declared.refused.Refused.{Refused}
-use Rattle.desk_calls.specs.Answers.{Answers, AnswersTask}
+use Rattle.desk_calls.specs.Answers.{AnswersCall, AnswersTask}
 use Rattle.desk_calls.specs.declared.answers.Answer.{Answer}
 use Rattle.desk_calls.specs.declared.answers.Answer.TheVariants as answer
 use Rattle.desk_calls.specs.declared.call.Call.{Call}
@@ -15,7 +15,7 @@ use Rattle.desk_calls.specs.declared.call.Task.TheVariants as task
 abbrev pub RefusalsChangeNothing : Type 0
 RefusalsChangeNothing =
     (owner : List ℕ) (cs : History) (call : Call) (refused : Refused) (later : History)
-    → Answers owner cs call (answer.Refused refused) later → later ≡ cs
+    → AnswersCall owner cs call (answer.Refused refused) later → later ≡ cs
 
 -- who asks desks of these histories for requests is answered by the second as by the first, whatever else they hold
 pub record AnswersAlike (one other : History) (p : Person) : Type 0 where

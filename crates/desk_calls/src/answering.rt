@@ -8,7 +8,7 @@ ghost use Rattle.desk_history.specs.Runs.{answer, next, reply_in};
 ghost use Rattle.desk_history.specs.Shown.{AreShown, IsShown, proposals_for, request_for, requests_for, shown_proposal};
 ghost use Rattle.desk_history.specs.Verdicts as verdicts;
 ghost use Rattle.desk_history.specs.declared.answer.Answer.TheVariants as ruled;
-ghost use Rattle.desk_calls.specs.Desks.{IsOutage, IsReadingRefusal, Keeps, Views, called, person_with};
+ghost use Rattle.desk_calls.specs.Desks.{IsOutage, IsReadingRefusal, StillShows, ForEachShown, called, person_with};
 
 use crate::octets::Octets;
 use crate::shown_proposals::ShownProposals;
@@ -36,113 +36,113 @@ pub trait Answering {
 
     /// The person whose token has this SHA-256, if there is one.
     fn person_of(&mut self, token: &Digest) -> Result<Option<Person>, Refusal>
-        ensures given { clean self.new → IfOk result (λ person. Views (shows self.old)
+        ensures given { clean self.new → IfOk result (λ person. ForEachShown (shows self.old)
             (λ _ cs. person ≡ person_with token.now cs)) }
         ensures same { clean self.new → result ≢ Err Refusal.Store
-            → Keeps (shows self.old) (shows self.new) }
+            → StillShows (shows self.old) (shows self.new) }
         ensures before { clean self.new → clean self.old }
         ensures named { IfErr result IsOutage }
-        ensures usable { Views (shows self.old) (λ _ _. result ≢ Err Refusal.Reopen) }
+        ensures usable { ForEachShown (shows self.old) (λ _ _. result ≢ Err Refusal.Reopen) }
         ensures poisons { IsErrOf result Refusal.Store → failed self.new }
         ensures closed { failed self.old → (result ≡ Err Refusal.Reopen) × (self.new ≡ self.old) };
 
     /// Answers the call of a command: an accepted one joins the history. A refusal by the rules changes nothing.
     fn apply(&mut self, caller: &Caller, key: &Key, command: &Command) -> Result<Reply, Refusal>
-        ensures given { clean self.new → IfOk result (λ reply. Views (shows self.old) (λ owner cs.
+        ensures given { clean self.new → IfOk result (λ reply. ForEachShown (shows self.old) (λ owner cs.
             (reply_in (answer cs (called caller.now key.now command.now)) ≡ Some reply)
             × shows self.new owner (next cs (called caller.now key.now command.now)))) }
         ensures refused { clean self.new → IfErr result (λ refusal. refusal ≢ Refusal.NoMemory
-            → refusal ≢ Refusal.Store → Views (shows self.old) (λ _ cs.
+            → refusal ≢ Refusal.Store → ForEachShown (shows self.old) (λ _ cs.
             answer cs (called caller.now key.now command.now) ≡ ruled.Refused refusal)) }
         ensures same { clean self.new → IfErr result (λ refusal. refusal ≢ Refusal.Store
-            → Keeps (shows self.old) (shows self.new)) }
+            → StillShows (shows self.old) (shows self.new)) }
         ensures before { clean self.new → clean self.old }
         ensures named { IfErr result (λ refusal. IsTrue (may_answer refusal) ⊎ IsOutage refusal) }
-        ensures usable { Views (shows self.old) (λ _ _. result ≢ Err Refusal.Reopen) }
+        ensures usable { ForEachShown (shows self.old) (λ _ _. result ≢ Err Refusal.Reopen) }
         ensures poisons { IsErrOf result Refusal.Store → failed self.new }
         ensures closed { failed self.old → (result ≡ Err Refusal.Reopen) × (self.new ≡ self.old) };
 
     /// What the desk says of the image.
     fn verdict(&mut self, facts: &Facts) -> Result<Verdict, Refusal>
-        ensures given { clean self.new → IfOk result (λ said. Views (shows self.old)
+        ensures given { clean self.new → IfOk result (λ said. ForEachShown (shows self.old)
             (λ _ cs. said ≡ verdicts.verdict cs facts.now)) }
         ensures same { clean self.new → result ≢ Err Refusal.Store
-            → Keeps (shows self.old) (shows self.new) }
+            → StillShows (shows self.old) (shows self.new) }
         ensures before { clean self.new → clean self.old }
         ensures named { IfErr result IsOutage }
-        ensures usable { Views (shows self.old) (λ _ _. result ≢ Err Refusal.Reopen) }
+        ensures usable { ForEachShown (shows self.old) (λ _ _. result ≢ Err Refusal.Reopen) }
         ensures poisons { IsErrOf result Refusal.Store → failed self.new }
         ensures closed { failed self.old → (result ≡ Err Refusal.Reopen) × (self.new ≡ self.old) };
 
     /// The request of this number, as the caller is shown it.
     fn request(&mut self, caller: &Caller, number: RequestNumber) -> Result<ShownRequest, Refusal>
-        ensures given { clean self.new → IfOk result (λ shown. Views (shows self.old)
+        ensures given { clean self.new → IfOk result (λ shown. ForEachShown (shows self.old)
             (λ _ cs. MatchResult (request_for cs caller.now number)
             (λ w. IsShown w shown) (λ _. ⊥))) }
         ensures refused { clean self.new → IfErr result (λ refusal. refusal ≢ Refusal.NoMemory
-            → refusal ≢ Refusal.Store → Views (shows self.old)
+            → refusal ≢ Refusal.Store → ForEachShown (shows self.old)
             (λ _ cs. request_for cs caller.now number ≡ Err refusal)) }
         ensures same { clean self.new → result ≢ Err Refusal.Store
-            → Keeps (shows self.old) (shows self.new) }
+            → StillShows (shows self.old) (shows self.new) }
         ensures before { clean self.new → clean self.old }
         ensures named { IfErr result IsReadingRefusal }
-        ensures usable { Views (shows self.old) (λ _ _. result ≢ Err Refusal.Reopen) }
+        ensures usable { ForEachShown (shows self.old) (λ _ _. result ≢ Err Refusal.Reopen) }
         ensures poisons { IsErrOf result Refusal.Store → failed self.new }
         ensures closed { failed self.old → (result ≡ Err Refusal.Reopen) × (self.new ≡ self.old) };
 
     /// The requests that the caller is shown, ascending by number.
     fn requests_of(&mut self, caller: &Caller) -> Result<ShownRequests, Refusal>
-        ensures given { clean self.new → IfOk result (λ shown. Views (shows self.old)
+        ensures given { clean self.new → IfOk result (λ shown. ForEachShown (shows self.old)
             (λ _ cs. MatchResult (requests_for cs caller.now)
             (λ ws. AreShown ws shown) (λ _. ⊥))) }
         ensures refused { clean self.new → IfErr result (λ refusal. refusal ≢ Refusal.NoMemory
-            → refusal ≢ Refusal.Store → Views (shows self.old)
+            → refusal ≢ Refusal.Store → ForEachShown (shows self.old)
             (λ _ cs. requests_for cs caller.now ≡ Err refusal)) }
         ensures same { clean self.new → result ≢ Err Refusal.Store
-            → Keeps (shows self.old) (shows self.new) }
+            → StillShows (shows self.old) (shows self.new) }
         ensures before { clean self.new → clean self.old }
         ensures named { IfErr result IsReadingRefusal }
-        ensures usable { Views (shows self.old) (λ _ _. result ≢ Err Refusal.Reopen) }
+        ensures usable { ForEachShown (shows self.old) (λ _ _. result ≢ Err Refusal.Reopen) }
         ensures poisons { IsErrOf result Refusal.Store → failed self.new }
         ensures closed { failed self.old → (result ≡ Err Refusal.Reopen) × (self.new ≡ self.old) };
 
     /// The proposals, ascending by number, for an officer.
     fn proposals(&mut self, caller: &Caller) -> Result<ShownProposals, Refusal>
-        ensures given { clean self.new → IfOk result (λ shown. Views (shows self.old)
+        ensures given { clean self.new → IfOk result (λ shown. ForEachShown (shows self.old)
             (λ _ cs. MatchResult (proposals_for cs caller.now)
             (λ ps. shown ≡ map (shown_proposal cs) ps) (λ _. ⊥))) }
         ensures refused { clean self.new → IfErr result (λ refusal. refusal ≢ Refusal.NoMemory
-            → refusal ≢ Refusal.Store → Views (shows self.old)
+            → refusal ≢ Refusal.Store → ForEachShown (shows self.old)
             (λ _ cs. proposals_for cs caller.now ≡ Err refusal)) }
         ensures same { clean self.new → result ≢ Err Refusal.Store
-            → Keeps (shows self.old) (shows self.new) }
+            → StillShows (shows self.old) (shows self.new) }
         ensures before { clean self.new → clean self.old }
         ensures named { IfErr result IsReadingRefusal }
-        ensures usable { Views (shows self.old) (λ _ _. result ≢ Err Refusal.Reopen) }
+        ensures usable { ForEachShown (shows self.old) (λ _ _. result ≢ Err Refusal.Reopen) }
         ensures poisons { IsErrOf result Refusal.Store → failed self.new }
         ensures closed { failed self.old → (result ≡ Err Refusal.Reopen) × (self.new ≡ self.old) };
 
     /// The bytes of an export.
     fn export(&mut self, alloc: Global, what: Export) -> Result<Octets, Refusal>
-        ensures given { clean self.new → IfOk result (λ bytes. Views (shows self.old)
+        ensures given { clean self.new → IfOk result (λ bytes. ForEachShown (shows self.old)
             (λ owner cs. bytes ≡ exported what owner cs)) }
         ensures same { clean self.new → result ≢ Err Refusal.Store
-            → Keeps (shows self.old) (shows self.new) }
+            → StillShows (shows self.old) (shows self.new) }
         ensures before { clean self.new → clean self.old }
         ensures named { IfErr result IsOutage }
-        ensures usable { Views (shows self.old) (λ _ _. result ≢ Err Refusal.Reopen) }
+        ensures usable { ForEachShown (shows self.old) (λ _ _. result ≢ Err Refusal.Reopen) }
         ensures poisons { IsErrOf result Refusal.Store → failed self.new }
         ensures closed { failed self.old → (result ≡ Err Refusal.Reopen) × (self.new ≡ self.old) };
 
     /// The text of the report.
     fn report(&mut self, alloc: Global) -> Result<Octets, Refusal>
-        ensures given { clean self.new → IfOk result (λ bytes. Views (shows self.old)
+        ensures given { clean self.new → IfOk result (λ bytes. ForEachShown (shows self.old)
             (λ _ cs. bytes ≡ report cs)) }
         ensures same { clean self.new → result ≢ Err Refusal.Store
-            → Keeps (shows self.old) (shows self.new) }
+            → StillShows (shows self.old) (shows self.new) }
         ensures before { clean self.new → clean self.old }
         ensures named { IfErr result IsOutage }
-        ensures usable { Views (shows self.old) (λ _ _. result ≢ Err Refusal.Reopen) }
+        ensures usable { ForEachShown (shows self.old) (λ _ _. result ≢ Err Refusal.Reopen) }
         ensures poisons { IsErrOf result Refusal.Store → failed self.new }
         ensures closed { failed self.old → (result ≡ Err Refusal.Reopen) × (self.new ≡ self.old) };
 }

@@ -9,7 +9,7 @@ ghost use Rattle.desk_calls.specs.Answers as spec;
 use crate::answering::Answering;
 use crate::answers::Answer;
 use crate::bodies::read_facts;
-use crate::refusing::told;
+use crate::refusing::without_place;
 use desk_exports::Export;
 use desk_texts::{Caller, PersonName, RequestNumber, Role};
 use http_responses::Refused;
@@ -28,7 +28,7 @@ pub(crate) fn request<D: Answering>(desk: &mut D, name: PersonName, number: Requ
 {
     match desk.request(&Caller::Person(name), number) {
         Ok(request) => Answer::Request(request),
-        Err(refusal) => Answer::Refused(told(refusal)),
+        Err(refusal) => Answer::Refused(without_place(refusal)),
     }
 }
 
@@ -44,7 +44,7 @@ pub(crate) fn requests<D: Answering>(desk: &mut D, name: PersonName) -> Answer
 {
     match desk.requests_of(&Caller::Person(name)) {
         Ok(requests) => Answer::Requests(requests),
-        Err(refusal) => Answer::Refused(told(refusal)),
+        Err(refusal) => Answer::Refused(without_place(refusal)),
     }
 }
 
@@ -60,7 +60,7 @@ pub(crate) fn proposals<D: Answering>(desk: &mut D, name: PersonName) -> Answer
 {
     match desk.proposals(&Caller::Person(name)) {
         Ok(proposals) => Answer::Proposals(proposals),
-        Err(refusal) => Answer::Refused(told(refusal)),
+        Err(refusal) => Answer::Refused(without_place(refusal)),
     }
 }
 
@@ -81,7 +81,7 @@ pub(crate) fn judge<D: Answering>(alloc: Global, desk: &mut D, image: Pieces) ->
     };
     match desk.verdict(&found) {
         Ok(said) => Answer::Verdict(said, found),
-        Err(refusal) => Answer::Refused(told(refusal)),
+        Err(refusal) => Answer::Refused(without_place(refusal)),
     }
 }
 
@@ -97,7 +97,7 @@ pub(crate) fn dbx<D: Answering>(alloc: Global, desk: &mut D) -> Answer
 {
     match desk.export(alloc, Export::Dbx) {
         Ok(bytes) => Answer::Dbx(bytes),
-        Err(refusal) => Answer::Refused(told(refusal)),
+        Err(refusal) => Answer::Refused(without_place(refusal)),
     }
 }
 
@@ -113,7 +113,7 @@ pub(crate) fn db<D: Answering>(alloc: Global, desk: &mut D) -> Answer
 {
     match desk.export(alloc, Export::Db) {
         Ok(bytes) => Answer::Db(bytes),
-        Err(refusal) => Answer::Refused(told(refusal)),
+        Err(refusal) => Answer::Refused(without_place(refusal)),
     }
 }
 
@@ -129,7 +129,7 @@ pub(crate) fn level<D: Answering>(alloc: Global, desk: &mut D) -> Answer
 {
     match desk.export(alloc, Export::Level) {
         Ok(text) => Answer::Level(text),
-        Err(refusal) => Answer::Refused(told(refusal)),
+        Err(refusal) => Answer::Refused(without_place(refusal)),
     }
 }
 
@@ -152,6 +152,6 @@ pub(crate) fn report<D: Answering>(alloc: Global, desk: &mut D, role: Role) -> A
     }
     match desk.report(alloc) {
         Ok(text) => Answer::Report(text),
-        Err(refusal) => Answer::Refused(told(refusal)),
+        Err(refusal) => Answer::Refused(without_place(refusal)),
     }
 }

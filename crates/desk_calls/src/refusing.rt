@@ -7,7 +7,7 @@ ghost use Rattle.siglist.specs.ListsFaults as lists;
 ghost use Rattle.desk_service.specs.imports.Faults as imports;
 ghost use Rattle.desk_service.specs.Faults as facts;
 ghost use Rattle.http_responses.specs.Refusals.{outage_refusal, refused_of};
-ghost use Rattle.desk_calls.specs.Bodies.{Tells};
+ghost use Rattle.desk_calls.specs.Bodies.{RefusesAs};
 ghost use Rattle.desk_calls.specs.Desks.{IsOutage};
 
 use authenticode::CarriedFault;
@@ -22,10 +22,10 @@ use siglist::ListsFault;
 pub(crate) const NO_MEMORY: Refused = Refused::Unavailable(Outage::NoMemory);
 
 /// A refusal without a place.
-pub(crate) fn told(refusal: Refusal) -> Refused
+pub(crate) fn without_place(refusal: Refusal) -> Refused
     requires { IsSome (refused_of refusal) }
     ensures value { refused_of refusal ≡ Some result }
-    ensures tells { Tells refusal None result }
+    ensures tells { RefusesAs refusal None result }
     ensures store { result ≡ Refused.Unavailable Outage.Store → refusal ≡ Refusal.Store }
     ensures reopen { refusal ≡ Refusal.Reopen → result ≡ Refused.Unavailable Outage.Reopen }
 {
@@ -54,7 +54,7 @@ pub(crate) fn outage(refusal: Refusal) -> Outage
 /// What an image without a layout is refused for, of which every read succeeded.
 fn of_layout(fault: LayoutFault) -> Refused
     requires { layout.refusal_of fault ≢ Refusal.Read }
-    ensures tells { Tells (layout.refusal_of fault) None result }
+    ensures tells { RefusesAs (layout.refusal_of fault) None result }
     ensures no_store { result ≢ Refused.Unavailable Outage.Store }
 {
     match fault {
@@ -75,7 +75,7 @@ fn of_layout(fault: LayoutFault) -> Refused
 
 /// What an image's certificates are refused for.
 fn of_carried(fault: CarriedFault) -> Refused
-    ensures tells { Tells (carried.refusal_of fault) None result }
+    ensures tells { RefusesAs (carried.refusal_of fault) None result }
     ensures no_store { result ≢ Refused.Unavailable Outage.Store }
 {
     match fault {
@@ -88,7 +88,7 @@ fn of_carried(fault: CarriedFault) -> Refused
 
 /// What SBAT text is refused for, with the number of its line.
 fn of_sbat(fault: SbatFault) -> Refused
-    ensures tells { Tells (sbat_faults.refusal_of fault) (sbat_faults.place_of fault) result }
+    ensures tells { RefusesAs (sbat_faults.refusal_of fault) (sbat_faults.place_of fault) result }
     ensures no_store { result ≢ Refused.Unavailable Outage.Store }
 {
     match fault {
@@ -100,7 +100,7 @@ fn of_sbat(fault: SbatFault) -> Refused
 
 /// What signature lists are refused for, with the offset of the list.
 fn of_lists(fault: ListsFault) -> Refused
-    ensures tells { Tells (lists.refusal_of fault) (Some (lists.place_of fault)) result }
+    ensures tells { RefusesAs (lists.refusal_of fault) (Some (lists.place_of fault)) result }
     ensures no_store { result ≢ Refused.Unavailable Outage.Store }
 {
     match fault {
@@ -112,7 +112,7 @@ fn of_lists(fault: ListsFault) -> Refused
 /// What an image is refused for, of which every read succeeded.
 pub(crate) fn of_facts(fault: FactsFault) -> Refused
     requires { facts.refusal_of fault ≢ Refusal.Read }
-    ensures tells { Tells (facts.refusal_of fault) (facts.place_of fault) result }
+    ensures tells { RefusesAs (facts.refusal_of fault) (facts.place_of fault) result }
     ensures no_store { result ≢ Refused.Unavailable Outage.Store }
 {
     match fault {
@@ -126,7 +126,7 @@ pub(crate) fn of_facts(fault: FactsFault) -> Refused
 
 /// What an import is refused for.
 pub(crate) fn of_import(fault: ImportFault) -> Refused
-    ensures tells { Tells (imports.refusal_of fault) (imports.place_of fault) result }
+    ensures tells { RefusesAs (imports.refusal_of fault) (imports.place_of fault) result }
     ensures no_store { result ≢ Refused.Unavailable Outage.Store }
 {
     match fault {

@@ -3,7 +3,7 @@ ghost use Rattle.std.specs.Prelude.{◌≡◌, ◌≢◌, ℕ, List, Err, IfOk};
 ghost use Rattle.sha2.specs.Sha256.{sha256};
 ghost use Rattle.desk_history.specs.Calls.{History};
 ghost use Rattle.desk_calls.specs.Answers as spec;
-ghost use Rattle.desk_calls.specs.Desks.{Keeps, Views, person_with};
+ghost use Rattle.desk_calls.specs.Desks.{StillShows, ForEachShown, person_with};
 
 use crate::answering::Answering;
 use crate::answers::Answer;
@@ -24,12 +24,12 @@ use std::alloc::Global;
 /// `NoMemory`: memory was refused, and nothing was changed. `Store`: the store failed. `Reopen`: it had failed in a
 /// call before, and the desk does nothing more.
 pub fn caller<D: Answering>(desk: &mut D, token: &[u8]) -> Result<Option<Person>, Outage>
-    ensures given { D.clean desk.new → IfOk result (λ person. Views (D.shows desk.old)
+    ensures given { D.clean desk.new → IfOk result (λ person. ForEachShown (D.shows desk.old)
         (λ _ cs. person ≡ person_with (sha256 token.now) cs)) }
     ensures same { D.clean desk.new → result ≢ Err Outage.Store
-        → Keeps (D.shows desk.old) (D.shows desk.new) }
+        → StillShows (D.shows desk.old) (D.shows desk.new) }
     ensures before { D.clean desk.new → D.clean desk.old }
-    ensures usable { Views (D.shows desk.old) (λ _ _. result ≢ Err Outage.Reopen) }
+    ensures usable { ForEachShown (D.shows desk.old) (λ _ _. result ≢ Err Outage.Reopen) }
     ensures poisons { result ≡ Err Outage.Store → D.failed desk.new }
     ensures closed { D.failed desk.old → (result ≡ Err Outage.Reopen) × (desk.new ≡ desk.old) }
     ensures named { result ≢ Err Outage.NotADesk }
@@ -50,10 +50,10 @@ pub fn answer<D: Answering>(alloc: Global, desk: &mut D, call: Call) -> Answer
     ensures served { D.clean desk.new → (owner : List ℕ) (cs : History)
         → D.shows desk.old owner cs
         → spec.Serves (D.shows desk.new owner) (D.failed desk.new) cs
-        (spec.Answers owner cs call) result }
+        (spec.AnswersCall owner cs call) result }
     ensures before { D.clean desk.new → D.clean desk.old }
     ensures poisons { result ≡ spec.store_failed → D.failed desk.new }
-    ensures closed { D.failed desk.old → spec.IsClosed (λ owner cs. spec.Answers owner cs call) result
+    ensures closed { D.failed desk.old → spec.IsClosed (λ owner cs. spec.AnswersCall owner cs call) result
         × (desk.new ≡ desk.old) }
 {
     let Call { person, task } = call;

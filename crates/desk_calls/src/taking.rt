@@ -5,7 +5,7 @@ ghost use Rattle.desk_calls.specs.Answers.{IsClosed, IsTaken, Serves, store_fail
 
 use crate::answering::Answering;
 use crate::answers::Answer;
-use crate::refusing::told;
+use crate::refusing::without_place;
 use desk_texts::{Caller, Command, Key, PersonName};
 use http_responses::{Outage, Refused};
 
@@ -31,6 +31,6 @@ pub(crate) fn take<D: Answering>(
     };
     match desk.apply(&Caller::Person(name), key, &command) {
         Ok(reply) => Answer::Reply(reply),
-        Err(refusal) => Answer::Refused(told(refusal)),
+        Err(refusal) => Answer::Refused(without_place(refusal)),
     }
 }

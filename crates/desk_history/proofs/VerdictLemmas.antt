@@ -33,7 +33,7 @@ one_component place generation (Some needed) rest any h =
 components_allow : (s : Standing) (place : ℕ) (xs : List Component) → AllowsBy (first_below s place xs) (list_any (is_below s) xs)
 components_allow s place [] = (λ e. refl, λ e. refl)
 components_allow s place (x ∷ xs) =
-    one_component place x.generation (s.asked x.name) (first_below s (place + 1) xs) (list_any (is_below s) xs) (components_allow s (place + 1) xs)
+    one_component place x.generation (s.required x.name) (first_below s (place + 1) xs) (list_any (is_below s) xs) (components_allow s (place + 1) xs)
 
 by_parts : (d c l : Bool) (below : Option Below) (any : Bool) → AllowsBy below any → (verdict_by d c l below ≡ Allowed) ↔ (((d || c || any) ≡ false) × (l ≡ true))
 by_parts true c l below any h = (λ e. cc, λ e. cc)

@@ -14,18 +14,18 @@ use Rattle.desk_history.specs.declared.finding.Below.{Below}
 use Rattle.desk_history.specs.declared.finding.Verdict.{Verdict}
 use Rattle.desk_history.specs.declared.finding.Verdict.TheVariants.{Allowed, DbxCertificate, DbxDigest, NotListed, Sbat}
 
--- what is revoked and what is listed, of images and of certificates, and the generation that is asked under a name
+-- what is revoked and what is listed, of images and of certificates, and the generation that the level requires under a name
 pub record Standing : Type 0 where
   pub revoked : ListedKind → List ℕ → Bool
   pub listed : ListedKind → List ℕ → Bool
-  pub asked : List ℕ → Option ℕ
+  pub required : List ℕ → Option ℕ
 
 -- what calls leave standing
 abbrev pub standing : History → Standing
 standing cs = record {
   revoked = λ kind digest. is_revoked kind cs digest;
   listed = λ kind digest. is_listed kind cs digest;
-  asked = λ name. level cs name;
+  required = λ name. level cs name;
 }
 
 -- the image's digest is revoked (UEFI 2.10, 32.5.3.3). own: or the one that a signature of it would hold
@@ -36,13 +36,13 @@ has_revoked_digest s x = s.revoked kinds.Digest x.digest || s.revoked kinds.Dige
 abbrev pub has_revoked_certificate : Standing → Facts → Bool
 has_revoked_certificate s x = list_any (s.revoked kinds.Certificate) x.carried
 
--- the generation is below the one that is asked, if one is
+-- the generation is below the one that is required, if one is
 abbrev pub is_less : ℕ → Option ℕ → Bool
-is_less generation asked = option_map_or (λ needed. nat_lt generation needed) asked false
+is_less generation required = option_map_or (λ needed. nat_lt generation needed) required false
 
 -- the component's generation is below the level's (SBAT.md, "Version Check"); one that the level doesn't name isn't
 abbrev pub is_below : Standing → Component → Bool
-is_below s x = is_less x.generation (s.asked x.name)
+is_below s x = is_less x.generation (s.required x.name)
 
 -- the image is barred: its digest, a certificate or a component's generation is revoked
 abbrev pub bars : Standing → Facts → Bool
@@ -60,7 +60,7 @@ is_barred cs x = bars (standing cs) x
 abbrev pub stands_in_db : History → Facts → Bool
 stands_in_db cs x = lists_image (standing cs) x
 
--- what the component at this place lacks to the generation that is asked, if one is
+-- what the component at this place lacks to the required generation, if one is
 abbrev pub lack_at : ℕ → ℕ → Option ℕ → Option Below
 lack_at place generation None = None
 lack_at place generation (Some needed) =
@@ -70,7 +70,7 @@ lack_at place generation (Some needed) =
 abbrev pub first_below : Standing → ℕ → List Component → Option Below
 first_below s place [] = None
 first_below s place (x ∷ xs) =
-    option_or (lack_at place x.generation (s.asked x.name)) (first_below s (place + 1) xs)
+    option_or (lack_at place x.generation (s.required x.name)) (first_below s (place + 1) xs)
 
 -- own: the first that holds is the verdict
 abbrev pub verdict_by : Bool → Bool → Bool → Option Below → Verdict

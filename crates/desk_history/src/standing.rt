@@ -1,4 +1,4 @@
-//! What is revoked and listed, and the generations that are asked, wherever that is read from.
+//! What is revoked and listed, and the generations that the level requires, wherever that is read from.
 ghost use Rattle.std.specs.Prelude.{◌≡◌};
 ghost use Rattle.desk_history.specs.Verdicts.{Standing as Stands};
 
@@ -6,7 +6,7 @@ use desk_bytes::Digest;
 use desk_texts::ListedKind;
 use sbat::{ComponentName, Generation};
 
-/// What is revoked and listed, and the generations that are asked.
+/// What is revoked and listed, and the generations that the level requires.
 pub trait Standing {
     /// What it says.
     ghost standing: { Self → Stands };
@@ -19,7 +19,7 @@ pub trait Standing {
     fn is_listed(&self, kind: ListedKind, digest: Digest) -> bool
         ensures { result ≡ (standing self.now).listed kind digest };
 
-    /// The generation that is asked of the component of this name.
-    fn asked(&self, name: &ComponentName) -> Option<Generation>
-        ensures { result ≡ (standing self.now).asked name.now };
+    /// The generation that the level requires of the component of this name.
+    fn required(&self, name: &ComponentName) -> Option<Generation>
+        ensures { result ≡ (standing self.now).required name.now };
 }

@@ -72,7 +72,7 @@ fn first_below<S: Standing>(lists: &S, components: &[Component]) -> Option<Below
 {
     for place in 0..components.len() {
         let component = &components[place];
-        if let Some(below) = lack_at(place, component.generation, lists.asked(&component.name)) {
+        if let Some(below) = lack_at(place, component.generation, lists.required(&component.name)) {
             return Some(below);
         }
     }
@@ -103,7 +103,7 @@ fn has_below<S: Standing>(lists: &S, components: &[Component]) -> bool
     ensures { result ≡ list_any (spec.is_below (S.standing lists.now)) components.now }
 {
     for component in components {
-        if is_less(component.generation, lists.asked(&component.name)) {
+        if is_less(component.generation, lists.required(&component.name)) {
             return true;
         }
     }

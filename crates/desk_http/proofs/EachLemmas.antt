@@ -4,11 +4,11 @@ use Rattle.std.proofs.lemmas.List.{append-nil, take_more}
 use Rattle.std.specs.Io.KnownBytes.{Appends, Keeps}
 use Rattle.desk_history.specs.Calls.{History}
 use Rattle.desk_calls.specs.Answers.{no_memory, store_failed}
-use Rattle.desk_calls.specs.Desks.{Views}
+use Rattle.desk_calls.specs.Desks.{ForEachShown}
 use Rattle.desk_calls.specs.declared.answers.Answer.{Answer}
 use Rattle.desk_http.specs.Each.{RespondsTo, RespondsToEach, ServesEach, ServesNext, is_outage_number}
 use Rattle.desk_http.specs.Responses.{IsTold, number_of, response_of}
-use Rattle.desk_http.specs.Serving.{AnswersInput, IsServed, Responds, Tells}
+use Rattle.desk_http.specs.Serving.{AnswersInput, IsServed, Responds, AnswersDueOrOutage}
 
 -- one input more
 pub one_more : (owner : List ℕ) (cs : History) (bs : List (List ℕ)) (b text one : List ℕ) (last later : History)
@@ -34,7 +34,7 @@ not_outage a told code number same says known own =
 
 -- what is told under a number that is no outage's is due
 pub due_is_told : (shows : History → Type 0) (failed : Type 0) (cs : History) (due : Answer → History → Type 0) (told : Answer) (code number : ℕ)
-    → IsTold told code number → is_outage_number number ≡ false → Tells shows failed cs due told → IsServed shows due told
+    → IsTold told code number → is_outage_number number ≡ false → AnswersDueOrOutage shows failed cs due told → IsServed shows due told
 due_is_told shows failed cs due told code number says own (inl served) = served
 due_is_told shows failed cs due told code number says own (inr (inl x)) = absurd (not_outage no_memory told code number x.0 says refl own)
 due_is_told shows failed cs due told code number says own (inr (inr e)) = absurd (not_outage store_failed told code number e.0 says refl own)
@@ -54,7 +54,7 @@ appends_more (Some os) (Some ms) (Some ns) xs ys a b = rw (b, a) (append_assoc o
 
 -- the next input was answered
 pub next_is_served : (b : List ℕ) (before after : Option (List ℕ)) (old new : List ℕ → History → Type 0) (failed : Type 0) (code number : ℕ)
-    → Views old (λ owner cs. (told : Answer) × Responds before after told code number × Tells (new owner) failed cs (AnswersInput owner cs b) told)
+    → ForEachShown old (λ owner cs. (told : Answer) × Responds before after told code number × AnswersDueOrOutage (new owner) failed cs (AnswersInput owner cs b) told)
     → is_outage_number number ≡ false → ServesNext old new before after b
 next_is_served b before after old new failed code number told own = λ owner cs shown.
     let at = told owner cs shown in
@@ -63,7 +63,7 @@ next_is_served b before after old new failed code number told own = λ owner cs 
 
 -- it had no byte
 pub nothing_is_served : (b : List ℕ) (before after : Option (List ℕ)) (old new : List ℕ → History → Type 0)
-    → Views old (λ owner cs. (b ≡ []) × Keeps before after × new owner cs) → ServesNext old new before after b
+    → ForEachShown old (λ owner cs. (b ≡ []) × Keeps before after × new owner cs) → ServesNext old new before after b
 nothing_is_served b before after old new told = λ owner cs shown.
     let at = told owner cs shown in
     ([], cs, inl (at.0, refl, refl), appends_nothing before after at.1, at.2)

@@ -11,7 +11,7 @@ use Rattle.http_requests.specs.Wanted.{Want, wanted_of}
 use Rattle.http_requests.specs.declared.fault.WantedFault.{WantedFault}
 use Rattle.http_requests.specs.declared.fault.WantedFault.TheVariants.{NoMemory}
 use Rattle.http_responses.specs.declared.outage.Outage.TheVariants as outage
-use Rattle.desk_calls.specs.Desks.{Views}
+use Rattle.desk_calls.specs.Desks.{ForEachShown}
 use Rattle.desk_texts.specs.declared.command.Person.{Person}
 use Rattle.desk_http.specs.Asked.{Asks, Due, HasRequest, caller_of, due_of, of_body, of_caller, of_head}
 use Rattle.desk_http.specs.Refused.{refused_by_head}
@@ -63,8 +63,8 @@ asks_the_same cs b h rest more due has (inr x) = absurd (x.1 h rest has.head)
 
 -- the head wants this
 pub wanted_is_due : (w : Result Want WantedFault) (v : Want) (r : Result Due Unread) (known : Option (List ℕ)) (shows : List ℕ → History → Type 0)
-    → w ≡ Ok v → IfOk r (λ due. IfSome known (λ rest. Views shows (λ _ cs. due ≡ of_caller v rest (caller_of cs v.token))))
-    → IfOk r (λ due. IfSome known (λ rest. Views shows (λ _ cs. due ≡ of_head cs rest w)))
+    → w ≡ Ok v → IfOk r (λ due. IfSome known (λ rest. ForEachShown shows (λ _ cs. due ≡ of_caller v rest (caller_of cs v.token))))
+    → IfOk r (λ due. IfSome known (λ rest. ForEachShown shows (λ _ cs. due ≡ of_head cs rest w)))
 wanted_is_due w v r known shows e found = rw e found
 
 -- the head has a fault
@@ -72,7 +72,7 @@ pub refused_is_due : (w : Result Want WantedFault) (f : WantedFault) (r : Result
     → (f ≢ NoMemory → w ≡ Err f)
     → MatchResult r (λ due. (f ≢ NoMemory) × (due ≡ Err (refused_by_head f)))
     (λ unread. (f ≡ NoMemory) × (unread ≡ Outage outage.NoMemory))
-    → IfOk r (λ due. IfSome known (λ rest. Views shows (λ _ cs. due ≡ of_head cs rest w)))
+    → IfOk r (λ due. IfSome known (λ rest. ForEachShown shows (λ _ cs. due ≡ of_head cs rest w)))
 refused_is_due w f (Err u) known shows given found = tt
 refused_is_due w f (Ok due) None shows given found = tt
 refused_is_due w f (Ok due) (Some rest) shows given found = λ owner cs shown. rw (given found.0) found.1
@@ -81,11 +81,11 @@ refused_is_due w f (Ok due) (Some rest) shows given found = λ owner cs shown. r
 pub head_is_asked : (old mid : Option (List ℕ)) (taken : Vec ℕ Global) (due : Due) (shows : List ℕ → History → Type 0)
     → FindsOf old mid (Head taken)
     → ((h : RequestHead) (q : List ℕ) → ReadsRequest taken.items h q → HasFewFields h
-    → IfSome mid (λ rest. Views shows (λ _ cs. due ≡ due_of cs h rest)))
-    → IfSome old (λ b. Views shows (λ _ cs. Asks cs b due))
+    → IfSome mid (λ rest. ForEachShown shows (λ _ cs. due ≡ due_of cs h rest)))
+    → IfSome old (λ b. ForEachShown shows (λ _ cs. Asks cs b due))
 head_is_asked None mid taken due shows found asked = tt
 head_is_asked (Some b) mid taken due shows found asked =
     let reads : ReadsRequest taken.items found.0 [] = rw found.3 (head_reads_itself b found.0 found.1 found.2) in
-    let given : IfSome (Some found.1) (λ rest. Views shows (λ _ cs. due ≡ due_of cs found.0 rest)) =
+    let given : IfSome (Some found.1) (λ rest. ForEachShown shows (λ _ cs. due ≡ due_of cs found.0 rest)) =
     rw found.4 at (asked found.0 [] reads found.2.few) in
     λ owner cs shown. inl (found.0, found.1, found.2, given owner cs shown)

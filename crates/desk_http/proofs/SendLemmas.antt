@@ -4,11 +4,11 @@ use Rattle.std.specs.Io.KnownBytes.{Appends}
 use Rattle.desk_bytes.specs.Output.{AppendsBeginning}
 use Rattle.desk_history.specs.Calls.{History}
 use Rattle.desk_calls.specs.Answers.{Serves}
-use Rattle.desk_calls.specs.Desks.{Views}
+use Rattle.desk_calls.specs.Desks.{ForEachShown}
 use Rattle.desk_calls.specs.declared.answers.Answer.{Answer}
 use Rattle.desk_http.specs.Responses.{response_of}
 use Rattle.desk_http.specs.Sending.{IsToldBy, Replaces, Sends}
-use Rattle.desk_http.specs.Serving.{AnswersInput, Responds, Tells, WhenAnswered, WhenUnwritten}
+use Rattle.desk_http.specs.Serving.{AnswersInput, Responds, AnswersDueOrOutage, WhenAnswered, WhenUnwritten}
 use Rattle.desk_http.specs.declared.served.HttpFault.{HttpFault}
 use Rattle.desk_http.specs.declared.served.HttpFault.TheVariants.{Read, Write, NoMemory}
 use Rattle.desk_http.specs.declared.served.Served.{Served}
@@ -36,12 +36,12 @@ SendsFor before after a r = (told : Answer) × Replaces a told × Sends before a
 -- the desk answers the known input so
 abbrev pub ServesKnown : Option (List ℕ) → (old new : List ℕ → History → Type 0) → (failed : Type 0) → Answer → Type 0
 ServesKnown known old new failed a =
-    IfSome known (λ b. Views old (λ owner cs. Serves (new owner) failed cs (AnswersInput owner cs b) a))
+    IfSome known (λ b. ForEachShown old (λ owner cs. Serves (new owner) failed cs (AnswersInput owner cs b) a))
 
 pub answered_is_told : (known before after : Option (List ℕ)) (old new : List ℕ → History → Type 0) (failed : Type 0) (a : Answer) (r : Result Served HttpFault)
     → ServesKnown known old new failed a → SendsFor before after a r
-    → WhenAnswered r (λ code number. IfSome known (λ b. Views old (λ owner cs. (told : Answer)
-    × Responds before after told code number × Tells (new owner) failed cs (AnswersInput owner cs b) told)))
+    → WhenAnswered r (λ code number. IfSome known (λ b. ForEachShown old (λ owner cs. (told : Answer)
+    × Responds before after told code number × AnswersDueOrOutage (new owner) failed cs (AnswersInput owner cs b) told)))
 answered_is_told known before after old new failed a (Err fault) served sent = tt
 answered_is_told known before after old new failed a (Ok Nothing) served sent = tt
 answered_is_told None before after old new failed a (Ok (Answered code number)) served sent = tt
@@ -50,8 +50,8 @@ answered_is_told (Some b) before after old new failed a (Ok (Answered code numbe
 
 pub unwritten_is_told : (known before after : Option (List ℕ)) (old new : List ℕ → History → Type 0) (failed : Type 0) (a : Answer) (r : Result Served HttpFault)
     → ServesKnown known old new failed a → SendsFor before after a r
-    → WhenUnwritten r (IfSome known (λ b. Views old (λ owner cs. (told : Answer)
-    × AppendsBeginning before after (response_of told) × Tells (new owner) failed cs (AnswersInput owner cs b) told)))
+    → WhenUnwritten r (IfSome known (λ b. ForEachShown old (λ owner cs. (told : Answer)
+    × AppendsBeginning before after (response_of told) × AnswersDueOrOutage (new owner) failed cs (AnswersInput owner cs b) told)))
 unwritten_is_told known before after old new failed a (Ok s) served sent = tt
 unwritten_is_told known before after old new failed a (Err Read) served sent = tt
 unwritten_is_told known before after old new failed a (Err NoMemory) served sent = tt

@@ -10,7 +10,7 @@ use Rattle.http_requests.specs.declared.heads.begun.Begun.TheVariants.{Head, NoH
 use Rattle.http_requests.proofs.HeadLemmas.{no_request_in_nothing}
 use Rattle.http_requests.specs.Wanted.{Want, wanted_of}
 use Rattle.http_requests.specs.declared.fault.WantedFault.{WantedFault}
-use Rattle.desk_calls.specs.Desks.{Views}
+use Rattle.desk_calls.specs.Desks.{ForEachShown}
 use Rattle.desk_http.specs.Asked.{HasByte, IsOfNobody, LeavesBody, caller_of}
 use Rattle.desk_http.specs.Serving.{IsOfBytes, LeavesStrangers}
 use Rattle.desk_http.specs.Unread.{IsOfInput, WhenAsked}
@@ -30,7 +30,7 @@ nobody_wants cs h v is nobody =
 -- a head was read, and nothing behind it
 pub leaves_head : (old mid new : Option (List ℕ)) (taken : Vec ℕ Global) (shows : List ℕ → History → Type 0)
     → FindsOf old mid (Head taken)
-    → ((h : RequestHead) (q : List ℕ) → ReadsRequest taken.items h q → HasFewFields h → Views shows (λ _ cs. IsOfNobody cs h → new ≡ mid))
+    → ((h : RequestHead) (q : List ℕ) → ReadsRequest taken.items h q → HasFewFields h → ForEachShown shows (λ _ cs. IsOfNobody cs h → new ≡ mid))
     → LeavesBody shows old new
 leaves_head None mid new taken shows found stays = tt
 leaves_head (Some b) mid new taken shows found stays = λ owner cs shown h rest has nobody.

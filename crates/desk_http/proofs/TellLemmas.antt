@@ -4,12 +4,12 @@ use Rattle.desk_history.specs.Calls.{History}
 use Rattle.http_responses.specs.declared.outage.Outage.TheVariants as outage
 use Rattle.http_responses.specs.declared.refused.Refused.TheVariants as refused
 use Rattle.desk_calls.specs.Answers.{Serves, no_memory, store_failed}
-use Rattle.desk_calls.specs.Desks.{Keeps, Views}
+use Rattle.desk_calls.specs.Desks.{StillShows, ForEachShown}
 use Rattle.desk_calls.specs.declared.answers.Answer.{Answer}
 use Rattle.desk_calls.specs.declared.answers.Answer.TheVariants as answer
 use Rattle.desk_http.specs.Asked.{Asks, Due}
 use Rattle.desk_http.specs.Sending.{Replaces, is_outage}
-use Rattle.desk_http.specs.Serving.{AnswersDue, AnswersInput, IsServed, Tells}
+use Rattle.desk_http.specs.Serving.{AnswersDue, AnswersInput, IsServed, AnswersDueOrOutage}
 
 -- what answers what is asked for answers the input
 pub serves_input : (shows : History → Type 0) (failed : Type 0) (owner : List ℕ) (cs : History) (b : List ℕ) (due : Due) (a : Answer)
@@ -19,16 +19,16 @@ serves_input shows failed owner cs b due a asked (inr others) = inr others
 
 -- the desk keeps what it shows while the request is read, and then answers it
 pub input_is_served : (known : Option (List ℕ)) (old mid new : List ℕ → History → Type 0) (failed : Type 0) (due : Due) (a : Answer)
-    → IfSome known (λ b. Views old (λ _ cs. Asks cs b due)) → Keeps old mid
-    → Views mid (λ owner cs. Serves (new owner) failed cs (AnswersDue owner cs due) a)
-    → IfSome known (λ b. Views old (λ owner cs. Serves (new owner) failed cs (AnswersInput owner cs b) a))
+    → IfSome known (λ b. ForEachShown old (λ _ cs. Asks cs b due)) → StillShows old mid
+    → ForEachShown mid (λ owner cs. Serves (new owner) failed cs (AnswersDue owner cs due) a)
+    → IfSome known (λ b. ForEachShown old (λ owner cs. Serves (new owner) failed cs (AnswersInput owner cs b) a))
 input_is_served None old mid new failed due a asked kept served = tt
 input_is_served (Some b) old mid new failed due a asked kept served =
     λ owner cs shown. serves_input (new owner) failed owner cs b due a (asked owner cs shown) (served owner cs (kept owner cs shown))
 
 -- an answer is told as it is
 same_told : (shows : History → Type 0) (failed : Type 0) (cs : History) (due : Answer → History → Type 0) (a : Answer)
-    → Serves shows failed cs due a → Tells shows failed cs due a
+    → Serves shows failed cs due a → AnswersDueOrOutage shows failed cs due a
 same_told shows failed cs due a (inl s) = inl (record { later = s.0; answered = s.1; shown = s.2 })
 same_told shows failed cs due a (inr (inl x)) = inr (inl (x.0, inl x.1))
 same_told shows failed cs due a (inr (inr e)) = inr (inr e)
@@ -44,7 +44,7 @@ untold shows failed cs due a (inr (inl x)) own = inl x.1
 untold shows failed cs due a (inr (inr e)) own = absurd (store_is_outage a e.0 own)
 
 pub told_is_served : (shows : History → Type 0) (failed : Type 0) (cs : History) (due : Answer → History → Type 0) (a told : Answer)
-    → Serves shows failed cs due a → Replaces a told → Tells shows failed cs due told
+    → Serves shows failed cs due a → Replaces a told → AnswersDueOrOutage shows failed cs due told
 told_is_served shows failed cs due a told served (inl e) =
-    let P : Answer → Type 0 = λ x. Tells shows failed cs due x in subst P (sym e) (same_told shows failed cs due a served)
+    let P : Answer → Type 0 = λ x. AnswersDueOrOutage shows failed cs due x in subst P (sym e) (same_told shows failed cs due a served)
 told_is_served shows failed cs due a told served (inr x) = inr (inl (x.0, untold shows failed cs due a served x.1))

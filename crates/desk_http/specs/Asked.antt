@@ -15,7 +15,7 @@ use Rattle.http_responses.specs.declared.refused.Refused.{Refused}
 use Rattle.http_responses.specs.declared.refused.Refused.TheVariants as refused
 use Rattle.desk_calls.specs.declared.call.Call.{Call}
 use Rattle.desk_calls.specs.declared.call.Task.{Task}
-use Rattle.desk_calls.specs.Desks.{Views, person_with}
+use Rattle.desk_calls.specs.Desks.{ForEachShown, person_with}
 use Rattle.desk_http.specs.Bodies.{body_in}
 use Rattle.desk_http.specs.Tasks.{task_of}
 use Rattle.desk_http.specs.Refused.{refused_by_head, refused_by_fields}
@@ -65,7 +65,7 @@ IsOfNobody cs h = IfOk (wanted_of (parts_of h)) (λ w. caller_of cs w.token ≡ 
 
 -- of an input whose head is nobody's, what follows the head is left
 abbrev pub LeavesBody : (shows : List ℕ → History → Type 0) → (input left : Option (List ℕ)) → Type 0
-LeavesBody shows input left = IfSome input (λ b. Views shows (λ _ cs. (h : RequestHead) (rest : List ℕ)
+LeavesBody shows input left = IfSome input (λ b. ForEachShown shows (λ _ cs. (h : RequestHead) (rest : List ℕ)
     → HasHead b h rest → IsOfNobody cs h → left ≡ Some rest))
 
 -- of the input at least a byte is known

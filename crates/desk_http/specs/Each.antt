@@ -4,7 +4,7 @@ use Rattle.std.specs.Io.KnownBytes.{Appends}
 use Rattle.desk_bytes.specs.Refusals.{number_of}
 use Rattle.desk_bytes.specs.declared.refusal.Refusal.TheVariants as refusal
 use Rattle.desk_history.specs.Calls.{History}
-use Rattle.desk_calls.specs.Desks.{Views}
+use Rattle.desk_calls.specs.Desks.{ForEachShown}
 use Rattle.desk_calls.specs.declared.answers.Answer.{Answer}
 use Rattle.desk_http.specs.Responses.{response_of}
 use Rattle.desk_http.specs.Serving.{AnswersInput}
@@ -28,12 +28,12 @@ is_outage_number n = (n == number_of refusal.NoMemory) || (n == number_of refusa
 
 -- the desk answered inputs one after another, and their responses went out
 abbrev pub ServesEach : (old new : List ℕ → History → Type 0) → (before after : Option (List ℕ)) → List (List ℕ) → Type 0
-ServesEach old new before after inputs = Views old (λ owner cs.
+ServesEach old new before after inputs = ForEachShown old (λ owner cs.
     (text : List ℕ) × (last : History)
     × RespondsToEach owner cs inputs text last × Appends before after text × new owner last)
 
 -- the same of one input
 abbrev pub ServesNext : (old new : List ℕ → History → Type 0) → (before after : Option (List ℕ)) → List ℕ → Type 0
-ServesNext old new before after b = Views old (λ owner cs.
+ServesNext old new before after b = ForEachShown old (λ owner cs.
     (text : List ℕ) × (later : History)
     × RespondsTo owner cs b text later × Appends before after text × new owner later)

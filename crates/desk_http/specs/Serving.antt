@@ -8,8 +8,8 @@ use Rattle.http_responses.specs.declared.refused.Refused.{Refused as Refusal}
 use Rattle.http_requests.specs.heads.Watches.{HasFailed}
 use Rattle.http_requests.specs.declared.heads.watch.Watch.{Watch}
 use Rattle.desk_history.specs.Calls.{History}
-use Rattle.desk_calls.specs.Answers.{Answers, IsClosed, no_memory, store_failed}
-use Rattle.desk_calls.specs.Desks.{Keeps as Stays, Views}
+use Rattle.desk_calls.specs.Answers.{AnswersCall, IsClosed, no_memory, store_failed}
+use Rattle.desk_calls.specs.Desks.{Keeps as Stays, ForEachShown}
 use Rattle.desk_calls.specs.declared.answers.Answer.{Answer}
 use Rattle.desk_calls.specs.declared.answers.Answer.TheVariants.{Refused}
 use Rattle.desk_http.specs.Asked.{Asks, Due, HasByte, LeavesBody}
@@ -22,7 +22,7 @@ use Rattle.desk_http.specs.declared.served.Served.TheVariants.{Answered, Nothing
 -- The desk that shows the history answers so what is asked for, and shows `later` then. A refusal of the request
 -- is told, and changes nothing.
 abbrev pub AnswersDue : List ℕ → History → Due → Answer → History → Type 0
-AnswersDue owner cs (Ok call) = Answers owner cs call
+AnswersDue owner cs (Ok call) = AnswersCall owner cs call
 AnswersDue owner cs (Err refused) = λ a later. (a ≡ Refused refused) × (later ≡ cs)
 
 -- the desk that shows the history answers the input b so, and shows `later` then
@@ -39,8 +39,8 @@ pub record IsServed (shows : History → Type 0) (due : Answer → History → T
 
 -- What is told is an answer that is due, or the want of memory, also for an answer whose text found none,
 -- or that the store failed. The desk shows the history after the answer, or the one before, or it has failed.
-abbrev pub Tells : (History → Type 0) → Type 0 → History → (Answer → History → Type 0) → Answer → Type 0
-Tells shows failed cs due told =
+abbrev pub AnswersDueOrOutage : (History → Type 0) → Type 0 → History → (Answer → History → Type 0) → Answer → Type 0
+AnswersDueOrOutage shows failed cs due told =
     IsServed shows due told
     ⊎ (((told ≡ no_memory) × (shows cs ⊎ ((a : Answer) × IsServed shows due a)))
     ⊎ ((told ≡ store_failed) × failed))
@@ -89,14 +89,14 @@ HasCause watch fault.NoMemory = ⊤
 -- history after that answer
 abbrev pub IsAnswered : (old new : List ℕ → History → Type 0) → (failed : Type 0) → (input before after : Option (List ℕ)) → Result Served HttpFault → Type 0
 IsAnswered old new failed input before after result = WhenAnswered result (λ code number.
-    IfSome input (λ b. Views old (λ owner cs. (told : Answer)
+    IfSome input (λ b. ForEachShown old (λ owner cs. (told : Answer)
     × Responds before after told code number
-    × Tells (new owner) failed cs (AnswersInput owner cs b) told)))
+    × AnswersDueOrOutage (new owner) failed cs (AnswersInput owner cs b) told)))
 
 -- an input without a byte is passed over: nothing is written, and the desk shows what it showed
 abbrev pub IsPassedOver : (old new : List ℕ → History → Type 0) → (input before after : Option (List ℕ)) → Result Served HttpFault → Type 0
 IsPassedOver old new input before after result = WhenNothing result
-    (IfSome input (λ b. Views old (λ owner cs. (b ≡ []) × Keeps before after × new owner cs)))
+    (IfSome input (λ b. ForEachShown old (λ owner cs. (b ≡ []) × Keeps before after × new owner cs)))
 
 -- where the request wasn't read, nothing is written, and the desk shows what it showed
 abbrev pub IsUnread : (old new : List ℕ → History → Type 0) → (before after : Option (List ℕ)) → Result Served HttpFault → Type 0
@@ -106,9 +106,9 @@ IsUnread old new before after result = WhenUnread result (Keeps before after × 
 -- that answer
 abbrev pub IsUnwritten : (old new : List ℕ → History → Type 0) → (failed : Type 0) → (input before after : Option (List ℕ)) → Result Served HttpFault → Type 0
 IsUnwritten old new failed input before after result = WhenUnwritten result
-    (IfSome input (λ b. Views old (λ owner cs. (told : Answer)
+    (IfSome input (λ b. ForEachShown old (λ owner cs. (told : Answer)
     × AppendsBeginning before after (response_of told)
-    × Tells (new owner) failed cs (AnswersInput owner cs b) told)))
+    × AnswersDueOrOutage (new owner) failed cs (AnswersInput owner cs b) told)))
 
 -- whatever the desk shows: what went out is the whole response to an answer, with its status and number
 abbrev pub HasResponded : (before after : Option (List ℕ)) → Result Served HttpFault → Type 0

@@ -7,7 +7,7 @@ ghost use Rattle.http_requests.specs.heads.Heads.{HasFewFields};
 ghost use Rattle.http_requests.specs.declared.heads.watch.Watch.{Watch as Watching};
 ghost use Rattle.http_requests.specs.Fields.{bytes_of};
 ghost use Rattle.http_requests.specs.Wanted as wants;
-ghost use Rattle.desk_calls.specs.Desks.{Keeps, Views};
+ghost use Rattle.desk_calls.specs.Desks.{StillShows, ForEachShown};
 ghost use Rattle.desk_history.specs.Calls.{History};
 ghost use Rattle.desk_http.specs.Asked as spec;
 ghost use Rattle.desk_http.specs.Refused.{refused_by_head};
@@ -44,12 +44,12 @@ fn refuse(fault: WantedFault) -> Result<Due, Unread>
 
 /// The person whose token the field gives, if it gives one.
 fn person_of<D: Answering>(desk: &mut D, token: Option<&[u8]>) -> Result<Option<Person>, Unread>
-    ensures asked { D.clean desk.new → IfOk result (λ person. Views (D.shows desk.old)
+    ensures asked { D.clean desk.new → IfOk result (λ person. ForEachShown (D.shows desk.old)
         (λ _ cs. person ≡ spec.caller_of cs (bytes_of token.entry))) }
     ensures same { D.clean desk.new → result ≢ Err (Unread.Outage Outage.Store)
-        → Keeps (D.shows desk.old) (D.shows desk.new) }
+        → StillShows (D.shows desk.old) (D.shows desk.new) }
     ensures before { D.clean desk.new → D.clean desk.old }
-    ensures named { Views (D.shows desk.old) (λ _ _. IfErr result CanCome) }
+    ensures named { ForEachShown (D.shows desk.old) (λ _ _. IfErr result CanCome) }
     ensures poisons { result ≡ Err (Unread.Outage Outage.Store) → D.failed desk.new }
     ensures closed { D.failed desk.old → (desk.new ≡ desk.old) × MatchResult result
         (λ person. (person ≡ None) × (bytes_of token.entry ≡ None))
@@ -74,18 +74,18 @@ fn ask_as<D: Answering, R: Read>(
     watch: &mut Watch,
 ) -> Result<Due, Unread>
     ensures asked { D.clean desk.new → IfOk result (λ due. IfSome (R.remaining reader.old) (λ rest.
-        Views (D.shows desk.old) (λ _ cs. due ≡ spec.of_caller (wants.shown wanted.now) rest
+        ForEachShown (D.shows desk.old) (λ _ cs. due ≡ spec.of_caller (wants.shown wanted.now) rest
         (spec.caller_of cs (wants.shown wanted.now).token)))) }
     ensures same { D.clean desk.new → result ≢ Err (Unread.Outage Outage.Store)
-        → Keeps (D.shows desk.old) (D.shows desk.new) }
+        → StillShows (D.shows desk.old) (D.shows desk.new) }
     ensures before { D.clean desk.new → D.clean desk.old }
-    ensures named { Views (D.shows desk.old) (λ _ _. IfErr result CanCome) }
+    ensures named { ForEachShown (D.shows desk.old) (λ _ _. IfErr result CanCome) }
     ensures poisons { result ≡ Err (Unread.Outage Outage.Store) → D.failed desk.new }
     ensures no_store { result ≢ Ok (Err (Refused.Unavailable Outage.Store)) }
     ensures closed { D.failed desk.old → (desk.new ≡ desk.old) × MatchResult result
         (λ due. (due ≡ Err Refused.UnknownCaller) × ((wants.shown wanted.now).token ≡ None))
         (λ unread. unread ≡ Unread.Outage Outage.Reopen) }
-    ensures stranger { D.clean desk.new → Views (D.shows desk.old) (λ _ cs.
+    ensures stranger { D.clean desk.new → ForEachShown (D.shows desk.old) (λ _ cs.
         spec.caller_of cs (wants.shown wanted.now).token ≡ None
         → R.remaining reader.new ≡ R.remaining reader.old) }
     ensures device { IfErr result (HasCause watch.new) }
@@ -107,11 +107,11 @@ fn ask_by_head<D: Answering, R: Read>(
 ) -> Result<Due, Unread>
     ensures asked { (h : RequestHead) (q : List ℕ) → ReadsRequest head.now h q → HasFewFields h
         → D.clean desk.new → IfOk result (λ due. IfSome (R.remaining reader.old) (λ rest.
-        Views (D.shows desk.old) (λ _ cs. due ≡ spec.due_of cs h rest))) }
+        ForEachShown (D.shows desk.old) (λ _ cs. due ≡ spec.due_of cs h rest))) }
     ensures same { D.clean desk.new → result ≢ Err (Unread.Outage Outage.Store)
-        → Keeps (D.shows desk.old) (D.shows desk.new) }
+        → StillShows (D.shows desk.old) (D.shows desk.new) }
     ensures before { D.clean desk.new → D.clean desk.old }
-    ensures named { Views (D.shows desk.old) (λ _ _. IfErr result CanCome) }
+    ensures named { ForEachShown (D.shows desk.old) (λ _ _. IfErr result CanCome) }
     ensures poisons { result ≡ Err (Unread.Outage Outage.Store) → D.failed desk.new }
     ensures no_store { result ≢ Ok (Err (Refused.Unavailable Outage.Store)) }
     ensures closed { D.failed desk.old → (desk.new ≡ desk.old) × MatchResult result
@@ -119,7 +119,7 @@ fn ask_by_head<D: Answering, R: Read>(
         → (cs : History) (rest : List ℕ) → due ≡ spec.due_of cs h rest))
         (λ unread. (unread ≡ Unread.Outage Outage.Reopen) ⊎ (unread ≡ Unread.Outage Outage.NoMemory)) }
     ensures stranger { (h : RequestHead) (q : List ℕ) → ReadsRequest head.now h q → HasFewFields h
-        → D.clean desk.new → Views (D.shows desk.old) (λ _ cs. spec.IsOfNobody cs h
+        → D.clean desk.new → ForEachShown (D.shows desk.old) (λ _ cs. spec.IsOfNobody cs h
         → R.remaining reader.new ≡ R.remaining reader.old) }
     ensures device { IfErr result (HasCause watch.new) }
 {
@@ -137,11 +137,11 @@ pub(crate) fn read_due<D: Answering, R: Read>(
     watch: &mut Watch,
 ) -> Result<Option<Due>, Unread>
     ensures asked { D.clean desk.new → IfOk result (λ found. IfSome (R.remaining reader.old) (λ b.
-        Views (D.shows desk.old) (λ _ cs. MatchOption found (b ≡ []) (spec.Asks cs b)))) }
+        ForEachShown (D.shows desk.old) (λ _ cs. MatchOption found (b ≡ []) (spec.Asks cs b)))) }
     ensures same { D.clean desk.new → result ≢ Err (Unread.Outage Outage.Store)
-        → Keeps (D.shows desk.old) (D.shows desk.new) }
+        → StillShows (D.shows desk.old) (D.shows desk.new) }
     ensures before { D.clean desk.new → D.clean desk.old }
-    ensures named { Views (D.shows desk.old) (λ _ _. IfErr result CanCome) }
+    ensures named { ForEachShown (D.shows desk.old) (λ _ _. IfErr result CanCome) }
     ensures poisons { result ≡ Err (Unread.Outage Outage.Store) → D.failed desk.new }
     ensures no_store { result ≢ Ok (Some (Err (Refused.Unavailable Outage.Store))) }
     ensures closed { D.failed desk.old → (desk.new ≡ desk.old)

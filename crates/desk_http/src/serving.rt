@@ -2,7 +2,7 @@
 ghost use Rattle.std.specs.Prelude.{◌≡◌, ◌≢◌, [], ℕ, List, Err, Ok, Some};
 ghost use Rattle.std.specs.Prelude.{IfErr, IfOk, IfSome, MatchOption, OnErr};
 ghost use Rattle.desk_calls.specs.Answers.{Serves, store_failed};
-ghost use Rattle.desk_calls.specs.Desks.{Keeps, Views};
+ghost use Rattle.desk_calls.specs.Desks.{StillShows, ForEachShown};
 ghost use Rattle.desk_calls.specs.declared.answers.Answer.{Answer};
 ghost use Rattle.desk_http.specs.Asked.{HasByte, LeavesBody};
 ghost use Rattle.desk_http.specs.Serving as spec;
@@ -19,7 +19,7 @@ use std::io::{Read, Write};
 
 /// The answer to what is asked for.
 fn answer_due<D: Answering>(alloc: Global, desk: &mut D, due: Due) -> Answer
-    ensures served { D.clean desk.new → Views (D.shows desk.old) (λ owner cs.
+    ensures served { D.clean desk.new → ForEachShown (D.shows desk.old) (λ owner cs.
         Serves (D.shows desk.new owner) (D.failed desk.new) cs (spec.AnswersDue owner cs due) result) }
     ensures before { D.clean desk.new → D.clean desk.old }
     ensures poisons { due ≢ Err (Refused.Unavailable Outage.Store) → result ≡ store_failed
@@ -40,10 +40,10 @@ fn answer_input<D: Answering, R: Read>(
     watch: &mut Watch,
 ) -> Result<Option<Answer>, HttpFault>
     ensures answered { D.clean desk.new → IfOk result (λ found.
-        IfSome (R.remaining reader.old) (λ b. Views (D.shows desk.old) (λ owner cs.
+        IfSome (R.remaining reader.old) (λ b. ForEachShown (D.shows desk.old) (λ owner cs.
         MatchOption found ((b ≡ []) × D.shows desk.new owner cs)
         (Serves (D.shows desk.new owner) (D.failed desk.new) cs (spec.AnswersInput owner cs b))))) }
-    ensures unread { D.clean desk.new → OnErr result (Keeps (D.shows desk.old) (D.shows desk.new)) }
+    ensures unread { D.clean desk.new → OnErr result (StillShows (D.shows desk.old) (D.shows desk.new)) }
     ensures fault { IfErr result (λ fault. fault ≢ HttpFault.Write) }
     ensures before { D.clean desk.new → D.clean desk.old }
     ensures poisons { result ≡ Ok (Some store_failed) → D.failed desk.new }

@@ -22,7 +22,7 @@ use Rattle.desk_history.specs.declared.answer.Answer.TheVariants.{Accepted, Refu
 use Rattle.desk_rules.specs.declared.view.Changes.{Changes}
 use Rattle.desk_rules.specs.declared.view.View.{View}
 use Rattle.desk_rules.specs.DecisionSteps.{AppendsCallRow, IsCommandStep, RefusesOwn, Repeats}
-use Rattle.desk_rules.specs.Decisions.{Answers, RefusesCall, called}
+use Rattle.desk_rules.specs.Decisions.{Decides, RefusesCall, called}
 use Rattle.desk_rules.specs.Shown.{Shows}
 use Rattle.desk_history.specs.Limits.{is_within}
 use Rattle.desk_history.specs.Refusals.{is_known, is_one_of, is_theirs, may_give, own_refusal, refusal, refuse_if}
@@ -73,7 +73,7 @@ module _ (v : View) (owner : List ℕ) (cs : History) (caller : Caller) (key : L
 
     -- a key that was given before
     pub repeats : (m : Minute) → find (has_key (caller_name caller) key) v.calls.items ≡ Some m → (result : Result Changes Refusal) → Repeats result m (text_of command) →
-        MatchResult result (λ changes. Answers changes owner cs (called caller key command)) (λ r. RefusesCall r cs (called caller key command))
+        MatchResult result (λ changes. Decides changes owner cs (called caller key command)) (λ r. RefusesCall r cs (called caller key command))
     repeats m found (Ok changes) told = record {
       told = inr (by_key (Some m) found ∙ told.0, told.1);
       made = ap (λ ws. all_written ws (tables owner cs)) told.1 ∙ sym (next_by (Repeated changes.reply) (by_key (Some m) found ∙ told.0));
@@ -107,9 +107,9 @@ module _ (v : View) (owner : List ℕ) (cs : History) (caller : Caller) (key : L
         refused r (inr e) = inr e
 
         pub refuses_own : (r : Refusal) → RefusesOwn r cs (called caller key command) → (result : Result Changes Refusal) → result ≡ Err r →
-            MatchResult result (λ changes. Answers changes owner cs (called caller key command)) (λ r. RefusesCall r cs (called caller key command))
+            MatchResult result (λ changes. Decides changes owner cs (called caller key command)) (λ r. RefusesCall r cs (called caller key command))
         refuses_own r own result is =
-            subst (λ out. MatchResult out (λ changes. Answers changes owner cs (called caller key command)) (λ r. RefusesCall r cs (called caller key command))) (sym is) (refused r own)
+            subst (λ out. MatchResult out (λ changes. Decides changes owner cs (called caller key command)) (λ r. RefusesCall r cs (called caller key command))) (sym is) (refused r own)
 
         module _ (legal : is_legal cs ≡ true) (own : Changes) (makes : IsCommandStep own owner cs (called caller key command)) where
           room : has_room v.sizes own.writes.items ≡ is_within (item (called caller key command) ∷ cs)
@@ -135,7 +135,7 @@ module _ (v : View) (owner : List ℕ) (cs : History) (caller : Caller) (key : L
           -- a command with room for what it writes
           pub joins : (text : List ℕ) → text ≡ text_of command → (result : Result Changes Refusal) →
               AppendsCallRow result v own (record { number = v.sizes.calls + 1; caller = caller; key = key; text = text; reply = own.reply }) →
-              MatchResult result (λ changes. Answers changes owner cs (called caller key command)) (λ r. RefusesCall r cs (called caller key command))
+              MatchResult result (λ changes. Decides changes owner cs (called caller key command)) (λ r. RefusesCall r cs (called caller key command))
           joins text is (Ok changes) told =
               let said : answer cs (called caller key command) ≡ Accepted (reply cs (called caller key command)) = by_room true told.0 in
               record {

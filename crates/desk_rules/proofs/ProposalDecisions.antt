@@ -27,7 +27,7 @@ use Rattle.desk_history.proofs.ProposalRowLemmas.{drop_rows, refused_by, refused
 use Rattle.desk_history.proofs.RunLemmas.{legal_proposals}
 use Rattle.desk_rules.specs.declared.decisions.imports.SoFar.{SoFar}
 use Rattle.desk_rules.specs.declared.view.Changes.{Changes}
-use Rattle.desk_rules.specs.declared.view.Counted.TheVariants as counted
+use Rattle.desk_rules.specs.declared.view.LimitedTable.TheVariants as counted
 use Rattle.desk_rules.specs.declared.view.View.{View}
 use Rattle.desk_rules.specs.DecisionSteps.{Decided, DecidesOwn, IsCommandStep, MatchesOwn, RefusesOwn, drop_refusal_in, force_refusal_in, open_row}
 use Rattle.desk_rules.specs.Decisions.{called}

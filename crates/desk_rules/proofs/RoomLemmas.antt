@@ -23,10 +23,10 @@ use Rattle.desk_history.specs.Revocations.{revocations}
 use Rattle.desk_history.specs.Tables.{Tables, level_row, proposal_row, request_row, tables}
 use Rattle.desk_history.specs.Writes.{all_written, set_generation, set_proposal_state, set_state, with_revoked, written}
 use Rattle.desk_history.specs.Limits.{is_within, most_calls, most_level_components, most_listed, most_people, most_proposals, most_requests, most_revoked_certificates, most_revoked_digests}
-use Rattle.desk_rules.specs.declared.view.Counted.TheVariants as kept
+use Rattle.desk_rules.specs.declared.view.LimitedTable.TheVariants as kept
 use Rattle.desk_rules.specs.declared.view.Sizes.{Sizes}
 use Rattle.desk_rules.specs.Shown.{may_put, rows_in, size_in}
-use Rattle.desk_rules.specs.declared.view.Counted.{Counted}
+use Rattle.desk_rules.specs.declared.view.LimitedTable.{LimitedTable}
 use Rattle.desk_rules.specs.Room.{IsRoomed, fits, has_room, puts, takes_off}
 use Rattle.desk_history.specs.Runs.{is_legal}
 use Rattle.desk_history.proofs.CountLemmas.{one_if}
@@ -183,7 +183,7 @@ components_same cs old (command.Confirm _) h = no_more h
 components_same cs old _ h = omega arith
 
 module _ (s : Sizes) (owner : List ℕ) (cs : History) (c : Call) (ws : List Write) (calls : s.calls ≡ length (minutes cs))
-    (sizes : (table : Counted) → IsTrue (may_put c.command table) → size_in s table ≡ rows_in (tables owner cs) table) (legal : is_legal cs ≡ true)
+    (sizes : (table : LimitedTable) → IsTrue (may_put c.command table) → size_in s table ≡ rows_in (tables owner cs) table) (legal : is_legal cs ≡ true)
     (made : all_written ws (tables owner cs) ≡ record (tables owner (item c ∷ cs)) { calls = minutes cs }) where
   within : Within cs
   within = legal_parts cs legal

@@ -23,7 +23,7 @@ use Rattle.desk_history.proofs.ListingLemmas.{listed_rows_are_listed}
 -- both bar the same of these keys
 pub record BarAlike (s u : Standing) (entries : EntryKeys) (names : List (List ℕ)) : Type 0 where
   pub revoked : (kind : ListedKind) (digest : List ℕ) → IsTrue (is_among (keys_for entries kind) digest) → s.revoked kind digest ≡ u.revoked kind digest
-  pub asked : (name : List ℕ) → IsTrue (is_among names name) → s.asked name ≡ u.asked name
+  pub required : (name : List ℕ) → IsTrue (is_among names name) → s.required name ≡ u.required name
 
 -- both list the same of these keys
 pub record ListAlike (s u : Standing) (entries : EntryKeys) : Type 0 where
@@ -68,7 +68,7 @@ module _ (v : ListView) (owner : List ℕ) (cs : History) (k : Keys) (shown : Sh
   pub bars_so : BarAlike (seen_standing v) (standing cs) k.revoked k.names
   bars_so = record {
     revoked = revoked_alike;
-    asked = λ name h. ap (λ o. if is_sbat name then Some 1 else o) (shown_generation name h);
+    required = λ name h. ap (λ o. if is_sbat name then Some 1 else o) (shown_generation name h);
   }
 
   pub lists_so : ListAlike (seen_standing v) (standing cs) k.listed
@@ -81,17 +81,17 @@ any_alike p q (x ∷ xs) each =
     ∙ ap (λ b. q x || b) (any_alike p q xs (λ y h. each y (or_right (bytes_eq y x) (is_among xs y) h)))
 
 module _ (s u : Standing) where
-  below_alike : (xs : List Component) → ((name : List ℕ) → IsTrue (is_among (map (λ x. x.name) xs) name) → s.asked name ≡ u.asked name) → list_any (is_below s) xs ≡ list_any (is_below u) xs
+  below_alike : (xs : List Component) → ((name : List ℕ) → IsTrue (is_among (map (λ x. x.name) xs) name) → s.required name ≡ u.required name) → list_any (is_below s) xs ≡ list_any (is_below u) xs
   below_alike [] each = refl
   below_alike (x ∷ xs) each =
       ap (λ o. is_less x.generation o || list_any (is_below s) xs) (each x.name (or_left (bytes_eq x.name x.name) (is_among (map (λ x. x.name) xs) x.name) (bytes_eq-refl x.name)))
       ∙ ap (λ b. is_below u x || b) (below_alike xs (λ n h. each n (or_right (bytes_eq n x.name) (is_among (map (λ x. x.name) xs) n) h)))
 
-  first_alike : (place : ℕ) (xs : List Component) → ((name : List ℕ) → IsTrue (is_among (map (λ x. x.name) xs) name) → s.asked name ≡ u.asked name) → first_below s place xs ≡ first_below u place xs
+  first_alike : (place : ℕ) (xs : List Component) → ((name : List ℕ) → IsTrue (is_among (map (λ x. x.name) xs) name) → s.required name ≡ u.required name) → first_below s place xs ≡ first_below u place xs
   first_alike place [] each = refl
   first_alike place (x ∷ xs) each =
       ap (λ o. option_or (lack_at place x.generation o) (first_below s (place + 1) xs)) (each x.name (or_left (bytes_eq x.name x.name) (is_among (map (λ x. x.name) xs) x.name) (bytes_eq-refl x.name)))
-      ∙ ap (λ b. option_or (lack_at place x.generation (u.asked x.name)) b) (first_alike (place + 1) xs (λ n h. each n (or_right (bytes_eq n x.name) (is_among (map (λ x. x.name) xs) n) h)))
+      ∙ ap (λ b. option_or (lack_at place x.generation (u.required x.name)) b) (first_alike (place + 1) xs (λ n h. each n (or_right (bytes_eq n x.name) (is_among (map (λ x. x.name) xs) n) h)))
 
   module _ (x : Facts) where
     own_digest : (rest : List (List ℕ)) → IsTrue (is_among (x.digest ∷ rest) x.digest)
@@ -119,14 +119,14 @@ module _ (s u : Standing) where
       bars_alike =
           ap (λ b. b || has_revoked_certificate s x || list_any (is_below s) x.components) digest_alike
           ∙ (ap (λ b. has_revoked_digest u x || b || list_any (is_below s) x.components) certificate_alike
-          ∙ ap (λ b. has_revoked_digest u x || has_revoked_certificate u x || b) (below_alike x.components agree.asked))
+          ∙ ap (λ b. has_revoked_digest u x || has_revoked_certificate u x || b) (below_alike x.components agree.required))
 
       pub verdict_alike : ListAlike s u (listed_keys x) → verdict_on s x ≡ verdict_on u x
       verdict_alike listing =
           ap (λ b. verdict_by b (has_revoked_certificate s x) (lists_image s x) (first_below s 0 x.components)) digest_alike
           ∙ (ap (λ b. verdict_by (has_revoked_digest u x) b (lists_image s x) (first_below s 0 x.components)) certificate_alike
           ∙ (ap (λ b. verdict_by (has_revoked_digest u x) (has_revoked_certificate u x) b (first_below s 0 x.components)) (lists_alike listing)
-          ∙ ap (λ o. verdict_by (has_revoked_digest u x) (has_revoked_certificate u x) (lists_image u x) o) (first_alike 0 x.components agree.asked)))
+          ∙ ap (λ o. verdict_by (has_revoked_digest u x) (has_revoked_certificate u x) (lists_image u x) o) (first_alike 0 x.components agree.required)))
 
 -- the view's verdict is that on the history
 pub says_verdict : (v : ListView) (x : Facts) (said : Verdict) → said ≡ verdict_on (seen_standing v) x → (owner : List ℕ) (cs : History) → ShowsLists v (tables owner cs) (keys_of x) → said ≡ verdict cs x

@@ -31,7 +31,7 @@ use Rattle.desk_rules.specs.DecisionSteps.{Decided, MatchesOwn, submission_write
 use Rattle.desk_rules.specs.Decisions.{called}
 use Rattle.desk_rules.specs.Keys.{keys_named}
 use Rattle.desk_rules.specs.Shown.{Shows}
-use Rattle.desk_rules.specs.declared.view.Counted.TheVariants as counted
+use Rattle.desk_rules.specs.declared.view.LimitedTable.TheVariants as counted
 use Rattle.desk_rules.specs.Room.{takes_off}
 use Rattle.desk_history.specs.Refusals.{own_refusal, refuse_if, return_refusal, review_refusal, withdraw_refusal}
 use Rattle.desk_history.specs.Runs.{is_legal}

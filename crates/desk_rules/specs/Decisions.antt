@@ -19,7 +19,7 @@ abbrev pub called : Caller → List ℕ → Command → Call
 called caller key command = record { caller = caller; key = key; command = command }
 
 -- what the call is answered after this history, and the tables of the history that it leaves
-pub record Answers (changes : Changes) (owner : List ℕ) (cs : History) (c : Call) : Type 0 where
+pub record Decides (changes : Changes) (owner : List ℕ) (cs : History) (c : Call) : Type 0 where
   pub told : (answer cs c ≡ Accepted changes.reply) ⊎ ((answer cs c ≡ Repeated changes.reply) × (changes.writes.items ≡ []))
   pub made : all_written changes.writes.items (tables owner cs) ≡ tables owner (next cs c)
 
@@ -31,4 +31,4 @@ RefusesCall refusal cs c = (answer cs c ≡ Refused refusal) ⊎ (refusal ≡ re
 abbrev pub DecidesCall : View → Call → Result Changes Refusal → Type 0
 DecidesCall v c result =
     (owner : List ℕ) (cs : History) → IsTrue (is_legal cs) → Shows v (tables owner cs) c
-    → MatchResult result (λ changes. Answers changes owner cs c) (λ refusal. RefusesCall refusal cs c)
+    → MatchResult result (λ changes. Decides changes owner cs c) (λ refusal. RefusesCall refusal cs c)

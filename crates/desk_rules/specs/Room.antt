@@ -9,8 +9,8 @@ use Rattle.desk_texts.specs.declared.kind.ListedKind.TheVariants as kinds
 use Rattle.desk_history.specs.Calls.{History, is_same_kind, item}
 use Rattle.desk_history.specs.Listing.{listed}
 use Rattle.desk_history.specs.Limits.{most_calls, most_level_components, most_listed, most_people, most_proposals, most_requests, most_revoked_certificates, most_revoked_digests}
-use Rattle.desk_rules.specs.declared.view.Counted.{Counted}
-use Rattle.desk_rules.specs.declared.view.Counted.TheVariants as counted
+use Rattle.desk_rules.specs.declared.view.LimitedTable.{LimitedTable}
+use Rattle.desk_rules.specs.declared.view.LimitedTable.TheVariants as counted
 use Rattle.desk_rules.specs.declared.view.Sizes.{Sizes}
 
 -- the write revokes a digest of this kind
@@ -19,7 +19,7 @@ revokes kind (writes.Revoke l) = is_same_kind kind l.kind
 revokes kind _ = false
 
 -- the write puts a row into the table
-abbrev pub puts : Counted → Write → Bool
+abbrev pub puts : LimitedTable → Write → Bool
 puts counted.People (writes.Person p) = true
 puts counted.Requests (writes.Request r) = true
 puts counted.Listed (writes.List e) = true

@@ -16,8 +16,8 @@ use Rattle.desk_history.specs.Tables.{Tables, tables}
 use Rattle.desk_rules.specs.declared.view.Sizes.{Sizes}
 use Rattle.desk_rules.specs.declared.view.View.{View}
 use Rattle.desk_history.specs.Runs.{has_key, is_legal}
-use Rattle.desk_rules.specs.declared.view.Counted.{Counted}
-use Rattle.desk_rules.specs.declared.view.Counted.TheVariants as counted
+use Rattle.desk_rules.specs.declared.view.LimitedTable.{LimitedTable}
+use Rattle.desk_rules.specs.declared.view.LimitedTable.TheVariants as counted
 use Rattle.desk_rules.specs.Keys.{keys_with, people_named, proposal_named, request_named, tokens_named}
 use Rattle.desk_rules.specs.Views.{Keys, ShowsLists}
 
@@ -34,7 +34,7 @@ abbrev pub keys_asked : Tables → Call → Keys
 keys_asked t c = keys_with c.command (λ k. find (is_proposal_row k) t.proposals)
 
 -- the tables are the same
-abbrev pub is_table : Counted → Counted → Bool
+abbrev pub is_table : LimitedTable → LimitedTable → Bool
 is_table counted.People counted.People = true
 is_table counted.Requests counted.Requests = true
 is_table counted.Listed counted.Listed = true
@@ -45,7 +45,7 @@ is_table counted.Proposals counted.Proposals = true
 is_table _ _ = false
 
 -- the command may put rows into the table
-abbrev pub may_put : Command → Counted → Bool
+abbrev pub may_put : Command → LimitedTable → Bool
 may_put (command.AddPerson _) table = is_table counted.People table
 may_put (command.Submit _) table = is_table counted.Requests table
 may_put (command.Review _) table = false
@@ -63,7 +63,7 @@ may_put (command.Confirm _) table =
 may_put (command.Drop _) table = false
 
 -- how many rows the sizes tell of the table
-abbrev pub size_in : Sizes → Counted → ℕ
+abbrev pub size_in : Sizes → LimitedTable → ℕ
 size_in s counted.People = s.people
 size_in s counted.Requests = s.requests
 size_in s counted.Listed = s.listed
@@ -73,7 +73,7 @@ size_in s counted.Components = s.components
 size_in s counted.Proposals = s.proposals
 
 -- how many rows the table has
-abbrev pub rows_in : Tables → Counted → ℕ
+abbrev pub rows_in : Tables → LimitedTable → ℕ
 rows_in t counted.People = length t.people
 rows_in t counted.Requests = length t.requests
 rows_in t counted.Listed = length t.listed
@@ -89,7 +89,7 @@ rows_in t counted.Proposals = length t.proposals
 pub record Shows (v : View) (t : Tables) (c : Call) : Type 0 where
   pub stamp : v.stamp ≡ t.desk.stamp
   pub count : v.sizes.calls ≡ length t.calls
-  pub sizes : (table : Counted) → IsTrue (may_put c.command table) → size_in v.sizes table ≡ rows_in t table
+  pub sizes : (table : LimitedTable) → IsTrue (may_put c.command table) → size_in v.sizes table ≡ rows_in t table
   pub caller : find (has_name (caller_name c.caller)) v.people.items ≡ find (has_name (caller_name c.caller)) t.people
   pub names : (name : List ℕ) → IsTrue (list_any (λ n. bytes_eq name n) (people_named c.command))
       → find (has_name name) v.people.items ≡ find (has_name name) t.people
@@ -109,7 +109,7 @@ key_of e = record { kind = e.kind; digest = e.digest }
 pub record HoldsWhole (v : View) (t : Tables) : Type 0 where
   pub stamp : v.stamp ≡ t.desk.stamp
   pub count : v.sizes.calls ≡ length t.calls
-  pub sizes : (table : Counted) → size_in v.sizes table ≡ rows_in t table
+  pub sizes : (table : LimitedTable) → size_in v.sizes table ≡ rows_in t table
   pub people : IsPermutation t.people v.people.items
   pub calls : IsPermutation t.calls v.calls.items
   pub requests : IsPermutation t.requests v.requests.items

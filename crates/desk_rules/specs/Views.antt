@@ -38,7 +38,7 @@ abbrev pub seen_standing : ListView → Standing
 seen_standing v = record {
   revoked = λ kind digest. is_among (seen_revoked v kind) digest;
   listed = λ kind digest. list_any (is_listing kind digest) v.listed.items;
-  asked = λ name. if is_sbat name then Some 1 else generation_in v.components.items name;
+  required = λ name. if is_sbat name then Some 1 else generation_in v.components.items name;
 }
 
 -- keys of entries: digests of images and of certificates

@@ -13,4 +13,4 @@ pub use deciding::decide;
 pub use laws::whole_tables_show;
 pub use list_view::{ListView, verdict};
 pub use room::count;
-pub use view::{Changes, Counted, Sizes, View};
+pub use view::{Changes, LimitedTable, Sizes, View};

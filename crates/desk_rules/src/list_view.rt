@@ -61,7 +61,7 @@ impl Standing for ListView {
             .any(|row| is_same(kind, row.kind) && digest == row.digest)
     }
 
-    fn asked(&self, name: &ComponentName) -> Option<Generation> {
+    fn required(&self, name: &ComponentName) -> Option<Generation> {
         if name.is_sbat() {
             Generation::new(1)
         } else {

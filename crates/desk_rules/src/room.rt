@@ -2,7 +2,7 @@
 ghost use Rattle.std.specs.Prelude.{◌≡◌, count_by};
 ghost use Rattle.desk_rules.specs.Room as spec;
 
-use crate::view::{Counted, Sizes};
+use crate::view::{LimitedTable, Sizes};
 use desk_history::{
     MOST_CALLS, MOST_LEVEL_COMPONENTS, MOST_LISTED, MOST_PEOPLE, MOST_PROPOSALS, MOST_REQUESTS,
     MOST_REVOKED_CERTIFICATES, MOST_REVOKED_DIGESTS, Write, is_same,
@@ -28,22 +28,22 @@ fn revokes(kind: ListedKind, write: &Write) -> bool
 }
 
 /// Whether the write puts a row into the table.
-fn puts(table: Counted, write: &Write) -> bool
+fn puts(table: LimitedTable, write: &Write) -> bool
     ensures { result ≡ spec.puts table write.now }
 {
     match table {
-        Counted::People => matches!(write, Write::Person(_)),
-        Counted::Requests => matches!(write, Write::Request(_)),
-        Counted::Listed => matches!(write, Write::List(_)),
-        Counted::RevokedDigests => revokes(ListedKind::Digest, write),
-        Counted::RevokedCertificates => revokes(ListedKind::Certificate, write),
-        Counted::Components => matches!(write, Write::Component(_)),
-        Counted::Proposals => matches!(write, Write::Propose(_)),
+        LimitedTable::People => matches!(write, Write::Person(_)),
+        LimitedTable::Requests => matches!(write, Write::Request(_)),
+        LimitedTable::Listed => matches!(write, Write::List(_)),
+        LimitedTable::RevokedDigests => revokes(ListedKind::Digest, write),
+        LimitedTable::RevokedCertificates => revokes(ListedKind::Certificate, write),
+        LimitedTable::Components => matches!(write, Write::Component(_)),
+        LimitedTable::Proposals => matches!(write, Write::Propose(_)),
     }
 }
 
 /// How many rows the writes put into the table.
-pub fn count(table: Counted, writes: &[Write]) -> usize
+pub fn count(table: LimitedTable, writes: &[Write]) -> usize
     ensures { result ≡ count_by (spec.puts table) writes.now }
 {
     writes.iter().filter(|write| puts(table, write)).count()
@@ -53,22 +53,26 @@ pub fn count(table: Counted, writes: &[Write]) -> usize
 pub(crate) fn has_room(sizes: &Sizes, writes: &[Write]) -> bool
     ensures { result ≡ spec.has_room sizes.now writes.now }
 {
-    let digests = count(Counted::RevokedDigests, writes);
-    let certificates = count(Counted::RevokedCertificates, writes);
-    let components = count(Counted::Components, writes);
-    fits(count(Counted::People, writes), sizes.people, MOST_PEOPLE)
-        & fits(
-            count(Counted::Requests, writes),
-            sizes.requests,
-            MOST_REQUESTS,
-        )
-        & fits(
-            count(Counted::Proposals, writes),
-            sizes.proposals,
-            MOST_PROPOSALS,
-        )
-        & fits(count(Counted::Listed, writes), sizes.listed, MOST_LISTED)
-        & fits(digests, sizes.revoked_digests, MOST_REVOKED_DIGESTS)
+    let digests = count(LimitedTable::RevokedDigests, writes);
+    let certificates = count(LimitedTable::RevokedCertificates, writes);
+    let components = count(LimitedTable::Components, writes);
+    fits(
+        count(LimitedTable::People, writes),
+        sizes.people,
+        MOST_PEOPLE,
+    ) & fits(
+        count(LimitedTable::Requests, writes),
+        sizes.requests,
+        MOST_REQUESTS,
+    ) & fits(
+        count(LimitedTable::Proposals, writes),
+        sizes.proposals,
+        MOST_PROPOSALS,
+    ) & fits(
+        count(LimitedTable::Listed, writes),
+        sizes.listed,
+        MOST_LISTED,
+    ) & fits(digests, sizes.revoked_digests, MOST_REVOKED_DIGESTS)
         & fits(
             certificates,
             sizes.revoked_certificates,

@@ -6,7 +6,7 @@ use sbat::Stamp;
 
 /// A table whose rows a limit of the desk counts, but for that of calls.
 #[derive(Clone, Copy, Debug, PartialEq, Eq)]
-pub enum Counted {
+pub enum LimitedTable {
     People,
     Requests,
     Listed,

@@ -77,7 +77,7 @@ module _ (sizes : KeptSizes) (c : Call) where
       }
 
   -- what a decision tells of the answer, where it writes nothing
-  pub repeats : (d : Decided) (owner : List ℕ) (cs : History) → length d.writes.items ≡ 0 → rules.Answers d owner cs c → answer cs c ≡ Repeated d.reply
+  pub repeats : (d : Decided) (owner : List ℕ) (cs : History) → length d.writes.items ≡ 0 → rules.Decides d owner cs c → answer cs c ≡ Repeated d.reply
   repeats d owner cs none told = elim told.told [
     | inl accepted ↦ absurd (let joined = next_joined cs c (ap is_accepted accepted) in
         let same : tables owner cs ≡ tables owner (item c ∷ cs) = sym (ap (λ ws. all_written ws (tables owner cs)) (no_items d.writes.items none)) ∙ told.made ∙ ap (tables owner) joined in
@@ -88,11 +88,11 @@ module _ (sizes : KeptSizes) (c : Call) where
 
   -- an accepted call, once its rows are written
   pub acts_accepted : (v : View) (counted later : KeptSizes) (first read last : State) (d : Decided) → Viewed v counted first read
-      → length d.writes.items ≢ 0 → ((owner : List ℕ) (cs : History) → IsTrue (is_legal cs) → Shows v (tables owner cs) c → rules.Answers d owner cs c)
+      → length d.writes.items ≢ 0 → ((owner : List ℕ) (cs : History) → IsTrue (is_legal cs) → Shows v (tables owner cs) c → rules.Decides d owner cs c)
       → Changes desk_schema contents read last (all_written d.writes.items) → Follows counted c.command d.writes.items later
       → Acts sizes c (record { answer = Accepted d.reply; sizes = later }) first last
   acts_accepted v counted later first read last d viewed some told wrote follows =
-      let said : (p : Past sizes) → Sees desk_schema first (before sizes p) → rules.Answers d p.owner p.calls c =
+      let said : (p : Past sizes) → Sees desk_schema first (before sizes p) → rules.Decides d p.owner p.calls c =
       λ p sees. told p.owner p.calls p.history.legal (viewed.shown p.owner p.calls p.history sees p.right).0 in
       let exact : (p : Past sizes) → Sees desk_schema first (before sizes p) → answer p.calls c ≡ Accepted d.reply =
       λ p sees. elim (said p sees).told [ inl accepted ↦ accepted | inr repeated ↦ absurd (some (ap length repeated.1)) ] in

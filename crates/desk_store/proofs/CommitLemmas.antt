@@ -15,7 +15,7 @@ use Rattle.store_sql.specs.Contents.{AreTablesOf}
 use Rattle.store_sql.proofs.CommitLemmas.{undone_shows}
 use Rattle.store_sql.proofs.StopLemmas.{holds_all, shows_all, tables_of}
 use Rattle.store_schema.specs.Tables.{desk_schema}
-use Rattle.desk_store.specs.Acts.{Acts, Answers, LeavesNext, Runs}
+use Rattle.desk_store.specs.Acts.{Acts, AnswersWithSizes, LeavesNext, Runs}
 use Rattle.store_schema.specs.rows.Histories.{ShowsHistory, rows_of}
 use Rattle.desk_store.specs.Pasts.{Past, after, before}
 use Rattle.desk_store.specs.declared.acting.Acted.{Acted}
@@ -28,7 +28,7 @@ module _ {S : Type 0} (g : store.Ghosts S) (old last end : Held S) where
   module _ (sizes : KeptSizes) (c : Call) (acted : Acted) where
     -- what is told inside the transaction, of what the connection shows before it
     told : Survives begun (state g last) (λ _. ⊥) → HasCleanDisk (state g last) → IsTrue (state g last).is_open → Acts sizes c acted begun (state g last)
-        → (p : Past sizes) → ShowsHistory (state g old) p.owner p.calls → Answers c acted p
+        → (p : Past sizes) → ShowsHistory (state g old) p.owner p.calls → AnswersWithSizes c acted p
     told s late live acts p shows =
         acts.answered p (record { inside = refl; holds = (shows.holds (omega (arith, s.clean, late)) (acts.turned.kept.was_open live)).0 })
 

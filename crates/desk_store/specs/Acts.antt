@@ -17,19 +17,19 @@ use Rattle.desk_store.specs.Pasts.{Past, after, before}
 use Rattle.desk_store.specs.declared.acting.Acted.{Acted}
 
 -- the answer is that to the call after this history, and the sizes are right of the next one's tables
-pub record Answers {sizes : KeptSizes} (c : Call) (acted : Acted) (p : Past sizes) : Type 0 where
+pub record AnswersWithSizes {sizes : KeptSizes} (c : Call) (acted : Acted) (p : Past sizes) : Type 0 where
   pub exact : answer p.calls c ≡ acted.answer
   pub right : AreRight acted.sizes (tables p.owner (next p.calls c))
 
 -- inside a transaction the tables are turned into those of the next history, and the call is answered
 pub record Acts (sizes : KeptSizes) (c : Call) (acted : Acted) (old new : State) : Type 0 where
   pub turned : Turns desk_schema (before sizes) (after sizes c) old new
-  pub answered : (p : Past sizes) → Sees desk_schema old (before sizes p) → Answers c acted p
+  pub answered : (p : Past sizes) → Sees desk_schema old (before sizes p) → AnswersWithSizes c acted p
 
 -- the same for the connection outside, which is open after an accepted call
 pub record Runs (sizes : KeptSizes) (c : Call) (acted : Acted) (old new : State) : Type 0 where
   pub is_open : is_accepted acted.answer ≡ true → IsTrue new.is_open
-  pub answered : (p : Past sizes) → ShowsHistory old p.owner p.calls → Answers c acted p
+  pub answered : (p : Past sizes) → ShowsHistory old p.owner p.calls → AnswersWithSizes c acted p
   pub shown : (p : Past sizes) → ShowsHistory old p.owner p.calls → ShowsHistory new p.owner (next p.calls c)
 
 -- only an accepted call leaves anything else, which is the next history's tables

@@ -11,7 +11,7 @@ use Rattle.desk_history.specs.Calls.{History, Second, item}
 use Rattle.desk_history.specs.Runs.{next}
 use Rattle.desk_history.specs.Lives.{Answered, Ends, Event, Fate, Life, NotOpened, Opened, Refused, Stopped}
 use Rattle.desk_store.specs.Desks.{MayStop, Refuses, Replies, ShowsDesk}
-use Rattle.desk_store.specs.Reopening.{IsSince, Keeps, LeavesLives, Seen}
+use Rattle.desk_store.specs.Reopening.{IsSince, IsRecovered, LeavesLives, Seen}
 use Rattle.desk_store.specs.declared.desk.Desk.{Desk}
 
 -- these lives, and the one of a desk that was opened after them and was called so
@@ -48,7 +48,7 @@ module _ {S : Type 0} (g : Ghosts S) (desk : Desk S) where
   -- a desk that was opened begins the next
   abbrev pub LivesAgain : Type 0
   LivesAgain =
-      (owner : List ℕ) (lives : List Life) (seen : Seen) (cs : History) → Keeps g desk owner lives seen cs
+      (owner : List ℕ) (lives : List Life) (seen : Seen) (cs : History) → IsRecovered g desk owner lives seen cs
       → LivesOn g desk owner lives [] cs
 
   -- Whenever no call is under way, a stop leaves what the lives may leave, after all that was seen: `now cs` is.

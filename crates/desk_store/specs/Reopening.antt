@@ -79,7 +79,7 @@ FoundAgain g old new =
 -- of this history. `once`: no key of a caller stands in it twice. `answered`: each call that was answered Ok was answered
 -- at some history, it stands with its reply, what stands goes on from that history, and each image that was barred then is
 -- barred and not allowed.
-pub record Keeps {S : Type 0} (g : Ghosts S) (desk : Desk S) (owner : List ℕ) (lives : List Life) (seen : Seen) (cs : History) : Type 0 where
+pub record IsRecovered {S : Type 0} (g : Ghosts S) (desk : Desk S) (owner : List ℕ) (lives : List Life) (seen : Seen) (cs : History) : Type 0 where
   pub ends : Ends lives cs
   pub since : IsSince seen cs
   pub goes_on : GoesOnFrom seen.at cs
@@ -95,7 +95,7 @@ abbrev pub Recovers : {S : Type 0} → Ghosts S → Held S → Desk S → Type 0
 Recovers g conn desk =
     (owner : List ℕ) (lives : List Life) (seen : Seen) → All (λ e. IsItem e.item) (events_of lives)
     → FindsLives (state g conn) owner lives seen
-    → ∥ ((cs : History) × Keeps g desk owner lives seen cs) ∥₁
+    → ∥ ((cs : History) × IsRecovered g desk owner lives seen cs) ∥₁
 
 -- the refusal of an opening isn't that the store has no desk, nor one of another version, where it was opened over such tables
 abbrev pub FindsADesk : {S : Type 0} → Ghosts S → Held S → Refusal → Type 0

@@ -5,7 +5,7 @@ ghost use Rattle.sqlite.specs.State.{HasCleanDisk, Survives};
 ghost use Rattle.desk_history.specs.Calls.{History};
 ghost use Rattle.desk_history.specs.Runs as runs;
 ghost use Rattle.desk_rules.specs.Decisions.{called};
-ghost use Rattle.store_sql.specs.States.{DoesInside, Keeps, Spares, StaysInside};
+ghost use Rattle.store_sql.specs.States.{DoesInside, CommitsNothing, Spares, StaysInside};
 ghost use Rattle.desk_store.specs.Acts.{Acts, IsNamed, LeavesNext, Runs};
 ghost use Rattle.store_schema.specs.rows.Histories.{ShowsHistory};
 ghost use Rattle.store_reads.specs.Failures.{IsFailure};
@@ -39,7 +39,7 @@ fn is_accepted(answer: &Answer) -> bool
 }
 
 /// The reply, or the refusal.
-pub(crate) fn told(answer: Answer) -> Result<Reply, Refusal>
+pub(crate) fn result_of(answer: Answer) -> Result<Reply, Refusal>
     ensures ok { IfOk result (λ reply. runs.reply_in answer ≡ Some reply) }
     ensures err { IfErr result (λ refusal. answer ≡ Answer.Refused refusal) }
 {
@@ -66,7 +66,7 @@ fn act<S: Alter>(
     ensures inside { StaysInside S.Store tx.old.conn.now tx.new.conn.now result }
     ensures named { IfOk result (λ acted. IsNamed acted.answer) }
     ensures failed { IfErr result IsFailure }
-    ensures kept { Keeps S.Store tx.old.conn.now tx.new.conn.now }
+    ensures kept { CommitsNothing S.Store tx.old.conn.now tx.new.conn.now }
     ensures survives { Spares S.Store tx.old.conn.now tx.new.conn.now }
 {
     let mut sizes = sizes;

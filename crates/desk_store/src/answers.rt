@@ -37,7 +37,7 @@ impl<S: Alter + Drop> Desk<S> {
             → (result ≡ Err Refusal.Reopen) × (self.new ≡ self.old) }
         ensures named { self.old.needs_reopening ≡ false → IfErr result IsFailure }
     {
-        self.asked(&WhoHas { token })
+        self.answer_question(&WhoHas { token })
     }
 
     /// What the desk says of the image. It reads the rows that the facts name, and no other. Takes memory for them.
@@ -80,7 +80,7 @@ impl<S: Alter + Drop> Desk<S> {
         ensures named { self.old.needs_reopening ≡ false → IfErr result IsFailure }
     {
         tables_count_their_history();
-        match self.asked(&HowMany) {
+        match self.answer_question(&HowMany) {
             Ok(counted) => Ok(counted),
             Err(refusal) => Err(refusal),
         }

@@ -6,9 +6,9 @@ ghost use Rattle.store_schema.specs.rows.Histories.{ShowsHistory};
 ghost use Rattle.desk_history.specs.Calls.{History};
 ghost use Rattle.desk_history.specs.Formed.{IsHistory};
 ghost use Rattle.store_reads.specs.Failures.{IsFailure};
-ghost use Rattle.store_sql.specs.States.{DoesInside, Keeps, Spares, StaysInside};
+ghost use Rattle.store_sql.specs.States.{DoesInside, CommitsNothing, Spares, StaysInside};
 ghost use Rattle.desk_store.specs.Desks.{KeepsDesk, Views};
-ghost use Rattle.desk_store.specs.Questions.{Answers};
+ghost use Rattle.desk_store.specs.Questions.{AnswersQuestion};
 
 use crate::desk::Desk;
 use desk_bytes::Refusal;
@@ -34,13 +34,13 @@ pub(crate) trait Question {
     ) -> Result<Self::Answer, Refusal>
         ensures same_reference { tx.new.conn.ghost_name ≡ tx.old.conn.ghost_name }
         ensures value { DoesInside S.Store tx.old.conn.now tx.new.conn.now result
-            (λ answer. Answers (tells self.now answer)) }
+            (λ answer. AnswersQuestion (tells self.now answer)) }
         ensures bound { IfOk result (bounds self.now) }
         ensures inside { StaysInside S.Store tx.old.conn.now tx.new.conn.now result }
 
         ensures failed { IfErr result IsFailure }
 
-        ensures kept { Keeps S.Store tx.old.conn.now tx.new.conn.now }
+        ensures kept { CommitsNothing S.Store tx.old.conn.now tx.new.conn.now }
         ensures survives { Spares S.Store tx.old.conn.now tx.new.conn.now };
 }
 
@@ -75,7 +75,10 @@ pub(crate) fn ask<S: Alter, Q: Question>(
 
 impl<S: Alter + Drop> Desk<S> {
     /// The answer to the question. Nothing is changed.
-    pub(crate) fn asked<Q: Question>(&mut self, question: &Q) -> Result<Q::Answer, Refusal>
+    pub(crate) fn answer_question<Q: Question>(
+        &mut self,
+        question: &Q,
+    ) -> Result<Q::Answer, Refusal>
         ensures shown { HasCleanDisk (state S.Store self.new.conn) → IfOk result (λ answer.
             Views S.Store self.old self.new (Q.Question.tells question.now answer)) }
         ensures bound { IfOk result (Q.Question.bounds question.now) }

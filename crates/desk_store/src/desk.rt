@@ -21,7 +21,7 @@ ghost use Rattle.store_schema.specs.rows.Histories.{ShowsHistory};
 ghost use Rattle.store_reads.specs.Failures.{IsFailure};
 ghost use Rattle.desk_store.specs.Steps.{Brings, FindsKnown, FindsNone, FindsOther, IsReadRefusal};
 
-use crate::acting::{run, told};
+use crate::acting::{result_of, run};
 use crate::forms::call_is_formed;
 use crate::founding::{found_at_once, has_no_tables};
 use crate::opening::{bring_up, found_is_shown};
@@ -194,7 +194,7 @@ impl<S: Alter + Drop> Desk<S> {
             Ok(acted) => {
                 stop_leaves_what_is_shown(&self.conn);
                 self.sizes = acted.sizes;
-                match told(acted.answer) {
+                match result_of(acted.answer) {
                     Ok(reply) => Ok(reply),
                     Err(refusal) => Err(refusal),
                 }
@@ -231,7 +231,7 @@ impl<S: Alter + Drop> Desk<S> {
             key,
             command,
         };
-        match self.asked(&question) {
+        match self.answer_question(&question) {
             Ok(viewed) => {
                 self.sizes = viewed.sizes;
                 Ok(viewed.view)
@@ -258,7 +258,7 @@ impl<S: Alter + Drop> Desk<S> {
             → (result ≡ Err Refusal.Reopen) × (self.new ≡ self.old) }
         ensures named { self.old.needs_reopening ≡ false → IfErr result IsFailure }
     {
-        self.asked(&ListsFor { facts })
+        self.answer_question(&ListsFor { facts })
     }
 
     /// Gives the connection back, in whatever state it is.

@@ -3,7 +3,7 @@ ghost use Rattle.std.specs.Prelude.{◌≡◌, ◌≢◌, [], false, IfErr, IsTr
 ghost use Rattle.sqlite.specs.Held.{state};
 ghost use Rattle.sqlite.specs.State.{HasCleanDisk, Survives};
 ghost use Rattle.store_schema.specs.Tables.{no_schema};
-ghost use Rattle.store_sql.specs.States.{Keeps, Spares, StaysInside};
+ghost use Rattle.store_sql.specs.States.{CommitsNothing, Spares, StaysInside};
 ghost use Rattle.store_schema.specs.rows.Histories.{HoldsHistory, ShowsHistory};
 ghost use Rattle.store_reads.specs.Failures.{IsFailure};
 ghost use Rattle.desk_store.specs.Steps.{Founds};
@@ -30,7 +30,7 @@ fn found<S: Alter>(tx: &mut Transaction<'_, S>, owner: &Guid) -> Result<(), Writ
         → OnOk result (Founds (state S.Store tx.old.conn.now) (state S.Store tx.new.conn.now)
         owner.now) }
     ensures inside { StaysInside S.Store tx.old.conn.now tx.new.conn.now result }
-    ensures kept { Keeps S.Store tx.old.conn.now tx.new.conn.now }
+    ensures kept { CommitsNothing S.Store tx.old.conn.now tx.new.conn.now }
     ensures survives { Spares S.Store tx.old.conn.now tx.new.conn.now }
 {
     make(tx)?;

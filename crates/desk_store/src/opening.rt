@@ -6,7 +6,7 @@ ghost use Rattle.sqlite.specs.State.{HasCleanDisk, IsUnchanged, Survives};
 ghost use Rattle.sqlite.specs.declared.types.Value.TheVariants.{Blob, Int, Text};
 ghost use Rattle.sqlite_value.specs.Order.{column};
 ghost use Rattle.desk_history.specs.Calls.{History};
-ghost use Rattle.store_sql.specs.States.{Keeps, Spares};
+ghost use Rattle.store_sql.specs.States.{CommitsNothing, Spares};
 ghost use Rattle.store_schema.specs.rows.Histories.{HoldsFirst, HoldsHistory, ShowsFirst, ShowsHistory};
 ghost use Rattle.store_migration.specs.Migrations.{KeepsShown};
 ghost use Rattle.desk_store.specs.Rows.{IsGuid, ReadsAs};
@@ -111,7 +111,7 @@ fn ask_columns<S: Alter>(tx: &mut Transaction<'_, S>) -> Result<(), Refusal>
     ensures refused { HasCleanDisk (state S.Store tx.new.conn.now)
         → IfErr result (RefusesColumns (state S.Store tx.old.conn.now)) }
     ensures named { IfErr result IsReadRefusal }
-    ensures kept { Keeps S.Store tx.old.conn.now tx.new.conn.now }
+    ensures kept { CommitsNothing S.Store tx.old.conn.now tx.new.conn.now }
     ensures survives { Spares S.Store tx.old.conn.now tx.new.conn.now }
 {
     let error = match tx.prepare(SELECT_DESK) {
@@ -136,7 +136,7 @@ fn version_of<S: Alter>(tx: &mut Transaction<'_, S>) -> Result<u64, Refusal>
         → IsTrue (state S.Store tx.old.conn.now).in_transaction
         → UnreadInside (state S.Store tx.old.conn.now) result }
     ensures named { IfErr result IsReadRefusal }
-    ensures kept { Keeps S.Store tx.old.conn.now tx.new.conn.now }
+    ensures kept { CommitsNothing S.Store tx.old.conn.now tx.new.conn.now }
     ensures survives { Spares S.Store tx.old.conn.now tx.new.conn.now }
 {
     match ask_columns(tx) {

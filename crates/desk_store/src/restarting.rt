@@ -6,7 +6,7 @@ ghost use Rattle.desk_history.specs.Calls.{History};
 ghost use Rattle.desk_history.specs.Formed.{IsItem};
 ghost use Rattle.desk_history.specs.Lives.{Life, events_of};
 ghost use Rattle.desk_store.specs.Living.{and_refused};
-ghost use Rattle.desk_store.specs.Reopening.{FilesHold, FoundAgain, Keeps, LeavesLives, Seen};
+ghost use Rattle.desk_store.specs.Reopening.{FilesHold, FoundAgain, IsRecovered, LeavesLives, Seen};
 ghost use Rattle.desk_store.specs.Steps.{IsReadRefusal};
 
 use crate::desk::Desk;
@@ -45,7 +45,7 @@ pub fn reopen<D: Crash + Drop>(
     ensures keeps { IfOk result (λ desk. HasCleanDisk (file_state desk.conn)
         → (owner : List ℕ) (lives : List Life) (seen : Seen)
         → All (λ e. IsItem e.item) (events_of lives) → FilesHold D.Disk files owner lives seen
-        → ∥ ((cs : History) × Keeps over_files desk owner lives seen cs) ∥₁) }
+        → ∥ ((cs : History) × IsRecovered over_files desk owner lives seen cs) ∥₁) }
     ensures again { IfErr result (λ e. IfSome e.1 (λ left.
         (owner : List ℕ) (lives : List Life) (seen : Seen)
         → FilesHold D.Disk files owner lives seen
@@ -86,7 +86,7 @@ pub fn restart<D: Crash + Drop>(
         → (owner : List ℕ) (lives : List Life) (seen : Seen)
         → All (λ e. IsItem e.item) (events_of lives)
         → LeavesLives (file_state desk.conn) owner lives seen
-        → ∥ ((cs : History) × Keeps over_files again owner lives seen cs) ∥₁) }
+        → ∥ ((cs : History) × IsRecovered over_files again owner lives seen cs) ∥₁) }
     ensures again { IfErr result (λ e. IfSome e.1 (λ left.
         (owner : List ℕ) (lives : List Life) (seen : Seen)
         → LeavesLives (file_state desk.conn) owner lives seen

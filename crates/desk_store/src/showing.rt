@@ -50,7 +50,7 @@ impl<S: Alter + Drop> Desk<S> {
         let Caller::Person(name) = caller else {
             return Err(Refusal::NotYourRole);
         };
-        match self.asked(&OneRequest { name, number }) {
+        match self.answer_question(&OneRequest { name, number }) {
             Ok(given) => given,
             Err(failure) => Err(failure),
         }
@@ -85,7 +85,7 @@ impl<S: Alter + Drop> Desk<S> {
         let Caller::Person(name) = caller else {
             return Err(Refusal::NotYourRole);
         };
-        match self.asked(&AllRequests { name }) {
+        match self.answer_question(&AllRequests { name }) {
             Ok(given) => given,
             Err(failure) => Err(failure),
         }
@@ -122,7 +122,7 @@ impl<S: Alter + Drop> Desk<S> {
         let Caller::Person(name) = caller else {
             return Err(Refusal::NotYourRole);
         };
-        match self.asked(&AllProposals { name }) {
+        match self.answer_question(&AllProposals { name }) {
             Ok(given) => given,
             Err(failure) => Err(failure),
         }

@@ -40,7 +40,7 @@ below_is_one_of : (s : Standing) (all xs : List Component) (place : ℕ)
     → ((k : ℕ) → slice_get all (place + k) ≡ slice_get xs k) → IsOneOf all (first_below s place xs)
 below_is_one_of s all [] place same = tt
 below_is_one_of s all (x ∷ xs) place same =
-    one_of_lacking all x place (s.asked x.name) (first_below s (place + 1) xs) (ap (slice_get all) (unmoved place) ∙ same 0)
+    one_of_lacking all x place (s.required x.name) (first_below s (place + 1) xs) (ap (slice_get all) (unmoved place) ∙ same 0)
     (below_is_one_of s all xs (place + 1) (λ k. ap (slice_get all) (moved place k) ∙ same (suc k)))
 
 -- what is there is said

@@ -2,8 +2,8 @@
 ghost use Rattle.std.specs.Prelude.{◌≡◌};
 ghost use Rattle.store_counts.specs.Counts as spec;
 ghost use Rattle.store_counts.specs.Parts.{CountEnded, CountWaiting};
-ghost use Rattle.store_reads.specs.Reads.{Tells};
-ghost use Rattle.store_sql.specs.States.{DoesInside, Keeps, Spares, StaysInside};
+ghost use Rattle.store_reads.specs.Reads.{ReadsTables};
+ghost use Rattle.store_sql.specs.States.{DoesInside, CommitsNothing, Spares, StaysInside};
 
 use crate::numbers::{Counts, KindCounts, ListCounts, RequestCounts};
 use desk_texts::{ListedKind, State};
@@ -30,9 +30,9 @@ struct Ended {
 fn count_waiting<S: Alter>(tx: &mut Transaction<'_, S>) -> Result<Waiting, ReadFault>
     ensures same_reference { tx.new.conn.ghost_name ≡ tx.old.conn.ghost_name }
     ensures value { DoesInside S.Store tx.old.conn.now tx.new.conn.now result
-        (λ n. Tells (CountWaiting n)) }
+        (λ n. ReadsTables (CountWaiting n)) }
     ensures inside { StaysInside S.Store tx.old.conn.now tx.new.conn.now result }
-    ensures kept { Keeps S.Store tx.old.conn.now tx.new.conn.now }
+    ensures kept { CommitsNothing S.Store tx.old.conn.now tx.new.conn.now }
     ensures survives { Spares S.Store tx.old.conn.now tx.new.conn.now }
 {
     let still_open = count(tx, Counted::RequestsIn(State::Open))?;
@@ -47,9 +47,9 @@ fn count_waiting<S: Alter>(tx: &mut Transaction<'_, S>) -> Result<Waiting, ReadF
 fn count_ended<S: Alter>(tx: &mut Transaction<'_, S>) -> Result<Ended, ReadFault>
     ensures same_reference { tx.new.conn.ghost_name ≡ tx.old.conn.ghost_name }
     ensures value { DoesInside S.Store tx.old.conn.now tx.new.conn.now result
-        (λ n. Tells (CountEnded n)) }
+        (λ n. ReadsTables (CountEnded n)) }
     ensures inside { StaysInside S.Store tx.old.conn.now tx.new.conn.now result }
-    ensures kept { Keeps S.Store tx.old.conn.now tx.new.conn.now }
+    ensures kept { CommitsNothing S.Store tx.old.conn.now tx.new.conn.now }
     ensures survives { Spares S.Store tx.old.conn.now tx.new.conn.now }
 {
     let rejected = count(tx, Counted::RequestsIn(State::Rejected))?;
@@ -66,9 +66,9 @@ fn count_ended<S: Alter>(tx: &mut Transaction<'_, S>) -> Result<Ended, ReadFault
 fn count_by_state<S: Alter>(tx: &mut Transaction<'_, S>) -> Result<RequestCounts, ReadFault>
     ensures same_reference { tx.new.conn.ghost_name ≡ tx.old.conn.ghost_name }
     ensures value { DoesInside S.Store tx.old.conn.now tx.new.conn.now result
-        (λ n. Tells (spec.CountRequests n)) }
+        (λ n. ReadsTables (spec.CountRequests n)) }
     ensures inside { StaysInside S.Store tx.old.conn.now tx.new.conn.now result }
-    ensures kept { Keeps S.Store tx.old.conn.now tx.new.conn.now }
+    ensures kept { CommitsNothing S.Store tx.old.conn.now tx.new.conn.now }
     ensures survives { Spares S.Store tx.old.conn.now tx.new.conn.now }
 {
     let all = count(tx, Counted::Requests)?;
@@ -88,9 +88,9 @@ fn count_by_state<S: Alter>(tx: &mut Transaction<'_, S>) -> Result<RequestCounts
 fn count_entries<S: Alter>(tx: &mut Transaction<'_, S>) -> Result<KindCounts, ReadFault>
     ensures same_reference { tx.new.conn.ghost_name ≡ tx.old.conn.ghost_name }
     ensures value { DoesInside S.Store tx.old.conn.now tx.new.conn.now result
-        (λ n. Tells (spec.CountEntries n)) }
+        (λ n. ReadsTables (spec.CountEntries n)) }
     ensures inside { StaysInside S.Store tx.old.conn.now tx.new.conn.now result }
-    ensures kept { Keeps S.Store tx.old.conn.now tx.new.conn.now }
+    ensures kept { CommitsNothing S.Store tx.old.conn.now tx.new.conn.now }
     ensures survives { Spares S.Store tx.old.conn.now tx.new.conn.now }
 {
     let digests = count(tx, Counted::ListedOf(ListedKind::Digest))?;
@@ -105,9 +105,9 @@ fn count_entries<S: Alter>(tx: &mut Transaction<'_, S>) -> Result<KindCounts, Re
 fn count_revoked<S: Alter>(tx: &mut Transaction<'_, S>) -> Result<KindCounts, ReadFault>
     ensures same_reference { tx.new.conn.ghost_name ≡ tx.old.conn.ghost_name }
     ensures value { DoesInside S.Store tx.old.conn.now tx.new.conn.now result
-        (λ n. Tells (spec.CountRevoked n)) }
+        (λ n. ReadsTables (spec.CountRevoked n)) }
     ensures inside { StaysInside S.Store tx.old.conn.now tx.new.conn.now result }
-    ensures kept { Keeps S.Store tx.old.conn.now tx.new.conn.now }
+    ensures kept { CommitsNothing S.Store tx.old.conn.now tx.new.conn.now }
     ensures survives { Spares S.Store tx.old.conn.now tx.new.conn.now }
 {
     let images = count(tx, Counted::RevokedDigests)?;
@@ -125,9 +125,9 @@ fn count_lists<S: Alter>(
 ) -> Result<ListCounts, ReadFault>
     ensures same_reference { tx.new.conn.ghost_name ≡ tx.old.conn.ghost_name }
     ensures value { DoesInside S.Store tx.old.conn.now tx.new.conn.now result
-        (λ n. Tells (spec.CountLists n)) }
+        (λ n. ReadsTables (spec.CountLists n)) }
     ensures inside { StaysInside S.Store tx.old.conn.now tx.new.conn.now result }
-    ensures kept { Keeps S.Store tx.old.conn.now tx.new.conn.now }
+    ensures kept { CommitsNothing S.Store tx.old.conn.now tx.new.conn.now }
     ensures survives { Spares S.Store tx.old.conn.now tx.new.conn.now }
 {
     let listed = count_entries(tx)?;
@@ -148,9 +148,9 @@ fn count_lists<S: Alter>(
 pub fn counts<S: Alter>(alloc: Global, tx: &mut Transaction<'_, S>) -> Result<Counts, ReadFault>
     ensures same_reference { tx.new.conn.ghost_name ≡ tx.old.conn.ghost_name }
     ensures value { DoesInside S.Store tx.old.conn.now tx.new.conn.now result
-        (λ n. Tells (spec.CountTables n)) }
+        (λ n. ReadsTables (spec.CountTables n)) }
     ensures inside { StaysInside S.Store tx.old.conn.now tx.new.conn.now result }
-    ensures kept { Keeps S.Store tx.old.conn.now tx.new.conn.now }
+    ensures kept { CommitsNothing S.Store tx.old.conn.now tx.new.conn.now }
     ensures survives { Spares S.Store tx.old.conn.now tx.new.conn.now }
 {
     let people = count(tx, Counted::People)?;

@@ -16,14 +16,14 @@ use Rattle.store_sql.proofs.ContentLemmas.{keeps_then}
 use Rattle.store_sql.proofs.StopLemmas.{tables_of}
 use Rattle.store_schema.specs.Tables.{added_tables, defined, desk_schema, first_schema}
 use Rattle.store_writes.specs.Steps.{with_migrated, with_version}
-use Rattle.store_reads.specs.Reads.{Tells}
+use Rattle.store_reads.specs.Reads.{ReadsTables}
 use Rattle.store_schema.specs.rows.Contents.{contents}
 use Rattle.store_schema.specs.rows.Histories.{HoldsHistory, ShowsFirst, ShowsHistory, first_rows_of, rows_of}
 use Rattle.store_migration.specs.Migrations.{Migrates, TurnsFirst}
 use Rattle.store_migration.proofs.HistoryLemmas.{as_first, migrated_tables}
 
 -- the three tables are made, the calls are counted, their number is put in, and the version is set
-pub turned : (old made told noted new : State) (n : ℕ) → Makes old made first_schema desk_schema (map defined added_tables) → Tells (λ t. n ≡ length t.calls) made told
+pub turned : (old made told noted new : State) (n : ℕ) → Makes old made first_schema desk_schema (map defined added_tables) → ReadsTables (λ t. n ≡ length t.calls) made told
     → Changes desk_schema contents told noted (with_migrated n) → Changes desk_schema contents noted new (with_version 2) → TurnsFirst old new
 turned old made told noted new n makes tells notes sets = record {
   is_open = λ o. sets.is_open (notes.is_open (tells.kept.is_open (makes.is_open o)));

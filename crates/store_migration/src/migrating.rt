@@ -3,9 +3,9 @@ ghost use Rattle.std.specs.Prelude.{◌≡◌, ◌≢◌, ◌⊎◌, ℕ, List, 
 ghost use Rattle.sqlite.specs.Held.{state};
 ghost use Rattle.sqlite.specs.State.{HasCleanDisk, Survives};
 ghost use Rattle.desk_history.specs.Calls.{History};
-ghost use Rattle.store_sql.specs.States.{DoesInside, Keeps, Spares, StaysInside};
+ghost use Rattle.store_sql.specs.States.{DoesInside, CommitsNothing, Spares, StaysInside};
 ghost use Rattle.store_reads.specs.Failures.{IsFailure};
-ghost use Rattle.store_reads.specs.Reads.{Tells};
+ghost use Rattle.store_reads.specs.Reads.{ReadsTables};
 ghost use Rattle.store_schema.specs.rows.Histories.{ShowsFirst, ShowsHistory};
 ghost use Rattle.store_migration.specs.Migrations.{KeepsShown, Migrates, TurnsFirst};
 ghost use Rattle.store_migration.specs.Names.{takes_a_name};
@@ -21,9 +21,9 @@ use store_writes::{WriteFault, failed_commit, put_migrated, set_version};
 fn calls_in<S: Alter>(tx: &mut Transaction<'_, S>) -> Result<u64, WriteFault>
     ensures same_reference { tx.new.conn.ghost_name ≡ tx.old.conn.ghost_name }
     ensures value { DoesInside S.Store tx.old.conn.now tx.new.conn.now result
-        (λ n. Tells (λ t. n ≡ length t.calls)) }
+        (λ n. ReadsTables (λ t. n ≡ length t.calls)) }
     ensures inside { StaysInside S.Store tx.old.conn.now tx.new.conn.now result }
-    ensures kept { Keeps S.Store tx.old.conn.now tx.new.conn.now }
+    ensures kept { CommitsNothing S.Store tx.old.conn.now tx.new.conn.now }
     ensures survives { Spares S.Store tx.old.conn.now tx.new.conn.now }
 {
     match count(tx, Counted::Calls) {
@@ -40,7 +40,7 @@ fn migrate_inside<S: Alter>(tx: &mut Transaction<'_, S>) -> Result<(), WriteFaul
     ensures value { DoesInside S.Store tx.old.conn.now tx.new.conn.now result
         (λ _. TurnsFirst) }
     ensures inside { StaysInside S.Store tx.old.conn.now tx.new.conn.now result }
-    ensures kept { Keeps S.Store tx.old.conn.now tx.new.conn.now }
+    ensures kept { CommitsNothing S.Store tx.old.conn.now tx.new.conn.now }
     ensures survives { Spares S.Store tx.old.conn.now tx.new.conn.now }
 {
     make_added(tx)?;

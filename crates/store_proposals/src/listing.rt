@@ -1,7 +1,7 @@
 //! All proposals, each with how much it names.
 ghost use Rattle.std.specs.Prelude.{◌≡◌};
-ghost use Rattle.store_reads.specs.Reads.{Tells};
-ghost use Rattle.store_sql.specs.States.{DoesInside, Keeps, Spares};
+ghost use Rattle.store_reads.specs.Reads.{ReadsTables};
+ghost use Rattle.store_sql.specs.States.{DoesInside, CommitsNothing, Spares};
 ghost use Rattle.store_proposals.specs.Listing as spec;
 
 use crate::reading::proposal_of;
@@ -36,8 +36,8 @@ fn shown_of<S: Alter>(
 ) -> Result<Vec<Proposal>, ReadFault>
     ensures same_reference { tx.new.conn.ghost_name ≡ tx.old.conn.ghost_name }
     ensures value { DoesInside S.Store tx.old.conn.now tx.new.conn.now result
-        (λ shown. Tells (spec.AreShown heads.now shown.items)) }
-    ensures kept { Keeps S.Store tx.old.conn.now tx.new.conn.now }
+        (λ shown. ReadsTables (spec.AreShown heads.now shown.items)) }
+    ensures kept { CommitsNothing S.Store tx.old.conn.now tx.new.conn.now }
     ensures survives { Spares S.Store tx.old.conn.now tx.new.conn.now }
 {
     let mut shown = Vec::new(alloc);
@@ -61,8 +61,8 @@ pub fn proposals<S: Alter>(
 ) -> Result<Vec<Proposal>, ReadFault>
     ensures same_reference { tx.new.conn.ghost_name ≡ tx.old.conn.ghost_name }
     ensures value { DoesInside S.Store tx.old.conn.now tx.new.conn.now result
-        (λ shown. Tells (spec.AreListed shown.items)) }
-    ensures kept { Keeps S.Store tx.old.conn.now tx.new.conn.now }
+        (λ shown. ReadsTables (spec.AreListed shown.items)) }
+    ensures kept { CommitsNothing S.Store tx.old.conn.now tx.new.conn.now }
     ensures survives { Spares S.Store tx.old.conn.now tx.new.conn.now }
 {
     let heads = heads_all(alloc, tx)?;

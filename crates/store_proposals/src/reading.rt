@@ -1,7 +1,7 @@
 //! A proposal with all that it names.
 ghost use Rattle.std.specs.Prelude.{◌≡◌};
-ghost use Rattle.store_reads.specs.Reads.{Tells};
-ghost use Rattle.store_sql.specs.States.{DoesInside, Keeps, Spares, StaysInside};
+ghost use Rattle.store_reads.specs.Reads.{ReadsTables};
+ghost use Rattle.store_sql.specs.States.{DoesInside, CommitsNothing, Spares, StaysInside};
 ghost use Rattle.store_proposals.specs.Reading.{IsRead};
 
 use crate::comparing::are_items;
@@ -22,9 +22,9 @@ pub fn proposal_of<S: Alter>(
 ) -> Result<Option<ProposalRow>, ReadFault>
     ensures same_reference { tx.new.conn.ghost_name ≡ tx.old.conn.ghost_name }
     ensures value { DoesInside S.Store tx.old.conn.now tx.new.conn.now result
-        (λ found. Tells (IsRead proposal found)) }
+        (λ found. ReadsTables (IsRead proposal found)) }
     ensures inside { StaysInside S.Store tx.old.conn.now tx.new.conn.now result }
-    ensures kept { Keeps S.Store tx.old.conn.now tx.new.conn.now }
+    ensures kept { CommitsNothing S.Store tx.old.conn.now tx.new.conn.now }
     ensures survives { Spares S.Store tx.old.conn.now tx.new.conn.now }
 {
     let Some(head) = head_numbered(alloc, tx, proposal)? else {

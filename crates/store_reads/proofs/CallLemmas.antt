@@ -10,13 +10,13 @@ use Rattle.store_schema.specs.Tables as tables
 use Rattle.store_schema.specs.declared.selecting.TheConstants.{SELECT_CALL}
 use Rattle.store_schema.proofs.SelectFacts.{select_call}
 use Rattle.store_reads.specs.CallColumns.{call_columns, texts_of}
-use Rattle.store_reads.specs.Reads.{Finds, Tells, listed}
+use Rattle.store_reads.specs.Reads.{Finds, ReadsTables, listed}
 use Rattle.store_reads.specs.declared.call_texts.CallTexts.{CallTexts}
 use Rattle.store_reads.proofs.FindLemmas.{tells_row}
 use Rattle.store_reads.proofs.KeyLemmas.{call_row, is_call}
 
 pub tells_call : (caller key : List ℕ) (old new : State) (found : Option CallTexts) → Finds call_columns SELECT_CALL.now (Text caller ∷ Text key ∷ []) (listed found) old new
-    → Tells (λ t. map texts_of (filter (has_key caller key) t.calls) ≡ listed found) old new
+    → ReadsTables (λ t. map texts_of (filter (has_key caller key) t.calls) ≡ listed found) old new
 tells_call caller key old new found f =
     let p : CallTexts → _ = λ x. bytes_eq caller x.caller && bytes_eq key x.key in
     let it = tells_row 2 tables.calls SELECT_CALL.now (equals tables.calls 1 0 ∷ equals tables.calls 2 1 ∷ []) 0 (columns_of tables.calls) (names_of tables.calls) select_call call_row call_columns

@@ -13,14 +13,14 @@ use Rattle.store_schema.specs.declared.counting.TheConstants as texts
 use Rattle.store_schema.proofs.CountFacts as facts
 use Rattle.desk_texts.specs.Words.{kind_text, state_text}
 use Rattle.store_reads.specs.Counting.{count_params, count_text, counted}
-use Rattle.store_reads.specs.Reads.{IsCounted, Tells}
+use Rattle.store_reads.specs.Reads.{IsCounted, ReadsTables}
 use Rattle.store_reads.specs.declared.counts.Counted.{Counted}
 use Rattle.store_reads.specs.declared.counts.Counted.TheVariants as what
 use Rattle.store_reads.specs.declared.fault.ReadFault.{ReadFault}
 use Rattle.store_reads.proofs.FindLemmas.{tells_count, tells_count_of}
 use Rattle.store_reads.proofs.KeyLemmas.{is_in, is_of_kind}
 
-tells : (asked : Counted) (old new : State) (n : ℕ) → IsCounted (count_text asked) (count_params asked) n old new → Tells (λ t. n ≡ counted asked t) old new
+tells : (asked : Counted) (old new : State) (n : ℕ) → IsCounted (count_text asked) (count_params asked) n old new → ReadsTables (λ t. n ≡ counted asked t) old new
 tells what.People = tells_count 1 tables.people texts.COUNT_PEOPLE.now (codes "count(*)" ∷ []) facts.count_people values.person_values (λ (t : Tables). t.people) (λ t. refl)
 tells what.Calls = tells_count 2 tables.calls texts.COUNT_CALLS.now (codes "count(*)" ∷ []) facts.count_calls values.call_values (λ (t : Tables). t.calls) (λ t. refl)
 tells what.Requests = tells_count 3 tables.requests texts.COUNT_REQUESTS.now (codes "count(*)" ∷ []) facts.count_requests values.request_values (λ (t : Tables). t.requests) (λ t. refl)
@@ -35,6 +35,6 @@ tells what.Components = tells_count 11 tables.components texts.COUNT_COMPONENTS.
 tells what.Proposals = tells_count 12 tables.proposals texts.COUNT_PROPOSALS.now (codes "count(*)" ∷ []) facts.count_proposals values.proposal_values (λ (t : Tables). t.proposals) (λ t. refl)
 
 pub tells_counted : (asked : Counted) (text : List ℕ) (params : Row) (old new : State) (result : Result ℕ ReadFault) → text ≡ count_text asked → params ≡ count_params asked
-    → IfOk result (λ n. IsCounted text params n old new) → IfOk result (λ n. Tells (λ t. n ≡ counted asked t) old new)
+    → IfOk result (λ n. IsCounted text params n old new) → IfOk result (λ n. ReadsTables (λ t. n ≡ counted asked t) old new)
 tells_counted asked text params old new (Ok n) is_text is_params h = tells asked old new n (rw (is_text, is_params) at h)
 tells_counted asked text params old new (Err e) is_text is_params h = tt

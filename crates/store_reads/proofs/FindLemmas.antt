@@ -18,7 +18,7 @@ use Rattle.store_sql.specs.Queries.{keys_of}
 use Rattle.store_sql.proofs.ItemLemmas.{lists, passed, turns}
 use Rattle.store_schema.specs.Columns.{by_first}
 use Rattle.store_schema.specs.Tables.{desk_schema}
-use Rattle.store_reads.specs.Reads.{AreFound, Finds, IsCounted, Tells, listed}
+use Rattle.store_reads.specs.Reads.{AreFound, Finds, IsCounted, ReadsTables, listed}
 
 -- a permutation of at most one value is that value
 alone : {X : Type 0} (xs : List X) (found : Option X) → IsPermutation xs (listed found) → xs ≡ listed found
@@ -32,7 +32,7 @@ module _ {X : Type 0} (at : ℕ) (table : Table) (text : List ℕ) (terms : List
     (shows : (x : X) → shown_of table (keys_of (by_first ordered table) ++ rest) params (item x) ≡ shown x)
     (p : X → Bool) (tested : (x : X) → passes table terms params (item x) ≡ p x) (old new : State) where
   -- the rows that meet the condition, all and only those, in the order that is asked for
-  pub tells_rows : (values : List X) → Finds shown text params values old new → Tells (λ t. AreFound shown table ordered p (part t) values) old new
+  pub tells_rows : (values : List X) → Finds shown text params values old new → ReadsTables (λ t. AreFound shown table ordered p (part t) values) old new
   tells_rows values f =
       let order = by_first ordered table in
       let it = f.selects desk_schema at table terms order rest names means in
@@ -45,7 +45,7 @@ module _ {X : Type 0} (at : ℕ) (table : Table) (text : List ℕ) (terms : List
       }
 
   -- the row that meets the condition, if there is one
-  pub tells_row : (found : Option X) → Finds shown text params (listed found) old new → Tells (λ t. filter p (part t) ≡ listed found) old new
+  pub tells_row : (found : Option X) → Finds shown text params (listed found) old new → ReadsTables (λ t. filter p (part t) ≡ listed found) old new
   tells_row found f =
       let it = tells_rows (listed found) f in
       record { kept = it.kept; tells = λ t sees. alone (filter p (part t)) found (it.tells t sees).all }
@@ -63,7 +63,7 @@ below n a most is low = grind (arith)
 pub tells_count_of : {X : Type 0} (at : ℕ) (table : Table) (text : List ℕ) (terms : List Term) (names : List (List ℕ)) → CountsRows desk_schema at table text terms names
     → (item : X → Row) (part : Tables → List X) → ((t : Tables) → slice_get (contents t) at ≡ Some (map item (part t)))
     → (params : Row) (p : X → Bool) → ((x : X) → passes table terms params (item x) ≡ p x)
-    → (old new : State) (n : ℕ) → IsCounted text params n old new → Tells (λ t. n ≡ count_by p (part t)) old new
+    → (old new : State) (n : ℕ) → IsCounted text params n old new → ReadsTables (λ t. n ≡ count_by p (part t)) old new
 tells_count_of at table text terms names means item part has params p tested old new n f =
     let it = f.counts desk_schema at table terms names means in
     record {
@@ -76,7 +76,7 @@ tells_count_of at table text terms names means item part has params p tested old
 -- how many rows the table has
 pub tells_count : {X : Type 0} (at : ℕ) (table : Table) (text : List ℕ) (names : List (List ℕ)) → CountsRows desk_schema at table text [] names
     → (item : X → Row) (part : Tables → List X) → ((t : Tables) → slice_get (contents t) at ≡ Some (map item (part t)))
-    → (old new : State) (n : ℕ) → IsCounted text [] n old new → Tells (λ t. n ≡ length (part t)) old new
+    → (old new : State) (n : ℕ) → IsCounted text [] n old new → ReadsTables (λ t. n ≡ length (part t)) old new
 tells_count at table text names means item part has old new n f =
     let it = tells_count_of at table text [] names means item part has [] (λ _. true) (λ x. refl) old new n f in
     record { kept = it.kept; tells = λ t sees. it.tells t sees ∙ sym (length-filter (λ _. true) (part t)) ∙ ap length (every (part t)) }

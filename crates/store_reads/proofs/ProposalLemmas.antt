@@ -20,7 +20,7 @@ use Rattle.desk_history.specs.Items.{item_rows}
 use Rattle.desk_history.specs.Tables.{Tables}
 use Rattle.store_schema.specs.rows.Values.{item_digest, item_generation, item_kind, item_name, item_values, proposal_values}
 use Rattle.store_reads.specs.ProposalColumns.{head_columns, head_of}
-use Rattle.store_reads.specs.Reads.{AreFound, Finds, Tells, listed}
+use Rattle.store_reads.specs.Reads.{AreFound, Finds, ReadsTables, listed}
 use Rattle.store_reads.specs.declared.proposal_head.ProposalHead.{ProposalHead}
 use Rattle.store_reads.proofs.FindLemmas.{tells_row, tells_rows}
 
@@ -64,7 +64,7 @@ is_item : (k : ℕ) (x : ProposalItemRow) → passes tables.proposal_items (equa
 is_item k x = only _ _ (int_is x.proposal k)
 
 pub tells_head : (k : ℕ) (old new : State) (found : Option ProposalHead) → Finds head_columns SELECT_PROPOSAL.now (Int (pos k) ∷ []) (listed found) old new
-    → Tells (λ t. map head_of (filter (λ p. k == p.number) t.proposals) ≡ listed found) old new
+    → ReadsTables (λ t. map head_of (filter (λ p. k == p.number) t.proposals) ≡ listed found) old new
 tells_head k old new found f =
     let p : ProposalHead → _ = λ x. k == x.number in
     let it = tells_row 12 tables.proposals SELECT_PROPOSAL.now (equals tables.proposals 0 0 ∷ []) 0 (columns_of tables.proposals) (names_of tables.proposals) select_proposal head_row head_columns
@@ -72,13 +72,13 @@ tells_head k old new found f =
     record { kept = it.kept; tells = λ t sees. sym (filter-map p head_of t.proposals) ∙ it.tells t sees }
 
 pub tells_heads : (old new : State) (found : List ProposalHead) → Finds head_columns SELECT_PROPOSALS.now [] found old new
-    → Tells (λ t. AreFound head_columns tables.proposals 1 (λ h. true) (map head_of t.proposals) found) old new
+    → ReadsTables (λ t. AreFound head_columns tables.proposals 1 (λ h. true) (map head_of t.proposals) found) old new
 tells_heads old new found =
     tells_rows 12 tables.proposals SELECT_PROPOSALS.now [] 1 (columns_after 1 tables.proposals) (names_of tables.proposals) select_proposals head_row head_columns
     (λ (t : Tables). map head_of t.proposals) (λ t. ap Some (sym (map-map head_row head_of t.proposals))) [] (λ x. refl) (λ h. true) (λ x. refl) old new found
 
 pub tells_items : (k : ℕ) (old new : State) (found : List ProposalItemRow) → Finds item_values SELECT_PROPOSAL_ITEMS.now (Int (pos k) ∷ []) found old new
-    → Tells (λ t. AreFound item_values tables.proposal_items 2 (λ r. k == r.proposal) (flat_map item_rows t.proposals) found) old new
+    → ReadsTables (λ t. AreFound item_values tables.proposal_items 2 (λ r. k == r.proposal) (flat_map item_rows t.proposals) found) old new
 tells_items k old new found =
     tells_rows 13 tables.proposal_items SELECT_PROPOSAL_ITEMS.now (equals tables.proposal_items 0 0 ∷ []) 2 (columns_after 2 tables.proposal_items) (names_of tables.proposal_items) select_proposal_items item_values item_values
     (λ (t : Tables). flat_map item_rows t.proposals) (λ t. refl) (Int (pos k) ∷ []) (λ x. refl) (λ r. k == r.proposal) (is_item k) old new found

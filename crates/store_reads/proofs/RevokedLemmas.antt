@@ -11,12 +11,12 @@ use Rattle.store_schema.proofs.SelectFacts as facts
 use Rattle.desk_texts.specs.declared.kind.ListedKind.{ListedKind}
 use Rattle.desk_texts.specs.declared.kind.ListedKind.TheVariants as kinds
 use Rattle.store_reads.specs.Answers.{select_revoked}
-use Rattle.store_reads.specs.Reads.{Finds, Tells, listed, revoked_in}
+use Rattle.store_reads.specs.Reads.{Finds, ReadsTables, listed, revoked_in}
 use Rattle.store_reads.proofs.FindLemmas.{tells_row}
 use Rattle.store_reads.proofs.KeyLemmas.{is_digest, is_revoked_certificate}
 
 pub tells_revoked : (kind : ListedKind) (digest : List ℕ) (old new : State) (found : Option (List ℕ)) → Finds digest_values (select_revoked kind) (Blob digest ∷ []) (listed found) old new
-    → Tells (λ t. filter (bytes_eq digest) (revoked_in kind t) ≡ listed found) old new
+    → ReadsTables (λ t. filter (bytes_eq digest) (revoked_in kind t) ≡ listed found) old new
 tells_revoked kinds.Digest digest =
     tells_row 9 tables.revoked_digests texts.SELECT_REVOKED_DIGEST.now (equals tables.revoked_digests 0 0 ∷ []) 0 (columns_of tables.revoked_digests) (names_of tables.revoked_digests) facts.select_revoked_digest digest_values digest_values (λ (t : Tables). t.revoked_digests) (λ t. refl)
     (Blob digest ∷ []) (λ x. refl) (bytes_eq digest) (is_digest digest)

@@ -26,7 +26,7 @@ pub record Finds {T : Type 0} (shown : T → Row) (text : List ℕ) (params : Ro
   pub read : AreRead shown answer values
 
 -- Nothing changes, and this is told of any tables that the store holds.
-pub record Tells (told : Tables → Type 0) (old new : State) : Type 0 where
+pub record ReadsTables (told : Tables → Type 0) (old new : State) : Type 0 where
   pub kept : Changes desk_schema contents old new (λ t. t)
   pub tells : (t : Tables) → Sees desk_schema old (contents t) → told t
 

@@ -7,8 +7,8 @@ ghost use Rattle.desk_texts.specs.ReplyTexts.{reply_text_of};
 ghost use Rattle.desk_history.specs.Formed.{IsReadable};
 ghost use Rattle.desk_history.specs.Runs.{has_key};
 ghost use Rattle.store_reads.specs.CallColumns.{call_columns, texts_of};
-ghost use Rattle.store_reads.specs.Reads.{Tells, listed};
-ghost use Rattle.store_sql.specs.States.{DoesInside, Keeps, Spares, StaysInside};
+ghost use Rattle.store_reads.specs.Reads.{ReadsTables, listed};
+ghost use Rattle.store_sql.specs.States.{DoesInside, CommitsNothing, Spares, StaysInside};
 ghost use Rattle.desk_history.specs.declared.rows.Minute.{Minute as Told};
 
 use crate::ReadFault;
@@ -120,10 +120,10 @@ pub fn call_of<S: Alter>(
 ) -> Result<Option<Minute>, ReadFault>
     ensures same_reference { tx.new.conn.ghost_name ≡ tx.old.conn.ghost_name }
     ensures value { DoesInside S.Store tx.old.conn.now tx.new.conn.now result
-        (λ minute. Tells (λ t. All IsReadable t.calls
+        (λ minute. ReadsTables (λ t. All IsReadable t.calls
         → filter (has_key caller.now key.now) t.calls ≡ listed minute)) }
     ensures inside { StaysInside S.Store tx.old.conn.now tx.new.conn.now result }
-    ensures kept { Keeps S.Store tx.old.conn.now tx.new.conn.now }
+    ensures kept { CommitsNothing S.Store tx.old.conn.now tx.new.conn.now }
     ensures survives { Spares S.Store tx.old.conn.now tx.new.conn.now }
 {
     let found: Option<CallTexts> = row_of(alloc, tx, SELECT_CALL, params![caller, key.as_str()])?;

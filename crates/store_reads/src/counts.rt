@@ -3,8 +3,8 @@ ghost use Rattle.std.specs.Prelude.{◌≡◌, [], ◌∷◌, MatchOption};
 ghost use Rattle.sqlite.specs.Values.{bound};
 ghost use Rattle.sqlite.specs.declared.types.Value.TheVariants.{Text};
 ghost use Rattle.store_reads.specs.Counting.{count_params, count_text, counted};
-ghost use Rattle.store_reads.specs.Reads.{IsCounted, Tells};
-ghost use Rattle.store_sql.specs.States.{DoesInside, Keeps, Spares, StaysInside};
+ghost use Rattle.store_reads.specs.Reads.{IsCounted, ReadsTables};
+ghost use Rattle.store_sql.specs.States.{DoesInside, CommitsNothing, Spares, StaysInside};
 
 use crate::ReadFault;
 use desk_texts::{ListedKind, State};
@@ -91,7 +91,7 @@ fn count_of<S: Alter>(
     ensures value { DoesInside S.Store tx.old.conn.now tx.new.conn.now result
         (λ n. IsCounted sql.now (bound params.now) n) }
     ensures inside { StaysInside S.Store tx.old.conn.now tx.new.conn.now result }
-    ensures kept { Keeps S.Store tx.old.conn.now tx.new.conn.now }
+    ensures kept { CommitsNothing S.Store tx.old.conn.now tx.new.conn.now }
     ensures survives { Spares S.Store tx.old.conn.now tx.new.conn.now }
 {
     let counted = count_rows(tx, sql, params)?;
@@ -107,9 +107,9 @@ fn count_of<S: Alter>(
 pub fn count<S: Alter>(tx: &mut Transaction<'_, S>, what: Counted) -> Result<u64, ReadFault>
     ensures same_reference { tx.new.conn.ghost_name ≡ tx.old.conn.ghost_name }
     ensures value { DoesInside S.Store tx.old.conn.now tx.new.conn.now result
-        (λ n. Tells (λ t. n ≡ counted what t)) }
+        (λ n. ReadsTables (λ t. n ≡ counted what t)) }
     ensures inside { StaysInside S.Store tx.old.conn.now tx.new.conn.now result }
-    ensures kept { Keeps S.Store tx.old.conn.now tx.new.conn.now }
+    ensures kept { CommitsNothing S.Store tx.old.conn.now tx.new.conn.now }
     ensures survives { Spares S.Store tx.old.conn.now tx.new.conn.now }
 {
     let sql = text_of(what);

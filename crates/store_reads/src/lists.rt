@@ -3,8 +3,8 @@ ghost use Rattle.std.specs.Prelude.{◌≡◌, bytes_eq, filter};
 ghost use Rattle.desk_history.specs.Listing.{is_entry};
 ghost use Rattle.desk_history.specs.Writes.{is_named};
 ghost use Rattle.store_reads.specs.Answers.{select_revoked};
-ghost use Rattle.store_reads.specs.Reads.{Tells, listed, revoked_in};
-ghost use Rattle.store_sql.specs.States.{DoesInside, Keeps, Spares, StaysInside};
+ghost use Rattle.store_reads.specs.Reads.{ReadsTables, listed, revoked_in};
+ghost use Rattle.store_sql.specs.States.{DoesInside, CommitsNothing, Spares, StaysInside};
 
 use crate::ReadFault;
 use crate::reading::row_of;
@@ -27,9 +27,9 @@ pub fn entry_of<S: Alter>(
 ) -> Result<Option<Entry>, ReadFault>
     ensures same_reference { tx.new.conn.ghost_name ≡ tx.old.conn.ghost_name }
     ensures value { DoesInside S.Store tx.old.conn.now tx.new.conn.now result
-        (λ row. Tells (λ t. filter (is_entry kind digest.now) t.listed ≡ listed row)) }
+        (λ row. ReadsTables (λ t. filter (is_entry kind digest.now) t.listed ≡ listed row)) }
     ensures inside { StaysInside S.Store tx.old.conn.now tx.new.conn.now result }
-    ensures kept { Keeps S.Store tx.old.conn.now tx.new.conn.now }
+    ensures kept { CommitsNothing S.Store tx.old.conn.now tx.new.conn.now }
     ensures survives { Spares S.Store tx.old.conn.now tx.new.conn.now }
 {
     let row = row_of(
@@ -60,9 +60,9 @@ pub fn revoked_of<S: Alter>(
 ) -> Result<Option<Digest>, ReadFault>
     ensures same_reference { tx.new.conn.ghost_name ≡ tx.old.conn.ghost_name }
     ensures value { DoesInside S.Store tx.old.conn.now tx.new.conn.now result
-        (λ row. Tells (λ t. filter (bytes_eq digest.now) (revoked_in kind t) ≡ listed row)) }
+        (λ row. ReadsTables (λ t. filter (bytes_eq digest.now) (revoked_in kind t) ≡ listed row)) }
     ensures inside { StaysInside S.Store tx.old.conn.now tx.new.conn.now result }
-    ensures kept { Keeps S.Store tx.old.conn.now tx.new.conn.now }
+    ensures kept { CommitsNothing S.Store tx.old.conn.now tx.new.conn.now }
     ensures survives { Spares S.Store tx.old.conn.now tx.new.conn.now }
 {
     let sql = revoked_text(kind);
@@ -78,9 +78,9 @@ pub fn component_named<S: Alter>(
 ) -> Result<Option<Component>, ReadFault>
     ensures same_reference { tx.new.conn.ghost_name ≡ tx.old.conn.ghost_name }
     ensures value { DoesInside S.Store tx.old.conn.now tx.new.conn.now result
-        (λ row. Tells (λ t. filter (is_named name.now) t.components ≡ listed row)) }
+        (λ row. ReadsTables (λ t. filter (is_named name.now) t.components ≡ listed row)) }
     ensures inside { StaysInside S.Store tx.old.conn.now tx.new.conn.now result }
-    ensures kept { Keeps S.Store tx.old.conn.now tx.new.conn.now }
+    ensures kept { CommitsNothing S.Store tx.old.conn.now tx.new.conn.now }
     ensures survives { Spares S.Store tx.old.conn.now tx.new.conn.now }
 {
     let row = row_of(alloc, tx, SELECT_COMPONENT, params![name.as_str()])?;

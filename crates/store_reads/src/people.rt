@@ -1,8 +1,8 @@
 //! People, by their keys.
 ghost use Rattle.std.specs.Prelude.{◌≡◌, filter};
 ghost use Rattle.desk_history.specs.People.{has_name, has_token};
-ghost use Rattle.store_reads.specs.Reads.{Tells, listed};
-ghost use Rattle.store_sql.specs.States.{DoesInside, Keeps, Spares, StaysInside};
+ghost use Rattle.store_reads.specs.Reads.{ReadsTables, listed};
+ghost use Rattle.store_sql.specs.States.{DoesInside, CommitsNothing, Spares, StaysInside};
 
 use crate::ReadFault;
 use crate::reading::row_of;
@@ -20,9 +20,9 @@ pub fn person_named<S: Alter>(
 ) -> Result<Option<Person>, ReadFault>
     ensures same_reference { tx.new.conn.ghost_name ≡ tx.old.conn.ghost_name }
     ensures value { DoesInside S.Store tx.old.conn.now tx.new.conn.now result
-        (λ person. Tells (λ t. filter (has_name name.now) t.people ≡ listed person)) }
+        (λ person. ReadsTables (λ t. filter (has_name name.now) t.people ≡ listed person)) }
     ensures inside { StaysInside S.Store tx.old.conn.now tx.new.conn.now result }
-    ensures kept { Keeps S.Store tx.old.conn.now tx.new.conn.now }
+    ensures kept { CommitsNothing S.Store tx.old.conn.now tx.new.conn.now }
     ensures survives { Spares S.Store tx.old.conn.now tx.new.conn.now }
 {
     let person = row_of(alloc, tx, SELECT_PERSON, params![name])?;
@@ -37,9 +37,9 @@ pub fn person_of_token<S: Alter>(
 ) -> Result<Option<Person>, ReadFault>
     ensures same_reference { tx.new.conn.ghost_name ≡ tx.old.conn.ghost_name }
     ensures value { DoesInside S.Store tx.old.conn.now tx.new.conn.now result
-        (λ person. Tells (λ t. filter (has_token token.now) t.people ≡ listed person)) }
+        (λ person. ReadsTables (λ t. filter (has_token token.now) t.people ≡ listed person)) }
     ensures inside { StaysInside S.Store tx.old.conn.now tx.new.conn.now result }
-    ensures kept { Keeps S.Store tx.old.conn.now tx.new.conn.now }
+    ensures kept { CommitsNothing S.Store tx.old.conn.now tx.new.conn.now }
     ensures survives { Spares S.Store tx.old.conn.now tx.new.conn.now }
 {
     let person = row_of(alloc, tx, SELECT_PERSON_OF_TOKEN, params![token.as_bytes()])?;

@@ -3,8 +3,8 @@ ghost use Rattle.std.specs.Prelude.{◌≡◌, ◌==◌, filter, flat_map, map, 
 ghost use Rattle.store_schema.specs.rows.Values.{item_values};
 ghost use Rattle.desk_history.specs.Items.{item_rows};
 ghost use Rattle.store_reads.specs.ProposalColumns.{head_columns, head_of};
-ghost use Rattle.store_reads.specs.Reads.{AreFound, Tells, listed};
-ghost use Rattle.store_sql.specs.States.{DoesInside, Keeps, Spares, StaysInside};
+ghost use Rattle.store_reads.specs.Reads.{AreFound, ReadsTables, listed};
+ghost use Rattle.store_sql.specs.States.{DoesInside, CommitsNothing, Spares, StaysInside};
 ghost use Rattle.store_schema.specs.Tables as tables;
 
 use crate::ReadFault;
@@ -25,9 +25,9 @@ pub fn head_numbered<S: Alter>(
 ) -> Result<Option<ProposalHead>, ReadFault>
     ensures same_reference { tx.new.conn.ghost_name ≡ tx.old.conn.ghost_name }
     ensures value { DoesInside S.Store tx.old.conn.now tx.new.conn.now result
-        (λ head. Tells (λ t. map head_of (filter (λ p. proposal == p.number) t.proposals) ≡ listed head)) }
+        (λ head. ReadsTables (λ t. map head_of (filter (λ p. proposal == p.number) t.proposals) ≡ listed head)) }
     ensures inside { StaysInside S.Store tx.old.conn.now tx.new.conn.now result }
-    ensures kept { Keeps S.Store tx.old.conn.now tx.new.conn.now }
+    ensures kept { CommitsNothing S.Store tx.old.conn.now tx.new.conn.now }
     ensures survives { Spares S.Store tx.old.conn.now tx.new.conn.now }
 {
     let key = number_of(proposal);
@@ -42,10 +42,10 @@ pub fn heads_all<S: Alter>(
 ) -> Result<Vec<ProposalHead>, ReadFault>
     ensures same_reference { tx.new.conn.ghost_name ≡ tx.old.conn.ghost_name }
     ensures value { DoesInside S.Store tx.old.conn.now tx.new.conn.now result
-        (λ heads. Tells (λ t. AreFound head_columns tables.proposals 1 (λ h. true)
+        (λ heads. ReadsTables (λ t. AreFound head_columns tables.proposals 1 (λ h. true)
         (map head_of t.proposals) heads.items)) }
     ensures inside { StaysInside S.Store tx.old.conn.now tx.new.conn.now result }
-    ensures kept { Keeps S.Store tx.old.conn.now tx.new.conn.now }
+    ensures kept { CommitsNothing S.Store tx.old.conn.now tx.new.conn.now }
     ensures survives { Spares S.Store tx.old.conn.now tx.new.conn.now }
 {
     let heads = rows_of(alloc, tx, SELECT_PROPOSALS, &[])?;
@@ -60,10 +60,10 @@ pub fn items_of<S: Alter>(
 ) -> Result<Vec<ProposalItemRow>, ReadFault>
     ensures same_reference { tx.new.conn.ghost_name ≡ tx.old.conn.ghost_name }
     ensures value { DoesInside S.Store tx.old.conn.now tx.new.conn.now result
-        (λ rows. Tells (λ t. AreFound item_values tables.proposal_items 2
+        (λ rows. ReadsTables (λ t. AreFound item_values tables.proposal_items 2
         (λ r. proposal == r.proposal) (flat_map item_rows t.proposals) rows.items)) }
     ensures inside { StaysInside S.Store tx.old.conn.now tx.new.conn.now result }
-    ensures kept { Keeps S.Store tx.old.conn.now tx.new.conn.now }
+    ensures kept { CommitsNothing S.Store tx.old.conn.now tx.new.conn.now }
     ensures survives { Spares S.Store tx.old.conn.now tx.new.conn.now }
 {
     let key = number_of(proposal);

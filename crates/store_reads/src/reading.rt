@@ -2,7 +2,7 @@
 ghost use Rattle.std.specs.Prelude.{◌≡◌, IfOk};
 ghost use Rattle.sqlite.specs.Values.{bound};
 ghost use Rattle.store_reads.specs.Reads.{AreRead, Finds, listed};
-ghost use Rattle.store_sql.specs.States.{DoesInside, Keeps, Spares, StaysInside};
+ghost use Rattle.store_sql.specs.States.{DoesInside, CommitsNothing, Spares, StaysInside};
 
 use crate::ReadFault;
 use crate::from_row::FromRow;
@@ -36,7 +36,7 @@ pub(crate) fn rows_of<S: Alter, T: FromRow + Drop>(
     ensures value { DoesInside S.Store tx.old.conn.now tx.new.conn.now result
         (λ values. Finds T.FromRow.shown sql.now (bound params.now) values.items) }
     ensures inside { StaysInside S.Store tx.old.conn.now tx.new.conn.now result }
-    ensures kept { Keeps S.Store tx.old.conn.now tx.new.conn.now }
+    ensures kept { CommitsNothing S.Store tx.old.conn.now tx.new.conn.now }
     ensures survives { Spares S.Store tx.old.conn.now tx.new.conn.now }
 {
     let rows = select(tx, sql, params)?;
@@ -55,7 +55,7 @@ pub(crate) fn row_of<S: Alter, T: FromRow + Drop>(
     ensures value { DoesInside S.Store tx.old.conn.now tx.new.conn.now result
         (λ value. Finds T.FromRow.shown sql.now (bound params.now) (listed value)) }
     ensures inside { StaysInside S.Store tx.old.conn.now tx.new.conn.now result }
-    ensures kept { Keeps S.Store tx.old.conn.now tx.new.conn.now }
+    ensures kept { CommitsNothing S.Store tx.old.conn.now tx.new.conn.now }
     ensures survives { Spares S.Store tx.old.conn.now tx.new.conn.now }
 {
     let mut values = rows_of(alloc, tx, sql, params)?;

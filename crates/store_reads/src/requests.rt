@@ -2,8 +2,8 @@
 ghost use Rattle.std.specs.Prelude.{◌≡◌, ◌==◌, bytes_eq, filter, true};
 ghost use Rattle.store_schema.specs.rows.Values.{request_certificate_values, request_component_values, vote_values};
 ghost use Rattle.store_reads.specs.Answers.{request_columns};
-ghost use Rattle.store_reads.specs.Reads.{AreFound, Tells, listed};
-ghost use Rattle.store_sql.specs.States.{DoesInside, Keeps, Spares, StaysInside};
+ghost use Rattle.store_reads.specs.Reads.{AreFound, ReadsTables, listed};
+ghost use Rattle.store_sql.specs.States.{DoesInside, CommitsNothing, Spares, StaysInside};
 ghost use Rattle.store_schema.specs.Tables as tables;
 
 use crate::ReadFault;
@@ -26,9 +26,9 @@ pub fn request_numbered<S: Alter>(
 ) -> Result<Option<RequestRow>, ReadFault>
     ensures same_reference { tx.new.conn.ghost_name ≡ tx.old.conn.ghost_name }
     ensures value { DoesInside S.Store tx.old.conn.now tx.new.conn.now result
-        (λ row. Tells (λ t. filter (λ r. request == r.number) t.requests ≡ listed row)) }
+        (λ row. ReadsTables (λ t. filter (λ r. request == r.number) t.requests ≡ listed row)) }
     ensures inside { StaysInside S.Store tx.old.conn.now tx.new.conn.now result }
-    ensures kept { Keeps S.Store tx.old.conn.now tx.new.conn.now }
+    ensures kept { CommitsNothing S.Store tx.old.conn.now tx.new.conn.now }
     ensures survives { Spares S.Store tx.old.conn.now tx.new.conn.now }
 {
     let no = key_of(request);
@@ -43,10 +43,10 @@ pub fn requests_all<S: Alter>(
 ) -> Result<Vec<RequestRow>, ReadFault>
     ensures same_reference { tx.new.conn.ghost_name ≡ tx.old.conn.ghost_name }
     ensures value { DoesInside S.Store tx.old.conn.now tx.new.conn.now result
-        (λ rows. Tells (λ t. AreFound request_columns tables.requests 1
+        (λ rows. ReadsTables (λ t. AreFound request_columns tables.requests 1
         (λ r. true) t.requests rows.items)) }
     ensures inside { StaysInside S.Store tx.old.conn.now tx.new.conn.now result }
-    ensures kept { Keeps S.Store tx.old.conn.now tx.new.conn.now }
+    ensures kept { CommitsNothing S.Store tx.old.conn.now tx.new.conn.now }
     ensures survives { Spares S.Store tx.old.conn.now tx.new.conn.now }
 {
     let rows = rows_of(alloc, tx, SELECT_REQUESTS, &[])?;
@@ -61,10 +61,10 @@ pub fn requests_by<S: Alter>(
 ) -> Result<Vec<RequestRow>, ReadFault>
     ensures same_reference { tx.new.conn.ghost_name ≡ tx.old.conn.ghost_name }
     ensures value { DoesInside S.Store tx.old.conn.now tx.new.conn.now result
-        (λ rows. Tells (λ t. AreFound request_columns tables.requests 1
+        (λ rows. ReadsTables (λ t. AreFound request_columns tables.requests 1
         (λ r. bytes_eq submitter.now r.submitter) t.requests rows.items)) }
     ensures inside { StaysInside S.Store tx.old.conn.now tx.new.conn.now result }
-    ensures kept { Keeps S.Store tx.old.conn.now tx.new.conn.now }
+    ensures kept { CommitsNothing S.Store tx.old.conn.now tx.new.conn.now }
     ensures survives { Spares S.Store tx.old.conn.now tx.new.conn.now }
 {
     let name = submitter.as_str();
@@ -80,10 +80,10 @@ pub fn certificates_of<S: Alter>(
 ) -> Result<Vec<RequestCertificateRow>, ReadFault>
     ensures same_reference { tx.new.conn.ghost_name ≡ tx.old.conn.ghost_name }
     ensures value { DoesInside S.Store tx.old.conn.now tx.new.conn.now result
-        (λ rows. Tells (λ t. AreFound request_certificate_values tables.request_certificates 2
+        (λ rows. ReadsTables (λ t. AreFound request_certificate_values tables.request_certificates 2
         (λ r. request == r.request) t.request_certificates rows.items)) }
     ensures inside { StaysInside S.Store tx.old.conn.now tx.new.conn.now result }
-    ensures kept { Keeps S.Store tx.old.conn.now tx.new.conn.now }
+    ensures kept { CommitsNothing S.Store tx.old.conn.now tx.new.conn.now }
     ensures survives { Spares S.Store tx.old.conn.now tx.new.conn.now }
 {
     let key = key_of(request);
@@ -99,10 +99,10 @@ pub fn components_of<S: Alter>(
 ) -> Result<Vec<RequestComponentRow>, ReadFault>
     ensures same_reference { tx.new.conn.ghost_name ≡ tx.old.conn.ghost_name }
     ensures value { DoesInside S.Store tx.old.conn.now tx.new.conn.now result
-        (λ rows. Tells (λ t. AreFound request_component_values tables.request_components 2
+        (λ rows. ReadsTables (λ t. AreFound request_component_values tables.request_components 2
         (λ r. request == r.request) t.request_components rows.items)) }
     ensures inside { StaysInside S.Store tx.old.conn.now tx.new.conn.now result }
-    ensures kept { Keeps S.Store tx.old.conn.now tx.new.conn.now }
+    ensures kept { CommitsNothing S.Store tx.old.conn.now tx.new.conn.now }
     ensures survives { Spares S.Store tx.old.conn.now tx.new.conn.now }
 {
     let key = key_of(request);
@@ -118,10 +118,10 @@ pub fn votes_of<S: Alter>(
 ) -> Result<Vec<VoteRow>, ReadFault>
     ensures same_reference { tx.new.conn.ghost_name ≡ tx.old.conn.ghost_name }
     ensures value { DoesInside S.Store tx.old.conn.now tx.new.conn.now result
-        (λ rows. Tells (λ t. AreFound vote_values tables.votes 2
+        (λ rows. ReadsTables (λ t. AreFound vote_values tables.votes 2
         (λ v. request == v.request) t.votes rows.items)) }
     ensures inside { StaysInside S.Store tx.old.conn.now tx.new.conn.now result }
-    ensures kept { Keeps S.Store tx.old.conn.now tx.new.conn.now }
+    ensures kept { CommitsNothing S.Store tx.old.conn.now tx.new.conn.now }
     ensures survives { Spares S.Store tx.old.conn.now tx.new.conn.now }
 {
     let key = key_of(request);
@@ -137,9 +137,9 @@ pub fn return_of<S: Alter>(
 ) -> Result<Option<ReturnRow>, ReadFault>
     ensures same_reference { tx.new.conn.ghost_name ≡ tx.old.conn.ghost_name }
     ensures value { DoesInside S.Store tx.old.conn.now tx.new.conn.now result
-        (λ row. Tells (λ t. filter (λ r. request == r.request) t.returns ≡ listed row)) }
+        (λ row. ReadsTables (λ t. filter (λ r. request == r.request) t.returns ≡ listed row)) }
     ensures inside { StaysInside S.Store tx.old.conn.now tx.new.conn.now result }
-    ensures kept { Keeps S.Store tx.old.conn.now tx.new.conn.now }
+    ensures kept { CommitsNothing S.Store tx.old.conn.now tx.new.conn.now }
     ensures survives { Spares S.Store tx.old.conn.now tx.new.conn.now }
 {
     let key = key_of(request);

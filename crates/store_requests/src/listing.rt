@@ -2,10 +2,10 @@
 ghost use Rattle.std.specs.Prelude.{◌≡◌, Bool, IfErr, IfOk, IsTrue, false, true};
 ghost use Rattle.std.specs.List.{AllZip};
 ghost use Rattle.desk_history.specs.Shown.{AreShown, IsGiven, requests_for, sees};
-ghost use Rattle.store_reads.specs.Reads.{Tells};
+ghost use Rattle.store_reads.specs.Reads.{ReadsTables};
 ghost use Rattle.store_requests.specs.Steps.{AreInOrder, AreRowsFor, IsShownIn};
 ghost use Rattle.store_requests.specs.Telling.{IsReaderRefusal, TellsOf};
-ghost use Rattle.store_sql.specs.States.{DoesInside, Keeps, Spares, StaysInside};
+ghost use Rattle.store_sql.specs.States.{DoesInside, CommitsNothing, Spares, StaysInside};
 ghost use Rattle.desk_texts.specs.declared.caller.Caller.TheVariants as callers;
 
 use crate::making::push;
@@ -36,9 +36,9 @@ fn rows_for<S: Alter>(
 ) -> Result<Vec<RequestRow>, ReadFault>
     ensures same_reference { tx.new.conn.ghost_name ≡ tx.old.conn.ghost_name }
     ensures value { DoesInside S.Store tx.old.conn.now tx.new.conn.now result
-        (λ rows. Tells (λ t. AreRowsFor reader.now t rows.items)) }
+        (λ rows. ReadsTables (λ t. AreRowsFor reader.now t rows.items)) }
     ensures inside { StaysInside S.Store tx.old.conn.now tx.new.conn.now result }
-    ensures kept { Keeps S.Store tx.old.conn.now tx.new.conn.now }
+    ensures kept { CommitsNothing S.Store tx.old.conn.now tx.new.conn.now }
     ensures survives { Spares S.Store tx.old.conn.now tx.new.conn.now }
 {
     if sees_all(reader.role) {
@@ -72,8 +72,8 @@ fn shown_all<S: Alter>(
 ) -> Result<Vec<ShownRequest>, ReadFault>
     ensures same_reference { tx.new.conn.ghost_name ≡ tx.old.conn.ghost_name }
     ensures value { DoesInside S.Store tx.old.conn.now tx.new.conn.now result
-        (λ shown. Tells (λ t. AllZip (IsShownIn t) rows.items shown.items)) }
-    ensures kept { Keeps S.Store tx.old.conn.now tx.new.conn.now }
+        (λ shown. ReadsTables (λ t. AllZip (IsShownIn t) rows.items shown.items)) }
+    ensures kept { CommitsNothing S.Store tx.old.conn.now tx.new.conn.now }
     ensures survives { Spares S.Store tx.old.conn.now tx.new.conn.now }
 {
     let mut all = Vec::new(alloc);
@@ -99,7 +99,7 @@ pub fn requests_of<S: Alter>(
         (λ ws shown. AreShown ws shown.items))) }
     ensures named { IfOk result (λ given. IfErr given IsReaderRefusal) }
     ensures inside { StaysInside S.Store tx.old.conn.now tx.new.conn.now result }
-    ensures kept { Keeps S.Store tx.old.conn.now tx.new.conn.now }
+    ensures kept { CommitsNothing S.Store tx.old.conn.now tx.new.conn.now }
     ensures survives { Spares S.Store tx.old.conn.now tx.new.conn.now }
 {
     let found = person_named(alloc, tx, name.as_str())?;

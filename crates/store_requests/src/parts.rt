@@ -1,8 +1,8 @@
 //! The rows that belong to a request.
 ghost use Rattle.std.specs.Prelude.{◌≡◌};
-ghost use Rattle.store_reads.specs.Reads.{Tells};
+ghost use Rattle.store_reads.specs.Reads.{ReadsTables};
 ghost use Rattle.store_requests.specs.Steps.{ArePartsOf};
-ghost use Rattle.store_sql.specs.States.{DoesInside, Keeps, Spares, StaysInside};
+ghost use Rattle.store_sql.specs.States.{DoesInside, CommitsNothing, Spares, StaysInside};
 
 use desk_history::{RequestCertificateRow, RequestComponentRow, ReturnRow, VoteRow};
 use desk_texts::RequestNumber;
@@ -27,9 +27,9 @@ pub(crate) fn parts_of<S: Alter>(
 ) -> Result<Parts, ReadFault>
     ensures same_reference { tx.new.conn.ghost_name ≡ tx.old.conn.ghost_name }
     ensures value { DoesInside S.Store tx.old.conn.now tx.new.conn.now result
-        (λ parts. Tells (λ t. ArePartsOf parts t request)) }
+        (λ parts. ReadsTables (λ t. ArePartsOf parts t request)) }
     ensures inside { StaysInside S.Store tx.old.conn.now tx.new.conn.now result }
-    ensures kept { Keeps S.Store tx.old.conn.now tx.new.conn.now }
+    ensures kept { CommitsNothing S.Store tx.old.conn.now tx.new.conn.now }
     ensures survives { Spares S.Store tx.old.conn.now tx.new.conn.now }
 {
     let certificates = certificates_of(alloc, tx, request)?;

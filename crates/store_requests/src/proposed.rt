@@ -3,7 +3,7 @@ ghost use Rattle.std.specs.Prelude.{◌≡◌, IfErr, IfOk, map};
 ghost use Rattle.desk_history.specs.Roles.{is_officer};
 ghost use Rattle.desk_history.specs.Shown.{IsGiven, proposals_for, shown_proposal};
 ghost use Rattle.store_requests.specs.Telling.{IsOfficerRefusal, TellsOf};
-ghost use Rattle.store_sql.specs.States.{DoesInside, Keeps, Spares, StaysInside};
+ghost use Rattle.store_sql.specs.States.{DoesInside, CommitsNothing, Spares, StaysInside};
 ghost use Rattle.desk_texts.specs.declared.caller.Caller.TheVariants as callers;
 
 use desk_bytes::Refusal;
@@ -39,7 +39,7 @@ pub fn proposals_of<S: Alter>(
         (λ ps shown. shown.items ≡ map (shown_proposal cs) ps))) }
     ensures named { IfOk result (λ given. IfErr given IsOfficerRefusal) }
     ensures inside { StaysInside S.Store tx.old.conn.now tx.new.conn.now result }
-    ensures kept { Keeps S.Store tx.old.conn.now tx.new.conn.now }
+    ensures kept { CommitsNothing S.Store tx.old.conn.now tx.new.conn.now }
     ensures survives { Spares S.Store tx.old.conn.now tx.new.conn.now }
 {
     stamps_are_above_none();

@@ -1,10 +1,10 @@
 //! Requests, as a person is shown them.
 ghost use Rattle.std.specs.Prelude.{◌≡◌, IfErr, IfOk, bytes_eq};
 ghost use Rattle.desk_history.specs.Shown.{GivesRequest, sees};
-ghost use Rattle.store_reads.specs.Reads.{Tells};
+ghost use Rattle.store_reads.specs.Reads.{ReadsTables};
 ghost use Rattle.store_requests.specs.Steps.{IsShownIn, visible_row};
 ghost use Rattle.store_requests.specs.Telling.{IsRequestRefusal, TellsOf};
-ghost use Rattle.store_sql.specs.States.{DoesInside, Keeps, Spares, StaysInside};
+ghost use Rattle.store_sql.specs.States.{DoesInside, CommitsNothing, Spares, StaysInside};
 ghost use Rattle.desk_texts.specs.declared.caller.Caller.TheVariants as callers;
 
 use crate::making::made_of;
@@ -24,9 +24,9 @@ pub(crate) fn shown_of<S: Alter>(
 ) -> Result<ShownRequest, ReadFault>
     ensures same_reference { tx.new.conn.ghost_name ≡ tx.old.conn.ghost_name }
     ensures value { DoesInside S.Store tx.old.conn.now tx.new.conn.now result
-        (λ s. Tells (λ t. IsShownIn t row s)) }
+        (λ s. ReadsTables (λ t. IsShownIn t row s)) }
     ensures inside { StaysInside S.Store tx.old.conn.now tx.new.conn.now result }
-    ensures kept { Keeps S.Store tx.old.conn.now tx.new.conn.now }
+    ensures kept { CommitsNothing S.Store tx.old.conn.now tx.new.conn.now }
     ensures survives { Spares S.Store tx.old.conn.now tx.new.conn.now }
 {
     let parts = parts_of(alloc, tx, row.number)?;
@@ -72,7 +72,7 @@ pub fn request<S: Alter>(
         (λ given. TellsOf (λ cs. GivesRequest cs (callers.Person name.now) number given)) }
     ensures named { IfOk result (λ given. IfErr given IsRequestRefusal) }
     ensures inside { StaysInside S.Store tx.old.conn.now tx.new.conn.now result }
-    ensures kept { Keeps S.Store tx.old.conn.now tx.new.conn.now }
+    ensures kept { CommitsNothing S.Store tx.old.conn.now tx.new.conn.now }
     ensures survives { Spares S.Store tx.old.conn.now tx.new.conn.now }
 {
     let found = person_named(alloc, tx, name.as_str())?;

@@ -2,7 +2,7 @@
 ghost use Rattle.std.specs.Prelude.{◌≡◌, IsTrue, OnOk, map};
 ghost use Rattle.sqlite.specs.Held.{state};
 ghost use Rattle.sqlite.specs.State.{HasCleanDisk};
-ghost use Rattle.store_sql.specs.States.{Keeps, Makes, Spares};
+ghost use Rattle.store_sql.specs.States.{CommitsNothing, Makes, Spares};
 ghost use Rattle.store_schema.specs.Tables.{added_tables, defined, desk_schema, desk_tables, first_schema, first_tables, no_schema};
 
 use sqlite::{Alter, Error, Transaction};
@@ -39,7 +39,7 @@ fn make_first<S: Alter>(tx: &mut Transaction<'_, S>) -> Result<(), Error>
         → OnOk result (Makes (state S.Store tx.old.conn.now)
         (state S.Store tx.new.conn.now) no_schema first_schema
         (map defined first_tables)) }
-    ensures kept { Keeps S.Store tx.old.conn.now tx.new.conn.now }
+    ensures kept { CommitsNothing S.Store tx.old.conn.now tx.new.conn.now }
     ensures survives { Spares S.Store tx.old.conn.now tx.new.conn.now }
 {
     match create_tables(tx, &CREATE_TABLES) {
@@ -56,7 +56,7 @@ pub fn make_added<S: Alter>(tx: &mut Transaction<'_, S>) -> Result<(), Error>
         → OnOk result (Makes (state S.Store tx.old.conn.now)
         (state S.Store tx.new.conn.now) first_schema desk_schema
         (map defined added_tables)) }
-    ensures kept { Keeps S.Store tx.old.conn.now tx.new.conn.now }
+    ensures kept { CommitsNothing S.Store tx.old.conn.now tx.new.conn.now }
     ensures survives { Spares S.Store tx.old.conn.now tx.new.conn.now }
 {
     match create_tables(tx, &CREATE_ADDED_TABLES) {
@@ -73,7 +73,7 @@ pub fn make<S: Alter>(tx: &mut Transaction<'_, S>) -> Result<(), Error>
         → OnOk result (Makes (state S.Store tx.old.conn.now)
         (state S.Store tx.new.conn.now) no_schema desk_schema
         (map defined desk_tables)) }
-    ensures kept { Keeps S.Store tx.old.conn.now tx.new.conn.now }
+    ensures kept { CommitsNothing S.Store tx.old.conn.now tx.new.conn.now }
     ensures survives { Spares S.Store tx.old.conn.now tx.new.conn.now }
 {
     make_first(tx)?;

@@ -58,8 +58,8 @@ StaysInside g old new result =
     HasCleanDisk (state g new) → IsTrue (state g old).in_transaction → OnOk result (IsTrue (state g new).is_open × IsTrue (state g new).in_transaction)
 
 -- nothing is committed, also after an error
-abbrev pub Keeps : {S : Type 0} → Ghosts S → Held S → Held S → Type 0
-Keeps g old new = HasCleanDisk (state g new) → IsTrue (state g old).in_transaction → KeepsCommit (state g old) (state g new)
+abbrev pub CommitsNothing : {S : Type 0} → Ghosts S → Held S → Held S → Type 0
+CommitsNothing g old new = HasCleanDisk (state g new) → IsTrue (state g old).in_transaction → KeepsCommit (state g old) (state g new)
 
 -- a stop leaves what it left before, on any disk
 abbrev pub Spares : {S : Type 0} → Ghosts S → Held S → Held S → Type 0

@@ -3,7 +3,7 @@ ghost use Rattle.std.specs.Prelude.{◌≡◌, ℕ, IfOk};
 ghost use Rattle.sqlite.specs.Values.{bound};
 ghost use Rattle.store_sql.specs.Effects.{Counts, Selects};
 ghost use Rattle.store_sql.specs.Queries.{number_row};
-ghost use Rattle.store_sql.specs.States.{DoesInside, Keeps, Spares, StaysInside};
+ghost use Rattle.store_sql.specs.States.{DoesInside, CommitsNothing, Spares, StaysInside};
 
 use sqlite::types::ValueRef;
 use sqlite::{Alter, Error, Row, Transaction};
@@ -18,7 +18,7 @@ pub fn select<S: Alter>(
     ensures value { DoesInside S.Store tx.old.conn.now tx.new.conn.now result
         (λ rows old new. Selects sql.now (bound params.now) old new rows.items) }
     ensures inside { StaysInside S.Store tx.old.conn.now tx.new.conn.now result }
-    ensures kept { Keeps S.Store tx.old.conn.now tx.new.conn.now }
+    ensures kept { CommitsNothing S.Store tx.old.conn.now tx.new.conn.now }
     ensures survives { Spares S.Store tx.old.conn.now tx.new.conn.now }
 {
     let selected = tx.query_all(sql, params)?;
@@ -45,7 +45,7 @@ pub fn count<S: Alter>(
     ensures value { DoesInside S.Store tx.old.conn.now tx.new.conn.now result
         (λ n old new. Counts sql.now (bound params.now) old new n) }
     ensures inside { StaysInside S.Store tx.old.conn.now tx.new.conn.now result }
-    ensures kept { Keeps S.Store tx.old.conn.now tx.new.conn.now }
+    ensures kept { CommitsNothing S.Store tx.old.conn.now tx.new.conn.now }
     ensures survives { Spares S.Store tx.old.conn.now tx.new.conn.now }
 {
     let rows = tx.query_all(sql, params)?;

@@ -4,7 +4,7 @@ ghost use Rattle.sqlite.specs.Held.{state};
 ghost use Rattle.sqlite.specs.State.{HasCleanDisk};
 ghost use Rattle.sqlite.specs.Values.{bound};
 ghost use Rattle.store_sql.specs.Effects.{Creates, CreatesAll, Deletes, Inserts, Updates};
-ghost use Rattle.store_sql.specs.States.{DoesInside, Keeps, Spares, StaysInside};
+ghost use Rattle.store_sql.specs.States.{DoesInside, CommitsNothing, Spares, StaysInside};
 
 use sqlite::types::ValueRef;
 use sqlite::{Alter, Error, Transaction};
@@ -19,7 +19,7 @@ pub fn insert<S: Alter>(
     ensures value { DoesInside S.Store tx.old.conn.now tx.new.conn.now result
         (λ _. Inserts sql.now (bound params.now)) }
     ensures inside { StaysInside S.Store tx.old.conn.now tx.new.conn.now result }
-    ensures kept { Keeps S.Store tx.old.conn.now tx.new.conn.now }
+    ensures kept { CommitsNothing S.Store tx.old.conn.now tx.new.conn.now }
     ensures survives { Spares S.Store tx.old.conn.now tx.new.conn.now }
 {
     let _inserted = tx.execute(sql, params)?;
@@ -36,7 +36,7 @@ pub fn update<S: Alter>(
     ensures value { DoesInside S.Store tx.old.conn.now tx.new.conn.now result
         (λ _. Updates sql.now (bound params.now)) }
     ensures inside { StaysInside S.Store tx.old.conn.now tx.new.conn.now result }
-    ensures kept { Keeps S.Store tx.old.conn.now tx.new.conn.now }
+    ensures kept { CommitsNothing S.Store tx.old.conn.now tx.new.conn.now }
     ensures survives { Spares S.Store tx.old.conn.now tx.new.conn.now }
 {
     let _updated = tx.execute(sql, params)?;
@@ -53,7 +53,7 @@ pub fn delete<S: Alter>(
     ensures value { DoesInside S.Store tx.old.conn.now tx.new.conn.now result
         (λ _. Deletes sql.now (bound params.now)) }
     ensures inside { StaysInside S.Store tx.old.conn.now tx.new.conn.now result }
-    ensures kept { Keeps S.Store tx.old.conn.now tx.new.conn.now }
+    ensures kept { CommitsNothing S.Store tx.old.conn.now tx.new.conn.now }
     ensures survives { Spares S.Store tx.old.conn.now tx.new.conn.now }
 {
     let _deleted = tx.execute(sql, params)?;
@@ -66,7 +66,7 @@ pub fn create_table<S: Alter>(tx: &mut Transaction<'_, S>, sql: &str) -> Result<
     ensures value { DoesInside S.Store tx.old.conn.now tx.new.conn.now result
         (λ _. Creates sql.now) }
     ensures inside { StaysInside S.Store tx.old.conn.now tx.new.conn.now result }
-    ensures kept { Keeps S.Store tx.old.conn.now tx.new.conn.now }
+    ensures kept { CommitsNothing S.Store tx.old.conn.now tx.new.conn.now }
     ensures survives { Spares S.Store tx.old.conn.now tx.new.conn.now }
 {
     tx.execute(sql, &[])?;
@@ -81,7 +81,7 @@ pub fn create_tables<S: Alter>(tx: &mut Transaction<'_, S>, texts: &[&str]) -> R
     ensures inside { HasCleanDisk (state S.Store tx.new.conn.now)
         → IsTrue (state S.Store tx.old.conn.now).in_transaction
         → OnOk result (IsTrue (state S.Store tx.new.conn.now).in_transaction) }
-    ensures kept { Keeps S.Store tx.old.conn.now tx.new.conn.now }
+    ensures kept { CommitsNothing S.Store tx.old.conn.now tx.new.conn.now }
     ensures survives { Spares S.Store tx.old.conn.now tx.new.conn.now }
 {
     for text in texts {

@@ -12,7 +12,7 @@ use Rattle.desk_texts.specs.declared.kind.ListedKind.{ListedKind}
 use Rattle.desk_history.specs.Calls.{is_among}
 use Rattle.desk_history.specs.Tables.{Tables}
 use Rattle.desk_history.proofs.ListLemmas.{bytes_eq-refl}
-use Rattle.store_reads.specs.Reads.{Tells, listed}
+use Rattle.store_reads.specs.Reads.{ReadsTables, listed}
 use Rattle.store_views.specs.lists.Gathering.{Gathers, PutsOnly}
 use Rattle.store_views.proofs.ListedFindLemmas.{any_map}
 use Rattle.store_reads.proofs.TellsLemmas.{tells_so, tells_then}
@@ -33,8 +33,8 @@ module _ {K X : Type 0} (rows_of : Tables → K → List X) (keys : List K) wher
 
     -- what the tables have of one key more was put
     pub gathers_next : (first mid new : State) → i < length keys → key ≡ get_or keys i key → after ≡ before ++ listed found
-        → Tells (Gathers rows_of (take i keys) start before) first mid → Tells (λ t. rows_of t key ≡ listed found) mid new
-        → Tells (Gathers rows_of (take (i + 1) keys) start after) first new
+        → ReadsTables (Gathers rows_of (take i keys) start before) first mid → ReadsTables (λ t. rows_of t key ≡ listed found) mid new
+        → ReadsTables (Gathers rows_of (take (i + 1) keys) start after) first new
     gathers_next first mid new low is put a b =
         tells_so first new (λ t. Gathers rows_of (take i keys) start before t × (rows_of t key ≡ listed found))
         (Gathers rows_of (take (i + 1) keys) start after)

@@ -3,8 +3,8 @@ use Rattle.std.proofs.Common.{◌≡◌, ◌⊎◌, inl, inr, ℕ, ◌+◌, ◌<
 use Rattle.std.proofs.lemmas.List.Elements.{All-cons, All-head, All-more, All-nil, All-weaker}
 use Rattle.desk_texts.specs.declared.command.Command.{Command}
 use Rattle.desk_history.specs.Tables.{Tables}
-use Rattle.desk_rules.specs.declared.view.Counted.{Counted}
-use Rattle.desk_rules.specs.declared.view.Counted.TheVariants as counted
+use Rattle.desk_rules.specs.declared.view.LimitedTable.{LimitedTable}
+use Rattle.desk_rules.specs.declared.view.LimitedTable.TheVariants as counted
 use Rattle.desk_rules.specs.Shown.{is_table, may_put, rows_in}
 use Rattle.store_views.specs.sizes.Sizes.{AreRight, HaveSameOthers, HaveSameRows, known}
 use Rattle.store_views.specs.declared.sizes.kept.KeptSizes.{KeptSizes}
@@ -12,7 +12,7 @@ use Rattle.store_views.specs.Learning.{Learns}
 use Rattle.store_views.specs.Steps.{LearnsCalls, LearnsOf}
 
 -- two tables are the same or not
-alike : (a b : Counted) → (a ≡ b) ⊎ IsTrue (not (is_table a b))
+alike : (a b : LimitedTable) → (a ≡ b) ⊎ IsTrue (not (is_table a b))
 alike counted.People counted.People = inl refl
 alike counted.People counted.Requests = inr refl
 alike counted.People counted.Listed = inr refl
@@ -77,7 +77,7 @@ module _ (before after : KeptSizes) (t : Tables) (n : ℕ) where
     sizes = λ table m e. right.sizes table m (same table ∙ e);
   }
 
-  pub right_size : (table : Counted) → n ≡ rows_in t table → known after table ≡ Some n → HaveSameOthers table before after → AreRight before t → AreRight after t
+  pub right_size : (table : LimitedTable) → n ≡ rows_in t table → known after table ≡ Some n → HaveSameOthers table before after → AreRight before t → AreRight after t
   right_size table counted is same right = record {
     calls = λ m e. right.calls m (same.calls ∙ e);
     sizes = λ other m e. elim (alike table other) [
@@ -96,14 +96,14 @@ other_holds true true e h = refl
 other_holds true false e h = absurd cc
 other_holds false b e h = absurd (let k = h in cc)
 
-module _ (command : Command) (table : Counted) (before : KeptSizes) where
+module _ (command : Command) (table : LimitedTable) (before : KeptSizes) where
   abbrev pub is_lacking : Bool
   is_lacking = may_put command table && not (is_some (known before table))
 
   pub learns_nothing : is_lacking ≡ false → LearnsOf (table ∷ []) command before before
   learns_nothing fine = record {
     calls = refl;
-    enough = All-cons (λ (x : Counted). IsTrue (may_put command x) → IsTrue (is_some (known before x))) table [] (other_holds (may_put command table) (is_some (known before table)) fine) (All-nil (λ (x : Counted). IsTrue (may_put command x) → IsTrue (is_some (known before x))));
+    enough = All-cons (λ (x : LimitedTable). IsTrue (may_put command x) → IsTrue (is_some (known before x))) table [] (other_holds (may_put command table) (is_some (known before table)) fine) (All-nil (λ (x : LimitedTable). IsTrue (may_put command x) → IsTrue (is_some (known before x))));
     sizes = λ other n e. e;
     others = λ other h. refl;
   }
@@ -113,7 +113,7 @@ module _ (command : Command) (table : Counted) (before : KeptSizes) where
       let asked = both_hold (may_put command table) (is_some (known before table)) lacking in
       record {
         calls = same.calls;
-        enough = All-cons (λ (x : Counted). IsTrue (may_put command x) → IsTrue (is_some (known after x))) table [] (λ h. rw is refl) (All-nil (λ (x : Counted). IsTrue (may_put command x) → IsTrue (is_some (known after x))));
+        enough = All-cons (λ (x : LimitedTable). IsTrue (may_put command x) → IsTrue (is_some (known after x))) table [] (λ h. rw is refl) (All-nil (λ (x : LimitedTable). IsTrue (may_put command x) → IsTrue (is_some (known after x))));
         sizes = λ other m e. elim (alike table other) [
           | inl one ↦ absurd (let had = subst (λ x. known before x ≡ Some m) (sym one) e in let none = rw had at asked.1 in cc)
           | inr differs ↦ sym (same.others other differs) ∙ e
@@ -128,26 +128,26 @@ module _ (command : Command) where
   pub learns_none : (sizes : KeptSizes) → LearnsOf [] command sizes sizes
   learns_none sizes = record {
     calls = refl;
-    enough = All-nil (λ (x : Counted). IsTrue (may_put command x) → IsTrue (is_some (known sizes x)));
+    enough = All-nil (λ (x : LimitedTable). IsTrue (may_put command x) → IsTrue (is_some (known sizes x)));
     sizes = λ other n e. e;
     others = λ other h. refl;
   }
 
-  pub learns_next : (tables : List Counted) (i : ℕ) (table : Counted) (a b c : KeptSizes) → i < length tables → table ≡ get_or tables i table
+  pub learns_next : (tables : List LimitedTable) (i : ℕ) (table : LimitedTable) (a b c : KeptSizes) → i < length tables → table ≡ get_or tables i table
       → LearnsOf (take i tables) command a b → LearnsOf (table ∷ []) command b c → LearnsOf (take (i + 1) tables) command a c
   learns_next tables i table a b c low is x y = record {
     calls = x.calls ∙ y.calls;
     enough =
-        let P = λ (k : Counted). IsTrue (may_put command k) → IsTrue (is_some (known c k)) in
+        let P = λ (k : LimitedTable). IsTrue (may_put command k) → IsTrue (is_some (known c k)) in
         All-more P tables i table low
-        (All-weaker (λ (k : Counted). IsTrue (may_put command k) → IsTrue (is_some (known b k))) P (λ k f h. stays (known b k) (known c k) (y.sizes k) (f h)) (take i tables) x.enough)
+        (All-weaker (λ (k : LimitedTable). IsTrue (may_put command k) → IsTrue (is_some (known b k))) P (λ k f h. stays (known b k) (known c k) (y.sizes k) (f h)) (take i tables) x.enough)
         (subst P is (All-head P table [] y.enough));
     sizes = λ k n e. y.sizes k n (x.sizes k n e);
     others = λ k h. y.others k h ∙ x.others k h;
   }
 
   -- the tables that a limit of the desk counts
-  abbrev pub all_tables : List Counted
+  abbrev pub all_tables : List LimitedTable
   all_tables = counted.People ∷ counted.Requests ∷ counted.Listed ∷ counted.RevokedDigests ∷ counted.RevokedCertificates ∷ counted.Components ∷ counted.Proposals ∷ []
 
   pub learns_all : (a b c : KeptSizes) → LearnsCalls a b → LearnsOf all_tables command b c → Learns command a c
@@ -158,7 +158,7 @@ module _ (command : Command) where
     others = λ table h. y.others table h ∙ sym (x.sizes table);
   }
     where
-      each : (table : Counted) → IsTrue (may_put command table) → IsTrue (is_some (known c table))
+      each : (table : LimitedTable) → IsTrue (may_put command table) → IsTrue (is_some (known c table))
       each counted.People = y.enough 0 counted.People (omega arith)
       each counted.Requests = y.enough 1 counted.People (omega arith)
       each counted.Listed = y.enough 2 counted.People (omega arith)

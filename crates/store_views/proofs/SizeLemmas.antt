@@ -24,8 +24,8 @@ use Rattle.desk_history.specs.Tables.{Tables, level_row, proposal_row, request_r
 use Rattle.desk_history.specs.Writes.{all_written, written}
 use Rattle.desk_history.proofs.CountLemmas.{one_if}
 use Rattle.desk_history.proofs.RunLemmas.{IsNewest, Within, legal_parts, newest}
-use Rattle.desk_rules.specs.declared.view.Counted.{Counted}
-use Rattle.desk_rules.specs.declared.view.Counted.TheVariants as counted
+use Rattle.desk_rules.specs.declared.view.LimitedTable.{LimitedTable}
+use Rattle.desk_rules.specs.declared.view.LimitedTable.TheVariants as counted
 use Rattle.desk_rules.specs.Room.{puts}
 use Rattle.desk_rules.specs.Shown.{rows_in}
 use Rattle.desk_rules.proofs.RoomLemmas.{certificates_step, components_step, digests_step, grows, minutes_length, people_step, proposals_step, requests_step}
@@ -102,7 +102,7 @@ module _ (owner : List ℕ) (cs : History) (c : Call) (ws : List Write) (k : Kep
   counts : (f : Tables → ℕ) (p : Write → Bool) → ((w : Write) (t : Tables) → f (written w t) ≡ one_if (p w) + f t) → count_by p ws + f (tables owner cs) ≡ f (tables owner (item c ∷ cs))
   counts f p step = sym (grows f p step ws (tables owner cs)) ∙ ap f made
 
-  goes : (table : Counted) → Goes (known k table) (known (sizes_after k c.command ws) table) (rows_in (tables owner (item c ∷ cs)) table)
+  goes : (table : LimitedTable) → Goes (known k table) (known (sizes_after k c.command ws) table) (rows_in (tables owner (item c ∷ cs)) table)
   goes counted.People =
       more_goes k.people (count_by (puts counted.People) ws) (length (people cs)) (length (people (item c ∷ cs))) (right.sizes counted.People)
       (counts (λ t. length t.people) (puts counted.People) people_step) (below (length (people (item c ∷ cs))) most_people within.people (omega arith))

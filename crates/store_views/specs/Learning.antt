@@ -1,7 +1,7 @@
 -- Which sizes are known after a command.
 use Rattle.std.specs.Prelude.{◌≡◌, ℕ, not, Some, IsTrue}
 use Rattle.desk_texts.specs.declared.command.Command.{Command}
-use Rattle.desk_rules.specs.declared.view.Counted.{Counted}
+use Rattle.desk_rules.specs.declared.view.LimitedTable.{LimitedTable}
 use Rattle.desk_rules.specs.Shown.{may_put}
 use Rattle.store_views.specs.sizes.Sizes.{AreEnough, known}
 use Rattle.store_views.specs.declared.sizes.kept.KeptSizes.{KeptSizes}
@@ -10,5 +10,5 @@ use Rattle.store_views.specs.declared.sizes.kept.KeptSizes.{KeptSizes}
 pub record Learns (command : Command) (before after : KeptSizes) : Type 0 where
   pub enough : AreEnough after command
   pub calls : (n : ℕ) → before.calls ≡ Some n → after.calls ≡ Some n
-  pub sizes : (table : Counted) (n : ℕ) → known before table ≡ Some n → known after table ≡ Some n
-  pub others : (table : Counted) → IsTrue (not (may_put command table)) → known after table ≡ known before table
+  pub sizes : (table : LimitedTable) (n : ℕ) → known before table ≡ Some n → known after table ≡ Some n
+  pub others : (table : LimitedTable) → IsTrue (not (may_put command table)) → known after table ≡ known before table

@@ -13,7 +13,7 @@ use Rattle.desk_history.specs.People.{has_name, has_token}
 use Rattle.desk_history.specs.Requests.{votes_on}
 use Rattle.desk_history.specs.Runs.{has_key}
 use Rattle.desk_history.specs.Tables.{Tables}
-use Rattle.desk_rules.specs.declared.view.Counted.{Counted}
+use Rattle.desk_rules.specs.declared.view.LimitedTable.{LimitedTable}
 use Rattle.desk_rules.specs.Keys.{people_named, proposal_named, request_named, tokens_named}
 use Rattle.desk_rules.specs.Shown.{is_proposal_row, is_request_row, may_put}
 use Rattle.store_proposals.specs.Reading.{IsStamped}
@@ -65,14 +65,14 @@ pub record HoldsNamed (n : CallRows) (c : Call) : Type 0 where
 
 -- of these tables the sizes that the command needs are known; those that were known, and those that it doesn't need, are as they
 -- were
-pub record LearnsOf (tables : List Counted) (command : Command) (before after : KeptSizes) : Type 0 where
+pub record LearnsOf (tables : List LimitedTable) (command : Command) (before after : KeptSizes) : Type 0 where
   pub calls : before.calls ≡ after.calls
   pub enough : All (λ table. IsTrue (may_put command table) → IsTrue (is_some (known after table))) tables
-  pub sizes : (table : Counted) (n : ℕ) → known before table ≡ Some n → known after table ≡ Some n
-  pub others : (table : Counted) → IsTrue (not (may_put command table)) → known after table ≡ known before table
+  pub sizes : (table : LimitedTable) (n : ℕ) → known before table ≡ Some n → known after table ≡ Some n
+  pub others : (table : LimitedTable) → IsTrue (not (may_put command table)) → known after table ≡ known before table
 
 -- how many calls there are is known; all else is as it was
 pub record LearnsCalls (before after : KeptSizes) : Type 0 where
   pub enough : IsTrue (is_some after.calls)
   pub kept : (n : ℕ) → before.calls ≡ Some n → after.calls ≡ Some n
-  pub sizes : (table : Counted) → known before table ≡ known after table
+  pub sizes : (table : LimitedTable) → known before table ≡ known after table

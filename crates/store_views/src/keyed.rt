@@ -5,9 +5,9 @@ ghost use Rattle.desk_history.specs.Formed.{IsReadable};
 ghost use Rattle.desk_history.specs.People.{has_name, has_token};
 ghost use Rattle.desk_history.specs.Runs.{has_key};
 ghost use Rattle.store_proposals.specs.Reading.{IsStamped};
-ghost use Rattle.store_reads.specs.Reads.{AreFound, Tells, listed};
+ghost use Rattle.store_reads.specs.Reads.{AreFound, ReadsTables, listed};
 ghost use Rattle.desk_rules.specs.Shown.{is_proposal_row, is_request_row};
-ghost use Rattle.store_sql.specs.States.{DoesInside, Keeps, Spares, StaysInside};
+ghost use Rattle.store_sql.specs.States.{DoesInside, CommitsNothing, Spares, StaysInside};
 ghost use Rattle.store_schema.specs.Tables as tables;
 
 use desk_bytes::Digest;
@@ -26,10 +26,10 @@ pub(crate) fn person<S: Alter>(
 ) -> Result<Option<Person>, ReadFault>
     ensures same_reference { tx.new.conn.ghost_name ≡ tx.old.conn.ghost_name }
     ensures value { DoesInside S.Store tx.old.conn.now tx.new.conn.now result
-        (λ person. Tells (λ t. filter (has_name name.now) t.people ≡ listed person)) }
+        (λ person. ReadsTables (λ t. filter (has_name name.now) t.people ≡ listed person)) }
     ensures only { IfOk result (λ person. All (λ p. IsTrue (has_name name.now p)) (listed person)) }
     ensures inside { StaysInside S.Store tx.old.conn.now tx.new.conn.now result }
-    ensures kept { Keeps S.Store tx.old.conn.now tx.new.conn.now }
+    ensures kept { CommitsNothing S.Store tx.old.conn.now tx.new.conn.now }
     ensures survives { Spares S.Store tx.old.conn.now tx.new.conn.now }
 {
     let Some(person) = person_named(alloc, tx, name)? else {
@@ -49,11 +49,11 @@ pub(crate) fn holder<S: Alter>(
 ) -> Result<Option<Person>, ReadFault>
     ensures same_reference { tx.new.conn.ghost_name ≡ tx.old.conn.ghost_name }
     ensures value { DoesInside S.Store tx.old.conn.now tx.new.conn.now result
-        (λ person. Tells (λ t. filter (has_token token.now) t.people ≡ listed person)) }
+        (λ person. ReadsTables (λ t. filter (has_token token.now) t.people ≡ listed person)) }
     ensures only { IfOk result (λ person. All (λ p. IsTrue (has_token token.now p))
         (listed person)) }
     ensures inside { StaysInside S.Store tx.old.conn.now tx.new.conn.now result }
-    ensures kept { Keeps S.Store tx.old.conn.now tx.new.conn.now }
+    ensures kept { CommitsNothing S.Store tx.old.conn.now tx.new.conn.now }
     ensures survives { Spares S.Store tx.old.conn.now tx.new.conn.now }
 {
     let Some(person) = person_of_token(alloc, tx, token)? else {
@@ -74,12 +74,12 @@ pub(crate) fn earlier<S: Alter>(
 ) -> Result<Option<Minute>, ReadFault>
     ensures same_reference { tx.new.conn.ghost_name ≡ tx.old.conn.ghost_name }
     ensures value { DoesInside S.Store tx.old.conn.now tx.new.conn.now result
-        (λ minute. Tells (λ t. All IsReadable t.calls
+        (λ minute. ReadsTables (λ t. All IsReadable t.calls
         → filter (has_key caller.now key.now) t.calls ≡ listed minute)) }
     ensures only { IfOk result (λ minute. All (λ m. IsTrue (has_key caller.now key.now m))
         (listed minute)) }
     ensures inside { StaysInside S.Store tx.old.conn.now tx.new.conn.now result }
-    ensures kept { Keeps S.Store tx.old.conn.now tx.new.conn.now }
+    ensures kept { CommitsNothing S.Store tx.old.conn.now tx.new.conn.now }
     ensures survives { Spares S.Store tx.old.conn.now tx.new.conn.now }
 {
     let Some(minute) = call_of(alloc, tx, caller, key)? else {
@@ -99,10 +99,10 @@ pub(crate) fn request<S: Alter>(
 ) -> Result<Option<RequestRow>, ReadFault>
     ensures same_reference { tx.new.conn.ghost_name ≡ tx.old.conn.ghost_name }
     ensures value { DoesInside S.Store tx.old.conn.now tx.new.conn.now result
-        (λ row. Tells (λ t. filter (is_request_row number) t.requests ≡ listed row)) }
+        (λ row. ReadsTables (λ t. filter (is_request_row number) t.requests ≡ listed row)) }
     ensures only { IfOk result (λ row. All (λ r. r.number ≡ number) (listed row)) }
     ensures inside { StaysInside S.Store tx.old.conn.now tx.new.conn.now result }
-    ensures kept { Keeps S.Store tx.old.conn.now tx.new.conn.now }
+    ensures kept { CommitsNothing S.Store tx.old.conn.now tx.new.conn.now }
     ensures survives { Spares S.Store tx.old.conn.now tx.new.conn.now }
 {
     let Some(row) = request_numbered(alloc, tx, number)? else {
@@ -122,11 +122,11 @@ pub(crate) fn proposal<S: Alter>(
 ) -> Result<Option<ProposalRow>, ReadFault>
     ensures same_reference { tx.new.conn.ghost_name ≡ tx.old.conn.ghost_name }
     ensures value { DoesInside S.Store tx.old.conn.now tx.new.conn.now result
-        (λ row. Tells (λ t. All IsStamped t.proposals
+        (λ row. ReadsTables (λ t. All IsStamped t.proposals
         → filter (is_proposal_row number) t.proposals ≡ listed row)) }
     ensures only { IfOk result (λ row. All (λ r. r.number ≡ number) (listed row)) }
     ensures inside { StaysInside S.Store tx.old.conn.now tx.new.conn.now result }
-    ensures kept { Keeps S.Store tx.old.conn.now tx.new.conn.now }
+    ensures kept { CommitsNothing S.Store tx.old.conn.now tx.new.conn.now }
     ensures survives { Spares S.Store tx.old.conn.now tx.new.conn.now }
 {
     let Some(proposal) = proposal_of(alloc, tx, number)? else {
@@ -153,11 +153,11 @@ pub(crate) fn votes<S: Alter>(
 ) -> Result<Vec<VoteRow>, ReadFault>
     ensures same_reference { tx.new.conn.ghost_name ≡ tx.old.conn.ghost_name }
     ensures value { DoesInside S.Store tx.old.conn.now tx.new.conn.now result
-        (λ rows. Tells (λ t. AreFound vote_values tables.votes 2
+        (λ rows. ReadsTables (λ t. AreFound vote_values tables.votes 2
         (λ v. number == v.request) t.votes rows.items)) }
     ensures only { IfOk result (λ rows. All (λ v. v.request ≡ number) rows.items) }
     ensures inside { StaysInside S.Store tx.old.conn.now tx.new.conn.now result }
-    ensures kept { Keeps S.Store tx.old.conn.now tx.new.conn.now }
+    ensures kept { CommitsNothing S.Store tx.old.conn.now tx.new.conn.now }
     ensures survives { Spares S.Store tx.old.conn.now tx.new.conn.now }
 {
     let rows = votes_of(alloc, tx, number)?;

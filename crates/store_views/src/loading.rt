@@ -3,11 +3,11 @@ ghost use Rattle.std.specs.Prelude.{◌≡◌, ◌++◌, ℕ, All, IfOk, IsTrue,
 ghost use Rattle.desk_history.specs.Formed.{IsReadable};
 ghost use Rattle.desk_history.specs.People.{added_by};
 ghost use Rattle.desk_history.specs.Runs.{has_key};
-ghost use Rattle.store_reads.specs.Reads.{Tells, listed};
+ghost use Rattle.store_reads.specs.Reads.{ReadsTables, listed};
 ghost use Rattle.desk_rules.specs.Decisions.{called};
 ghost use Rattle.desk_rules.specs.Keys as spec;
 ghost use Rattle.desk_rules.specs.Shown.{is_proposal_row};
-ghost use Rattle.store_sql.specs.States.{DoesInside, Keeps, Spares, StaysInside};
+ghost use Rattle.store_sql.specs.States.{DoesInside, CommitsNothing, Spares, StaysInside};
 ghost use Rattle.desk_texts.specs.Callers.{caller_name};
 ghost use Rattle.store_views.specs.Named.{is_named_person};
 ghost use Rattle.store_proposals.specs.Reading.{IsStamped};
@@ -142,11 +142,11 @@ fn people_of<S: Alter>(
 ) -> Result<Vec<Person>, ReadFault>
     ensures same_reference { tx.new.conn.ghost_name ≡ tx.old.conn.ghost_name }
     ensures value { DoesInside S.Store tx.old.conn.now tx.new.conn.now result
-        (λ people. Tells (λ t. ShowsPeople people.items t (caller_name caller.now) command.now)) }
+        (λ people. ReadsTables (λ t. ShowsPeople people.items t (caller_name caller.now) command.now)) }
     ensures only { IfOk result (λ people.
         All (λ p. IsTrue (is_named_person (caller_name caller.now) command.now p)) people.items) }
     ensures inside { StaysInside S.Store tx.old.conn.now tx.new.conn.now result }
-    ensures kept { Keeps S.Store tx.old.conn.now tx.new.conn.now }
+    ensures kept { CommitsNothing S.Store tx.old.conn.now tx.new.conn.now }
     ensures survives { Spares S.Store tx.old.conn.now tx.new.conn.now }
 {
     let own = keyed::person(alloc, tx, caller.name())?;
@@ -171,13 +171,13 @@ fn calls_of<S: Alter>(
 ) -> Result<Vec<Minute>, ReadFault>
     ensures same_reference { tx.new.conn.ghost_name ≡ tx.old.conn.ghost_name }
     ensures value { DoesInside S.Store tx.old.conn.now tx.new.conn.now result
-        (λ calls. Tells (λ t. All IsReadable t.calls
+        (λ calls. ReadsTables (λ t. All IsReadable t.calls
         → find (has_key (caller_name caller.now) key.now) calls.items
         ≡ find (has_key (caller_name caller.now) key.now) t.calls)) }
     ensures only { IfOk result (λ calls.
         All (λ m. IsTrue (has_key (caller_name caller.now) key.now m)) calls.items) }
     ensures inside { StaysInside S.Store tx.old.conn.now tx.new.conn.now result }
-    ensures kept { Keeps S.Store tx.old.conn.now tx.new.conn.now }
+    ensures kept { CommitsNothing S.Store tx.old.conn.now tx.new.conn.now }
     ensures survives { Spares S.Store tx.old.conn.now tx.new.conn.now }
 {
     let earlier = keyed::earlier(alloc, tx, caller.name(), key)?;
@@ -194,10 +194,10 @@ fn requests_of<S: Alter>(
 ) -> Result<Vec<RequestRow>, ReadFault>
     ensures same_reference { tx.new.conn.ghost_name ≡ tx.old.conn.ghost_name }
     ensures value { DoesInside S.Store tx.old.conn.now tx.new.conn.now result
-        (λ rows. Tells (λ t. ShowsRequest rows.items t (spec.request_named command.now))) }
+        (λ rows. ReadsTables (λ t. ShowsRequest rows.items t (spec.request_named command.now))) }
     ensures only { IfOk result (λ rows.
         All (λ r. spec.request_named command.now ≡ Some r.number) rows.items) }
-    ensures kept { Keeps S.Store tx.old.conn.now tx.new.conn.now }
+    ensures kept { CommitsNothing S.Store tx.old.conn.now tx.new.conn.now }
     ensures survives { Spares S.Store tx.old.conn.now tx.new.conn.now }
 {
     let mut rows = Vec::new(alloc);
@@ -217,10 +217,10 @@ fn votes_of<S: Alter>(
 ) -> Result<Vec<VoteRow>, ReadFault>
     ensures same_reference { tx.new.conn.ghost_name ≡ tx.old.conn.ghost_name }
     ensures value { DoesInside S.Store tx.old.conn.now tx.new.conn.now result
-        (λ rows. Tells (λ t. ShowsVotes rows.items t (spec.request_named command.now))) }
+        (λ rows. ReadsTables (λ t. ShowsVotes rows.items t (spec.request_named command.now))) }
     ensures only { IfOk result (λ rows.
         All (λ v. spec.request_named command.now ≡ Some v.request) rows.items) }
-    ensures kept { Keeps S.Store tx.old.conn.now tx.new.conn.now }
+    ensures kept { CommitsNothing S.Store tx.old.conn.now tx.new.conn.now }
     ensures survives { Spares S.Store tx.old.conn.now tx.new.conn.now }
 {
     let Some(number) = request_of(command) else {
@@ -238,11 +238,11 @@ fn proposals_of<S: Alter>(
 ) -> Result<Vec<ProposalRow>, ReadFault>
     ensures same_reference { tx.new.conn.ghost_name ≡ tx.old.conn.ghost_name }
     ensures value { DoesInside S.Store tx.old.conn.now tx.new.conn.now result
-        (λ rows. Tells (λ t. All IsStamped t.proposals
+        (λ rows. ReadsTables (λ t. All IsStamped t.proposals
         → ShowsProposal rows.items t (spec.proposal_named command.now))) }
     ensures only { IfOk result (λ rows.
         All (λ r. spec.proposal_named command.now ≡ Some r.number) rows.items) }
-    ensures kept { Keeps S.Store tx.old.conn.now tx.new.conn.now }
+    ensures kept { CommitsNothing S.Store tx.old.conn.now tx.new.conn.now }
     ensures survives { Spares S.Store tx.old.conn.now tx.new.conn.now }
 {
     let mut rows = Vec::new(alloc);
@@ -264,11 +264,11 @@ pub(crate) fn rows_of_call<S: Alter>(
 ) -> Result<CallRows, ReadFault>
     ensures same_reference { tx.new.conn.ghost_name ≡ tx.old.conn.ghost_name }
     ensures value { DoesInside S.Store tx.old.conn.now tx.new.conn.now result
-        (λ rows. Tells (λ t. ReadsBack t
+        (λ rows. ReadsTables (λ t. ReadsBack t
         → ShowsNamed rows t (called caller.now key.now command.now))) }
     ensures only { IfOk result (λ rows. HoldsNamed rows (called caller.now key.now command.now)) }
     ensures inside { StaysInside S.Store tx.old.conn.now tx.new.conn.now result }
-    ensures kept { Keeps S.Store tx.old.conn.now tx.new.conn.now }
+    ensures kept { CommitsNothing S.Store tx.old.conn.now tx.new.conn.now }
     ensures survives { Spares S.Store tx.old.conn.now tx.new.conn.now }
 {
     let people = people_of(alloc, tx, caller, command)?;

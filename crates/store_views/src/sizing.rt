@@ -2,48 +2,48 @@
 ghost use Rattle.std.specs.Prelude.{◌≡◌, ◌&&◌, [], ◌∷◌, IfOk, is_some, not};
 ghost use Rattle.desk_history.specs.Tables.{Tables};
 ghost use Rattle.store_reads.specs.Counting.{counted};
-ghost use Rattle.store_reads.specs.Reads.{Tells};
+ghost use Rattle.store_reads.specs.Reads.{ReadsTables};
 ghost use Rattle.desk_rules.specs.Shown as spec;
 ghost use Rattle.store_views.specs.sizes.Sizes.{AreRight, known};
-ghost use Rattle.store_sql.specs.States.{DoesInside, Keeps, Spares, StaysInside};
+ghost use Rattle.store_sql.specs.States.{DoesInside, CommitsNothing, Spares, StaysInside};
 ghost use Rattle.store_views.specs.Learning.{Learns};
 ghost use Rattle.store_views.specs.Steps.{LearnsCalls, LearnsOf};
 
 use crate::{KeptSizes, may_put};
-use desk_rules::Counted;
+use desk_rules::LimitedTable;
 use desk_texts::Command;
 use sqlite::{Alter, Transaction};
-use store_reads::{Counted as Told, ReadFault, count};
+use store_reads::{Counted, ReadFault, count};
 
 /// What is counted where the table's size is asked for.
-fn told_of(table: Counted) -> Told
+fn counted_of(table: LimitedTable) -> Counted
     ensures { (t : Tables) → counted result t ≡ spec.rows_in t table }
 {
     match table {
-        Counted::People => Told::People,
-        Counted::Requests => Told::Requests,
-        Counted::Listed => Told::Listed,
-        Counted::RevokedDigests => Told::RevokedDigests,
-        Counted::RevokedCertificates => Told::RevokedCertificates,
-        Counted::Components => Told::Components,
-        Counted::Proposals => Told::Proposals,
+        LimitedTable::People => Counted::People,
+        LimitedTable::Requests => Counted::Requests,
+        LimitedTable::Listed => Counted::Listed,
+        LimitedTable::RevokedDigests => Counted::RevokedDigests,
+        LimitedTable::RevokedCertificates => Counted::RevokedCertificates,
+        LimitedTable::Components => Counted::Components,
+        LimitedTable::Proposals => Counted::Proposals,
     }
 }
 
 /// How many rows the table has.
-fn count_of<S: Alter>(tx: &mut Transaction<'_, S>, table: Counted) -> Result<u64, ReadFault>
+fn count_of<S: Alter>(tx: &mut Transaction<'_, S>, table: LimitedTable) -> Result<u64, ReadFault>
     ensures same_reference { tx.new.conn.ghost_name ≡ tx.old.conn.ghost_name }
     ensures value { DoesInside S.Store tx.old.conn.now tx.new.conn.now result
-        (λ n. Tells (λ t. n ≡ spec.rows_in t table)) }
-    ensures kept { Keeps S.Store tx.old.conn.now tx.new.conn.now }
+        (λ n. ReadsTables (λ t. n ≡ spec.rows_in t table)) }
+    ensures kept { CommitsNothing S.Store tx.old.conn.now tx.new.conn.now }
     ensures survives { Spares S.Store tx.old.conn.now tx.new.conn.now }
 {
-    let counted = count(tx, told_of(table))?;
+    let counted = count(tx, counted_of(table))?;
     Ok(counted)
 }
 
 /// Whether the command needs the table's size and it isn't known.
-fn is_lacking(sizes: &KeptSizes, command: &Command, table: Counted) -> bool
+fn is_lacking(sizes: &KeptSizes, command: &Command, table: LimitedTable) -> bool
     ensures { result ≡ (spec.may_put command.now table && not (is_some (known sizes.now table))) }
 {
     may_put(command, table) && sizes.size(table).is_none()
@@ -54,13 +54,13 @@ fn learn_one<S: Alter>(
     tx: &mut Transaction<'_, S>,
     sizes: KeptSizes,
     command: &Command,
-    table: Counted,
+    table: LimitedTable,
 ) -> Result<KeptSizes, ReadFault>
     ensures same_reference { tx.new.conn.ghost_name ≡ tx.old.conn.ghost_name }
     ensures value { DoesInside S.Store tx.old.conn.now tx.new.conn.now result
-        (λ after. Tells (λ t. AreRight sizes t → AreRight after t)) }
+        (λ after. ReadsTables (λ t. AreRight sizes t → AreRight after t)) }
     ensures learnt { IfOk result (LearnsOf (table ∷ []) command.now sizes) }
-    ensures kept { Keeps S.Store tx.old.conn.now tx.new.conn.now }
+    ensures kept { CommitsNothing S.Store tx.old.conn.now tx.new.conn.now }
     ensures survives { Spares S.Store tx.old.conn.now tx.new.conn.now }
 {
     if !is_lacking(&sizes, command, table) {
@@ -75,13 +75,13 @@ fn learn_each<S: Alter>(
     tx: &mut Transaction<'_, S>,
     sizes: KeptSizes,
     command: &Command,
-    tables: &[Counted],
+    tables: &[LimitedTable],
 ) -> Result<KeptSizes, ReadFault>
     ensures same_reference { tx.new.conn.ghost_name ≡ tx.old.conn.ghost_name }
     ensures value { DoesInside S.Store tx.old.conn.now tx.new.conn.now result
-        (λ after. Tells (λ t. AreRight sizes t → AreRight after t)) }
+        (λ after. ReadsTables (λ t. AreRight sizes t → AreRight after t)) }
     ensures learnt { IfOk result (LearnsOf tables.now command.now sizes) }
-    ensures kept { Keeps S.Store tx.old.conn.now tx.new.conn.now }
+    ensures kept { CommitsNothing S.Store tx.old.conn.now tx.new.conn.now }
     ensures survives { Spares S.Store tx.old.conn.now tx.new.conn.now }
 {
     let mut known = sizes;
@@ -98,15 +98,15 @@ fn learn_calls<S: Alter>(
 ) -> Result<KeptSizes, ReadFault>
     ensures same_reference { tx.new.conn.ghost_name ≡ tx.old.conn.ghost_name }
     ensures value { DoesInside S.Store tx.old.conn.now tx.new.conn.now result
-        (λ after. Tells (λ t. AreRight sizes t → AreRight after t)) }
+        (λ after. ReadsTables (λ t. AreRight sizes t → AreRight after t)) }
     ensures learnt { IfOk result (LearnsCalls sizes) }
-    ensures kept { Keeps S.Store tx.old.conn.now tx.new.conn.now }
+    ensures kept { CommitsNothing S.Store tx.old.conn.now tx.new.conn.now }
     ensures survives { Spares S.Store tx.old.conn.now tx.new.conn.now }
 {
     if sizes.calls().is_some() {
         return Ok(sizes);
     }
-    let counted = count(tx, Told::Calls)?;
+    let counted = count(tx, Counted::Calls)?;
     Ok(sizes.with_calls(counted))
 }
 
@@ -118,20 +118,20 @@ pub(crate) fn learn<S: Alter>(
 ) -> Result<KeptSizes, ReadFault>
     ensures same_reference { tx.new.conn.ghost_name ≡ tx.old.conn.ghost_name }
     ensures value { DoesInside S.Store tx.old.conn.now tx.new.conn.now result
-        (λ after. Tells (λ t. AreRight sizes t → AreRight after t)) }
+        (λ after. ReadsTables (λ t. AreRight sizes t → AreRight after t)) }
     ensures learnt { IfOk result (Learns command.now sizes) }
-    ensures kept { Keeps S.Store tx.old.conn.now tx.new.conn.now }
+    ensures kept { CommitsNothing S.Store tx.old.conn.now tx.new.conn.now }
     ensures survives { Spares S.Store tx.old.conn.now tx.new.conn.now }
 {
     let known = learn_calls(tx, sizes)?;
     let tables = [
-        Counted::People,
-        Counted::Requests,
-        Counted::Listed,
-        Counted::RevokedDigests,
-        Counted::RevokedCertificates,
-        Counted::Components,
-        Counted::Proposals,
+        LimitedTable::People,
+        LimitedTable::Requests,
+        LimitedTable::Listed,
+        LimitedTable::RevokedDigests,
+        LimitedTable::RevokedCertificates,
+        LimitedTable::Components,
+        LimitedTable::Proposals,
     ];
     let all = learn_each(tx, known, command, &tables)?;
     Ok(all)

@@ -4,11 +4,11 @@ ghost use Rattle.store_schema.specs.rows.Contents.{contents};
 ghost use Rattle.desk_history.specs.Calls.{History};
 ghost use Rattle.desk_history.specs.Formed.{IsHistory};
 ghost use Rattle.desk_history.specs.Tables.{tables};
-ghost use Rattle.store_reads.specs.Reads.{Tells};
+ghost use Rattle.store_reads.specs.Reads.{ReadsTables};
 ghost use Rattle.desk_rules.specs.Decisions.{called};
 ghost use Rattle.desk_rules.specs.Shown.{Shows};
 ghost use Rattle.store_views.specs.sizes.Sizes.{AreRight};
-ghost use Rattle.store_sql.specs.States.{Changes, DoesInside, Keeps, Sees, Spares, StaysInside};
+ghost use Rattle.store_sql.specs.States.{Changes, DoesInside, CommitsNothing, Sees, Spares, StaysInside};
 ghost use Rattle.store_schema.specs.Tables.{desk_schema};
 ghost use Rattle.store_reads.specs.Failures.{IsFailure};
 ghost use Rattle.store_views.specs.Named.{HoldsNoRowBeyond};
@@ -44,14 +44,14 @@ fn see<S: Alter>(
     command: &Command,
 ) -> Result<Seen, ReadFault>
     ensures same_reference { tx.new.conn.ghost_name ≡ tx.old.conn.ghost_name }
-    ensures value { DoesInside S.Store tx.old.conn.now tx.new.conn.now result (λ seen. Tells (λ t.
+    ensures value { DoesInside S.Store tx.old.conn.now tx.new.conn.now result (λ seen. ReadsTables (λ t.
         ReadsBack t → AreRight sizes t
         → Shows seen.view t (called caller.now key.now command.now) × AreRight seen.sizes t)) }
     ensures only { IfOk result (λ seen. HoldsNoRowBeyond seen.view
         (called caller.now key.now command.now)) }
     ensures learnt { IfOk result (λ seen. Learns command.now sizes seen.sizes) }
     ensures inside { StaysInside S.Store tx.old.conn.now tx.new.conn.now result }
-    ensures kept { Keeps S.Store tx.old.conn.now tx.new.conn.now }
+    ensures kept { CommitsNothing S.Store tx.old.conn.now tx.new.conn.now }
     ensures survives { Spares S.Store tx.old.conn.now tx.new.conn.now }
 {
     let own = own_row(alloc, tx)?;
@@ -101,7 +101,7 @@ pub fn view<S: Alter>(
     ensures failed { IfErr result IsFailure }
     ensures unlearnt { OnErr result (sizes.new ≡ sizes.old) }
 
-    ensures kept { Keeps S.Store tx.old.conn.now tx.new.conn.now }
+    ensures kept { CommitsNothing S.Store tx.old.conn.now tx.new.conn.now }
     ensures survives { Spares S.Store tx.old.conn.now tx.new.conn.now }
 {
     minutes_are_readable();

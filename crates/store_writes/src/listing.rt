@@ -3,7 +3,7 @@ ghost use Rattle.std.specs.Prelude.{◌≡◌};
 ghost use Rattle.desk_history.specs.declared.write.Write.TheVariants as writes;
 ghost use Rattle.desk_texts.specs.declared.kind.ListedKind.TheVariants as kinds;
 ghost use Rattle.desk_history.specs.Writes.{with_revoked, written};
-ghost use Rattle.store_sql.specs.States.{Keeps, Spares, StaysInside};
+ghost use Rattle.store_sql.specs.States.{CommitsNothing, Spares, StaysInside};
 ghost use Rattle.store_writes.specs.Steps.{Steps};
 
 use crate::WriteFault;
@@ -25,7 +25,7 @@ pub(crate) fn put_entry<S: Alter>(
     ensures value { Steps S.Store tx.old.conn.now tx.new.conn.now result
         (written (writes.List entry.now)) }
     ensures inside { StaysInside S.Store tx.old.conn.now tx.new.conn.now result }
-    ensures kept { Keeps S.Store tx.old.conn.now tx.new.conn.now }
+    ensures kept { CommitsNothing S.Store tx.old.conn.now tx.new.conn.now }
     ensures survives { Spares S.Store tx.old.conn.now tx.new.conn.now }
 {
     insert(
@@ -49,7 +49,7 @@ pub(crate) fn unlist<S: Alter>(
     ensures value { Steps S.Store tx.old.conn.now tx.new.conn.now result
         (written (writes.Unlist listing.now)) }
     ensures inside { StaysInside S.Store tx.old.conn.now tx.new.conn.now result }
-    ensures kept { Keeps S.Store tx.old.conn.now tx.new.conn.now }
+    ensures kept { CommitsNothing S.Store tx.old.conn.now tx.new.conn.now }
     ensures survives { Spares S.Store tx.old.conn.now tx.new.conn.now }
 {
     delete(
@@ -66,7 +66,7 @@ fn revoke_digest<S: Alter>(tx: &mut Transaction<'_, S>, digest: &Digest) -> Resu
     ensures value { Steps S.Store tx.old.conn.now tx.new.conn.now result
         (with_revoked kinds.Digest digest.now) }
     ensures inside { StaysInside S.Store tx.old.conn.now tx.new.conn.now result }
-    ensures kept { Keeps S.Store tx.old.conn.now tx.new.conn.now }
+    ensures kept { CommitsNothing S.Store tx.old.conn.now tx.new.conn.now }
     ensures survives { Spares S.Store tx.old.conn.now tx.new.conn.now }
 {
     insert(tx, INSERT_REVOKED_DIGEST, params![digest.as_bytes()])?;
@@ -82,7 +82,7 @@ fn revoke_certificate<S: Alter>(
     ensures value { Steps S.Store tx.old.conn.now tx.new.conn.now result
         (with_revoked kinds.Certificate digest.now) }
     ensures inside { StaysInside S.Store tx.old.conn.now tx.new.conn.now result }
-    ensures kept { Keeps S.Store tx.old.conn.now tx.new.conn.now }
+    ensures kept { CommitsNothing S.Store tx.old.conn.now tx.new.conn.now }
     ensures survives { Spares S.Store tx.old.conn.now tx.new.conn.now }
 {
     insert(tx, INSERT_REVOKED_CERTIFICATE, params![digest.as_bytes()])?;
@@ -98,7 +98,7 @@ pub(crate) fn revoke<S: Alter>(
     ensures value { Steps S.Store tx.old.conn.now tx.new.conn.now result
         (written (writes.Revoke listing.now)) }
     ensures inside { StaysInside S.Store tx.old.conn.now tx.new.conn.now result }
-    ensures kept { Keeps S.Store tx.old.conn.now tx.new.conn.now }
+    ensures kept { CommitsNothing S.Store tx.old.conn.now tx.new.conn.now }
     ensures survives { Spares S.Store tx.old.conn.now tx.new.conn.now }
 {
     match listing.kind {

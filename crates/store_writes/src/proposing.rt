@@ -5,7 +5,7 @@ ghost use Rattle.store_schema.specs.rows.Values.{item_values};
 ghost use Rattle.desk_history.specs.Items.{items_from, items_of};
 ghost use Rattle.desk_history.specs.Writes.{written};
 ghost use Rattle.desk_history.specs.declared.write.Write.TheVariants as writes;
-ghost use Rattle.store_sql.specs.States.{DoesInside, Keeps, Moves, Spares, StaysInside, Turns};
+ghost use Rattle.store_sql.specs.States.{DoesInside, CommitsNothing, Moves, Spares, StaysInside, Turns};
 ghost use Rattle.store_schema.specs.Tables.{desk_schema};
 ghost use Rattle.store_writes.specs.Steps.{Steps, contents_with, item_columns, with_item};
 
@@ -33,7 +33,7 @@ fn insert_item<S: Alter>(
         (λ _. Moves desk_schema (with_item (item_columns proposal place kind digest.now name.now
         generation))) }
     ensures inside { StaysInside S.Store tx.old.conn.now tx.new.conn.now result }
-    ensures kept { Keeps S.Store tx.old.conn.now tx.new.conn.now }
+    ensures kept { CommitsNothing S.Store tx.old.conn.now tx.new.conn.now }
     ensures survives { Spares S.Store tx.old.conn.now tx.new.conn.now }
 {
     let proposal = stored(proposal.value())?;
@@ -63,7 +63,7 @@ fn put_item<S: Alter>(
           item = x;
         }))) before after) }
     ensures inside { StaysInside S.Store tx.old.conn.now tx.new.conn.now result }
-    ensures kept { Keeps S.Store tx.old.conn.now tx.new.conn.now }
+    ensures kept { CommitsNothing S.Store tx.old.conn.now tx.new.conn.now }
     ensures survives { Spares S.Store tx.old.conn.now tx.new.conn.now }
 {
     let digests = named.digests().as_slice();
@@ -112,7 +112,7 @@ fn put_items<S: Alter>(
     ensures value { DoesInside S.Store tx.old.conn.now tx.new.conn.now result
         (λ _. Turns desk_schema contents (contents_with (items_from proposal 0
         (items_of named.now)))) }
-    ensures kept { Keeps S.Store tx.old.conn.now tx.new.conn.now }
+    ensures kept { CommitsNothing S.Store tx.old.conn.now tx.new.conn.now }
     ensures survives { Spares S.Store tx.old.conn.now tx.new.conn.now }
 {
     let mut place = count_of(named);
@@ -142,7 +142,7 @@ pub(crate) fn put_proposal<S: Alter>(
     ensures value { Steps S.Store tx.old.conn.now tx.new.conn.now result
         (written (writes.Propose proposal.now)) }
     ensures inside { StaysInside S.Store tx.old.conn.now tx.new.conn.now result }
-    ensures kept { Keeps S.Store tx.old.conn.now tx.new.conn.now }
+    ensures kept { CommitsNothing S.Store tx.old.conn.now tx.new.conn.now }
     ensures survives { Spares S.Store tx.old.conn.now tx.new.conn.now }
 {
     let number = stored(proposal.number.value())?;

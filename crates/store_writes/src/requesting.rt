@@ -2,7 +2,7 @@
 ghost use Rattle.std.specs.Prelude.{◌≡◌};
 ghost use Rattle.desk_history.specs.Writes.{written};
 ghost use Rattle.desk_history.specs.declared.write.Write.TheVariants as writes;
-ghost use Rattle.store_sql.specs.States.{Keeps, Spares, StaysInside};
+ghost use Rattle.store_sql.specs.States.{CommitsNothing, Spares, StaysInside};
 ghost use Rattle.store_writes.specs.Steps.{Steps};
 
 use crate::WriteFault;
@@ -24,7 +24,7 @@ pub(crate) fn put_request<S: Alter>(
     ensures value { Steps S.Store tx.old.conn.now tx.new.conn.now result
         (written (writes.Request request.now)) }
     ensures inside { StaysInside S.Store tx.old.conn.now tx.new.conn.now result }
-    ensures kept { Keeps S.Store tx.old.conn.now tx.new.conn.now }
+    ensures kept { CommitsNothing S.Store tx.old.conn.now tx.new.conn.now }
     ensures survives { Spares S.Store tx.old.conn.now tx.new.conn.now }
 {
     let number = stored(request.number.value())?;
@@ -57,7 +57,7 @@ pub(crate) fn put_request_certificate<S: Alter>(
     ensures value { Steps S.Store tx.old.conn.now tx.new.conn.now result
         (written (writes.RequestCertificate certificate.now)) }
     ensures inside { StaysInside S.Store tx.old.conn.now tx.new.conn.now result }
-    ensures kept { Keeps S.Store tx.old.conn.now tx.new.conn.now }
+    ensures kept { CommitsNothing S.Store tx.old.conn.now tx.new.conn.now }
     ensures survives { Spares S.Store tx.old.conn.now tx.new.conn.now }
 {
     let request = stored(certificate.request.value())?;
@@ -78,7 +78,7 @@ pub(crate) fn put_request_component<S: Alter>(
     ensures value { Steps S.Store tx.old.conn.now tx.new.conn.now result
         (written (writes.RequestComponent component.now)) }
     ensures inside { StaysInside S.Store tx.old.conn.now tx.new.conn.now result }
-    ensures kept { Keeps S.Store tx.old.conn.now tx.new.conn.now }
+    ensures kept { CommitsNothing S.Store tx.old.conn.now tx.new.conn.now }
     ensures survives { Spares S.Store tx.old.conn.now tx.new.conn.now }
 {
     let request = stored(component.request.value())?;
@@ -105,7 +105,7 @@ pub(crate) fn put_vote<S: Alter>(
     ensures value { Steps S.Store tx.old.conn.now tx.new.conn.now result
         (written (writes.Vote vote.now)) }
     ensures inside { StaysInside S.Store tx.old.conn.now tx.new.conn.now result }
-    ensures kept { Keeps S.Store tx.old.conn.now tx.new.conn.now }
+    ensures kept { CommitsNothing S.Store tx.old.conn.now tx.new.conn.now }
     ensures survives { Spares S.Store tx.old.conn.now tx.new.conn.now }
 {
     let request = stored(vote.request.value())?;
@@ -131,7 +131,7 @@ pub(crate) fn put_return<S: Alter>(
     ensures value { Steps S.Store tx.old.conn.now tx.new.conn.now result
         (written (writes.Return returned.now)) }
     ensures inside { StaysInside S.Store tx.old.conn.now tx.new.conn.now result }
-    ensures kept { Keeps S.Store tx.old.conn.now tx.new.conn.now }
+    ensures kept { CommitsNothing S.Store tx.old.conn.now tx.new.conn.now }
     ensures survives { Spares S.Store tx.old.conn.now tx.new.conn.now }
 {
     let request = stored(returned.request.value())?;

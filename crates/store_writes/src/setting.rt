@@ -2,7 +2,7 @@
 ghost use Rattle.std.specs.Prelude.{◌≡◌};
 ghost use Rattle.desk_history.specs.Writes.{written};
 ghost use Rattle.desk_history.specs.declared.write.Write.TheVariants as writes;
-ghost use Rattle.store_sql.specs.States.{Keeps, Spares, StaysInside};
+ghost use Rattle.store_sql.specs.States.{CommitsNothing, Spares, StaysInside};
 ghost use Rattle.store_writes.specs.Steps.{Steps, with_version};
 
 use crate::WriteFault;
@@ -25,7 +25,7 @@ pub(crate) fn set_state<S: Alter>(
     ensures value { Steps S.Store tx.old.conn.now tx.new.conn.now result
         (written (writes.State outcome.now)) }
     ensures inside { StaysInside S.Store tx.old.conn.now tx.new.conn.now result }
-    ensures kept { Keeps S.Store tx.old.conn.now tx.new.conn.now }
+    ensures kept { CommitsNothing S.Store tx.old.conn.now tx.new.conn.now }
     ensures survives { Spares S.Store tx.old.conn.now tx.new.conn.now }
 {
     let number = stored(outcome.request.value())?;
@@ -42,7 +42,7 @@ pub(crate) fn set_generation<S: Alter>(
     ensures value { Steps S.Store tx.old.conn.now tx.new.conn.now result
         (written (writes.Generation component.now)) }
     ensures inside { StaysInside S.Store tx.old.conn.now tx.new.conn.now result }
-    ensures kept { Keeps S.Store tx.old.conn.now tx.new.conn.now }
+    ensures kept { CommitsNothing S.Store tx.old.conn.now tx.new.conn.now }
     ensures survives { Spares S.Store tx.old.conn.now tx.new.conn.now }
 {
     update(
@@ -62,7 +62,7 @@ pub(crate) fn set_stamp<S: Alter>(
     ensures value { Steps S.Store tx.old.conn.now tx.new.conn.now result
         (written (writes.Stamp stamp)) }
     ensures inside { StaysInside S.Store tx.old.conn.now tx.new.conn.now result }
-    ensures kept { Keeps S.Store tx.old.conn.now tx.new.conn.now }
+    ensures kept { CommitsNothing S.Store tx.old.conn.now tx.new.conn.now }
     ensures survives { Spares S.Store tx.old.conn.now tx.new.conn.now }
 {
     let number = stored(stamp.value())?;
@@ -79,7 +79,7 @@ pub(crate) fn set_proposal_state<S: Alter>(
     ensures value { Steps S.Store tx.old.conn.now tx.new.conn.now result
         (written (writes.ProposalState outcome.now)) }
     ensures inside { StaysInside S.Store tx.old.conn.now tx.new.conn.now result }
-    ensures kept { Keeps S.Store tx.old.conn.now tx.new.conn.now }
+    ensures kept { CommitsNothing S.Store tx.old.conn.now tx.new.conn.now }
     ensures survives { Spares S.Store tx.old.conn.now tx.new.conn.now }
 {
     let number = stored(outcome.proposal.value())?;
@@ -96,7 +96,7 @@ pub fn set_version<S: Alter>(tx: &mut Transaction<'_, S>) -> Result<(), WriteFau
     ensures same_reference { tx.new.conn.ghost_name ≡ tx.old.conn.ghost_name }
     ensures value { Steps S.Store tx.old.conn.now tx.new.conn.now result (with_version 2) }
     ensures inside { StaysInside S.Store tx.old.conn.now tx.new.conn.now result }
-    ensures kept { Keeps S.Store tx.old.conn.now tx.new.conn.now }
+    ensures kept { CommitsNothing S.Store tx.old.conn.now tx.new.conn.now }
     ensures survives { Spares S.Store tx.old.conn.now tx.new.conn.now }
 {
     update(tx, UPDATE_VERSION, params![VERSION])?;

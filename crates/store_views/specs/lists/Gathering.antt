@@ -21,8 +21,8 @@ abbrev pub entry_keys : Digests → EntryKeys
 entry_keys d = record { digests = d.images.now; certificates = d.certificates.now }
 
 -- the keys that are asked for: of what is listed, of what is revoked, and the names of components
-abbrev pub asked : Digests → Digests → List Component → Keys
-asked listed revoked components = record {
+abbrev pub keys_of : Digests → Digests → List Component → Keys
+keys_of listed revoked components = record {
   listed = entry_keys listed;
   revoked = entry_keys revoked;
   names = map

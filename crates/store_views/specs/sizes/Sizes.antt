@@ -7,14 +7,14 @@ use Rattle.desk_history.specs.Calls.{History, item}
 use Rattle.desk_history.specs.Runs.{is_legal}
 use Rattle.desk_history.specs.Tables.{Tables, tables}
 use Rattle.desk_history.specs.Writes.{all_written}
-use Rattle.desk_rules.specs.declared.view.Counted.{Counted}
-use Rattle.desk_rules.specs.declared.view.Counted.TheVariants as counted
+use Rattle.desk_rules.specs.declared.view.LimitedTable.{LimitedTable}
+use Rattle.desk_rules.specs.declared.view.LimitedTable.TheVariants as counted
 use Rattle.desk_rules.specs.declared.view.Sizes.{Sizes}
 use Rattle.desk_rules.specs.Shown.{is_table, may_put, rows_in, size_in}
 use Rattle.store_views.specs.declared.sizes.kept.KeptSizes.{KeptSizes}
 
 -- how many rows the table has, where that is known
-abbrev pub known : KeptSizes → Counted → Option ℕ
+abbrev pub known : KeptSizes → LimitedTable → Option ℕ
 known k counted.People = k.people
 known k counted.Requests = k.requests
 known k counted.Listed = k.listed
@@ -26,26 +26,26 @@ known k counted.Proposals = k.proposals
 -- each size that is known is that of the tables
 pub record AreRight (k : KeptSizes) (t : Tables) : Type 0 where
   pub calls : (n : ℕ) → k.calls ≡ Some n → n ≡ length t.calls
-  pub sizes : (table : Counted) (n : ℕ) → known k table ≡ Some n → n ≡ rows_in t table
+  pub sizes : (table : LimitedTable) (n : ℕ) → known k table ≡ Some n → n ≡ rows_in t table
 
 -- no size is known
 pub record IsUnknown (k : KeptSizes) : Type 0 where
   pub calls : k.calls ≡ None
-  pub sizes : (table : Counted) → known k table ≡ None
+  pub sizes : (table : LimitedTable) → known k table ≡ None
 
 -- the sizes are the same but for how many calls there are
 abbrev pub HaveSameRows : KeptSizes → KeptSizes → Type 0
-HaveSameRows a b = (table : Counted) → known a table ≡ known b table
+HaveSameRows a b = (table : LimitedTable) → known a table ≡ known b table
 
 -- the sizes are the same but for that of this table
-pub record HaveSameOthers (table : Counted) (a b : KeptSizes) : Type 0 where
+pub record HaveSameOthers (table : LimitedTable) (a b : KeptSizes) : Type 0 where
   pub calls : a.calls ≡ b.calls
-  pub others : (other : Counted) → IsTrue (not (is_table table other)) → known a other ≡ known b other
+  pub others : (other : LimitedTable) → IsTrue (not (is_table table other)) → known a other ≡ known b other
 
 -- the sizes that are known before are known after
 pub record KnowsNoLess (before after : KeptSizes) : Type 0 where
   pub calls : IsTrue (is_some before.calls) → IsTrue (is_some after.calls)
-  pub sizes : (table : Counted) → IsTrue (is_some (known before table)) → IsTrue (is_some (known after table))
+  pub sizes : (table : LimitedTable) → IsTrue (is_some (known before table)) → IsTrue (is_some (known after table))
 
 -- Sizes that are right of the tables before an accepted call are carried to those after it, whatever writes of its command
 -- make these tables: they are right there, and none is lost.
@@ -58,12 +58,12 @@ Follows before command ws after =
 -- the sizes that a command needs are known
 pub record AreEnough (k : KeptSizes) (command : Command) : Type 0 where
   pub calls : IsTrue (is_some k.calls)
-  pub sizes : (table : Counted) → IsTrue (may_put command table) → IsTrue (is_some (known k table))
+  pub sizes : (table : LimitedTable) → IsTrue (may_put command table) → IsTrue (is_some (known k table))
 
 -- the sizes tell a command what it needs of the tables
 pub record Tell (s : Sizes) (t : Tables) (command : Command) : Type 0 where
   pub calls : s.calls ≡ length t.calls
-  pub sizes : (table : Counted) → IsTrue (may_put command table) → size_in s table ≡ rows_in t table
+  pub sizes : (table : LimitedTable) → IsTrue (may_put command table) → size_in s table ≡ rows_in t table
 
 -- the sizes that are known, right of some tables and enough for a command, tell it what it needs
 abbrev pub TellWhatIsKnown : KeptSizes → Sizes → Type 0

@@ -3,7 +3,7 @@ use Rattle.std.specs.Prelude.{ℕ, ◌+◌, ◌-◌, nat_lt, if◌then◌else◌
 use Rattle.desk_texts.specs.declared.command.Command.{Command}
 use Rattle.desk_texts.specs.declared.command.Command.TheVariants as command
 use Rattle.desk_history.specs.declared.write.Write.{Write}
-use Rattle.desk_rules.specs.declared.view.Counted.TheVariants as counted
+use Rattle.desk_rules.specs.declared.view.LimitedTable.TheVariants as counted
 use Rattle.desk_rules.specs.Room.{puts}
 use Rattle.store_views.specs.declared.sizes.kept.KeptSizes.{KeptSizes}
 

@@ -2,8 +2,8 @@
 ghost use Rattle.std.specs.Prelude.{◌≡◌, IfOk, IfSome, filter};
 ghost use Rattle.desk_history.specs.Writes.{is_named};
 ghost use Rattle.store_views.specs.lists.Gathering.{listings_of, revocations_of};
-ghost use Rattle.store_reads.specs.Reads.{Tells, listed};
-ghost use Rattle.store_sql.specs.States.{DoesInside, Keeps, Spares};
+ghost use Rattle.store_reads.specs.Reads.{ReadsTables, listed};
+ghost use Rattle.store_sql.specs.States.{DoesInside, CommitsNothing, Spares};
 
 use desk_bytes::Digest;
 use desk_texts::{ListedKind, Listing};
@@ -21,10 +21,10 @@ pub(crate) fn find_listed<S: Alter>(
 ) -> Result<Option<Listing>, ReadFault>
     ensures same_reference { tx.new.conn.ghost_name ≡ tx.old.conn.ghost_name }
     ensures value { DoesInside S.Store tx.old.conn.now tx.new.conn.now result
-        (λ row. Tells (λ t. listings_of kind t digest.now ≡ listed row)) }
+        (λ row. ReadsTables (λ t. listings_of kind t digest.now ≡ listed row)) }
     ensures only { IfOk result (λ row. IfSome row
         (λ x. x ≡ record { kind = kind; digest = digest.now })) }
-    ensures kept { Keeps S.Store tx.old.conn.now tx.new.conn.now }
+    ensures kept { CommitsNothing S.Store tx.old.conn.now tx.new.conn.now }
     ensures survives { Spares S.Store tx.old.conn.now tx.new.conn.now }
 {
     let found = entry_of(alloc, tx, kind, digest)?;
@@ -46,9 +46,9 @@ pub(crate) fn find_revoked<S: Alter>(
 ) -> Result<Option<Digest>, ReadFault>
     ensures same_reference { tx.new.conn.ghost_name ≡ tx.old.conn.ghost_name }
     ensures value { DoesInside S.Store tx.old.conn.now tx.new.conn.now result
-        (λ row. Tells (λ t. revocations_of kind t digest.now ≡ listed row)) }
+        (λ row. ReadsTables (λ t. revocations_of kind t digest.now ≡ listed row)) }
     ensures only { IfOk result (λ row. IfSome row (λ x. x ≡ digest.now)) }
-    ensures kept { Keeps S.Store tx.old.conn.now tx.new.conn.now }
+    ensures kept { CommitsNothing S.Store tx.old.conn.now tx.new.conn.now }
     ensures survives { Spares S.Store tx.old.conn.now tx.new.conn.now }
 {
     let found = revoked_of(alloc, tx, kind, digest)?;
@@ -66,9 +66,9 @@ pub(crate) fn find_component<S: Alter>(
 ) -> Result<Option<Component>, ReadFault>
     ensures same_reference { tx.new.conn.ghost_name ≡ tx.old.conn.ghost_name }
     ensures value { DoesInside S.Store tx.old.conn.now tx.new.conn.now result
-        (λ row. Tells (λ t. filter (is_named name.now) t.components ≡ listed row)) }
+        (λ row. ReadsTables (λ t. filter (is_named name.now) t.components ≡ listed row)) }
     ensures only { IfOk result (λ row. IfSome row (λ x. x.name ≡ name.now)) }
-    ensures kept { Keeps S.Store tx.old.conn.now tx.new.conn.now }
+    ensures kept { CommitsNothing S.Store tx.old.conn.now tx.new.conn.now }
     ensures survives { Spares S.Store tx.old.conn.now tx.new.conn.now }
 {
     let found = component_named(alloc, tx, name)?;

@@ -2,8 +2,8 @@
 ghost use Rattle.std.specs.Prelude.{◌≡◌, ◌++◌, [], All, IfOk, IsTrue, OnOk, map};
 ghost use Rattle.desk_history.specs.Calls.{is_among};
 ghost use Rattle.store_views.specs.lists.Gathering.{Gathers, PutsOnly, levels_of, listings_of, revocations_of};
-ghost use Rattle.store_reads.specs.Reads.{Tells, listed};
-ghost use Rattle.store_sql.specs.States.{DoesInside, Keeps, Spares};
+ghost use Rattle.store_reads.specs.Reads.{ReadsTables, listed};
+ghost use Rattle.store_sql.specs.States.{DoesInside, CommitsNothing, Spares};
 
 use crate::lists::finding::{find_component, find_listed, find_revoked};
 use desk_bytes::Digest;
@@ -36,11 +36,11 @@ pub(crate) fn gather_listed<S: Alter>(
 ) -> Result<(), ReadFault>
     ensures same_reference { tx.new.conn.ghost_name ≡ tx.old.conn.ghost_name }
     ensures value { DoesInside S.Store tx.old.conn.now tx.new.conn.now result
-        (λ _. Tells (Gathers (listings_of kind) digests.now rows.old.items rows.new.items)) }
+        (λ _. ReadsTables (Gathers (listings_of kind) digests.now rows.old.items rows.new.items)) }
     ensures only { OnOk result (PutsOnly
         (λ x. (x.kind ≡ kind) × IsTrue (is_among digests.now x.digest))
         rows.old.items rows.new.items) }
-    ensures kept { Keeps S.Store tx.old.conn.now tx.new.conn.now }
+    ensures kept { CommitsNothing S.Store tx.old.conn.now tx.new.conn.now }
     ensures survives { Spares S.Store tx.old.conn.now tx.new.conn.now }
 {
     for digest in digests {
@@ -60,10 +60,10 @@ pub(crate) fn gather_revoked<S: Alter>(
 ) -> Result<(), ReadFault>
     ensures same_reference { tx.new.conn.ghost_name ≡ tx.old.conn.ghost_name }
     ensures value { DoesInside S.Store tx.old.conn.now tx.new.conn.now result
-        (λ _. Tells (Gathers (revocations_of kind) digests.now rows.old.items rows.new.items)) }
+        (λ _. ReadsTables (Gathers (revocations_of kind) digests.now rows.old.items rows.new.items)) }
     ensures only { OnOk result (PutsOnly (λ x. IsTrue (is_among digests.now x))
         rows.old.items rows.new.items) }
-    ensures kept { Keeps S.Store tx.old.conn.now tx.new.conn.now }
+    ensures kept { CommitsNothing S.Store tx.old.conn.now tx.new.conn.now }
     ensures survives { Spares S.Store tx.old.conn.now tx.new.conn.now }
 {
     for digest in digests {
@@ -82,11 +82,11 @@ pub(crate) fn gather_components<S: Alter>(
 ) -> Result<(), ReadFault>
     ensures same_reference { tx.new.conn.ghost_name ≡ tx.old.conn.ghost_name }
     ensures value { DoesInside S.Store tx.old.conn.now tx.new.conn.now result
-        (λ _. Tells (Gathers levels_of named.now rows.old.items rows.new.items)) }
+        (λ _. ReadsTables (Gathers levels_of named.now rows.old.items rows.new.items)) }
     ensures only { OnOk result (PutsOnly
         (λ x. IsTrue (is_among (map (λ y. y.name) named.now) x.name))
         rows.old.items rows.new.items) }
-    ensures kept { Keeps S.Store tx.old.conn.now tx.new.conn.now }
+    ensures kept { CommitsNothing S.Store tx.old.conn.now tx.new.conn.now }
     ensures survives { Spares S.Store tx.old.conn.now tx.new.conn.now }
 {
     for component in named {

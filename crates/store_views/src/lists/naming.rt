@@ -4,9 +4,9 @@ ghost use Rattle.desk_bytes.specs.Digests.{IsArranged};
 ghost use Rattle.store_views.specs.lists.Gathering.{barring_keys, entry_keys, import_keys};
 ghost use Rattle.store_views.specs.lists.Gathering.{listed_keys, revoked_keys, submission_keys};
 ghost use Rattle.store_views.specs.lists.Lists.{HoldsNoOther};
-ghost use Rattle.store_reads.specs.Reads.{Tells};
+ghost use Rattle.store_reads.specs.Reads.{ReadsTables};
 ghost use Rattle.desk_rules.specs.Views.{ShowsLists};
-ghost use Rattle.store_sql.specs.States.{DoesInside, Keeps, Spares, StaysInside};
+ghost use Rattle.store_sql.specs.States.{DoesInside, CommitsNothing, Spares, StaysInside};
 
 use crate::lists::keys::Digests;
 use crate::lists::reading::rows_of;
@@ -27,10 +27,10 @@ pub(crate) fn listed_view<S: Alter>(
 ) -> Result<ListView, ReadFault>
     ensures same_reference { tx.new.conn.ghost_name ≡ tx.old.conn.ghost_name }
     ensures value { DoesInside S.Store tx.old.conn.now tx.new.conn.now result
-        (λ view. Tells (λ t. ShowsLists view t (listed_keys kind digest))) }
+        (λ view. ReadsTables (λ t. ShowsLists view t (listed_keys kind digest))) }
     ensures only { IfOk result (λ view. HoldsNoOther view (listed_keys kind digest)) }
     ensures inside { StaysInside S.Store tx.old.conn.now tx.new.conn.now result }
-    ensures kept { Keeps S.Store tx.old.conn.now tx.new.conn.now }
+    ensures kept { CommitsNothing S.Store tx.old.conn.now tx.new.conn.now }
     ensures survives { Spares S.Store tx.old.conn.now tx.new.conn.now }
 {
     let listed = Digests::one(kind, &digest);
@@ -46,10 +46,10 @@ pub(crate) fn revoked_view<S: Alter>(
 ) -> Result<ListView, ReadFault>
     ensures same_reference { tx.new.conn.ghost_name ≡ tx.old.conn.ghost_name }
     ensures value { DoesInside S.Store tx.old.conn.now tx.new.conn.now result
-        (λ view. Tells (λ t. ShowsLists view t (revoked_keys kind digest))) }
+        (λ view. ReadsTables (λ t. ShowsLists view t (revoked_keys kind digest))) }
     ensures only { IfOk result (λ view. HoldsNoOther view (revoked_keys kind digest)) }
     ensures inside { StaysInside S.Store tx.old.conn.now tx.new.conn.now result }
-    ensures kept { Keeps S.Store tx.old.conn.now tx.new.conn.now }
+    ensures kept { CommitsNothing S.Store tx.old.conn.now tx.new.conn.now }
     ensures survives { Spares S.Store tx.old.conn.now tx.new.conn.now }
 {
     let revoked = Digests::one(kind, &digest);
@@ -65,11 +65,11 @@ fn barring_view<S: Alter>(
 ) -> Result<ListView, ReadFault>
     ensures same_reference { tx.new.conn.ghost_name ≡ tx.old.conn.ghost_name }
     ensures value { DoesInside S.Store tx.old.conn.now tx.new.conn.now result
-        (λ view. Tells (λ t. ShowsLists view t (barring_keys (entry_keys revoked.entry) named.now))) }
+        (λ view. ReadsTables (λ t. ShowsLists view t (barring_keys (entry_keys revoked.entry) named.now))) }
     ensures only { IfOk result (λ view.
         HoldsNoOther view (barring_keys (entry_keys revoked.entry) named.now)) }
     ensures inside { StaysInside S.Store tx.old.conn.now tx.new.conn.now result }
-    ensures kept { Keeps S.Store tx.old.conn.now tx.new.conn.now }
+    ensures kept { CommitsNothing S.Store tx.old.conn.now tx.new.conn.now }
     ensures survives { Spares S.Store tx.old.conn.now tx.new.conn.now }
 {
     rows_of(alloc, tx, Digests::none(), revoked, named)
@@ -96,10 +96,10 @@ pub(crate) fn import_view<S: Alter>(
 ) -> Result<ListView, ReadFault>
     ensures same_reference { tx.new.conn.ghost_name ≡ tx.old.conn.ghost_name }
     ensures value { DoesInside S.Store tx.old.conn.now tx.new.conn.now result
-        (λ view. Tells (λ t. ShowsLists view t (import_keys import.now))) }
+        (λ view. ReadsTables (λ t. ShowsLists view t (import_keys import.now))) }
     ensures only { IfOk result (λ view. HoldsNoOther view (import_keys import.now)) }
     ensures inside { StaysInside S.Store tx.old.conn.now tx.new.conn.now result }
-    ensures kept { Keeps S.Store tx.old.conn.now tx.new.conn.now }
+    ensures kept { CommitsNothing S.Store tx.old.conn.now tx.new.conn.now }
     ensures survives { Spares S.Store tx.old.conn.now tx.new.conn.now }
 {
     let images = in_order(alloc, import.digests().as_slice())?;
@@ -120,10 +120,10 @@ pub(crate) fn submission_view<S: Alter>(
 ) -> Result<ListView, ReadFault>
     ensures same_reference { tx.new.conn.ghost_name ≡ tx.old.conn.ghost_name }
     ensures value { DoesInside S.Store tx.old.conn.now tx.new.conn.now result
-        (λ view. Tells (λ t. ShowsLists view t (submission_keys facts.now))) }
+        (λ view. ReadsTables (λ t. ShowsLists view t (submission_keys facts.now))) }
     ensures only { IfOk result (λ view. HoldsNoOther view (submission_keys facts.now)) }
     ensures inside { StaysInside S.Store tx.old.conn.now tx.new.conn.now result }
-    ensures kept { Keeps S.Store tx.old.conn.now tx.new.conn.now }
+    ensures kept { CommitsNothing S.Store tx.old.conn.now tx.new.conn.now }
     ensures survives { Spares S.Store tx.old.conn.now tx.new.conn.now }
 {
     let digests = [facts.digest, facts.signing];

@@ -1,11 +1,11 @@
 //! The rows of the lists for keys of every kind.
 ghost use Rattle.std.specs.Prelude.{◌≡◌, All, IfOk, IsTrue};
 ghost use Rattle.desk_history.specs.Calls.{is_among};
-ghost use Rattle.store_views.specs.lists.Gathering.{ShowsListed, asked, entry_keys};
+ghost use Rattle.store_views.specs.lists.Gathering.{ShowsListed, keys_of, entry_keys};
 ghost use Rattle.store_views.specs.lists.Lists.{HoldsNoOther};
-ghost use Rattle.store_reads.specs.Reads.{Tells};
+ghost use Rattle.store_reads.specs.Reads.{ReadsTables};
 ghost use Rattle.desk_rules.specs.Views.{ShowsLists, keys_for};
-ghost use Rattle.store_sql.specs.States.{DoesInside, Keeps, Spares, StaysInside};
+ghost use Rattle.store_sql.specs.States.{DoesInside, CommitsNothing, Spares, StaysInside};
 
 use crate::lists::gathering::{gather_components, gather_listed, gather_revoked};
 use crate::lists::keys::Digests;
@@ -24,10 +24,10 @@ fn listings<S: Alter>(
 ) -> Result<Vec<Listing>, ReadFault>
     ensures same_reference { tx.new.conn.ghost_name ≡ tx.old.conn.ghost_name }
     ensures value { DoesInside S.Store tx.old.conn.now tx.new.conn.now result
-        (λ rows. Tells (ShowsListed rows.items (entry_keys listed.entry))) }
+        (λ rows. ReadsTables (ShowsListed rows.items (entry_keys listed.entry))) }
     ensures only { IfOk result (λ rows. All
         (λ row. IsTrue (is_among (keys_for (entry_keys listed.entry) row.kind) row.digest)) rows.items) }
-    ensures kept { Keeps S.Store tx.old.conn.now tx.new.conn.now }
+    ensures kept { CommitsNothing S.Store tx.old.conn.now tx.new.conn.now }
     ensures survives { Spares S.Store tx.old.conn.now tx.new.conn.now }
 {
     let mut rows = Vec::new(alloc);
@@ -53,11 +53,11 @@ pub(crate) fn rows_of<S: Alter>(
 ) -> Result<ListView, ReadFault>
     ensures same_reference { tx.new.conn.ghost_name ≡ tx.old.conn.ghost_name }
     ensures value { DoesInside S.Store tx.old.conn.now tx.new.conn.now result
-        (λ view. Tells (λ t. ShowsLists view t (asked listed.entry revoked.entry named.now))) }
+        (λ view. ReadsTables (λ t. ShowsLists view t (keys_of listed.entry revoked.entry named.now))) }
     ensures only { IfOk result (λ view.
-        HoldsNoOther view (asked listed.entry revoked.entry named.now)) }
+        HoldsNoOther view (keys_of listed.entry revoked.entry named.now)) }
     ensures inside { StaysInside S.Store tx.old.conn.now tx.new.conn.now result }
-    ensures kept { Keeps S.Store tx.old.conn.now tx.new.conn.now }
+    ensures kept { CommitsNothing S.Store tx.old.conn.now tx.new.conn.now }
     ensures survives { Spares S.Store tx.old.conn.now tx.new.conn.now }
 {
     own_row(alloc, tx)?;

@@ -1,10 +1,10 @@
 //! The rows of the lists that an image's facts or a command name.
 ghost use Rattle.std.specs.Prelude.{◌≡◌, IfOk, option_copied};
 ghost use Rattle.store_views.specs.lists.Lists.{HoldsNoOther};
-ghost use Rattle.store_reads.specs.Reads.{Tells};
+ghost use Rattle.store_reads.specs.Reads.{ReadsTables};
 ghost use Rattle.desk_rules.specs.Keys.{keys_with};
 ghost use Rattle.desk_rules.specs.Views.{ShowsLists, keys_of};
-ghost use Rattle.store_sql.specs.States.{DoesInside, Keeps, Spares, StaysInside};
+ghost use Rattle.store_sql.specs.States.{DoesInside, CommitsNothing, Spares, StaysInside};
 
 use crate::lists::keys::Digests;
 use crate::lists::naming::{import_view, listed_view, revoked_view, submission_view};
@@ -27,10 +27,10 @@ pub fn list_view<S: Alter>(
 ) -> Result<ListView, ReadFault>
     ensures same_reference { tx.new.conn.ghost_name ≡ tx.old.conn.ghost_name }
     ensures value { DoesInside S.Store tx.old.conn.now tx.new.conn.now result
-        (λ view. Tells (λ t. ShowsLists view t (keys_of facts.now))) }
+        (λ view. ReadsTables (λ t. ShowsLists view t (keys_of facts.now))) }
     ensures only { IfOk result (λ view. HoldsNoOther view (keys_of facts.now)) }
     ensures inside { StaysInside S.Store tx.old.conn.now tx.new.conn.now result }
-    ensures kept { Keeps S.Store tx.old.conn.now tx.new.conn.now }
+    ensures kept { CommitsNothing S.Store tx.old.conn.now tx.new.conn.now }
     ensures survives { Spares S.Store tx.old.conn.now tx.new.conn.now }
 {
     let digests = [facts.digest, facts.signing];
@@ -56,12 +56,12 @@ pub fn lists_asked<S: Alter>(
 ) -> Result<ListView, ReadFault>
     ensures same_reference { tx.new.conn.ghost_name ≡ tx.old.conn.ghost_name }
     ensures value { DoesInside S.Store tx.old.conn.now tx.new.conn.now result
-        (λ view. Tells (λ t.
+        (λ view. ReadsTables (λ t.
         ShowsLists view t (keys_with command.now (λ k. option_copied proposal.entry)))) }
     ensures only { IfOk result (λ view.
         HoldsNoOther view (keys_with command.now (λ k. option_copied proposal.entry))) }
     ensures inside { StaysInside S.Store tx.old.conn.now tx.new.conn.now result }
-    ensures kept { Keeps S.Store tx.old.conn.now tx.new.conn.now }
+    ensures kept { CommitsNothing S.Store tx.old.conn.now tx.new.conn.now }
     ensures survives { Spares S.Store tx.old.conn.now tx.new.conn.now }
 {
     match command {

@@ -4,7 +4,7 @@ ghost use Rattle.store_views.specs.sizes.Sizes as spec;
 ghost use Rattle.store_views.specs.sizes.Steps as steps;
 
 use desk_history::Write;
-use desk_rules::{Counted, Sizes, count};
+use desk_rules::{LimitedTable, Sizes, count};
 use desk_texts::Command;
 
 /// How many rows each table has that a limit of the desk counts, or nothing where that isn't known.
@@ -80,17 +80,17 @@ impl KeptSizes {
     }
 
     /// How many rows the table has, where that is known.
-    pub fn size(&self, table: Counted) -> Option<u64>
+    pub fn size(&self, table: LimitedTable) -> Option<u64>
         ensures { result ≡ spec.known self.now table }
     {
         match table {
-            Counted::People => self.people,
-            Counted::Requests => self.requests,
-            Counted::Listed => self.listed,
-            Counted::RevokedDigests => self.revoked_digests,
-            Counted::RevokedCertificates => self.revoked_certificates,
-            Counted::Components => self.components,
-            Counted::Proposals => self.proposals,
+            LimitedTable::People => self.people,
+            LimitedTable::Requests => self.requests,
+            LimitedTable::Listed => self.listed,
+            LimitedTable::RevokedDigests => self.revoked_digests,
+            LimitedTable::RevokedCertificates => self.revoked_certificates,
+            LimitedTable::Components => self.components,
+            LimitedTable::Proposals => self.proposals,
         }
     }
 
@@ -106,37 +106,37 @@ impl KeptSizes {
     }
 
     /// These sizes, where the table has so many rows.
-    pub fn with_size(self, table: Counted, size: u64) -> KeptSizes
+    pub fn with_size(self, table: LimitedTable, size: u64) -> KeptSizes
         ensures told { spec.known result table ≡ Some size }
         ensures kept { spec.HaveSameOthers table self result }
     {
         let size = Some(size);
         match table {
-            Counted::People => KeptSizes {
+            LimitedTable::People => KeptSizes {
                 people: size,
                 ..self
             },
-            Counted::Requests => KeptSizes {
+            LimitedTable::Requests => KeptSizes {
                 requests: size,
                 ..self
             },
-            Counted::Listed => KeptSizes {
+            LimitedTable::Listed => KeptSizes {
                 listed: size,
                 ..self
             },
-            Counted::RevokedDigests => KeptSizes {
+            LimitedTable::RevokedDigests => KeptSizes {
                 revoked_digests: size,
                 ..self
             },
-            Counted::RevokedCertificates => KeptSizes {
+            LimitedTable::RevokedCertificates => KeptSizes {
                 revoked_certificates: size,
                 ..self
             },
-            Counted::Components => KeptSizes {
+            LimitedTable::Components => KeptSizes {
                 components: size,
                 ..self
             },
-            Counted::Proposals => KeptSizes {
+            LimitedTable::Proposals => KeptSizes {
                 proposals: size,
                 ..self
             },
@@ -164,17 +164,20 @@ impl KeptSizes {
         ensures { result ≡ steps.sizes_after self.now command.now writes.now }
     {
         KeptSizes {
-            people: more(self.people, count(Counted::People, writes)),
+            people: more(self.people, count(LimitedTable::People, writes)),
             calls: more(self.calls, 1),
-            requests: more(self.requests, count(Counted::Requests, writes)),
+            requests: more(self.requests, count(LimitedTable::Requests, writes)),
             listed: listed_after(self.listed, command),
-            revoked_digests: more(self.revoked_digests, count(Counted::RevokedDigests, writes)),
+            revoked_digests: more(
+                self.revoked_digests,
+                count(LimitedTable::RevokedDigests, writes),
+            ),
             revoked_certificates: more(
                 self.revoked_certificates,
-                count(Counted::RevokedCertificates, writes),
+                count(LimitedTable::RevokedCertificates, writes),
             ),
-            components: more(self.components, count(Counted::Components, writes)),
-            proposals: more(self.proposals, count(Counted::Proposals, writes)),
+            components: more(self.components, count(LimitedTable::Components, writes)),
+            proposals: more(self.proposals, count(LimitedTable::Proposals, writes)),
         }
     }
 

@@ -2,24 +2,26 @@
 ghost use Rattle.std.specs.Prelude.{◌≡◌};
 ghost use Rattle.desk_rules.specs.Shown as spec;
 
-use desk_rules::Counted;
+use desk_rules::LimitedTable;
 use desk_texts::Command;
 
 /// Whether the command may put rows into the table, so that its size is needed.
-pub fn may_put(command: &Command, table: Counted) -> bool
+pub fn may_put(command: &Command, table: LimitedTable) -> bool
     ensures { result ≡ spec.may_put command.now table }
 {
     match command {
-        Command::AddPerson(_) => table == Counted::People,
-        Command::Submit(_) => table == Counted::Requests,
-        Command::ListCertificate(_) | Command::ListDigest(_) => table == Counted::Listed,
+        Command::AddPerson(_) => table == LimitedTable::People,
+        Command::Submit(_) => table == LimitedTable::Requests,
+        Command::ListCertificate(_) | Command::ListDigest(_) => table == LimitedTable::Listed,
         Command::RevokeDigest(_)
         | Command::RevokeCertificate(_)
         | Command::RaiseLevel(_)
-        | Command::ImportRevocations(_) => table == Counted::Proposals,
+        | Command::ImportRevocations(_) => table == LimitedTable::Proposals,
         Command::Confirm(_) => matches!(
             table,
-            Counted::RevokedDigests | Counted::RevokedCertificates | Counted::Components
+            LimitedTable::RevokedDigests
+                | LimitedTable::RevokedCertificates
+                | LimitedTable::Components
         ),
         Command::Review(_)
         | Command::Withdraw(_)

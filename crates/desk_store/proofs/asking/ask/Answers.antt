@@ -4,7 +4,7 @@ use Rattle.sqlite.specs.State.{HasCleanDisk, KeepsCommit, Survives}
 use Rattle.store_schema.specs.rows.Histories.{ShowsHistory, rows_of}
 use Rattle.desk_history.specs.Calls.{History}
 use Rattle.desk_history.specs.Formed.{IsHistory}
-use Rattle.desk_store.specs.Questions.{Answers}
+use Rattle.desk_store.specs.Questions.{AnswersQuestion}
 use Rattle.store_sql.proofs.CommitLemmas.{undone_shows}
 use Rattle.store_schema.specs.Tables.{desk_schema}
 use Rattle.desk_store.proofs.asking.ask.Goals as goal
@@ -34,7 +34,7 @@ returns-in-Ok-clause-ok g c =
     let end = c.rollback.new.self.0 in
     let did = c.in-Ok.ensures in
     let spared : Survives begun (state g.S.Store last) (λ _. ⊥) = rw c.transaction-tx.ensures.begun at did.survives in
-    let told : HasCleanDisk (state g.S.Store last) → Answers (g.Q.Question.tells question answer) begun (state g.S.Store last) =
+    let told : HasCleanDisk (state g.S.Store last) → AnswersQuestion (g.Q.Question.tells question answer) begun (state g.S.Store last) =
     λ late. (rw c.transaction-tx.ensures.begun at (did.value late)) refl in
     let live : HasCleanDisk (state g.S.Store last) → IsTrue (state g.S.Store last).is_open = λ late. ((rw c.transaction-tx.ensures.begun at (did.inside late)) refl).0 in
     let same : end ≡ c.conn-1.given.0 = search rules in

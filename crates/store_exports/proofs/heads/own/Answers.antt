@@ -2,7 +2,7 @@ use Rattle.std.proofs.Common.{◌≡◌, true, rules, refl, subst, arith, ℕ, L
 use Rattle.sqlite.specs.Held.{Held, state}
 use Rattle.sqlite.specs.State.{HasCleanDisk, KeepsCommit, Survives}
 use Rattle.desk_history.specs.Tables.{tables}
-use Rattle.store_reads.specs.Reads.{Tells}
+use Rattle.store_reads.specs.Reads.{ReadsTables}
 use Rattle.store_exports.specs.Exporting.{AreOwn, StaysOf}
 use Rattle.store_exports.proofs.StepLemmas.{undone}
 use Rattle.desk_history.specs.Tables.{DeskRow}
@@ -33,7 +33,7 @@ returns-in-Ok-clause-ok g c =
     let end = c.rollback.new.self.0 in
     let did = c.in-Ok.ensures in
     let spared : Survives begun (state g.S.Store last) (λ _. ⊥) = rw c.transaction-tx.ensures.begun at did.survives in
-    let told : HasCleanDisk (state g.S.Store last) → Tells (λ t. desk_row c.in-Ok.row ≡ t.desk) begun (state g.S.Store last) =
+    let told : HasCleanDisk (state g.S.Store last) → ReadsTables (λ t. desk_row c.in-Ok.row ≡ t.desk) begun (state g.S.Store last) =
     λ late. (rw c.transaction-tx.ensures.begun at (did.value late)) refl in
     let live : HasCleanDisk (state g.S.Store last) → IsTrue (state g.S.Store last).is_open = λ late. ((rw c.transaction-tx.ensures.begun at (did.inside late)) refl).0 in
     let same : end ≡ c.conn-1.given.0 = search rules in

@@ -3,7 +3,7 @@ use Rattle.sqlite.specs.Held.{state}
 use Rattle.sqlite.specs.State.{HasCleanDisk}
 use Rattle.store_schema.specs.Tables as tables
 use Rattle.store_reads.specs.ProposalColumns.{head_columns, head_of}
-use Rattle.store_reads.specs.Reads.{AreFound, Tells}
+use Rattle.store_reads.specs.Reads.{AreFound, ReadsTables}
 use Rattle.store_reads.proofs.TellsLemmas.{tells_so, tells_then}
 use Rattle.store_proposals.specs.Listing.{AreListed, AreShown}
 use Rattle.store_proposals.proofs.listing.proposals.Goals as goal
@@ -17,7 +17,7 @@ returns-clause-value g c clean inside =
     let heads = c.in_ok-heads.heads.items in
     let shown = c.in_ok-shown.shown.items in
     let a = c.in_ok-heads.ensures.value c1 inside in
-    let b : Tells (AreShown heads shown) s1 s2 = subst (λ l. Tells (AreShown l shown) s1 s2) c.deref.ensures.value (c.in_ok-shown.ensures.value clean a.kept.inside) in
+    let b : ReadsTables (AreShown heads shown) s1 s2 = subst (λ l. ReadsTables (AreShown l shown) s1 s2) c.deref.ensures.value (c.in_ok-shown.ensures.value clean a.kept.inside) in
     tells_so s0 s2 (λ t. AreFound head_columns tables.proposals 1 (λ h. true) (map head_of t.proposals) heads × AreShown heads shown t) (AreListed shown)
     (λ t both. (heads, both.0, both.1))
     (tells_then s0 s1 s2 (λ t. AreFound head_columns tables.proposals 1 (λ h. true) (map head_of t.proposals) heads) (AreShown heads shown) a b)

@@ -3,7 +3,7 @@ use Rattle.std.proofs.lemmas.List.{take_all}
 use Rattle.sqlite.specs.Held.{state}
 use Rattle.sqlite.specs.State.{HasCleanDisk}
 use Rattle.sqlite.proofs.StateLemmas.{survives_then}
-use Rattle.store_reads.specs.Reads.{Tells, listed}
+use Rattle.store_reads.specs.Reads.{ReadsTables, listed}
 use Rattle.store_reads.proofs.TellsLemmas.{tells_none, tells_so, tells_then}
 use Rattle.store_reads.proofs.ValueLemmas.{one_more}
 use Rattle.store_proposals.specs.Listing.{AreShown, IsShown, shown_row}
@@ -14,7 +14,7 @@ pub loop-head-init : goal.loop-head-init
 loop-head-init g c =
     let first = state g.S.Store c.args.tx.now.conn.now in
     let empty : c.new-shown.result.items ≡ [] = search rules in
-    (refl, search rules, λ clean inside. subst (λ l. Tells (AreShown [] l) first first) (sym empty) (tells_none first (AreShown [] []) inside (λ t stamped. tt)))
+    (refl, search rules, λ clean inside. subst (λ l. ReadsTables (AreShown [] l) first first) (sym empty) (tells_none first (AreShown [] []) inside (λ t stamped. tt)))
 
 pub loop-head-preserved : goal.loop-head-preserved
 loop-head-preserved g c =
@@ -50,4 +50,4 @@ returns-clause-value g c clean inside =
     let first = state g.S.Store c.args.tx.now.conn.now in
     let last = state g.S.Store c.loop-head.tx.conn.now in
     let heads = c.args.heads.now in
-    subst (λ l. Tells (AreShown l c.loop-head.shown.items) first last) (take_all c.loop-head.head-index heads c.loop-head-test.false) (c.loop-head.invariant.2 clean inside)
+    subst (λ l. ReadsTables (AreShown l c.loop-head.shown.items) first last) (take_all c.loop-head.head-index heads c.loop-head-test.false) (c.loop-head.invariant.2 clean inside)

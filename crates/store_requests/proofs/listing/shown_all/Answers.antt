@@ -4,7 +4,7 @@ use Rattle.std.specs.Vec.Iter.{into_iter_items}
 use Rattle.sqlite.specs.Held.{state}
 use Rattle.sqlite.specs.State.{HasCleanDisk}
 use Rattle.sqlite.proofs.StateLemmas.{survives_then}
-use Rattle.store_reads.specs.Reads.{Tells}
+use Rattle.store_reads.specs.Reads.{ReadsTables}
 use Rattle.store_requests.specs.Steps.{IsShownIn}
 use Rattle.store_requests.proofs.LoopLemmas.{nothing_left, zip_more}
 use Rattle.store_reads.proofs.TellsLemmas.{tells_so, tells_then}
@@ -26,7 +26,7 @@ loop-row-preserved g c =
       λ clean inside.
           let late : HasCleanDisk mid = omega (arith, did.survives.clean, clean) in
           let stood = at.invariant.2 late inside in
-          subst (λ l. Tells (λ t. AllZip (IsShownIn t) (at.yielded ++ x ∷ []) l) first new) (sym pushed)
+          subst (λ l. ReadsTables (λ t. AllZip (IsShownIn t) (at.yielded ++ x ∷ []) l) first new) (sym pushed)
           (tells_so first new (λ t. AllZip (IsShownIn t) at.yielded at.all.items × IsShownIn t x s) (λ t. AllZip (IsShownIn t) (at.yielded ++ x ∷ []) (at.all.items ++ s ∷ []))
           (λ t both. zip_more (IsShownIn t) at.yielded at.all.items x s both.0 both.1)
           (tells_then first mid new (λ t. AllZip (IsShownIn t) at.yielded at.all.items) (λ t. IsShownIn t x s) stood (did.value clean stood.kept.inside))),
@@ -44,4 +44,4 @@ returns-clause-value g c clean inside =
     let last = state g.S.Store at.tx.conn.now in
     let empty : into_iter_items at.row-iterator ≡ [] = nothing_left _ (sym at.invariant.4 ∙ c.in-None.ensures.steps.0) in
     let all : at.yielded ≡ c.args.rows.items = sym (append-nil at.yielded) ∙ rw empty at at.invariant.3 ∙ c.into_iter-row-iterator.ensures.into_iter_gives.0 in
-    subst (λ l. Tells (λ t. AllZip (IsShownIn t) l at.all.items) first last) all (at.invariant.2 clean inside)
+    subst (λ l. ReadsTables (λ t. AllZip (IsShownIn t) l at.all.items) first last) all (at.invariant.2 clean inside)

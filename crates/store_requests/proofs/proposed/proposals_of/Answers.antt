@@ -7,7 +7,7 @@ use Rattle.desk_history.specs.People.{has_name, people}
 use Rattle.desk_history.specs.Roles.{is_officer}
 use Rattle.desk_history.specs.Shown.{IsGiven, proposals_for, shown_proposal}
 use Rattle.store_proposals.specs.Listing.{AreListed}
-use Rattle.store_reads.specs.Reads.{Tells, listed}
+use Rattle.store_reads.specs.Reads.{ReadsTables, listed}
 use Rattle.store_reads.proofs.TellsLemmas.{tells_then}
 use Rattle.store_requests.proofs.ProposedLemmas.{gives_all, gives_no_officer, gives_nobody}
 use Rattle.store_requests.proofs.TellsLemmas.{tells_of}
@@ -19,8 +19,8 @@ returns-in_default-clause-value g c clean inside =
     let found = c.in_ok-found.found in
     let s0 = state g.S.Store c.args.tx.now.conn.now in
     let s1 = state g.S.Store c.person_named.new.tx.conn.now in
-    let read : Tells (λ t. filter (has_name name) t.people ≡ listed found) s0 s1 =
-    subst (λ n. Tells (λ t. filter (has_name n) t.people ≡ listed found) s0 s1) c.as_str.ensures.value (c.in_ok-found.ensures.value clean inside) in
+    let read : ReadsTables (λ t. filter (has_name name) t.people ≡ listed found) s0 s1 =
+    subst (λ n. ReadsTables (λ t. filter (has_name n) t.people ≡ listed found) s0 s1) c.as_str.ensures.value (c.in_ok-found.ensures.value clean inside) in
     let none : found ≡ None = search (rules, c.in_default.is) in
     tells_of s0 s1 (λ t. filter (has_name name) t.people ≡ listed found) (λ cs. IsGiven (proposals_for cs (callers.Person name)) (Err refusals.UnknownCaller) (λ ps shown. shown.items ≡ map (shown_proposal cs) ps))
     (λ owner cs h e. gives_nobody owner cs name (λ ps shown. shown.items ≡ map (shown_proposal cs) ps) (subst (λ o. filter (has_name name) (people cs) ≡ listed o) none e)) read
@@ -32,8 +32,8 @@ returns-then-not-sees_proposals-clause-value g c clean inside =
     let reader = c.in-Some.reader in
     let s0 = state g.S.Store c.args.tx.now.conn.now in
     let s1 = state g.S.Store c.person_named.new.tx.conn.now in
-    let read : Tells (λ t. filter (has_name name) t.people ≡ listed found) s0 s1 =
-    subst (λ n. Tells (λ t. filter (has_name n) t.people ≡ listed found) s0 s1) c.as_str.ensures.value (c.in_ok-found.ensures.value clean inside) in
+    let read : ReadsTables (λ t. filter (has_name name) t.people ≡ listed found) s0 s1 =
+    subst (λ n. ReadsTables (λ t. filter (has_name n) t.people ≡ listed found) s0 s1) c.as_str.ensures.value (c.in_ok-found.ensures.value clean inside) in
     let some : found ≡ Some reader = search (rules, c.in-Some.is) in
     let no : is_officer reader.role ≡ false = search rules in
     tells_of s0 s1 (λ t. filter (has_name name) t.people ≡ listed found) (λ cs. IsGiven (proposals_for cs (callers.Person name)) (Err refusals.NotYourRole) (λ ps shown. shown.items ≡ map (shown_proposal cs) ps))
@@ -49,9 +49,9 @@ returns-clause-value g c clean inside =
     let s1 = state g.S.Store c.person_named.new.tx.conn.now in
     let s2 = state g.S.Store c.proposals.new.tx.conn.now in
     let c1 : HasCleanDisk s1 = omega (arith, c.in_ok-shown.ensures.survives.clean, clean) in
-    let first : Tells (λ t. filter (has_name name) t.people ≡ listed found) s0 s1 =
-    subst (λ n. Tells (λ t. filter (has_name n) t.people ≡ listed found) s0 s1) c.as_str.ensures.value (c.in_ok-found.ensures.value c1 inside) in
-    let second : Tells (AreListed shown.items) s1 s2 = c.in_ok-shown.ensures.value clean first.kept.inside in
+    let first : ReadsTables (λ t. filter (has_name name) t.people ≡ listed found) s0 s1 =
+    subst (λ n. ReadsTables (λ t. filter (has_name n) t.people ≡ listed found) s0 s1) c.as_str.ensures.value (c.in_ok-found.ensures.value c1 inside) in
+    let second : ReadsTables (AreListed shown.items) s1 s2 = c.in_ok-shown.ensures.value clean first.kept.inside in
     let some : found ≡ Some reader = search (rules, c.in-Some.is) in
     let yes_ : is_officer reader.role ≡ true = search rules in
     tells_of s0 s2 (λ t. (filter (has_name name) t.people ≡ listed found) × AreListed shown.items t)

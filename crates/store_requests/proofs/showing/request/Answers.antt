@@ -5,7 +5,7 @@ use Rattle.desk_bytes.specs.declared.refusal.Refusal.TheVariants as refusals
 use Rattle.desk_texts.specs.declared.caller.Caller.TheVariants as callers
 use Rattle.desk_history.specs.People.{has_name, people}
 use Rattle.desk_history.specs.Shown.{GivesRequest}
-use Rattle.store_reads.specs.Reads.{Tells, listed}
+use Rattle.store_reads.specs.Reads.{ReadsTables, listed}
 use Rattle.store_requests.specs.Steps.{IsShownIn, visible_row}
 use Rattle.store_requests.proofs.GivingLemmas.{gives_nobody, gives_none, gives_shown}
 use Rattle.store_reads.proofs.TellsLemmas.{tells_then}
@@ -19,8 +19,8 @@ returns-in_default-clause-value g c clean inside =
     let found = c.in_ok-found.found in
     let s0 = state g.S.Store c.args.tx.now.conn.now in
     let s1 = state g.S.Store c.person_named.new.tx.conn.now in
-    let read : Tells (λ t. filter (has_name name) t.people ≡ listed found) s0 s1 =
-    subst (λ n. Tells (λ t. filter (has_name n) t.people ≡ listed found) s0 s1) c.as_str.ensures.value (c.in_ok-found.ensures.value clean inside) in
+    let read : ReadsTables (λ t. filter (has_name name) t.people ≡ listed found) s0 s1 =
+    subst (λ n. ReadsTables (λ t. filter (has_name n) t.people ≡ listed found) s0 s1) c.as_str.ensures.value (c.in_ok-found.ensures.value clean inside) in
     let none : found ≡ None = search (rules, c.in_default.is) in
     tells_of s0 s1 (λ t. filter (has_name name) t.people ≡ listed found) (λ cs. GivesRequest cs (callers.Person name) k (Err refusals.UnknownCaller))
     (λ owner cs h e. gives_nobody owner cs name k (subst (λ o. filter (has_name name) (people cs) ≡ listed o) none e)) read
@@ -36,9 +36,9 @@ returns-in_default-row_for-clause-value g c clean inside =
     let s1 = state g.S.Store c.person_named.new.tx.conn.now in
     let s2 = state g.S.Store c.request_numbered.new.tx.conn.now in
     let c1 : HasCleanDisk s1 = omega (arith, c.in_ok-asked.ensures.survives.clean, clean) in
-    let first : Tells (λ t. filter (has_name name) t.people ≡ listed found) s0 s1 =
-    subst (λ n. Tells (λ t. filter (has_name n) t.people ≡ listed found) s0 s1) c.as_str.ensures.value (c.in_ok-found.ensures.value c1 inside) in
-    let second : Tells (λ t. filter (λ r. k == r.number) t.requests ≡ listed asked) s1 s2 = c.in_ok-asked.ensures.value clean first.kept.inside in
+    let first : ReadsTables (λ t. filter (has_name name) t.people ≡ listed found) s0 s1 =
+    subst (λ n. ReadsTables (λ t. filter (has_name n) t.people ≡ listed found) s0 s1) c.as_str.ensures.value (c.in_ok-found.ensures.value c1 inside) in
+    let second : ReadsTables (λ t. filter (λ r. k == r.number) t.requests ≡ listed asked) s1 s2 = c.in_ok-asked.ensures.value clean first.kept.inside in
     let some : found ≡ Some reader = search (rules, c.in-Some.is) in
     let none : visible_row reader asked ≡ None = search (rules, c.row_for.ensures, c.in_default-row_for.is) in
     tells_of s0 s2 (λ t. (filter (has_name name) t.people ≡ listed found) × (filter (λ r. k == r.number) t.requests ≡ listed asked))
@@ -61,10 +61,10 @@ returns-clause-value g c clean inside =
     let s3 = state g.S.Store c.shown_of.new.tx.conn.now in
     let c2 : HasCleanDisk s2 = omega (arith, c.in_ok-shown.ensures.survives.clean, clean) in
     let c1 : HasCleanDisk s1 = omega (arith, c.in_ok-asked.ensures.survives.clean, c2) in
-    let first : Tells (λ t. filter (has_name name) t.people ≡ listed found) s0 s1 =
-    subst (λ n. Tells (λ t. filter (has_name n) t.people ≡ listed found) s0 s1) c.as_str.ensures.value (c.in_ok-found.ensures.value c1 inside) in
-    let second : Tells (λ t. filter (λ r. k == r.number) t.requests ≡ listed asked) s1 s2 = c.in_ok-asked.ensures.value c2 first.kept.inside in
-    let third : Tells (λ t. IsShownIn t row s) s2 s3 = c.in_ok-shown.ensures.value clean second.kept.inside in
+    let first : ReadsTables (λ t. filter (has_name name) t.people ≡ listed found) s0 s1 =
+    subst (λ n. ReadsTables (λ t. filter (has_name n) t.people ≡ listed found) s0 s1) c.as_str.ensures.value (c.in_ok-found.ensures.value c1 inside) in
+    let second : ReadsTables (λ t. filter (λ r. k == r.number) t.requests ≡ listed asked) s1 s2 = c.in_ok-asked.ensures.value c2 first.kept.inside in
+    let third : ReadsTables (λ t. IsShownIn t row s) s2 s3 = c.in_ok-shown.ensures.value clean second.kept.inside in
     let some : found ≡ Some reader = search (rules, c.in-Some.is) in
     let seen : visible_row reader asked ≡ Some row = search (rules, c.row_for.ensures, c.in-Some-row_for.is) in
     tells_of s0 s3 (λ t. ((filter (has_name name) t.people ≡ listed found) × (filter (λ r. k == r.number) t.requests ≡ listed asked)) × IsShownIn t row s)

@@ -3,7 +3,7 @@ use Rattle.sqlite.specs.Held.{state}
 use Rattle.desk_texts.specs.Callers.{caller_name}
 use Rattle.desk_history.specs.Formed.{IsReadable}
 use Rattle.desk_history.specs.Runs.{has_key}
-use Rattle.store_reads.specs.Reads.{Tells, listed}
+use Rattle.store_reads.specs.Reads.{ReadsTables, listed}
 use Rattle.store_views.proofs.NamedLemmas.{finds_alone}
 use Rattle.store_reads.proofs.TellsLemmas.{tells_so}
 use Rattle.store_views.proofs.loading.calls_of.Goals as goal
@@ -20,4 +20,4 @@ returns-clause-value g c clean inside =
     tells_so first last (λ t. All IsReadable t.calls → filter (has_key caller key) t.calls ≡ listed found)
     (λ t. All IsReadable t.calls → find (has_key caller key) rows ≡ find (has_key caller key) t.calls)
     (λ t read readable. finds_alone (has_key caller key) t.calls rows found is (read readable))
-    (subst (λ n. Tells (λ t. All IsReadable t.calls → filter (has_key n key) t.calls ≡ listed found) first last) c.name.ensures (c.in_ok-earlier.ensures.value clean inside))
+    (subst (λ n. ReadsTables (λ t. All IsReadable t.calls → filter (has_key n key) t.calls ≡ listed found) first last) c.name.ensures (c.in_ok-earlier.ensures.value clean inside))

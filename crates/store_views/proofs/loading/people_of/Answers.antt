@@ -6,7 +6,7 @@ use Rattle.store_schema.specs.rows.Contents.{contents}
 use Rattle.desk_history.specs.People.{added_by, has_name}
 use Rattle.store_sql.proofs.StopLemmas.{changes_then}
 use Rattle.store_schema.specs.Tables.{desk_schema}
-use Rattle.store_reads.specs.Reads.{Tells, listed}
+use Rattle.store_reads.specs.Reads.{ReadsTables, listed}
 use Rattle.store_views.specs.Steps.{ShowsPeople}
 use Rattle.store_views.proofs.NamedLemmas.{people_asked, put_thrice, shows_caller, shows_people}
 use Rattle.store_reads.proofs.TellsLemmas.{tells_so}
@@ -23,7 +23,7 @@ returns-in_default-clause-value g c clean inside =
     let none : added_by c.args.command.now ≡ None = search (rules, c.added.ensures, c.in_default.is) in
     tells_so first last (λ t. filter (has_name caller) t.people ≡ listed own) (λ t. ShowsPeople rows t caller c.args.command.now)
     (λ t read. shows_caller t caller c.args.command.now own read rows none is)
-    (subst (λ n. Tells (λ t. filter (has_name n) t.people ≡ listed own) first last) c.name.ensures (c.in_ok-own.ensures.value clean inside))
+    (subst (λ n. ReadsTables (λ t. filter (has_name n) t.people ≡ listed own) first last) c.name.ensures (c.in_ok-own.ensures.value clean inside))
 
 pub returns-clause-value : goal.returns-clause-value
 returns-clause-value g c clean inside =
@@ -40,8 +40,8 @@ returns-clause-value g c clean inside =
     let namesake = c.in_ok-namesake.namesake in
     let holder = c.in_ok-holder.holder in
     let rows = c.put-3.new.rows.items in
-    let a = subst (λ n. Tells (λ t. filter (has_name n) t.people ≡ listed own) s0 s1) c.name.ensures (c.in_ok-own.ensures.value c1 inside) in
-    let b = subst (λ n. Tells (λ t. filter (has_name n) t.people ≡ listed namesake) s1 s2) c.as_str.ensures.value (c.in_ok-namesake.ensures.value c2 a.kept.inside) in
+    let a = subst (λ n. ReadsTables (λ t. filter (has_name n) t.people ≡ listed own) s0 s1) c.name.ensures (c.in_ok-own.ensures.value c1 inside) in
+    let b = subst (λ n. ReadsTables (λ t. filter (has_name n) t.people ≡ listed namesake) s1 s2) c.as_str.ensures.value (c.in_ok-namesake.ensures.value c2 a.kept.inside) in
     let d = c.in_ok-holder.ensures.value clean b.kept.inside in
     let some : added_by command ≡ Some person = search (rules, c.added.ensures, c.in-Some.is) in
     let all = put_thrice c.new-people.result.items c.put.new.rows.items c.put-2.new.rows.items rows (listed own) (listed namesake) (listed holder)

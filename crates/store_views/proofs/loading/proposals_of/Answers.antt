@@ -1,7 +1,7 @@
 use Rattle.std.proofs.Common.{rules, ◌≡◌, ◌++◌, filter, sym, subst, All, Some}
 use Rattle.sqlite.specs.Held.{state}
 use Rattle.store_proposals.specs.Reading.{IsStamped}
-use Rattle.store_reads.specs.Reads.{Tells, listed}
+use Rattle.store_reads.specs.Reads.{ReadsTables, listed}
 use Rattle.desk_rules.specs.Keys.{proposal_named}
 use Rattle.desk_rules.specs.Shown.{is_proposal_row}
 use Rattle.store_views.specs.Steps.{ShowsProposal}
@@ -18,7 +18,7 @@ returns-clause-value g c clean inside =
     let rows = c.put.new.rows.items in
     let is : rows ≡ listed found = subst (λ l. rows ≡ l ++ listed found) c.new-rows.ensures.items c.in_ok-put.ensures in
     let named : proposal_named c.args.command.now ≡ Some number = search (rules, c.proposal_of.ensures, c.in-Some.is) in
-    subst (λ n. Tells (λ t. All IsStamped t.proposals → ShowsProposal rows t n) first last) (sym named)
+    subst (λ n. ReadsTables (λ t. All IsStamped t.proposals → ShowsProposal rows t n) first last) (sym named)
     (tells_so first last (λ t. All IsStamped t.proposals → filter (is_proposal_row number) t.proposals ≡ listed found)
     (λ t. All IsStamped t.proposals → ShowsProposal rows t (Some number))
     (λ t read stamped. one_proposal rows t number found is (read stamped)) (c.in_ok-row.ensures.value clean inside))

@@ -1,6 +1,6 @@
 use Rattle.std.proofs.Common.{rules, ◌≡◌, ◌++◌, filter, sym, subst, Some}
 use Rattle.sqlite.specs.Held.{state}
-use Rattle.store_reads.specs.Reads.{Tells, listed}
+use Rattle.store_reads.specs.Reads.{ReadsTables, listed}
 use Rattle.desk_rules.specs.Keys.{request_named}
 use Rattle.desk_rules.specs.Shown.{is_request_row}
 use Rattle.store_views.specs.Steps.{ShowsRequest}
@@ -17,6 +17,6 @@ returns-clause-value g c clean inside =
     let rows = c.put.new.rows.items in
     let is : rows ≡ listed found = subst (λ l. rows ≡ l ++ listed found) c.new-rows.ensures.items c.in_ok-put.ensures in
     let named : request_named c.args.command.now ≡ Some number = search (rules, c.request_of.ensures, c.in-Some.is) in
-    subst (λ n. Tells (λ t. ShowsRequest rows t n) first last) (sym named)
+    subst (λ n. ReadsTables (λ t. ShowsRequest rows t n) first last) (sym named)
     (tells_so first last (λ t. filter (is_request_row number) t.requests ≡ listed found) (λ t. ShowsRequest rows t (Some number))
     (λ t read. one_request rows t number found is read) (c.in_ok-row.ensures.value clean inside))

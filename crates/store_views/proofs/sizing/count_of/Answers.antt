@@ -8,5 +8,5 @@ use Rattle.store_views.proofs.sizing.count_of.Goals as goal
 pub returns-clause-value : goal.returns-clause-value
 returns-clause-value g c clean inside =
     tells_so (state g.S.Store c.args.tx.now.conn.now) (state g.S.Store c.count.new.tx.conn.now)
-    (λ t. c.in_ok-counted.counted ≡ counted c.told_of.result t) (λ t. c.in_ok-counted.counted ≡ rows_in t c.args.table)
-    (λ t is. is ∙ c.told_of.ensures t) (c.in_ok-counted.ensures.value clean inside)
+    (λ t. c.in_ok-counted.counted ≡ counted c.counted_of.result t) (λ t. c.in_ok-counted.counted ≡ rows_in t c.args.table)
+    (λ t is. is ∙ c.counted_of.ensures t) (c.in_ok-counted.ensures.value clean inside)

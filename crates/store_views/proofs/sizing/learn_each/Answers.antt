@@ -3,7 +3,7 @@ use Rattle.std.proofs.lemmas.List.{get_or_default, take_all}
 use Rattle.sqlite.specs.Held.{state}
 use Rattle.sqlite.specs.State.{HasCleanDisk}
 use Rattle.sqlite.proofs.StateLemmas.{survives_then}
-use Rattle.desk_rules.specs.declared.view.Counted.TheVariants as counted
+use Rattle.desk_rules.specs.declared.view.LimitedTable.TheVariants as counted
 use Rattle.store_views.specs.sizes.Sizes.{AreRight}
 use Rattle.store_views.specs.Steps.{LearnsOf}
 use Rattle.store_views.proofs.LearningLemmas.{learns_next, learns_none}

@@ -1,7 +1,7 @@
 use Rattle.std.proofs.Common.{◌≡◌, take, IsTrue}
 use Rattle.sqlite.specs.Held.{state}
 use Rattle.sqlite.specs.State.{HasCleanDisk, Survives}
-use Rattle.store_reads.specs.Reads.{Tells}
+use Rattle.store_reads.specs.Reads.{ReadsTables}
 use Rattle.store_views.specs.sizes.Sizes.{AreRight}
 use Rattle.store_views.specs.Steps.{LearnsOf}
 use Rattle.store_views.proofs.sizing.learn_each.Given as goal
@@ -11,5 +11,5 @@ invariant-loop-table g l =
     let first = state g.S.Store l.fn.tx.conn.now in
     let now = state g.S.Store l.tx.conn.now in
     (l.tx.conn.ghost_name ≡ l.fn.tx.conn.ghost_name) × Survives first now (λ _. ⊥)
-    × (HasCleanDisk now → IsTrue first.in_transaction → Tells (λ t. AreRight l.fn.sizes t → AreRight l.known t) first now)
+    × (HasCleanDisk now → IsTrue first.in_transaction → ReadsTables (λ t. AreRight l.fn.sizes t → AreRight l.known t) first now)
     × LearnsOf (take l.table-index l.tables) l.command l.fn.sizes l.known

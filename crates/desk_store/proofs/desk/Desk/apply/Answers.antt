@@ -10,23 +10,23 @@ use Rattle.desk_store.proofs.ActingLemmas.{next_same}
 use Rattle.desk_store.proofs.DeskLemmas.{goes_on, spares, stays_shown, stopped}
 use Rattle.desk_store.proofs.desk.Desk.apply.Goals as goal
 
-pub returns-in-Ok-told-clause-ok : goal.returns-in-Ok-told-clause-ok
-returns-in-Ok-told-clause-ok g c clean owner cs was =
+pub returns-in-Ok-result_of-clause-ok : goal.returns-in-Ok-result_of-clause-ok
+returns-in-Ok-result_of-clause-ok g c clean owner cs was =
     let old = c.args.self.now in
     let call = called c.args.caller.now c.args.key.now c.args.command.now in
     let new : Desk _ = record c.args.self.now { conn = c.run.new.conn; sizes = c.in-Ok.acted.sizes } in
     let it = goes_on g.S.Store old new call c.in-Ok.acted (c.in-Ok.ensures.ok clean) c.in-Ok.ensures.survives
     (λ o h shows live. c.stop_leaves_what_is_shown.ensures desk_schema (rows_of o h) shows live) c.call_is_formed.ensures refl refl owner cs was in
-    (ap reply_in it.0 ∙ c.in-Ok-told.ensures.ok, it.1)
+    (ap reply_in it.0 ∙ c.in-Ok-result_of.ensures.ok, it.1)
 
-pub returns-in-Err-told-clause-refused : goal.returns-in-Err-told-clause-refused
-returns-in-Err-told-clause-refused g c clean no_store owner cs was =
+pub returns-in-Err-result_of-clause-refused : goal.returns-in-Err-result_of-clause-refused
+returns-in-Err-result_of-clause-refused g c clean no_store owner cs was =
     let old = c.args.self.now in
     let call = called c.args.caller.now c.args.key.now c.args.command.now in
     let new : Desk _ = record c.args.self.now { conn = c.run.new.conn; sizes = c.in-Ok.acted.sizes } in
     let it = goes_on g.S.Store old new call c.in-Ok.acted (c.in-Ok.ensures.ok clean) c.in-Ok.ensures.survives
     (λ o h shows live. c.stop_leaves_what_is_shown.ensures desk_schema (rows_of o h) shows live) c.call_is_formed.ensures refl refl owner cs was in
-    let exact = it.0 ∙ c.in-Err-told.ensures.err in
+    let exact = it.0 ∙ c.in-Err-result_of.ensures.err in
     (λ _. exact, subst (λ (h : History). ShowsDesk g.S.Store new owner h) (next_same cs call (ap is_accepted exact)) it.1)
 
 pub returns-in-Err-clause-refused : goal.returns-in-Err-clause-refused
@@ -39,29 +39,29 @@ returns-in-Err-clause-refused g c clean no_store owner cs was =
       stays_shown g.S.Store old new call (c.in-Err.ensures.unwritten no_store) usable (c.in-Err.ensures.err clean no_store) (λ p _. p.right) owner cs was,
     )
 
-pub returns-in-Ok-told-clause-stopped : goal.returns-in-Ok-told-clause-stopped
-returns-in-Ok-told-clause-stopped g c =
+pub returns-in-Ok-result_of-clause-stopped : goal.returns-in-Ok-result_of-clause-stopped
+returns-in-Ok-result_of-clause-stopped g c =
     let old = c.args.self.now in
     let call = called c.args.caller.now c.args.key.now c.args.command.now in
     let new : Desk _ = record c.args.self.now { conn = c.run.new.conn; sizes = c.in-Ok.acted.sizes } in
     stopped g.S.Store old new call c.in-Ok.ensures.survives
 
-pub returns-in-Ok-told-clause-spares : goal.returns-in-Ok-told-clause-spares
-returns-in-Ok-told-clause-spares g c =
+pub returns-in-Ok-result_of-clause-spares : goal.returns-in-Ok-result_of-clause-spares
+returns-in-Ok-result_of-clause-spares g c =
     let old = c.args.self.now in
     let call = called c.args.caller.now c.args.key.now c.args.command.now in
     let new : Desk _ = record c.args.self.now { conn = c.run.new.conn; sizes = c.in-Ok.acted.sizes } in
     spares g.S.Store old new call c.in-Ok.ensures.survives
 
-pub returns-in-Err-told-clause-stopped : goal.returns-in-Err-told-clause-stopped
-returns-in-Err-told-clause-stopped g c =
+pub returns-in-Err-result_of-clause-stopped : goal.returns-in-Err-result_of-clause-stopped
+returns-in-Err-result_of-clause-stopped g c =
     let old = c.args.self.now in
     let call = called c.args.caller.now c.args.key.now c.args.command.now in
     let new : Desk _ = record c.args.self.now { conn = c.run.new.conn; sizes = c.in-Ok.acted.sizes } in
     stopped g.S.Store old new call c.in-Ok.ensures.survives
 
-pub returns-in-Err-told-clause-spares : goal.returns-in-Err-told-clause-spares
-returns-in-Err-told-clause-spares g c =
+pub returns-in-Err-result_of-clause-spares : goal.returns-in-Err-result_of-clause-spares
+returns-in-Err-result_of-clause-spares g c =
     let old = c.args.self.now in
     let call = called c.args.caller.now c.args.key.now c.args.command.now in
     let new : Desk _ = record c.args.self.now { conn = c.run.new.conn; sizes = c.in-Ok.acted.sizes } in

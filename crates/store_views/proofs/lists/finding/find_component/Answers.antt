@@ -2,7 +2,7 @@ use Rattle.std.proofs.Common.{◌≡◌, [], ◌∷◌, subst, sym}
 use Rattle.std.specs.Prelude.{filter}
 use Rattle.sqlite.specs.Held.{state}
 use Rattle.desk_history.specs.Writes.{is_named}
-use Rattle.store_reads.specs.Reads.{Tells}
+use Rattle.store_reads.specs.Reads.{ReadsTables}
 use Rattle.store_views.proofs.KeyLemmas.{only_component}
 use Rattle.store_reads.proofs.TellsLemmas.{tells_so}
 use Rattle.store_views.proofs.lists.finding.find_component.Goals as goal
@@ -12,7 +12,7 @@ returns-clause-value g c clean inside =
     let name = c.args.name.now in
     let old = state g.S.Store c.args.tx.now.conn.now in
     let new = state g.S.Store c.component_named.new.tx.conn.now in
-    subst (λ copy. Tells (λ t. filter
+    subst (λ copy. ReadsTables (λ t. filter
     (is_named name) t.components ≡ record { name = copy; generation = c.in-Some.row.generation } ∷ []) old new)
     (sym c.in-Ok.ensures.cases)
     (tells_so old new (λ t. filter (is_named name) t.components ≡ c.in-Some.row ∷ [])

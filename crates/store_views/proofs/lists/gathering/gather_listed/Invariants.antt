@@ -2,7 +2,7 @@ use Rattle.std.proofs.Common.{◌≡◌, take, IsTrue}
 use Rattle.sqlite.specs.Held.{state}
 use Rattle.sqlite.specs.State.{HasCleanDisk, Survives}
 use Rattle.desk_history.specs.Calls.{is_among}
-use Rattle.store_reads.specs.Reads.{Tells}
+use Rattle.store_reads.specs.Reads.{ReadsTables}
 use Rattle.store_views.specs.lists.Gathering.{Gathers, PutsOnly, listings_of}
 use Rattle.store_views.proofs.lists.gathering.gather_listed.Given as goal
 
@@ -12,5 +12,5 @@ invariant-loop-digest g l =
     let now = state g.S.Store l.tx.conn.now in
     (l.tx.conn.ghost_name ≡ l.fn.tx.conn.ghost_name) × Survives first now (λ _. ⊥)
     × (HasCleanDisk now → IsTrue first.in_transaction
-    → Tells (Gathers (listings_of l.fn.kind) (take l.digest-index l.digests) l.fn.rows.items l.rows.items) first now)
+    → ReadsTables (Gathers (listings_of l.fn.kind) (take l.digest-index l.digests) l.fn.rows.items l.rows.items) first now)
     × PutsOnly (λ x. (x.kind ≡ l.fn.kind) × IsTrue (is_among l.digests x.digest)) l.fn.rows.items l.rows.items

@@ -2,7 +2,7 @@ use Rattle.std.proofs.Common.{◌≡◌, take, IsTrue}
 use Rattle.sqlite.specs.Held.{state}
 use Rattle.sqlite.specs.State.{HasCleanDisk, Survives}
 use Rattle.desk_history.specs.Calls.{is_among}
-use Rattle.store_reads.specs.Reads.{Tells}
+use Rattle.store_reads.specs.Reads.{ReadsTables}
 use Rattle.store_views.specs.lists.Gathering.{Gathers, PutsOnly, revocations_of}
 use Rattle.store_views.proofs.lists.gathering.gather_revoked.Given as goal
 
@@ -12,5 +12,5 @@ invariant-loop-digest g l =
     let now = state g.S.Store l.tx.conn.now in
     (l.tx.conn.ghost_name ≡ l.fn.tx.conn.ghost_name) × Survives first now (λ _. ⊥)
     × (HasCleanDisk now → IsTrue first.in_transaction
-    → Tells (Gathers (revocations_of l.fn.kind) (take l.digest-index l.digests) l.fn.rows.items l.rows.items) first now)
+    → ReadsTables (Gathers (revocations_of l.fn.kind) (take l.digest-index l.digests) l.fn.rows.items l.rows.items) first now)
     × PutsOnly (λ x. IsTrue (is_among l.digests x)) l.fn.rows.items l.rows.items

@@ -5,7 +5,7 @@ use Rattle.desk_texts.specs.declared.kind.ListedKind.TheVariants as kinds
 use Rattle.store_schema.specs.rows.Contents.{contents}
 use Rattle.store_schema.specs.Tables.{desk_schema}
 use Rattle.store_sql.proofs.StopLemmas.{changes_then}
-use Rattle.store_views.specs.lists.Gathering.{asked}
+use Rattle.store_views.specs.lists.Gathering.{keys_of}
 use Rattle.store_views.proofs.ShownLemmas.{gathered_components, gathered_revoked, shows_lists}
 use Rattle.store_views.proofs.lists.reading.rows_of.Goals as goal
 
@@ -41,7 +41,7 @@ returns-clause-value g c clean inside =
           let sees2 = b.kept.value t sees1 in
           let sees3 = d.kept.value t sees2 in
           let sees4 = e.kept.value t sees3 in
-          shows_lists _ (asked c.args.listed c.args.revoked c.args.named.now) t (b.tells t sees1)
+          shows_lists _ (keys_of c.args.listed c.args.revoked c.args.named.now) t (b.tells t sees1)
           (gathered_revoked kinds.Digest c.args.revoked.images.now c.new-images.result.items c.gather_revoked.new.rows.items c.new-images.ensures.items t (d.tells t sees2))
           (gathered_revoked kinds.Certificate c.args.revoked.certificates.now c.new-certificates.result.items c.gather_revoked-2.new.rows.items c.new-certificates.ensures.items t (e.tells t sees3))
           (gathered_components c.args.named.now c.new-components.result.items c.gather_components.new.rows.items c.new-components.ensures.items t (f.tells t sees4));
