@@ -12,7 +12,7 @@ use Rattle.desk_history.specs.Formed.{IsHistory}
 use Rattle.store_sql.specs.States.{Spares}
 use Rattle.store_schema.specs.Tables.{no_schema}
 use Rattle.desk_store.specs.Desks.{ShowsDesk}
-use Rattle.desk_store.specs.Reopening.{Recovers}
+use Rattle.desk_store.specs.Headline.{Recovers}
 use Rattle.desk_store.specs.declared.desk.Desk.{Desk}
 
 module _ {S : Type 0} (g : Ghosts S) (conn : Held S) where

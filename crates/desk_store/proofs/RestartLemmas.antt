@@ -25,7 +25,8 @@ use Rattle.store_sql.specs.States.{Leaves, Shows}
 use Rattle.store_schema.specs.Tables.{desk_schema, first_schema}
 use Rattle.store_schema.specs.rows.Histories.{HoldsFirst, HoldsHistory, ShowsFirst, ShowsHistory, first_rows_of, rows_of}
 use Rattle.desk_store.specs.Living.{and_refused}
-use Rattle.desk_store.specs.Reopening.{FilesHold, FoundAgain, HoldsEither, LeavesLives, Seen, none_by_second}
+use Rattle.desk_store.specs.Headline.{HoldsEither, LeavesLives, Seen, none_by_second}
+use Rattle.desk_store.specs.Reopening.{FilesHold, FoundAgain}
 use Rattle.desk_store.specs.Steps.{Brings}
 use Rattle.desk_store.proofs.VersionLemmas.{second_version}
 

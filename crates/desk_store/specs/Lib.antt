@@ -1,6 +1,7 @@
 pub mod Pasts
 pub mod Desks
 pub mod Questions
+pub mod Headline
 pub mod Reopening
 pub mod Rows
 pub mod Steps

@@ -11,7 +11,7 @@ use Rattle.desk_history.specs.Calls.{History, Second, item}
 use Rattle.desk_history.specs.Runs.{next}
 use Rattle.desk_history.specs.Lives.{Answered, Ends, Event, Fate, Life, NotOpened, Opened, Refused, Stopped}
 use Rattle.desk_store.specs.Desks.{MayStop, Refuses, Replies, ShowsDesk}
-use Rattle.desk_store.specs.Reopening.{IsSince, IsRecovered, LeavesLives, Seen}
+use Rattle.desk_store.specs.Headline.{IsSince, IsRecovered, LeavesLives, Seen}
 use Rattle.desk_store.specs.declared.desk.Desk.{Desk}
 
 -- these lives, and the one of a desk that was opened after them and was called so

@@ -6,7 +6,8 @@ ghost use Rattle.desk_history.specs.Calls.{History};
 ghost use Rattle.desk_history.specs.Formed.{IsItem};
 ghost use Rattle.desk_history.specs.Lives.{Life, events_of};
 ghost use Rattle.desk_store.specs.Living.{and_refused};
-ghost use Rattle.desk_store.specs.Reopening.{FilesHold, FoundAgain, IsRecovered, LeavesLives, Seen};
+ghost use Rattle.desk_store.specs.Headline.{IsRecovered, LeavesLives, Seen};
+ghost use Rattle.desk_store.specs.Reopening.{FilesHold, FoundAgain};
 ghost use Rattle.desk_store.specs.Steps.{IsReadRefusal};
 
 use crate::desk::Desk;

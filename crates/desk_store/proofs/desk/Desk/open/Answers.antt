@@ -8,7 +8,7 @@ use Rattle.desk_history.proofs.VerdictLemmas.{barred_not_allowed, what_is_barred
 use Rattle.store_schema.specs.rows.Histories.{HoldsHistory, first_rows_of, rows_of}
 use Rattle.store_reads.specs.Failures.{IsFailure}
 use Rattle.store_schema.specs.Tables.{desk_schema, first_schema}
-use Rattle.desk_store.specs.Reopening.{HoldsLives}
+use Rattle.desk_store.specs.Headline.{HoldsLives}
 use Rattle.desk_store.proofs.OpeningLemmas.{still_leaves}
 use Rattle.desk_store.proofs.ReopeningLemmas.{no_failure, no_version, not_missing}
 use Rattle.desk_store.proofs.SizeLemmas.{unknown_are_right}
