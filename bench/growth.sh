@@ -1,0 +1,19 @@
+#!/bin/sh
+# bench/growth.sh [REQUESTS]: what requests make grow, in one run, on a desk that is filled over HTTP with 10,000 requests of a plain image, or as
+# many as are given, and on one with as many requests of 256 components as give a file of about 22 MB. For each desk: the file's bytes a
+# request; the time and the memory that an opening takes (`desk level`), beside sqlite3's `PRAGMA integrity_check` of the same file; and of
+# GET /requests its length, its time, and the most memory that the server took beyond that of an idle one, as a ratio to the length. The last
+# does the same of GET /proposals, of a tenth as many proposals. Times are of the clock, medians of five. The program is ./desk's, or the one that
+# $DESK_BENCH_PROGRAM names. Not part of the gate: it needs python3 and sqlite3, and takes two minutes.
+set -eu
+root=$(CDPATH='' cd -- "$(dirname -- "$(readlink -f -- "$0")")/.." && pwd -P)
+if [ -n "${DESK_BENCH_PROGRAM:-}" ]; then
+    program=$(readlink -f -- "$DESK_BENCH_PROGRAM")
+else
+    "$root/desk" --version > /dev/null
+    program=$root/crates/desk/out/desk
+fi
+for tool in python3 sqlite3; do
+    command -v "$tool" > /dev/null || { echo "bench/growth.sh: $tool is needed" >&2; exit 1; }
+done
+PYTHONPATH=$root/checks/requests exec python3 -B "$root/bench/growth/growth.py" "$program" "$@"

@@ -1,0 +1,96 @@
+"""Measures what requests and proposals make grow: see ../growth.sh."""
+import os
+import statistics
+import subprocess
+import sys
+import time
+
+from days import named, proposes, submits
+from desk import PLAIN, Program, Server, expect, fail, got, sha256, with_text
+
+sys.stdout.reconfigure(line_buffering=True)
+REQUESTS = int(sys.argv[2]) if len(sys.argv) > 2 else 10_000
+ROUNDS = 5
+HEAD = "sbat,1,SBAT Version,sbat,1,https://github.com/rhboot/shim/blob/main/SBAT.md\n"
+# As many components as a request may have, with names as long as they may be.
+LARGE = with_text(PLAIN, (HEAD + "".join(f"c{it:03}{'n' * 60},1,a,b,1,u\n" for it in range(255))).encode())
+
+
+def timed(run):
+    """The median of the clock, in seconds."""
+    found = []
+    for _ in range(ROUNDS):
+        begun = time.monotonic()
+        run()
+        found.append(time.monotonic() - begun)
+    return statistics.median(found)
+
+
+def most_memory(*words):
+    """The most memory of a process that runs these words, in bytes."""
+    pid = os.posix_spawn(words[0], words, os.environ, file_actions=[(os.POSIX_SPAWN_OPEN, 1, "/dev/null", os.O_WRONLY, 0)])
+    _, status, used = os.wait4(pid, 0)
+    if status:
+        fail(f"{' '.join(words)}: status {status}")
+    return used.ru_maxrss * 1024
+
+
+def checked(desk):
+    ran = subprocess.run(["sqlite3", desk, "PRAGMA integrity_check"], capture_output=True, check=False)
+    if ran.stdout != b"ok\n":
+        fail(f"sqlite3 {desk}: {ran.stdout!r} {ran.stderr!r}")
+
+
+def listing(program, desk, name, path):
+    """The length of the response, its time, and the memory that it takes beyond an idle server's."""
+    with Server(program, desk) as server:
+        server.ask(got(name, "/level"))
+        idle = server.memory()
+        begun = time.monotonic()
+        answer = server.ask(got(name, path), ends=False)
+        took = time.monotonic() - begun
+        if not answer.startswith(b"HTTP/1.1 200 "):
+            fail(f"GET {path}: {answer[:200]!r}")
+        return len(answer), took, server.memory() - idle
+
+
+def told(program, empty, desk, count, what):
+    size, first = os.path.getsize(desk), os.path.getsize(empty)
+    opening = timed(lambda: program.gives("level", desk))
+    beside = timed(lambda: checked(desk))
+    memory = most_memory(program.path, "level", desk) - most_memory(program.path, "level", empty)
+    print(f"{what}: {count:,}, a file of {size / 1e6:.1f} MB, {(size - first) / count:,.0f} bytes each")
+    print(f"  opening {opening:.3f} s, sqlite3's integrity_check {beside:.3f} s, ratio {opening / beside:.2f}; {memory / 1e6:.1f} MB of memory")
+
+
+def filled(program, name, steps):
+    desk = program.founded(name)
+    with Server(program, desk) as server:
+        for step in steps:
+            expect(server.ask(step.given, ends=False), step.due, "a call of the filling")
+    program.gives("level", desk)
+    return desk
+
+
+def lists(program, desk, name, path):
+    length, took, memory = listing(program, desk, name, path)
+    print(f"  GET {path}: {length / 1e6:.2f} MB in {took:.3f} s, {memory / 1e6:.1f} MB of memory, {memory / length:.2f} of its length")
+
+
+with Program(sys.argv[1]) as program:
+    empty = program.founded("empty.db")
+    program.gives("level", empty)
+    small = filled(program, "small.db", (submits("ann", f"k{it}", PLAIN, "a loader", it) for it in range(1, REQUESTS + 1)))
+    told(program, empty, small, REQUESTS, "requests of a plain image")
+    lists(program, small, "rita", "/requests")
+    count = max(1, REQUESTS * 3 // 100)
+    large = filled(program, "large.db", (submits("ann", f"k{it}", LARGE, "a loader", it) for it in range(1, count + 1)))
+    told(program, empty, large, count, "requests of 256 components")
+    lists(program, large, "rita", "/requests")
+    count = max(1, REQUESTS // 10)
+    digests = filled(
+        program, "proposals.db",
+        (proposes("olga", f"k{it}", "/dbx/digests", named(sha256(str(it).encode())), it) for it in range(1, count + 1)),
+    )
+    told(program, empty, digests, count, "proposals of a digest")
+    lists(program, digests, "olga", "/proposals")
