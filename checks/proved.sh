@@ -1,0 +1,180 @@
+#!/usr/bin/env bash
+# That the documents claim no clause that isn't there, and leave none out. Proves nothing and runs no program: it reads the sources.
+#
+# A claim is a row of a table that begins `| Call | Clause |`. Its first cell has calls and its second the names of clauses, each in
+# backticks; an empty second cell stands for a clause without a name. The row claims every one of these clauses of every one of these
+# calls. In docs/PROVED.md a call has its crate in front (`desk_store::Desk::open`); in crates/CRATE/README.md it is a call of CRATE.
+#
+# Fails where a row names a call that CRATE doesn't offer, or a clause that the call doesn't have, and where a clause of a public call
+# of the crates in FULL isn't claimed in the crate's README, or is claimed there twice. The last line is `N rows, M missing`.
+set -u
+cd "$(dirname "$0")/.." || exit 1
+exec python3 - <<'END'
+import glob, os, re, sys
+
+FULL = ['pe_image', 'authenticode', 'sbat', 'siglist', 'desk_rules', 'desk_store', 'desk_http', 'desk_answers', 'cli_files', 'http_net']
+
+def plain(text):
+    """The text without comments, and with nothing in its quotes."""
+    return re.sub(r'//[^\n]*|"(?:[^"\\]|\\.)*"|\'(?:[^\'\\\n]|\\.[^\'\n]*)\'(?![a-z_A-Z])',
+                  lambda m: '' if m.group(0).startswith('//') else '""', text)
+
+def words(path):
+    return re.findall(r'[A-Za-z_][A-Za-z_0-9]*|::|->|\S', plain(open(path, encoding='utf-8').read()))
+
+def end_of(tokens, at):
+    """The index after the bracket that matches the one at `at`."""
+    depth = 0
+    while True:
+        depth += (tokens[at] in '{[(') - (tokens[at] in '}])')
+        at += 1
+        if depth == 0:
+            return at
+
+def owner_of(head):
+    """The name of the type that an `impl` is for: the last name outside angle brackets, after `for` if it has one."""
+    depth, name, skipping = 0, '', head[:1] == ['<']
+    for at, token in enumerate(head):
+        depth += (token == '<') - (token == '>')
+        if depth == 0 and token == 'where':
+            break
+        if depth == 0 and re.match('[A-Za-z]', token) and token != 'for':
+            name = token
+    return name
+
+def functions(tokens, at, end, owner, of_trait):
+    """Each function between the two indices: its owner, its name, whether others may call it, and its clauses."""
+    public = False
+    while at < end:
+        token = tokens[at]
+        if token == 'pub' and tokens[at + 1] == '(':
+            at = end_of(tokens, at + 1)
+        elif token == 'pub':
+            public, at = True, at + 1
+        elif token == '#':
+            at = end_of(tokens, at + 1 + (tokens[at + 1] == '!'))
+        elif token == 'fn':
+            name, clauses, at = tokens[at + 1], [], at + 2
+            while True:
+                token = tokens[at]
+                if token in ('ensures', 'requires'):
+                    named = tokens[at + 1] != '{'
+                    if token == 'ensures':
+                        clauses.append(tokens[at + 1] if named else '')
+                    at = end_of(tokens, at + 1 + named)
+                elif token in ('decreases', 'variant'):
+                    at = end_of(tokens, tokens.index('{', at))
+                elif token in '([':
+                    at = end_of(tokens, at)
+                elif token == '{':
+                    at = end_of(tokens, at)
+                    break
+                else:
+                    at += 1
+                    if token == ';':
+                        break
+            yield owner, name, public or of_trait, clauses
+            public = False
+        elif token in ('impl', 'trait', 'mod'):
+            at, head = at + 1, []
+            while tokens[at] not in '{;':
+                after = end_of(tokens, at) if tokens[at] in '([' else at + 1
+                head += tokens[at:after]
+                at = after
+            after = end_of(tokens, at) if tokens[at] == '{' else at + 1
+            if token == 'trait' and public:
+                yield from functions(tokens, at + 1, after - 1, head[0], True)
+            if token == 'impl':
+                yield from functions(tokens, at + 1, after - 1, owner_of(head), 'for' in head)
+            at, public = after, False
+        elif token == '{':
+            at, public = end_of(tokens, at), False
+        else:
+            public = public and token != ';'
+            at += 1
+
+def offered(crate):
+    """The public calls of a crate, each with the names of its clauses."""
+    room = f'crates/{crate}/src'
+    names = set()
+    for path in re.findall(r'pub use ([^;]*);', plain(open(f'{room}/lib.rt', encoding='utf-8').read())):
+        inner = re.search(r'\{(.*)\}', path, re.S)
+        names |= {name.strip().split('::')[-1].split(' as ')[-1].strip() for name in (inner.group(1) if inner else path).split(',')}
+    calls = {}
+    for path in sorted(glob.glob(f'{room}/**/*.rt', recursive=True)):
+        tokens = words(path)
+        for owner, name, public, clauses in functions(tokens, 0, len(tokens), '', False):
+            if public and (owner or name) in names:
+                calls.setdefault(f'{owner}::{name}' if owner else name, []).extend(clauses)
+    return calls
+
+def claims(path):
+    """The rows of the tables of claims: the number of the line, the calls, the clauses."""
+    inside = False
+    for number, line in enumerate(open(path, encoding='utf-8'), 1):
+        if not line.startswith('|'):
+            inside = False
+        elif line.startswith('| Call | Clause'):
+            inside = True
+        elif inside and not line.startswith('|---'):
+            cells = re.split(r'(?<!\\)\|', line)
+            quoted = [re.findall(r'`([^`]+)`', cell) for cell in cells[1:3]]
+            yield number, quoted[0], quoted[1] or ['']
+
+rows, missing = 0, 0
+def say(text):
+    global missing
+    missing += 1
+    print(text)
+
+known = {}
+def of_crate(crate):
+    if crate not in known:
+        known[crate] = offered(crate) if os.path.exists(f'crates/{crate}/src/lib.rt') else {}
+    return known[crate]
+
+def check(path, number, crate, call, clause):
+    """Whether the clause is one of the call's."""
+    calls = of_crate(crate)
+    if call not in calls:
+        say(f'{path}:{number}: {crate} offers no call {call}')
+    elif clause not in calls[call]:
+        say(f'{path}:{number}: {call} of {crate} has no clause {clause or "without a name"}')
+    else:
+        return True
+    return False
+
+for path in sorted(glob.glob('crates/*/README.md')):
+    crate = path.split('/')[1]
+    claimed = {}
+    for number, calls, clauses in claims(path):
+        rows += 1
+        if not calls:
+            say(f'{path}:{number}: a row without a call')
+        for call in calls:
+            for clause in clauses:
+                if check(path, number, crate, call, clause):
+                    if (call, clause) in claimed:
+                        say(f'{path}:{number}: {call} {clause} stands in line {claimed[call, clause]} too')
+                    claimed[call, clause] = number
+    if crate in FULL:
+        for call, clauses in sorted(of_crate(crate).items()):
+            for clause in clauses:
+                if (call, clause) not in claimed:
+                    say(f'{path}: no row for {clause or "the clause"} of {call}')
+
+for number, calls, clauses in claims('docs/PROVED.md'):
+    rows += 1
+    if not calls:
+        say(f'docs/PROVED.md:{number}: a row without a call')
+    for call in calls:
+        crate, _, name = call.partition('::')
+        if not name:
+            say(f'docs/PROVED.md:{number}: {call} has no crate in front')
+            continue
+        for clause in clauses:
+            check('docs/PROVED.md', number, crate, name, clause)
+
+print(f'{rows} rows, {missing} missing')
+sys.exit(missing > 0)
+END
