@@ -16,8 +16,8 @@ FULL = ['pe_image', 'authenticode', 'sbat', 'siglist', 'desk_rules', 'desk_store
 
 def plain(text):
     """The text without comments, and with nothing in its quotes."""
-    return re.sub(r'//[^\n]*|"(?:[^"\\]|\\.)*"|\'(?:[^\'\\\n]|\\.[^\'\n]*)\'(?![a-z_A-Z])',
-                  lambda m: '' if m.group(0).startswith('//') else '""', text)
+    quoted = r'r(#+)".*?"\1|"(?:[^"\\]|\\.)*"|\'(?:[^\'\\\n]|\\.[^\'\n]*)\'(?![a-z_A-Z])'
+    return re.sub(r'//[^\n]*|' + quoted, lambda m: '' if m.group(0).startswith('//') else '""', text, flags=re.S)
 
 def words(path):
     return re.findall(r'[A-Za-z_][A-Za-z_0-9]*|::|->|\S', plain(open(path, encoding='utf-8').read()))
