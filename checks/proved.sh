@@ -175,6 +175,37 @@ for number, calls, clauses in claims('docs/PROVED.md'):
         for clause in clauses:
             check('docs/PROVED.md', number, crate, name, clause)
 
+# docs/STATEMENTS.md has each SQL text of store_schema as it is in the sources, under a heading for its table, after a comment with
+# its constant and the clause of the table's law.
+texts, made, shown = {}, {}, set()
+for path in glob.glob('crates/store_schema/src/*.rt'):
+    source = open(path, encoding='utf-8').read()
+    texts.update(re.findall(r'pub const ([A-Z_]+): &str =\s*"([^"]*)";', source))
+    made.update((table, text) for text, table in re.findall(r'"(CREATE TABLE ([a-z_]+) [^"]*)"', source))
+page, table, note = 'docs/STATEMENTS.md', '', None
+for number, line in enumerate(open(page, encoding='utf-8').read().split('\n'), 1):
+    if line.startswith('### '):
+        table = line[4:]
+    elif line.startswith('CREATE TABLE '):
+        rows += 1
+        if made.pop(table, '') != line:
+            say(f'{page}:{number}: {table} is made by another text')
+    elif line.startswith('-- '):
+        note = re.match(r'-- ([A-Z_]+)(?:, clause ([a-z_]+))?: ', line)
+        if not note:
+            say(f'{page}:{number}: a comment without a constant')
+    elif note:
+        rows += 1
+        shown.add(note.group(1))
+        if texts.get(note.group(1)) != line:
+            say(f'{page}:{number}: {note.group(1)} is another text')
+        check(page, number, 'store_schema', f'{table}_statements', note.group(2) or '')
+        note = None
+for name in sorted(set(texts) - shown):
+    say(f'{page}: no text of {name}')
+for table in made:
+    say(f'{page}: no text that makes {table}')
+
 print(f'{rows} rows, {missing} missing')
 sys.exit(missing > 0)
 END
