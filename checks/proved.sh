@@ -6,13 +6,13 @@
 # calls. In docs/PROVED.md a call has its crate in front (`desk_store::Desk::open`); in crates/CRATE/README.md it is a call of CRATE.
 #
 # Fails where a row names a call that CRATE doesn't offer, or a clause that the call doesn't have, and where a clause of a public call
-# of the crates in FULL isn't claimed in the crate's README, or is claimed there twice. The last line is `N rows, M missing`.
+# of the crates in FULL (each that has a library) isn't claimed in its README, or is claimed there twice. The last line is `N rows, M missing`.
 set -u
 cd "$(dirname "$0")/.." || exit 1
 exec python3 - <<'END'
 import glob, os, re, sys
 
-FULL = ['pe_image', 'authenticode', 'sbat', 'siglist', 'desk_rules', 'desk_store', 'desk_http', 'desk_answers', 'cli_files', 'http_net']
+FULL = sorted(crate for crate in os.listdir('crates') if os.path.exists(f'crates/{crate}/src/lib.rt'))
 
 def plain(text):
     """The text without comments, and with nothing in its quotes."""
@@ -205,6 +205,20 @@ for name in sorted(set(texts) - shown):
     say(f'{page}: no text of {name}')
 for table in made:
     say(f'{page}: no text that makes {table}')
+
+# docs/DEFINITIONS.md, under a heading for its crate: each word is defined in the file of its row.
+page, crate = 'docs/DEFINITIONS.md', ''
+for number, line in enumerate(open(page, encoding='utf-8'), 1):
+    if line.startswith('### '):
+        crate = line[4:].strip()
+    elif crate and line.startswith('| `'):
+        rows += 1
+        cells = [re.findall(r'`([^`]+)`', cell) for cell in line.split('|')[1:4]]
+        path = f'crates/{crate}/specs/{cells[0][0]}'
+        source = open(path, encoding='utf-8').read() if os.path.exists(path) else ''
+        for word in cells[2]:
+            if not re.search(rf'\bpub\s+(?:record\s+|data\s+)?{word}\b', source):
+                say(f'{page}:{number}: no {word} in {path}')
 
 print(f'{rows} rows, {missing} missing')
 sys.exit(missing > 0)
