@@ -220,6 +220,22 @@ for number, line in enumerate(open(page, encoding='utf-8'), 1):
             if not re.search(rf'\bpub\s+(?:record\s+|data\s+)?{word}\b', source):
                 say(f'{page}:{number}: no {word} in {path}')
 
+# docs/TESTS.md: each test is there, in the crate that its line begins with, and so is each script.
+page, tests = 'docs/TESTS.md', {}
+for path in glob.glob('crates/tests_*/src/**/*.rt', recursive=True):
+    tests.setdefault(path.split('/')[1], set()).update(re.findall(r'\bfn ([a-z_0-9]+)', open(path, encoding='utf-8').read()))
+crate = ''
+for number, line in enumerate(open(page, encoding='utf-8'), 1):
+    begun = re.match(r'  - (?:(tests_[a-z]+): )?', line)
+    crate = (begun.group(1) or '') if begun else crate if line.startswith('    ') else ''
+    rows += bool(begun)
+    for name in re.findall(r'`([a-z_0-9]+)`', line) if crate else ():
+        if name not in tests.get(crate, ()):
+            say(f'{page}:{number}: {crate} has no test {name}')
+    for name in re.findall(r'([a-z0-9-]+\.sh)', line):
+        if not os.path.exists(f'checks/{name}'):
+            say(f'{page}:{number}: there is no checks/{name}')
+
 print(f'{rows} rows, {missing} missing')
 sys.exit(missing > 0)
 END
