@@ -1,7 +1,7 @@
 //! Output that may stop.
 ghost use Rattle.std.specs.Prelude.{OnOk, OnErr, decimal, ◌≡◌};
 ghost use Rattle.std.specs.Io.KnownBytes.{Appends};
-ghost use Rattle.desk_bytes.specs.Output.{AppendsBeginning};
+ghost use Rattle.desk_bytes.specs.Output.{AppendsBeginning, joined};
 
 use crate::Refusal;
 use itoa::Buffer;
@@ -36,6 +36,19 @@ pub fn put<W: Write>(bytes: &[u8], writer: &mut W) -> Result<(), WriteFailed>
             Ok(taken) => done += taken,
             Err(_) => return Err(WriteFailed),
         }
+    }
+    Ok(())
+}
+
+/// Writes all of the slices, one after another, as `put` writes one. Takes no memory.
+pub fn put_each<W: Write>(slices: &[&[u8]], writer: &mut W) -> Result<(), WriteFailed>
+    ensures ok { OnOk result (Appends (W.contents writer.old) (W.contents writer.new)
+        (joined slices.now)) }
+    ensures err { OnErr result (AppendsBeginning (W.contents writer.old) (W.contents writer.new)
+        (joined slices.now)) }
+{
+    for slice in slices {
+        put(slice, writer)?;
     }
     Ok(())
 }
