@@ -8,7 +8,8 @@ use crate::generation::Generation;
 use crate::level::Level;
 use crate::name::ComponentName;
 use crate::stamp::Stamp;
-use desk_bytes::{WriteFailed, put, put_decimal};
+use desk_bytes::{WriteFailed, put_each};
+use itoa::Buffer;
 use std::io::Write;
 
 /// Writes the first line of a level: `sbat,1,` and the stamp. Takes no memory.
@@ -18,9 +19,9 @@ pub fn level_head<W: Write>(stamp: Stamp, writer: &mut W) -> Result<(), WriteFai
     ensures err { OnErr result (AppendsBeginning (W.contents writer.old) (W.contents writer.new)
         (head_text stamp)) }
 {
-    put(b"sbat,1,", writer)?;
-    put_decimal(stamp.value(), writer)?;
-    put(b"\n", writer)
+    let mut digits = Buffer::new();
+    let stamp = digits.format(stamp.value()).as_bytes();
+    put_each(&[b"sbat,1,", stamp, b"\n"], writer)
 }
 
 /// Writes the line of one name.
@@ -30,10 +31,9 @@ fn put_row<W: Write>(name: &str, generation: Generation, writer: &mut W) -> Resu
     ensures err { OnErr result (AppendsBeginning (W.contents writer.old) (W.contents writer.new)
         (row_text name.now generation)) }
 {
-    put(name.as_bytes(), writer)?;
-    put(b",", writer)?;
-    put_decimal(u64::from(generation.value()), writer)?;
-    put(b"\n", writer)
+    let mut digits = Buffer::new();
+    let generation = digits.format(generation.value()).as_bytes();
+    put_each(&[name.as_bytes(), b",", generation, b"\n"], writer)
 }
 
 /// Writes the line of one name: the name, a comma and its generation without leading zeros. Takes no memory.
