@@ -8,3 +8,4 @@ pub mod Numbers
 pub mod Output
 pub mod Parts
 pub mod Refusals
+pub mod Watches

@@ -17,6 +17,7 @@ mod order;
 mod output;
 mod parting;
 mod refusal;
+mod watch;
 
 pub use certificate::tbs;
 pub use der::{Element, NotDer};
@@ -35,3 +36,4 @@ pub use order::arrange;
 pub use output::{WriteFailed, put, put_decimal, put_each};
 pub use parting::parted;
 pub use refusal::Refusal;
+pub use watch::{ReadFailed, Watch};
