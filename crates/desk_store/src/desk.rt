@@ -23,14 +23,13 @@ ghost use Rattle.store_reads.specs.Failures.{IsFailure};
 ghost use Rattle.desk_store.specs.Steps.{Brings, FindsKnown, FindsNone, FindsOther, IsReadRefusal};
 
 use crate::acting::{result_of, run};
-use crate::forms::call_is_formed;
 use crate::founding::{found_at_once, has_no_tables};
 use crate::opening::{bring_up, found_is_shown};
 use crate::questions::{ListsFor, RowsFor};
 use desk_bytes::{Guid, Refusal};
 use desk_history::{keys_stand_once, lives_keep_what_was_answered};
 use desk_rules::{ListView, View};
-use desk_texts::{Caller, Command, Facts, Key, Reply};
+use desk_texts::{Caller, Command, Facts, Key, Reply, call_is_formed};
 use sqlite::{Alter, Connection};
 use std::alloc::Global;
 use store_sql::stop_leaves_what_is_shown;

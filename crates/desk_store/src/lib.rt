@@ -7,7 +7,6 @@ mod asking;
 mod closing;
 mod desk;
 mod exports;
-mod forms;
 mod founding;
 mod living;
 mod opening;

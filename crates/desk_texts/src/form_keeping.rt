@@ -1,10 +1,11 @@
-//! That what a program holds is in its form.
+//! Values of a program, in their forms and within their limits. These calls serve proofs alone: they change
+//! nothing and give nothing back.
 ghost use Rattle.std.specs.Prelude.{All};
 ghost use Rattle.hex.specs.Hex.{IsBytes};
 ghost use Rattle.desk_texts.specs.Commands.{AreCounts, IsCaller, IsCommand, IsComponent, IsCount, IsDigest, IsFacts, IsImport, IsReply};
 ghost use Rattle.desk_texts.specs.Formed.{AreFactsWithin, IsCall, IsImportWithin, IsWithin};
 
-use crate::{Call, Caller, Command, Counts, Facts, Import, Reply};
+use crate::{Caller, Command, Counts, Facts, Import, Key, Reply};
 use desk_bytes::Digest;
 use sbat::Component;
 
@@ -55,7 +56,8 @@ fn show_components(components: &[Component])
 }
 
 fn show_facts(facts: &Facts)
-    ensures { IsFacts facts.now }
+    ensures forms { IsFacts facts.now }
+    ensures limits { AreFactsWithin facts.now }
 {
     let _length = facts.extent.length();
     let _gap = facts.extent.gap();
@@ -67,7 +69,8 @@ fn show_facts(facts: &Facts)
 }
 
 fn show_import(import: &Import)
-    ensures { IsImport import.now }
+    ensures forms { IsImport import.now }
+    ensures limits { IsImportWithin import.now }
 {
     let _passed = import.passed();
     if let Some(stamp) = import.stamp() {
@@ -78,10 +81,22 @@ fn show_import(import: &Import)
     show_components(import.components().as_slice());
 }
 
-/// Changes nothing, and tells that each command that a program holds is in its form: the premise of
-/// `command_texts_differ`.
-pub fn commands_are_formed(command: &Command)
-    ensures { IsCommand command.now }
+fn show_caller(caller: &Caller)
+    ensures { IsCaller caller.now }
+{
+    match caller {
+        Caller::Console => {}
+        Caller::Person(name) => {
+            let _name = name.as_str();
+        }
+    }
+}
+
+/// Each command that a program holds is in its form (`forms`, the premise of `command_texts_differ`) and within
+/// its limits.
+pub fn command_is_formed(command: &Command)
+    ensures forms { IsCommand command.now }
+    ensures limits { IsWithin command.now }
 {
     match command {
         Command::AddPerson(person) => {
@@ -123,69 +138,17 @@ pub fn commands_are_formed(command: &Command)
     }
 }
 
-fn show_facts_within(facts: &Facts)
-    ensures { AreFactsWithin facts.now }
+/// Each call that a program holds, by its parts, is in its forms and within its limits.
+pub fn call_is_formed(caller: &Caller, key: &Key, command: &Command)
+    ensures { IsCall record { caller = caller.now; key = key.now; command = command.now } }
 {
-    let _length = facts.extent.length();
-    let _gap = facts.extent.gap();
-    let _carried = facts.carried.as_slice();
-    let _components = facts.components.as_slice();
+    show_caller(caller);
+    let _key = key.as_str();
+    command_is_formed(command);
 }
 
-fn show_import_within(import: &Import)
-    ensures { IsImportWithin import.now }
-{
-    let _passed = import.passed();
-    let _components = import.components().as_slice();
-}
-
-fn show_within(command: &Command)
-    ensures { IsWithin command.now }
-{
-    match command {
-        Command::Submit(submission) => show_facts_within(&submission.facts),
-        Command::Return(returned_file) => show_facts_within(&returned_file.facts),
-        Command::ListCertificate(certificate) => {
-            let _body = certificate.body();
-        }
-        Command::ImportRevocations(import) => show_import_within(import),
-        Command::AddPerson(_)
-        | Command::Review(_)
-        | Command::Withdraw(_)
-        | Command::ListDigest(_)
-        | Command::Unlist(_)
-        | Command::RevokeDigest(_)
-        | Command::RevokeCertificate(_)
-        | Command::RaiseLevel(_)
-        | Command::Confirm(_)
-        | Command::Drop(_) => {}
-    }
-}
-
-fn show_caller(caller: &Caller)
-    ensures { IsCaller caller.now }
-{
-    match caller {
-        Caller::Console => {}
-        Caller::Person(name) => {
-            let _name = name.as_str();
-        }
-    }
-}
-
-/// Changes nothing, and tells that each call that a program holds is in its forms and within its limits.
-pub fn calls_are_formed(call: &Call)
-    ensures { IsCall call.now }
-{
-    show_caller(&call.caller);
-    let _key = call.key.as_str();
-    commands_are_formed(&call.command);
-    show_within(&call.command);
-}
-
-/// Changes nothing, and tells that each reply that a program holds is in its form: the premise of
-/// `reply_texts_differ`.
-pub fn replies_are_formed(reply: &Reply)
+/// Each reply that a program holds is in its form: the premise of `reply_texts_differ`.
+pub fn reply_is_formed(reply: &Reply)
     ensures { IsReply reply.now }
 {
     match reply {

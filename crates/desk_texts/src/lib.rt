@@ -1,4 +1,4 @@
-//! What the desk's commands are made of, in their forms and limits, and the canonical texts of commands and replies.
+//! Calls, commands and replies of the desk: their values in their forms and limits, and their canonical texts.
 #![tactic(auto)]
 
 mod caller;
@@ -47,7 +47,7 @@ pub use digests::Digests;
 pub use extent::Extent;
 pub use facts::Facts;
 pub use fault::TextFault;
-pub use form_keeping::{calls_are_formed, commands_are_formed, replies_are_formed};
+pub use form_keeping::{call_is_formed, command_is_formed, reply_is_formed};
 pub use import::{Import, MOST_IMPORTED};
 pub use imported_components::ImportedComponents;
 pub use key::Key;
