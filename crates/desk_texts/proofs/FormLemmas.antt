@@ -1,4 +1,4 @@
--- What the bytes of names, keys, titles and notes are.
+-- Bytes of names, keys, titles and notes.
 use Rattle.std.proofs.Common.{◌≡◌, ℕ, zero, suc, leb, Bool, true, false, ◌&&◌, List, [], ◌∷◌, length, get_or, refl, arith}
 use Rattle.std.specs.Char.{is_ascii_lowercase}
 use Rattle.std.specs.List.{list_all}

@@ -1,4 +1,4 @@
--- Who calls.
+-- Callers.
 use Rattle.std.specs.Prelude.{ℕ, Bool, true, not, List, bytes_eq, codes}
 use Rattle.desk_texts.specs.declared.caller.Caller.{Caller}
 use Rattle.desk_texts.specs.declared.caller.Caller.TheVariants.{Console, Person}

@@ -1,4 +1,4 @@
--- How many certificates an image carries.
+-- The count of certificates that an image carries.
 use Rattle.std.specs.Prelude.{◌<◌, ℕ, List, length}
 use Rattle.desk_bytes.specs.Digests.{IsArranged}
 use Rattle.desk_bytes.specs.Limits.{most_certificates}

@@ -1,4 +1,4 @@
--- What the canonical texts need of the values of commands and replies; their constructors test it, and more.
+-- Forms of the values in commands and replies, as far as their canonical texts need them; the constructors test more.
 use Rattle.std.specs.Prelude.{◌≡◌, ℕ, ◌<◌, ◌^◌, List, Option, Some, None, All, true, length}
 use Rattle.hex.specs.Hex.{IsBytes}
 use Rattle.sbat.specs.declared.component.Component.{Component}

@@ -1,4 +1,4 @@
--- How long an image's file is.
+-- Lengths of an image's file.
 use Rattle.std.specs.Prelude.{ℕ}
 
 -- how many bytes a file has, and how many of them stand before the sections' end in no header and no section

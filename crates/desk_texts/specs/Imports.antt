@@ -1,4 +1,4 @@
--- What one import names.
+-- Entries of one import.
 use Rattle.std.specs.Prelude.{ℕ, ◌+◌, List, Option, length}
 use Rattle.sbat.specs.declared.component.Component.{Component}
 

@@ -1,4 +1,4 @@
--- What a reading of a request shows.
+-- Requests as a reader sees them.
 use Rattle.std.specs.Prelude.{List}
 use Rattle.std.specs.List.Sorted.{IsSortedByKey}
 use Rattle.std.specs.Ordering.{nat_cmp}

@@ -1,4 +1,4 @@
-//! Who calls.
+//! Callers.
 ghost use Rattle.std.specs.Prelude.{◌≡◌, IfOk, MatchResult, true};
 ghost use Rattle.desk_texts.specs.Callers.{caller_name, is_told_by_name};
 ghost use Rattle.desk_texts.specs.Commands.{IsCaller};
@@ -7,7 +7,7 @@ ghost use Rattle.desk_texts.specs.declared.caller.Caller.{Caller};
 use crate::{PersonName, TextFault};
 use std::alloc::{AllocError, Global};
 
-/// Who calls: the command line of the desk's own machine, or a person.
+/// A caller: the command line of the desk's own machine, or a person.
 #[derive(Debug, Drop)]
 pub enum Caller {
     Console,

@@ -28,8 +28,7 @@ impl Model for Certificate {
 }
 
 impl Certificate {
-    /// The two, or `None` where the certificate is empty or has more than `LONGEST_CERTIFICATE` bytes. Takes no
-    /// memory.
+    /// The two, or `None` where the certificate is empty or has more than `LONGEST_CERTIFICATE` bytes.
     pub fn new(body: Vec<u8>, tbs: Digest) -> Option<Certificate>
         ensures { MatchOption result (is_certificate_size (length body.items) ≡ false)
             (λ certificate. certificate ≡ record { body = body.items; tbs = tbs }) }

@@ -46,14 +46,14 @@ pub struct Listing {
     pub digest: Digest,
 }
 
-/// A generation that a component has to have, and the stamp of the level that asks for it.
+/// The least generation of a component, and the stamp of the level that requires it.
 #[derive(Debug, Drop)]
 pub struct Raise {
     pub component: Component,
     pub stamp: Stamp,
 }
 
-/// What a caller asks the desk for.
+/// A caller's command to the desk.
 #[derive(Debug, Drop)]
 pub enum Command {
     AddPerson(Person),

@@ -28,6 +28,14 @@ impl Model for Components {
 }
 
 impl Components {
+    /// Components within the limit.
+    pub fn of(items: Vec<Component>) -> Components
+        requires { length items.items ≤ most_components }
+        ensures { result ≡ items.items }
+    {
+        Components { items }
+    }
+
     /// The components, or `None` where there are more than `MOST_COMPONENTS`.
     pub fn new(items: Vec<Component>) -> Option<Components>
         ensures { MatchOption result (most_components < length items.items)
@@ -36,7 +44,7 @@ impl Components {
         if MOST_COMPONENTS < items.len() {
             return None;
         }
-        Some(Components { items })
+        Some(Components::of(items))
     }
 
     /// The components.

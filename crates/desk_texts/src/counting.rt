@@ -13,13 +13,13 @@ pub(crate) fn count_of(text: &[u8]) -> Option<u64>
     if !forms::is_numeral(text) {
         return None;
     }
-    match str::from_utf8(text) {
-        Ok(text) => text.parse::<u64>().ok(),
-        Err(_) => unreachable!(),
-    }
+    let Ok(text) = str::from_utf8(text) else {
+        return None;
+    };
+    text.parse::<u64>().ok()
 }
 
-/// The number whose decimal text stands before the first space, and the text behind that.
+/// The number whose decimal text is before the first space, and the text after that space.
 pub(crate) fn count_before(text: &[u8]) -> Option<(u64, &[u8])>
     ensures found { IfSome result (λ parts. IsCount parts.0
         × (text.now ≡ decimal parts.0 ++ (32 ∷ parts.1.now))) }

@@ -22,7 +22,15 @@ impl Model for Digests {
 }
 
 impl Digests {
-    /// The digests, or `None` where there are more than `MOST_IMPORTED`. Takes no memory.
+    /// Digests within the limit.
+    pub fn of(digests: Vec<Digest>) -> Digests
+        requires { length digests.items ≤ most_imported }
+        ensures { result ≡ digests.items }
+    {
+        Digests { digests }
+    }
+
+    /// The digests, or `None` where there are more than `MOST_IMPORTED`.
     pub fn new(digests: Vec<Digest>) -> Option<Digests>
         ensures { MatchOption result (most_imported < length digests.items)
             (λ named. named ≡ digests.items) }
@@ -30,7 +38,7 @@ impl Digests {
         if MOST_IMPORTED < digests.len() {
             return None;
         }
-        Some(Digests { digests })
+        Some(Digests::of(digests))
     }
 
     /// The digests.
@@ -41,7 +49,7 @@ impl Digests {
         &self.digests
     }
 
-    /// Gives the digests back. Takes no memory.
+    /// Gives the digests back.
     pub fn into_vec(self) -> Vec<Digest>
         ensures { result.items ≡ self }
     {

@@ -1,4 +1,4 @@
-//! How long an image's file is.
+//! Lengths of an image's file.
 ghost use Rattle.std.specs.Prelude.{◌≡◌, ◌⊎◌, ◌<◌, ◌≤◌, MatchOption};
 ghost use Rattle.desk_texts.specs.Extents.{Lengths};
 ghost use Rattle.desk_bytes.specs.Limits.{longest_image};
@@ -6,8 +6,8 @@ ghost use Rattle.desk_bytes.specs.Limits.{longest_image};
 use desk_bytes::LONGEST_IMAGE;
 use std::marker::Model;
 
-/// How many bytes an image's file has, at most `LONGEST_IMAGE`, and how many of them before the sections' end
-/// stand in no header and in no section.
+/// The length of an image's file in bytes, at most `LONGEST_IMAGE`, and of its gap: the bytes before the sections' end
+/// that are in no header and in no section.
 #[derive(Clone, Copy, Debug, PartialEq, Eq)]
 pub struct Extent {
     length: u64,
@@ -25,6 +25,15 @@ impl Model for Extent {
 }
 
 impl Extent {
+    /// The numbers of a file that is no longer than `LONGEST_IMAGE`, of a gap that is no longer than the file.
+    pub fn of(length: u64, gap: u64) -> Extent
+        requires inside { gap ≤ length }
+        requires few { length ≤ longest_image }
+        ensures { result ≡ record { length = length; gap = gap } }
+    {
+        Extent { length, gap }
+    }
+
     /// Both numbers, or `None` where the gap is longer than the file or the file than `LONGEST_IMAGE`.
     pub fn new(length: u64, gap: u64) -> Option<Extent>
         ensures { MatchOption result ((length < gap) ⊎ (longest_image < length))
@@ -36,10 +45,10 @@ impl Extent {
         if LONGEST_IMAGE < length {
             return None;
         }
-        Some(Extent { length, gap })
+        Some(Extent::of(length, gap))
     }
 
-    /// How many bytes the file has.
+    /// The file's length in bytes.
     pub fn length(self) -> u64
         ensures value { result ≡ self.length }
         ensures limit { result ≤ longest_image }
@@ -47,7 +56,7 @@ impl Extent {
         self.length
     }
 
-    /// How many bytes stand in no header and in no section, at most as many as the file has.
+    /// The count of bytes in no header and in no section, at most the length of the file.
     pub fn gap(self) -> u64
         ensures value { result ≡ self.gap }
         ensures limit { result ≤ self.length }

@@ -1,7 +1,7 @@
-//! Why a text wasn't taken.
+//! Refusals of a text.
 use thiserror::Error;
 
-/// Why a text wasn't taken.
+/// The reason why a text was refused.
 #[derive(Clone, Copy, Debug, PartialEq, Eq, Error)]
 pub enum TextFault {
     /// The text isn't in its form.

@@ -23,35 +23,35 @@ const LONGEST_NOTE: usize = 200;
 /// The most digits of a request's number.
 const MOST_DIGITS: usize = 6;
 
-/// Whether each byte stands from `low` to `high`, both included.
+/// True if each byte is between `low` and `high`, both included.
 fn are_between(text: &[u8], low: u8, high: u8) -> bool
     ensures { result ≡ list_all (spec.is_between low high) text.now }
 {
     text.iter().all(|byte| low <= *byte && *byte <= high)
 }
 
-/// Whether the byte may stand in a person's name.
+/// True for a byte that a person's name may have.
 fn is_name_byte(byte: u8) -> bool
     ensures { result ≡ spec.is_name_byte byte }
 {
     byte.is_ascii_lowercase() || byte.is_ascii_digit() || byte == b'-'
 }
 
-/// Whether each byte may stand in a person's name.
+/// True if a person's name may have each of the bytes.
 fn are_name_bytes(text: &[u8]) -> bool
     ensures { result ≡ list_all spec.is_name_byte text.now }
 {
     text.iter().all(|byte| is_name_byte(*byte))
 }
 
-/// Whether each byte is a decimal digit.
+/// True if each byte is a decimal digit.
 fn are_digits(text: &[u8]) -> bool
     ensures { result ≡ list_all is_ascii_digit text.now }
 {
     text.iter().all(|byte| byte.is_ascii_digit())
 }
 
-/// Whether the text is a person's name.
+/// True if the text is a person's name.
 pub(crate) fn is_person_name(text: &[u8]) -> bool
     ensures { result ≡ spec.is_person_name text.now }
 {
@@ -61,7 +61,7 @@ pub(crate) fn is_person_name(text: &[u8]) -> bool
     are_name_bytes(text)
 }
 
-/// Whether the text is a key.
+/// True if the text is a key.
 pub(crate) fn is_key(text: &[u8]) -> bool
     ensures { result ≡ spec.is_key text.now }
 {
@@ -71,7 +71,7 @@ pub(crate) fn is_key(text: &[u8]) -> bool
     are_between(text, 0x21, 0x7E)
 }
 
-/// Whether the text is a title.
+/// True if the text is a title.
 pub(crate) fn is_title(text: &[u8]) -> bool
     ensures { result ≡ spec.is_title text.now }
 {
@@ -81,7 +81,7 @@ pub(crate) fn is_title(text: &[u8]) -> bool
     are_between(text, 0x20, 0x7E)
 }
 
-/// Whether the text is a note.
+/// True if the text is a note.
 pub(crate) fn is_note(text: &[u8]) -> bool
     ensures { result ≡ spec.is_note text.now }
 {
@@ -91,7 +91,7 @@ pub(crate) fn is_note(text: &[u8]) -> bool
     are_between(text, 0x20, 0x7E)
 }
 
-/// Whether the text is the decimal text of a number of 1 to 6 digits.
+/// True if the text is the decimal text of a number of 1 to 6 digits.
 pub(crate) fn is_decimal(text: &[u8]) -> bool
     ensures { result ≡ spec.is_decimal text.now }
 {
@@ -101,7 +101,7 @@ pub(crate) fn is_decimal(text: &[u8]) -> bool
     are_digits(text)
 }
 
-/// Whether the text is the decimal text of a number, without leading zeros.
+/// True if the text is the decimal text of a number, without leading zeros.
 pub(crate) fn is_numeral(text: &[u8]) -> bool
     ensures { result ≡ spec.is_numeral text.now }
 {
@@ -121,7 +121,7 @@ fn first_space(text: &[u8]) -> Option<usize>
     text.iter().position(|byte| *byte == b' ')
 }
 
-/// The text before the first space, and the text behind it, where there is one.
+/// The texts before and after the first space, if there is one.
 pub(crate) fn parted_at_space(text: &[u8]) -> Option<(&[u8], &[u8])>
     ensures found { IfSome result (λ parts. (text.now ≡ parts.0.now ++ (32 ∷ parts.1.now))
         × (list_all (λ b. not (spec.is_space b)) parts.0.now ≡ true)) }
@@ -131,19 +131,19 @@ pub(crate) fn parted_at_space(text: &[u8]) -> Option<(&[u8], &[u8])>
     Some((&text[..end], &text[end + 1..]))
 }
 
-/// The text, held. Takes memory for it.
+/// An owned copy of the text. Takes memory for it.
 fn held(alloc: Global, text: &[u8]) -> Result<String, TextFault>
     requires { list_all (spec.is_between 32 126) text.now ≡ true }
     ensures { MatchResult result (λ held. string_bytes held ≡ text.now)
         (λ fault. fault ≡ TextFault.NoMemory) }
 {
-    match str::from_utf8(text) {
-        Ok(text) => String::from_str(alloc, text).map_err(|_| TextFault::NoMemory),
-        Err(_) => unreachable!(),
-    }
+    let Ok(text) = str::from_utf8(text) else {
+        return Err(TextFault::Form);
+    };
+    String::from_str(alloc, text).map_err(|_| TextFault::NoMemory)
 }
 
-/// The text, held, where it has its form. Takes memory for it.
+/// An owned copy of the text, where it has its form. Takes memory for it.
 pub(crate) fn held_in_form(alloc: Global, has_form: bool, text: &[u8]) -> Result<String, TextFault>
     requires { has_form ≡ true → list_all (spec.is_between 32 126) text.now ≡ true }
     ensures found { has_form ≡ true → MatchResult result (λ held. string_bytes held ≡ text.now)

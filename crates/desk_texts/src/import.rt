@@ -1,4 +1,4 @@
-//! What one import names.
+//! Entries of one import.
 ghost use Rattle.std.specs.Prelude.{◌≡◌, ◌<◌, ◌≤◌, ◌+◌, MatchOption, length};
 ghost use Rattle.desk_texts.specs.Forms.{most_imported};
 ghost use Rattle.desk_texts.specs.Imports.{Imported, named_count};
@@ -11,7 +11,7 @@ use std::marker::Model;
 /// The most entries of one import, with those that it passes over.
 pub const MOST_IMPORTED: usize = 10_000;
 
-/// What one import names: digests of images, digests of certificates and components, and how many entries it
+/// The entries of one import: digests of images, digests of certificates, components, and the count of those that it
 /// passes over, `MOST_IMPORTED` entries at most in all; with the stamp of its level, if it has one.
 #[derive(Debug, Drop)]
 pub struct Import {
@@ -42,7 +42,33 @@ impl Model for Import {
 }
 
 impl Import {
-    /// The import of these, or `None` where they are more than `MOST_IMPORTED` entries in all. Takes no memory.
+    /// The import of these entries, within the limit.
+    pub fn of(
+        stamp: Option<Stamp>,
+        passed: u64,
+        digests: Digests,
+        certificates: Digests,
+        components: ImportedComponents,
+    ) -> Import
+        requires { named_count passed digests certificates components ≤ most_imported }
+        ensures { result ≡ record {
+          stamp = stamp;
+          passed = passed;
+          digests = digests;
+          certificates = certificates;
+          components = components;
+        } }
+    {
+        Import {
+            stamp,
+            passed,
+            digests,
+            certificates,
+            components,
+        }
+    }
+
+    /// The import of these, or `None` where they are more than `MOST_IMPORTED` entries in all.
     pub fn new(
         stamp: Option<Stamp>,
         passed: u64,
@@ -70,13 +96,7 @@ impl Import {
         if room < passed {
             return None;
         }
-        Some(Import {
-            stamp,
-            passed,
-            digests,
-            certificates,
-            components,
-        })
+        Some(Import::of(stamp, passed, digests, certificates, components))
     }
 
     /// The stamp of the level that it names, if it names one.
@@ -86,7 +106,7 @@ impl Import {
         self.stamp
     }
 
-    /// How many entries it passes over.
+    /// The count of entries that it passes over.
     pub fn passed(&self) -> u64
         ensures value { result ≡ self.now.passed }
         ensures few { result ≤ most_imported }

@@ -30,7 +30,7 @@ impl Model for ImportedComponents {
         × (names_no_sbat r.components.items ≡ true) };
 }
 
-/// Whether no component is named `sbat`.
+/// True if no component is named `sbat`.
 fn is_without_sbat(components: &[Component]) -> bool
     ensures { result ≡ names_no_sbat components.now }
 {
@@ -40,7 +40,16 @@ fn is_without_sbat(components: &[Component]) -> bool
 }
 
 impl ImportedComponents {
-    /// The components, or `None` where there are more than `MOST_IMPORTED` or one is named `sbat`. Takes no memory.
+    /// Components within the limit, none of them named `sbat`.
+    pub fn of(components: Vec<Component>) -> ImportedComponents
+        requires few { length components.items ≤ most_imported }
+        requires other { names_no_sbat components.items ≡ true }
+        ensures { result ≡ components.items }
+    {
+        ImportedComponents { components }
+    }
+
+    /// The components, or `None` where there are more than `MOST_IMPORTED` or one is named `sbat`.
     pub fn new(components: Vec<Component>) -> Option<ImportedComponents>
         ensures { MatchOption result
             ((most_imported < length components.items) ⊎ (names_no_sbat components.items ≡ false))
@@ -52,7 +61,7 @@ impl ImportedComponents {
         if !is_without_sbat(&components) {
             return None;
         }
-        Some(ImportedComponents { components })
+        Some(ImportedComponents::of(components))
     }
 
     /// The components.
@@ -64,7 +73,7 @@ impl ImportedComponents {
         &self.components
     }
 
-    /// Gives the components back. Takes no memory.
+    /// Gives the components back.
     pub fn into_vec(self) -> Vec<Component>
         ensures { result.items ≡ self }
     {

@@ -8,7 +8,7 @@ use desk_bytes::Digest;
 use sbat::{Component, Stamp};
 use std::alloc::{AllocError, Global};
 
-/// What stands for a list of no items.
+/// The text of a list of no items.
 const NONE: &str = "-";
 
 /// Digests in lower case, joined by commas, or `-` for none.

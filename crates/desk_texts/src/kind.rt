@@ -1,6 +1,6 @@
 //! Kinds of listed things.
 
-/// What an entry of the list of allowed images is.
+/// A kind of entry of the list of allowed images.
 #[derive(Clone, Copy, Debug, PartialEq, Eq)]
 pub enum ListedKind {
     /// An image's digest.

@@ -6,7 +6,7 @@ use crate::{TextFault, forms};
 use std::alloc::{AllocError, Global};
 use std::marker::Model;
 
-/// What a reviewer notes: at most 200 bytes of 0x20 to 0x7E. A contract sees the list of its bytes.
+/// A reviewer's note: at most 200 bytes of 0x20 to 0x7E. A contract sees the list of its bytes.
 #[derive(Debug, Drop)]
 pub struct Note {
     text: String,

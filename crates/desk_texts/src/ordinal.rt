@@ -26,7 +26,7 @@ impl Model for Ordinal {
 }
 
 impl Ordinal {
-    /// The number, or `None` where it is 0 or above `GREATEST_NUMBER`. Takes no memory.
+    /// The number, or `None` where it is 0 or above `GREATEST_NUMBER`.
     pub(crate) fn new(number: u64) -> Option<Ordinal>
         ensures { MatchOption result (is_ordinal number ≡ false)
             (λ ordinal. (ordinal ≡ number) × (is_ordinal number ≡ true)) }
@@ -45,7 +45,7 @@ impl Ordinal {
         self.number
     }
 
-    /// The number whose decimal text this is, without a leading zero. Takes no memory.
+    /// The number whose decimal text this is, without a leading zero.
     pub(crate) fn parse(text: &[u8]) -> Option<Ordinal>
         ensures found { IfSome result (λ number. text.now ≡ decimal number) }
         ensures only { IfNone result ((number : ℕ) → is_ordinal number ≡ true

@@ -1,7 +1,7 @@
-//! Proposals of what is to be revoked, and of the level.
+//! Proposals to revoke, and to raise the level.
 use crate::{PersonName, ProposalNumber};
 
-/// What a proposal names.
+/// The kind of what a proposal names.
 #[derive(Clone, Copy, Debug, PartialEq, Eq)]
 pub enum ProposalKind {
     /// An image's digest.
@@ -14,7 +14,7 @@ pub enum ProposalKind {
     Import,
 }
 
-/// Where a proposal stands.
+/// The state of a proposal.
 #[derive(Clone, Copy, Debug, PartialEq, Eq)]
 pub enum ProposalState {
     /// Neither of the others yet.
@@ -25,7 +25,7 @@ pub enum ProposalState {
     Dropped,
 }
 
-/// What an item of a proposal is.
+/// The kind of an item of a proposal.
 #[derive(Clone, Copy, Debug, PartialEq, Eq)]
 pub enum ItemKind {
     /// An image's digest.
@@ -36,15 +36,15 @@ pub enum ItemKind {
     Component,
 }
 
-/// What became of a proposal.
+/// The outcome of a proposal.
 #[derive(Clone, Copy, Debug, PartialEq, Eq)]
 pub struct ProposalOutcome {
     pub proposal: ProposalNumber,
     pub state: ProposalState,
 }
 
-/// What a reading of proposals shows of one: who proposed it, where it stands, and how many digests of images, digests
-/// of certificates and components it names, repeats included.
+/// A proposal as a reader sees it: who proposed it, its state, and how many digests of images, digests of certificates
+/// and components it names, repeats included.
 #[derive(Debug, Drop)]
 pub struct Proposal {
     pub number: ProposalNumber,

@@ -20,7 +20,7 @@ impl Model for ProposalNumber {
 }
 
 impl ProposalNumber {
-    /// The number, or `None` where it is 0 or above `GREATEST_NUMBER`. Takes no memory.
+    /// The number, or `None` where it is 0 or above `GREATEST_NUMBER`.
     pub fn new(number: u64) -> Option<ProposalNumber>
         ensures { MatchOption result (is_proposal_number number ≡ false)
             (λ proposal. (proposal ≡ number) × (is_proposal_number number ≡ true)) }
@@ -29,7 +29,7 @@ impl ProposalNumber {
         Some(ProposalNumber { ordinal })
     }
 
-    /// The number that is this.
+    /// The number, already tested.
     pub(crate) fn of(ordinal: Ordinal) -> ProposalNumber
         ensures { result ≡ ordinal }
     {
@@ -44,7 +44,7 @@ impl ProposalNumber {
         self.ordinal.value()
     }
 
-    /// The number whose decimal text this is, without a leading zero. Takes no memory.
+    /// The number whose decimal text this is, without a leading zero.
     pub fn parse(text: &[u8]) -> Option<ProposalNumber>
         ensures found { IfSome result (λ number. text.now ≡ decimal number) }
         ensures only { IfNone result ((number : ℕ) → is_proposal_number number ≡ true

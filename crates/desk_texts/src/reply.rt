@@ -1,7 +1,7 @@
 //! Replies to accepted calls.
 use crate::{PersonName, ProposalNumber, RequestNumber, State};
 
-/// What was put into force, and how many entries of an import were passed over.
+/// Counts of what was put into force, and of the entries of an import that were passed over.
 #[derive(Clone, Copy, Debug, PartialEq, Eq)]
 pub struct Counts {
     /// Digests of images that weren't revoked before.
@@ -14,21 +14,21 @@ pub struct Counts {
     pub passed: u64,
 }
 
-/// Where a request stands after a review.
+/// The state of a request after a review.
 #[derive(Clone, Copy, Debug, PartialEq, Eq)]
 pub struct Outcome {
     pub request: RequestNumber,
     pub state: State,
 }
 
-/// What a proposal changed when it was confirmed.
+/// The changes that a confirmed proposal made.
 #[derive(Clone, Copy, Debug, PartialEq, Eq)]
 pub struct Confirmation {
     pub proposal: ProposalNumber,
     pub counts: Counts,
 }
 
-/// What the desk answers to a call that it accepts.
+/// The desk's answer to a call that it accepts.
 #[derive(Debug, Drop)]
 pub enum Reply {
     Added(PersonName),

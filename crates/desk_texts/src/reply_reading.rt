@@ -20,7 +20,7 @@ use crate::{
 };
 use std::alloc::Global;
 
-/// The number that stands behind this beginning.
+/// The number after this beginning.
 fn number_behind(beginning: &[u8], text: &[u8]) -> Option<Ordinal>
     ensures found { IfSome result (λ number. text.now ≡ beginning.now ++ decimal number) }
     ensures only { IfNone result ((number : ℕ) → is_ordinal number ≡ true
@@ -29,7 +29,7 @@ fn number_behind(beginning: &[u8], text: &[u8]) -> Option<Ordinal>
     Ordinal::parse(text.strip_prefix(beginning)?)
 }
 
-/// The number and the state of a review's reply, behind its word.
+/// The number and the state of a review's reply, after its word.
 fn outcome_of(text: &[u8]) -> Option<Outcome>
     ensures found { IfSome result (λ o. IsReply (Reviewed o)
         × (text.now ≡ spaced (decimal o.request ∷ state_text o.state ∷ []))) }
@@ -61,7 +61,7 @@ fn counts_of(text: &[u8]) -> Option<Counts>
     })
 }
 
-/// The numbers of a confirmation's reply, behind its word.
+/// The numbers of a confirmation's reply, after its word.
 fn confirmation_of(text: &[u8]) -> Option<Confirmation>
     ensures found { IfSome result (λ c. IsReply (Confirmed c)
         × (text.now ≡ decimal c.proposal ++ (32 ∷ spaced (decimal c.counts.digests

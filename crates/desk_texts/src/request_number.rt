@@ -20,7 +20,7 @@ impl Model for RequestNumber {
 }
 
 impl RequestNumber {
-    /// The number, or `None` where it is 0 or above `GREATEST_NUMBER`. Takes no memory.
+    /// The number, or `None` where it is 0 or above `GREATEST_NUMBER`.
     pub fn new(number: u64) -> Option<RequestNumber>
         ensures { MatchOption result (is_request_number number ≡ false)
             (λ request. (request ≡ number) × (is_request_number number ≡ true)) }
@@ -29,7 +29,7 @@ impl RequestNumber {
         Some(RequestNumber { ordinal })
     }
 
-    /// The number that is this.
+    /// The number, already tested.
     pub(crate) fn of(ordinal: Ordinal) -> RequestNumber
         ensures { result ≡ ordinal }
     {
@@ -44,7 +44,7 @@ impl RequestNumber {
         self.ordinal.value()
     }
 
-    /// The number whose decimal text this is, without a leading zero. Takes no memory.
+    /// The number whose decimal text this is, without a leading zero.
     pub fn parse(text: &[u8]) -> Option<RequestNumber>
         ensures found { IfSome result (λ number. text.now ≡ decimal number) }
         ensures only { IfNone result ((number : ℕ) → is_request_number number ≡ true

@@ -1,6 +1,6 @@
 //! Roles of people.
 
-/// What a person may do. A person has one role for good.
+/// The rights of a person. A person's role never changes.
 #[derive(Clone, Copy, Debug, PartialEq, Eq)]
 pub enum Role {
     Submitter,

@@ -1,4 +1,4 @@
-//! What a reading of a request shows.
+//! Requests as a reader sees them.
 ghost use Rattle.std.specs.Prelude.{◌≡◌, List};
 ghost use Rattle.std.specs.List.Sorted.{IsPermutation};
 ghost use Rattle.std.specs.Ordering.{nat_cmp};
@@ -42,7 +42,7 @@ pub struct ShownReturn {
     pub digest: Digest,
 }
 
-/// What a reading of a request shows.
+/// A request as a reader sees it.
 #[derive(Debug, Drop)]
 pub struct ShownRequest {
     pub number: RequestNumber,
@@ -51,7 +51,7 @@ pub struct ShownRequest {
     pub facts: Facts,
     pub state: State,
     pub votes: ShownVotes,
-    /// What was returned, once a signer did.
+    /// The returned file, once a signer returned one.
     pub returned: Option<ShownReturn>,
 }
 
@@ -63,7 +63,7 @@ fn by_reviewer(one: &ShownVote, other: &ShownVote) -> Ordering
 }
 
 impl ShownVotes {
-    /// The votes, put in the order of their reviewers. Takes no memory.
+    /// The votes, put in the order of their reviewers.
     pub fn new(votes: Vec<ShownVote>) -> ShownVotes
         ensures same { IsPermutation votes.items result }
         ensures order { AreByReviewer result }

@@ -1,9 +1,9 @@
 //! States of requests.
 
-/// Where a request stands.
+/// The state of a request.
 #[derive(Clone, Copy, Debug, PartialEq, Eq)]
 pub enum State {
-    /// Neither of the others yet.
+    /// None of the others yet.
     Open,
     /// Two reviewers voted yes.
     Approved,

@@ -1,4 +1,4 @@
-//! The words that stand for roles, votes, states and kinds.
+//! Words for roles, votes, states and kinds.
 ghost use Rattle.std.specs.Prelude.{◌≡◌, ◌≢◌, IfSome, IfNone};
 ghost use Rattle.desk_texts.specs.Words as spec;
 ghost use Rattle.desk_texts.specs.declared.role.Role.{Role};
@@ -24,7 +24,7 @@ impl Role {
         }
     }
 
-    /// The role whose word this is. Takes no memory.
+    /// The role whose word this is.
     pub fn parse(text: &[u8]) -> Option<Role>
         ensures found { IfSome result (λ role. text.now ≡ spec.role_text role) }
         ensures only { IfNone result ((role : Role) → text.now ≢ spec.role_text role) }
@@ -50,7 +50,7 @@ impl Vote {
         }
     }
 
-    /// The vote whose word this is. Takes no memory.
+    /// The vote whose word this is.
     pub fn parse(text: &[u8]) -> Option<Vote>
         ensures found { IfSome result (λ vote. text.now ≡ spec.vote_text vote) }
         ensures only { IfNone result ((vote : Vote) → text.now ≢ spec.vote_text vote) }
@@ -77,7 +77,7 @@ impl State {
         }
     }
 
-    /// The state whose word this is. Takes no memory.
+    /// The state whose word this is.
     pub fn parse(text: &[u8]) -> Option<State>
         ensures found { IfSome result (λ state. text.now ≡ spec.state_text state) }
         ensures only { IfNone result ((state : State) → text.now ≢ spec.state_text state) }
@@ -104,7 +104,7 @@ impl ListedKind {
         }
     }
 
-    /// The kind whose word this is. Takes no memory.
+    /// The kind whose word this is.
     pub fn parse(text: &[u8]) -> Option<ListedKind>
         ensures found { IfSome result (λ kind. text.now ≡ spec.kind_text kind) }
         ensures only { IfNone result ((kind : ListedKind) → text.now ≢ spec.kind_text kind) }
@@ -130,7 +130,7 @@ impl ProposalKind {
         }
     }
 
-    /// The kind whose word this is. Takes no memory.
+    /// The kind whose word this is.
     pub fn parse(text: &[u8]) -> Option<ProposalKind>
         ensures found { IfSome result (λ kind. text.now ≡ spec.proposal_kind_text kind) }
         ensures only { IfNone result ((kind : ProposalKind) → text.now ≢ spec.proposal_kind_text kind) }
@@ -157,7 +157,7 @@ impl ProposalState {
         }
     }
 
-    /// The state whose word this is. Takes no memory.
+    /// The state whose word this is.
     pub fn parse(text: &[u8]) -> Option<ProposalState>
         ensures found { IfSome result (λ state. text.now ≡ spec.proposal_state_text state) }
         ensures only { IfNone result ((state : ProposalState) → text.now ≢ spec.proposal_state_text state) }
@@ -183,7 +183,7 @@ impl ItemKind {
         }
     }
 
-    /// The kind whose word this is. Takes no memory.
+    /// The kind whose word this is.
     pub fn parse(text: &[u8]) -> Option<ItemKind>
         ensures found { IfSome result (λ kind. text.now ≡ spec.item_kind_text kind) }
         ensures only { IfNone result ((kind : ItemKind) → text.now ≢ spec.item_kind_text kind) }

@@ -9,9 +9,10 @@ pub returns-then-not-is_numeral-clause-only : goal.returns-then-not-is_numeral-c
 returns-then-not-is_numeral-clause-only c = λ number small same.
     some_false (is_numeral c.args.text.now) (ap is_numeral same ∙ is_numeral-decimal number small) (sym c.is_numeral.ensures ∙ c.if-not-is_numeral.true)
 
-pub unreachable-requires : goal.unreachable-requires
-unreachable-requires c =
-    c.in-Err.ensures.cases.0 (IsUtf8-from_ascii c.args.text.now (numeral_ascii c.args.text.now (sym c.is_numeral.ensures ∙ c.if-not-is_numeral.false)))
+-- a numeral is ASCII, so it is text
+pub returns-in_default-clause-only : goal.returns-in_default-clause-only
+returns-in_default-clause-only c =
+    absurd (c.in_default.ensures.cases.0 (IsUtf8-from_ascii c.args.text.now (numeral_ascii c.args.text.now (sym c.is_numeral.ensures ∙ c.if-not-is_numeral.false))))
 
 pub returns-clause-found : goal.returns-clause-found
 returns-clause-found c =

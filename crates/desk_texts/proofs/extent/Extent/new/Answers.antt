@@ -1,5 +1,8 @@
 use Rattle.std.proofs.Common.{rules}
 use Rattle.desk_texts.proofs.extent.Extent.new.Goals as goal
 
-pub invariant_of-result : goal.invariant_of-result
-invariant_of-result c = search rules
+pub of-requires-clause-inside : goal.of-requires-clause-inside
+of-requires-clause-inside c = search rules
+
+pub of-requires-clause-few : goal.of-requires-clause-few
+of-requires-clause-few c = search rules

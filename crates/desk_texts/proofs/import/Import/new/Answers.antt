@@ -1,5 +1,5 @@
 use Rattle.std.proofs.Common.{rules}
 use Rattle.desk_texts.proofs.import.Import.new.Goals as goal
 
-pub invariant_of-result : goal.invariant_of-result
-invariant_of-result c = search rules
+pub of-requires : goal.of-requires
+of-requires c = search rules
