@@ -2,8 +2,7 @@
 ghost use Rattle.std.specs.Prelude.{◌≡◌};
 ghost use Rattle.pe_image.specs.Faults.{read_failed, refusal_of};
 
-use crate::source::ReadFailed;
-use desk_bytes::Refusal;
+use desk_bytes::{ReadFailed, Refusal};
 use thiserror::Error;
 
 /// The first condition that an image doesn't meet, or a read that failed.

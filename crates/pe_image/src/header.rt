@@ -5,8 +5,8 @@ ghost use Rattle.pe_image.specs.Headers.{header_at};
 ghost use Rattle.pe_image.specs.Image.{headers, number_of_sections, sections_begin};
 
 use crate::field::SECTION_HEADER_SIZE;
-use crate::source::{ReadFailed, Source};
-use desk_bytes::u32_at;
+use crate::source::Source;
+use desk_bytes::{ReadFailed, u32_at};
 
 /// What a section header says.
 #[derive(Clone, Copy, Debug)]

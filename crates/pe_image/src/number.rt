@@ -3,8 +3,8 @@ ghost use Rattle.std.specs.Prelude.{◌≡◌, ◌+◌, ◌≤◌, length, slice
 ghost use Rattle.desk_bytes.specs.Numbers.{u16_at, u32_at};
 ghost use Rattle.pe_image.specs.Sources.{HaveRisen, OnlyReads};
 
-use crate::source::{ReadFailed, Source};
-use desk_bytes::{u16_at, u32_at};
+use crate::source::Source;
+use desk_bytes::{ReadFailed, u16_at, u32_at};
 
 /// The bytes from a place on, as many as the array has.
 fn read_array<S: Source, const N: usize>(source: &mut S, at: u64) -> Result<[u8; N], ReadFailed>

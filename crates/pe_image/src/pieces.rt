@@ -1,14 +1,14 @@
 //! A source in memory, kept in pieces.
-ghost use Rattle.std.specs.Prelude.{◌≡◌, ◌+◌, ◌*◌, ◌<◌, ◌≤◌, ◌++◌, ℕ, List, All, length, slice_range, take, IfOk, IsErrOf, OnOk, OnErr};
+ghost use Rattle.std.specs.Prelude.{◌≡◌, ◌≢◌, ◌+◌, ◌*◌, ◌<◌, ◌≤◌, ◌++◌, ℕ, List, All, Err, length, slice_range, take, IfOk, IsErrOf, OnOk, OnErr};
 ghost use Rattle.std.specs.Io.KnownBytes.{Consumes, IsAtEnd};
 ghost use Rattle.std.specs.List.{flat_map};
+ghost use Rattle.desk_bytes.specs.Watches.{HasFailed};
 ghost use Rattle.pe_image.specs.Pieces.{refusal_of};
 ghost use Rattle.pe_image.specs.Sources.{HaveRisen, OnlyReads};
 ghost use Rattle.pe_image.specs.declared.pieces.TheConstants.{PIECE};
 
-use crate::input::Input;
-use crate::source::{ReadFailed, Source};
-use desk_bytes::Refusal;
+use crate::source::Source;
+use desk_bytes::{ReadFailed, Refusal, Watch};
 use std::alloc::Global;
 use std::io::Read;
 use std::marker::Model;
@@ -60,20 +60,21 @@ impl Model for Pieces {
 }
 
 /// Reads until the slice is full or the input ends, and says how many bytes came.
-fn fill<I: Input>(input: &mut I, out: &mut [u8]) -> Result<usize, PiecesFault>
+fn fill<R: Read>(reader: &mut R, watch: &mut Watch, out: &mut [u8]) -> Result<usize, PiecesFault>
     ensures ok { IfOk result (λ count.
-        Consumes (I.remaining input.old) (I.remaining input.new) (take count out.new)) }
+        Consumes (R.remaining reader.old) (R.remaining reader.new) (take count out.new)) }
     ensures bound { IfOk result (λ count. count ≤ length out.old) }
     ensures end { IfOk result (λ count. count < length out.old
-        → IsAtEnd (I.remaining input.new)) }
+        → IsAtEnd (R.remaining reader.new)) }
     ensures len { length out.new ≡ length out.old }
 
-    ensures device { IsErrOf result PiecesFault.Read → I.failed input.new }
+    ensures device { IsErrOf result PiecesFault.Read → HasFailed watch.new }
+    ensures steady { result ≢ Err PiecesFault.Read → watch.new ≡ watch.old }
 {
     let mut count = 0;
     while count < out.len() {
-        match input.read_once(&mut out[count..]) {
-            Err(_) => return Err(PiecesFault::Read),
+        match watch.read(reader, &mut out[count..]) {
+            Err(ReadFailed) => return Err(PiecesFault::Read),
             Ok(0) => return Ok(count),
             Ok(more) => count += more,
         }
@@ -82,43 +83,51 @@ fn fill<I: Input>(input: &mut I, out: &mut [u8]) -> Result<usize, PiecesFault>
 }
 
 /// Reads so many bytes, or fewer where the input ends.
-fn read_piece<I: Input>(alloc: Global, input: &mut I, most: usize) -> Result<Vec<u8>, PiecesFault>
+fn read_piece<R: Read>(
+    alloc: Global,
+    reader: &mut R,
+    watch: &mut Watch,
+    most: usize,
+) -> Result<Vec<u8>, PiecesFault>
     ensures ok { IfOk result (λ piece.
-        Consumes (I.remaining input.old) (I.remaining input.new) piece.items) }
+        Consumes (R.remaining reader.old) (R.remaining reader.new) piece.items) }
     ensures bound { IfOk result (λ piece. length piece.items ≤ most) }
     ensures end { IfOk result (λ piece. length piece.items < most
-        → IsAtEnd (I.remaining input.new)) }
+        → IsAtEnd (R.remaining reader.new)) }
 
-    ensures device { IsErrOf result PiecesFault.Read → I.failed input.new }
+    ensures device { IsErrOf result PiecesFault.Read → HasFailed watch.new }
+    ensures steady { result ≢ Err PiecesFault.Read → watch.new ≡ watch.old }
 {
     let Ok(mut piece) = vec![in alloc; 0u8; most] else {
         return Err(PiecesFault::NoMemory);
     };
-    let count = fill(input, &mut piece)?;
+    let count = fill(reader, watch, &mut piece)?;
     piece.truncate(count);
     Ok(piece)
 }
 
 impl Pieces {
-    /// Takes what `take` does, from any input. Read only where a read of the input has just failed.
-    pub fn take_from<I: Input>(
+    /// Takes what `take` does, under a watch. Read where a read fails, and only there: none is made after it.
+    pub fn take_watched<R: Read>(
         alloc: Global,
-        input: &mut I,
+        reader: &mut R,
+        watch: &mut Watch,
         most: u64,
     ) -> Result<Pieces, PiecesFault>
         ensures whole { IfOk result (λ bytes.
-            Consumes (I.remaining input.old) (I.remaining input.new) bytes) }
+            Consumes (R.remaining reader.old) (R.remaining reader.new) bytes) }
         ensures bound { IfOk result (λ bytes. length bytes ≤ most) }
         ensures end { IfOk result (λ bytes. length bytes < most
-            → IsAtEnd (I.remaining input.new)) }
+            → IsAtEnd (R.remaining reader.new)) }
 
-        ensures device { IsErrOf result PiecesFault.Read → I.failed input.new }
+        ensures device { IsErrOf result PiecesFault.Read → HasFailed watch.new }
+        ensures steady { result ≢ Err PiecesFault.Read → watch.new ≡ watch.old }
     {
         let mut full: Vec<Vec<u8>> = Vec::new(alloc);
         let mut size = 0;
         loop {
             let room = (most - size).min(PIECE as u64) as usize;
-            let piece = read_piece(alloc, input, room)?;
+            let piece = read_piece(alloc, reader, watch, room)?;
             size += piece.len() as u64;
             if piece.len() < PIECE {
                 return Ok(Pieces {
@@ -143,7 +152,7 @@ impl Pieces {
         ensures end { IfOk result (λ bytes. length bytes < most
             → IsAtEnd (R.remaining reader.new)) }
     {
-        Pieces::take_from(alloc, reader, most)
+        Pieces::take_watched(alloc, reader, &mut Watch::new(), most)
     }
 
     /// The bytes from a place up to the end of its piece.

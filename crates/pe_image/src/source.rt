@@ -2,12 +2,7 @@
 ghost use Rattle.std.specs.Prelude.{◌≡◌, ◌+◌, ◌≤◌, ℕ, List, length, slice_range, OnOk, OnErr};
 ghost use Rattle.pe_image.specs.Sources.{HaveRisen, OnlyReads};
 
-use thiserror::Error;
-
-/// A source failed a read, or was interrupted.
-#[derive(Clone, Copy, Debug, PartialEq, Eq, Error)]
-#[error("a read failed")]
-pub struct ReadFailed;
+use desk_bytes::ReadFailed;
 
 /// Bytes that are read at places, as those of a file. Places are bytes from the beginning. No read
 /// changes the content, and the source counts the reads that fail.

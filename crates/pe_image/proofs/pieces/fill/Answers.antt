@@ -10,9 +10,10 @@ loop-count-preserved g c =
     let count = c.loop-count.count in
     let out = c.loop-count.out in
     let front = length-take-le count out c.loop-count.invariant.bound in
-    let read = take-behind (take count out) c.read_once.new.buf _ count c.in-Ok.more front c.in-Ok.ensures.bound.0 in
+    let read = take-behind (take count out) c.read.new.buf _ count c.in-Ok.more front c.in-Ok.ensures.bound.0 in
     record {
       bound = search (rules, places);
       size = search (rules, places);
       taken = subst (Consumes _ _) (sym read) (Consumes-trans _ _ _ _ _ c.loop-count.invariant.taken c.in-Ok.ensures.bytes.0);
+      steady = search rules;
     }

@@ -6,7 +6,8 @@ abbrev pub invariant-loop-count : goal.invariant-loop-count
 invariant-loop-count g l = record {
   bound : l.count ≤ length l.out;
   size : length l.out ≡ length l.initial.out;
-  taken : Consumes (g.I.Input.remaining l.initial.input) (g.I.Input.remaining l.input) (take l.count l.out);
+  taken : Consumes (g.R.Read.remaining l.initial.reader) (g.R.Read.remaining l.reader) (take l.count l.out);
+  steady : l.watch ≡ l.initial.watch;
 }
 
 abbrev pub decreases-loop-count : goal.decreases-loop-count
