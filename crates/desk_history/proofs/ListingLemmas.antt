@@ -1,4 +1,4 @@
--- What is listed, as rows.
+-- Listed entries, as rows.
 use Rattle.std.proofs.Common.{◌≡◌, ℕ, Bool, true, false, not, ◌&&◌, ◌||◌, cond, List, [], ◌∷◌, Some, refl, sym, ◌∙◌, ap}
 use Rattle.std.specs.Prelude.{if◌then◌else◌, bytes_eq, find}
 use Rattle.std.specs.Option.{option_map_or}

@@ -1,4 +1,4 @@
--- What is revoked is digests.
+-- Revocations are digests.
 use Rattle.std.proofs.Common.{ℕ, All, IfSome, List, [], ◌∷◌, Option, Some, None}
 use Rattle.std.specs.Prelude.{reverse}
 use Rattle.std.specs.Option.{option_map_or}

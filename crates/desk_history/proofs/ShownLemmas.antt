@@ -1,4 +1,4 @@
--- What a submitter is told of requests.
+-- Answers to a submitter about requests.
 use Rattle.std.proofs.Common.{◌≡◌, ℕ, Bool, true, false, List, [], ◌∷◌, filter, find, Some, None, option_map, Result, Ok, refl, sym, ◌∙◌, ap}
 use Rattle.std.specs.Prelude.{bytes_eq, ok_or, reverse}
 use Rattle.std.specs.Result.{result_map_both}

@@ -1,5 +1,5 @@
--- What calls put into force: revocations, and generations that the level asks for. What is revoked and the level are read from
--- this alone.
+-- Entries that calls put into force: revocations, and generations that the level requires. The revoked entries and the level
+-- are read from these alone.
 use Rattle.std.specs.Prelude.{ℕ, List, [], reverse, Option, None, option_map}
 use Rattle.std.specs.Option.{option_map_or}
 use Rattle.sbat.specs.declared.component.Component.{Component}
@@ -57,7 +57,7 @@ enforced_by cs i = elim i.rules [
   | Second ↦ confirmed_by cs i.call.command
 ]
 
--- what a call puts into force that is accepted after these
+-- the entries that a call puts into force which is accepted after these
 abbrev pub into_force : History → Item → InForce
 into_force cs i = option_map_or forced (enforced_by cs i) nothing
 

@@ -68,7 +68,7 @@ pub record Stands (cs : History) (c : Call) (given : Reply) : Type 0 where
   pub is : cs ≡ later ++ under rules c ∷ before
   pub same : reply_to before (under rules c) ≡ given
 
--- what a series of lives may leave is a desk's history, where each of its calls was in its forms
+-- each history that a series of lives may leave is a desk's, where each of its calls was in its forms
 abbrev pub EndsAreHistories : Type 0
 EndsAreHistories =
     (lives : List Life) (cs : History) → Ends lives cs → All (λ e. IsItem e.item) (events_of lives) → IsHistory cs
@@ -79,9 +79,9 @@ AnsweredCallsStand =
     (lives : List Life) (cs : History) → Ends lives cs → All (λ e. IsItem e.item) (events_of lives)
     → (i : Item) (reply : Reply) (at : History) → WasAnswered (events_of lives) cs i reply at → Stands cs i.call reply
 
--- What a series of lives left keeps all that was answered Ok. `each`: every call that was answered Ok was answered at some
--- history, and with each such: the call stands in what is left with its reply, what is left goes on from the history of that
--- time, each image that was barred then is barred, and so isn't allowed.
+-- Each history that a series of lives left keeps all that was answered Ok. `each`: every call that was answered Ok was answered
+-- at some history, and with each such: the call is in the history that is left, with its reply; that history goes on from the
+-- history of that time; and each image that was barred then is barred, and so isn't allowed.
 pub record KeepsAnswered (events : List Event) (cs : History) : Type 0 where
   pub each : (i : Item) (reply : Reply) (earlier later : List Event)
       → events ≡ earlier ++ record { item = i; fate = Answered reply } ∷ later → (at : History) × WasAnswered events cs i reply at

@@ -1,4 +1,4 @@
--- What a proposal names, item by item.
+-- Items of a proposal.
 use Rattle.std.specs.Prelude.{ℕ, ◌+◌, List, [], ◌∷◌, ◌++◌, map}
 use Rattle.desk_texts.specs.Imports.{Imported}
 use Rattle.desk_history.specs.declared.rows.ProposalItem.{ProposalItem}

@@ -76,7 +76,7 @@ RowsStandOnce = (owner : List ℕ) (cs : History) → IsTrue (is_legal cs) → S
 abbrev pub KeysStandOnce : Type 0
 KeysStandOnce = (cs : History) → IsTrue (is_legal cs) → IsTrue (are_apart is_same_item cs)
 
--- what a series of lives may leave is legal
+-- each history that a series of lives may leave is legal
 abbrev pub EndsAreLegal : Type 0
 EndsAreLegal = (lives : List Life) (cs : History) → Ends lives cs → IsTrue (is_legal cs)
 
@@ -87,7 +87,8 @@ AnswersHaveHistories =
     → events_of lives ≡ earlier ++ record { item = i; fate = Answered reply } ∷ later
     → (at : History) × WasAnswered (events_of lives) cs i reply at
 
--- what a series leaves holds each call that was answered Ok with its reply, and goes on from the history of that time
+-- each history that a series leaves holds each call that was answered Ok with its reply, and goes on from the history of that
+-- time
 abbrev pub AnswersAreKept : Type 0
 AnswersAreKept =
     (lives : List Life) (cs : History) → Ends lives cs → (i : Item) (reply : Reply) (at : History)

@@ -43,7 +43,7 @@ is_above n (Some m) = nat_lt m n
 abbrev pub raises : History → Component → Bool
 raises cs x = is_above x.generation (level cs x.name)
 
--- what is put into force raises some generation
+-- the entries put into force raise some generation
 abbrev pub raises_some : History → InForce → Bool
 raises_some cs f = list_any (raises cs) f.components
 

@@ -8,8 +8,8 @@ use Rattle.desk_history.specs.declared.rows.Minute.{Minute}
 use Rattle.desk_texts.specs.CommandTexts.{text_of}
 use Rattle.desk_history.specs.Runs.{earlier, next_item, reply_in, ruling}
 
--- What became of a call: it was answered Ok with a reply, it was refused, or it was stopped, which is also what a
--- call answered with the failure of the store is.
+-- The fate of a call: it was answered Ok with a reply, it was refused, or it was stopped. A call answered with the failure of
+-- the store counts as stopped.
 pub data Fate : Type 0 where
   Answered : Reply → Fate
   Refused : Fate
@@ -20,11 +20,11 @@ pub record Event : Type 0 where
   pub item : Item
   pub fate : Fate
 
--- what a stop during an item's call leaves: the history before it, or the one after it
+-- a history that a stop during an item's call leaves: the one before it, or the one after it
 abbrev pub LeavesEither : History → Item → History → Type 0
 LeavesEither cs i later = (later ≡ cs) ⊎ (later ≡ next_item cs i)
 
--- what a stop during a call leaves
+-- a history that a stop during a call leaves
 abbrev pub IsLeft : History → Call → History → Type 0
 IsLeft cs c later = LeavesEither cs (item c) later
 
@@ -68,7 +68,7 @@ ends_at_a_stop (e ∷ events) =
       | Stopped ↦ list_all is_refused events
     ]
 
--- what became of an opening of the desk: it answered Ok, or it was refused or stopped
+-- the outcome of an opening of the desk: it answered Ok, or it was refused or stopped
 pub data Opening : Type 0 where
   Opened : Opening
   NotOpened : Opening

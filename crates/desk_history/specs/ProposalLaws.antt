@@ -30,7 +30,8 @@ pub record TwoOfficers (cs : History) (i : Item) (entries : Imported) : Type 0 w
   pub confirmer : IsTrue (may_give cs i.call.caller i.call.command)
   pub differ : bytes_eq (caller_name proposing.call.caller) (caller_name i.call.caller) ≡ false
 
--- What an accepted call puts into force it names itself, by the first rules, or two officers put it into force, by the second.
+-- The entries that an accepted call puts into force it names itself, by the first rules, or two officers put them into force, by
+-- the second.
 abbrev pub TwoOfficersPut : Type 0
 TwoOfficersPut =
     (cs : History) (i : Item) (entries : Imported) → IsTrue (is_legal (i ∷ cs)) → enforced_by cs i ≡ Some entries

@@ -13,7 +13,7 @@ use Rattle.desk_texts.specs.declared.proposal.ProposalState.{ProposalState}
 use Rattle.desk_texts.specs.declared.proposal.ProposalState.TheVariants as states
 use Rattle.desk_history.specs.Calls.{First, History, Item, Second}
 
--- what a command names to be revoked or raised, and of which kind it is, written as an import
+-- the entries that a command names to be revoked or raised, written as an import, and their kind
 pub record Named : Type 0 where
   pub kind : ProposalKind
   pub entries : Imported
@@ -22,7 +22,7 @@ pub record Named : Type 0 where
 abbrev pub no_entries : Imported
 no_entries = record { stamp = None; passed = 0; digests = []; certificates = []; components = [] }
 
--- what a command names to be revoked or raised: four commands name something
+-- the entries that a command names to be revoked or raised: four commands name some
 abbrev pub named_by : Command → Option Named
 named_by (command.RevokeDigest digest) =
     Some (record { kind = kinds.Digest; entries = record no_entries { digests = digest ∷ [] } })
@@ -51,7 +51,7 @@ pub record Proposal : Type 0 where
   pub command : Command
   pub named : Named
 
--- what a call proposes. own: by the second rules all that it names, by the first nothing
+-- the entries that a call proposes. own: by the second rules all that it names, by the first none
 abbrev pub proposed_by : Item → Option Named
 proposed_by i = elim i.rules [ First ↦ None | Second ↦ named_by i.call.command ]
 
@@ -76,7 +76,7 @@ proposal cs k = find (is_proposal k) (proposals cs)
 
 -- ---- what becomes of it
 
--- what a command makes of a proposal: a Confirm confirms the one that it names, a Drop drops it
+-- the outcome that a command gives to a proposal: a Confirm confirms the one that it names, a Drop drops it
 abbrev pub outcome_by : Command → Option ProposalOutcome
 outcome_by (command.Confirm k) = Some (record { proposal = k; state = states.Confirmed })
 outcome_by (command.Drop k) = Some (record { proposal = k; state = states.Dropped })
@@ -93,7 +93,7 @@ outcome_by (command.RevokeCertificate _) = None
 outcome_by (command.RaiseLevel _) = None
 outcome_by (command.ImportRevocations _) = None
 
--- what became of the closed ones, the newest first
+-- the outcomes of the closed ones, the newest first
 abbrev pub outcomes : History → List ProposalOutcome
 outcomes cs = filter_map (λ i. outcome_by i.call.command) cs
 

@@ -1,4 +1,4 @@
--- What an accepted call is answered, and the minutes.
+-- Replies to accepted calls, and the minutes.
 use Rattle.std.specs.Prelude.{ℕ, ◌+◌, ◌-◌, List, [], ◌∷◌, length, filter}
 use Rattle.std.specs.Option.{option_map_or}
 use Rattle.desk_texts.specs.declared.command.Call.{Call}
@@ -26,7 +26,7 @@ gained kind cs i = length (distinct (revocations kind (i ∷ cs))) - length (dis
 abbrev pub raised_count : History → InForce → ℕ
 raised_count cs f = length (names (filter (raises cs) f.components))
 
--- what a call puts into force, counted: different new digests, different new certificates, names raised, and entries passed
+-- counts of what a call puts into force: different new digests, different new certificates, names raised, and entries passed
 -- over
 abbrev pub counted : History → Item → Counts
 counted cs i = record {

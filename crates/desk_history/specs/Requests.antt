@@ -129,7 +129,7 @@ withdraws k (command.Drop _) = false
 abbrev pub is_withdrawn : History → ℕ → Bool
 is_withdrawn cs k = list_any (λ i. withdraws k i.call.command) cs
 
--- what was returned for a request
+-- a file that was returned for a request
 pub record Returned : Type 0 where
   pub request : ℕ
   pub signer : List ℕ

@@ -1,4 +1,4 @@
--- What a call is answered, and runs of calls.
+-- Answers to calls, and runs of calls.
 use Rattle.std.specs.Prelude.{ℕ, Bool, true, false, not, ◌&&◌, if◌then◌else◌, List, [], ◌∷◌, find, Option, Some, None, bytes_eq}
 use Rattle.std.specs.List.{list_all}
 use Rattle.desk_bytes.specs.declared.refusal.Refusal.{Refusal}
@@ -36,14 +36,14 @@ abbrev pub answer_known : Option Minute → List ℕ → Option Refusal → Repl
 answer_known (Some m) text refusal reply = repeated m text
 answer_known None text refusal reply = answer_new_key refusal reply
 
--- own: what the item's call is answered after these, by the item's rules: first by who calls, then by the key, then by the
+-- own: the answer to the item's call after these, by the item's rules: first by who calls, then by the key, then by the
 -- refusals of a call with a new key
 abbrev pub ruling : History → Item → Answer
 ruling cs i =
     if not (is_known cs i.call.caller) then Refused refusals.UnknownCaller
     else answer_known (earlier cs i.call) (text_of i.call.command) (refusal_of cs i) (reply_to cs i)
 
--- what a call is answered now
+-- the answer to a call now
 abbrev pub answer : History → Call → Answer
 answer cs c = ruling cs (item c)
 
@@ -75,12 +75,12 @@ run_by rules cs (c ∷ calls) = run_by rules (next_item cs (under rules c)) call
 abbrev pub run : History → List Call → History
 run cs calls = run_by Second cs calls
 
--- what calls by these rules are answered, each after those before it
+-- the answers to calls by these rules, each after those before it
 abbrev pub answers_by : Rules → History → List Call → List Answer
 answers_by rules cs [] = []
 answers_by rules cs (c ∷ calls) = ruling cs (under rules c) ∷ answers_by rules (next_item cs (under rules c)) calls
 
--- what the calls are answered
+-- the answers to the calls
 abbrev pub answers : History → List Call → List Answer
 answers cs calls = answers_by Second cs calls
 

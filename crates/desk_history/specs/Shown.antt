@@ -1,4 +1,4 @@
--- What a person is shown of requests and of proposals.
+-- Requests and proposals as people see them.
 use Rattle.std.specs.Prelude.{◌≡◌, ℕ, ◌==◌, Bool, true, if◌then◌else◌, List, length, map, filter, find, reverse, Option, Some, option_map, ok_or, Result, Ok, Err, bytes_eq}
 use Rattle.std.specs.List.{AllZip}
 use Rattle.std.specs.List.Sorted.{IsPermutation}
@@ -22,7 +22,7 @@ use Rattle.desk_history.specs.Requests.{Request, Returned, requests, returns, st
 use Rattle.desk_history.specs.Roles.{is_officer}
 use Rattle.desk_history.specs.declared.rows.VoteRow.{VoteRow}
 
--- what was returned for a request
+-- the file that was returned for a request
 abbrev pub returned : History → ℕ → Option Returned
 returned cs k = find (λ r. k == r.request) (returns cs)
 
@@ -83,7 +83,7 @@ abbrev pub reader : History → Caller → Result Person Refusal
 reader cs callers.Console = Err refusals.NotYourRole
 reader cs (callers.Person name) = ok_or (person cs name) refusals.UnknownCaller
 
--- what a caller is shown, the newest first
+-- the requests that a caller is shown, the newest first
 abbrev pub shown_to : History → Caller → Result (List Whole) Refusal
 shown_to cs c = result_map_both (λ p. filter (λ w. is_shown_to p w) (wholes cs)) (λ refusal. refusal) (reader cs c)
 
@@ -96,17 +96,17 @@ abbrev pub found_among : ℕ → Result (List Whole) Refusal → Result Whole Re
 found_among k (Ok ws) = ok_or (find (is_numbered k) ws) refusals.NoSuchRequest
 found_among k (Err refusal) = Err refusal
 
--- what a caller is told who asks for a request. own: one that the caller isn't shown is none
+-- the answer to a caller about one request. own: a request that the caller isn't shown doesn't exist for the caller
 abbrev pub request_for : History → Caller → ℕ → Result Whole Refusal
 request_for cs c k = found_among k (shown_to cs c)
 
--- what a caller is told who asks for all, ascending by number
+-- the answer to a caller about all requests, ascending by number
 abbrev pub requests_for : History → Caller → Result (List Whole) Refusal
 requests_for cs c = result_map_both reverse (λ refusal. refusal) (shown_to cs c)
 
 -- ---- what is given to a caller
 
--- what is due is shown, or the refusal that is due is given
+-- the answer that is due is shown, or the refusal that is due is given
 abbrev pub IsGiven : {A B : Type 0} → Result A Refusal → Result B Refusal → (A → B → Type 0) → Type 0
 IsGiven (Ok due) (Ok given) shows = shows due given
 IsGiven (Ok due) (Err refusal) shows = ⊥
@@ -124,7 +124,7 @@ abbrev pub officer : Result Person Refusal → Result Person Refusal
 officer (Ok p) = if is_officer p.role then Ok p else Err refusals.NotYourRole
 officer (Err refusal) = Err refusal
 
--- what a caller is told who asks for the proposals, ascending by number
+-- the answer to a caller about the proposals, ascending by number
 abbrev pub proposals_for : History → Caller → Result (List Proposal) Refusal
 proposals_for cs c = result_map_both (λ p. reverse (proposals cs)) (λ refusal. refusal) (officer (reader cs c))
 
@@ -154,7 +154,7 @@ pub record TellAlike (one other : History) (c : Caller) : Type 0 where
   pub each : (k : ℕ) → request_for one c k ≡ request_for other c k
   pub all : requests_for one c ≡ requests_for other c
 
--- What a submitter is told comes of own requests alone: it is the same of all histories that have the same ones.
+-- A submitter's answer depends only on the submitter's own requests: it is the same for all histories that have the same ones.
 abbrev pub SubmittersSeeOwn : Type 0
 SubmittersSeeOwn =
     (one other : History) (name : List ℕ) → role_of one name ≡ Some roles.Submitter → role_of other name ≡ Some roles.Submitter

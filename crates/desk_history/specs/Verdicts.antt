@@ -1,4 +1,4 @@
--- What the desk says of an image.
+-- The desk's verdict on an image.
 use Rattle.std.specs.Prelude.{ℕ, ◌+◌, Bool, false, not, ◌||◌, nat_lt, if◌then◌else◌, List, [], ◌∷◌, Option, Some, None}
 use Rattle.std.specs.List.{list_any}
 use Rattle.std.specs.Option.{option_map_or, option_or}
@@ -14,13 +14,13 @@ use Rattle.desk_history.specs.declared.finding.Below.{Below}
 use Rattle.desk_history.specs.declared.finding.Verdict.{Verdict}
 use Rattle.desk_history.specs.declared.finding.Verdict.TheVariants.{Allowed, DbxCertificate, DbxDigest, NotListed, Sbat}
 
--- what is revoked and what is listed, of images and of certificates, and the generation that the level requires under a name
+-- the revoked and the listed images and certificates, and the generation that the level requires under a name
 pub record Standing : Type 0 where
   pub revoked : ListedKind → List ℕ → Bool
   pub listed : ListedKind → List ℕ → Bool
   pub required : List ℕ → Option ℕ
 
--- what calls leave standing
+-- the revoked and the listed entries and the required generations after calls
 abbrev pub standing : History → Standing
 standing cs = record {
   revoked = λ kind digest. is_revoked kind cs digest;
@@ -60,7 +60,7 @@ is_barred cs x = bars (standing cs) x
 abbrev pub stands_in_db : History → Facts → Bool
 stands_in_db cs x = lists_image (standing cs) x
 
--- what the component at this place lacks to the required generation, if one is
+-- the component at this place, if its generation is below the required one; none is below where none is required
 abbrev pub lack_at : ℕ → ℕ → Option ℕ → Option Below
 lack_at place generation None = None
 lack_at place generation (Some needed) =
@@ -80,11 +80,11 @@ verdict_by digest certificate listed below =
     else (if not listed then NotListed
     else option_map_or Sbat below Allowed))
 
--- what is said of an image where this stands
+-- the verdict on an image by these lists and this level
 abbrev pub verdict_on : Standing → Facts → Verdict
 verdict_on s x =
     verdict_by (has_revoked_digest s x) (has_revoked_certificate s x) (lists_image s x) (first_below s 0 x.components)
 
--- what the desk says of an image, after these calls
+-- the verdict on an image after these calls
 abbrev pub verdict : History → Facts → Verdict
 verdict cs x = verdict_on (standing cs) x

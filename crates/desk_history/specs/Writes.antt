@@ -1,4 +1,4 @@
--- What writes make of the tables.
+-- Tables after writes.
 use Rattle.std.specs.Prelude.{ℕ, ◌==◌, Bool, if◌then◌else◌, List, [], ◌∷◌, map, bytes_eq}
 use Rattle.sbat.specs.declared.component.Component.{Component}
 use Rattle.desk_history.specs.declared.rows.ProposalRow.{ProposalRow}

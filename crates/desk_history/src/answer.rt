@@ -1,13 +1,13 @@
-//! What a call is answered.
+//! Answers to calls.
 use desk_bytes::Refusal;
 use desk_texts::Reply;
 
-/// What a call is answered.
+/// The answer to a call.
 #[derive(Drop)]
 pub enum Answer {
     /// It was accepted, with this reply.
     Accepted(Reply),
-    /// The caller's key stood for the same command already, and this is the reply that was given then.
+    /// The caller gave the same command under this key before, and this is the reply that was given then.
     Repeated(Reply),
     /// It was refused, and nothing changed.
     Refused(Refusal),

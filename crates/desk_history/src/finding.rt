@@ -1,4 +1,4 @@
-//! What the desk says of an image.
+//! The desk's verdict on an image.
 use sbat::Generation;
 
 /// A component of an image whose generation is below the level's.
@@ -6,11 +6,11 @@ use sbat::Generation;
 pub struct Below {
     /// Its place among the image's components, from 0.
     pub place: usize,
-    /// The generation that the level asks of it.
+    /// The generation that the level requires of it.
     pub needs: Generation,
 }
 
-/// What the desk says of an image: the first that holds.
+/// The desk's verdict on an image: the first of these that holds.
 #[derive(Clone, Copy, Debug, PartialEq, Eq)]
 pub enum Verdict {
     /// Its digest, or the digest that a signature of it would hold, is revoked.

@@ -26,18 +26,18 @@ pub fn level_has_no_sbat()
     ensures { law.LevelHasNoSbat }
 {}
 
-/// What a series of lives may leave is a desk's history, where each of its calls was in its forms.
+/// A series of lives leaves only histories of a desk, where each of its calls was in its forms.
 pub fn series_leave_histories()
     ensures { law.EndsAreHistories }
 {}
 
-/// Each call of such a series that was answered Ok stands itself in what the series leaves, with its reply.
+/// Each call of such a series that was answered Ok is itself in every history that the series leaves, with its reply.
 pub fn answered_calls_stand()
     ensures { law.AnsweredCallsStand }
 {}
 
-/// What any number of lives leave keeps all that was answered Ok: each call with its reply, the history of that time
-/// as its beginning, and each image barred that was barred then.
+/// Any number of lives leave only histories that keep all that was answered Ok: each call with its reply, the history
+/// of that time as their beginning, and each image barred that was barred then.
 pub fn lives_keep_what_was_answered()
     ensures { law.LivesKeepAnswered }
 {}

@@ -2,7 +2,7 @@
 ghost use Rattle.desk_history.specs.Laws as law;
 ghost use Rattle.desk_history.specs.Shown.{SubmittersSeeOwn};
 
-/// An image is allowed exactly where it isn't barred and stands in db.
+/// An image is allowed exactly if it isn't barred and is in db.
 pub fn allows_exactly()
     ensures { law.AllowsExactly }
 {}
@@ -27,7 +27,7 @@ pub fn listed_rows_are_listed()
     ensures { law.ListsListed }
 {}
 
-/// In a legal history each key of a caller stands once.
+/// In a legal history a caller gives each key once.
 pub fn keys_stand_once()
     ensures { law.KeysStandOnce }
 {}
@@ -37,7 +37,7 @@ pub fn rows_stand_once()
     ensures { law.RowsStandOnce }
 {}
 
-/// What a series of lives may leave is legal.
+/// A series of lives leaves only legal histories.
 pub fn series_are_legal()
     ensures { law.EndsAreLegal }
 {}
@@ -47,13 +47,13 @@ pub fn answers_have_histories()
     ensures { law.AnswersHaveHistories }
 {}
 
-/// What a series leaves holds each call that was answered Ok, with its reply, and goes on from the history of that
-/// time.
+/// Each history that a series leaves holds each call that was answered Ok, with its reply, and goes on from the history
+/// of that time.
 pub fn answers_are_kept()
     ensures { law.AnswersAreKept }
 {}
 
-/// What a submitter is told of requests is the same of all histories that have the same own ones.
+/// A submitter's answer about requests is the same for all histories that have the same requests of that submitter.
 pub fn submitters_see_own()
     ensures { SubmittersSeeOwn }
 {}

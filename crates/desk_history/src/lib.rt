@@ -1,5 +1,5 @@
-//! What must be believed of the desk's decisions: what a history of accepted calls means, what each call is answered after
-//! it, what stops leave of it, and the laws of these definitions.
+//! Definitions of the desk's decisions, which an auditor has to read: the meaning of a history of accepted calls, the
+//! answer to each call after it, what a stop may leave of it, and the laws of these definitions.
 #![tactic(auto)]
 
 mod answer;

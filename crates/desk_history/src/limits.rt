@@ -1,4 +1,4 @@
-//! How much a desk holds.
+//! Limits of a desk.
 /// The most people of a desk.
 pub const MOST_PEOPLE: usize = 1_000;
 /// The most requests of a desk.

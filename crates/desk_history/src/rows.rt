@@ -23,7 +23,7 @@ impl Model for CommandText {
 }
 
 impl CommandText {
-    /// The text. Takes no memory.
+    /// The text.
     pub fn new(text: String) -> CommandText
         ensures { result ≡ string_bytes text }
     {
@@ -51,7 +51,7 @@ impl Model for EntryBody {
 }
 
 impl EntryBody {
-    /// These bytes. Takes no memory.
+    /// These bytes.
     pub fn new(bytes: Vec<u8>) -> EntryBody
         ensures { result ≡ bytes.items }
     {
@@ -66,7 +66,7 @@ impl EntryBody {
     }
 }
 
-/// What the minutes hold of an accepted call: its number from 1, who called, the caller's key, the canonical text of
+/// The minute of an accepted call: its number from 1, who called, the caller's key, the canonical text of
 /// the command, and the reply.
 #[derive(Debug, Drop)]
 pub struct Minute {
@@ -146,7 +146,7 @@ pub struct ProposalRow {
     pub state: ProposalState,
 }
 
-/// What a proposal names at one place.
+/// An item that a proposal names at one place.
 #[derive(Debug, Drop)]
 pub enum ProposalItem {
     /// An image's digest.

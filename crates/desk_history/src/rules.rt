@@ -1,4 +1,4 @@
-//! What each rule decides by itself: of values, not of histories or rows.
+//! Rules, each by itself: over values, not over histories or rows.
 ghost use Rattle.std.specs.Prelude.{◌≡◌};
 ghost use Rattle.desk_history.specs.Calls.{is_same_kind};
 ghost use Rattle.desk_history.specs.Level as level;
@@ -12,7 +12,7 @@ use desk_bytes::{Digest, Refusal};
 use desk_texts::{Command, Facts, ListedKind, ProposalState, Role, State};
 use sbat::{Generation, Stamp};
 
-/// Whether both are of one kind.
+/// True if both are of one kind.
 pub fn is_same(a: ListedKind, b: ListedKind) -> bool
     ensures { result ≡ is_same_kind a b }
 {
@@ -24,7 +24,7 @@ pub fn is_same(a: ListedKind, b: ListedKind) -> bool
     }
 }
 
-/// Whether people of the role give the command.
+/// True if people of the role may give the command.
 pub fn is_for(role: Role, command: &Command) -> bool
     ensures { result ≡ roles.is_for role command.now }
 {
@@ -48,7 +48,7 @@ pub fn is_for(role: Role, command: &Command) -> bool
     }
 }
 
-/// Whether the console gives the command.
+/// True if the console may give the command.
 pub fn is_for_console(command: &Command) -> bool
     ensures { result ≡ roles.is_for_console command.now }
 {
@@ -70,7 +70,7 @@ pub fn is_for_console(command: &Command) -> bool
     }
 }
 
-/// Whether the generation is above the present one, if there is one.
+/// True if the generation is above the present one, or there is none.
 pub fn is_above(generation: Generation, present: Option<Generation>) -> bool
     ensures { result ≡ level.is_above generation present }
 {
@@ -87,7 +87,7 @@ pub fn refuse_if(condition: bool, refusal: Refusal) -> Option<Refusal>
     if condition { Some(refusal) } else { None }
 }
 
-/// Why a vote isn't taken, on a request in this state, the reviewer's own or not, on which the reviewer voted or not.
+/// The refusal of a vote on a request in this state, the reviewer's own or not, on which the reviewer voted or not.
 pub fn review_by(state: State, is_own: bool, has_voted: bool) -> Option<Refusal>
     ensures { result ≡ spec.review_by state is_own has_voted }
 {
@@ -105,7 +105,7 @@ pub fn review_by(state: State, is_own: bool, has_voted: bool) -> Option<Refusal>
     }
 }
 
-/// Why a request in this state isn't withdrawn, the caller's own or not.
+/// The refusal to withdraw a request in this state, the caller's own or not.
 pub fn withdraw_by(state: State, is_own: bool) -> Option<Refusal>
     ensures { result ≡ spec.withdraw_by state is_own }
 {
@@ -118,7 +118,7 @@ pub fn withdraw_by(state: State, is_own: bool) -> Option<Refusal>
     }
 }
 
-/// Why the image isn't taken as the signed one of the image that has this digest and this digest to be signed.
+/// The refusal of the image as the signed one of the image that has this digest and this digest to be signed.
 pub fn image_refusal<S: Standing>(
     lists: &S,
     digest: Digest,
@@ -137,7 +137,7 @@ pub fn image_refusal<S: Standing>(
     refuse_if(!lists_image(lists, facts), Refusal::NotListed)
 }
 
-/// Why a file isn't taken for a request in this state, of which the image is refused or not.
+/// The refusal of a file returned for a request in this state, whose image is refused or not.
 pub fn return_by(state: State, image: Option<Refusal>) -> Option<Refusal>
     ensures { result ≡ spec.return_by state image }
 {
@@ -149,7 +149,7 @@ pub fn return_by(state: State, image: Option<Refusal>) -> Option<Refusal>
     }
 }
 
-/// Whether a proposal in this state is closed.
+/// True if a proposal in this state is closed.
 fn is_closed(state: ProposalState) -> bool
     ensures { result ≡ spec.is_closed state }
 {
@@ -159,7 +159,7 @@ fn is_closed(state: ProposalState) -> bool
     }
 }
 
-/// Why a proposal in this state isn't confirmed, the caller's own or not, whose command would be refused now or not.
+/// The refusal to confirm a proposal in this state, the caller's own or not, whose command would be refused now or not.
 pub fn confirm_by(state: ProposalState, is_own: bool, refused: Option<Refusal>) -> Option<Refusal>
     ensures { result ≡ spec.confirm_by state is_own refused }
 {
@@ -172,14 +172,14 @@ pub fn confirm_by(state: ProposalState, is_own: bool, refused: Option<Refusal>) 
     refused
 }
 
-/// Why a proposal in this state isn't dropped.
+/// The refusal to drop a proposal in this state.
 pub fn drop_by(state: ProposalState) -> Option<Refusal>
     ensures { result ≡ spec.drop_by state }
 {
     refuse_if(is_closed(state), Refusal::ProposalClosed)
 }
 
-/// Whether a stamp is there, and above the present one.
+/// True if there is a stamp, and it is above the present one.
 pub fn is_later(now: Stamp, stamp: Option<Stamp>) -> bool
     ensures { result ≡ spec.is_later now stamp }
 {

@@ -1,4 +1,4 @@
-//! What is revoked and listed, and the generations that the level requires, wherever that is read from.
+//! Revoked and listed entries and the required generations, whatever they are read from.
 ghost use Rattle.std.specs.Prelude.{◌≡◌};
 ghost use Rattle.desk_history.specs.Verdicts.{Standing as Stands};
 
@@ -6,16 +6,16 @@ use desk_bytes::Digest;
 use desk_texts::ListedKind;
 use sbat::{ComponentName, Generation};
 
-/// What is revoked and listed, and the generations that the level requires.
+/// The revoked and the listed entries, and the generations that the level requires.
 pub trait Standing {
-    /// What it says.
+    /// The lists and the level that it answers for.
     ghost standing: { Self → Stands };
 
-    /// Whether the digest is revoked: of an image, or of a TBSCertificate.
+    /// True if the digest is revoked: of an image, or of a TBSCertificate.
     fn is_revoked(&self, kind: ListedKind, digest: Digest) -> bool
         ensures { result ≡ (standing self.now).revoked kind digest };
 
-    /// Whether the entry is listed.
+    /// True if the entry is listed.
     fn is_listed(&self, kind: ListedKind, digest: Digest) -> bool
         ensures { result ≡ (standing self.now).listed kind digest };
 

@@ -1,4 +1,4 @@
-//! What is said of an image.
+//! Verdicts on images.
 ghost use Rattle.std.specs.Prelude.{◌≡◌};
 ghost use Rattle.std.specs.List.{list_any};
 ghost use Rattle.desk_history.specs.Verdicts as spec;
@@ -9,7 +9,7 @@ use desk_bytes::Digest;
 use desk_texts::{Facts, ListedKind};
 use sbat::{Component, Generation};
 
-/// Whether the image's digest, or the one that a signature of it would hold, is revoked.
+/// True if the image's digest, or the one that a signature of it would hold, is revoked.
 fn has_revoked_digest<S: Standing>(lists: &S, facts: &Facts) -> bool
     ensures { result ≡ spec.has_revoked_digest (S.standing lists.now) facts.now }
 {
@@ -17,7 +17,7 @@ fn has_revoked_digest<S: Standing>(lists: &S, facts: &Facts) -> bool
         || lists.is_revoked(ListedKind::Digest, facts.signing)
 }
 
-/// Whether one of the certificates is revoked.
+/// True if one of the certificates is revoked.
 fn has_revoked<S: Standing>(lists: &S, certificates: &[Digest]) -> bool
     ensures { result
         ≡ list_any ((S.standing lists.now).revoked ListedKind.Certificate) certificates.now }
@@ -30,7 +30,7 @@ fn has_revoked<S: Standing>(lists: &S, certificates: &[Digest]) -> bool
     false
 }
 
-/// Whether one of the certificates is listed.
+/// True if one of the certificates is listed.
 fn has_listed<S: Standing>(lists: &S, certificates: &[Digest]) -> bool
     ensures { result
         ≡ list_any ((S.standing lists.now).listed ListedKind.Certificate) certificates.now }
@@ -43,14 +43,14 @@ fn has_listed<S: Standing>(lists: &S, certificates: &[Digest]) -> bool
     false
 }
 
-/// Whether the image's digest or a certificate that it carries is listed.
+/// True if the image's digest or a certificate that it carries is listed.
 pub fn lists_image<S: Standing>(lists: &S, facts: &Facts) -> bool
     ensures { result ≡ spec.lists_image (S.standing lists.now) facts.now }
 {
     lists.is_listed(ListedKind::Digest, facts.digest) || has_listed(lists, facts.carried.as_slice())
 }
 
-/// What the component at this place lacks to the generation that is asked.
+/// The component at this place, if its generation is below the one that is required.
 fn lack_at(place: usize, generation: Generation, asked: Option<Generation>) -> Option<Below>
     ensures { result ≡ spec.lack_at place generation asked }
 {
@@ -79,7 +79,7 @@ fn first_below<S: Standing>(lists: &S, components: &[Component]) -> Option<Below
     None
 }
 
-/// Whether the image is barred.
+/// True if the image is barred.
 pub fn bars<S: Standing>(lists: &S, facts: &Facts) -> bool
     ensures { result ≡ spec.bars (S.standing lists.now) facts.now }
 {
@@ -88,7 +88,7 @@ pub fn bars<S: Standing>(lists: &S, facts: &Facts) -> bool
         || has_below(lists, facts.components.as_slice())
 }
 
-/// Whether the generation is below the one that is asked, if one is.
+/// True if the generation is below the required one; none is below where none is required.
 fn is_less(generation: Generation, asked: Option<Generation>) -> bool
     ensures { result ≡ spec.is_less generation asked }
 {
@@ -98,7 +98,7 @@ fn is_less(generation: Generation, asked: Option<Generation>) -> bool
     }
 }
 
-/// Whether a component is below the level.
+/// True if a component is below the level.
 fn has_below<S: Standing>(lists: &S, components: &[Component]) -> bool
     ensures { result ≡ list_any (spec.is_below (S.standing lists.now)) components.now }
 {
@@ -110,7 +110,7 @@ fn has_below<S: Standing>(lists: &S, components: &[Component]) -> bool
     false
 }
 
-/// What is said of the image.
+/// The verdict on the image.
 pub fn verdict_of<S: Standing>(lists: &S, facts: &Facts) -> Verdict
     ensures { result ≡ spec.verdict_on (S.standing lists.now) facts.now }
 {

@@ -46,7 +46,7 @@ pub fn imports_are_answered()
     ensures rows { imports.TablesImports }
 {}
 
-/// What one officer proposes, another confirms.
+/// One officer proposes, and another confirms.
 pub fn proposals_are_answered()
     ensures one { proposals.AnswersOne }
     ensures one_shown { proposals.ShowsOne }

@@ -1,4 +1,4 @@
-//! What the desk writes into its tables.
+//! Writes into the tables of the desk.
 use crate::{
     Entry, Minute, ProposalRow, RequestCertificateRow, RequestComponentRow, RequestRow, ReturnRow,
     VoteRow,
@@ -6,7 +6,7 @@ use crate::{
 use desk_texts::{Listing, Outcome, Person, ProposalOutcome};
 use sbat::{Component, Stamp};
 
-/// A row that is written.
+/// A write of one row.
 #[derive(Debug, Drop)]
 pub enum Write {
     /// A person is put in.

@@ -56,7 +56,7 @@ AnswersFirst =
 abbrev ten : MigratedRow
 ten = record { id = 1; calls = 10 }
 
--- what stands in force, and how many calls were accepted by the first rules
+-- the entries in force, and the count of calls that were accepted by the first rules
 abbrev pub TablesFirst : Type 0
 TablesFirst =
     ((tables (codes "owner") first_history).revoked_digests ≡ digest 170 ∷ [])

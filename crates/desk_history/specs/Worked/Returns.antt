@@ -105,7 +105,7 @@ TablesReturns =
     × ((tables (codes "owner") after_unlisting).listed ≡ [])
     × ((tables (codes "owner") after_unlisting).revoked_certificates ≡ c ∷ [])
 
--- what the desk says of the images: before the revocation, after it, and after C was taken off
+-- the verdicts on the images: before the revocation, after it, and after C was taken off
 abbrev pub SaysReturns : Type 0
 SaysReturns =
     (verdict after_return signed ≡ says.Allowed)

@@ -14,7 +14,7 @@ use Rattle.desk_history.specs.Worked.{Step, accepted, answers_of, by, calls_of, 
 abbrev pub a : Facts
 a = image 10 11 11 [] []
 
--- what a day of reviews asks, and what it is answered
+-- the calls of a day of reviews, and their answers
 abbrev pub steps : List Step
 steps = with_people (
     accepted (by (codes "ann") (codes "ann-1") (submit a)) (replies.Submitted 1)

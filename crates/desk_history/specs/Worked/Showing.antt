@@ -1,4 +1,4 @@
--- What people are shown of two requests: ann's, which was signed, and rita's, which was rejected.
+-- Answers to people about two requests: ann's, which was signed, and rita's, which was rejected.
 use Rattle.std.specs.Prelude.{◌≡◌, ℕ, List, [], ◌∷◌, codes, Some, None, Ok, Err}
 use Rattle.desk_bytes.specs.declared.refusal.Refusal.TheVariants as refusals
 use Rattle.desk_texts.specs.declared.caller.Caller.{Caller}
