@@ -224,14 +224,21 @@ for number, line in enumerate(open(page, encoding='utf-8'), 1):
 page, tests = 'docs/TESTS.md', {}
 for path in glob.glob('crates/tests_*/src/**/*.rt', recursive=True):
     tests.setdefault(path.split('/')[1], set()).update(re.findall(r'\bfn ([a-z_0-9]+)', open(path, encoding='utf-8').read()))
-crate = ''
+crates = []
 for number, line in enumerate(open(page, encoding='utf-8'), 1):
-    begun = re.match(r'  - (?:(tests_[a-z]+): )?', line)
-    crate = (begun.group(1) or '') if begun else crate if line.startswith('    ') else ''
-    rows += bool(begun)
-    for name in re.findall(r'`([a-z_0-9]+)`', line) if crate else ():
-        if name not in tests.get(crate, ()):
-            say(f'{page}:{number}: {crate} has no test {name}')
+    begun = re.match(r'  - (?:([a-z_]+(?:, [a-z_]+)*): )?', line)
+    if begun:
+        rows += 1
+        crates = (begun.group(1) or '').split(', ')
+    elif not line.startswith('    '):
+        crates = []
+    for name in re.findall(r'`([A-Za-z_0-9]+-[a-z_0-9]+)`', line):
+        if not any(os.path.exists(f'{room}/{name}.edit') for crate in crates for room in (f'crates/{crate}/must-fail', f'checks/wrong_bodies/{crate}')):
+            say(f'{page}:{number}: no wrong body {name} of {", ".join(crates)}')
+    if any(crate in tests for crate in crates):
+        for name in re.findall(r'`([a-z_0-9]+)`', line):
+            if not any(name in tests.get(crate, ()) for crate in crates):
+                say(f'{page}:{number}: {", ".join(crates)} has no test {name}')
     for name in re.findall(r'([a-z0-9-]+\.sh)', line):
         if not os.path.exists(f'checks/{name}'):
             say(f'{page}:{number}: there is no checks/{name}')
