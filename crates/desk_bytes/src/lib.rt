@@ -33,7 +33,7 @@ pub use limits::{LONGEST_IMAGE, MOST_CERTIFICATES, MOST_COMPONENTS};
 pub use line::{Line, Parted};
 pub use number::{u16_at, u32_at};
 pub use order::arrange;
-pub use output::{WriteFailed, put, put_decimal, put_each};
+pub use output::{WriteFailed, put, put_each};
 pub use parting::parted;
 pub use refusal::Refusal;
 pub use watch::{ReadFailed, Watch};

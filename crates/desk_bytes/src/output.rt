@@ -1,10 +1,9 @@
 //! Output that may stop.
-ghost use Rattle.std.specs.Prelude.{OnOk, OnErr, decimal, ◌≡◌};
+ghost use Rattle.std.specs.Prelude.{OnOk, OnErr, ◌≡◌};
 ghost use Rattle.std.specs.Io.KnownBytes.{Appends};
 ghost use Rattle.desk_bytes.specs.Output.{AppendsBeginning, joined};
 
 use crate::Refusal;
-use itoa::Buffer;
 use std::io::Write;
 use thiserror::Error;
 
@@ -51,15 +50,4 @@ pub fn put_each<W: Write>(slices: &[&[u8]], writer: &mut W) -> Result<(), WriteF
         put(slice, writer)?;
     }
     Ok(())
-}
-
-/// Writes a number in decimal digits, as `put` writes them. Takes no memory.
-pub fn put_decimal<W: Write>(number: u64, writer: &mut W) -> Result<(), WriteFailed>
-    ensures ok { OnOk result (Appends (W.contents writer.old) (W.contents writer.new)
-        (decimal number)) }
-    ensures err { OnErr result (AppendsBeginning (W.contents writer.old) (W.contents writer.new)
-        (decimal number)) }
-{
-    let mut digits = Buffer::new();
-    put(digits.format(number).as_bytes(), writer)
 }
