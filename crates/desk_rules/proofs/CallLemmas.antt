@@ -1,4 +1,4 @@
--- What a view that shows a history for a call says of the answer.
+-- The answer to a call, by a view that shows a history for it.
 use Rattle.std.proofs.Common.{◌≡◌, ℕ, ◌+◌, Bool, true, false, not, List, [], ◌∷◌, length, Option, Some, None, Ok, Err, Result, refl, sym, ◌∙◌, ap, subst, inl, inr}
 use Rattle.std.specs.Prelude.{if◌then◌else◌, MatchResult, find, is_some}
 use Rattle.std.specs.Option.{option_map_or, option_or}

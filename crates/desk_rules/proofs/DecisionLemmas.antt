@@ -1,4 +1,4 @@
--- What the writes of each command make: people, and what is listed.
+-- Tables after the writes of commands: people, and the list of allowed images.
 use Rattle.std.proofs.Common.{◌≡◌, ℕ, Bool, true, false, not, ◌||◌, cond, List, [], ◌∷◌, Option, Some, None, Ok, Err, Result, refl, sym, ◌∙◌, ap, subst, inl, inr}
 use Rattle.std.specs.Prelude.{if◌then◌else◌, MatchResult, IsTrue, bytes_eq, codes, find, is_some}
 use Rattle.std.specs.List.{list_any}

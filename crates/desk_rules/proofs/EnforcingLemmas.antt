@@ -1,4 +1,4 @@
--- What a Confirm puts into force.
+-- Entries that a Confirm puts into force.
 use Rattle.std.proofs.Common.{◌≡◌, ℕ, ◌-◌, Bool, true, false, not, ◌&&◌, ◌||◌, cond, List, [], ◌∷◌, ◌++◌, map, filter, length, Option, Some, None, refl, sym, ◌∙◌, ap, arith}
 use Rattle.std.specs.Prelude.{if◌then◌else◌, IsTrue, bytes_eq, nat_lt, reverse, unwrap_or}
 use Rattle.std.specs.List.{list_any}

@@ -1,4 +1,4 @@
--- What an import's digests make.
+-- Writes of an import's digests.
 use Rattle.std.proofs.Common.{◌≡◌, ℕ, ◌<◌, ◌+◌, Bool, true, false, not, ◌||◌, List, [], ◌∷◌, ◌++◌, length, refl, sym, ◌∙◌, ap, drop, get_or, suc, add-one, drop-cons}
 use Rattle.std.specs.Prelude.{if◌then◌else◌, reverse, bytes_eq, IsTrue}
 use Rattle.std.specs.List.{list_any}

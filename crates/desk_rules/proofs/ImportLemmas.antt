@@ -1,4 +1,4 @@
--- What an import's components make.
+-- Writes of an import's components.
 use Rattle.std.proofs.Common.{◌≡◌, ℕ, ◌<◌, ◌≤◌, ◌+◌, Bool, true, false, not, ◌&&◌, ◌||◌, cond, max, List, [], ◌∷◌, ◌++◌, map, filter, length, Option, Some, None, refl, sym, ◌∙◌, ap, arith, take, get_or}
 use Rattle.std.specs.Prelude.{if◌then◌else◌, find, reverse, bytes_eq, option_map, unwrap_or, is_some, IsTrue}
 use Rattle.std.specs.List.{list_any}

@@ -1,4 +1,4 @@
--- What the write of a component makes of the level.
+-- The level after the write of a component.
 use Rattle.std.proofs.Common.{◌≡◌, ℕ, ◌<◌, true, false, max, List, [], ◌∷◌, map, Option, Some, None, refl, sym, ◌∙◌, ap, arith}
 use Rattle.std.specs.Prelude.{if◌then◌else◌, bytes_eq, is_some, nat_lt, unwrap_or}
 use Rattle.std.proofs.lemmas.Bool.{ltb-true, or_parts}

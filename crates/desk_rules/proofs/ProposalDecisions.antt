@@ -1,4 +1,4 @@
--- What a view that shows a history says of proposals, and what their writes make.
+-- Proposals in a view that shows a history, and tables after their writes.
 use Rattle.std.proofs.Common.{◌≡◌, ℕ, ◌+◌, ◌≤◌, Bool, true, false, IfSome, List, [], ◌∷◌, length, Option, Some, None, Ok, Err, Result, refl, sym, ◌∙◌, ap, subst, inl, inr, arith}
 use Rattle.std.specs.Prelude.{IfErr, IfOk, bytes_eq, find, option_map}
 use Rattle.std.specs.Option.{option_map_or}

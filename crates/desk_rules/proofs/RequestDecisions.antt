@@ -1,4 +1,4 @@
--- What the writes of votes, withdrawals and returns make.
+-- Tables after the writes of votes, withdrawals and returns.
 use Rattle.std.proofs.Common.{◌≡◌, ℕ, ◌+◌, Bool, true, false, not, ◌||◌, cond, List, [], ◌∷◌, map, Option, Some, None, Result, refl, sym, ◌∙◌, ap, inl, arith}
 use Rattle.std.specs.Prelude.{◌==◌, if◌then◌else◌, bytes_eq, count_by, find, nat_le, option_map}
 use Rattle.std.specs.List.{list_any}

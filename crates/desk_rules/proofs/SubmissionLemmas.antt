@@ -1,4 +1,4 @@
--- What the writes of a submission make.
+-- Tables after the writes of a submission.
 use Rattle.std.proofs.Common.{◌≡◌, ℕ, ◌+◌, ◌<◌, ◌≤◌, Bool, true, false, ◌||◌, cond, List, [], ◌∷◌, ◌++◌, length, map, Option, Some, None, Result, refl, sym, ◌∙◌, ap, inl, arith, append_assoc}
 use Rattle.std.specs.Prelude.{◌==◌, if◌then◌else◌, find, reverse}
 use Rattle.std.specs.List.{list_any}

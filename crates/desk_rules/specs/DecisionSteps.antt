@@ -126,7 +126,7 @@ returned_file_row signer h = return_row (record { request = h.request; signer = 
 abbrev pub carried_rows : ℕ → List (List ℕ) → List RequestCertificateRow
 carried_rows k carried = map (λ d. record { request = k; digest = d }) carried
 
--- what a submission writes
+-- the writes of a submission
 abbrev pub submission_writes : ℕ → Caller → Submission → List Write
 submission_writes k caller s =
     writes.Request (request_row states.Open (request_of k caller s))

@@ -1,4 +1,4 @@
--- What a decision over a view of the tables has to be.
+-- Decisions over a view of the tables: what each has to be.
 use Rattle.std.specs.Prelude.{◌≡◌, ◌⊎◌, ℕ, List, [], Result, MatchResult, IsTrue}
 use Rattle.desk_bytes.specs.declared.refusal.Refusal.{Refusal}
 use Rattle.desk_bytes.specs.declared.refusal.Refusal.TheVariants as refusals
@@ -18,7 +18,7 @@ use Rattle.desk_rules.specs.Shown.{Shows}
 abbrev pub called : Caller → List ℕ → Command → Call
 called caller key command = record { caller = caller; key = key; command = command }
 
--- what the call is answered after this history, and the tables of the history that it leaves
+-- the answer to the call after this history, and the tables of the history that it leaves
 pub record Decides (changes : Changes) (owner : List ℕ) (cs : History) (c : Call) : Type 0 where
   pub told : (answer cs c ≡ Accepted changes.reply) ⊎ ((answer cs c ≡ Repeated changes.reply) × (changes.writes.items ≡ []))
   pub made : all_written changes.writes.items (tables owner cs) ≡ tables owner (next cs c)

@@ -55,8 +55,8 @@ raised_names old seen = map (λ x. x.name) (filter (is_raise old) seen)
 abbrev pub HasRows : Generations → List Component → Type 0
 HasRows generations rows = (q : List ℕ) → is_sbat q ≡ false → get generations q ≡ generation_in rows q
 
--- What the components seen so far, the last first, make of a level that names these: the generations of the names
--- that are asked, `sbat` never one of them, how many names were raised, and what is written, which takes no entry off.
+-- The changes that the components seen so far, the last first, make to a level that names these: the generations of the names
+-- that are asked for, `sbat` never one of them, how many names were raised, and the writes, which take no entry off.
 pub record HasTaken (asked old seen : List Component) (s : SoFar) : Type 0 where
   pub other : names_no_sbat asked ≡ true
   pub level : (q : List ℕ) → IsTrue (is_among (map (λ x. x.name) asked) q) → get s.level.generations q ≡ greatest (seen ++ old) q
@@ -69,7 +69,7 @@ abbrev pub stamp_writes : ℕ → Option ℕ → List Write
 stamp_writes names None = []
 stamp_writes names (Some s) = if nat_lt 0 names then writes.Stamp s ∷ [] else []
 
--- what the components that are named make of a level that the view's rows show for their names
+-- the changes that the named components make to a level that the view's rows show for their names
 abbrev pub HasTakenAll : View → Imported → SoFar → Type 0
 HasTakenAll v n s =
     (old : List Component) → ((q : List ℕ) → IsTrue (is_among (map (λ x. x.name) n.components) q) → generation_in v.lists.components.items q ≡ greatest old q)

@@ -1,4 +1,4 @@
--- What a command names: people, a request or a proposal, and keys of the lists.
+-- Keys that a command names: people, a request or a proposal, and keys of the lists.
 use Rattle.std.specs.Prelude.{ℕ, List, [], ◌∷◌, map, Option, Some, None}
 use Rattle.std.specs.Option.{option_map_or}
 use Rattle.desk_texts.specs.declared.command.Command.{Command}

@@ -1,4 +1,4 @@
--- Whether the tables have room for what a decision writes.
+-- Room in the tables for what a decision writes.
 use Rattle.std.specs.Prelude.{◌≡◌, ◌≤◌, ◌⊎◌, ℕ, ◌+◌, ◌==◌, Bool, true, false, ◌&&◌, ◌||◌, nat_le, List, ◌∷◌, length, count_by}
 use Rattle.std.specs.List.{list_any}
 use Rattle.desk_texts.specs.declared.command.Call.{Call}

@@ -1,4 +1,4 @@
--- What a view has to show of the tables for a decision.
+-- Rows of the tables that a view has to show for a decision.
 use Rattle.std.specs.Prelude.{◌≡◌, ℕ, ◌==◌, ◌||◌, Bool, true, false, List, length, map, find, bytes_eq, Some, IsPermutation, IsTrue}
 use Rattle.std.specs.List.{list_any}
 use Rattle.desk_texts.specs.declared.command.Call.{Call}
@@ -82,7 +82,7 @@ rows_in t counted.RevokedCertificates = length t.revoked_certificates
 rows_in t counted.Components = length t.components
 rows_in t counted.Proposals = length t.proposals
 
--- What the view shows of the tables for a call: the level's stamp; how many calls there are, and how many rows each table has
+-- The view shows of the tables for a call: the level's stamp; how many calls there are, and how many rows each table has
 -- that the command may put rows into; for the caller, the caller's key and all that the command names the tables' row, or none
 -- where they have none; the votes on the request that it names; and for a Confirm the rows of the lists for all that its proposal
 -- names. It may have other rows.

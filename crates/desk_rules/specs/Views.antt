@@ -33,7 +33,7 @@ revoked_rows t kinds.Certificate = t.revoked_certificates
 abbrev pub generation_in : List Component → List ℕ → Option ℕ
 generation_in rows name = option_map (λ row. row.generation) (find (is_named name) rows)
 
--- what is revoked, what is listed and which generations are asked for, by the rows of a view
+-- the revoked and the listed entries and the required generations, by the rows of a view
 abbrev pub seen_standing : ListView → Standing
 seen_standing v = record {
   revoked = λ kind digest. is_among (seen_revoked v kind) digest;

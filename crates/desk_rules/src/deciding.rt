@@ -36,7 +36,7 @@ fn text_of(alloc: Global, command: &Command) -> Result<CommandText, Refusal>
     Ok(CommandText::new(command_text(alloc, command)?))
 }
 
-/// What a call with the key of this minute is answered: the reply given then, if the command has the same text.
+/// The answer to a call with the key of this minute: the reply given then, if the command has the same text.
 fn repeat(alloc: Global, minute: &Minute, text: &CommandText) -> Result<Changes, Refusal>
     ensures { steps.Repeats result minute.now text.now }
 {
@@ -77,7 +77,7 @@ fn join(
     })
 }
 
-/// What a call is answered, and the rows that it writes, by the rows that the view has: the first refusal that holds of
+/// The answer to a call, and the rows that it writes, by the rows that the view has: the first refusal that holds of
 /// `UnknownCaller`, then for a key that the caller gave before the reply given then or `KeyReused`, then `NotYourRole`,
 /// the command's own conditions and `Full`; or `NoMemory`. Takes memory for the rows that it writes, and for the
 /// command's canonical text.

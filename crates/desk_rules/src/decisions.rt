@@ -1,4 +1,4 @@
-//! Decisions over a view: what each command's own conditions say, and what it writes.
+//! Decisions over a view: each command's own conditions, and the rows that it writes.
 mod imports;
 mod level;
 mod lists;
@@ -53,7 +53,7 @@ fn two(alloc: Global, reply: Reply, first: Write, second: Write) -> Result<Chang
     Ok(Changes { reply, writes })
 }
 
-/// The number after so many requests, if there is one.
+/// The number after this many requests, if there is one.
 fn number_after(requests: u64) -> Option<RequestNumber>
     ensures { MatchOption result (greatest_number ≤ requests) (λ number. number ≡ requests + 1) }
 {
@@ -79,7 +79,7 @@ fn submit_next(
     }
 }
 
-/// What the command's own conditions say, and what it writes but for the call's own row.
+/// The answer by the command's own conditions, and the rows that it writes except the call's own.
 pub(crate) fn decide_own(
     alloc: Global,
     view: &View,

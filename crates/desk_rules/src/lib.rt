@@ -1,4 +1,5 @@
-//! What the desk decides, by rows of its tables: the answer to a call with what it writes, and what is said of an image.
+//! Decisions of the desk over rows of its tables: the answer to a call with the rows that it writes, and the verdict on an
+//! image.
 #![tactic(auto)]
 
 mod deciding;

@@ -8,8 +8,8 @@ use desk_history::{Standing, Verdict, is_same, verdict_of};
 use desk_texts::{Facts, ListedKind, Listing};
 use sbat::{Component, ComponentName, Generation};
 
-/// The rows that a verdict on an image is given from: of what is listed, what is revoked and the SBAT level, those whose
-/// keys the image's facts have. It may have others.
+/// The rows that a verdict on an image needs: of the listed and revoked entries and the SBAT level, those whose keys the
+/// image's facts have. It may have others.
 #[derive(Drop)]
 pub struct ListView {
     /// The keys of the listed entries.
@@ -70,7 +70,7 @@ impl Standing for ListView {
     }
 }
 
-/// What the desk says of the image, by the rows that the view has. Takes no memory.
+/// The desk's verdict on the image, by the rows that the view has.
 pub fn verdict(view: &ListView, facts: &Facts) -> Verdict
     ensures { spec.SaysVerdict view.now facts.now result }
 {

@@ -1,4 +1,4 @@
-//! Whether the tables have room for what a decision writes.
+//! Room in the tables for what a decision writes.
 ghost use Rattle.std.specs.Prelude.{◌≡◌, count_by};
 ghost use Rattle.desk_rules.specs.Room as spec;
 
@@ -9,14 +9,14 @@ use desk_history::{
 };
 use desk_texts::ListedKind;
 
-/// Whether so many rows more keep within the limit; where none is put in, the table's size isn't looked at.
+/// True if these rows more keep within the limit; where none is put in, the table's size isn't looked at.
 fn fits(count: usize, size: u64, most: usize) -> bool
     ensures { result ≡ spec.fits count size most }
 {
     count == 0 || (count <= most && size <= (most - count) as u64)
 }
 
-/// Whether the write revokes a digest of this kind.
+/// True if the write revokes a digest of this kind.
 fn revokes(kind: ListedKind, write: &Write) -> bool
     ensures { result ≡ spec.revokes kind write.now }
 {
@@ -27,7 +27,7 @@ fn revokes(kind: ListedKind, write: &Write) -> bool
     }
 }
 
-/// Whether the write puts a row into the table.
+/// True if the write puts a row into the table.
 fn puts(table: LimitedTable, write: &Write) -> bool
     ensures { result ≡ spec.puts table write.now }
 {
@@ -42,14 +42,14 @@ fn puts(table: LimitedTable, write: &Write) -> bool
     }
 }
 
-/// How many rows the writes put into the table.
+/// The count of rows that the writes put into the table.
 pub fn count(table: LimitedTable, writes: &[Write]) -> usize
     ensures { result ≡ count_by (spec.puts table) writes.now }
 {
     writes.iter().filter(|write| puts(table, write)).count()
 }
 
-/// Whether tables of these sizes have room for what the writes put in, and for the call's own row.
+/// True if tables of these sizes have room for what the writes put in, and for the call's own row.
 pub(crate) fn has_room(sizes: &Sizes, writes: &[Write]) -> bool
     ensures { result ≡ spec.has_room sizes.now writes.now }
 {

@@ -16,7 +16,7 @@ pub enum LimitedTable {
     Proposals,
 }
 
-/// How many rows there are in each of the tables that a desk's limits count.
+/// The count of rows of each table that a desk's limits count.
 #[derive(Clone, Copy, Debug, PartialEq, Eq)]
 pub struct Sizes {
     pub people: u64,
@@ -29,13 +29,14 @@ pub struct Sizes {
     pub proposals: u64,
 }
 
-/// The rows that a decision on a call is made from: those of the caller, of the caller's key and of what the command names,
-/// with the votes on a request that it names, and for a Confirm also those of all that its proposal names. It may have others.
+/// The rows that a decision on a call needs: those of the caller, of the caller's key and of what the command names, with
+/// the votes on a request that it names, and for a Confirm also those of all that its proposal names. It may have
+/// others.
 #[derive(Drop)]
 pub struct View {
     /// The level's stamp.
     pub stamp: Stamp,
-    /// How many rows the tables have.
+    /// The counts of rows of the tables.
     pub sizes: Sizes,
     pub people: Vec<Person>,
     pub calls: Vec<Minute>,
@@ -45,8 +46,7 @@ pub struct View {
     pub lists: ListView,
 }
 
-/// What a call is answered, and the rows that it writes, in the order in which they are written. A repeated call writes
-/// none.
+/// The reply to a call, and the rows that it writes, in the order in which they are written. A repeated call writes none.
 #[derive(Debug, Drop)]
 pub struct Changes {
     pub reply: Reply,

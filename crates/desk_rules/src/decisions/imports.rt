@@ -1,4 +1,4 @@
-//! What is named, put into force.
+//! Entries that an import names, put into force.
 ghost use Rattle.std.specs.Prelude.{◌≡◌, ◌+◌, ◌<◌, ◌≤◌, ◌^◌, ◌||◌, ◌++◌, ◌∷◌, [], ℕ, List, IfErr, IfOk, IsTrue, OnOk, bytes_eq, false, if◌then◌else◌, map, not, reverse, true};
 ghost use Rattle.std.specs.FinMap.{get};
 ghost use Rattle.sbat.specs.declared.component.Component.{Component as ComponentValue};
@@ -109,19 +109,19 @@ fn level_of(alloc: Global, stamp: Stamp, rows: &[Component]) -> Result<Level, Re
     Ok(level)
 }
 
-/// What an import's components make so far.
+/// The changes that an import's components make so far.
 #[derive(Drop)]
 pub(crate) struct SoFar {
-    /// What is written.
+    /// The writes.
     pub(crate) writes: Vec<Write>,
-    /// The level as it stands.
+    /// The level so far.
     pub(crate) level: Level,
-    /// How many names were raised.
+    /// The count of names that were raised.
     pub(crate) names: u64,
 }
 
 impl SoFar {
-    /// The generation of the name as it stands.
+    /// The generation of the name so far.
     fn present(&self, name: &ComponentName) -> Option<Generation>
         ensures { result ≡ get self.now.level.generations name.now }
     {
@@ -129,7 +129,7 @@ impl SoFar {
     }
 }
 
-/// Whether the generation rose from the one before.
+/// True if the generation rose from the one before.
 fn rose(now: Option<Generation>, before: Option<Generation>) -> bool
     ensures { result ≡ spec.rose now before }
 {
@@ -139,7 +139,7 @@ fn rose(now: Option<Generation>, before: Option<Generation>) -> bool
     }
 }
 
-/// Whether the name's generation rose so far.
+/// True if the name's generation rose so far.
 fn has_risen(before: &Level, so_far: &SoFar, name: &ComponentName) -> bool
     ensures { result ≡ spec.rose (get so_far.now.level.generations name.now)
         (get before.now.generations name.now) }
@@ -173,7 +173,7 @@ fn take_in(before: &Level, component: &Component, so_far: &mut SoFar) -> Result<
     Ok(())
 }
 
-/// What the components make of a level that has these rows, one after another. Costs the time of sorting both.
+/// The changes that the components make to a level that has these rows, one after another. Costs the time of sorting both.
 fn take_all(
     alloc: Global,
     stamp: Stamp,
@@ -199,7 +199,7 @@ fn take_all(
     Ok(so_far)
 }
 
-/// What the components that are named make.
+/// The changes that the named components make.
 pub(crate) fn taken(alloc: Global, view: &View, named: &Import) -> Result<SoFar, Refusal>
     ensures ok { IfOk result (λ so_far. spec.HasTakenAll view.now named.now so_far) }
     ensures err { IfErr result (λ refusal. refusal ≡ Refusal.NoMemory) }

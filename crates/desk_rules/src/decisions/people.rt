@@ -1,4 +1,4 @@
-//! People, and what they may do.
+//! People, and the commands that they may give.
 ghost use Rattle.std.specs.Prelude.{◌≡◌, [], ◌∷◌, find, option_copied};
 ghost use Rattle.std.specs.List.{list_any};
 ghost use Rattle.desk_history.specs.People as spec;
@@ -24,7 +24,7 @@ impl View {
             .find(|row| name.as_str() == row.name.as_str())
     }
 
-    /// Whether the caller is the console or one of the people.
+    /// True if the caller is the console or one of the people.
     pub(crate) fn is_known(&self, caller: &Caller) -> bool
         ensures { result ≡ is_one_of self.now.people.items caller.now }
     {
@@ -34,7 +34,7 @@ impl View {
         }
     }
 
-    /// Whether the caller gives such commands.
+    /// True if the caller may give the command.
     pub(crate) fn may_give(&self, caller: &Caller, command: &Command) -> bool
         ensures { result ≡ is_theirs self.now.people.items caller.now command.now }
     {
@@ -47,14 +47,14 @@ impl View {
         }
     }
 
-    /// Whether one of the people has the token of this SHA-256.
+    /// True if one of the people has the token of this SHA-256.
     fn has_token(&self, token: Digest) -> bool
         ensures { result ≡ list_any (spec.has_token token) self.now.people.items }
     {
         self.people.iter().any(|row| token == row.token)
     }
 
-    /// Whether one of the people has the name.
+    /// True if one of the people has the name.
     fn has_name(&self, name: &PersonName) -> bool
         ensures { result ≡ list_any (spec.has_name name.now) self.now.people.items }
     {
@@ -63,7 +63,7 @@ impl View {
             .any(|row| name.as_str() == row.name.as_str())
     }
 
-    /// Why the person isn't added.
+    /// The refusal to add the person.
     fn add_refusal(&self, person: &Person) -> Option<Refusal>
         ensures { result ≡ refusal_of self.now.people.items person.now }
     {

@@ -1,4 +1,4 @@
-//! Proposals of what is to be revoked and of the level, and what becomes of them.
+//! Proposals to revoke and to raise the level, and their confirmation.
 ghost use Rattle.std.specs.Prelude.{◌≡◌, ◌≤◌, ◌+◌, [], ◌∷◌, IfErr, IsTrue, MatchOption, MatchResult, None, Some, false, find, length, option_copied, true};
 ghost use Rattle.std.specs.List.{list_any};
 ghost use Rattle.sbat.specs.declared.component.Component.{Component as ComponentValue};
@@ -30,7 +30,7 @@ use desk_texts::{
 use sbat::{Component, Stamp};
 use std::alloc::Global;
 
-/// The number after so many proposals, if there is one.
+/// The number after this many proposals, if there is one.
 fn number_after(proposals: u64) -> Option<ProposalNumber>
     ensures { MatchOption result (greatest_number ≤ proposals) (λ number. number ≡ proposals + 1) }
 {
@@ -40,7 +40,7 @@ fn number_after(proposals: u64) -> Option<ProposalNumber>
     ProposalNumber::new(proposals + 1)
 }
 
-/// What these name: no more than one entry, which isn't `sbat`.
+/// The import of these: no more than one entry, which isn't `sbat`.
 fn entry_of(
     stamp: Option<Stamp>,
     digests: Vec<Digest>,
@@ -57,10 +57,10 @@ fn entry_of(
       components = components.items;
     } }
 {
-    let digests = Digests::new(digests).unwrap();
-    let certificates = Digests::new(certificates).unwrap();
-    let components = ImportedComponents::new(components).unwrap();
-    Import::new(stamp, 0, digests, certificates, components).unwrap()
+    let digests = Digests::of(digests);
+    let certificates = Digests::of(certificates);
+    let components = ImportedComponents::of(components);
+    Import::of(stamp, 0, digests, certificates, components)
 }
 
 impl View {
@@ -73,7 +73,7 @@ impl View {
             .find(|row| number.value() == row.number.value())
     }
 
-    /// Whether one of the digests of this kind is revoked.
+    /// True if one of the digests of this kind is revoked.
     fn has_revoked(&self, kind: ListedKind, digests: &[Digest]) -> bool
         ensures { result ≡ list_any ((seen_standing self.now.lists).revoked kind) digests.now }
     {
@@ -82,7 +82,7 @@ impl View {
             .any(|digest| self.lists.is_revoked(kind, *digest))
     }
 
-    /// Whether the component can't be raised to its generation.
+    /// True if the component can't be raised to its generation.
     fn is_lower(&self, component: &Component) -> bool
         ensures { result ≡ spec.is_lower_in self.now.lists.components.items component.now }
     {
@@ -90,7 +90,7 @@ impl View {
             || !is_above(component.generation, self.lists.generation(&component.name))
     }
 
-    /// Whether one of the components can't be raised to its generation.
+    /// True if one of the components can't be raised to its generation.
     fn has_lower(&self, components: &[Component]) -> bool
         ensures { result
             ≡ list_any (spec.is_lower_in self.now.lists.components.items) components.now }
@@ -98,7 +98,7 @@ impl View {
         components.iter().any(|component| self.is_lower(component))
     }
 
-    /// Why what is named can't be put into force, by its kind; so many names are raised by it.
+    /// The refusal to put what is named into force, by its kind and by the count of names that it raises.
     fn force_refusal(&self, kind: ProposalKind, named: &Import, names: u64) -> Option<Refusal>
         ensures { result ≡ spec.force_refusal_in self.now kind named.now names }
     {
@@ -127,7 +127,7 @@ impl View {
         }
     }
 
-    /// Why the proposal isn't dropped.
+    /// The refusal to drop the proposal.
     fn drop_refusal(&self, number: ProposalNumber) -> Option<Refusal>
         ensures { result ≡ spec.drop_refusal_in self.now number }
     {
@@ -138,7 +138,7 @@ impl View {
     }
 }
 
-/// Proposes what is named as the proposal of this number; so many names are raised by it.
+/// Proposes what is named as the proposal of this number, by the count of names that it raises.
 fn propose_as(
     alloc: Global,
     view: &View,
@@ -211,7 +211,7 @@ pub(crate) fn propose_certificate(
     propose(alloc, view, caller, ProposalKind::Certificate, named)
 }
 
-/// Proposes to raise the generation that is asked of a component.
+/// Proposes to raise the generation that the level requires of a component.
 pub(crate) fn propose_level(
     alloc: Global,
     view: &View,
@@ -250,7 +250,8 @@ pub(crate) fn propose_import(
     propose(alloc, view, caller, ProposalKind::Import, named)
 }
 
-/// Puts into force what the proposal names. What it names is looked at only where the proposal is open and not the caller's own.
+/// Puts into force what the proposal names, which is looked at only where the proposal is open and not the caller's
+/// own.
 pub(crate) fn confirm(
     alloc: Global,
     view: &View,

@@ -16,14 +16,14 @@ use desk_history::{RequestRow, VoteRow, Write, image_refusal, return_by, review_
 use desk_texts::{Ballot, Caller, Outcome, Reply, RequestNumber, ReturnedFile, State, Vote};
 use std::alloc::Global;
 
-/// Whether the vote is a yes.
+/// True if the vote is a yes.
 fn is_yes(vote: &VoteRow) -> bool
     ensures { result ≡ is_yes vote.now }
 {
     matches!(vote.vote, Vote::Yes)
 }
 
-/// The state of an open request after the vote, where some vote before it was a no or none, and so many were yes.
+/// The state of an open request after the vote, by whether a vote before it was a no and how many were yes.
 fn state_with(vote: Vote, has_no: bool, yes: usize) -> State
     ensures { result ≡ spec.state_with vote has_no yes }
 {
@@ -51,7 +51,7 @@ impl View {
             .find(|row| number.value() == row.number.value())
     }
 
-    /// Whether the caller voted on the request.
+    /// True if the caller voted on the request.
     fn has_voted(&self, number: RequestNumber, caller: &Caller) -> bool
         ensures { result
             ≡ list_any (is_vote_of (caller_name caller.now))
@@ -63,7 +63,7 @@ impl View {
             .any(|row| caller.name() == row.reviewer.as_str())
     }
 
-    /// Whether some vote on the request is a no.
+    /// True if some vote on the request is a no.
     fn has_no(&self, number: RequestNumber) -> bool
         ensures { result ≡ list_any (λ v. not (is_yes v)) (votes_on self.now.votes.items number) }
     {
@@ -73,7 +73,7 @@ impl View {
             .any(|row| !is_yes(row))
     }
 
-    /// How many votes on the request are yes.
+    /// The count of yes votes on the request.
     fn count_yes(&self, number: RequestNumber) -> usize
         ensures { result ≡ count_by is_yes (votes_on self.now.votes.items number) }
     {
@@ -84,7 +84,7 @@ impl View {
             .count()
     }
 
-    /// Why the caller's vote on the request isn't taken.
+    /// The refusal of the caller's vote on the request.
     fn review_refusal(&self, number: RequestNumber, caller: &Caller) -> Option<Refusal>
         ensures { result ≡ spec.review_refusal_in self.now number (caller_name caller.now) }
     {
@@ -106,7 +106,7 @@ impl View {
         state_with(ballot.vote, has_no, self.count_yes(ballot.request))
     }
 
-    /// Why the caller's request isn't withdrawn.
+    /// The refusal to withdraw the caller's request.
     fn withdraw_refusal(&self, number: RequestNumber, caller: &Caller) -> Option<Refusal>
         ensures { result ≡ spec.withdraw_refusal_in self.now number (caller_name caller.now) }
     {
@@ -116,7 +116,7 @@ impl View {
         }
     }
 
-    /// Why the returned file isn't taken.
+    /// The refusal of the returned file.
     fn return_refusal(&self, returned_file: &ReturnedFile) -> Option<Refusal>
         ensures { result ≡ spec.return_refusal_in self.now returned_file.now }
     {
