@@ -26,7 +26,7 @@ block_read content file out block at size same fits is =
 pub block_front : (out block : List ℕ) (size : ℕ) → length out ≡ size → take size (out ++ drop size block) ≡ out
 block_front out block size wide = ap (λ k. take k (out ++ drop size block)) (sym wide) ∙ take-append_seam out (drop size block)
 
--- the block behind what was fed already
+-- the block after what was fed already
 pub block_fed : (file out block : List ℕ) (from at size : ℕ) → out ≡ slice_range file at (at + size) → length out ≡ size
     → from ≤ at → at + size ≤ length file → slice_range file from at ++ take size (out ++ drop size block) ≡ slice_range file from (at + size)
 block_fed file out block from at size read wide after fits =

@@ -41,7 +41,7 @@ span-before f s at to low le =
     let none = empty-slice f (max s.from at) (min s.to to) (omega arith) in
     ap (slice_range f (max s.from 0)) same ∙ sym (append-nil _) ∙ ap (λ l. slice_range f (max s.from 0) (min s.to at) ++ l) (sym none)
 
--- a span is what stands of it before a place, and behind
+-- a span is what stands of it before a place, and after
 span-cut : (f : List ℕ) (s : Span) (at to : ℕ) → s.from < s.to → at < s.to → at ≤ to → to ≤ length f
     → slice_range f (max s.from 0) (min s.to to) ≡ slice_range f (max s.from 0) (min s.to at) ++ slice_range f (max s.from at) (min s.to to)
 span-cut f s at to wide high le fits = elim (cases_lt s.from at) [
@@ -59,7 +59,7 @@ span-cut f s at to wide high le fits = elim (cases_lt s.from at) [
       ap (λ i. slice_range f i (min s.to to)) (sym right) ∙ ap (λ l. l ++ slice_range f (max s.from at) (min s.to to)) (sym none)
 ]
 
--- what one more piece has of a chain stands behind what was met before
+-- what one more piece has of a chain stands after what was met before
 pub between-next : (f : List ℕ) (z at to : ℕ) (ss : List Span) → IsChain z ss → at ≤ to → to ≤ length f
     → bytes_between f 0 to ss ≡ bytes_between f 0 at ss ++ bytes_between f at to ss
 between-next f z at to [] chain le fits = refl

@@ -8,7 +8,7 @@ use Rattle.desk_bytes.specs.Numbers.{u16_at, u32_at}
 abbrev pub length_at : List ℕ → ℕ
 length_at t = u32_at t 0
 
--- wCertificateType, behind wRevision. own: wRevision isn't looked at
+-- wCertificateType, after wRevision. own: wRevision isn't looked at
 abbrev pub type_at : List ℕ → ℕ
 type_at t = u16_at t 6
 
@@ -16,7 +16,7 @@ type_at t = u16_at t 6
 abbrev pub signed_data : ℕ
 signed_data = 2
 
--- bCertificate, behind the header of 8 bytes
+-- bCertificate, after the header of 8 bytes
 abbrev pub body_at : List ℕ → List ℕ
 body_at t = drop 8 (take (length_at t) t)
 

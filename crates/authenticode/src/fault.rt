@@ -1,4 +1,4 @@
-//! Why a table has no carried certificates.
+//! Reasons why a certificate table is refused.
 ghost use Rattle.std.specs.Prelude.{◌≡◌};
 ghost use Rattle.authenticode.specs.Faults.{not_der, refusal_of};
 

@@ -12,13 +12,13 @@ pub fn carried_is_one()
         → IsCarried table ds → IsCarried table es → ds ≡ es }
 {}
 
-/// A table is refused for one fault at most, besides a want of memory.
+/// A table is refused for one fault at most, besides NoMemory.
 pub fn fault_is_one()
     ensures { (table : List ℕ) (f g : CarriedFault) → f ≢ CarriedFault.NoMemory
         → g ≢ CarriedFault.NoMemory → IsFirstFault table f → IsFirstFault table g → f ≡ g }
 {}
 
-/// A table that carries a list of digests is refused for want of memory alone.
+/// A table that carries a list of digests is refused for NoMemory alone.
 pub fn carried_is_not_refused()
     ensures { (table : List ℕ) (ds : List (List ℕ)) (fault : CarriedFault)
         → IsCarried table ds → IsFirstFault table fault → fault ≡ CarriedFault.NoMemory }

@@ -1,4 +1,4 @@
-//! What an EFI image is signed by: its Authenticode digest, and the certificates that it carries.
+//! The Authenticode digest of an EFI image, and the certificates that the image carries.
 #![tactic(auto)]
 
 mod carrying;

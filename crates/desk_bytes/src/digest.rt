@@ -45,7 +45,7 @@ impl Digest {
         &self.0
     }
 
-    /// The digest that 64 hexadecimal digits of either case spell. Takes no memory.
+    /// The digest that 64 hexadecimal digits of either case spell.
     pub fn parse(text: &[u8]) -> Result<Digest, BadDigest>
         ensures { result_ok result ≡ digest_of text.now }
     {
@@ -56,7 +56,7 @@ impl Digest {
         }
     }
 
-    /// The 64 hexadecimal digits in lower case. Takes no memory.
+    /// The 64 hexadecimal digits in lower case.
     pub fn text(&self) -> [u8; 64]
         ensures { result ≡ encode_lower self.now }
     {

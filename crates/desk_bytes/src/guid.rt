@@ -77,7 +77,7 @@ impl Guid {
         &self.0
     }
 
-    /// Reads the 36 characters of a GUID, in either case. Takes no memory.
+    /// Reads the 36 characters of a GUID, in either case.
     pub fn parse(text: &str) -> Result<Guid, BadGuid>
         ensures ok { IfOk result (IsGuidText text.now) }
         ensures err { OnErr result ((g : List ℕ) → IsGuidText text.now g → ⊥) }

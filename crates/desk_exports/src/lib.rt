@@ -1,4 +1,4 @@
-//! What a desk exports after a history of calls: the bytes of dbx and db, the level, the minutes and the report, as
+//! The exports of a desk after a history of calls (the bytes of dbx and db, the level, the minutes, the report), as
 //! definitions, and worked examples of them.
 #![tactic(auto)]
 

@@ -1,4 +1,4 @@
-//! Why an image has no facts.
+//! Reasons why an image has no facts.
 ghost use Rattle.std.specs.Prelude.{◌≡◌};
 ghost use Rattle.desk_service.specs.Faults.{of_part, place_of, read_failed, refusal_of};
 ghost use Rattle.desk_service.specs.declared.fault.FactsFault.TheVariants as fact;

@@ -28,7 +28,7 @@ fn are_visible(text: &[u8]) -> bool
     text.iter().all(|byte| 33 <= *byte && *byte <= 126)
 }
 
-/// Whether the bytes are a token: 16 to 128 of 0x21 to 0x7E. Takes no memory.
+/// Whether the bytes are a token: 16 to 128 of 0x21 to 0x7E.
 pub fn is_token(text: &[u8]) -> bool
     ensures { result ≡ spec.is_token text.now }
 {
@@ -38,7 +38,7 @@ pub fn is_token(text: &[u8]) -> bool
     are_visible(text)
 }
 
-/// The SHA-256 of a token's bytes, which is what a desk keeps of it. Takes no memory.
+/// The SHA-256 of a token's bytes, which is what a desk keeps of it.
 pub fn token_digest(token: &[u8]) -> Digest
     ensures { result ≡ sha256 token.now }
 {

@@ -39,7 +39,7 @@ free-append c (x ∷ xs) ys h k =
 
 -- ---- fields
 
--- the text before its first space, and behind it
+-- the text before its first space, and after it
 abbrev pub before : ℕ → List ℕ → List ℕ
 before c [] = []
 before c (b ∷ bs) = cond (eqb b c) [] (b ∷ before c bs)

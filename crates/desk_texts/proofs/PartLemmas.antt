@@ -81,7 +81,7 @@ facts_read f h rest =
     (decimal_read f.extent.length h.length) (decimal_read f.extent.gap h.gap) (hex_read f.file h.file.bytes) (hex_read f.digest h.digest.bytes)
     (hex_read f.signing h.signing.bytes) (digests_read f.carried h.carried) (components_read f.components h.components)
 
--- six parts, a space behind each, and then more
+-- six parts, a space after each, and then more
 abbrev six_then : Facts → List ℕ → List ℕ
 six_then f last =
     decimal f.extent.length ++ (32 ∷ (decimal f.extent.gap ++ (32 ∷ (encode_lower f.file ++ (32 ∷ (encode_lower f.digest ++ (32 ∷ (encode_lower f.signing

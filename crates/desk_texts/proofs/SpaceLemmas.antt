@@ -166,7 +166,7 @@ stripped text beginning rest h = strip_prefix_is Decides-eqb text beginning (Som
 pub stripped_none : (text beginning : List ℕ) → pointwise eqb (take (length beginning) text) beginning ≡ false → (rest : List ℕ) → text ≢ beginning ++ rest
 stripped_none text beginning h = strip_prefix_is Decides-eqb text beginning None h
 
--- a number behind a beginning
+-- a number after a beginning
 pub stripped_one : (text beginning : List ℕ) (rest : Bor (List ℕ)) (o : Option ℕ) → text ≡ beginning ++ rest.now
     → IfSome o (λ n. rest.now ≡ decimal n) → IfSome o (λ n. text ≡ beginning ++ decimal n)
 stripped_one text beginning rest None is h = tt
@@ -178,7 +178,7 @@ pub stripped_others : (text beginning : List ℕ) (rest : Bor (List ℕ)) (o : O
 stripped_others text beginning rest (Some n) is h = tt
 stripped_others text beginning rest None is h = λ n form same. h n form (append_cancel_left beginning rest.now (decimal n) (sym is ∙ same))
 
--- what stands behind a number
+-- what stands after a number
 pub behind_number : (text rest more : List ℕ) (m n : ℕ) → IsCount m → IsCount n → text ≡ decimal m ++ (32 ∷ rest) → text ≡ decimal n ++ (32 ∷ more) → rest ≡ more
 behind_number text rest more m n h k is same =
     (parted_once (decimal m) rest (decimal n) more (decimal_free m h) (decimal_free n k) (sym is ∙ same)).1

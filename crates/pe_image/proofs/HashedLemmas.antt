@@ -58,7 +58,7 @@ three-and x y z w = simp (append_assoc, append-nil)
 two-and : (x y w : List ℕ) → (x ++ (y ++ [])) ++ w ≡ x ++ (y ++ w)
 two-and x y w = simp (append_assoc, append-nil)
 
--- the hashed bytes end within the file, at the end of the sections or behind it
+-- the hashed bytes end within the file, at the end of the sections or after it
 pub image-end : (f : List ℕ) → IsPlaced f → sections_end f ≤ length f → (sections_end f ≤ image_end f) × (image_end f ≤ length f)
 image-end f p within =
     elim (has_table f) as (λ b. has_table f ≡ b → (sections_end f ≤ (if b then table_offset f else length f)) × ((if b then table_offset f else length f) ≤ length f)) [

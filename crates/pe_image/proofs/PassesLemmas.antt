@@ -40,7 +40,7 @@ chain-nonempty z (s ∷ ss) up =
           chain-nonempty z ss (Ascends-from z s.to ss (omega arith) up.2)
     ] refl
 
--- a chain, and a span behind it
+-- a chain, and a span after it
 Ascends-chain : (z : ℕ) (ss : List Span) → IsChain z ss → Ascends z ss
 Ascends-chain z [] chain = tt
 Ascends-chain z (s ∷ ss) chain = let wide : s.from < s.to = chain.1 in (chain.0, omega arith, Ascends-chain s.to ss chain.2)
@@ -52,7 +52,7 @@ Ascends-behind z (s ∷ ss) t chain far wide =
     let same = reach-chain z s ss chain in
     (chain.0, omega arith, Ascends-behind s.to ss t chain.2 (omega arith) wide)
 
--- the headers, and what stands behind them
+-- the headers, and what stands after them
 Ascends-headers : (f : List ℕ) (ss : List Span) → IsPlaced f → Ascends (size_of_headers f) ss → Ascends 0 (header_spans f ++ ss)
 Ascends-headers f ss p up =
     let least = fixed-least f in

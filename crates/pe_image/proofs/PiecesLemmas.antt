@@ -22,7 +22,7 @@ length-pieces f (x ∷ xs) full =
     let both = length-append (f x) (flat_map f xs) in
     omega arith
 
--- what is left behind so many full pieces
+-- what is left after this number of full pieces
 drop-pieces : {X : Type 0} (f : X → List ℕ) (i : ℕ) (xs : List X) (last : List ℕ) → All (λ x. length (f x) ≡ 65536) xs → i ≤ length xs
     → drop (65536 * i) (flat_map f xs ++ last) ≡ flat_map f (drop i xs) ++ last
 drop-pieces f zero xs last full within = refl
@@ -61,7 +61,7 @@ pub last-stands : {X : Type 0} (f : X → List ℕ) (xs : List X) (last : List �
 last-stands f xs last full =
     drop-pieces f (length xs) xs last full (omega arith) ∙ ap (λ l. flat_map f l ++ last) (drop-length xs) ∙ sym (append-nil last)
 
--- what was read behind what stood there
+-- what was read after what stood there
 pub take-behind : (front read back : List ℕ) (n count : ℕ) → length front ≡ n → count ≤ length read → take (n + count) (front ++ (read ++ back)) ≡ front ++ take count read
 take-behind front read back n count is fits =
     ap (λ m. take (m + count) (front ++ (read ++ back))) (sym is) ∙ take-append-add front (read ++ back) count ∙ ap (λ l. front ++ l) (take-append-le count read back fits)
@@ -78,7 +78,7 @@ rest-of_full f xs last all piece x at whole full within is shown =
     let stands = ap (drop (65536 * i)) (sym whole) ∙ piece-stands f xs last i x full within is ∙ ap (λ l. l ++ rest) (sym shown) in
     end-of_piece all piece rest (65536 * i) (at % 65536) at stands (omega arith) (omega arith)
 
--- what the last piece begins with, for a place behind the full ones
+-- what the last piece begins with, for a place after the full ones
 pub record IsInLast (size piece at : ℕ) : Type 0 where
   pub within : at % 65536 < piece
   pub place : at ≡ 65536 * size + at % 65536
@@ -101,7 +101,7 @@ rest-of_last f xs last all piece at whole full behind short within shown =
     let stands = ap (drop (65536 * length xs)) (sym whole) ∙ last-stands f xs last full ∙ ap (λ l. l ++ []) (sym shown) in
     end-of_piece all piece [] (65536 * length xs) (at % 65536) at stands place.place (omega arith)
 
--- a slice of all, and the beginning of what stands behind it
+-- a slice of all, and the beginning of what stands after it
 pub slice-more : (all rest : List ℕ) (at done count : ℕ) → rest ≡ slice_range all (at + done) ((at + done) + length rest) → count ≤ length rest
     → at + done + count ≤ length all → slice_range all at (at + done) ++ take count rest ≡ slice_range all at (at + (done + count))
 slice-more all rest at done count is short fits =

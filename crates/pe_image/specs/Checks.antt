@@ -60,14 +60,14 @@ header_checks f =
 abbrev pub front_checks : List ℕ → List (Bool × LayoutFault)
 front_checks f = start_checks f ++ magic_checks f ++ size_checks f ++ header_checks f
 
--- own: raw sections stand within a file of so many bytes, behind its headers, and share no byte
+-- own: raw sections stand within a file of this length, after its headers, and share no byte
 abbrev pub section_checks : List Span → ℕ → ℕ → List (Bool × LayoutFault)
 section_checks spans headers_end size =
     (list_all (λ s. nat_le s.to size) spans, Sections)
     ∷ (list_all (λ s. nat_le headers_end s.from) spans && are_apart spans, Overlap)
     ∷ []
 
--- own: the certificate table is the end of the file, and begins behind the sections
+-- own: the certificate table is the end of the file, and begins after the sections
 abbrev pub table_checks : List ℕ → List (Bool × LayoutFault)
 table_checks f = (
   not (has_table f)

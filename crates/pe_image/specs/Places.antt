@@ -67,7 +67,7 @@ abbrev pub end_by : Option Span → ℕ → ℕ
 end_by None n = n
 end_by (Some t) n = t.from
 
--- p is the layout of f: f is accepted, its sections stand in ascending order behind the headers, no two
+-- p is the layout of f: f is accepted, its sections stand in ascending order after the headers, no two
 -- share a byte, and all that is hashed, the table, the text of `.sbat` and the gap lie within the file
 pub record IsLayoutOf (f : List ℕ) (p : Places) : Type 0 where
   pub laid : IsLaid f

@@ -1,4 +1,4 @@
-//! Why an image has no layout.
+//! Reasons why an image has no layout.
 ghost use Rattle.std.specs.Prelude.{◌≡◌};
 ghost use Rattle.pe_image.specs.Faults.{read_failed, refusal_of};
 

@@ -1,5 +1,4 @@
-//! Where the fields stand that a layout needs (PE/COFF). Places count from the signature, where nothing else
-//! is said.
+//! Offsets of the fields that a layout needs (PE/COFF), from the signature unless a comment says otherwise.
 
 /// The size of the MS-DOS header.
 pub(crate) const DOS_HEADER_SIZE: u64 = 64;

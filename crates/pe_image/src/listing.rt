@@ -24,7 +24,7 @@ fn push_headers(spans: &mut [Span], checksum: Span, directory: Option<Span>, end
     }
 }
 
-/// Puts the sections behind the first `count` spans, and says how many there are then.
+/// Puts the sections after the first `count` spans, and says how many there are then.
 fn push_sections(spans: &mut [Span], count: usize, sections: &[Span]) -> usize
     requires { count + length sections.now ≤ length spans.old }
     ensures few { result ≤ count + length sections.now }

@@ -10,7 +10,7 @@ use crate::places::{Layout, gap};
 use crate::span_list::Ranges;
 
 /// The ranges that one pass over the file meets in their order: all of them, or with a gap all but
-/// the last, which begins before the sections end. Takes no memory.
+/// the last, which begins before the sections end.
 pub fn first_pass(layout: &Layout) -> Ranges
     ensures exact { result ≡ first_pass_of layout.now }
     ensures full { All (λ s. s.from < s.to) result }

@@ -1,4 +1,4 @@
-//! How an image begins.
+//! The beginning of an image.
 ghost use Rattle.std.specs.Prelude.{◌≡◌, ◌≤◌, None, OnOk, IfOk, IfErr};
 ghost use Rattle.pe_image.specs.Checks.{first_of, start_checks, IsRefused};
 ghost use Rattle.pe_image.specs.Sources.{OnlyReads};

@@ -1,4 +1,4 @@
-//! Why SBAT text was refused.
+//! Reasons why SBAT text is refused.
 ghost use Rattle.std.specs.Prelude.{◌≡◌};
 ghost use Rattle.sbat.specs.Refusals.{place_of, refusal_of};
 

@@ -12,7 +12,7 @@ use desk_bytes::{WriteFailed, put_each};
 use itoa::Buffer;
 use std::io::Write;
 
-/// Writes the first line of a level: `sbat,1,` and the stamp. Takes no memory.
+/// Writes the first line of a level: `sbat,1,` and the stamp.
 pub fn level_head<W: Write>(stamp: Stamp, writer: &mut W) -> Result<(), WriteFailed>
     ensures ok { OnOk result (Appends (W.contents writer.old) (W.contents writer.new)
         (head_text stamp)) }
@@ -36,7 +36,7 @@ fn put_row<W: Write>(name: &str, generation: Generation, writer: &mut W) -> Resu
     put_each(&[name.as_bytes(), b",", generation, b"\n"], writer)
 }
 
-/// Writes the line of one name: the name, a comma and its generation without leading zeros. Takes no memory.
+/// Writes the line of one name: the name, a comma and its generation without leading zeros.
 pub fn level_row<W: Write>(
     name: &ComponentName,
     generation: Generation,
@@ -51,7 +51,7 @@ pub fn level_row<W: Write>(
 }
 
 /// Writes the text of a level: `sbat,1,` and the stamp, then each name, a comma and its generation without
-/// leading zeros, ascending by the names' bytes. LF ends each line. Takes no memory.
+/// leading zeros, ascending by the names' bytes. LF ends each line.
 pub fn write_level<W: Write>(level: &Level, writer: &mut W) -> Result<(), WriteFailed>
     ensures ok { OnOk result (Appends (W.contents writer.old) (W.contents writer.new)
         (level_text level.now)) }

@@ -40,7 +40,7 @@ impl Stamp {
         self.0
     }
 
-    /// The stamp that ten decimal digits spell, of which the first isn't 0. Takes no memory.
+    /// The stamp that ten decimal digits spell, of which the first isn't 0.
     pub fn parse(text: &[u8]) -> Option<Stamp>
         ensures { result ≡ stamp_of text.now }
     {

@@ -36,7 +36,7 @@ fn without_mark(text: &[u8]) -> &[u8]
 
 /// The lines of SBAT text with their numbers from 1, as `desk_bytes::parted` gives them: empty lines are
 /// counted and passed over. The text ends before its first zero byte, and a mark EF BB BF at its beginning
-/// is dropped. Takes no memory.
+/// is dropped.
 pub fn rows(text: &[u8]) -> Parted<'_>
     ensures { result ≡ spec.rows_of text.now }
 {

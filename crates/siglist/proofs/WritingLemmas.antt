@@ -51,7 +51,7 @@ digest_text kind owner after ds some =
     row_text kind (48 + length after) (map (digest_entry owner after) ds) (omega (arith, count, some))
     ∙ ap (λ n. bare_head kind (48 + length after) n ++ entries_text owner after ds) count
 
--- nothing stands behind a digest of a SHA256 list
+-- nothing stands after a digest of a SHA256 list
 pub map-digest_entry : (owner : List ℕ) (ds : List (List ℕ)) → map (digest_entry owner []) ds ≡ map (entry_of owner) ds
 map-digest_entry owner [] = refl
 map-digest_entry owner (d ∷ ds) = ap₂ ◌∷◌ (ap (entry_of owner) (append-nil d)) (map-digest_entry owner ds)
@@ -108,7 +108,7 @@ bare_row_spells kind size (e ∷ es) k least small fits entries keeps = (
   refl,
 )
 
--- a body of 32 bytes and what stands behind it
+-- a body of 32 bytes and what stands after it
 IsEntryOf-all : (owner after : List ℕ) (ds : List (List ℕ)) → length owner ≡ 16 → AllByRecursion (λ d. length d ≡ 32) ds
     → AllByRecursion (IsEntryOf (48 + length after)) (map (digest_entry owner after) ds)
 IsEntryOf-all owner after [] o h = h

@@ -31,7 +31,7 @@ bare_row kind entry_size (e ∷ es) = record {
 abbrev pub sha256_row : List ℕ → List (List ℕ) → List SignatureList
 sha256_row owner ds = bare_row sha256_kind sha256_size (map (entry_of owner) ds)
 
--- a digest with these bytes behind it
+-- a digest with these bytes after it
 abbrev pub digest_entry : List ℕ → List ℕ → List ℕ → Entry
 digest_entry owner after d = entry_of owner (d ++ after)
 
@@ -39,7 +39,7 @@ digest_entry owner after d = entry_of owner (d ++ after)
 abbrev pub x509_sha256_row : List ℕ → List (List ℕ) → List SignatureList
 x509_sha256_row owner ds = bare_row x509_sha256_kind x509_sha256_size (map (digest_entry owner no_time) ds)
 
--- one list of these digests in their order, each with the same bytes behind it
+-- one list of these digests in their order, each with the same bytes after it
 abbrev pub digest_row : List ℕ → List ℕ → List (List ℕ) → List ℕ → List SignatureList
 digest_row kind owner ds after = bare_row kind (sha256_size + length after) (map (digest_entry owner after) ds)
 

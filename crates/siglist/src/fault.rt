@@ -1,4 +1,4 @@
-//! What stops a pack, and what bytes are refused for that are no lists.
+//! Reasons why a pack stops, and why bytes are no signature lists.
 ghost use Rattle.std.specs.Prelude.{◌≡◌};
 ghost use Rattle.siglist.specs.ListsFaults as lists;
 ghost use Rattle.siglist.specs.PackFaults.{fault_of, place_of, refusal_of, write_failed};

@@ -105,7 +105,7 @@ impl<'a> SignatureList<'a> {
         self.count
     }
 
-    /// Its entries in their order. Takes no memory.
+    /// Its entries in their order.
     pub fn entries(&self) -> Entries<'a>
         ensures { result ≡ self.now.list.entries }
     {

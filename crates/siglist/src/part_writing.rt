@@ -10,7 +10,7 @@ use desk_bytes::{Digest, Guid, WriteFailed, put};
 use std::io::Write;
 
 /// Writes the 28 bytes at the head of a SHA256 list of so many digests, whose entries have to follow (UEFI
-/// 2.10, section 32.4.1). The head names no owner. Takes no memory.
+/// 2.10, section 32.4.1). The head names no owner.
 pub fn sha256_head<W: Write>(count: u32, writer: &mut W) -> Result<(), WriteFailed>
     requires some { 1 ≤ count }
     requires few { count ≤ most_digests }
@@ -22,7 +22,7 @@ pub fn sha256_head<W: Write>(count: u32, writer: &mut W) -> Result<(), WriteFail
     put_head(&SHA256, SHA256_SIZE, count, writer)
 }
 
-/// Writes an entry of a SHA256 list: 48 bytes. Takes no memory.
+/// Writes an entry of a SHA256 list: 48 bytes.
 pub fn sha256_entry<W: Write>(
     owner: &Guid,
     digest: &Digest,
@@ -37,7 +37,6 @@ pub fn sha256_entry<W: Write>(
 }
 
 /// Writes the 28 bytes at the head of an X509_SHA256 list of so many digests, whose entries have to follow.
-/// Takes no memory.
 pub fn x509_sha256_head<W: Write>(count: u32, writer: &mut W) -> Result<(), WriteFailed>
     requires some { 1 ≤ count }
     requires few { count ≤ most_digests }
@@ -50,7 +49,7 @@ pub fn x509_sha256_head<W: Write>(count: u32, writer: &mut W) -> Result<(), Writ
 }
 
 /// Writes an entry of an X509_SHA256 list: 64 bytes. The digest is the SHA-256 of a TBSCertificate, its
-/// TimeOfRevocation 16 zero bytes. Takes no memory.
+/// TimeOfRevocation 16 zero bytes.
 pub fn x509_sha256_entry<W: Write>(
     owner: &Guid,
     digest: &Digest,

@@ -54,7 +54,7 @@ pub(crate) fn put_entry<W: Write>(
     put(body, writer)
 }
 
-/// Writes one list of some digests, each with the same bytes behind it.
+/// Writes one list of some digests, each with the same bytes after it.
 fn put_digests<W: Write>(
     kind: &[u8; 16],
     owner: &[u8],
@@ -97,7 +97,6 @@ fn put_one<W: Write>(
 }
 
 /// Writes one SHA256 list of the digests, in the order handed in, or nothing where there is none.
-/// Takes no memory.
 pub fn write_sha256<W: Write>(
     owner: &Guid,
     digests: &[Digest],
@@ -118,7 +117,7 @@ pub fn write_sha256<W: Write>(
 
 /// Writes one X509_SHA256 list, in the order handed in, or nothing where there is none. Each digest is the
 /// SHA-256 of a TBSCertificate; its TimeOfRevocation, an EFI_TIME, is 16 zero bytes, which revoke the
-/// certificate whenever it signed. Takes no memory.
+/// certificate whenever it signed.
 pub fn write_x509_sha256<W: Write>(
     owner: &Guid,
     digests: &[Digest],
@@ -137,7 +136,7 @@ pub fn write_x509_sha256<W: Write>(
     }
 }
 
-/// Writes one X509 list of one entry, whose body is the certificate in DER. Takes no memory.
+/// Writes one X509 list of one entry, whose body is the certificate in DER.
 pub fn write_x509<W: Write>(
     owner: &Guid,
     certificate: &[u8],

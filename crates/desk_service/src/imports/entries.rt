@@ -1,4 +1,4 @@
-//! What an entry of a signature list is to the desk.
+//! The meaning of an entry of a signature list.
 ghost use Rattle.std.specs.Prelude.{◌≡◌, ◌≤◌, length, take, true};
 ghost use Rattle.sha2.specs.Sha256.{sha256};
 ghost use Rattle.siglist.specs.EntryViews.{seen_entry};

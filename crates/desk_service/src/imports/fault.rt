@@ -1,4 +1,4 @@
-//! Why nothing was imported.
+//! Reasons why an import is refused.
 ghost use Rattle.std.specs.Prelude.{◌≡◌};
 ghost use Rattle.desk_service.specs.imports.Faults.{place_of, refusal_of};
 

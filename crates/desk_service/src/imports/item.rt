@@ -1,4 +1,4 @@
-//! What one entry of an import is to the desk.
+//! One entry of an import.
 use desk_bytes::Digest;
 use sbat::Component;
 
