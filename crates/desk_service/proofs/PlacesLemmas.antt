@@ -1,4 +1,4 @@
--- What the places of a file's parts tell.
+-- Places of a file's parts.
 use Rattle.std.proofs.Common.{◌≡◌, ◌∙◌, ℕ, List, ap, refl}
 use Rattle.pe_image.specs.Image as image
 use Rattle.pe_image.specs.Places.{Places, places_of}

@@ -22,7 +22,7 @@ refusal_of NoMemory = refusal.NoMemory
 abbrev pub read_failed : FactsFault
 read_failed = Read
 
--- own: what a fault of a part is to an image
+-- own: the fault of an image by a fault of a part
 abbrev pub of_part : PartFault → FactsFault
 of_part part.Read = Read
 of_part part.NoMemory = NoMemory

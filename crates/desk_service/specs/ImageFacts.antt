@@ -1,4 +1,4 @@
--- The facts of an image, and what it has none for.
+-- Facts of an image, and the fault for which it has none.
 use Rattle.std.specs.Prelude.{◌≡◌, ℕ, List, length, ⊤}
 use Rattle.sha2.specs.Sha256.{sha256}
 use Rattle.pe_image.specs.Checks.{IsLaid, IsRefused, checks}
@@ -21,7 +21,7 @@ table_bytes f = part_of f (places_of f).table
 abbrev pub sbat_bytes : List ℕ → List ℕ
 sbat_bytes f = part_of f (places_of f).sbat
 
--- what the desk keeps of the file f
+-- the facts of the file f that the desk keeps
 pub record IsFactsOf (f : List ℕ) (x : Facts) : Type 0 where
   pub laid : IsLaid f
   pub length : x.extent.length ≡ length f

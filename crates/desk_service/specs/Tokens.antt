@@ -44,10 +44,10 @@ HasNoToken text = is_token (first_line text) ≡ false
 abbrev pub PassesTokens : List ℕ → Type 0
 PassesTokens text = longest_token < length (first_line text)
 
--- own: what is kept of a line that is a token: its SHA-256 (FIPS 180-4)
+-- own: the SHA-256 (FIPS 180-4) of a line that is a token, which the desk keeps
 abbrev pub kept_of : List ℕ → Option (List ℕ)
 kept_of line = if is_token line then Some (sha256 line) else None
 
--- what is kept of the token in a text: the token is its first line
+-- the SHA-256 of the token in a text, which is its first line, if that is a token
 abbrev pub token_in : List ℕ → Option (List ℕ)
 token_in text = kept_of (first_line text)

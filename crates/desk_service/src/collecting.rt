@@ -1,4 +1,4 @@
-//! The facts of an image.
+//! Facts of an image.
 ghost use Rattle.std.specs.Prelude.{◌≡◌, ◌≤◌, List, length, IfOk, IfErr};
 ghost use Rattle.pe_image.specs.Places.{IsLayoutOf};
 ghost use Rattle.pe_image.specs.Sources.{OnlyReads};
@@ -51,13 +51,10 @@ fn read_components<S: Source>(
 {
     let text = read_part(alloc, source, sbat_range(layout))?;
     let found = components(alloc, &text)?;
-    let Some(components) = Components::new(found) else {
-        unreachable!()
-    };
-    Ok(components)
+    Ok(Components::of(found))
 }
 
-/// What the desk keeps of an image. It reads each piece of 65,536 bytes of the source once, with a
+/// The facts that the desk keeps of an image. It reads each piece of 65,536 bytes of the source once, with a
 /// gap the last range once more, and the headers, the certificate table and the text of `.sbat`
 /// besides; it takes memory for the table and the text and for what they hold.
 ///
@@ -73,9 +70,7 @@ pub fn facts<S: Source>(alloc: Global, source: &mut S) -> Result<Facts, FactsFau
     ensures reads { OnlyReads S.content S.failures source.old source.new }
 {
     let layout = layout(source)?;
-    let Some(extent) = Extent::new(source.len(), gap(&layout)) else {
-        unreachable!()
-    };
+    let extent = Extent::of(source.len(), gap(&layout));
     let hashes = sums(source, &layout)?;
     let carried = read_carried(alloc, source, &layout)?;
     let components = read_components(alloc, source, &layout)?;

@@ -1,4 +1,4 @@
-//! Reasons why an image has no facts.
+//! Refusals of an image.
 ghost use Rattle.std.specs.Prelude.{◌≡◌};
 ghost use Rattle.desk_service.specs.Faults.{of_part, place_of, read_failed, refusal_of};
 ghost use Rattle.desk_service.specs.declared.fault.FactsFault.TheVariants as fact;
@@ -10,13 +10,13 @@ use pe_image::{LayoutFault, ReadFailed};
 use sbat::SbatFault;
 use thiserror::Error;
 
-/// What an image was refused for, or what failed while it was read.
+/// The reason why an image was refused, or the failure while it was read.
 #[derive(Clone, Copy, Debug, PartialEq, Eq, Error)]
 pub enum FactsFault {
     /// It has no layout.
     #[error("the file is no EFI image: {0}")]
     Layout(LayoutFault),
-    /// A read behind the headers failed.
+    /// A read after the headers failed.
     #[error("a read failed")]
     Read,
     /// Its certificates can't be read.

@@ -1,5 +1,5 @@
-//! Imports of revocations: one command of a signature list, a CSV file or the text of an SBAT
-//! level.
+//! Imports: revocations that others publish, as signature lists, a CSV file or the text of an SBAT level, read as one
+//! command.
 
 mod csv_rows;
 mod entries;

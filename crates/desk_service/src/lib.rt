@@ -1,8 +1,9 @@
-//! What the desk is asked, put together from the crates that read.
+//! Inputs of the desk, read and checked: facts of images, tokens of people, imports of revocations (room `imports`).
 #![tactic(auto)]
 
 mod collecting;
 mod fault;
+mod hashing;
 mod imports;
 mod part;
 mod token;

@@ -7,7 +7,7 @@ ghost use Rattle.desk_service.specs.Parts.{IsPartFault, part_of, read_failed};
 use pe_image::{ReadFailed, Source, Span};
 use std::alloc::Global;
 
-/// Why a part isn't in memory.
+/// The reason why a part isn't in memory.
 #[derive(Clone, Copy, Debug, PartialEq, Eq)]
 pub enum PartFault {
     Read,

@@ -7,8 +7,8 @@ ghost use Rattle.sha2.specs.Sha256.{sha256};
 ghost use Rattle.desk_texts.specs.Forms.{is_between};
 ghost use Rattle.desk_service.specs.Tokens as spec;
 
+use crate::hashing::hash_of;
 use desk_bytes::{Digest, InputFault};
-use sha2::{Digest as _, Sha256};
 use std::alloc::Global;
 use std::io::Read;
 
@@ -21,14 +21,14 @@ const LONGEST_TOKEN: usize = 128;
 /// The most bytes that are read of a line: those of the longest token, a CR, and one more.
 const MOST_READ: usize = LONGEST_TOKEN + 2;
 
-/// Whether each byte is a visible character of ASCII.
+/// True if each byte is a visible character of ASCII.
 fn are_visible(text: &[u8]) -> bool
     ensures { result ≡ list_all (is_between 33 126) text.now }
 {
     text.iter().all(|byte| 33 <= *byte && *byte <= 126)
 }
 
-/// Whether the bytes are a token: 16 to 128 of 0x21 to 0x7E.
+/// True if the bytes are a token: 16 to 128 of 0x21 to 0x7E.
 pub fn is_token(text: &[u8]) -> bool
     ensures { result ≡ spec.is_token text.now }
 {
@@ -42,10 +42,10 @@ pub fn is_token(text: &[u8]) -> bool
 pub fn token_digest(token: &[u8]) -> Digest
     ensures { result ≡ sha256 token.now }
 {
-    Digest::from(Sha256::digest(token))
+    hash_of(token)
 }
 
-/// Whether a line's last byte is a CR.
+/// True if a line's last byte is a CR.
 fn ends_in_cr(line: &[u8]) -> bool
     ensures found { IsTrue result → (0 < length line.now)
         × (slice_index line.now (length line.now - 1) ≡ 13) }
@@ -83,7 +83,7 @@ fn next_byte<R: Read>(reader: &mut R) -> Result<Option<u8>, InputFault>
     }
 }
 
-/// Reads the first line of an input, a byte at a time, and no byte behind it. An LF ends it and takes one
+/// Reads the first line of an input, a byte at a time, and no byte after it. An LF ends it and takes one
 /// CR before it along; so does the end of the input, which takes none. TooLong where the line can't be a
 /// token for its length.
 fn read_first_line<R: Read>(alloc: Global, reader: &mut R) -> Result<Vec<u8>, InputFault>
@@ -109,7 +109,7 @@ fn read_first_line<R: Read>(alloc: Global, reader: &mut R) -> Result<Vec<u8>, In
 }
 
 /// Reads a token, the first line of an input, and gives what a desk keeps of it; `None` where that line is
-/// no token. Of the input it takes that line and no byte behind it. Takes memory for the line.
+/// no token. Of the input it takes that line and no byte after it. Takes memory for the line.
 ///
 /// TooLong where the line has more bytes than a token with its CR. Read where the reader failed or was
 /// interrupted: no read is tried again.

@@ -1,4 +1,4 @@
--- What the entries of a list of each kind have to hold (UEFI 2.10, section 32.4.1).
+-- Conditions on the entries of a list of each kind (UEFI 2.10, section 32.4.1).
 use Rattle.std.specs.Prelude.{◌≡◌, ◌≤◌, length}
 use Rattle.siglist.specs.SignatureLists.{Entry}
 use Rattle.siglist.specs.declared.kind.Kind.{Kind}

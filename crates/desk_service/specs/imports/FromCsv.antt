@@ -1,4 +1,4 @@
--- What a CSV file imports (RFC 4180).
+-- Imports of a CSV file (RFC 4180).
 use Rattle.std.specs.Prelude.{◌≡◌, ℕ, ◌+◌, ◌==◌, ⊤, length, codes, List, [], ◌∷◌, Bool, false, Option, None, Result, Ok, Err, IsOkAnd, option_map, if◌then◌else◌, ◌&&◌}
 use Rattle.std.specs.Str.{bytes_eq}
 use Rattle.csv.specs.Reading.{default_config, records, strip_bom}
@@ -32,7 +32,7 @@ is_header _ = false
 abbrev pub digest_at : List ℕ → List ℕ → Option (List ℕ)
 digest_at value generation = if length generation == 0 then digest_of value else None
 
--- own: what the fields of a record are: `sha256` is a digest of an image, `x509_sha256` the SHA-256 of a TBSCertificate,
+-- own: the entry that a record is by its fields: `sha256` is a digest of an image, `x509_sha256` the SHA-256 of a TBSCertificate,
 -- `sbat` a component's name, other than `sbat`, with its generation
 unfoldable pub fields_item : List ℕ → List ℕ → List ℕ → Option Item
 fields_item kind value generation =
@@ -62,7 +62,7 @@ pub record IsCsvImport (text : List ℕ) (stamp : Option ℕ) (command : Command
   pub read : items_in (records_of text) ≡ Ok items
   pub is : IsCommandOf stamp items command
 
--- own: what was read of a file, or the number of its first wrong record, is refused for this; TooLong only where no
+-- own: the entries read of a file, or the number of its first wrong record, are refused for this; TooLong only where no
 -- record is wrong
 abbrev pub IsRefused : Result (List Item) ℕ → ImportFault → Type 0
 IsRefused read (fault.Lists why) = ⊥

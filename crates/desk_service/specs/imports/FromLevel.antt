@@ -1,4 +1,4 @@
--- What the text of an SBAT level imports (shim's SBAT.md).
+-- Imports of the text of an SBAT level (shim's SBAT.md).
 use Rattle.std.specs.Prelude.{ℕ, map, ⊤, List, Some}
 use Rattle.std.specs.FinMap.{entries}
 use Rattle.sbat.specs.Levels.{Stamped}

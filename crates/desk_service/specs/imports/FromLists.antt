@@ -1,4 +1,4 @@
--- What signature lists import (UEFI 2.10, section 32.4.1).
+-- Imports of signature lists (UEFI 2.10, section 32.4.1).
 use Rattle.std.specs.Prelude.{ℕ, ◌==◌, ◌&&◌, length, map, take, ⊤, List, Option, Some, None, if◌then◌else◌}
 use Rattle.std.specs.List.{flat_map}
 use Rattle.sha2.specs.Sha256.{sha256}
@@ -36,8 +36,8 @@ abbrev pub certificate_item : Option (List ℕ) → Item
 certificate_item None = item.Passed
 certificate_item (Some tbs) = item.Certificate (sha256 tbs)
 
--- own: what an entry of a list of this kind is: of EFI_CERT_X509_SHA256_GUID the digest counts, not the time of
--- revocation behind it; entries of other kinds are passed over
+-- own: the entry of a list of this kind, as the desk takes it: of EFI_CERT_X509_SHA256_GUID the digest counts, not the time of
+-- revocation after it; entries of other kinds are passed over
 abbrev pub item_of : Kind → Entry → Item
 item_of kind.Sha256 entry = item.Digest entry.body
 item_of kind.X509 entry = certificate_item (tbs_of entry.body)

@@ -1,4 +1,4 @@
--- What was gathered of entries so far.
+-- Entries gathered so far.
 use Rattle.std.specs.Prelude.{◌≡◌, ℕ, ◌+◌, ◌≤◌, min, not, length, true, bytes_eq, Bool, List, None}
 use Rattle.sbat.specs.Fields.{sbat}
 use Rattle.desk_texts.specs.Forms.{most_imported}
@@ -12,14 +12,14 @@ pub record Gathering : Type 0 where
   pub count : ℕ
   pub names : Imported
 
--- whether an entry doesn't raise the generation of SBAT itself
+-- an entry that doesn't raise the generation of SBAT itself
 abbrev pub is_free : Item → Bool
 is_free (item.Digest digest) = true
 is_free (item.Certificate digest) = true
 is_free (item.Component component) = not (bytes_eq component.name sbat)
 is_free item.Passed = true
 
--- what was gathered of these entries: their count, up to one more than the limit, and what they name unless the limit
+-- these entries, gathered: their count, up to one more than the limit, and what they name unless the limit
 -- is passed
 pub record Gathers (items : List Item) (g : Gathering) : Type 0 where
   pub count : g.count ≡ min (length items) (most_imported + 1)

@@ -30,14 +30,14 @@ component_in (item.Certificate digest) = []
 component_in (item.Component component) = component ∷ []
 component_in item.Passed = []
 
--- whether an entry is passed over
+-- an entry that is passed over
 abbrev pub is_passed : Item → Bool
 is_passed (item.Digest digest) = false
 is_passed (item.Certificate digest) = false
 is_passed (item.Component component) = false
 is_passed item.Passed = true
 
--- own: what entries name: those of each kind in their order, repeats kept, and how many are passed over
+-- own: the import that entries make: those of each kind in their order, repeats kept, and how many are passed over
 abbrev pub named_by : Option ℕ → List Item → Imported
 named_by stamp items = record {
   stamp = stamp;

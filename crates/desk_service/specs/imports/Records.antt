@@ -22,7 +22,7 @@ pub record Leaves {R : Type 0} (remaining : R → Option (List ℕ)) (reader : R
   pub enough : length text < most
   pub are : rows ≡ records_from default_config most reader.state text
 
--- what a read of a reader that had these records left found: the first of them, or none; NoMemory may come at any time
+-- the outcome of a read where the reader had these records left: the first of them, or none; NoMemory may come at any time
 abbrev pub Reads : {R : Type 0} → (R → Option (List ℕ)) → Next → Record → List Record → Reader R → Type 0
 Reads remaining next.Record row rows reader = (rest : List Record) × (rows ≡ row ∷ rest) × Leaves remaining reader rest
 Reads remaining next.End row rows reader = rows ≡ []

@@ -17,7 +17,7 @@ pub(crate) fn rows_of(alloc: Global, text: &[u8]) -> Reader<&[u8]>
         .from_reader(alloc, text)
 }
 
-/// What a read of the next record found.
+/// The outcome of a read of the next record.
 #[derive(Clone, Copy, Debug, PartialEq, Eq)]
 pub(crate) enum Next {
     Record,
@@ -25,7 +25,7 @@ pub(crate) enum Next {
     NoMemory,
 }
 
-/// Reads the next record into `row`. A slice doesn't fail, so an error is want of memory.
+/// Reads the next record into `row`. Reading a slice never fails, so an error means that memory was refused.
 pub(crate) fn read_next(reader: &mut Reader<&[u8]>, row: &mut ByteRecord) -> Next
     ensures { (rows : List Record) → Leaves (λ s. Some s.now) reader.old rows
         → Reads (λ s. Some s.now) result (fields_of row.new) rows reader.new }

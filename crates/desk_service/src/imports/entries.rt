@@ -1,14 +1,13 @@
-//! The meaning of an entry of a signature list.
+//! Entries of signature lists, as the desk takes them.
 ghost use Rattle.std.specs.Prelude.{◌≡◌, ◌≤◌, length, take, true};
-ghost use Rattle.sha2.specs.Sha256.{sha256};
 ghost use Rattle.siglist.specs.EntryViews.{seen_entry};
 ghost use Rattle.desk_service.specs.imports.Entries as spec;
 ghost use Rattle.desk_service.specs.imports.FromLists as items;
 ghost use Rattle.desk_service.specs.imports.Gathering.{is_free};
 
+use crate::hashing::hash_of;
 use crate::imports::item::Item;
 use desk_bytes::{Digest, tbs};
-use sha2::{Digest as _, Sha256};
 use siglist::{Entry, Kind};
 
 /// The digest in the first 32 bytes.
@@ -22,13 +21,6 @@ fn first_digest(bytes: &[u8]) -> Digest
     Digest::from(digest)
 }
 
-/// The SHA-256 of some bytes.
-fn hash_of(bytes: &[u8]) -> Digest
-    ensures { result ≡ sha256 bytes.now }
-{
-    Digest::from(Sha256::digest(bytes))
-}
-
 /// The SHA-256 of the TBSCertificate of the certificate that the bytes are, or nothing of other
 /// bytes.
 fn certificate_item(bytes: &[u8]) -> Item
@@ -40,7 +32,7 @@ fn certificate_item(bytes: &[u8]) -> Item
     }
 }
 
-/// What an entry of a list of this kind is.
+/// The entry of a list of this kind, as the desk takes it.
 pub(crate) fn item_of(kind: &Kind, entry: &Entry<'_>) -> Item
     requires { spec.Suits kind.now (seen_entry entry.now) }
     ensures value { result ≡ items.item_of kind.now (seen_entry entry.now) }

@@ -1,4 +1,4 @@
-//! Reasons why an import is refused.
+//! Refusals of an import.
 ghost use Rattle.std.specs.Prelude.{◌≡◌};
 ghost use Rattle.desk_service.specs.imports.Faults.{place_of, refusal_of};
 
@@ -6,7 +6,7 @@ use desk_bytes::Refusal;
 use siglist::ListsFault;
 use thiserror::Error;
 
-/// What an import was refused for.
+/// The reason why an import was refused.
 #[derive(Clone, Copy, Debug, PartialEq, Eq, Error)]
 pub enum ImportFault {
     /// The bytes are no row of signature lists.

@@ -1,5 +1,5 @@
 //! SBAT levels imported.
-ghost use Rattle.std.specs.Prelude.{◌≡◌, IfErr, IfOk, IfSome, true};
+ghost use Rattle.std.specs.Prelude.{◌≡◌, IfErr, IfOk, IfSome, MatchResult, true};
 ghost use Rattle.sbat.specs.Fields.{is_name};
 ghost use Rattle.desk_service.specs.imports.FromLevel.{IsLevelImport, RefusesLevelImport, level_items};
 ghost use Rattle.desk_service.specs.imports.Gathering.{Gathers};
@@ -11,17 +11,15 @@ use desk_texts::Command;
 use sbat::{Component, ComponentName, Generation, Level, NameFault, SbatFault, read_level};
 use std::alloc::Global;
 
-/// The component of a name, or nothing where memory was refused.
-fn component_of(alloc: Global, name: &str, generation: Generation) -> Option<Component>
+/// The component of this name.
+fn component_of(alloc: Global, name: &str, generation: Generation) -> Result<Component, NameFault>
     requires { is_name name.now ≡ true }
-    ensures { IfSome result (λ component.
-        component ≡ record { name = name.now; generation = generation }) }
+    ensures { MatchResult result
+        (λ component. component ≡ record { name = name.now; generation = generation })
+        (λ fault. fault ≡ NameFault.NoMemory) }
 {
-    match ComponentName::parse(alloc, name.as_bytes()) {
-        Ok(name) => Some(Component { name, generation }),
-        Err(NameFault::Form) => unreachable!(),
-        Err(NameFault::NoMemory) => None,
-    }
+    let name = ComponentName::parse(alloc, name.as_bytes())?;
+    Ok(Component { name, generation })
 }
 
 /// Gathers the names of a level, or nothing where memory was refused.
@@ -30,7 +28,7 @@ fn gather(alloc: Global, level: &Level) -> Option<Gathered>
 {
     let mut gathered = Gathered::new(alloc);
     for (name, generation) in level.iter() {
-        let Some(component) = component_of(alloc, name, generation) else {
+        let Ok(component) = component_of(alloc, name, generation) else {
             return None;
         };
         if gathered.keep(Item::Component(component)).is_err() {
@@ -63,6 +61,6 @@ pub fn import_level(alloc: Global, text: &[u8]) -> Result<Command, ImportFault>
     };
     match gathered.into_command(Some(level.stamp())) {
         Some(command) => Ok(command),
-        None => unreachable!(),
+        None => Err(ImportFault::TooLong),
     }
 }

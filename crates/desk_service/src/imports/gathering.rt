@@ -79,8 +79,7 @@ impl Gathered {
         Ok(())
     }
 
-    /// The command that names all entries, or `None` where they are more than the limit. Takes no
-    /// memory.
+    /// The command that names all entries, or `None` where they are more than the limit.
     pub(crate) fn into_command(self, stamp: Option<Stamp>) -> Option<Command>
         ensures { (items : List Item) → Gathers items self
             → MatchOption result (IsTooMany items) (IsCommandOf stamp items) }

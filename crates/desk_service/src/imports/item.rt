@@ -1,8 +1,8 @@
-//! One entry of an import.
+//! Entries of an import.
 use desk_bytes::Digest;
 use sbat::Component;
 
-/// What one entry of an import is to the desk.
+/// One entry of an import, as the desk takes it.
 #[derive(Debug, Drop)]
 pub(crate) enum Item {
     /// The digest of an image.

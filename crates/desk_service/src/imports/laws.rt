@@ -6,8 +6,7 @@ ghost use Rattle.desk_service.specs.imports.FromCsv.{IsCsvImport};
 ghost use Rattle.desk_service.specs.imports.FromLevel.{IsLevelImport};
 ghost use Rattle.desk_service.specs.imports.FromLists.{IsDbxImport, tbs_of};
 
-/// What `tbs_of` reads of bytes is the TBSCertificate of the certificate that they are, and it
-/// reads that of each.
+/// `tbs_of` reads the TBSCertificate of each certificate, and nothing of other bytes.
 pub fn tbs_is_read()
     ensures found { (b t : List ℕ) → tbs_of b ≡ Some t → IsCertificate b t }
     ensures each { (b t : List ℕ) → IsCertificate b t → tbs_of b ≡ Some t }

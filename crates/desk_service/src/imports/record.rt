@@ -21,18 +21,18 @@ fn three_fields(row: &ByteRecord) -> Option<(&[u8], &[u8], &[u8])>
         return None;
     }
     let Some(kind) = row.get(0) else {
-        unreachable!()
+        return None;
     };
     let Some(value) = row.get(1) else {
-        unreachable!()
+        return None;
     };
     let Some(generation) = row.get(2) else {
-        unreachable!()
+        return None;
     };
     Some((kind, value, generation))
 }
 
-/// Whether a record is the header, `kind,value,generation`.
+/// True if a record is the header, `kind,value,generation`.
 pub(crate) fn is_header(row: &ByteRecord) -> bool
     ensures { result ≡ spec.is_header (fields_of row.now) }
 {
@@ -81,7 +81,7 @@ fn read_component(alloc: Global, name: &[u8], generation: &[u8]) -> Result<Compo
     Ok(Component { name, generation })
 }
 
-/// What three fields are, or Form.
+/// The entry that three fields are, or Form.
 #[tactic(auto, unfolding(crate::specs::imports::FromCsv::fields_item))]
 fn read_fields(
     alloc: Global,
@@ -117,7 +117,7 @@ fn read_fields(
     }
 }
 
-/// What a record is, or Form.
+/// The entry that a record is, or Form.
 pub(crate) fn read_record(alloc: Global, row: &ByteRecord) -> Result<Item, NameFault>
     ensures ok { IfOk result (λ item. spec.record_item (fields_of row.now) ≡ Some item) }
     ensures other { IfOk result (λ item. is_free item ≡ true) }

@@ -8,4 +8,4 @@ loop-name-init c =
 
 pub loop-name-preserved : goal.loop-name-preserved
 loop-name-preserved c =
-    Naming-next _ _ _ (c.in-Some.name.now, c.in-Some.generation) _ _ _ c.loop-name.invariant c.in-Some.ensures.steps c.in-Some-component_of.ensures (search rules)
+    Naming-next _ _ _ (c.in-Some.name.now, c.in-Some.generation) _ _ _ c.loop-name.invariant c.in-Some.ensures.steps c.in-Ok.ensures (search rules)
