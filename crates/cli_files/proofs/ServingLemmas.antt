@@ -4,7 +4,7 @@ use Rattle.std.specs.Prelude.{IfErr}
 use Rattle.desk_bytes.specs.declared.refusal.Refusal.{Refusal}
 use Rattle.desk_bytes.specs.declared.refusal.Refusal.TheVariants as refusals
 use Rattle.cli_lines.specs.declared.fault.Fault.{Fault}
-use Rattle.http_net.specs.Faults.{IsServingRefusal, IsToldRefusal}
+use Rattle.http_net.specs.Faults.{IsAnsweringRefusal, IsServingRefusal}
 use Rattle.cli_files.specs.Faults.{IsOfOpening, IsOpeningRefusal}
 use Rattle.desk_history.specs.DecisionRefusals.{may_answer}
 use Rattle.cli_commands.specs.Faults.{IsAddingRefusal, IsRow, IsWritingRefusal}
@@ -30,23 +30,23 @@ served_apart refusal (inl (inr o)) (inr v) = let bad : refusals.Reopen ≡ refus
 served_apart refusal (inr r) (inl n) = let bad : refusals.Read ≡ refusals.NotADesk = sym r ∙ n in absurd (cc)
 served_apart refusal (inr r) (inr v) = let bad : refusals.Read ≡ refusals.Version = sym r ∙ v in absurd (cc)
 
-pub told_apart : {X : Type 0} (refusal : Refusal) → IsToldRefusal refusal → IsOfOpening refusal → X
-told_apart refusal (inl lasting) opening = served_apart refusal (inl lasting) opening
-told_apart refusal (inr (inl r)) opening = served_apart refusal (inr r) opening
-told_apart refusal (inr (inr (inl w))) (inl n) = let bad : refusals.Write ≡ refusals.NotADesk = sym w ∙ n in absurd (cc)
-told_apart refusal (inr (inr (inl w))) (inr v) = let bad : refusals.Write ≡ refusals.Version = sym w ∙ v in absurd (cc)
-told_apart refusal (inr (inr (inr m))) (inl n) = let bad : refusals.NoMemory ≡ refusals.NotADesk = sym m ∙ n in absurd (cc)
-told_apart refusal (inr (inr (inr m))) (inr v) = let bad : refusals.NoMemory ≡ refusals.Version = sym m ∙ v in absurd (cc)
+pub answering_apart : {X : Type 0} (refusal : Refusal) → IsAnsweringRefusal refusal → IsOfOpening refusal → X
+answering_apart refusal (inl lasting) opening = served_apart refusal (inl lasting) opening
+answering_apart refusal (inr (inl r)) opening = served_apart refusal (inr r) opening
+answering_apart refusal (inr (inr (inl w))) (inl n) = let bad : refusals.Write ≡ refusals.NotADesk = sym w ∙ n in absurd (cc)
+answering_apart refusal (inr (inr (inl w))) (inr v) = let bad : refusals.Write ≡ refusals.Version = sym w ∙ v in absurd (cc)
+answering_apart refusal (inr (inr (inr m))) (inl n) = let bad : refusals.NoMemory ≡ refusals.NotADesk = sym m ∙ n in absurd (cc)
+answering_apart refusal (inr (inr (inr m))) (inr v) = let bad : refusals.NoMemory ≡ refusals.Version = sym m ∙ v in absurd (cc)
 
 pub adding_apart : {X : Type 0} (refusal : Refusal) → IsAddingRefusal refusal → IsOfOpening refusal → X
 adding_apart refusal (inl o) opening = served_apart refusal (inl (inr o)) opening
 adding_apart refusal (inr (inl (inl told))) (inl n) = let bad : IsTrue false = subst (λ r. IsTrue (may_answer r)) n told in absurd (cc)
 adding_apart refusal (inr (inl (inl told))) (inr v) = let bad : IsTrue false = subst (λ r. IsTrue (may_answer r)) v told in absurd (cc)
 adding_apart refusal (inr (inl (inr s))) opening = served_apart refusal (inl (inl s)) opening
-adding_apart refusal (inr (inr w)) opening = told_apart refusal (inr (inr (inl w))) opening
+adding_apart refusal (inr (inr w)) opening = answering_apart refusal (inr (inr (inl w))) opening
 
 pub writing_apart : {X : Type 0} (refusal : Refusal) → IsWritingRefusal refusal → IsOfOpening refusal → X
 writing_apart refusal (inl o) opening = served_apart refusal (inl (inr o)) opening
-writing_apart refusal (inr (inl (inl m))) opening = told_apart refusal (inr (inr (inr m))) opening
+writing_apart refusal (inr (inl (inl m))) opening = answering_apart refusal (inr (inr (inr m))) opening
 writing_apart refusal (inr (inl (inr s))) opening = served_apart refusal (inl (inl s)) opening
-writing_apart refusal (inr (inr w)) opening = told_apart refusal (inr (inr (inl w))) opening
+writing_apart refusal (inr (inr w)) opening = answering_apart refusal (inr (inr (inl w))) opening

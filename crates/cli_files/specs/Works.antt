@@ -20,7 +20,7 @@ use Rattle.desk_http.specs.declared.served.Served.{Served}
 use Rattle.cli_lines.specs.Faults.{row_of}
 use Rattle.cli_lines.specs.VerdictLines.{verdict_line}
 use Rattle.cli_lines.specs.declared.fault.Fault.{Fault}
-use Rattle.http_net.specs.Served.{told_of}
+use Rattle.http_net.specs.Served as served
 use Rattle.http_net.specs.Turns.{ServesInTurn}
 use Rattle.http_net.specs.Wire.{IsOneRequest}
 use Rattle.desk_rules.specs.Decisions.{called}
@@ -67,8 +67,8 @@ abbrev pub work_of : Result Unit Refusal → Result Outcome Fault
 work_of (Ok served) = Ok Done
 work_of (Err refusal) = Err (row_of refusal)
 
--- one request of an input was answered, as `answer` of http_net promises it: what was asked for, at which history, and what is
--- written of it
+-- one request of an input was answered, as `answer_connection` of http_net promises it: what was asked for, at which
+-- history, and what is written of it
 pub record AnswersOne {D : Type 0} (shows : D → List ℕ → History → Type 0) (clean failed : D → Type 0) (input before after : Option (List ℕ)) (old new : D) (came : Result Served HttpFault) : Type 0 where
   pub answered : clean new → IsAnswered (shows old) (shows new) (failed new) input before after came
   pub nothing : clean new → IsPassedOver (shows old) (shows new) input before after came
@@ -77,7 +77,7 @@ pub record AnswersOne {D : Type 0} (shows : D → List ℕ → History → Type 
 
 -- the same, as a subcommand's work
 abbrev pub WorksOnce : {D : Type 0} → (D → D → Result Served HttpFault → Type 0) → D → D → Result Outcome Fault → Type 0
-WorksOnce answers old new work = (came : Result Served HttpFault) × (work ≡ work_of (told_of came)) × answers old new came
+WorksOnce answers old new work = (came : Result Served HttpFault) × (work ≡ work_of (served.outcome_of came)) × answers old new came
 
 -- so many connections were served in turn, as `ServesInTurn` has it; or the port couldn't be had, and the desk is as it was
 abbrev pub ServesPort : {D : Type 0} → (D → D → Result Served HttpFault → Type 0) → ℕ → D → D → Result Unit Refusal → Type 0

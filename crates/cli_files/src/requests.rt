@@ -1,7 +1,7 @@
 //! Requests over HTTP to the desk in a file.
 ghost use Rattle.std.specs.Prelude.{◌≡◌, ◌⊎◌, None, IfErr, IfOk, IfSome};
 ghost use Rattle.std.specs.Io.KnownBytes.{Keeps};
-ghost use Rattle.http_net.specs.Faults.{IsServingRefusal, IsToldRefusal};
+ghost use Rattle.http_net.specs.Faults.{IsAnsweringRefusal, IsServingRefusal};
 ghost use Rattle.http_net.specs.Wire.{IsOneRequest};
 ghost use Rattle.cli_files.specs.Faults.{IsLasting, IsOfOpening, IsOpeningRefusal};
 ghost use Rattle.cli_files.specs.Works.{AnswersOnce, AnswersOne, AtADesk, IsUnopened, Serves};
@@ -15,7 +15,7 @@ use desk_answers::OpenDesk;
 use desk_bytes::Refusal;
 use desk_calls::Answering;
 use desk_store::Desk;
-use http_net::{answer, listen, serve, told};
+use http_net::{answer_connection, listen, outcome, serve};
 use sqlite::{File, FileStore};
 use sqlite_disk::Disk;
 use std::alloc::Global;
@@ -31,9 +31,9 @@ fn answer_one<D: Answering, R: Read + Drop, W: Write>(
     ensures answered { WorksOnce (AnswersOne D.shows D.clean D.failed (R.remaining reader)
         (W.contents writer.old) (W.contents writer.new)) desk.old desk.new result }
     ensures done { IfOk result (λ outcome. outcome ≡ Outcome.Done) }
-    ensures named { IfErr result (IsRow IsToldRefusal) }
+    ensures named { IfErr result (IsRow IsAnsweringRefusal) }
 {
-    match told(answer(alloc, desk, reader, writer)) {
+    match outcome(answer_connection(alloc, desk, reader, writer)) {
         Ok(()) => Ok(Outcome::Done),
         Err(refusal) => Err(Fault::from(refusal)),
     }
@@ -49,7 +49,7 @@ fn answer_at<D: Disk + Drop, R: Read + Drop, W: Write>(
     ensures answered { AnswersOnce D.Disk (R.remaining reader)
         (W.contents writer.old) (W.contents writer.new) result desk }
     ensures done { IfOk result.work (λ outcome. outcome ≡ Outcome.Done) }
-    ensures named { IfErr result.work (IsRow IsToldRefusal) }
+    ensures named { IfErr result.work (IsRow IsAnsweringRefusal) }
     ensures closing { IfSome result.closing (IsRow IsClosingRefusal) }
     ensures let_go { IfErr result.work (λ fault. IsLasting fault.refusal → result.closing ≡ None) }
 {
@@ -59,8 +59,8 @@ fn answer_at<D: Disk + Drop, R: Read + Drop, W: Write>(
 }
 
 /// Answers one request of the reader, for the desk in a file; where the reader has no byte, nothing is written.
-/// Whatever the response is, the work is done, unless the desk has to be opened again after it: then it is told
-/// as Store or Reopen.
+/// Whatever the response is, the work is done, unless the desk has to be opened again after it: then Store or
+/// Reopen is given.
 ///
 /// First the faults of the desk's file, as `add_person` has them. Read, NoMemory: the request wasn't read. Write:
 /// a beginning of the response was written, and what it answered stays.
@@ -75,7 +75,7 @@ pub fn answer_from<R: Read + Drop, W: Write>(
         (W.contents writer.old) (W.contents writer.new) result) }
     ensures done { IfOk result.work (λ outcome. outcome ≡ Outcome.Done) }
     ensures named { IfErr result.work (IsRow (λ refusal.
-        IsOpeningRefusal refusal ⊎ IsToldRefusal refusal)) }
+        IsOpeningRefusal refusal ⊎ IsAnsweringRefusal refusal)) }
     ensures first { IfErr result.work (λ fault. IsOfOpening fault.refusal
         → (result.closing ≡ None) × Keeps (W.contents writer.old) (W.contents writer.new)) }
     ensures closing { IfSome result.closing (IsRow IsClosingRefusal) }

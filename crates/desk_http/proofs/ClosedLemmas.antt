@@ -147,7 +147,7 @@ told_closed input a told closed (inr x) = record {
 -- what went out
 pub responds_closed : (input before after : Option (List ℕ)) (a : Answer) (r : Result Served HttpFault)
     → TellsClosed input a → SendsFor before after a r → RespondsClosed input before after r
-responds_closed input before after a (Ok (Answered code number)) closed sent = record {
+responds_closed input before after a (Ok (Answered answered)) closed sent = record {
   answered = (sent.0, sent.2, told_closed input a sent.0 closed sent.1);
   unwritten = tt;
 }

@@ -1,14 +1,15 @@
 -- What went out, and what was served by it.
-use Rattle.std.proofs.Common.{◌≡◌, ℕ, List, sym, Option, Some, None, Result, Ok, Err, IfSome, MatchResult}
+use Rattle.std.proofs.Common.{◌≡◌, ◌∙◌, ℕ, List, sym, Option, Some, None, Result, Ok, Err, IfSome, MatchResult}
 use Rattle.std.specs.Io.KnownBytes.{Appends}
 use Rattle.desk_bytes.specs.Output.{AppendsBeginning}
 use Rattle.desk_history.specs.Calls.{History}
 use Rattle.desk_calls.specs.Answers.{Serves}
 use Rattle.desk_calls.specs.Desks.{ForEachShown}
 use Rattle.desk_calls.specs.declared.answers.Answer.{Answer}
-use Rattle.desk_http.specs.Responses.{response_of}
-use Rattle.desk_http.specs.Sending.{IsToldBy, Replaces, Sends}
+use Rattle.desk_http.specs.Responses.{answered_of, response_of}
+use Rattle.desk_http.specs.Sending.{Replaces, Sends}
 use Rattle.desk_http.specs.Serving.{AnswersInput, Responds, AnswersDueOrOutage, WhenAnswered, WhenUnwritten}
+use Rattle.desk_http.specs.declared.served.Answered as said
 use Rattle.desk_http.specs.declared.served.HttpFault.{HttpFault}
 use Rattle.desk_http.specs.declared.served.HttpFault.TheVariants.{Read, Write, NoMemory}
 use Rattle.desk_http.specs.declared.served.Served.{Served}
@@ -16,18 +17,18 @@ use Rattle.desk_http.specs.declared.served.Served.TheVariants.{Answered, Nothing
 use Rattle.desk_http.proofs.TellLemmas.{told_is_served}
 
 -- the bytes of a response were sent, or a beginning of them
-pub sends_response : (old new : Option (List ℕ)) (a : Answer) (bytes : List ℕ) (told : Served) (r : Result Served HttpFault)
-    → IsToldBy a told → bytes ≡ response_of a
-    → MatchResult r (λ served. (served ≡ told) × Appends old new bytes) (λ fault. (fault ≡ Write) × AppendsBeginning old new bytes)
+pub sends_response : (old new : Option (List ℕ)) (a : Answer) (bytes : List ℕ) (says : said.Answered) (r : Result Served HttpFault)
+    → says ≡ answered_of a → bytes ≡ response_of a
+    → MatchResult r (λ served. (served ≡ Answered says) × Appends old new bytes) (λ fault. (fault ≡ Write) × AppendsBeginning old new bytes)
     → Sends old new a r
-sends_response old new a bytes told (Ok (Answered code number)) says e sent = record {
-  written = rw (sym e) sent.1;
-  told = rw (sym sent.0) at says;
-}
-sends_response old new a bytes told (Ok Nothing) says e sent = rw (sym sent.0) at says
-sends_response old new a bytes told (Err Read) says e sent = let same : Read ≡ Write = sent.0 in cc
-sends_response old new a bytes told (Err Write) says e sent = rw (sym e) sent.1
-sends_response old new a bytes told (Err NoMemory) says e sent = let same : NoMemory ≡ Write = sent.0 in cc
+sends_response old new a bytes says (Ok (Answered answered)) is e sent =
+    let same : Answered answered ≡ Answered says = sent.0 in
+    let inner : answered ≡ says = cc in
+    record { written = rw (sym e) sent.1; says = inner ∙ is }
+sends_response old new a bytes says (Ok Nothing) is e sent = let same : Nothing ≡ Answered says = sent.0 in cc
+sends_response old new a bytes says (Err Read) is e sent = let same : Read ≡ Write = sent.0 in cc
+sends_response old new a bytes says (Err Write) is e sent = rw (sym e) sent.1
+sends_response old new a bytes says (Err NoMemory) is e sent = let same : NoMemory ≡ Write = sent.0 in cc
 
 -- the response went out, or a beginning of it, of the answer that is told in this one's place
 abbrev pub SendsFor : (before after : Option (List ℕ)) → Answer → Result Served HttpFault → Type 0
@@ -40,12 +41,12 @@ ServesKnown known old new failed a =
 
 pub answered_is_told : (known before after : Option (List ℕ)) (old new : List ℕ → History → Type 0) (failed : Type 0) (a : Answer) (r : Result Served HttpFault)
     → ServesKnown known old new failed a → SendsFor before after a r
-    → WhenAnswered r (λ code number. IfSome known (λ b. ForEachShown old (λ owner cs. (told : Answer)
-    × Responds before after told code number × AnswersDueOrOutage (new owner) failed cs (AnswersInput owner cs b) told)))
+    → WhenAnswered r (λ answered. IfSome known (λ b. ForEachShown old (λ owner cs. (told : Answer)
+    × Responds before after told answered × AnswersDueOrOutage (new owner) failed cs (AnswersInput owner cs b) told)))
 answered_is_told known before after old new failed a (Err fault) served sent = tt
 answered_is_told known before after old new failed a (Ok Nothing) served sent = tt
-answered_is_told None before after old new failed a (Ok (Answered code number)) served sent = tt
-answered_is_told (Some b) before after old new failed a (Ok (Answered code number)) served sent = λ owner cs shown.
+answered_is_told None before after old new failed a (Ok (Answered answered)) served sent = tt
+answered_is_told (Some b) before after old new failed a (Ok (Answered answered)) served sent = λ owner cs shown.
     (sent.0, sent.2, told_is_served (new owner) failed cs (AnswersInput owner cs b) a sent.0 (served owner cs shown) sent.1)
 
 pub unwritten_is_told : (known before after : Option (List ℕ)) (old new : List ℕ → History → Type 0) (failed : Type 0) (a : Answer) (r : Result Served HttpFault)
@@ -60,7 +61,7 @@ unwritten_is_told (Some b) before after old new failed a (Err Write) served sent
     (sent.0, sent.2, told_is_served (new owner) failed cs (AnswersInput owner cs b) a sent.0 (served owner cs shown) sent.1)
 
 pub response_is_told : (before after : Option (List ℕ)) (a : Answer) (r : Result Served HttpFault) → SendsFor before after a r
-    → WhenAnswered r (λ code number. (told : Answer) × Responds before after told code number)
+    → WhenAnswered r (λ answered. (told : Answer) × Responds before after told answered)
 response_is_told before after a (Err fault) sent = tt
 response_is_told before after a (Ok Nothing) sent = tt
-response_is_told before after a (Ok (Answered code number)) sent = (sent.0, sent.2)
+response_is_told before after a (Ok (Answered answered)) sent = (sent.0, sent.2)

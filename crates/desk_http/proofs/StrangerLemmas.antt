@@ -70,7 +70,7 @@ input_leaves (unread.Outage o) holds h = absurd h
 -- what is left of an input is left whatever became of its response
 pub leaves_strangers : (old : List ℕ → History → Type 0) (input left : Option (List ℕ)) (r : Result Served HttpFault)
     → LeavesBody old input left → LeavesStrangers old input left r
-leaves_strangers old input left (Ok (Answered code number)) h = (h, tt)
+leaves_strangers old input left (Ok (Answered answered)) h = (h, tt)
 leaves_strangers old input left (Ok Nothing) h = (tt, tt)
 leaves_strangers old input left (Err http.Read) h = (tt, tt)
 leaves_strangers old input left (Err http.Write) h = (tt, h)
@@ -78,7 +78,7 @@ leaves_strangers old input left (Err http.NoMemory) h = (tt, tt)
 
 -- an input that has a byte has it whatever became of its response
 pub is_of_bytes : (input : Option (List ℕ)) (r : Result Served HttpFault) → HasByte input → IsOfBytes input r
-is_of_bytes input (Ok (Answered code number)) h = (h, tt)
+is_of_bytes input (Ok (Answered answered)) h = (h, tt)
 is_of_bytes input (Ok Nothing) h = (tt, tt)
 is_of_bytes input (Err http.Read) h = (tt, tt)
 is_of_bytes input (Err http.Write) h = (tt, h)

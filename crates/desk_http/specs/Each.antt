@@ -1,9 +1,10 @@
 -- own: what inputs are answered that come one after another.
-use Rattle.std.specs.Prelude.{◌≡◌, ◌⊎◌, ◌==◌, ◌||◌, ℕ, Bool, List, [], ◌∷◌, ◌++◌, Option}
+use Rattle.std.specs.Prelude.{◌≡◌, ◌⊎◌, ℕ, Bool, true, false, List, [], ◌∷◌, ◌++◌, Option, Some}
 use Rattle.std.specs.Io.KnownBytes.{Appends}
-use Rattle.desk_bytes.specs.Refusals.{number_of}
-use Rattle.desk_bytes.specs.declared.refusal.Refusal.TheVariants as refusal
 use Rattle.desk_history.specs.Calls.{History}
+use Rattle.http_responses.specs.declared.outage.Outage.TheVariants as outage
+use Rattle.http_responses.specs.declared.refused.Refused.{Refused}
+use Rattle.http_responses.specs.declared.refused.Refused.TheVariants as refused
 use Rattle.desk_calls.specs.Desks.{ForEachShown}
 use Rattle.desk_calls.specs.declared.answers.Answer.{Answer}
 use Rattle.desk_http.specs.Responses.{response_of}
@@ -22,9 +23,11 @@ RespondsToEach owner cs (b ∷ bs) text last =
     (one : List ℕ) × (rest : List ℕ) × (later : History)
     × RespondsTo owner cs b one later × (text ≡ one ++ rest) × RespondsToEach owner later bs rest last
 
--- the number tells that memory or the store failed
-abbrev pub is_outage_number : ℕ → Bool
-is_outage_number n = (n == number_of refusal.NoMemory) || (n == number_of refusal.Store)
+-- what a request is refused for is that memory or the store failed
+abbrev pub has_failed : Option Refused → Bool
+has_failed (Some (refused.Unavailable outage.NoMemory)) = true
+has_failed (Some (refused.Unavailable outage.Store)) = true
+has_failed _ = false
 
 -- the desk answered inputs one after another, and their responses went out
 abbrev pub ServesEach : (old new : List ℕ → History → Type 0) → (before after : Option (List ℕ)) → List (List ℕ) → Type 0

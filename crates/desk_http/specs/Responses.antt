@@ -3,19 +3,20 @@ use Rattle.std.specs.Prelude.{◌≡◌, ℕ, List, [], Option, Some, None, Vec}
 use Rattle.std.specs.declared.alloc.Global.{Global}
 use Rattle.serde_json.specs.Data.{Data}
 use Rattle.serde_json.specs.Written.{compact_text}
-use Rattle.desk_bytes.specs.Refusals as rows
 use Rattle.http_responses.specs.json.Proposals.{proposals_data}
 use Rattle.http_responses.specs.json.Replies.{reply_data}
 use Rattle.http_responses.specs.json.Requests.{request_data, requests_data}
 use Rattle.http_responses.specs.json.Verdicts.{verdict_data}
 use Rattle.http_responses.specs.Refusals as refusals
-use Rattle.http_responses.specs.Responses.{code_of, response_text}
+use Rattle.http_responses.specs.Responses.{response_text}
 use Rattle.http_responses.specs.declared.content.Content.{Content}
 use Rattle.http_responses.specs.declared.content.Content.TheVariants as content
+use Rattle.http_responses.specs.declared.refused.Refused.{Refused as Refusal}
 use Rattle.http_responses.specs.declared.status.Status.{Status}
 use Rattle.http_responses.specs.declared.status.Status.TheVariants as status
 use Rattle.desk_calls.specs.declared.answers.Answer.{Answer}
 use Rattle.desk_calls.specs.declared.answers.Answer.TheVariants.{Reply, Request, Requests, Proposals, Verdict, Dbx, Db, Level, Report, Refused}
+use Rattle.desk_http.specs.declared.served.Answered.{Answered}
 
 -- its status: 200 for what is no refusal (RFC 9110, section 15.3.1)
 abbrev pub status_of : Answer → Status
@@ -71,20 +72,19 @@ body_of (Refused refused) = compact_text (refusals.refused_data refused)
 abbrev pub response_of : Answer → List ℕ
 response_of a = response_text (status_of a) (content_of a) (body_of a)
 
--- the number of the refusal that it tells, 0 for none
-abbrev pub number_of : Answer → ℕ
-number_of (Reply reply) = 0
-number_of (Request shown) = 0
-number_of (Requests shown) = 0
-number_of (Proposals shown) = 0
-number_of (Verdict verdict facts) = 0
-number_of (Dbx bytes) = 0
-number_of (Db bytes) = 0
-number_of (Level text) = 0
-number_of (Report text) = 0
-number_of (Refused refused) = rows.number_of (refusals.refusal_of refused)
+-- what the request is refused for, if it is
+abbrev pub refused_of : Answer → Option Refusal
+refused_of (Reply reply) = None
+refused_of (Request shown) = None
+refused_of (Requests shown) = None
+refused_of (Proposals shown) = None
+refused_of (Verdict verdict facts) = None
+refused_of (Dbx bytes) = None
+refused_of (Db bytes) = None
+refused_of (Level text) = None
+refused_of (Report text) = None
+refused_of (Refused refused) = Some refused
 
--- a code and a number are those of an answer
-pub record IsTold (a : Answer) (code told : ℕ) : Type 0 where
-  pub status : code ≡ code_of (status_of a)
-  pub number : told ≡ number_of a
+-- what its response says: its status, and what the request is refused for
+abbrev pub answered_of : Answer → Answered
+answered_of a = record { status = status_of a; refused = refused_of a }

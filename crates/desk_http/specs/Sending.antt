@@ -5,27 +5,22 @@ use Rattle.http_responses.specs.declared.refused.Refused.TheVariants as refused
 use Rattle.desk_calls.specs.Answers.{no_memory}
 use Rattle.desk_calls.specs.declared.answers.Answer.{Answer}
 use Rattle.desk_calls.specs.declared.answers.Answer.TheVariants as answer
-use Rattle.desk_http.specs.Responses.{IsTold, response_of}
+use Rattle.desk_http.specs.Responses.{response_of}
 use Rattle.desk_http.specs.Serving.{Responds}
 use Rattle.desk_http.specs.declared.served.HttpFault.{HttpFault}
 use Rattle.desk_http.specs.declared.served.HttpFault.TheVariants.{Read, Write, NoMemory}
 use Rattle.desk_http.specs.declared.served.Served.{Served}
 use Rattle.desk_http.specs.declared.served.Served.TheVariants.{Answered, Nothing}
 
--- the status and the number are the answer's
-abbrev pub IsToldBy : Answer → Served → Type 0
-IsToldBy a (Answered code number) = IsTold a code number
-IsToldBy a Nothing = ⊥
-
 -- the response to this answer went out, or a beginning of it
 abbrev pub Sends : Option (List ℕ) → Option (List ℕ) → Answer → Result Served HttpFault → Type 0
-Sends old new told (Ok (Answered code number)) = Responds old new told code number
+Sends old new told (Ok (Answered answered)) = Responds old new told answered
 Sends old new told (Ok Nothing) = ⊥
 Sends old new told (Err Read) = ⊥
 Sends old new told (Err Write) = AppendsBeginning old new (response_of told)
 Sends old new told (Err NoMemory) = ⊥
 
--- the answer tells that the desk can answer nothing
+-- the answer says that the desk can answer nothing
 abbrev pub is_outage : Answer → Bool
 is_outage (answer.Refused (refused.Unavailable outage)) = true
 is_outage _ = false

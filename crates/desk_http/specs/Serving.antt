@@ -1,23 +1,24 @@
 -- own: what one connection is served, and what the desk shows then.
-use Rattle.std.specs.Prelude.{◌≡◌, ◌⊎◌, ℕ, List, [], Option, Result, Ok, Err, IfSome, ⊤}
+use Rattle.std.specs.Prelude.{◌≡◌, ◌⊎◌, ℕ, List, [], Option, Some, Result, Ok, Err, IfSome, ⊤}
 use Rattle.std.specs.Io.KnownBytes.{Appends, Keeps}
 use Rattle.desk_bytes.specs.Output.{AppendsBeginning}
-use Rattle.desk_bytes.specs.Refusals.{number_of}
-use Rattle.desk_bytes.specs.declared.refusal.Refusal.TheVariants as refusals
+use Rattle.http_responses.specs.declared.outage.Outage.TheVariants as outage
 use Rattle.http_responses.specs.declared.refused.Refused.{Refused as Refusal}
+use Rattle.http_responses.specs.declared.refused.Refused.TheVariants as refused
 use Rattle.http_requests.specs.heads.Watches.{HasFailed}
 use Rattle.http_requests.specs.declared.heads.watch.Watch.{Watch}
 use Rattle.desk_history.specs.Calls.{History}
 use Rattle.desk_calls.specs.Answers.{AnswersCall, IsClosed, no_memory, store_failed}
-use Rattle.desk_calls.specs.Desks.{Keeps as Stays, ForEachShown}
+use Rattle.desk_calls.specs.Desks.{ForEachShown, StillShows}
 use Rattle.desk_calls.specs.declared.answers.Answer.{Answer}
 use Rattle.desk_calls.specs.declared.answers.Answer.TheVariants.{Refused}
 use Rattle.desk_http.specs.Asked.{Asks, Due, HasByte, LeavesBody}
-use Rattle.desk_http.specs.Responses.{IsTold, response_of}
+use Rattle.desk_http.specs.Responses.{answered_of, response_of}
+use Rattle.desk_http.specs.declared.served.Answered.{Answered}
 use Rattle.desk_http.specs.declared.served.HttpFault.{HttpFault}
 use Rattle.desk_http.specs.declared.served.HttpFault.TheVariants as fault
 use Rattle.desk_http.specs.declared.served.Served.{Served}
-use Rattle.desk_http.specs.declared.served.Served.TheVariants.{Answered, Nothing}
+use Rattle.desk_http.specs.declared.served.Served.TheVariants as served
 
 -- The desk that shows the history answers so what is asked for, and shows `later` then. A refusal of the request
 -- is told, and changes nothing.
@@ -45,21 +46,21 @@ AnswersDueOrOutage shows failed cs due told =
     ⊎ (((told ≡ no_memory) × (shows cs ⊎ ((a : Answer) × IsServed shows due a)))
     ⊎ ((told ≡ store_failed) × failed))
 
--- the response to an answer went out, with its status and number
-pub record Responds (old new : Option (List ℕ)) (a : Answer) (code number : ℕ) : Type 0 where
+-- the response to an answer went out, and says this: the answer's status and refusal
+pub record Responds (old new : Option (List ℕ)) (a : Answer) (answered : Answered) : Type 0 where
   pub written : Appends old new (response_of a)
-  pub told : IsTold a code number
+  pub says : answered ≡ answered_of a
 
 -- where a response went out
-abbrev pub WhenAnswered : Result Served HttpFault → (ℕ → ℕ → Type 0) → Type 0
-WhenAnswered (Ok (Answered code number)) holds = holds code number
-WhenAnswered (Ok Nothing) holds = ⊤
+abbrev pub WhenAnswered : Result Served HttpFault → (Answered → Type 0) → Type 0
+WhenAnswered (Ok (served.Answered answered)) holds = holds answered
+WhenAnswered (Ok served.Nothing) holds = ⊤
 WhenAnswered (Err fault) holds = ⊤
 
 -- where the input had no byte
 abbrev pub WhenNothing : Result Served HttpFault → Type 0 → Type 0
-WhenNothing (Ok (Answered code number)) holds = ⊤
-WhenNothing (Ok Nothing) holds = holds
+WhenNothing (Ok (served.Answered answered)) holds = ⊤
+WhenNothing (Ok served.Nothing) holds = holds
 WhenNothing (Err fault) holds = ⊤
 
 -- where the request wasn't read
@@ -88,9 +89,9 @@ HasCause watch fault.NoMemory = ⊤
 -- a response that went out is that of an answer to the input at the history that the desk showed, and the desk shows the
 -- history after that answer
 abbrev pub IsAnswered : (old new : List ℕ → History → Type 0) → (failed : Type 0) → (input before after : Option (List ℕ)) → Result Served HttpFault → Type 0
-IsAnswered old new failed input before after result = WhenAnswered result (λ code number.
+IsAnswered old new failed input before after result = WhenAnswered result (λ answered.
     IfSome input (λ b. ForEachShown old (λ owner cs. (told : Answer)
-    × Responds before after told code number
+    × Responds before after told answered
     × AnswersDueOrOutage (new owner) failed cs (AnswersInput owner cs b) told)))
 
 -- an input without a byte is passed over: nothing is written, and the desk shows what it showed
@@ -100,7 +101,7 @@ IsPassedOver old new input before after result = WhenNothing result
 
 -- where the request wasn't read, nothing is written, and the desk shows what it showed
 abbrev pub IsUnread : (old new : List ℕ → History → Type 0) → (before after : Option (List ℕ)) → Result Served HttpFault → Type 0
-IsUnread old new before after result = WhenUnread result (Keeps before after × Stays old new)
+IsUnread old new before after result = WhenUnread result (Keeps before after × StillShows old new)
 
 -- where the writer failed, it has a beginning of the response to such an answer, and the desk shows the history after
 -- that answer
@@ -110,13 +111,13 @@ IsUnwritten old new failed input before after result = WhenUnwritten result
     × AppendsBeginning before after (response_of told)
     × AnswersDueOrOutage (new owner) failed cs (AnswersInput owner cs b) told)))
 
--- whatever the desk shows: what went out is the whole response to an answer, with its status and number
+-- whatever the desk shows: what went out is the whole response to an answer, with its status and refusal
 abbrev pub HasResponded : (before after : Option (List ℕ)) → Result Served HttpFault → Type 0
-HasResponded before after result = WhenAnswered result (λ code number. (told : Answer) × Responds before after told code number)
+HasResponded before after result = WhenAnswered result (λ answered. (told : Answer) × Responds before after told answered)
 
--- whatever the desk shows: a response that tells that the store failed comes of a desk that has failed
+-- whatever the desk shows: a response which says that the store failed comes of a desk that has failed
 abbrev pub FailsFirst : (failed : Type 0) → Result Served HttpFault → Type 0
-FailsFirst failed result = WhenAnswered result (λ code number. number ≡ number_of refusals.Store → failed)
+FailsFirst failed result = WhenAnswered result (λ answered. answered.refused ≡ Some (refused.Unavailable outage.Store) → failed)
 
 -- a refusal, which a desk that has failed tells of the input: that it has to be opened again, unless memory was
 -- refused, or it is due whatever the desk's history is
@@ -126,16 +127,16 @@ pub record TellsClosed (input : Option (List ℕ)) (told : Answer) : Type 0 wher
 
 -- the response of a desk that has failed, or the beginning of it that went out, is to such a refusal
 pub record RespondsClosed (input before after : Option (List ℕ)) (result : Result Served HttpFault) : Type 0 where
-  pub answered : WhenAnswered result (λ code number. (told : Answer)
-      × Responds before after told code number × TellsClosed input told)
+  pub answered : WhenAnswered result (λ answered. (told : Answer)
+      × Responds before after told answered × TellsClosed input told)
   pub unwritten : WhenUnwritten result ((told : Answer)
       × AppendsBeginning before after (response_of told) × TellsClosed input told)
 
 -- where what was asked for is answered, nothing is read of what follows a head that is nobody's
 abbrev pub LeavesStrangers : (old : List ℕ → History → Type 0) → (input left : Option (List ℕ)) → Result Served HttpFault → Type 0
 LeavesStrangers old input left result =
-    WhenAnswered result (λ _ _. LeavesBody old input left) × WhenUnwritten result (LeavesBody old input left)
+    WhenAnswered result (λ _. LeavesBody old input left) × WhenUnwritten result (LeavesBody old input left)
 
 -- where what was asked for is answered, the input has a byte
 abbrev pub IsOfBytes : (input : Option (List ℕ)) → Result Served HttpFault → Type 0
-IsOfBytes input result = WhenAnswered result (λ _ _. HasByte input) × WhenUnwritten result (HasByte input)
+IsOfBytes input result = WhenAnswered result (λ _. HasByte input) × WhenUnwritten result (HasByte input)

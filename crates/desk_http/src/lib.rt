@@ -13,6 +13,6 @@ mod serving_each;
 mod tasks;
 
 pub use laws::{one_thing_is_asked, what_follows_changes_nothing};
-pub use served::{HttpFault, Served};
+pub use served::{Answered, HttpFault, Served};
 pub use serving::serve_one;
 pub use serving_each::serve_each;

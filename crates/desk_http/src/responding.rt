@@ -2,14 +2,14 @@
 ghost use Rattle.std.specs.Prelude.{◌≡◌, IfOk, MatchOption, MatchResult, false};
 ghost use Rattle.std.specs.Io.KnownBytes.{Appends};
 ghost use Rattle.desk_bytes.specs.Output.{AppendsBeginning};
-ghost use Rattle.http_responses.specs.Responses.{code_of, response_text};
+ghost use Rattle.http_responses.specs.Responses.{response_text};
 ghost use Rattle.http_responses.specs.declared.content.Content.TheVariants.{Json};
 ghost use Rattle.http_responses.specs.declared.status.Status.TheVariants as status;
 ghost use Rattle.desk_calls.specs.declared.answers.Answer.{Answer};
 ghost use Rattle.desk_http.specs.Responses as spec;
 ghost use Rattle.desk_http.specs.Sending as sending;
 
-use crate::{HttpFault, Served};
+use crate::{Answered, HttpFault, Served};
 use desk_bytes::put;
 use desk_calls::Answer;
 use http_responses::{
@@ -54,28 +54,7 @@ fn response_to(alloc: Global, answer: &Answer) -> Result<Vec<u8>, AllocError>
     }
 }
 
-/// The status of an answer, and the number of the refusal that it tells.
-fn told_by(answer: &Answer) -> Served
-    ensures { sending.IsToldBy answer.now result }
-{
-    match answer {
-        Answer::Refused(refused) => {
-            let code = refused.status().code();
-            Served::Answered(code.as_u16(), refused.refusal().number())
-        }
-        Answer::Reply(_)
-        | Answer::Request(_)
-        | Answer::Requests(_)
-        | Answer::Proposals(_)
-        | Answer::Verdict(_, _)
-        | Answer::Dbx(_)
-        | Answer::Db(_)
-        | Answer::Level(_)
-        | Answer::Report(_) => Served::Answered(200, 0),
-    }
-}
-
-/// Why the answer tells that the desk can answer no request, if it tells that.
+/// Why the desk can answer no request, where the answer says so.
 fn outage_in(answer: &Answer) -> Option<Outage>
     ensures { MatchOption result (sending.is_outage answer.now ≡ false)
         (λ outage. answer.now ≡ Answer.Refused (Refused.Unavailable outage)) }
@@ -95,15 +74,15 @@ fn outage_in(answer: &Answer) -> Option<Outage>
     }
 }
 
-/// Writes the bytes of a response.
-fn send<W: Write>(bytes: &[u8], told: Served, writer: &mut W) -> Result<Served, HttpFault>
-    ensures { MatchResult result
-        (λ served. (served ≡ told) × Appends (W.contents writer.old) (W.contents writer.new) bytes.now)
+/// Writes the bytes of a response, which says this.
+fn send<W: Write>(bytes: &[u8], says: Answered, writer: &mut W) -> Result<Served, HttpFault>
+    ensures { MatchResult result (λ served. (served ≡ Served.Answered says)
+        × Appends (W.contents writer.old) (W.contents writer.new) bytes.now)
         (λ fault. (fault ≡ HttpFault.Write)
         × AppendsBeginning (W.contents writer.old) (W.contents writer.new) bytes.now) }
 {
     match put(bytes, writer) {
-        Ok(()) => Ok(told),
+        Ok(()) => Ok(Served::Answered(says)),
         Err(_) => Err(HttpFault::Write),
     }
 }
@@ -113,11 +92,14 @@ fn send_outage<W: Write>(outage: Outage, writer: &mut W) -> Result<Served, HttpF
     ensures { sending.Sends (W.contents writer.old) (W.contents writer.new)
         (Answer.Refused (Refused.Unavailable outage)) result }
 {
-    let told = Served::Answered(503, outage.refusal().number());
-    send(outage_response(outage), told, writer)
+    let says = Answered {
+        status: Status::ServiceUnavailable,
+        refused: Some(Refused::Unavailable(outage)),
+    };
+    send(outage_response(outage), says, writer)
 }
 
-/// Writes the response to an answer, or that of want of memory where its text finds none. It is built whole
+/// Writes the response to an answer, or that of NoMemory where its text finds no memory. It is built whole
 /// before its first byte is written.
 pub(crate) fn send_answer<W: Write>(
     alloc: Global,
@@ -132,7 +114,7 @@ pub(crate) fn send_answer<W: Write>(
         None => {}
     }
     match response_to(alloc, answer) {
-        Ok(bytes) => send(&bytes, told_by(answer), writer),
+        Ok(bytes) => send(&bytes, Answered::of(answer), writer),
         Err(_) => send_outage(Outage::NoMemory, writer),
     }
 }

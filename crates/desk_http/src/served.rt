@@ -1,12 +1,48 @@
 //! What became of a connection.
-use desk_calls::Call;
-use http_responses::{Outage, Refused};
+ghost use Rattle.std.specs.Prelude.{◌≡◌};
+ghost use Rattle.desk_http.specs.Responses as spec;
+
+use desk_calls::{Answer, Call};
+use http_responses::{Outage, Refused, Status};
+
+/// What a response says: its status, and what the request is refused for, `None` with status 200.
+#[derive(Clone, Copy, Debug, PartialEq, Eq)]
+pub struct Answered {
+    pub status: Status,
+    pub refused: Option<Refused>,
+}
+
+impl Answered {
+    /// What the response to an answer says.
+    pub(crate) fn of(answer: &Answer) -> Answered
+        ensures { result ≡ spec.answered_of answer.now }
+    {
+        match answer {
+            Answer::Refused(refused) => Answered {
+                status: refused.status(),
+                refused: Some(*refused),
+            },
+            Answer::Reply(_)
+            | Answer::Request(_)
+            | Answer::Requests(_)
+            | Answer::Proposals(_)
+            | Answer::Verdict(_, _)
+            | Answer::Dbx(_)
+            | Answer::Db(_)
+            | Answer::Level(_)
+            | Answer::Report(_) => Answered {
+                status: Status::Ok,
+                refused: None,
+            },
+        }
+    }
+}
 
 /// What was served.
 #[derive(Clone, Copy, Debug, PartialEq, Eq)]
 pub enum Served {
-    /// A response went out: its status, and the number of the refusal that it tells, 0 for none.
-    Answered(u16, u8),
+    /// A response went out.
+    Answered(Answered),
     /// The input had no byte, and nothing went out.
     Nothing,
 }

@@ -67,8 +67,8 @@ fn answer_input<D: Answering, R: Read>(
 /// first byte is written. Of what follows the request nothing is read, nor the body before the caller is known. Takes
 /// memory.
 ///
-/// Where a call's answer or its text finds no memory, `Answered` has 503 and 40, and a command that was accepted
-/// stays accepted; where the store fails, 503 and 41, and where it failed before, 503 and 42.
+/// Where a call's answer or its text finds no memory, the response says NoMemory, and a command that was accepted
+/// stays accepted; where the store fails, it says Store, and where it failed before, Reopen: each with status 503.
 pub fn serve_one<D: Answering, R: Read, W: Write>(
     alloc: Global,
     desk: &mut D,

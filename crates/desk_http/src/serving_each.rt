@@ -1,19 +1,25 @@
 //! Requests one after another.
 ghost use Rattle.std.specs.Prelude.{◌≡◌, ◌≤◌, IsTrue, length};
-ghost use Rattle.desk_http.specs.Each.{ServesEach, ServesNext, is_outage_number};
+ghost use Rattle.desk_http.specs.Each.{ServesEach, ServesNext, has_failed};
 
-use crate::Served;
 use crate::serving::serve_one;
-use desk_bytes::Refusal;
+use crate::{Answered, Served};
 use desk_calls::{Answering, Octets};
+use http_responses::{Outage, Refused};
 use std::alloc::Global;
 use std::io::Write;
 
-/// Whether the number is that of a refusal which tells nothing of the request.
-fn is_outage(number: u8) -> bool
-    ensures { result ≡ is_outage_number number }
+/// Whether a response says that memory or the store failed, and nothing of the request.
+fn is_failure(answered: Answered) -> bool
+    ensures { result ≡ has_failed answered.refused }
 {
-    number == Refusal::NoMemory.number() || number == Refusal::Store.number()
+    let Some(Refused::Unavailable(outage)) = answered.refused else {
+        return false;
+    };
+    match outage {
+        Outage::NoMemory | Outage::Store => true,
+        Outage::Reopen | Outage::NotADesk => false,
+    }
 }
 
 /// Serves an input as a connection of its own, and tells whether the desk answered it.
@@ -30,7 +36,7 @@ fn serve_next<D: Answering, W: Write>(
 {
     let mut reader = input;
     match serve_one(alloc, desk, &mut reader, writer) {
-        Ok(Served::Answered(_, number)) => !is_outage(number),
+        Ok(Served::Answered(answered)) => !is_failure(answered),
         Ok(Served::Nothing) => true,
         Err(_) => false,
     }
@@ -38,7 +44,7 @@ fn serve_next<D: Answering, W: Write>(
 
 /// Serves inputs one after another, each as a connection of its own, and writes their responses one behind
 /// another. Gives how many were served: all, or those before the first that met a fault, or whose response
-/// tells that memory or the store failed. Takes memory.
+/// says that memory or the store failed. Takes memory.
 pub fn serve_each<D: Answering, W: Write>(
     alloc: Global,
     desk: &mut D,

@@ -7,9 +7,9 @@ use Rattle.desk_bytes.specs.declared.refusal.Refusal.TheVariants as refusals
 abbrev pub IsLasting : Refusal → Type 0
 IsLasting refusal = (refusal ≡ refusals.Store) ⊎ (refusal ≡ refusals.Reopen)
 
--- own: what one request is told as: that, or the request itself was stopped
-abbrev pub IsToldRefusal : Refusal → Type 0
-IsToldRefusal refusal =
+-- own: what stops a program that answers one request: that, or the request itself was stopped
+abbrev pub IsAnsweringRefusal : Refusal → Type 0
+IsAnsweringRefusal refusal =
     IsLasting refusal
     ⊎ ((refusal ≡ refusals.Read) ⊎ ((refusal ≡ refusals.Write) ⊎ (refusal ≡ refusals.NoMemory)))
 

@@ -4,7 +4,7 @@ use Rattle.desk_http.specs.Serving.{FailsFirst}
 use Rattle.desk_http.specs.declared.served.HttpFault.{HttpFault}
 use Rattle.desk_http.specs.declared.served.Served.{Served}
 
--- A desk served one request: a response tells that the store failed only where the desk has, and a desk that had failed
+-- A desk served one request: a response says that the store failed only where the desk has, and a desk that had failed
 -- before stays as it was.
 pub record IsOneRequest {D : Type 0} (clean failed : D → Type 0) (old new : D) (served : Result Served HttpFault) : Type 0 where
   pub before : clean new → clean old

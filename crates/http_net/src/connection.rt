@@ -13,7 +13,7 @@ use std::time::Clock;
 /// Whether a response was written.
 fn was_answered(served: &Result<Served, HttpFault>) -> bool {
     match served {
-        Ok(Served::Answered(_, _)) => true,
+        Ok(Served::Answered(_)) => true,
         Ok(Served::Nothing) | Err(HttpFault::Read | HttpFault::Write | HttpFault::NoMemory) =>
             false,
     }
@@ -28,9 +28,9 @@ fn end_response<C: Clock>(clock: &C, stream: &TcpStream) {
     }
 }
 
-/// Serves one request of a reader, with the clauses of desk_http's `serve_one`. Takes memory for a piece of the input;
-/// NoMemory where there is none, before anything is read.
-pub fn answer<D: Answering, R: Read + Drop, W: Write>(
+/// Answers the one request of a connection that is read by this reader, with the clauses of desk_http's `serve_one`.
+/// Takes memory for a piece of the input; NoMemory where there is none, before anything is read.
+pub fn answer_connection<D: Answering, R: Read + Drop, W: Write>(
     alloc: Global,
     desk: &mut D,
     reader: R,
@@ -70,7 +70,7 @@ pub(crate) fn serve_stream<C: Clock, D: Answering>(
 {
     let reader = Timed::new(clock, stream);
     let mut writer = Timed::new(clock, stream);
-    let served = answer(alloc, desk, reader, &mut writer);
+    let served = answer_connection(alloc, desk, reader, &mut writer);
     if was_answered(&served) {
         end_response(clock, stream);
     }

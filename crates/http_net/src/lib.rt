@@ -9,8 +9,8 @@ mod served;
 mod serving;
 mod timed;
 
-pub use connection::answer;
+pub use connection::answer_connection;
 pub use reading_off::read_off;
-pub use served::told;
+pub use served::outcome;
 pub use serving::{listen, serve};
 pub use timed::{Timed, Waits};

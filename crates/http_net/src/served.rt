@@ -1,22 +1,24 @@
 //! What a served connection comes to.
 ghost use Rattle.std.specs.Prelude.{◌≡◌, IfErr, IfSome};
-ghost use Rattle.http_net.specs.Faults.{IsLasting, IsToldRefusal};
+ghost use Rattle.http_net.specs.Faults.{IsAnsweringRefusal, IsLasting};
 ghost use Rattle.http_net.specs.Served as spec;
 
 use desk_bytes::Refusal;
-use desk_http::{HttpFault, Served};
+use desk_http::{Answered, HttpFault, Served};
+use http_responses::{Outage, Refused};
 
-/// The refusal after which the desk has to be opened again, by the number of a response.
-fn lasting(number: u8) -> Option<Refusal>
-    ensures value { result ≡ spec.lasting number }
+/// The refusal after which the desk has to be opened again, where a response says so.
+fn lasting(answered: Answered) -> Option<Refusal>
+    ensures value { result ≡ spec.lasting answered.refused }
     ensures named { IfSome result IsLasting }
 {
-    if number == Refusal::Store.number() {
-        Some(Refusal::Store)
-    } else if number == Refusal::Reopen.number() {
-        Some(Refusal::Reopen)
-    } else {
-        None
+    let Some(Refused::Unavailable(outage)) = answered.refused else {
+        return None;
+    };
+    match outage {
+        Outage::Store => Some(Refusal::Store),
+        Outage::Reopen => Some(Refusal::Reopen),
+        Outage::NoMemory | Outage::NotADesk => None,
     }
 }
 
@@ -26,20 +28,20 @@ pub(crate) fn ending(served: Result<Served, HttpFault>) -> Option<Refusal>
 {
     match served {
         Ok(Served::Nothing) => None,
-        Ok(Served::Answered(_, number)) => lasting(number),
+        Ok(Served::Answered(answered)) => lasting(answered),
         Err(HttpFault::Read | HttpFault::Write | HttpFault::NoMemory) => None,
     }
 }
 
-/// What is told of the one request that was served: that the desk has to be opened again, or what stopped the
-/// request itself.
-pub fn told(served: Result<Served, HttpFault>) -> Result<(), Refusal>
-    ensures value { result ≡ spec.told_of served }
-    ensures named { IfErr result IsToldRefusal }
+/// The outcome of a program that serves one request. Store, Reopen: the desk has to be opened again. Read, Write,
+/// NoMemory: the request itself was stopped.
+pub fn outcome(served: Result<Served, HttpFault>) -> Result<(), Refusal>
+    ensures value { result ≡ spec.outcome_of served }
+    ensures named { IfErr result IsAnsweringRefusal }
 {
     match served {
         Ok(Served::Nothing) => Ok(()),
-        Ok(Served::Answered(_, number)) => match lasting(number) {
+        Ok(Served::Answered(answered)) => match lasting(answered) {
             None => Ok(()),
             Some(refusal) => Err(refusal),
         },

@@ -1,5 +1,6 @@
 //! What `serve_one` gives.
-use desk_http::{HttpFault, Served, serve_one};
+use desk_http::{Answered, HttpFault, Served, serve_one};
+use http_responses::{Outage, Refused, Status};
 use std::alloc::Global;
 use std::io::ErrorKind;
 use std::test::Fail;
@@ -12,6 +13,11 @@ const LEVEL: &str = "GET /level HTTP/1.1|Desk-Token: olga-token-000001||";
 /// A command under which the store fails.
 const STORE: &str =
     "POST /requests/1/withdraw HTTP/1.1|Desk-Token: olga-token-000001|Desk-Key: store|Content-Length: 0||";
+
+/// A response that says this went out.
+fn answered(status: Status, refused: Option<Refused>) -> Result<Served, HttpFault> {
+    Ok(Served::Answered(Answered { status, refused }))
+}
 
 /// What is served of an input.
 fn served(alloc: Global, input: &[u8]) -> Result<Served, HttpFault> {
@@ -26,10 +32,10 @@ fn tells_what_was_served(rt: HostRuntime) -> Result<(), Fail> {
     let alloc = rt.alloc();
     let input = bytes_of(alloc, LEVEL)?;
     let level = served(alloc, input.as_slice());
-    assert!(rt; level == Ok(Served::Answered(200, 0)), "a level");
+    assert!(rt; level == answered(Status::Ok, None), "a level");
     let cut = served(alloc, b"GET".as_slice());
     assert!(rt;
-        cut == Ok(Served::Answered(400, 50)),
+        cut == answered(Status::BadRequest, Some(Refused::BadHead)),
         "a head that is cut short"
     );
     let nothing = served(alloc, b"".as_slice());
@@ -81,11 +87,19 @@ fn tells_that_the_desk_failed_before(rt: HostRuntime) -> Result<(), Fail> {
     let store = bytes_of(alloc, STORE)?;
     let level = bytes_of(alloc, LEVEL)?;
     let mut desk = StandIn::new(alloc);
-    for (input, number) in [(&store, 41), (&level, 42), (&store, 42)] {
+    for (input, outage) in [
+        (&store, Outage::Store),
+        (&level, Outage::Reopen),
+        (&store, Outage::Reopen),
+    ] {
         let mut reader = input.as_slice();
         let mut writer = Vec::new(alloc);
         let served = serve_one(alloc, &mut desk, &mut reader, &mut writer);
-        assert!(rt; served == Ok(Served::Answered(503, number)), "{number}");
+        let says = answered(
+            Status::ServiceUnavailable,
+            Some(Refused::Unavailable(outage)),
+        );
+        assert!(rt; served == says, "{outage:?}");
     }
     Ok(())
 }

@@ -1,7 +1,7 @@
 use Rattle.std.proofs.Common.{inl, inr, refl}
 use Rattle.std.proofs.KnownBytes.{Keeps-refl}
-use Rattle.http_net.specs.Faults.{IsToldRefusal}
-use Rattle.cli_files.proofs.ServingLemmas.{also, never_of_opening, told_apart}
+use Rattle.http_net.specs.Faults.{IsAnsweringRefusal}
+use Rattle.cli_files.proofs.ServingLemmas.{also, answering_apart, never_of_opening}
 use Rattle.cli_files.proofs.requests.answer_from.Goals as goal
 
 -- the desk was opened
@@ -14,10 +14,10 @@ pub returns-in-Ok-clause-done : goal.returns-in-Ok-clause-done
 returns-in-Ok-clause-done g c = c.answer_at.ensures.done
 
 pub returns-in-Ok-clause-named : goal.returns-in-Ok-clause-named
-returns-in-Ok-clause-named g c = also IsToldRefusal c.answer_at.result.work c.answer_at.ensures.named
+returns-in-Ok-clause-named g c = also IsAnsweringRefusal c.answer_at.result.work c.answer_at.ensures.named
 
 pub returns-in-Ok-clause-first : goal.returns-in-Ok-clause-first
-returns-in-Ok-clause-first g c = never_of_opening IsToldRefusal told_apart c.answer_at.result.work c.answer_at.ensures.named
+returns-in-Ok-clause-first g c = never_of_opening IsAnsweringRefusal answering_apart c.answer_at.result.work c.answer_at.ensures.named
 
 pub returns-in-Ok-clause-closing : goal.returns-in-Ok-clause-closing
 returns-in-Ok-clause-closing g c = c.answer_at.ensures.closing

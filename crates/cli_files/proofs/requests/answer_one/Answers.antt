@@ -4,13 +4,13 @@ use Rattle.cli_files.proofs.requests.answer_one.Goals as goal
 
 pub returns-in-Ok-clause-answered : goal.returns-in-Ok-clause-answered
 returns-in-Ok-clause-answered g c = (
-  c.answer.result,
+  c.answer_connection.result,
   ap work_of c.in-Ok.ensures.value,
   record {
-    answered = c.answer.ensures.answered;
-    nothing = c.answer.ensures.nothing;
-    unread = c.answer.ensures.unread;
-    unwritten = c.answer.ensures.unwritten;
+    answered = c.answer_connection.ensures.answered;
+    nothing = c.answer_connection.ensures.nothing;
+    unread = c.answer_connection.ensures.unread;
+    unwritten = c.answer_connection.ensures.unwritten;
   },
 )
 
@@ -19,13 +19,13 @@ returns-in-Ok-clause-done g c = refl
 
 pub returns-in-Err-clause-answered : goal.returns-in-Err-clause-answered
 returns-in-Err-clause-answered g c = (
-  c.answer.result,
+  c.answer_connection.result,
   ap Err c.from.ensures ∙ ap work_of c.in-Err.ensures.value,
   record {
-    answered = c.answer.ensures.answered;
-    nothing = c.answer.ensures.nothing;
-    unread = c.answer.ensures.unread;
-    unwritten = c.answer.ensures.unwritten;
+    answered = c.answer_connection.ensures.answered;
+    nothing = c.answer_connection.ensures.nothing;
+    unread = c.answer_connection.ensures.unread;
+    unwritten = c.answer_connection.ensures.unwritten;
   },
 )
 

@@ -12,8 +12,8 @@ pub returns-in-Ok : goal.returns-in-Ok
 returns-in-Ok g c = (
   c.args.answer.now,
   inl refl,
-  sends_response (g.W.Write.contents c.args.writer.now) (g.W.Write.contents c.send.new.writer) c.args.answer.now c.deref.result.now c.told_by.result
-      c.send.result c.told_by.ensures (c.deref.ensures.value ∙ c.in-Ok.ensures) c.send.ensures,
+  sends_response (g.W.Write.contents c.args.writer.now) (g.W.Write.contents c.send.new.writer) c.args.answer.now c.deref.result.now c.of.result
+      c.send.result c.of.ensures (c.deref.ensures.value ∙ c.in-Ok.ensures) c.send.ensures,
 )
 
 pub returns-in-Err : goal.returns-in-Err

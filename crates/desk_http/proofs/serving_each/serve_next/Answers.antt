@@ -5,8 +5,8 @@ use Rattle.desk_http.proofs.serving_each.serve_next.Goals as goal
 pub returns-in-Ok-Answered-clause-next : goal.returns-in-Ok-Answered-clause-next
 returns-in-Ok-Answered-clause-next g c = λ clean own.
     next_is_served c.args.input.now (g.W.Write.contents c.args.writer.now) (g.W.Write.contents c.serve_one.new.writer)
-    (g.D.Answering.shows c.args.desk.now) (g.D.Answering.shows c.serve_one.new.desk) (g.D.Answering.failed c.serve_one.new.desk) c.in-Ok-Answered.field-0-0 c.in-Ok-Answered.number
-    (rw c.in-Ok-Answered.field-0-is at (c.in-Ok-Answered.ensures.answered clean)) (sym c.is_outage.ensures ∙ not_true c.is_outage.result own)
+    (g.D.Answering.shows c.args.desk.now) (g.D.Answering.shows c.serve_one.new.desk) (g.D.Answering.failed c.serve_one.new.desk) c.in-Ok-Answered.answered
+    (rw c.in-Ok-Answered.field-0-is at (c.in-Ok-Answered.ensures.answered clean)) (sym c.is_failure.ensures ∙ not_true c.is_failure.result own)
 
 pub returns-in-Ok-Nothing-clause-next : goal.returns-in-Ok-Nothing-clause-next
 returns-in-Ok-Nothing-clause-next g c = λ clean own.

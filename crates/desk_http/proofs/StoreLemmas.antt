@@ -1,0 +1,43 @@
+-- Which answers say that the store failed.
+use Rattle.std.proofs.Common.{◌≡◌, ◌∙◌, inl, inr, sym, ap, Option, None, Some, List, ℕ, Result, Ok, Err}
+use Rattle.http_responses.specs.declared.outage.Outage.TheVariants as outage
+use Rattle.http_responses.specs.declared.refused.Refused as refusing
+use Rattle.http_responses.specs.declared.refused.Refused.TheVariants as refused
+use Rattle.desk_calls.specs.Answers.{no_memory, store_failed}
+use Rattle.desk_calls.specs.declared.answers.Answer.{Answer}
+use Rattle.desk_calls.specs.declared.answers.Answer.TheVariants as answer
+use Rattle.desk_http.specs.Responses.{refused_of}
+use Rattle.desk_http.specs.Serving.{FailsFirst}
+use Rattle.desk_http.specs.declared.served.Answered as said
+use Rattle.desk_http.specs.declared.served.HttpFault.{HttpFault}
+use Rattle.desk_http.specs.declared.served.Served.{Served}
+use Rattle.desk_http.specs.declared.served.Served.TheVariants.{Answered, Nothing}
+use Rattle.desk_http.proofs.SendLemmas.{SendsFor}
+
+-- only a refusal says so
+answer_of_store : (a : Answer) → refused_of a ≡ Some (refused.Unavailable outage.Store) → a ≡ store_failed
+answer_of_store (answer.Reply reply) is = let bad : ◌≡◌ {A = Option refusing.Refused} None (Some (refused.Unavailable outage.Store)) = is in cc
+answer_of_store (answer.Request shown) is = let bad : ◌≡◌ {A = Option refusing.Refused} None (Some (refused.Unavailable outage.Store)) = is in cc
+answer_of_store (answer.Requests shown) is = let bad : ◌≡◌ {A = Option refusing.Refused} None (Some (refused.Unavailable outage.Store)) = is in cc
+answer_of_store (answer.Proposals shown) is = let bad : ◌≡◌ {A = Option refusing.Refused} None (Some (refused.Unavailable outage.Store)) = is in cc
+answer_of_store (answer.Verdict verdict facts) is = let bad : ◌≡◌ {A = Option refusing.Refused} None (Some (refused.Unavailable outage.Store)) = is in cc
+answer_of_store (answer.Dbx bytes) is = let bad : ◌≡◌ {A = Option refusing.Refused} None (Some (refused.Unavailable outage.Store)) = is in cc
+answer_of_store (answer.Db bytes) is = let bad : ◌≡◌ {A = Option refusing.Refused} None (Some (refused.Unavailable outage.Store)) = is in cc
+answer_of_store (answer.Level text) is = let bad : ◌≡◌ {A = Option refusing.Refused} None (Some (refused.Unavailable outage.Store)) = is in cc
+answer_of_store (answer.Report text) is = let bad : ◌≡◌ {A = Option refusing.Refused} None (Some (refused.Unavailable outage.Store)) = is in cc
+answer_of_store (answer.Refused x) is = let same : Some x ≡ Some (refused.Unavailable outage.Store) = is in cc
+
+memory_apart : no_memory ≡ store_failed → ⊥
+memory_apart e = cc
+
+-- a response which says that the store failed is to an answer that does
+pub fails_first : (before after : Option (List ℕ)) (a : Answer) (r : Result Served HttpFault) (failed : Type 0)
+    → (a ≡ store_failed → failed) → SendsFor before after a r → FailsFirst failed r
+fails_first before after a (Ok Nothing) failed fails sent = tt
+fails_first before after a (Err fault) failed fails sent = tt
+fails_first before after a (Ok (Answered answered)) failed fails sent = λ is.
+    let store : sent.0 ≡ store_failed = answer_of_store sent.0 (sym (ap (λ (x : said.Answered). x.refused) sent.2.says) ∙ is) in
+    elim sent.1 [
+      | inl same ↦ fails (sym same ∙ store)
+      | inr memory ↦ absurd (memory_apart (sym memory.0 ∙ store))
+    ]
