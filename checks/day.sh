@@ -188,23 +188,6 @@ run 0 added '' uwe person desk.db uwe signer k8
 kept console k8 "add-person uwe signer $(token uwe)" 'added uwe'
 exported minutes minutes desk.db
 
-# ---- help, in the order of a day's work
-
-subcommands='init person serve answer facts ranges verdict db dbx level list pack minutes'
-"$program" help > help
-order=$(sed -n 's/^  \([a-z]*\)  .*/\1/p' help | tr '\n' ' ')
-case $order in
-    "$subcommands "*) ;;
-    *) echo "help's order: $order" >&2; exit 1 ;;
-esac
-for subcommand in $subcommands; do
-    "$program" help "$subcommand" > help
-    if ! grep -q "^Example: desk $subcommand " help || ! grep -q '^Status: 0 ' help; then
-        echo "help of $subcommand: $(cat help)" >&2
-        exit 1
-    fi
-done
-
 # ---- officers: what is listed at once, what is revoked by two of them
 
 # asked STATUS JSON: the file `request` is answered so.

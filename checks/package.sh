@@ -95,7 +95,7 @@ fi
 
 # ---- the manual
 
-subcommands=$("$desk" help | sed -n 's/^  \([a-z]*\)  .*/\1/p' | grep -v '^help$' | tr '\n' ' ')
+subcommands=$("$desk" help | sed -n 's/^  \([a-z][a-z]*\)  .*/\1/p' | grep -v '^help$' | tr '\n' ' ')
 for page in man1/desk.1 man7/desk-http.7; do
     gzip -dc "unpacked/usr/share/man/$page.gz" > "${page#*/}"
     # What groff warns of stands on standard error.
@@ -109,7 +109,7 @@ done
 tells() { grep -q "^ *$2\( \|\$\)" "$1.txt" || fail "$1 lacks $2"; }
 for subcommand in $subcommands; do
     tells desk.1 "desk $subcommand"
-    grep -q "^ *Example: desk $subcommand" desk.1.txt || fail "desk.1 has no example of $subcommand"
+    grep -A 2 '^ *Example:$' desk.1.txt | grep -q "^ *desk $subcommand " || fail "desk.1 has no example of $subcommand"
 done
 for text in 'THE SERVICE' BACKUP 'EXIT STATUS'; do tells desk.1 "$text"; done
 sed -n '/^| Path/,/^$/s/^| \(`[^|]*\) |.*/\1/p' "$root/docs/FORMATS.md" | tr -d '`' > routes

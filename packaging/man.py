@@ -16,7 +16,7 @@ WIDTH = 78
 STATUSES = [
     ("0", "Done."),
     ("1", "The input was refused: by the verdict, or with a line on standard error."),
-    ("2", "The words are wrong."),
+    ("2", "An argument is missing or wrong."),
     ("3", "A device failed: a file, a stream, memory or the database."),
 ]
 # Sections of docs/FORMATS.md.
@@ -186,21 +186,33 @@ class Help:
     def __init__(self, program):
         self.program = program
         self.version = self.said("--version").split()[1]
-        self.subcommands = [name for name, _ in self.rows(self.said("help"), "Commands") if name != "help"]
+        # A row of an option begins with a hyphen.
+        self.subcommands = [name for name in re.findall(r"(?m)^  ([a-z]+)  ", self.said("help")) if name != "help"]
 
     def said(self, *words):
         return subprocess.run([self.program, *words], check=True, stdout=subprocess.PIPE, text=True).stdout
 
-    @staticmethod
-    def rows(text, title):
-        """The rows of a list in a text of help: a word and what it is."""
-        part = text.split(f"\n{title}:\n", 1)[1].split("\n\n", 1)[0]
-        return [row.strip().split(maxsplit=1) for row in part.split("\n")]
-
     def of(self, subcommand):
-        """What it does, its words with what they are, and the paragraphs below."""
+        """What it does, its arguments with what they are, the paragraphs below, an example, and the statuses with what they say."""
         text = self.said("help", subcommand)
-        return text.split("\n", 1)[0], self.rows(text, "Arguments"), text.split("Print version\n", 1)[1]
+        arguments = text.split("\nArguments:\n", 1)[1].split("\n\n", 1)[0]
+        below = text.split("Print version\n\n", 1)[1].rstrip("\n")
+        more, typed, statuses = re.fullmatch(r"(.*)\n\nExample:\n  (.*)\n\nExit status:\n(.*)", below, re.S).groups()
+        return (
+            text.split("\n", 1)[0],
+            [row.strip().split(maxsplit=1) for row in arguments.split("\n")],
+            more,
+            typed,
+            [(status, " ".join(said.split())) for status, said in re.findall(r"(?m)^  (\d)  (.*(?:\n     .*)*)", statuses)],
+        )
+
+
+def numbered(statuses):
+    """Exit statuses with what they say."""
+    found = []
+    for status, text in statuses:
+        found += [".TP", f"\\fB{status}\\fR"] + filled(text)
+    return found
 
 
 def called(subcommand, words):
@@ -220,15 +232,12 @@ def page(name, number, date, version, about, parts):
 def desk_page(said, date):
     synopsis, subcommands = [], []
     for subcommand in said.subcommands:
-        does, words, more = said.of(subcommand)
+        does, words, more, typed, statuses = said.of(subcommand)
         synopsis += [".br"] * bool(synopsis) + [called(subcommand, words)]
         subcommands += [f'.SS "{called(subcommand, words)}"'] + filled(does + ".")
         for name, about in words:
             subcommands += [".TP", "\\fI" + name.strip("<>") + "\\fR"] + filled(about)
-        subcommands += roff(re.sub("(?m)^(Example): (.*)$", r"\1: `\2`", more))
-    statuses = []
-    for status, text in STATUSES:
-        statuses += [".TP", f"\\fB{status}\\fR"] + filled(text)
+        subcommands += roff(more) + [".PP", "Example:"] + example([typed]) + [".PP", "Exit status:"] + numbered(statuses)
     lines = []
     for title in INPUT_AND_OUTPUT:
         lines += [f'.SS "{title.replace("`", "")}"'] + roff(section("docs/FORMATS.md", title))
@@ -249,7 +258,7 @@ def desk_page(said, date):
             ("DESCRIPTION", roff(DESK)),
             ("SUBCOMMANDS", subcommands),
             ("INPUT AND OUTPUT", lines),
-            ("EXIT STATUS", statuses),
+            ("EXIT STATUS", numbered(STATUSES)),
             ("DIAGNOSTICS", roff(section("docs/FORMATS.md", "Lines on standard error")) + roff("desk-http(7) lists all refusals.")),
             ("THE SERVICE", roff(section("packaging/README.md", "The service"))),
             ("BACKUP", roff(section("packaging/README.md", "Backup"))),

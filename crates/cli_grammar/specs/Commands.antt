@@ -29,12 +29,13 @@ bare_app = on_top (λ s. record s {
   subcommand_required = true;
 }) (new_app (codes "desk"))
 
--- with the subcommands that set a desk up
-abbrev pub with_founding : App → App
-with_founding app =
-    with_subcommand (with_subcommand app
+-- with the subcommands that make and keep a desk
+abbrev pub with_keeping : App → App
+with_keeping app =
+    with_subcommand (with_subcommand (with_subcommand app
     (subcommand_shape (codes "init") 2))
-    (subcommand_shape (codes "person") 4)
+    (subcommand_shape (codes "person") 4))
+    (subcommand_shape (codes "minutes") 1)
 
 -- with the subcommands that take requests
 abbrev pub with_requests : App → App
@@ -51,7 +52,7 @@ with_images app =
     (subcommand_shape (codes "ranges") 1))
     (subcommand_shape (codes "verdict") 2)
 
--- with the subcommands that export from a desk
+-- with the subcommands that publish what a desk decided
 abbrev pub with_exports : App → App
 with_exports app =
     with_subcommand (with_subcommand (with_subcommand app
@@ -59,15 +60,13 @@ with_exports app =
     (subcommand_shape (codes "dbx") 1))
     (subcommand_shape (codes "level") 1)
 
--- with the subcommands for signature lists
+-- with the subcommands that work on signature lists without a desk
 abbrev pub with_lists : App → App
 with_lists app =
     with_subcommand (with_subcommand app
     (subcommand_shape (codes "list") 1))
     (subcommand_shape (codes "pack") 1)
 
--- own: the program's command, its subcommands in the order of a day's work
+-- own: the program's command, its subcommands in the order of help
 abbrev pub desk_app : App
-desk_app =
-    with_subcommand (with_lists (with_exports (with_images (with_requests (with_founding bare_app)))))
-    (subcommand_shape (codes "minutes") 1)
+desk_app = with_lists (with_exports (with_images (with_requests (with_keeping bare_app))))

@@ -142,12 +142,20 @@ fn with_person<'a>(alloc: Global, command: Command<'a>) -> Result<Command<'a>, A
     )
 }
 
-/// The command with the subcommands that set a desk up.
-fn with_founding<'a>(alloc: Global, command: Command<'a>) -> Result<Command<'a>, AllocError>
-    ensures { IfOk result (λ c. app_of c ≡ spec.with_founding (app_of command.entry)) }
+/// The command with the subcommands that make and keep a desk.
+fn with_keeping<'a>(alloc: Global, command: Command<'a>) -> Result<Command<'a>, AllocError>
+    ensures { IfOk result (λ c. app_of c ≡ spec.with_keeping (app_of command.entry)) }
 {
     let command = with_init(alloc, command)?;
-    with_person(alloc, command)
+    let command = with_person(alloc, command)?;
+    with_one_more(
+        alloc,
+        command,
+        "minutes",
+        "Prints the accepted calls of a desk",
+        help::MINUTES,
+        &[db()],
+    )
 }
 
 /// The command with `serve`.
@@ -197,7 +205,7 @@ fn with_verdict<'a>(alloc: Global, command: Command<'a>) -> Result<Command<'a>, 
         alloc,
         command,
         "verdict",
-        "Prints whether an EFI image is allowed by a desk, or why it is refused",
+        "Prints whether a desk allows an EFI image, or why it refuses it",
         help::VERDICT,
         &[db(), image()],
     )
@@ -219,14 +227,14 @@ fn with_images<'a>(alloc: Global, command: Command<'a>) -> Result<Command<'a>, A
         alloc,
         command,
         "ranges",
-        "Prints the ranges of an EFI image that its Authenticode digest is made of",
+        "Prints the ranges of an EFI image that Authenticode hashes",
         help::RANGES,
         &[image()],
     )?;
     with_verdict(alloc, command)
 }
 
-/// The command with the subcommands that export from a desk.
+/// The command with the subcommands that publish what a desk decided.
 fn with_exports<'a>(alloc: Global, command: Command<'a>) -> Result<Command<'a>, AllocError>
     ensures { IfOk result (λ c. app_of c ≡ spec.with_exports (app_of command.entry)) }
 {
@@ -256,7 +264,7 @@ fn with_exports<'a>(alloc: Global, command: Command<'a>) -> Result<Command<'a>, 
     )
 }
 
-/// The command with the subcommands for signature lists.
+/// The command with the subcommands that work on signature lists without a desk.
 fn with_lists<'a>(alloc: Global, command: Command<'a>) -> Result<Command<'a>, AllocError>
     ensures { IfOk result (λ c. app_of c ≡ spec.with_lists (app_of command.entry)) }
 {
@@ -276,7 +284,7 @@ fn with_lists<'a>(alloc: Global, command: Command<'a>) -> Result<Command<'a>, Al
         alloc,
         command,
         "pack",
-        "Packs the digests on standard input, one a line in hexadecimal, into a signature list",
+        "Packs the SHA-256 digests on standard input into a signature list",
         help::PACK,
         &[owner()],
     )
@@ -288,7 +296,7 @@ fn bare<'a>(alloc: Global) -> Result<Command<'a>, AllocError>
 {
     Command::new(alloc, "desk")
         .version("0.1.0")
-        .about("The Secure Boot signing and revocation desk")
+        .override_help(help::DESK)
         .propagate_version(true)
         .no_binary_name(true)
         .subcommand_required(true)
@@ -299,17 +307,9 @@ fn bare<'a>(alloc: Global) -> Result<Command<'a>, AllocError>
 pub fn desk_command<'a>(alloc: Global) -> Result<Command<'a>, AllocError>
     ensures { IfOk result (λ c. app_of c ≡ desk_app) }
 {
-    let command = with_founding(alloc, bare(alloc)?)?;
+    let command = with_keeping(alloc, bare(alloc)?)?;
     let command = with_requests(alloc, command)?;
     let command = with_images(alloc, command)?;
     let command = with_exports(alloc, command)?;
-    let command = with_lists(alloc, command)?;
-    with_one_more(
-        alloc,
-        command,
-        "minutes",
-        "Prints the accepted calls of a desk",
-        help::MINUTES,
-        &[db()],
-    )
+    with_lists(alloc, command)
 }

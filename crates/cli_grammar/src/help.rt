@@ -1,107 +1,223 @@
-//! The texts with which the help of each subcommand ends: what it reads and writes, an example, its statuses.
+//! The texts of help: of the program, its subcommands by what they are for, and behind the arguments of each subcommand
+//! what it reads and writes, an example and its exit statuses. A refusal has its number and name of docs/REFUSALS.md.
+//! checks/help.sh runs the examples and compares these texts with that table.
+
+/// Each row is what the subcommand's own help begins with.
+pub const DESK: &str = "\
+The Secure Boot signing and revocation desk
+
+Usage: desk <COMMAND>
+
+Make and keep a desk:
+  init     Makes a desk without calls in a file
+  person   Adds a person to a desk, with the token on standard input
+  minutes  Prints the accepted calls of a desk
+
+Take requests:
+  serve    Serves requests to a desk over HTTP, one connection after another
+  answer   Answers one request to a desk, an HTTP request on standard input
+
+Look at an image:
+  facts    Prints the digests, certificates and SBAT components of an EFI image
+  ranges   Prints the ranges of an EFI image that Authenticode hashes
+  verdict  Prints whether a desk allows an EFI image, or why it refuses it
+
+Publish what a desk decided:
+  db       Writes what a desk allows as signature lists (db)
+  dbx      Writes what a desk has revoked as signature lists (dbx)
+  level    Writes the SBAT level of a desk
+
+Work on signature lists without a desk:
+  list     Prints the place, kind and count of each signature list in a file
+  pack     Packs the SHA-256 digests on standard input into a signature list
+
+Ask for help:
+  help     Prints this, or the help of the COMMAND that follows
+
+Options:
+  -h, --help     Print help
+  -V, --version  Print version
+
+Exit status: 0 done, 1 refused, 2 an argument is wrong, 3 a device failed";
 
 pub const INIT: &str = "\
-Makes the desk in DB, a file that isn't there, or one without tables. OWNER is the owner of every entry that
-the desk exports. Reads no input, and prints nothing.
+DB has to be missing, empty, or a database without tables. OWNER is the owner
+of every entry that the desk exports. Reads no input and prints nothing.
 
-Example: desk init desk.db 00112233-4455-6677-8899-aabbccddeeff
+Example:
+  desk init desk.db 00112233-4455-6677-8899-aabbccddeeff
 
-Status: 0 done, 1 DB has tables already, 2 the words are wrong, 3 a device failed, as where DB can't be opened";
+Exit status:
+  0  the desk is made
+  1  refused: 46 Exists, DB has a table already
+  2  an argument is missing or wrong
+  3  a device failed: 45 File, DB can't be opened";
 
 pub const PERSON: &str = "\
-Reads the person's token, 16 to 128 visible characters of ASCII, from the first line of standard input, and
-prints `added NAME`. The desk keeps the token's SHA-256 and not the token. KEY names the call: the same
-call under the same key is answered again, and changes nothing.
+The token is the first line of standard input, 16 to 128 visible characters of
+ASCII; the desk keeps its SHA-256 alone. KEY names the call: the same call
+under the same key is answered again and changes nothing. Prints `added NAME`.
 
-Example: desk person desk.db olga officer k1 < token.txt
+Example:
+  desk person desk.db olga officer k1 < token.txt
 
-Status: 0 done, 1 refused, 2 a word or the token is wrong, 3 a device failed, as where DB isn't there or is in use";
-
-pub const SERVE: &str = "\
-Takes COUNT connections at PORT of 127.0.0.1, one after another, and then ends. Reads one HTTP request of each, and
-writes its response: submissions, reviews, returns, what is listed and revoked, verdicts and exports. What stops a
-connection ends that connection alone; a peer that pauses for 30 seconds is let go. Prints nothing.
-
-Example: desk serve desk.db 8080 1000
-
-Status: 0 done, whatever the responses were, 1 DB holds no desk, 2 a word is wrong, 3 a device failed, as where PORT is
-taken or DB isn't there or is in use; after a response with 41 Store or 42 Reopen the program ends";
-
-pub const ANSWER: &str = "\
-Reads one HTTP request from standard input, and writes its response to standard output; of no input, nothing. It
-is answered as `serve` answers it.
-
-Example: desk answer desk.db < request.txt
-
-Status: 0 done, whatever the response was, 1 DB holds no desk, 2 the words are wrong, 3 a device failed, as where DB
-isn't there or is in use, or after a response with 41 Store or 42 Reopen";
-
-pub const FACTS: &str = "\
-Reads FILE, and prints a line for its length, each digest, the gap, each certificate and each component: what
-a desk keeps of the image.
-
-Example: desk facts shimx64.efi
-
-Status: 0 done, 1 the image was refused, 2 the words are wrong, 3 a device failed";
-
-pub const RANGES: &str = "\
-Reads FILE, and prints a line FROM-TO for each range, half-open, and then the gap.
-
-Example: desk ranges shimx64.efi
-
-Status: 0 done, 1 the image was refused, 2 the words are wrong, 3 a device failed";
-
-pub const VERDICT: &str = "\
-Reads DB and FILE, and prints `allowed`, or `refused` and why: `dbx-digest`, `dbx-certificate`, `not-listed`,
-or `sbat NAME HAS NEEDS` with the image's generation of a component and the one that the level needs.
-
-Example: desk verdict desk.db shimx64.efi
-
-Status: 0 allowed, 1 refused, 2 the words are wrong, 3 a device failed, as where DB isn't there or is in use";
-
-pub const DB: &str = "\
-Reads DB, and writes signature lists to standard output: the digests that are listed, then each certificate.
-
-Example: desk db desk.db > db.esl
-
-Status: 0 done, 1 DB holds no desk, 2 the words are wrong, 3 a device failed, as where DB isn't there or is in use";
-
-pub const DBX: &str = "\
-Reads DB, and writes signature lists to standard output: the digests that are revoked, then the SHA-256 of each
-revoked certificate's TBSCertificate.
-
-Example: desk dbx desk.db > dbx.esl
-
-Status: 0 done, 1 DB holds no desk, 2 the words are wrong, 3 a device failed, as where DB isn't there or is in use";
-
-pub const LEVEL: &str = "\
-Reads DB, and prints the level as shim reads it: a line `sbat,1,STAMP`, then a line `NAME,GENERATION` for each
-component.
-
-Example: desk level desk.db > sbat_level.csv
-
-Status: 0 done, 1 DB holds no desk, 2 the words are wrong, 3 a device failed, as where DB isn't there or is in use";
-
-pub const LIST: &str = "\
-Reads FILE, and prints a line OFFSET KIND COUNT for each signature list in it: where it begins, the kind and
-the number of its entries.
-
-Example: desk list dbx.esl
-
-Status: 0 done, 1 the file was refused, 2 the words are wrong, 3 a device failed";
-
-pub const PACK: &str = "\
-Reads lines of 64 hexadecimal digits from standard input, and writes one signature list of them to standard
-output, ascending and each once.
-
-Example: desk pack 00112233-4455-6677-8899-aabbccddeeff < digests.txt > dbx.esl
-
-Status: 0 done, 1 a line was refused, 2 the words are wrong, 3 a device failed";
+Exit status:
+  0  the person is added
+  1  refused: 22 KeyReused, KEY named another call; 35 NameTaken, so is the
+     name or the token; 43 NotADesk, DB holds no desk
+  2  an argument or the token is missing or wrong
+  3  a device failed: 45 File, DB is missing or in use";
 
 pub const MINUTES: &str = "\
-Reads DB, and prints a line for each accepted call, the first call first: its number, caller, key, text and
-reply, parted by tabs.
+Prints a line for each call, the first call first: its number, caller, key,
+text and reply, separated by tabs.
 
-Example: desk minutes desk.db
+Example:
+  desk minutes desk.db > minutes.txt
 
-Status: 0 done, 1 DB holds no desk, 2 the words are wrong, 3 a device failed, as where DB isn't there or is in use";
+Exit status:
+  0  the minutes are printed
+  1  refused: 43 NotADesk, DB holds no desk
+  2  an argument is missing or wrong
+  3  a device failed: 45 File, DB is missing or in use";
+
+pub const SERVE: &str = "\
+Takes COUNT connections at PORT of 127.0.0.1, one after another, and ends. It
+reads one HTTP request of each and writes its response. A peer has 30 seconds
+for a request, and one more for each 64 KiB of it. What stops a connection ends
+that connection alone. Prints nothing.
+
+Example:
+  desk serve desk.db 8080 1000
+
+Exit status:
+  0  COUNT connections are served, whatever the responses were
+  1  refused: 43 NotADesk, DB holds no desk
+  2  an argument is missing or wrong
+  3  a device failed: 45 File, DB is missing or in use; 14 Read, PORT is taken;
+     41 Store or 42 Reopen, after the response that says so";
+
+pub const ANSWER: &str = "\
+Reads one HTTP request from standard input and writes to standard output the
+response that `serve` would give; of no input, nothing.
+
+Example:
+  desk answer desk.db < request.txt
+
+Exit status:
+  0  the request is answered, whatever the response is
+  1  refused: 43 NotADesk, DB holds no desk
+  2  an argument is missing or wrong
+  3  a device failed: 45 File, DB is missing or in use; 41 Store or 42 Reopen,
+     after the response that says so";
+
+pub const FACTS: &str = "\
+Prints a line for the length of FILE, for each of its digests, the gap, each
+certificate and each component: what a desk keeps of the image.
+
+Example:
+  desk facts shimx64.efi
+
+Exit status:
+  0  the facts are printed
+  1  refused: 1 Short to 13 TooLong, FILE is no EFI image that a desk takes
+  2  an argument is missing or wrong
+  3  a device failed: 45 File, FILE can't be opened";
+
+pub const RANGES: &str = "\
+Prints a line FROM-TO for each range, bytes FROM up to but not TO, and then the
+gap.
+
+Example:
+  desk ranges shimx64.efi
+
+Exit status:
+  0  the ranges are printed
+  1  refused: 1 Short to 9 Table, FILE is no EFI image that a desk takes;
+     13 TooLong, it is longer than 128 MiB
+  2  an argument is missing or wrong
+  3  a device failed: 45 File, FILE can't be opened";
+
+pub const VERDICT: &str = "\
+Prints `allowed`, or `refused` and why: `dbx-digest`, `dbx-certificate`,
+`not-listed`, or `sbat NAME HAS NEEDS` with the image's generation of a
+component and the one that the level needs.
+
+Example:
+  desk verdict desk.db shimx64.efi
+
+Exit status:
+  0  the image is allowed
+  1  the image is refused; or refused: 1 Short to 13 TooLong, FILE is no EFI
+     image that a desk takes; 43 NotADesk, DB holds no desk
+  2  an argument is missing or wrong
+  3  a device failed: 45 File, DB is missing or in use, or FILE can't be opened";
+
+pub const DB: &str = "\
+Writes signature lists to standard output: one of all digests that are listed,
+then one for each certificate. Where nothing is listed, nothing.
+
+Example:
+  desk db desk.db > db.esl
+
+Exit status:
+  0  the lists are written
+  1  refused: 43 NotADesk, DB holds no desk
+  2  an argument is missing or wrong
+  3  a device failed: 45 File, DB is missing or in use";
+
+pub const DBX: &str = "\
+Writes signature lists to standard output: one of all digests that are revoked,
+then one of the revoked certificates, each by the SHA-256 of its
+TBSCertificate. Where nothing is revoked, nothing.
+
+Example:
+  desk dbx desk.db > dbx.esl
+
+Exit status:
+  0  the lists are written
+  1  refused: 43 NotADesk, DB holds no desk
+  2  an argument is missing or wrong
+  3  a device failed: 45 File, DB is missing or in use";
+
+pub const LEVEL: &str = "\
+Writes the level as shim reads it: a line `sbat,1,STAMP`, then a line
+`NAME,GENERATION` for each component.
+
+Example:
+  desk level desk.db > sbat_level.csv
+
+Exit status:
+  0  the level is written
+  1  refused: 43 NotADesk, DB holds no desk
+  2  an argument is missing or wrong
+  3  a device failed: 45 File, DB is missing or in use";
+
+pub const LIST: &str = "\
+Prints a line OFFSET KIND COUNT for each signature list in FILE: the byte where
+it begins, the kind and the number of its entries.
+
+Example:
+  desk list dbx.esl
+
+Exit status:
+  0  the lists are printed
+  1  refused: 15 List or 16 EntrySize, at the offset where FILE holds no whole
+     list; 13 TooLong, it is longer than 128 MiB
+  2  an argument is missing or wrong
+  3  a device failed: 45 File, FILE can't be opened";
+
+pub const PACK: &str = "\
+Reads a digest a line, 64 hexadecimal digits, from standard input, and writes
+one signature list of them to standard output, ascending and each once; of no
+digest, nothing.
+
+Example:
+  desk pack 00112233-4455-6677-8899-aabbccddeeff < digests.txt > dbx.esl
+
+Exit status:
+  0  the list is written
+  1  refused: 18 Line, at the number of a line that is no digest; 13 TooLong,
+     the input is longer than 8 MiB
+  2  an argument is missing or wrong
+  3  a device failed: 14 Read or 17 Write";
