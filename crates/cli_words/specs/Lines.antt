@@ -14,6 +14,7 @@ use Rattle.cli_words.specs.declared.line.WordsFault.TheVariants.{Missing, NoMemo
 pub data Line : Type 0 where
   init : Text → Text → Line
   person : Text → Text → Text → Text → Line
+  minutes : Text → Line
   serve : Text → Text → Text → Line
   answer : Text → Line
   facts : Text → Line
@@ -24,44 +25,36 @@ pub data Line : Type 0 where
   level : Text → Line
   list : Text → Line
   pack : Text → Line
-  minutes : Text → Line
 
--- own: the name of its subcommand
+-- own: its words: the name of its subcommand, and those after it
+abbrev pub words_of : Line → Text × List Text
+words_of (init path owner) = (codes "init", path ∷ owner ∷ [])
+words_of (person path name role key) = (codes "person", path ∷ name ∷ role ∷ key ∷ [])
+words_of (minutes path) = (codes "minutes", path ∷ [])
+words_of (serve path port count) = (codes "serve", path ∷ port ∷ count ∷ [])
+words_of (answer path) = (codes "answer", path ∷ [])
+words_of (facts file) = (codes "facts", file ∷ [])
+words_of (ranges file) = (codes "ranges", file ∷ [])
+words_of (verdict path file) = (codes "verdict", path ∷ file ∷ [])
+words_of (db path) = (codes "db", path ∷ [])
+words_of (dbx path) = (codes "dbx", path ∷ [])
+words_of (level path) = (codes "level", path ∷ [])
+words_of (list file) = (codes "list", file ∷ [])
+words_of (pack owner) = (codes "pack", owner ∷ [])
+
+-- the name of its subcommand
 abbrev pub subcommand_name : Line → Text
-subcommand_name (init path owner) = codes "init"
-subcommand_name (person path name role key) = codes "person"
-subcommand_name (serve path port count) = codes "serve"
-subcommand_name (answer path) = codes "answer"
-subcommand_name (facts file) = codes "facts"
-subcommand_name (ranges file) = codes "ranges"
-subcommand_name (verdict path file) = codes "verdict"
-subcommand_name (db path) = codes "db"
-subcommand_name (dbx path) = codes "dbx"
-subcommand_name (level path) = codes "level"
-subcommand_name (list file) = codes "list"
-subcommand_name (pack owner) = codes "pack"
-subcommand_name (minutes path) = codes "minutes"
+subcommand_name line = (words_of line).0
 
--- own: the words after it
+-- the words after it
 abbrev pub words_after : Line → List Text
-words_after (init path owner) = path ∷ owner ∷ []
-words_after (person path name role key) = path ∷ name ∷ role ∷ key ∷ []
-words_after (serve path port count) = path ∷ port ∷ count ∷ []
-words_after (answer path) = path ∷ []
-words_after (facts file) = file ∷ []
-words_after (ranges file) = file ∷ []
-words_after (verdict path file) = path ∷ file ∷ []
-words_after (db path) = path ∷ []
-words_after (dbx path) = path ∷ []
-words_after (level path) = path ∷ []
-words_after (list file) = file ∷ []
-words_after (pack owner) = owner ∷ []
-words_after (minutes path) = path ∷ []
+words_after line = (words_of line).1
 
 -- what the program takes the line for
 abbrev pub line_of : Words → Line
 line_of (said.Init path owner) = init path.now owner.now
 line_of (said.Person words) = person words.db.now words.name.now words.role.now words.key.now
+line_of (said.Minutes path) = minutes path.now
 line_of (said.Serve words) = serve words.db.now words.port.now words.count.now
 line_of (said.Answer path) = answer path.now
 line_of (said.Facts file) = facts file.now
@@ -72,17 +65,12 @@ line_of (said.Dbx path) = dbx path.now
 line_of (said.Level path) = level path.now
 line_of (said.List file) = list file.now
 line_of (said.Pack owner) = pack owner.now
-line_of (said.Minutes path) = minutes path.now
 
 -- what follows from the word at a place, where the rows that `clap` found have it
 abbrev pub with_word : List Row → ℕ → (Text → Option Line) → Option Line
 with_word rows place next = option_and_then next (first_of (id_of place) rows)
 
--- what a subcommand of one word says by its rows
-abbrev pub one_in : (Text → Line) → List Row → Option Line
-one_in line rows = with_word rows 0 (λ word. Some (line word))
-
--- what one of two words says
+-- what a subcommand of two words says by its rows
 abbrev pub two_in : (Text → Text → Line) → List Row → Option Line
 two_in line rows = with_word rows 0 (λ word. with_word rows 1 (λ other. Some (line word other)))
 
@@ -97,23 +85,28 @@ person_in rows =
     with_word rows 0 (λ path. with_word rows 1 (λ name. with_word rows 2 (λ role. with_word rows 3 (λ key.
     Some (person path name role key)))))
 
+-- what the subcommand of that name says by its word, where it has one word
+abbrev pub of_one_word : Text → Text → Option Line
+of_one_word name word =
+    if bytes_eq name (codes "minutes") then Some (minutes word)
+    else if bytes_eq name (codes "answer") then Some (answer word)
+    else if bytes_eq name (codes "facts") then Some (facts word)
+    else if bytes_eq name (codes "ranges") then Some (ranges word)
+    else if bytes_eq name (codes "db") then Some (db word)
+    else if bytes_eq name (codes "dbx") then Some (dbx word)
+    else if bytes_eq name (codes "level") then Some (level word)
+    else if bytes_eq name (codes "list") then Some (list word)
+    else if bytes_eq name (codes "pack") then Some (pack word)
+    else None
+
 -- what a subcommand of that name says by its rows
 abbrev pub line_in : Text × List Row → Option Line
 line_in (name, rows) =
     if bytes_eq name (codes "init") then two_in init rows
     else if bytes_eq name (codes "person") then person_in rows
     else if bytes_eq name (codes "serve") then serve_in rows
-    else if bytes_eq name (codes "answer") then one_in answer rows
-    else if bytes_eq name (codes "facts") then one_in facts rows
-    else if bytes_eq name (codes "ranges") then one_in ranges rows
     else if bytes_eq name (codes "verdict") then two_in verdict rows
-    else if bytes_eq name (codes "db") then one_in db rows
-    else if bytes_eq name (codes "dbx") then one_in dbx rows
-    else if bytes_eq name (codes "level") then one_in level rows
-    else if bytes_eq name (codes "list") then one_in list rows
-    else if bytes_eq name (codes "pack") then one_in pack rows
-    else if bytes_eq name (codes "minutes") then one_in minutes rows
-    else None
+    else with_word rows 0 (of_one_word name)
 
 -- a word that stands for itself: it isn't empty and doesn't begin with a hyphen (45)
 abbrev pub IsPlainWord : Text → Type 0

@@ -1,4 +1,7 @@
 //! What the program's words say.
+ghost use Rattle.std.specs.Prelude.{◌≡◌, option_map};
+ghost use Rattle.cli_words.specs.Lines.{line_of, of_one_word};
+
 use clap::Error;
 
 /// The words of `person`.
@@ -25,6 +28,8 @@ pub enum Words<'a> {
     Init { db: &'a str, owner: &'a str },
     /// Adds a person to the desk in a file.
     Person(PersonWords<'a>),
+    /// Prints the minutes of the desk in this file.
+    Minutes { db: &'a str },
     /// Serves requests to the desk in a file, one connection after another.
     Serve(ServeWords<'a>),
     /// Answers the request on standard input, for the desk in this file.
@@ -45,8 +50,26 @@ pub enum Words<'a> {
     List { file: &'a str },
     /// Packs the digests of the standard input under this owner's GUID.
     Pack { owner: &'a str },
-    /// Prints the minutes of the desk in this file.
-    Minutes { db: &'a str },
+}
+
+impl<'a> Words<'a> {
+    /// The subcommand of one word that has this name, with its word.
+    pub(crate) fn from_one(name: &str, word: &'a str) -> Option<Words<'a>>
+        ensures { option_map line_of result ≡ of_one_word name.now word.now }
+    {
+        match name {
+            "minutes" => Some(Words::Minutes { db: word }),
+            "answer" => Some(Words::Answer { db: word }),
+            "facts" => Some(Words::Facts { file: word }),
+            "ranges" => Some(Words::Ranges { file: word }),
+            "db" => Some(Words::Db { db: word }),
+            "dbx" => Some(Words::Dbx { db: word }),
+            "level" => Some(Words::Level { db: word }),
+            "list" => Some(Words::List { file: word }),
+            "pack" => Some(Words::Pack { owner: word }),
+            _ => None,
+        }
+    }
 }
 
 /// Why no subcommand was taken.

@@ -2,7 +2,7 @@
 ghost use Rattle.std.specs.Prelude.{◌≡◌, ◌<◌, length, map, option_and_then, option_map, string_bytes};
 ghost use Rattle.clap.specs.Words.{first_of, found_of, rows_of, subcommand_rows_of};
 ghost use Rattle.cli_grammar.specs.Commands.{id_of, ids};
-ghost use Rattle.cli_words.specs.Lines.{ReadsWords, Line, Spells, Takes, line_in, line_of, one_in};
+ghost use Rattle.cli_words.specs.Lines.{ReadsWords, Line, Spells, Takes, line_in, line_of};
 ghost use Rattle.cli_words.specs.Lines.{init, person_in, serve_in, two_in, verdict};
 
 use crate::line::{PersonWords, ServeWords, Words, WordsFault};
@@ -72,44 +72,8 @@ fn line_at<'a>(name: &'a str, matches: &ArgMatches<'a>) -> Option<Words<'a>>
         "init" => init_at(matches),
         "person" => person_at(matches),
         "serve" => serve_at(matches),
-        "answer" => {
-            let db = word_at(matches, 0)?;
-            Some(Words::Answer { db })
-        }
-        "facts" => {
-            let file = word_at(matches, 0)?;
-            Some(Words::Facts { file })
-        }
-        "ranges" => {
-            let file = word_at(matches, 0)?;
-            Some(Words::Ranges { file })
-        }
         "verdict" => verdict_at(matches),
-        "db" => {
-            let db = word_at(matches, 0)?;
-            Some(Words::Db { db })
-        }
-        "dbx" => {
-            let db = word_at(matches, 0)?;
-            Some(Words::Dbx { db })
-        }
-        "level" => {
-            let db = word_at(matches, 0)?;
-            Some(Words::Level { db })
-        }
-        "list" => {
-            let file = word_at(matches, 0)?;
-            Some(Words::List { file })
-        }
-        "pack" => {
-            let owner = word_at(matches, 0)?;
-            Some(Words::Pack { owner })
-        }
-        "minutes" => {
-            let db = word_at(matches, 0)?;
-            Some(Words::Minutes { db })
-        }
-        _ => None,
+        _ => Words::from_one(name, word_at(matches, 0)?),
     }
 }
 

@@ -78,21 +78,9 @@ pub fn person_from<R: Read>(
         (R.remaining reader.old) read.0 read.1) }
     ensures first { IfErr result (StopsFirst name.now role.now key.now (R.remaining reader.old)) }
 {
-    let name = match name_from(alloc, name) {
-        Ok(name) => name,
-        Err(why) => return Err(why),
-    };
-    let role = match role_from(role) {
-        Ok(role) => role,
-        Err(why) => return Err(why),
-    };
-    let key = match key_from(alloc, key) {
-        Ok(key) => key,
-        Err(why) => return Err(why),
-    };
-    let token = match token_from(alloc, reader) {
-        Ok(token) => token,
-        Err(why) => return Err(why),
-    };
+    let name = name_from(alloc, name)?;
+    let role = role_from(role)?;
+    let key = key_from(alloc, key)?;
+    let token = token_from(alloc, reader)?;
     Ok((key, Person { name, role, token }))
 }
