@@ -4,6 +4,7 @@
 mod keyed;
 mod lists;
 mod loading;
+mod pushing;
 mod sizes;
 mod sizing;
 mod viewing;

@@ -1,9 +1,9 @@
 //! The rows that a call names, but for those of the lists.
-ghost use Rattle.std.specs.Prelude.{◌≡◌, ◌++◌, ℕ, All, IfOk, IsTrue, Some, find, option_copied};
+ghost use Rattle.std.specs.Prelude.{◌≡◌, ℕ, All, IfOk, IsTrue, Some, find, option_copied};
 ghost use Rattle.desk_history.specs.Formed.{IsReadable};
 ghost use Rattle.desk_history.specs.People.{added_by};
 ghost use Rattle.desk_history.specs.Runs.{has_key};
-ghost use Rattle.store_reads.specs.Reads.{ReadsTables, listed};
+ghost use Rattle.store_reads.specs.Reads.{ReadsTables};
 ghost use Rattle.desk_rules.specs.Decisions.{called};
 ghost use Rattle.desk_rules.specs.Keys as spec;
 ghost use Rattle.desk_rules.specs.Shown.{is_proposal_row};
@@ -15,6 +15,7 @@ ghost use Rattle.store_views.specs.Steps.{HoldsNamed, ReadsBack, ShowsNamed, Sho
 ghost use Rattle.store_views.specs.Steps.{ShowsProposal, ShowsRequest, ShowsVotes};
 
 use crate::keyed;
+use crate::pushing::push_some;
 use desk_history::{Minute, ProposalRow, RequestRow, VoteRow};
 use desk_texts::{Caller, Command, Key, Person, ProposalNumber, RequestNumber};
 use sqlite::{Alter, Transaction};
@@ -29,19 +30,6 @@ pub(crate) struct CallRows {
     pub(crate) requests: Vec<RequestRow>,
     pub(crate) votes: Vec<VoteRow>,
     pub(crate) proposals: Vec<ProposalRow>,
-}
-
-/// Puts a row to the others, if there is one.
-fn put<T: Drop>(rows: &mut Vec<T>, row: Option<T>) -> Result<(), ReadFault>
-    ensures { IfOk result (λ _. rows.new.items ≡ rows.old.items ++ listed row) }
-{
-    let Some(row) = row else {
-        return Ok(());
-    };
-    if rows.push(row).is_err() {
-        return Err(ReadFault::NoMemory);
-    }
-    Ok(())
 }
 
 /// The person whom the command adds.
@@ -151,14 +139,14 @@ fn people_of<S: Alter>(
 {
     let own = keyed::person(alloc, tx, caller.name())?;
     let mut people = Vec::new(alloc);
-    put(&mut people, own)?;
+    push_some(&mut people, own)?;
     let Some(person) = added(command) else {
         return Ok(people);
     };
     let namesake = keyed::person(alloc, tx, person.name.as_str())?;
-    put(&mut people, namesake)?;
+    push_some(&mut people, namesake)?;
     let holder = keyed::holder(alloc, tx, &person.token)?;
-    put(&mut people, holder)?;
+    push_some(&mut people, holder)?;
     Ok(people)
 }
 
@@ -182,7 +170,7 @@ fn calls_of<S: Alter>(
 {
     let earlier = keyed::earlier(alloc, tx, caller.name(), key)?;
     let mut calls = Vec::new(alloc);
-    put(&mut calls, earlier)?;
+    push_some(&mut calls, earlier)?;
     Ok(calls)
 }
 
@@ -205,7 +193,7 @@ fn requests_of<S: Alter>(
         return Ok(rows);
     };
     let row = keyed::request(alloc, tx, number)?;
-    put(&mut rows, row)?;
+    push_some(&mut rows, row)?;
     Ok(rows)
 }
 
@@ -250,7 +238,7 @@ fn proposals_of<S: Alter>(
         return Ok(rows);
     };
     let row = keyed::proposal(alloc, tx, number)?;
-    put(&mut rows, row)?;
+    push_some(&mut rows, row)?;
     Ok(rows)
 }
 

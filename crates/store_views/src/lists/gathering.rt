@@ -1,30 +1,18 @@
 //! The rows of many keys, key by key.
-ghost use Rattle.std.specs.Prelude.{◌≡◌, ◌++◌, [], All, IfOk, IsTrue, OnOk, map};
+ghost use Rattle.std.specs.Prelude.{◌≡◌, [], All, IfOk, IsTrue, OnOk, map};
 ghost use Rattle.desk_history.specs.Calls.{is_among};
 ghost use Rattle.store_views.specs.lists.Gathering.{Gathers, PutsOnly, levels_of, listings_of, revocations_of};
-ghost use Rattle.store_reads.specs.Reads.{ReadsTables, listed};
+ghost use Rattle.store_reads.specs.Reads.{ReadsTables};
 ghost use Rattle.store_sql.specs.States.{DoesInside, CommitsNothing, Spares};
 
 use crate::lists::finding::{find_component, find_listed, find_revoked};
+use crate::pushing::push_some;
 use desk_bytes::Digest;
 use desk_texts::{ListedKind, Listing};
 use sbat::Component;
 use sqlite::{Alter, Transaction};
 use std::alloc::Global;
 use store_reads::ReadFault;
-
-/// Puts the row after the others, if there is one.
-fn put<T: Drop>(row: Option<T>, rows: &mut Vec<T>) -> Result<(), ReadFault>
-    ensures { OnOk result (rows.new.items ≡ rows.old.items ++ listed row) }
-{
-    let Some(row) = row else {
-        return Ok(());
-    };
-    if rows.push(row).is_err() {
-        return Err(ReadFault::NoMemory);
-    }
-    Ok(())
-}
 
 /// Puts the keys of the listed entries of this kind and these digests after the others.
 pub(crate) fn gather_listed<S: Alter>(
@@ -45,7 +33,7 @@ pub(crate) fn gather_listed<S: Alter>(
 {
     for digest in digests {
         let row = find_listed(alloc, tx, kind, digest)?;
-        put(row, rows)?;
+        push_some(rows, row)?;
     }
     Ok(())
 }
@@ -68,7 +56,7 @@ pub(crate) fn gather_revoked<S: Alter>(
 {
     for digest in digests {
         let row = find_revoked(alloc, tx, kind, digest)?;
-        put(row, rows)?;
+        push_some(rows, row)?;
     }
     Ok(())
 }
@@ -91,7 +79,7 @@ pub(crate) fn gather_components<S: Alter>(
 {
     for component in named {
         let row = find_component(alloc, tx, &component.name)?;
-        put(row, rows)?;
+        push_some(rows, row)?;
     }
     Ok(())
 }

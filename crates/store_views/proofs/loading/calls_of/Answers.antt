@@ -15,8 +15,8 @@ returns-clause-value g c clean inside =
     let caller = caller_name c.args.caller.now in
     let key = c.args.key.now in
     let found = c.in_ok-earlier.earlier in
-    let rows = c.put.new.rows.items in
-    let is : rows ≡ listed found = subst (λ l. rows ≡ l ++ listed found) c.new-calls.ensures.items c.in_ok-put.ensures in
+    let rows = c.push_some.new.rows.items in
+    let is : rows ≡ listed found = subst (λ l. rows ≡ l ++ listed found) c.new-calls.ensures.items c.in_ok-push_some.ensures in
     tells_so first last (λ t. All IsReadable t.calls → filter (has_key caller key) t.calls ≡ listed found)
     (λ t. All IsReadable t.calls → find (has_key caller key) rows ≡ find (has_key caller key) t.calls)
     (λ t read readable. finds_alone (has_key caller key) t.calls rows found is (read readable))

@@ -18,8 +18,8 @@ returns-in_default-clause-value g c clean inside =
     let last = state g.S.Store c.person.new.tx.conn.now in
     let caller = caller_name c.args.caller.now in
     let own = c.in_ok-own.own in
-    let rows = c.put.new.rows.items in
-    let is : rows ≡ listed own = subst (λ l. rows ≡ l ++ listed own) c.new-people.ensures.items c.in_ok-put.ensures in
+    let rows = c.push_some.new.rows.items in
+    let is : rows ≡ listed own = subst (λ l. rows ≡ l ++ listed own) c.new-people.ensures.items c.in_ok-push_some.ensures in
     let none : added_by c.args.command.now ≡ None = search (rules, c.added.ensures, c.in_default.is) in
     tells_so first last (λ t. filter (has_name caller) t.people ≡ listed own) (λ t. ShowsPeople rows t caller c.args.command.now)
     (λ t read. shows_caller t caller c.args.command.now own read rows none is)
@@ -39,13 +39,13 @@ returns-clause-value g c clean inside =
     let own = c.in_ok-own.own in
     let namesake = c.in_ok-namesake.namesake in
     let holder = c.in_ok-holder.holder in
-    let rows = c.put-3.new.rows.items in
+    let rows = c.push_some-3.new.rows.items in
     let a = subst (λ n. ReadsTables (λ t. filter (has_name n) t.people ≡ listed own) s0 s1) c.name.ensures (c.in_ok-own.ensures.value c1 inside) in
     let b = subst (λ n. ReadsTables (λ t. filter (has_name n) t.people ≡ listed namesake) s1 s2) c.as_str.ensures.value (c.in_ok-namesake.ensures.value c2 a.kept.inside) in
     let d = c.in_ok-holder.ensures.value clean b.kept.inside in
     let some : added_by command ≡ Some person = search (rules, c.added.ensures, c.in-Some.is) in
-    let all = put_thrice c.new-people.result.items c.put.new.rows.items c.put-2.new.rows.items rows (listed own) (listed namesake) (listed holder)
-    c.new-people.ensures.items c.in_ok-put.ensures c.in_ok-put-2.ensures c.in_ok-put-3.ensures in
+    let all = put_thrice c.new-people.result.items c.push_some.new.rows.items c.push_some-2.new.rows.items rows (listed own) (listed namesake) (listed holder)
+    c.new-people.ensures.items c.in_ok-push_some.ensures c.in_ok-push_some-2.ensures c.in_ok-push_some-3.ensures in
     record {
       kept = changes_then desk_schema contents s0 s1 s3 (λ t. t) (λ t. t) a.kept (changes_then desk_schema contents s1 s2 s3 (λ t. t) (λ t. t) b.kept d.kept);
       tells = λ t sees.
@@ -61,9 +61,9 @@ returns-clause-only g c =
     let namesake = c.in_ok-namesake.namesake in
     let holder = c.in_ok-holder.holder in
     let some : added_by c.args.command.now ≡ Some person = search (rules, c.added.ensures, c.in-Some.is) in
-    people_asked (caller_name c.args.caller.now) c.args.command.now c.put-3.new.rows.items person (listed own) (listed namesake) (listed holder) some
+    people_asked (caller_name c.args.caller.now) c.args.command.now c.push_some-3.new.rows.items person (listed own) (listed namesake) (listed holder) some
     (subst (λ n. All (λ p. IsTrue (has_name n p)) (listed own)) c.name.ensures c.in_ok-own.ensures.only)
     (subst (λ n. All (λ p. IsTrue (has_name n p)) (listed namesake)) c.as_str.ensures.value c.in_ok-namesake.ensures.only)
     c.in_ok-holder.ensures.only
-    (put_thrice c.new-people.result.items c.put.new.rows.items c.put-2.new.rows.items c.put-3.new.rows.items (listed own) (listed namesake) (listed holder)
-    c.new-people.ensures.items c.in_ok-put.ensures c.in_ok-put-2.ensures c.in_ok-put-3.ensures)
+    (put_thrice c.new-people.result.items c.push_some.new.rows.items c.push_some-2.new.rows.items c.push_some-3.new.rows.items (listed own) (listed namesake) (listed holder)
+    c.new-people.ensures.items c.in_ok-push_some.ensures c.in_ok-push_some-2.ensures c.in_ok-push_some-3.ensures)

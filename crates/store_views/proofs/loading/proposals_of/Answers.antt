@@ -15,8 +15,8 @@ returns-clause-value g c clean inside =
     let last = state g.S.Store c.proposal.new.tx.conn.now in
     let number = c.in-Some.number in
     let found = c.in_ok-row.row in
-    let rows = c.put.new.rows.items in
-    let is : rows ≡ listed found = subst (λ l. rows ≡ l ++ listed found) c.new-rows.ensures.items c.in_ok-put.ensures in
+    let rows = c.push_some.new.rows.items in
+    let is : rows ≡ listed found = subst (λ l. rows ≡ l ++ listed found) c.new-rows.ensures.items c.in_ok-push_some.ensures in
     let named : proposal_named c.args.command.now ≡ Some number = search (rules, c.proposal_of.ensures, c.in-Some.is) in
     subst (λ n. ReadsTables (λ t. All IsStamped t.proposals → ShowsProposal rows t n) first last) (sym named)
     (tells_so first last (λ t. All IsStamped t.proposals → filter (is_proposal_row number) t.proposals ≡ listed found)

@@ -14,8 +14,8 @@ returns-clause-value g c clean inside =
     let last = state g.S.Store c.request.new.tx.conn.now in
     let number = c.in-Some.number in
     let found = c.in_ok-row.row in
-    let rows = c.put.new.rows.items in
-    let is : rows ≡ listed found = subst (λ l. rows ≡ l ++ listed found) c.new-rows.ensures.items c.in_ok-put.ensures in
+    let rows = c.push_some.new.rows.items in
+    let is : rows ≡ listed found = subst (λ l. rows ≡ l ++ listed found) c.new-rows.ensures.items c.in_ok-push_some.ensures in
     let named : request_named c.args.command.now ≡ Some number = search (rules, c.request_of.ensures, c.in-Some.is) in
     subst (λ n. ReadsTables (λ t. ShowsRequest rows t n) first last) (sym named)
     (tells_so first last (λ t. filter (is_request_row number) t.requests ≡ listed found) (λ t. ShowsRequest rows t (Some number))

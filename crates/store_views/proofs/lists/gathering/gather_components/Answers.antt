@@ -18,14 +18,14 @@ loop-component-preserved g c =
     let key = c.component-item.result in
     let start = c.args.rows.now.items in
     let was = c.loop-component.rows.items in
-    let is = c.put.new.rows.items in (
+    let is = c.push_some.new.rows.items in (
       did.same_reference ∙ before.0,
       spares_then first mid new before.1 did.survives,
       λ clean inside.
           let late : HasCleanDisk mid = omega (arith, did.survives.clean, clean) in
           let stood = before.2 late inside in
-          gathers_next levels_of keys c.loop-component.component-index key start was is c.in_ok-row.row first mid new c.loop-component-test.true c.component-item.is c.in_ok-put.ensures stood (did.value clean stood.kept.inside),
-      puts_next (λ x. IsTrue (is_among (map (λ y. y.name) keys) x.name)) start was is c.in_ok-row.row c.in_ok-put.ensures
+          gathers_next levels_of keys c.loop-component.component-index key start was is c.in_ok-row.row first mid new c.loop-component-test.true c.component-item.is c.in_ok-push_some.ensures stood (did.value clean stood.kept.inside),
+      puts_next (λ x. IsTrue (is_among (map (λ y. y.name) keys) x.name)) start was is c.in_ok-row.row c.in_ok-push_some.ensures
           (is_name_found (map (λ y. y.name) keys) key.name
           (is_name keys c.loop-component.component-index key c.loop-component-test.true c.component-item.is) c.in_ok-row.row did.only) before.3,
     )

@@ -18,14 +18,14 @@ loop-digest-preserved g c =
     let key = c.digest-item.result in
     let start = c.args.rows.now.items in
     let was = c.loop-digest.rows.items in
-    let is = c.put.new.rows.items in (
+    let is = c.push_some.new.rows.items in (
       did.same_reference ∙ before.0,
       spares_then first mid new before.1 did.survives,
       λ clean inside.
           let late : HasCleanDisk mid = omega (arith, did.survives.clean, clean) in
           let stood = before.2 late inside in
-          gathers_next (revocations_of c.args.kind) keys c.loop-digest.digest-index key start was is c.in_ok-row.row first mid new c.loop-digest-test.true c.digest-item.is c.in_ok-put.ensures stood (did.value clean stood.kept.inside),
-      puts_next (λ x. IsTrue (is_among keys x)) start was is c.in_ok-row.row c.in_ok-put.ensures
+          gathers_next (revocations_of c.args.kind) keys c.loop-digest.digest-index key start was is c.in_ok-row.row first mid new c.loop-digest-test.true c.digest-item.is c.in_ok-push_some.ensures stood (did.value clean stood.kept.inside),
+      puts_next (λ x. IsTrue (is_among keys x)) start was is c.in_ok-row.row c.in_ok-push_some.ensures
           (is_key_found keys key
           (is_key keys c.loop-digest.digest-index key c.loop-digest-test.true c.digest-item.is) c.in_ok-row.row did.only) before.3,
     )
