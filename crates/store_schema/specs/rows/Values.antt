@@ -76,22 +76,26 @@ proposal_values p =
     Int (pos p.number) ∷ Null ∷ Text p.officer ∷ Text (proposal_kind_text p.kind) ∷ Int (pos (unwrap_or p.named.stamp 0))
     ∷ Int (pos p.named.passed) ∷ Text (proposal_state_text p.state) ∷ []
 
--- ---- own: what stands for an item: its kind, the digest or nothing, and the component's name and generation, or nothing and 0
+-- ---- own: the columns of an item: its kind, its digest, and its component's name and generation
 
+-- which of the three an item is
 abbrev pub item_kind : ProposalItem → ItemKind
 item_kind (items.Digest d) = kinds.Digest
 item_kind (items.Certificate d) = kinds.Certificate
 item_kind (items.Component x) = kinds.Component
 
+-- its digest, and no byte for a component
 abbrev pub item_digest : ProposalItem → List ℕ
 item_digest (items.Digest d) = d
 item_digest (items.Certificate d) = d
 item_digest (items.Component x) = []
 
+-- the component's name, and no byte for a digest or a certificate
 abbrev pub item_name : ProposalItem → List ℕ
 item_name (items.Component x) = x.name
 item_name item = []
 
+-- the component's generation, and 0 for a digest or a certificate
 abbrev pub item_generation : ProposalItem → ℕ
 item_generation (items.Component x) = x.generation
 item_generation item = 0
