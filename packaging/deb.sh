@@ -25,15 +25,17 @@ readelf -h "$program" | grep -q 'Machine: .*X86-64' || fail "$program is for ano
 readelf -l "$program" | grep -q 'interpreter: /lib64/ld-linux-x86-64.so.2' || fail "$program asks for a loader of its own"
 
 name=kovelamiru-desk
-version=$("$program" --version | sed -n 's/^desk //p')
+# As `desk 0.1.0 (KIT)`.
+said=$("$program" --version)
+version=$(echo "$said" | sed -n 's/^desk \([^ ]*\) (.*)$/\1/p')
+kit=$(echo "$said" | sed -n 's/^desk [^ ]* (\(.*\))$/\1/p')
 newest=$(sed -n '/^## /{s/^## \([^ ,]*\).*/\1/p;q}' "$root/CHANGELOG.md")
 [ "$version" = "$newest" ] || fail "the program has version $version, and CHANGELOG.md $newest"
 commit=$(git -C "$root" describe --always --dirty --abbrev=40 --exclude='*')
 SOURCE_DATE_EPOCH=${SOURCE_DATE_EPOCH:-$(git -C "$root" log -1 --format=%ct)}
 export SOURCE_DATE_EPOCH
 maintainer=$(git -C "$root" log -1 --format='%an <%ae>')
-kit=$(sed -n 's/.*Proved with `\(.*\)`.*/\1/p' "$root/README.md")
-[ -n "$kit" ] || fail 'README.md names no kit'
+[ -n "$kit" ] || fail "the program names no kit: $said"
 
 room=$(mktemp -d)
 trap 'rm -rf "$room"' EXIT
@@ -85,7 +87,7 @@ done
 place 644 "$room/copyright" "usr/share/doc/$name/copyright"
 
 {
-    printf 'Commit %s, whose README.md says: proved with %s.\nSHA-256 of /usr/bin/desk: %s.\n\n' "$commit" "$kit" \
+    printf 'Commit %s, proved with %s.\nSHA-256 of /usr/bin/desk: %s.\n\n' "$commit" "$kit" \
         "$(sha256sum < "$program" | cut -d' ' -f1)"
     printf 'No desk is made, and nothing is started, by the installation. desk(1) says how to make one, how to let it serve, how to\n'
     printf 'copy it, and what an older copy means. Neither remove nor purge takes /var/lib/kovelamiru-desk away.\n'

@@ -295,7 +295,7 @@ fn bare<'a>(alloc: Global) -> Result<Command<'a>, AllocError>
     ensures { IfOk result (λ c. app_of c ≡ spec.bare_app) }
 {
     Command::new(alloc, "desk")
-        .version("0.1.0")
+        .version(help::VERSION)
         .override_help(help::DESK)
         .propagate_version(true)
         .no_binary_name(true)
