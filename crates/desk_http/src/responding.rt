@@ -25,18 +25,18 @@ fn json_response(alloc: Global, json: Option<Vec<u8>>) -> Result<Vec<u8>, AllocE
         bytes.items ≡ response_text status.Ok Json (spec.items_or_none json)) }
 {
     match json {
-        Some(text) => response(alloc, Status::Ok, Content::Json, &text),
-        None => response(alloc, Status::Ok, Content::Json, &[]),
+        Some(text) => response(alloc, Status::Ok, Content::Json, text),
+        None => response(alloc, Status::Ok, Content::Json, Vec::new(alloc)),
     }
 }
 
-/// The whole response to an answer. Takes memory.
-fn response_to(alloc: Global, answer: &Answer) -> Result<Vec<u8>, AllocError>
-    ensures { IfOk result (λ bytes. bytes.items ≡ spec.response_of answer.now) }
+/// The whole response to an answer, whose own bytes aren't held a second time. Takes memory.
+fn response_to(alloc: Global, answer: Answer) -> Result<Vec<u8>, AllocError>
+    ensures { IfOk result (λ bytes. bytes.items ≡ spec.response_of answer) }
 {
     match answer {
-        Answer::Reply(reply) => json_response(alloc, reply_json(alloc, reply)?),
-        Answer::Request(shown) => json_response(alloc, Some(request_json(alloc, shown)?)),
+        Answer::Reply(reply) => json_response(alloc, reply_json(alloc, &reply)?),
+        Answer::Request(shown) => json_response(alloc, Some(request_json(alloc, &shown)?)),
         Answer::Requests(shown) => {
             json_response(alloc, Some(requests_json(alloc, shown.as_slice())?))
         }
@@ -44,13 +44,13 @@ fn response_to(alloc: Global, answer: &Answer) -> Result<Vec<u8>, AllocError>
             json_response(alloc, Some(proposals_json(alloc, shown.as_slice())?))
         }
         Answer::Verdict(verdict, facts) => {
-            json_response(alloc, verdict_json(alloc, *verdict, facts)?)
+            json_response(alloc, verdict_json(alloc, verdict, &facts)?)
         }
-        Answer::Dbx(bytes) => response(alloc, Status::Ok, Content::Bytes, bytes.as_slice()),
-        Answer::Db(bytes) => response(alloc, Status::Ok, Content::Bytes, bytes.as_slice()),
-        Answer::Level(text) => response(alloc, Status::Ok, Content::Text, text.as_slice()),
-        Answer::Report(text) => response(alloc, Status::Ok, Content::Text, text.as_slice()),
-        Answer::Refused(refused) => refused_response(alloc, *refused),
+        Answer::Dbx(bytes) => response(alloc, Status::Ok, Content::Bytes, bytes.into_vec()),
+        Answer::Db(bytes) => response(alloc, Status::Ok, Content::Bytes, bytes.into_vec()),
+        Answer::Level(text) => response(alloc, Status::Ok, Content::Text, text.into_vec()),
+        Answer::Report(text) => response(alloc, Status::Ok, Content::Text, text.into_vec()),
+        Answer::Refused(refused) => refused_response(alloc, refused),
     }
 }
 
@@ -103,18 +103,19 @@ fn send_outage<W: Write>(outage: Outage, writer: &mut W) -> Result<Served, HttpF
 /// before its first byte is written.
 pub(crate) fn send_answer<W: Write>(
     alloc: Global,
-    answer: &Answer,
+    answer: Answer,
     writer: &mut W,
 ) -> Result<Served, HttpFault>
-    ensures { (told : Answer) × sending.Replaces answer.now told
+    ensures { (told : Answer) × sending.Replaces answer told
         × sending.Sends (W.contents writer.old) (W.contents writer.new) told result }
 {
-    match outage_in(answer) {
+    match outage_in(&answer) {
         Some(outage) => return send_outage(outage, writer),
         None => {}
     }
+    let says = Answered::of(&answer);
     match response_to(alloc, answer) {
-        Ok(bytes) => send(&bytes, Answered::of(answer), writer),
+        Ok(bytes) => send(&bytes, says, writer),
         Err(_) => send_outage(Outage::NoMemory, writer),
     }
 }

@@ -94,7 +94,7 @@ pub fn serve_one<D: Answering, R: Read, W: Write>(
 {
     let mut watch = Watch::new();
     match answer_input(alloc, desk, reader, &mut watch) {
-        Ok(Some(answer)) => send_answer(alloc, &answer, writer),
+        Ok(Some(answer)) => send_answer(alloc, answer, writer),
         Ok(None) => Ok(Served::Nothing),
         Err(fault) => Err(fault),
     }

@@ -40,13 +40,9 @@ request_has_no_float r =
       no_item_has_float vote_data (λ vote. refl) r.votes,
     ) refl
 
--- requests have none
-pub requests_have_no_float : (rs : List ShownRequest) → items_have_float (items_of (map request_data rs)) ≡ false
-requests_have_no_float rs = no_item_has_float request_data request_has_no_float rs
-
--- proposals have none
-pub proposals_have_no_float : (ps : List Proposal) → items_have_float (items_of (map proposal_data ps)) ≡ false
-proposals_have_no_float ps = no_item_has_float proposal_data (λ p. refl) ps
+-- a proposal has none
+pub proposal_has_no_float : (p : Proposal) → has_float (proposal_data p) ≡ false
+proposal_has_no_float p = refl
 
 -- if there is a value, it has none
 abbrev HasNoFloat : Option Data → Type 0

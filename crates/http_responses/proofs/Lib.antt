@@ -1,3 +1,4 @@
+pub mod ArrayLemmas
 pub mod FloatLemmas
 pub mod VerdictLemmas
 pub mod OutageLemmas

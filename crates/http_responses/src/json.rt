@@ -1,6 +1,7 @@
 //! What the desk answers, in JSON (RFC 8259): replies, requests, proposals and verdicts, without a space between
 //! tokens, each object's keys in ascending order.
 
+mod arrays;
 mod in_json;
 mod laws;
 mod proposals;

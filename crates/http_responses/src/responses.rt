@@ -11,17 +11,19 @@ use std::alloc::{AllocError, Global};
 
 /// A whole response: the status line; the fields `Content-Type`, `Content-Length` in bytes,
 /// `WWW-Authenticate` with 401, `Allow` with 405, and `Connection`; an empty line; the body. Takes
-/// memory.
+/// memory for what stands before the body alone, which is moved up and never held twice.
 pub fn response(
     alloc: Global,
     status: Status,
     content: Content,
-    body: &[u8],
+    body: Vec<u8>,
 ) -> Result<Vec<u8>, AllocError>
-    ensures { IfOk result (λ bytes. bytes.items ≡ spec.response_text status content body.now) }
+    ensures { IfOk result (λ bytes. bytes.items ≡ spec.response_text status content body.items) }
 {
-    let mut bytes = head(alloc, status, content, body.len())?.into_bytes();
-    bytes.extend_from_slice(body)?;
+    let head = head(alloc, status, content, body.len())?;
+    let mut bytes = body;
+    bytes.extend_from_slice(head.as_bytes())?;
+    bytes.rotate_right(head.len());
     Ok(bytes)
 }
 
@@ -30,5 +32,5 @@ pub fn refused_response(alloc: Global, refused: Refused) -> Result<Vec<u8>, Allo
     ensures { IfOk result (λ bytes. bytes.items ≡ spec.refused_text refused) }
 {
     let body = refused_json(alloc, refused)?;
-    response(alloc, refused.status(), Content::Json, body.as_slice())
+    response(alloc, refused.status(), Content::Json, body)
 }

@@ -3,7 +3,8 @@ ghost use Rattle.std.specs.Prelude.{◌≡◌, IfOk};
 ghost use Rattle.serde_json.specs.Written.{compact_text};
 ghost use Rattle.http_responses.specs.json.Proposals as spec;
 
-use crate::json::in_json::{InJson, array_of};
+use crate::json::arrays::{JsonText, array_text};
+use crate::json::in_json::InJson;
 use desk_texts::Proposal;
 use serde_json::{Value, json};
 use std::alloc::{AllocError, Global};
@@ -26,10 +27,19 @@ impl InJson for Proposal {
     }
 }
 
-/// Proposals as a JSON array, in their order. Takes memory.
-#[tactic(auto, using(crate::proofs::FloatLemmas::proposals_have_no_float))]
+impl JsonText for Proposal {
+    ghost as_data = { spec.proposal_data };
+
+    #[tactic(auto, using(crate::proofs::FloatLemmas::proposal_has_no_float))]
+    fn json_text(&self, alloc: Global) -> Result<Vec<u8>, AllocError> {
+        self.value(alloc)?.to_vec(alloc)
+    }
+}
+
+/// Proposals as a JSON array, in their order. Takes memory for the text, and for the tree of one
+/// proposal at a time.
 pub fn proposals_json(alloc: Global, proposals: &[Proposal]) -> Result<Vec<u8>, AllocError>
     ensures { IfOk result (λ text. text.items ≡ compact_text (spec.proposals_data proposals.now)) }
 {
-    array_of(alloc, proposals)?.to_vec(alloc)
+    array_text(alloc, proposals)
 }

@@ -6,6 +6,7 @@ ghost use Rattle.serde_json.specs.View.{members_view, view};
 ghost use Rattle.http_responses.specs.json.Members.{with_facts, with_state};
 ghost use Rattle.http_responses.specs.json.Requests as spec;
 
+use crate::json::arrays::{JsonText, array_text};
 use crate::json::in_json::{InJson, array_of};
 use desk_texts::{Facts, ShownRequest, ShownReturn, ShownVote};
 use serde_json::{Map, Value, json, put};
@@ -106,10 +107,18 @@ pub fn request_json(alloc: Global, request: &ShownRequest) -> Result<Vec<u8>, Al
     request.value(alloc)?.to_vec(alloc)
 }
 
-/// Requests as a JSON array, in their order. Takes memory.
-#[tactic(auto, using(crate::proofs::FloatLemmas::requests_have_no_float))]
+impl JsonText for ShownRequest {
+    ghost as_data = { spec.request_data };
+
+    fn json_text(&self, alloc: Global) -> Result<Vec<u8>, AllocError> {
+        request_json(alloc, self)
+    }
+}
+
+/// Requests as a JSON array, in their order. Takes memory for the text, and for the tree of one request
+/// at a time.
 pub fn requests_json(alloc: Global, requests: &[ShownRequest]) -> Result<Vec<u8>, AllocError>
     ensures { IfOk result (λ text. text.items ≡ compact_text (spec.requests_data requests.now)) }
 {
-    array_of(alloc, requests)?.to_vec(alloc)
+    array_text(alloc, requests)
 }

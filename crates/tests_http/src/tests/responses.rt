@@ -93,7 +93,7 @@ fn answers_what_is_refused(rt: HostRuntime) -> Result<(), Fail> {
 /// Whether the response with this content is the text.
 fn is_response(alloc: Global, content: Content, body: &[u8], text: &str) -> Result<bool, Fail> {
     let wanted = bytes_of(alloc, text)?;
-    let bytes = response(alloc, Status::Ok, content, body)?;
+    let bytes = response(alloc, Status::Ok, content, body.to_vec(alloc)?)?;
     Ok(bytes.as_slice() == wanted.as_slice())
 }
 

@@ -10,10 +10,10 @@ returns-in-Some g c = (Refused (Unavailable c.in-Some.outage), inl (sym c.in-Som
 
 pub returns-in-Ok : goal.returns-in-Ok
 returns-in-Ok g c = (
-  c.args.answer.now,
+  c.args.answer,
   inl refl,
-  sends_response (g.W.Write.contents c.args.writer.now) (g.W.Write.contents c.send.new.writer) c.args.answer.now c.deref.result.now c.of.result
-      c.send.result c.of.ensures (c.deref.ensures.value ∙ c.in-Ok.ensures) c.send.ensures,
+  sends_response (g.W.Write.contents c.args.writer.now) (g.W.Write.contents c.send.new.writer) c.args.answer c.deref.result.now c.of-says.result
+      c.send.result c.of-says.ensures (c.deref.ensures.value ∙ c.in-Ok.ensures) c.send.ensures,
 )
 
 pub returns-in-Err : goal.returns-in-Err
