@@ -19,7 +19,7 @@ use Rattle.store_schema.specs.rows.Histories.{HoldsHistory, rows_of}
 use Rattle.store_sql.proofs.StopLemmas.{committed_tables}
 use Rattle.store_schema.specs.Tables.{desk_schema}
 use Rattle.desk_history.specs.Calls.{History}
-use Rattle.store_writes.specs.Faults.{fault_of, refusal_of}
+use Rattle.store_sql.specs.Faults.{fault_of, refusal_of}
 use Rattle.desk_store.specs.Closed.{AreClosed, OpenAgain}
 use Rattle.desk_store.specs.Desks.{ShowsDesk}
 use Rattle.desk_store.specs.declared.desk.Desk.{Desk}

@@ -12,19 +12,19 @@ ghost use Rattle.desk_history.specs.Calls.{History};
 ghost use Rattle.store_reads.specs.Failures.{IsFailure};
 ghost use Rattle.desk_store.specs.Closed.{AreClosed, OpenAgain};
 ghost use Rattle.desk_store.specs.Desks.{ShowsDesk};
-ghost use Rattle.store_writes.specs.Faults.{fault_of, refusal_of};
+ghost use Rattle.store_sql.specs.Faults.{fault_of, refusal_of};
 
 use crate::desk::Desk;
 use desk_bytes::Refusal;
 use sqlite::{Error, FileStore, Files};
 use sqlite_disk::Disk;
-use store_writes::WriteFault;
+use store_sql::StoreFault;
 
 /// What a failed close is refused.
 fn refusal_of_error(error: Error) -> Refusal
     ensures { result ≡ refusal_of (fault_of error) }
 {
-    WriteFault::from(error).refusal()
+    StoreFault::from(error).refusal()
 }
 
 impl<D: Disk + Drop> Desk<FileStore<D>> {

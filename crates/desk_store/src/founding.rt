@@ -11,7 +11,8 @@ ghost use Rattle.desk_store.specs.Steps.{Founds};
 use desk_bytes::{Guid, Refusal};
 use sqlite::{Alter, Connection, Transaction};
 use store_schema::make;
-use store_writes::{WriteFault, failed_commit, put_desk};
+use store_sql::StoreFault;
+use store_writes::{failed_commit, put_desk};
 
 /// Whether the store has no table, index or view.
 pub(crate) fn has_no_tables<S: Alter>(conn: &Connection<S>) -> bool
@@ -23,7 +24,7 @@ pub(crate) fn has_no_tables<S: Alter>(conn: &Connection<S>) -> bool
 }
 
 /// Makes the tables, and puts in the rows of a desk without calls.
-fn found<S: Alter>(tx: &mut Transaction<'_, S>, owner: &Guid) -> Result<(), WriteFault>
+fn found<S: Alter>(tx: &mut Transaction<'_, S>, owner: &Guid) -> Result<(), StoreFault>
     ensures same_reference { tx.new.conn.ghost_name ≡ tx.old.conn.ghost_name }
     ensures value { HasCleanDisk (state S.Store tx.new.conn.now)
         → IsTrue (state S.Store tx.old.conn.now).in_transaction

@@ -20,11 +20,8 @@ use sqlite::types::ValueRef;
 use sqlite::{Alter, Connection, Error, Row, Transaction};
 use store_migration::migrate;
 use store_schema::SELECT_DESK;
-use store_sql::{catalog_lists_one_schema, select};
-use store_writes::{VERSION, WriteFault};
-
-/// The mark by which the file of a desk is known.
-const MARK: &str = "boot-desk";
+use store_sql::{StoreFault, catalog_lists_one_schema, select};
+use store_writes::{MARK, VERSION};
 
 /// The version of the files that desks of one officer had.
 const FIRST_VERSION: u64 = 1;
@@ -121,7 +118,7 @@ fn ask_columns<S: Alter>(tx: &mut Transaction<'_, S>) -> Result<(), Refusal>
     if refuses_text(&error) {
         return Err(Refusal::NotADesk);
     }
-    Err(WriteFault::from(error).refusal())
+    Err(StoreFault::from(error).refusal())
 }
 
 /// The version of the desk, by its row. `NotADesk`: no such row reads as a desk's.
@@ -148,7 +145,7 @@ fn version_of<S: Alter>(tx: &mut Transaction<'_, S>) -> Result<u64, Refusal>
             Some(version) => Ok(version),
             None => Err(Refusal::NotADesk),
         },
-        Err(error) => Err(WriteFault::from(error).refusal()),
+        Err(error) => Err(StoreFault::from(error).refusal()),
     }
 }
 

@@ -1,24 +1,22 @@
 -- From what the migration does inside its transaction to what the connection shows after it, and what a stop leaves.
-use Rattle.std.proofs.Common.{◌≡◌, ℕ, List, length, map, true, false, refl, sym, subst, ◌∙◌, arith, IsTrue}
+use Rattle.std.proofs.Common.{◌≡◌, ℕ, List, length, map, false, refl, sym, subst, ◌∙◌, arith, IsTrue}
 use Rattle.sqlite.specs.Store as store
-use Rattle.sqlite.specs.Tree.{Trees}
 use Rattle.sqlite.specs.Held.{Held, state}
 use Rattle.sqlite.specs.State as states
 use Rattle.sqlite.specs.Effect.{Database}
-use Rattle.sqlite.specs.State.{State, HasCleanDisk, Survives}
-use Rattle.sqlite.proofs.StateLemmas.{survives_then}
-use Rattle.sqlite.proofs.Callers.{survives_begin}
+use Rattle.sqlite.specs.State.{State, HasCleanDisk}
 use Rattle.desk_history.specs.Calls.{History}
 use Rattle.desk_history.specs.Tables.{tables}
 use Rattle.store_sql.specs.Contents.{Holds}
 use Rattle.store_sql.specs.States.{Changes, Makes, Sees}
+use Rattle.store_sql.proofs.CommitLemmas.{Worked}
 use Rattle.store_sql.proofs.ContentLemmas.{keeps_then}
 use Rattle.store_sql.proofs.StopLemmas.{tables_of}
 use Rattle.store_schema.specs.Tables.{added_tables, defined, desk_schema, first_schema}
 use Rattle.store_writes.specs.Steps.{with_migrated, with_version}
 use Rattle.store_reads.specs.Reads.{ReadsTables}
 use Rattle.store_schema.specs.rows.Contents.{contents}
-use Rattle.store_schema.specs.rows.Histories.{HoldsHistory, ShowsFirst, ShowsHistory, first_rows_of, rows_of}
+use Rattle.store_schema.specs.rows.Histories.{ShowsFirst, ShowsHistory, first_rows_of, rows_of}
 use Rattle.store_migration.specs.Migrations.{Migrates, TurnsFirst}
 use Rattle.store_migration.proofs.HistoryLemmas.{as_first, migrated_tables}
 
@@ -36,34 +34,25 @@ turned old made told noted new n makes tells notes sets = record {
       subst (λ t. Sees desk_schema new (contents t)) (migrated_tables owner cs n first (tells.tells t there)) end;
 }
 
-module _ {S : Type 0} (g : store.Ghosts S) (old last end : Held S) where
-  abbrev begun : State
-  begun = state g (record old { in_transaction = true })
-
+module _ {S : Type 0} (g : store.Ghosts S) (old last : Held S) (did : Worked g old last TurnsFirst) where
   -- what stands inside the transaction, of what the connection shows before it
-  stands : HasCleanDisk (state g old) → IsTrue (state g last).is_open → TurnsFirst begun (state g last) → (owner : List ℕ) (cs : History)
-      → ShowsFirst (state g old) owner cs → Sees desk_schema (state g last) (rows_of owner cs)
-  stands clean live turns owner cs shows = turns.value owner cs shows.0 (record { inside = refl; holds = (shows.1.holds clean (turns.kept.was_open live)).0 })
+  stands : HasCleanDisk (state g last) → (owner : List ℕ) (cs : History) → ShowsFirst (state g old) owner cs → Sees desk_schema (state g last) (rows_of owner cs)
+  stands late owner cs shows =
+      let turns = did.value late in
+      turns.value owner cs shows.0 (record { inside = refl; holds = (shows.1.holds (omega (arith, did.spares.clean, late)) (turns.kept.was_open (did.inside late).0)).0 })
 
-  pub migrated_left : Survives begun (state g last) (λ _. ⊥) → (HasCleanDisk (state g last) → IsTrue (state g last).is_open × TurnsFirst begun (state g last))
-      → Survives (state g last) (state g end) (λ db. db ≡ (state g last).now.trees) → Survives (state g old) (state g end) (Migrates (state g old))
-  migrated_left s did e = survives_then (state g old) (state g last) (state g end) (λ _. ⊥) (λ db. db ≡ (state g last).now.trees) (Migrates (state g old))
-      (λ _ db none. absurd none)
-      (λ clean db is owner cs shows. let late : HasCleanDisk (state g last) = omega (arith, e.clean, clean) in
-      let it = did late in
-      subst (λ (d : Trees). HoldsHistory d owner cs) (sym is)
-      (tables_of desk_schema (state g last).now (rows_of owner cs) (stands (omega (arith, s.clean, late)) it.0 it.1 owner cs shows).holds))
-      (survives_begin g old (state g last) (λ _. ⊥) s) e
+  -- the trees that they stand in
+  pub migrated_trees : HasCleanDisk (state g last) → Migrates (state g old) (state g last).now.trees
+  migrated_trees late owner cs shows = tables_of desk_schema (state g last).now (rows_of owner cs) (stands late owner cs shows).holds
 
-  pub migrated_shown : Survives begun (state g last) (λ _. ⊥) → HasCleanDisk (state g last) → IsTrue (state g last).is_open → TurnsFirst begun (state g last)
-      → states.Shows (state g last) (state g end) (state g last).now (state g last).now false
+  pub migrated_shown : (end : Held S) → HasCleanDisk (state g last) → states.Shows (state g last) (state g end) (state g last).now (state g last).now false
       → IsTrue (state g end).is_open × ((owner : List ℕ) (cs : History) → ShowsFirst (state g old) owner cs → ShowsHistory (state g end) owner cs)
-  migrated_shown s late live turns done = (
+  migrated_shown end late done = (
     done.is_open,
     λ owner cs shows. record {
       outside = done.mode;
       holds = λ _ _. (
-        subst (λ (d : Database). Holds desk_schema d (rows_of owner cs)) (sym done.now_is) (stands (omega (arith, s.clean, late)) live turns owner cs shows).holds,
+        subst (λ (d : Database). Holds desk_schema d (rows_of owner cs)) (sym done.now_is) (stands late owner cs shows).holds,
         done.now_is ∙ sym done.committed_is,
       );
     },

@@ -15,10 +15,11 @@ use desk_bytes::Refusal;
 use sqlite::{Alter, Connection, Transaction};
 use store_reads::{Counted, ReadFault, count};
 use store_schema::make_added;
-use store_writes::{WriteFault, failed_commit, put_migrated, set_version};
+use store_sql::StoreFault;
+use store_writes::{failed_commit, put_migrated, set_version};
 
 /// How many calls the tables have.
-fn calls_in<S: Alter>(tx: &mut Transaction<'_, S>) -> Result<u64, WriteFault>
+fn calls_in<S: Alter>(tx: &mut Transaction<'_, S>) -> Result<u64, StoreFault>
     ensures same_reference { tx.new.conn.ghost_name ≡ tx.old.conn.ghost_name }
     ensures value { DoesInside S.Store tx.old.conn.now tx.new.conn.now result
         (λ n. ReadsTables (λ t. n ≡ length t.calls)) }
@@ -28,14 +29,14 @@ fn calls_in<S: Alter>(tx: &mut Transaction<'_, S>) -> Result<u64, WriteFault>
 {
     match count(tx, Counted::Calls) {
         Ok(calls) => Ok(calls),
-        Err(ReadFault::NoMemory) => Err(WriteFault::NoMemory),
-        Err(ReadFault::Row) => Err(WriteFault::Store),
-        Err(ReadFault::Store) => Err(WriteFault::Store),
+        Err(ReadFault::NoMemory) => Err(StoreFault::NoMemory),
+        Err(ReadFault::Row) => Err(StoreFault::Store),
+        Err(ReadFault::Store) => Err(StoreFault::Store),
     }
 }
 
 /// Makes the three tables, puts in how many calls were accepted before, and sets the version.
-fn migrate_inside<S: Alter>(tx: &mut Transaction<'_, S>) -> Result<(), WriteFault>
+fn migrate_inside<S: Alter>(tx: &mut Transaction<'_, S>) -> Result<(), StoreFault>
     ensures same_reference { tx.new.conn.ghost_name ≡ tx.old.conn.ghost_name }
     ensures value { DoesInside S.Store tx.old.conn.now tx.new.conn.now result
         (λ _. TurnsFirst) }

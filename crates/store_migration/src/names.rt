@@ -11,7 +11,7 @@ use desk_bytes::Refusal;
 use sqlite::{Alter, Connection};
 use sqlite_schema::schema::Schema;
 use store_schema::SELECT_DESK;
-use store_writes::WriteFault;
+use store_sql::StoreFault;
 
 /// Whether a table, an index or a view has the name.
 fn is_taken(schema: &Schema, name: &str) -> bool
@@ -54,5 +54,5 @@ pub(crate) fn names_are_free<S: Alter>(conn: &mut Connection<S>) -> Result<(), R
         Ok(_) => return Err(Refusal::NotADesk),
         Err(error) => error,
     };
-    Err(WriteFault::from(error).refusal())
+    Err(StoreFault::from(error).refusal())
 }

@@ -1,9 +1,11 @@
 //! Why a read failed.
 ghost use Rattle.std.specs.Prelude.{◌≡◌};
-ghost use Rattle.store_reads.specs.Faults.{fault_of, refusal_of};
+ghost use Rattle.store_reads.specs.Faults.{of_store, refusal_of};
+ghost use Rattle.store_sql.specs.Faults.{fault_of};
 
 use desk_bytes::Refusal;
-use sqlite::{Error, ErrorCode};
+use sqlite::Error;
+use store_sql::StoreFault;
 use thiserror::Error as ErrorText;
 
 /// Why rows weren't read.
@@ -21,12 +23,12 @@ pub enum ReadFault {
 }
 
 impl From<Error> for ReadFault {
-    ghost from_gives = { λ error fault. fault ≡ fault_of error };
+    ghost from_gives = { λ error fault. fault ≡ of_store (fault_of error) };
 
     fn from(error: Error) -> ReadFault {
-        match error {
-            Error::SqliteFailure(ErrorCode::OutOfMemory) => ReadFault::NoMemory,
-            _ => ReadFault::Store,
+        match StoreFault::from(error) {
+            StoreFault::NoMemory => ReadFault::NoMemory,
+            StoreFault::Store => ReadFault::Store,
         }
     }
 }

@@ -1,5 +1,5 @@
 -- From the end of a transaction to what the connection shows after it, and what a stop leaves.
-use Rattle.std.proofs.Common.{◌≡◌, inl, inr, true, false, sym, ap, subst, ◌∙◌, arith, IsTrue, ℕ, List}
+use Rattle.std.proofs.Common.{◌≡◌, inl, inr, true, false, refl, sym, ap, subst, ◌∙◌, arith, IsTrue, ℕ, List}
 use Rattle.sqlite.specs.Store as store
 use Rattle.sqlite.specs.declared.error.Error.{Error}
 use Rattle.sqlite.specs.Tree.{Trees}
@@ -12,7 +12,7 @@ use Rattle.sqlite.specs.Steps.{FailsToCommit}
 use Rattle.sqlite.proofs.StateLemmas.{survives_then}
 use Rattle.sqlite.proofs.Callers.{survives_begin}
 use Rattle.store_sql.specs.Contents.{Contents, Holds}
-use Rattle.store_sql.specs.States.{Shows}
+use Rattle.store_sql.specs.States.{CommitsNothing, Shows, Spares}
 
 -- what commits nothing leaves no more than what may commit
 pub leaves_more : (P : Trees → Type 0) (old new : State) → Survives old new (λ _. ⊥) → Survives old new P
@@ -54,12 +54,13 @@ module _ (schema : Schema) (c : Contents) where
   not_run_shows old new sql params e clean (inl same) shows = unchanged_shows old new clean same.1 shows
   not_run_shows old new sql params e clean (inr fails) shows = back_shows old new clean fails.3 shows
 
-module _ {S : Type 0} (g : store.Ghosts S) (old last end : Held S) where
-  abbrev begun : State
-  begun = state g (record old { in_transaction = true })
+-- the connection inside a transaction that began with it
+abbrev pub begun : {S : Type 0} → store.Ghosts S → Held S → State
+begun g old = state g (record old { in_transaction = true })
 
+module _ {S : Type 0} (g : store.Ghosts S) (old last end : Held S) where
   -- a transaction that is rolled back leaves what the connection shows
-  pub undone_shows : (schema : Schema) (c : Contents) → HasCleanDisk (state g old) → KeepsCommit begun (state g last) → IsRolledBack (state g last) (state g end)
+  pub undone_shows : (schema : Schema) (c : Contents) → HasCleanDisk (state g old) → KeepsCommit (begun g old) (state g last) → IsRolledBack (state g last) (state g end)
       → Shows schema (state g old) c → Shows schema (state g end) c
   undone_shows schema c clean kept rolled shows = record {
     outside = rolled.autocommit;
@@ -72,8 +73,8 @@ module _ {S : Type 0} (g : store.Ghosts S) (old last end : Held S) where
   }
 
   -- a transaction that commits nothing
-  pub through : Survives begun (state g last) (λ _. ⊥) → Survives (state g last) (state g end) (λ _. ⊥) → Survives (state g old) (state g end) (λ _. ⊥)
-  through s e = survives_begin g old (state g end) (λ _. ⊥) (survives_then begun (state g last) (state g end) (λ _. ⊥) (λ _. ⊥) (λ _. ⊥) (λ _ _ none. none) (λ _ _ none. none) s e)
+  pub through : Survives (begun g old) (state g last) (λ _. ⊥) → Survives (state g last) (state g end) (λ _. ⊥) → Survives (state g old) (state g end) (λ _. ⊥)
+  through s e = survives_begin g old (state g end) (λ _. ⊥) (survives_then (begun g old) (state g last) (state g end) (λ _. ⊥) (λ _. ⊥) (λ _. ⊥) (λ _ _ none. none) (λ _ _ none. none) s e)
 
   -- a commit that fails undoes the transaction
   pub rolled_back : (e : Error) → IsTrue (state g last).in_transaction → FailsToCommit (state g last) (state g end) e → IsRolledBack (state g last) (state g end)
@@ -81,14 +82,14 @@ module _ {S : Type 0} (g : store.Ghosts S) (old last end : Held S) where
   rolled_back e inside (inr late) = absurd (let a = inside in let b = late.1 in cc)
 
   -- a commit that failed committed nothing, where the connection is open still: a stop leaves the last commit alone
-  pub open_spares : (P : Trees → Type 0) (new : State) → Survives begun (state g last) (λ _. ⊥) → (HasCleanDisk (state g last) → KeepsCommit begun (state g last))
+  pub open_spares : (P : Trees → Type 0) (new : State) → Survives (begun g old) (state g last) (λ _. ⊥) → (HasCleanDisk (state g last) → KeepsCommit (begun g old) (state g last))
       → Survives (state g last) (state g end) P → (HasCleanDisk (state g end) → IsRolledBack (state g last) (state g end))
       → Survives (state g end) new (λ _. ⊥) → (HasCleanDisk new → IsTrue (state g end).is_open)
       → ((db : Trees) → IsTrue (state g end).is_open → (state g end).may_leave db → db ≡ (state g end).committed.trees)
       → (IsTrue (state g old).is_open → (state g old).may_leave (state g old).committed.trees)
       → Survives (state g old) new (λ _. ⊥)
   open_spares P new s kept e rolled more live settled stays =
-      let first : Survives begun (state g end) P = survives_then begun (state g last) (state g end) (λ _. ⊥) P P (λ _ db none. absurd none) (λ _ db p. p) s e in
+      let first : Survives (begun g old) (state g end) P = survives_then (begun g old) (state g last) (state g end) (λ _. ⊥) P P (λ _ db none. absurd none) (λ _ db p. p) s e in
       let all : Survives (state g old) new P = and_then P (state g old) (state g end) new (survives_begin g old (state g end) P first) more in
       record {
         clean = all.clean;
@@ -105,3 +106,64 @@ module _ {S : Type 0} (g : store.Ghosts S) (old last end : Held S) where
             let trees : (state g end).committed.trees ≡ (state g old).committed.trees = ap (λ (d : Database). d.trees) ((back.undone open_).1 ∙ (kept late).committed was) in
             inl (subst (λ t. (state g old).may_leave t) (sym (settled db open_ there ∙ trees)) (stays ((kept late).was_open was))));
       }
+
+-- ---- A transaction's end. `old` is the connection before the transaction, `first` inside it, and `last` before its end.
+
+-- what the steps inside did, and that they committed nothing
+pub record Worked {S : Type 0} (g : store.Ghosts S) (old last : Held S) (does : State → State → Type 0) : Type 0 where
+  pub value : HasCleanDisk (state g last) → does (begun g old) (state g last)
+  pub inside : HasCleanDisk (state g last) → IsTrue (state g last).is_open × IsTrue (state g last).in_transaction
+  pub kept : HasCleanDisk (state g last) → KeepsCommit (begun g old) (state g last)
+  pub spares : Survives (begun g old) (state g last) (λ _. ⊥)
+
+-- the clauses of the call that made the steps, told of the connection that the transaction began with
+pub worked : {S : Type 0} (g : store.Ghosts S) (old first last : Held S) (does : State → State → Type 0) → first ≡ record old { in_transaction = true }
+    → (HasCleanDisk (state g last) → IsTrue (state g first).in_transaction → does (state g first) (state g last))
+    → (HasCleanDisk (state g last) → IsTrue (state g first).in_transaction → IsTrue (state g last).is_open × IsTrue (state g last).in_transaction)
+    → CommitsNothing g first last → Spares g first last → Worked g old last does
+worked {S} g old first last does is value inside kept spares = record {
+  value = λ clean. subst (λ (x : Held S). HasCleanDisk (state g last) → IsTrue (state g x).in_transaction → does (state g x) (state g last)) is value clean refl;
+  inside = λ clean. subst (λ (x : Held S). HasCleanDisk (state g last) → IsTrue (state g x).in_transaction → IsTrue (state g last).is_open × IsTrue (state g last).in_transaction) is inside clean refl;
+  kept = λ clean. subst (λ (x : Held S). CommitsNothing g x last) is kept clean refl;
+  spares = subst (λ (x : Held S). Spares g x last) is spares;
+}
+
+-- a stop in the commit leaves what it left before, or what the steps made
+pub leaves_made : {S : Type 0} (g : store.Ghosts S) (old last end : Held S) (does : State → State → Type 0) (P : Trees → Type 0) → Worked g old last does
+    → Survives (state g last) (state g end) (λ db. db ≡ (state g last).now.trees) → (HasCleanDisk (state g last) → P (state g last).now.trees)
+    → Survives (state g old) (state g end) P
+leaves_made g old last end does P did stops made = survives_then (state g old) (state g last) (state g end) (λ _. ⊥) (λ db. db ≡ (state g last).now.trees) P
+    (λ _ db none. absurd none)
+    (λ clean db is. subst P (sym is) (made (omega (arith, stops.clean, clean))))
+    (survives_begin g old (state g last) (λ _. ⊥) did.spares) stops
+
+-- The commit failed, and the connection was asked whether it is open still. `mid` is the connection after the commit, and `end`
+-- the same as the caller has it.
+module _ {S : Type 0} (g : store.Ghosts S) (old last mid end new : Held S) (does : State → State → Type 0) (e : Error) (did : Worked g old last does) (same : mid ≡ end)
+    (stops : Survives (state g last) (state g mid) (λ db. db ≡ (state g last).now.trees))
+    (fails : HasCleanDisk (state g mid) → FailsToCommit (state g last) (state g mid) e) (asked : Spares g end new) where
+  ends : Survives (state g last) (state g end) (λ db. db ≡ (state g last).now.trees)
+  ends = subst (λ (x : Held S). Survives (state g last) (state g x) (λ db. db ≡ (state g last).now.trees)) same stops
+
+  undoes : HasCleanDisk (state g end) → IsRolledBack (state g last) (state g end)
+  undoes clean = rolled_back g old last end e (did.inside (omega (arith, ends.clean, clean))).1
+      (subst (λ (x : Held S). HasCleanDisk (state g x) → FailsToCommit (state g last) (state g x) e) same fails clean)
+
+  -- a stop leaves what it left before, or what the steps made
+  pub failed_leaves : (P : Trees → Type 0) → (HasCleanDisk (state g last) → P (state g last).now.trees) → Survives (state g old) (state g new) P
+  failed_leaves P made = and_then P (state g old) (state g end) (state g new) (leaves_made g old last end does P did ends made) asked
+
+  module _ (unchanged : HasCleanDisk (state g new) → IsUnchanged (state g end) (state g new)) where
+    -- it is open, and shows what it showed before the transaction
+    pub failed_shows : (schema : Schema) (c : Contents) → HasCleanDisk (state g new) → Shows schema (state g old) c → Shows schema (state g new) c
+    failed_shows schema c clean shows =
+        let late : HasCleanDisk (state g end) = omega (arith, asked.clean, clean) in
+        let before : HasCleanDisk (state g last) = omega (arith, ends.clean, late) in
+        unchanged_shows schema c (state g end) (state g new) late (unchanged clean)
+        (undone_shows g old last end schema c (omega (arith, did.spares.clean, before)) (did.kept before) (undoes late) shows)
+
+    -- it is open, and nothing was committed
+    pub failed_spares : ((db : Trees) → IsTrue (state g end).is_open → (state g end).may_leave db → db ≡ (state g end).committed.trees)
+        → (IsTrue (state g old).is_open → (state g old).may_leave (state g old).committed.trees) → Spares g old new
+    failed_spares settled stays = open_spares g old last end (λ db. db ≡ (state g last).now.trees) (state g new) did.spares did.kept ends undoes asked
+        (λ clean. (unchanged clean).0.was_open) settled stays

@@ -4,3 +4,4 @@ pub mod Queries
 pub mod Meanings
 pub mod Effects
 pub mod Streaming
+pub mod Faults

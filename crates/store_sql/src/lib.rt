@@ -2,12 +2,14 @@
 #![tactic(auto)]
 
 mod catalog;
+mod fault;
 mod laws;
 mod reading;
 mod streaming;
 mod writing;
 
 pub use catalog::catalog_lists_one_schema;
+pub use fault::StoreFault;
 pub use laws::stop_leaves_what_is_shown;
 pub use reading::{count, select};
 pub use streaming::{Halt, TakesRow, stream};

@@ -5,7 +5,6 @@ ghost use Rattle.desk_history.specs.declared.write.Write.TheVariants as writes;
 ghost use Rattle.store_sql.specs.States.{CommitsNothing, Spares, StaysInside};
 ghost use Rattle.store_writes.specs.Steps.{Begins, Founds, Steps, unmigrated, with_migrated};
 
-use crate::WriteFault;
 use crate::stored::stored;
 use desk_bytes::Guid;
 use desk_history::Minute;
@@ -14,10 +13,10 @@ use sbat::Component;
 use sqlite::{Alter, Transaction, params};
 use std::alloc::Global;
 use store_schema::{INSERT_CALL, INSERT_COMPONENT, INSERT_DESK, INSERT_MIGRATED, INSERT_PERSON};
-use store_sql::insert;
+use store_sql::{StoreFault, insert};
 
 /// The mark by which the file of a desk is known.
-const MARK: &str = "boot-desk";
+pub const MARK: &str = "boot-desk";
 
 /// The version of the tables.
 pub const VERSION: u32 = 2;
@@ -26,7 +25,7 @@ pub const VERSION: u32 = 2;
 const FIRST_STAMP: u32 = 2021030218;
 
 /// Puts in the desk's own row, in tables without a row.
-fn put_own<S: Alter>(tx: &mut Transaction<'_, S>, owner: &Guid) -> Result<(), WriteFault>
+fn put_own<S: Alter>(tx: &mut Transaction<'_, S>, owner: &Guid) -> Result<(), StoreFault>
     ensures same_reference { tx.new.conn.ghost_name ≡ tx.old.conn.ghost_name }
     ensures value { Founds S.Store tx.old.conn.now tx.new.conn.now result (unmigrated owner.now) }
     ensures inside { StaysInside S.Store tx.old.conn.now tx.new.conn.now result }
@@ -42,7 +41,7 @@ fn put_own<S: Alter>(tx: &mut Transaction<'_, S>, owner: &Guid) -> Result<(), Wr
 }
 
 /// Puts in how many calls were accepted by the first rules.
-pub fn put_migrated<S: Alter>(tx: &mut Transaction<'_, S>, calls: u64) -> Result<(), WriteFault>
+pub fn put_migrated<S: Alter>(tx: &mut Transaction<'_, S>, calls: u64) -> Result<(), StoreFault>
     ensures same_reference { tx.new.conn.ghost_name ≡ tx.old.conn.ghost_name }
     ensures value { Steps S.Store tx.old.conn.now tx.new.conn.now result (with_migrated calls) }
     ensures inside { StaysInside S.Store tx.old.conn.now tx.new.conn.now result }
@@ -55,7 +54,7 @@ pub fn put_migrated<S: Alter>(tx: &mut Transaction<'_, S>, calls: u64) -> Result
 }
 
 /// Puts in the rows of a desk without calls, in tables without a row. Every entry that the desk exports is this owner's.
-pub fn put_desk<S: Alter>(tx: &mut Transaction<'_, S>, owner: &Guid) -> Result<(), WriteFault>
+pub fn put_desk<S: Alter>(tx: &mut Transaction<'_, S>, owner: &Guid) -> Result<(), StoreFault>
     ensures same_reference { tx.new.conn.ghost_name ≡ tx.old.conn.ghost_name }
     ensures value { Begins S.Store tx.old.conn.now tx.new.conn.now result owner.now }
     ensures inside { StaysInside S.Store tx.old.conn.now tx.new.conn.now result }
@@ -71,7 +70,7 @@ pub fn put_desk<S: Alter>(tx: &mut Transaction<'_, S>, owner: &Guid) -> Result<(
 pub(crate) fn put_person<S: Alter>(
     tx: &mut Transaction<'_, S>,
     person: &Person,
-) -> Result<(), WriteFault>
+) -> Result<(), StoreFault>
     ensures same_reference { tx.new.conn.ghost_name ≡ tx.old.conn.ghost_name }
     ensures value { Steps S.Store tx.old.conn.now tx.new.conn.now result
         (written (writes.Person person.now)) }
@@ -96,7 +95,7 @@ pub(crate) fn put_call<S: Alter>(
     alloc: Global,
     tx: &mut Transaction<'_, S>,
     minute: &Minute,
-) -> Result<(), WriteFault>
+) -> Result<(), StoreFault>
     ensures same_reference { tx.new.conn.ghost_name ≡ tx.old.conn.ghost_name }
     ensures value { Steps S.Store tx.old.conn.now tx.new.conn.now result
         (written (writes.Call minute.now)) }
@@ -106,7 +105,7 @@ pub(crate) fn put_call<S: Alter>(
 {
     let number = stored(minute.number)?;
     let Ok(reply) = reply_text(alloc, &minute.reply) else {
-        return Err(WriteFault::NoMemory);
+        return Err(StoreFault::NoMemory);
     };
     insert(
         tx,
@@ -126,7 +125,7 @@ pub(crate) fn put_call<S: Alter>(
 pub(crate) fn put_component<S: Alter>(
     tx: &mut Transaction<'_, S>,
     component: &Component,
-) -> Result<(), WriteFault>
+) -> Result<(), StoreFault>
     ensures same_reference { tx.new.conn.ghost_name ≡ tx.old.conn.ghost_name }
     ensures value { Steps S.Store tx.old.conn.now tx.new.conn.now result
         (written (writes.Component component.now)) }

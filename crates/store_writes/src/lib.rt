@@ -3,7 +3,6 @@
 
 mod committing;
 mod entering;
-mod fault;
 mod listing;
 mod proposing;
 mod requesting;
@@ -12,7 +11,6 @@ mod stored;
 mod writing;
 
 pub use committing::failed_commit;
-pub use entering::{VERSION, put_desk, put_migrated};
-pub use fault::WriteFault;
+pub use entering::{MARK, VERSION, put_desk, put_migrated};
 pub use setting::set_version;
 pub use writing::{write, write_all};

@@ -6,7 +6,6 @@ ghost use Rattle.desk_history.specs.Writes.{with_revoked, written};
 ghost use Rattle.store_sql.specs.States.{CommitsNothing, Spares, StaysInside};
 ghost use Rattle.store_writes.specs.Steps.{Steps};
 
-use crate::WriteFault;
 use desk_bytes::Digest;
 use desk_history::Entry;
 use desk_texts::{ListedKind, Listing};
@@ -14,13 +13,13 @@ use sqlite::{Alter, Transaction, params};
 use store_schema::{
     DELETE_LISTED, INSERT_LISTED, INSERT_REVOKED_CERTIFICATE, INSERT_REVOKED_DIGEST,
 };
-use store_sql::{delete, insert};
+use store_sql::{StoreFault, delete, insert};
 
 /// Puts in a listed entry.
 pub(crate) fn put_entry<S: Alter>(
     tx: &mut Transaction<'_, S>,
     entry: &Entry,
-) -> Result<(), WriteFault>
+) -> Result<(), StoreFault>
     ensures same_reference { tx.new.conn.ghost_name ≡ tx.old.conn.ghost_name }
     ensures value { Steps S.Store tx.old.conn.now tx.new.conn.now result
         (written (writes.List entry.now)) }
@@ -44,7 +43,7 @@ pub(crate) fn put_entry<S: Alter>(
 pub(crate) fn unlist<S: Alter>(
     tx: &mut Transaction<'_, S>,
     listing: &Listing,
-) -> Result<(), WriteFault>
+) -> Result<(), StoreFault>
     ensures same_reference { tx.new.conn.ghost_name ≡ tx.old.conn.ghost_name }
     ensures value { Steps S.Store tx.old.conn.now tx.new.conn.now result
         (written (writes.Unlist listing.now)) }
@@ -61,7 +60,7 @@ pub(crate) fn unlist<S: Alter>(
 }
 
 /// Puts in a revoked digest of an image.
-fn revoke_digest<S: Alter>(tx: &mut Transaction<'_, S>, digest: &Digest) -> Result<(), WriteFault>
+fn revoke_digest<S: Alter>(tx: &mut Transaction<'_, S>, digest: &Digest) -> Result<(), StoreFault>
     ensures same_reference { tx.new.conn.ghost_name ≡ tx.old.conn.ghost_name }
     ensures value { Steps S.Store tx.old.conn.now tx.new.conn.now result
         (with_revoked kinds.Digest digest.now) }
@@ -77,7 +76,7 @@ fn revoke_digest<S: Alter>(tx: &mut Transaction<'_, S>, digest: &Digest) -> Resu
 fn revoke_certificate<S: Alter>(
     tx: &mut Transaction<'_, S>,
     digest: &Digest,
-) -> Result<(), WriteFault>
+) -> Result<(), StoreFault>
     ensures same_reference { tx.new.conn.ghost_name ≡ tx.old.conn.ghost_name }
     ensures value { Steps S.Store tx.old.conn.now tx.new.conn.now result
         (with_revoked kinds.Certificate digest.now) }
@@ -93,7 +92,7 @@ fn revoke_certificate<S: Alter>(
 pub(crate) fn revoke<S: Alter>(
     tx: &mut Transaction<'_, S>,
     listing: &Listing,
-) -> Result<(), WriteFault>
+) -> Result<(), StoreFault>
     ensures same_reference { tx.new.conn.ghost_name ≡ tx.old.conn.ghost_name }
     ensures value { Steps S.Store tx.old.conn.now tx.new.conn.now result
         (written (writes.Revoke listing.now)) }

@@ -9,14 +9,13 @@ ghost use Rattle.store_sql.specs.States.{DoesInside, CommitsNothing, Moves, Spar
 ghost use Rattle.store_schema.specs.Tables.{desk_schema};
 ghost use Rattle.store_writes.specs.Steps.{Steps, contents_with, item_columns, with_item};
 
-use crate::WriteFault;
 use crate::stored::stored;
 use desk_history::ProposalRow;
 use desk_texts::{Import, ItemKind, ProposalNumber};
 use sbat::Stamp;
 use sqlite::{Alter, Transaction, params};
 use store_schema::{INSERT_PROPOSAL, INSERT_PROPOSAL_ITEM};
-use store_sql::insert;
+use store_sql::{StoreFault, insert};
 
 /// Puts in an item by its columns.
 fn insert_item<S: Alter>(
@@ -27,7 +26,7 @@ fn insert_item<S: Alter>(
     digest: &[u8],
     name: &str,
     generation: u32,
-) -> Result<(), WriteFault>
+) -> Result<(), StoreFault>
     ensures same_reference { tx.new.conn.ghost_name ≡ tx.old.conn.ghost_name }
     ensures value { DoesInside S.Store tx.old.conn.now tx.new.conn.now result
         (λ _. Moves desk_schema (with_item (item_columns proposal place kind digest.now name.now
@@ -52,7 +51,7 @@ fn put_item<S: Alter>(
     proposal: ProposalNumber,
     named: &Import,
     place: usize,
-) -> Result<(), WriteFault>
+) -> Result<(), StoreFault>
     requires { place < length (items_of named.now) }
     ensures same_reference { tx.new.conn.ghost_name ≡ tx.old.conn.ghost_name }
     ensures value { DoesInside S.Store tx.old.conn.now tx.new.conn.now result
@@ -107,7 +106,7 @@ fn put_items<S: Alter>(
     tx: &mut Transaction<'_, S>,
     proposal: ProposalNumber,
     named: &Import,
-) -> Result<(), WriteFault>
+) -> Result<(), StoreFault>
     ensures same_reference { tx.new.conn.ghost_name ≡ tx.old.conn.ghost_name }
     ensures value { DoesInside S.Store tx.old.conn.now tx.new.conn.now result
         (λ _. Turns desk_schema contents (contents_with (items_from proposal 0
@@ -137,7 +136,7 @@ fn stamp_number(stamp: Option<Stamp>) -> u64
 pub(crate) fn put_proposal<S: Alter>(
     tx: &mut Transaction<'_, S>,
     proposal: &ProposalRow,
-) -> Result<(), WriteFault>
+) -> Result<(), StoreFault>
     ensures same_reference { tx.new.conn.ghost_name ≡ tx.old.conn.ghost_name }
     ensures value { Steps S.Store tx.old.conn.now tx.new.conn.now result
         (written (writes.Propose proposal.now)) }

@@ -5,7 +5,6 @@ ghost use Rattle.desk_history.specs.declared.write.Write.TheVariants as writes;
 ghost use Rattle.store_sql.specs.States.{CommitsNothing, Spares, StaysInside};
 ghost use Rattle.store_writes.specs.Steps.{Steps};
 
-use crate::WriteFault;
 use crate::stored::stored;
 use desk_history::{RequestCertificateRow, RequestComponentRow, RequestRow, ReturnRow, VoteRow};
 use sqlite::{Alter, Transaction, params};
@@ -13,13 +12,13 @@ use store_schema::{
     INSERT_REQUEST, INSERT_REQUEST_CERTIFICATE, INSERT_REQUEST_COMPONENT, INSERT_RETURN,
     INSERT_VOTE,
 };
-use store_sql::insert;
+use store_sql::{StoreFault, insert};
 
 /// Puts in a request.
 pub(crate) fn put_request<S: Alter>(
     tx: &mut Transaction<'_, S>,
     request: &RequestRow,
-) -> Result<(), WriteFault>
+) -> Result<(), StoreFault>
     ensures same_reference { tx.new.conn.ghost_name ≡ tx.old.conn.ghost_name }
     ensures value { Steps S.Store tx.old.conn.now tx.new.conn.now result
         (written (writes.Request request.now)) }
@@ -52,7 +51,7 @@ pub(crate) fn put_request<S: Alter>(
 pub(crate) fn put_request_certificate<S: Alter>(
     tx: &mut Transaction<'_, S>,
     certificate: &RequestCertificateRow,
-) -> Result<(), WriteFault>
+) -> Result<(), StoreFault>
     ensures same_reference { tx.new.conn.ghost_name ≡ tx.old.conn.ghost_name }
     ensures value { Steps S.Store tx.old.conn.now tx.new.conn.now result
         (written (writes.RequestCertificate certificate.now)) }
@@ -73,7 +72,7 @@ pub(crate) fn put_request_certificate<S: Alter>(
 pub(crate) fn put_request_component<S: Alter>(
     tx: &mut Transaction<'_, S>,
     component: &RequestComponentRow,
-) -> Result<(), WriteFault>
+) -> Result<(), StoreFault>
     ensures same_reference { tx.new.conn.ghost_name ≡ tx.old.conn.ghost_name }
     ensures value { Steps S.Store tx.old.conn.now tx.new.conn.now result
         (written (writes.RequestComponent component.now)) }
@@ -100,7 +99,7 @@ pub(crate) fn put_request_component<S: Alter>(
 pub(crate) fn put_vote<S: Alter>(
     tx: &mut Transaction<'_, S>,
     vote: &VoteRow,
-) -> Result<(), WriteFault>
+) -> Result<(), StoreFault>
     ensures same_reference { tx.new.conn.ghost_name ≡ tx.old.conn.ghost_name }
     ensures value { Steps S.Store tx.old.conn.now tx.new.conn.now result
         (written (writes.Vote vote.now)) }
@@ -126,7 +125,7 @@ pub(crate) fn put_vote<S: Alter>(
 pub(crate) fn put_return<S: Alter>(
     tx: &mut Transaction<'_, S>,
     returned: &ReturnRow,
-) -> Result<(), WriteFault>
+) -> Result<(), StoreFault>
     ensures same_reference { tx.new.conn.ghost_name ≡ tx.old.conn.ghost_name }
     ensures value { Steps S.Store tx.old.conn.now tx.new.conn.now result
         (written (writes.Return returned.now)) }

@@ -5,7 +5,6 @@ ghost use Rattle.desk_history.specs.declared.write.Write.TheVariants as writes;
 ghost use Rattle.store_sql.specs.States.{CommitsNothing, Spares, StaysInside};
 ghost use Rattle.store_writes.specs.Steps.{Steps, with_version};
 
-use crate::WriteFault;
 use crate::entering::VERSION;
 use crate::stored::stored;
 use desk_texts::{Outcome, ProposalOutcome};
@@ -14,13 +13,13 @@ use sqlite::{Alter, Transaction, params};
 use store_schema::{
     UPDATE_GENERATION, UPDATE_PROPOSAL_STATE, UPDATE_STAMP, UPDATE_STATE, UPDATE_VERSION,
 };
-use store_sql::update;
+use store_sql::{StoreFault, update};
 
 /// Gives the request its state.
 pub(crate) fn set_state<S: Alter>(
     tx: &mut Transaction<'_, S>,
     outcome: &Outcome,
-) -> Result<(), WriteFault>
+) -> Result<(), StoreFault>
     ensures same_reference { tx.new.conn.ghost_name ≡ tx.old.conn.ghost_name }
     ensures value { Steps S.Store tx.old.conn.now tx.new.conn.now result
         (written (writes.State outcome.now)) }
@@ -37,7 +36,7 @@ pub(crate) fn set_state<S: Alter>(
 pub(crate) fn set_generation<S: Alter>(
     tx: &mut Transaction<'_, S>,
     component: &Component,
-) -> Result<(), WriteFault>
+) -> Result<(), StoreFault>
     ensures same_reference { tx.new.conn.ghost_name ≡ tx.old.conn.ghost_name }
     ensures value { Steps S.Store tx.old.conn.now tx.new.conn.now result
         (written (writes.Generation component.now)) }
@@ -57,7 +56,7 @@ pub(crate) fn set_generation<S: Alter>(
 pub(crate) fn set_stamp<S: Alter>(
     tx: &mut Transaction<'_, S>,
     stamp: Stamp,
-) -> Result<(), WriteFault>
+) -> Result<(), StoreFault>
     ensures same_reference { tx.new.conn.ghost_name ≡ tx.old.conn.ghost_name }
     ensures value { Steps S.Store tx.old.conn.now tx.new.conn.now result
         (written (writes.Stamp stamp)) }
@@ -74,7 +73,7 @@ pub(crate) fn set_stamp<S: Alter>(
 pub(crate) fn set_proposal_state<S: Alter>(
     tx: &mut Transaction<'_, S>,
     outcome: &ProposalOutcome,
-) -> Result<(), WriteFault>
+) -> Result<(), StoreFault>
     ensures same_reference { tx.new.conn.ghost_name ≡ tx.old.conn.ghost_name }
     ensures value { Steps S.Store tx.old.conn.now tx.new.conn.now result
         (written (writes.ProposalState outcome.now)) }
@@ -92,7 +91,7 @@ pub(crate) fn set_proposal_state<S: Alter>(
 }
 
 /// Gives the tables the version of this desk.
-pub fn set_version<S: Alter>(tx: &mut Transaction<'_, S>) -> Result<(), WriteFault>
+pub fn set_version<S: Alter>(tx: &mut Transaction<'_, S>) -> Result<(), StoreFault>
     ensures same_reference { tx.new.conn.ghost_name ≡ tx.old.conn.ghost_name }
     ensures value { Steps S.Store tx.old.conn.now tx.new.conn.now result (with_version 2) }
     ensures inside { StaysInside S.Store tx.old.conn.now tx.new.conn.now result }

@@ -4,7 +4,6 @@ ghost use Rattle.desk_history.specs.Writes.{all_written, written};
 ghost use Rattle.store_sql.specs.States.{CommitsNothing, Spares, StaysInside};
 ghost use Rattle.store_writes.specs.Steps.{Steps};
 
-use crate::WriteFault;
 use crate::entering::{put_call, put_component, put_person};
 use crate::listing::{put_entry, revoke, unlist};
 use crate::proposing::put_proposal;
@@ -15,13 +14,14 @@ use crate::setting::{set_generation, set_proposal_state, set_stamp, set_state};
 use desk_history::Write;
 use sqlite::{Alter, Transaction};
 use std::alloc::Global;
+use store_sql::StoreFault;
 
 /// Makes one write. Takes memory for a reply's text.
 pub fn write<S: Alter>(
     alloc: Global,
     tx: &mut Transaction<'_, S>,
     row: &Write,
-) -> Result<(), WriteFault>
+) -> Result<(), StoreFault>
     ensures same_reference { tx.new.conn.ghost_name ≡ tx.old.conn.ghost_name }
     ensures value { Steps S.Store tx.old.conn.now tx.new.conn.now result
         (written row.now) }
@@ -54,7 +54,7 @@ pub fn write_all<S: Alter>(
     alloc: Global,
     tx: &mut Transaction<'_, S>,
     rows: &[Write],
-) -> Result<(), WriteFault>
+) -> Result<(), StoreFault>
     ensures same_reference { tx.new.conn.ghost_name ≡ tx.old.conn.ghost_name }
     ensures value { Steps S.Store tx.old.conn.now tx.new.conn.now result
         (all_written rows.now) }

@@ -1,14 +1,14 @@
-//! Why a write failed.
+//! Why a statement failed.
 ghost use Rattle.std.specs.Prelude.{◌≡◌};
-ghost use Rattle.store_writes.specs.Faults.{fault_of, refusal_of};
+ghost use Rattle.store_sql.specs.Faults.{fault_of, refusal_of};
 
 use desk_bytes::Refusal;
 use sqlite::{Error, ErrorCode};
 use thiserror::Error as ErrorText;
 
-/// Why a row wasn't written.
+/// Why a statement failed, or the store's opening or close.
 #[derive(Clone, Copy, Debug, PartialEq, Eq, ErrorText)]
-pub enum WriteFault {
+pub enum StoreFault {
     /// Memory was refused, also to the store.
     #[error("no memory")]
     NoMemory,
@@ -17,25 +17,25 @@ pub enum WriteFault {
     Store,
 }
 
-impl From<Error> for WriteFault {
+impl From<Error> for StoreFault {
     ghost from_gives = { λ error fault. fault ≡ fault_of error };
 
-    fn from(error: Error) -> WriteFault {
+    fn from(error: Error) -> StoreFault {
         match error {
-            Error::SqliteFailure(ErrorCode::OutOfMemory) => WriteFault::NoMemory,
-            _ => WriteFault::Store,
+            Error::SqliteFailure(ErrorCode::OutOfMemory) => StoreFault::NoMemory,
+            _ => StoreFault::Store,
         }
     }
 }
 
-impl WriteFault {
+impl StoreFault {
     /// Its row in the table of refusals.
     pub fn refusal(self) -> Refusal
         ensures { result ≡ refusal_of self }
     {
         match self {
-            WriteFault::NoMemory => Refusal::NoMemory,
-            WriteFault::Store => Refusal::Store,
+            StoreFault::NoMemory => Refusal::NoMemory,
+            StoreFault::Store => Refusal::Store,
         }
     }
 }

@@ -1,18 +1,18 @@
--- Which refusal a fault of a write is.
+-- Which fault an error of the store is, and which refusal a fault.
 use Rattle.desk_bytes.specs.declared.refusal.Refusal.{Refusal}
 use Rattle.desk_bytes.specs.declared.refusal.Refusal.TheVariants as refusals
 use Rattle.sqlite.specs.declared.error.Error.{Error}
 use Rattle.sqlite.specs.declared.error.Error.TheVariants.{SqliteFailure}
 use Rattle.sqlite.specs.declared.error.ErrorCode.TheVariants.{OutOfMemory}
-use Rattle.store_writes.specs.declared.fault.WriteFault.{WriteFault}
-use Rattle.store_writes.specs.declared.fault.WriteFault.TheVariants.{NoMemory, Store}
+use Rattle.store_sql.specs.declared.fault.StoreFault.{StoreFault}
+use Rattle.store_sql.specs.declared.fault.StoreFault.TheVariants.{NoMemory, Store}
 
--- the fault that an error of the store is
-abbrev pub fault_of : Error → WriteFault
+-- own: an error is want of memory where it says so, and otherwise the store's failure
+abbrev pub fault_of : Error → StoreFault
 fault_of (SqliteFailure OutOfMemory) = NoMemory
 fault_of error = Store
 
 -- its row in the table of refusals
-abbrev pub refusal_of : WriteFault → Refusal
+abbrev pub refusal_of : StoreFault → Refusal
 refusal_of NoMemory = refusals.NoMemory
 refusal_of Store = refusals.Store
