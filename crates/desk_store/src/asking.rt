@@ -67,10 +67,7 @@ pub(crate) fn ask<S: Alter, Q: Question>(
     let mut tx = conn.transaction();
     let read = question.read(alloc, &mut tx);
     tx.rollback();
-    match read {
-        Ok(answer) => Ok(answer),
-        Err(failure) => Err(failure),
-    }
+    read
 }
 
 impl<S: Alter + Drop> Desk<S> {

@@ -7,5 +7,6 @@ pub mod ExportLemmas
 pub mod PartLemmas
 pub mod StepLemmas
 pub mod CountedLemmas
+pub mod HeadLemmas
 pub mod ListedLemmas
 pub mod LineLemmas

@@ -1,11 +1,9 @@
 -- Steps of an export one after another.
-use Rattle.std.proofs.Common.{◌≡◌, ℕ, List, [], ◌++◌, flat_map, Option, Result, Ok, Err, sym, subst, ◌∙◌, arith, true, false}
-use Rattle.std.specs.Prelude.{MatchResult}
+use Rattle.std.proofs.Common.{◌≡◌, ℕ, List, [], ◌++◌, flat_map, Option, Result, Ok, Err, refl, sym, subst, arith, false}
+use Rattle.std.specs.Prelude.{IfOk, IsTrue, MatchResult, OnOk}
 use Rattle.std.specs.Io.KnownBytes.{Appends}
 use Rattle.std.proofs.KnownBytes.{Appends-nil, Appends-trans}
 use Rattle.sqlite.proofs.StateLemmas.{survives_then}
-use Rattle.sqlite.proofs.Callers.{survives_begin}
-use Rattle.sqlite.specs.Effect.{Database}
 use Rattle.sqlite.specs.Given.{IsPlain}
 use Rattle.sqlite.specs.Held.{Held, state}
 use Rattle.sqlite.specs.Listing.{understood}
@@ -15,8 +13,10 @@ use Rattle.sqlite.specs.Store as store
 use Rattle.desk_bytes.specs.Output.{AppendsBeginning}
 use Rattle.desk_bytes.proofs.OutputLemmas.{AppendsBeginning-after, AppendsBeginning-before}
 use Rattle.desk_history.specs.Calls.{History}
+use Rattle.desk_history.specs.Tables.{Tables, tables}
+use Rattle.store_reads.specs.Reads.{ReadsTables}
 use Rattle.store_schema.specs.rows.Histories.{ShowsHistory, rows_of}
-use Rattle.store_sql.specs.Contents.{Holds}
+use Rattle.store_sql.proofs.CommitLemmas.{begun, undone_shows}
 use Rattle.store_schema.specs.Tables.{desk_schema}
 use Rattle.store_exports.specs.Exporting.{BeginsOf, Exports, StaysOf, WritesOf}
 use Rattle.store_exports.specs.Rows.{IsPart, PutsRows, WritesAnswer, WritesFirst}
@@ -129,25 +129,20 @@ module _ {S X E : Type 0} (g : store.Ghosts S) where
       go (Ok v) clean did = (told (early clean)).0 (state g b) x y did
       go (Err e) clean did = (told (early clean)).1 x y did
 
--- a transaction that is rolled back
+-- a read in a transaction that is rolled back
 module _ {S : Type 0} (g : store.Ghosts S) (old last end : Held S) where
-  abbrev begun : State
-  begun = state g (record old { in_transaction = true })
-
-  pub undone : end.in_transaction ≡ false → Survives begun (state g last) (λ _. ⊥) → Survives (state g last) (state g end) (λ _. ⊥)
-      → (HasCleanDisk (state g last) → KeepsCommit begun (state g last)) → (HasCleanDisk (state g end) → IsRolledBack (state g last) (state g end)) → StaysOf (state g old) (state g end)
+  pub undone : end.in_transaction ≡ false → Survives (begun g old) (state g last) (λ _. ⊥) → Survives (state g last) (state g end) (λ _. ⊥)
+      → (HasCleanDisk (state g last) → KeepsCommit (begun g old) (state g last)) → (HasCleanDisk (state g end) → IsRolledBack (state g last) (state g end)) → StaysOf (state g old) (state g end)
   undone outside spared ended kept rolled owner cs was = record {
     outside = outside;
-    holds = λ clean live.
-        let late : HasCleanDisk (state g last) = omega (arith, ended.clean, clean) in
-        let back = rolled clean in
-        let mid = back.was_open live in
-        let gone = back.undone live in
-        let keeps = kept late in
-        let held = was.holds (omega (arith, spared.clean, late)) (keeps.was_open mid) in
-        let now : (state g end).now ≡ (state g old).now = gone.0 ∙ keeps.committed mid ∙ sym held.1 in
-        (subst (λ (d : Database). Holds desk_schema d (rows_of owner cs)) (sym now) held.0, gone.0 ∙ sym gone.1);
+    holds = λ clean live. (let late : HasCleanDisk (state g last) = omega (arith, ended.clean, clean) in
+        (undone_shows g old last end desk_schema (rows_of owner cs) (omega (arith, spared.clean, late)) (kept late) (rolled clean) was).holds clean live);
   }
 
-  pub spared_all : Survives begun (state g last) (λ _. ⊥) → Survives (state g last) (state g end) (λ _. ⊥) → Survives (state g old) (state g end) (λ _. ⊥)
-  spared_all spared ended = survives_begin g old (state g end) (λ _. ⊥) (spares_then begun (state g last) (state g end) spared ended)
+  -- what it gave is told of each history that the connection showed before
+  pub read_told : {X E : Type 0} (tells : X → Tables → Type 0) (r : Result X E) → Survives (begun g old) (state g last) (λ _. ⊥) → HasCleanDisk (state g last)
+      → IfOk r (λ x. ReadsTables (tells x) (begun g old) (state g last)) → OnOk r (IsTrue (state g last).is_open × IsTrue (state g last).in_transaction)
+      → IfOk r (λ x. (owner : List ℕ) (cs : History) → ShowsHistory (state g old) owner cs → tells x (tables owner cs))
+  read_told tells (Ok x) spared late it inside = λ owner cs was.
+      it.tells (tables owner cs) (record { inside = refl; holds = (was.holds (omega (arith, spared.clean, late)) (it.kept.kept.was_open inside.0)).0 })
+  read_told tells (Err e) spared late it inside = tt

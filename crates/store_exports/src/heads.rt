@@ -27,10 +27,7 @@ pub(crate) fn size<S: Alter>(conn: &mut Connection<S>, what: Counted) -> Result<
     let mut tx = conn.transaction();
     let read = count(&mut tx, what);
     tx.rollback();
-    match read {
-        Ok(counted) => Ok(counted),
-        Err(fault) => Err(fault),
-    }
+    read
 }
 
 /// The desk's own row. It commits nothing. Takes memory for the row.
@@ -46,10 +43,7 @@ pub(crate) fn own<S: Alter>(alloc: Global, conn: &mut Connection<S>) -> Result<D
     let mut tx = conn.transaction();
     let read = own_row(alloc, &mut tx);
     tx.rollback();
-    match read {
-        Ok(row) => Ok(row),
-        Err(fault) => Err(fault),
-    }
+    read
 }
 
 /// The size of a list as its head tells it. `Read`: it has more digests than a list may have.

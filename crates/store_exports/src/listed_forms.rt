@@ -11,14 +11,12 @@ use crate::fault::ExportFault;
 use crate::forms::RowForm;
 use desk_bytes::Guid;
 use desk_history::Entry;
+use desk_texts::LONGEST_CERTIFICATE;
 use siglist::{sha256_entry, write_x509};
 use sqlite::Row;
 use std::alloc::Global;
 use std::io::Write;
 use store_reads::{FromRow, ReadFault};
-
-/// The longest certificate that is listed, in bytes.
-const LONGEST: usize = 65_536;
 
 /// A listed digest of an image, as an entry of a SHA256 list.
 #[derive(Drop)]
@@ -50,7 +48,7 @@ fn put_certificate<W: Write>(
     if certificate.is_empty() {
         return Err(ExportFault::Read(ReadFault::Row));
     }
-    if certificate.len() > LONGEST {
+    if certificate.len() > LONGEST_CERTIFICATE {
         return Err(ExportFault::Read(ReadFault::Row));
     }
     write_x509(owner, certificate, writer)?;
