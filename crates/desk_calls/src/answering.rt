@@ -48,7 +48,8 @@ pub trait Answering {
 
     /// Answers the call of a command: an accepted one joins the history. A refusal by the rules changes nothing.
     fn apply(&mut self, caller: &Caller, key: &Key, command: &Command) -> Result<Reply, Refusal>
-        ensures given { clean self.new → IfOk result (λ reply. ForEachShown (shows self.old) (λ owner cs.
+        ensures given { clean self.new → IfOk result (λ reply.
+            ForEachShown (shows self.old) (λ owner cs.
             (reply_in (answer cs (called caller.now key.now command.now)) ≡ Some reply)
             × shows self.new owner (next cs (called caller.now key.now command.now)))) }
         ensures refused { clean self.new → IfErr result (λ refusal. refusal ≢ Refusal.NoMemory

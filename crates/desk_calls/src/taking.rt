@@ -19,7 +19,8 @@ pub(crate) fn take<D: Answering>(
     requires { read ≢ Err (Refused.Unavailable Outage.Store) }
     ensures served { D.clean desk.new → (owner : List ℕ) (cs : History)
         → D.shows desk.old owner cs
-        → Serves (D.shows desk.new owner) (D.failed desk.new) cs (IsTaken cs name key.now read) result }
+        → Serves (D.shows desk.new owner) (D.failed desk.new) cs
+        (IsTaken cs name key.now read) result }
     ensures before { D.clean desk.new → D.clean desk.old }
     ensures poisons { result ≡ store_failed → D.failed desk.new }
     ensures closed { D.failed desk.old

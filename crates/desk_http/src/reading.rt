@@ -115,9 +115,11 @@ fn ask_by_head<D: Answering, R: Read>(
     ensures poisons { result ≡ Err (Unread.Outage Outage.Store) → D.failed desk.new }
     ensures no_store { result ≢ Ok (Err (Refused.Unavailable Outage.Store)) }
     ensures closed { D.failed desk.old → (desk.new ≡ desk.old) × MatchResult result
-        (λ due. IsErr due × ((h : RequestHead) (q : List ℕ) → ReadsRequest head.now h q → HasFewFields h
+        (λ due. IsErr due × ((h : RequestHead) (q : List ℕ)
+        → ReadsRequest head.now h q → HasFewFields h
         → (cs : History) (rest : List ℕ) → due ≡ spec.due_of cs h rest))
-        (λ unread. (unread ≡ Unread.Outage Outage.Reopen) ⊎ (unread ≡ Unread.Outage Outage.NoMemory)) }
+        (λ unread. (unread ≡ Unread.Outage Outage.Reopen)
+        ⊎ (unread ≡ Unread.Outage Outage.NoMemory)) }
     ensures stranger { (h : RequestHead) (q : List ℕ) → ReadsRequest head.now h q → HasFewFields h
         → D.clean desk.new → ForEachShown (D.shows desk.old) (λ _ cs. spec.IsOfNobody cs h
         → R.remaining reader.new ≡ R.remaining reader.old) }

@@ -20,11 +20,13 @@ use std::io::{Read, Write};
 /// The answer to what is asked for.
 fn answer_due<D: Answering>(alloc: Global, desk: &mut D, due: Due) -> Answer
     ensures served { D.clean desk.new → ForEachShown (D.shows desk.old) (λ owner cs.
-        Serves (D.shows desk.new owner) (D.failed desk.new) cs (spec.AnswersDue owner cs due) result) }
+        Serves (D.shows desk.new owner) (D.failed desk.new) cs
+        (spec.AnswersDue owner cs due) result) }
     ensures before { D.clean desk.new → D.clean desk.old }
     ensures poisons { due ≢ Err (Refused.Unavailable Outage.Store) → result ≡ store_failed
         → D.failed desk.new }
-    ensures refused { IfErr due (λ refused. (result ≡ Answer.Refused refused) × (desk.new ≡ desk.old)) }
+    ensures refused { IfErr due (λ refused.
+        (result ≡ Answer.Refused refused) × (desk.new ≡ desk.old)) }
 {
     match due {
         Ok(call) => answer(alloc, desk, call),
@@ -43,7 +45,8 @@ fn answer_input<D: Answering, R: Read>(
         IfSome (R.remaining reader.old) (λ b. ForEachShown (D.shows desk.old) (λ owner cs.
         MatchOption found ((b ≡ []) × D.shows desk.new owner cs)
         (Serves (D.shows desk.new owner) (D.failed desk.new) cs (spec.AnswersInput owner cs b))))) }
-    ensures unread { D.clean desk.new → OnErr result (StillShows (D.shows desk.old) (D.shows desk.new)) }
+    ensures unread { D.clean desk.new
+        → OnErr result (StillShows (D.shows desk.old) (D.shows desk.new)) }
     ensures fault { IfErr result (λ fault. fault ≢ HttpFault.Write) }
     ensures before { D.clean desk.new → D.clean desk.old }
     ensures poisons { result ≡ Ok (Some store_failed) → D.failed desk.new }
@@ -76,13 +79,15 @@ pub fn serve_one<D: Answering, R: Read, W: Write>(
     writer: &mut W,
 ) -> Result<Served, HttpFault>
     ensures answered { D.clean desk.new → spec.IsAnswered (D.shows desk.old) (D.shows desk.new)
-        (D.failed desk.new) (R.remaining reader.old) (W.contents writer.old) (W.contents writer.new) result }
+        (D.failed desk.new) (R.remaining reader.old)
+        (W.contents writer.old) (W.contents writer.new) result }
     ensures nothing { D.clean desk.new → spec.IsPassedOver (D.shows desk.old) (D.shows desk.new)
         (R.remaining reader.old) (W.contents writer.old) (W.contents writer.new) result }
     ensures unread { D.clean desk.new → spec.IsUnread (D.shows desk.old) (D.shows desk.new)
         (W.contents writer.old) (W.contents writer.new) result }
     ensures unwritten { D.clean desk.new → spec.IsUnwritten (D.shows desk.old) (D.shows desk.new)
-        (D.failed desk.new) (R.remaining reader.old) (W.contents writer.old) (W.contents writer.new) result }
+        (D.failed desk.new) (R.remaining reader.old)
+        (W.contents writer.old) (W.contents writer.new) result }
     ensures stranger { D.clean desk.new → spec.LeavesStrangers (D.shows desk.old)
         (R.remaining reader.old) (R.remaining reader.new) result }
     ensures some { spec.IsOfBytes (R.remaining reader.old) result }
