@@ -14,12 +14,11 @@ use Rattle.http_responses.specs.Refusals.{refused_of}
 use Rattle.http_responses.specs.declared.outage.Outage.TheVariants as outage
 use Rattle.http_responses.specs.declared.refused.Refused.{Refused}
 use Rattle.http_responses.specs.declared.refused.Refused.TheVariants as refused
-use Rattle.desk_calls.specs.Answers.{AnswersTask, IsClosed, IsRead, IsReadAndTaken, IsRefusal, IsRuled, IsTaken, Judges, Serves, call_of}
+use Rattle.desk_calls.specs.Answers.{IsClosed, IsRead, IsReadAndTaken, IsRefusal, IsRuled, IsTaken, Judges, Serves, call_of}
 use Rattle.desk_calls.specs.Bodies.{Gives, ReadsFacts, RefusesImage}
 use Rattle.desk_calls.specs.Desks.{IsOutage}
 use Rattle.desk_calls.specs.declared.answers.Answer.{Answer}
 use Rattle.desk_calls.specs.declared.answers.Answer.TheVariants as answer
-use Rattle.desk_calls.specs.declared.call.Task.{Task}
 use Rattle.desk_calls.proofs.RefusalLemmas.{apart, placeless}
 
 told_memory : (r : Refusal) (x : Refused) → refused_of r ≡ Some x → r ≡ refusals.NoMemory → x ≡ refused.Unavailable outage.NoMemory
@@ -80,10 +79,10 @@ pub serves_same : (after : History → Type 0) (failed : Type 0) (cs : History) 
     → x ≡ y → Serves after failed cs (IsTaken cs name key x) a → Serves after failed cs (IsTaken cs name key y) a
 serves_same after failed cs name key x y a e h = subst (λ read. Serves after failed cs (IsTaken cs name key read) a) e h
 
--- the task is this one
-pub serves_task : (after : History → Type 0) (failed : Type 0) (owner : List ℕ) (cs : History) (p : Person) (t u : Task) (a : Answer)
-    → t ≡ u → Serves after failed cs (AnswersTask owner cs p u) a → Serves after failed cs (AnswersTask owner cs p t) a
-serves_task after failed owner cs p t u a e h = subst (λ v. Serves after failed cs (AnswersTask owner cs p v) a) (sym e) h
+-- what is asked for is this
+pub serves_as : {A : Type 0} → (after : History → Type 0) (failed : Type 0) (cs : History) (due : A → Answer → History → Type 0) (x y : A) (a : Answer)
+    → x ≡ y → Serves after failed cs (due y) a → Serves after failed cs (due x) a
+serves_as after failed cs due x y a e h = subst (λ z. Serves after failed cs (due z) a) (sym e) h
 
 -- ---- a desk that has failed
 
@@ -97,15 +96,10 @@ closed_read name key reads read a (inr no_memory) (inr (inr each)) =
     let taken : IsTaken [] name key (Err (refused.Unavailable outage.NoMemory)) a [] = subst (λ r. IsTaken [] name key r a []) no_memory (each [] []) in
     inr (inl taken.0)
 
--- the same where the command is read as another that it is
-pub closed_same : (name key : List ℕ) (x y : Result Command Refused) (a : Answer)
-    → x ≡ y → IsClosed (λ owner cs. IsTaken cs name key x) a → IsClosed (λ owner cs. IsTaken cs name key y) a
-closed_same name key x y a e h = subst (λ read. IsClosed (λ owner cs. IsTaken cs name key read) a) e h
-
--- the task is this one
-pub closed_task : (p : Person) (t u : Task) (a : Answer)
-    → t ≡ u → IsClosed (λ owner cs. AnswersTask owner cs p u) a → IsClosed (λ owner cs. AnswersTask owner cs p t) a
-closed_task p t u a e h = subst (λ v. IsClosed (λ owner cs. AnswersTask owner cs p v) a) (sym e) h
+-- what is asked for is this
+pub closed_as : {A : Type 0} → (due : A → List ℕ → History → Answer → History → Type 0) (x y : A) (a : Answer)
+    → x ≡ y → IsClosed (due y) a → IsClosed (due x) a
+closed_as due x y a e h = subst (λ z. IsClosed (due z) a) (sym e) h
 
 same_fault : (r : Result Facts Refused) (x y : Refused) → r ≡ Err x → r ≡ Err y → x ≡ y
 same_fault r x y e f = cc

@@ -1,16 +1,16 @@
 -- Laws of answers.
 use Rattle.std.proofs.Common.{◌≡◌, ◌∙◌, ℕ, List, Result, Ok, Err, false, refl, subst}
 use Rattle.desk_texts.specs.declared.command.Command.{Command}
-use Rattle.desk_texts.specs.declared.command.Command.TheVariants as command
 use Rattle.desk_texts.specs.declared.command.Person.{Person}
 use Rattle.desk_history.specs.Calls.{History}
 use Rattle.desk_history.specs.Runs.{is_accepted}
 use Rattle.desk_history.specs.declared.answer.Answer as ruling
 use Rattle.desk_history.specs.declared.answer.Answer.TheVariants as ruled
 use Rattle.desk_history.proofs.ShownLemmas.{submitters_see_own}
+use Rattle.http_requests.specs.declared.ask.ImageAsked.{ImageAsked}
+use Rattle.http_requests.specs.declared.ask.ImageAsked.TheVariants as asked
 use Rattle.http_responses.specs.declared.refused.Refused.{Refused}
-use Rattle.desk_calls.specs.Answers.{raise_of, AnswersTask, IsRuled, IsTaken, ShowsRequest, ShowsRequests}
-use Rattle.desk_calls.specs.Bodies.{listing_of}
+use Rattle.desk_calls.specs.Answers.{AnswersImage, AnswersTask, IsRuled, IsTaken, ShowsRequest, ShowsRequests}
 use Rattle.desk_calls.specs.Laws.{RefusalsChangeNothing, SubmittersAreAnsweredByOwn}
 use Rattle.desk_calls.specs.declared.answers.Answer.TheVariants as answer
 use Rattle.desk_calls.specs.declared.call.Task.{Task}
@@ -26,31 +26,18 @@ taken_same : (cs : History) (name key : List ℕ) (read : Result Command Refused
 taken_same cs name key (Err refused) x later h = h.1
 taken_same cs name key (Ok command) x later h = h.1 ∙ rw (refused_by_rules _ x h.0) refl
 
+image_same : (cs : History) (name : List ℕ) (with : ImageAsked) (image : List ℕ) (x : Refused) (later : History)
+    → AnswersImage cs name with image (answer.Refused x) later → later ≡ cs
+image_same cs name (asked.Submit key title) image x later h = taken_same cs name key h.0 x later h.2
+image_same cs name (asked.Return key number) image x later h = taken_same cs name key h.0 x later h.2
+image_same cs name asked.Verdict image x later h = h.1
+
 same : (owner : List ℕ) (cs : History) (p : Person) (t : Task) (x : Refused) (later : History)
     → AnswersTask owner cs p t (answer.Refused x) later → later ≡ cs
-same owner cs p (task.Submit key title image) x later h = taken_same cs p.name key h.0 x later h.2
-same owner cs p task.Requests x later h = h.1
-same owner cs p (task.Request number) x later h = h.1
-same owner cs p (task.Review key number body) x later h = taken_same cs p.name key (Ok (command.Review (record { request = number; vote = body.vote; note = body.note }))) x later h
-same owner cs p (task.Withdraw key number) x later h = taken_same cs p.name key (Ok (command.Withdraw number)) x later h
-same owner cs p (task.Return key number image) x later h = taken_same cs p.name key h.0 x later h.2
-same owner cs p (task.ListCertificate key body) x later h = taken_same cs p.name key (listing_of body) x later h
-same owner cs p (task.ListDigest key digest) x later h = taken_same cs p.name key (Ok (command.ListDigest digest)) x later h
-same owner cs p (task.Unlist key body) x later h = taken_same cs p.name key (Ok (command.Unlist (record { kind = body.kind; digest = body.digest }))) x later h
-same owner cs p (task.RevokeDigest key digest) x later h = taken_same cs p.name key (Ok (command.RevokeDigest digest)) x later h
-same owner cs p (task.RevokeCertificate key digest) x later h = taken_same cs p.name key (Ok (command.RevokeCertificate digest)) x later h
-same owner cs p (task.RaiseLevel key body) x later h = taken_same cs p.name key (Ok (command.RaiseLevel (raise_of body))) x later h
-same owner cs p (task.ImportDbx key bytes) x later h = taken_same cs p.name key h.0 x later h.2
-same owner cs p (task.ImportCsv key stamp text) x later h = taken_same cs p.name key h.0 x later h.2
-same owner cs p (task.ImportLevel key text) x later h = taken_same cs p.name key h.0 x later h.2
-same owner cs p (task.Confirm key number) x later h = taken_same cs p.name key (Ok (command.Confirm number)) x later h
-same owner cs p (task.Drop key number) x later h = taken_same cs p.name key (Ok (command.Drop number)) x later h
-same owner cs p task.Proposals x later h = h.1
-same owner cs p (task.Verdict image) x later h = h.1
-same owner cs p task.Dbx x later h = h.1
-same owner cs p task.Db x later h = h.1
-same owner cs p task.Level x later h = h.1
-same owner cs p task.Report x later h = h.1
+same owner cs p (task.Read reading) x later h = h.1
+same owner cs p (task.Image with image) x later h = image_same cs p.name with image x later h
+same owner cs p (task.Command key command) x later h = taken_same cs p.name key (Ok command) x later h
+same owner cs p (task.Bytes key format bytes) x later h = taken_same cs p.name key h.0 x later h.2
 
 pub refusals_change_nothing : RefusalsChangeNothing
 refusals_change_nothing owner cs call x later h = same owner cs call.person call.task x later h

@@ -6,7 +6,6 @@ use Rattle.desk_texts.specs.declared.command.Call.{Call as Ruled}
 use Rattle.desk_texts.specs.declared.command.Command.{Command}
 use Rattle.desk_texts.specs.declared.command.Command.TheVariants as command
 use Rattle.desk_texts.specs.declared.command.Person.{Person}
-use Rattle.desk_texts.specs.declared.command.Raise.{Raise}
 use Rattle.desk_texts.specs.declared.facts.Facts.{Facts}
 use Rattle.desk_texts.specs.declared.role.Role.{Role}
 use Rattle.desk_texts.specs.declared.shown.ShownRequest.{ShownRequest}
@@ -20,12 +19,15 @@ use Rattle.desk_history.specs.declared.answer.Answer as ruling
 use Rattle.desk_history.specs.declared.answer.Answer.TheVariants as ruled
 use Rattle.desk_exports.specs.Exports as exports
 use Rattle.desk_exports.specs.Reports.{report}
-use Rattle.http_requests.specs.declared.bodies.body.LevelBody.{LevelBody}
+use Rattle.http_requests.specs.declared.ask.ImageAsked.{ImageAsked}
+use Rattle.http_requests.specs.declared.ask.ImageAsked.TheVariants as asked
+use Rattle.http_requests.specs.declared.ask.ReadAsked.{ReadAsked}
+use Rattle.http_requests.specs.declared.ask.ReadAsked.TheVariants as read
 use Rattle.http_responses.specs.declared.outage.Outage.TheVariants as outage
 use Rattle.http_responses.specs.declared.refused.Refused.{Refused}
 use Rattle.http_responses.specs.declared.refused.Refused.TheVariants as refused
 use Rattle.desk_service.specs.ImageFacts.{IsFactsOf}
-use Rattle.desk_calls.specs.Bodies.{ReadsCsv, ReadsDbx, ReadsImage, ReadsLevel, RefusesImage, RefusesAs, listing_of}
+use Rattle.desk_calls.specs.Bodies.{ReadsBytes, ReadsImage, RefusesImage, RefusesAs}
 use Rattle.desk_calls.specs.Desks.{called}
 use Rattle.desk_calls.specs.declared.answers.Answer.{Answer}
 use Rattle.desk_calls.specs.declared.answers.Answer.TheVariants as answer
@@ -92,45 +94,34 @@ Judges cs image a =
 abbrev pub report_to : Role → History → Answer
 report_to role cs = if is_officer role then answer.Report (report cs) else answer.Refused refused.NotYourRole
 
--- ---- every route
+-- ---- every task
 
--- what the level is raised by
-abbrev pub raise_of : LevelBody → Raise
-raise_of body = record {
-  component = record { name = body.component; generation = body.generation };
-  stamp = body.stamp;
-}
+-- a person is shown what is asked for
+abbrev pub ShowsAsked : List ℕ → History → Person → ReadAsked → Answer → Type 0
+ShowsAsked owner cs p read.Requests a = ShowsRequests (requests_for cs (callers.Person p.name)) a
+ShowsAsked owner cs p (read.Request number) a = ShowsRequest (request_for cs (callers.Person p.name) number) a
+ShowsAsked owner cs p read.Proposals a = ShowsProposals cs (proposals_for cs (callers.Person p.name)) a
+ShowsAsked owner cs p read.Dbx a = a ≡ answer.Dbx (exports.dbx owner cs)
+ShowsAsked owner cs p read.Db a = a ≡ answer.Db (exports.db owner cs)
+ShowsAsked owner cs p read.Level a = a ≡ answer.Level (exports.level cs)
+ShowsAsked owner cs p read.Report a = a ≡ report_to p.role cs
+
+-- The desk that shows the history answers so what the person of this name asks for with an image, and shows `later`
+-- afterwards.
+abbrev pub AnswersImage : History → List ℕ → ImageAsked → List ℕ → Answer → History → Type 0
+AnswersImage cs name (asked.Submit key title) image =
+    IsReadAndTaken cs name key (ReadsImage (λ x. command.Submit (record { title = title; facts = x })) image)
+AnswersImage cs name (asked.Return key number) image =
+    IsReadAndTaken cs name key (ReadsImage (λ x. command.Return (record { request = number; facts = x })) image)
+AnswersImage cs name asked.Verdict image = IsRead cs (Judges cs image)
 
 -- The desk that shows the history answers a person's task so, and shows `later` afterwards. Of what is read of a desk
 -- nothing changes.
 abbrev pub AnswersTask : List ℕ → History → Person → Task → Answer → History → Type 0
-AnswersTask owner cs p (task.Submit key title image) =
-    IsReadAndTaken cs p.name key (ReadsImage (λ x. command.Submit (record { title = title; facts = x })) image)
-AnswersTask owner cs p task.Requests = IsRead cs (ShowsRequests (requests_for cs (callers.Person p.name)))
-AnswersTask owner cs p (task.Request number) = IsRead cs (ShowsRequest (request_for cs (callers.Person p.name) number))
-AnswersTask owner cs p (task.Review key number body) =
-    IsTaken cs p.name key (Ok (command.Review (record { request = number; vote = body.vote; note = body.note })))
-AnswersTask owner cs p (task.Withdraw key number) = IsTaken cs p.name key (Ok (command.Withdraw number))
-AnswersTask owner cs p (task.Return key number image) =
-    IsReadAndTaken cs p.name key (ReadsImage (λ x. command.Return (record { request = number; facts = x })) image)
-AnswersTask owner cs p (task.ListCertificate key body) = IsTaken cs p.name key (listing_of body)
-AnswersTask owner cs p (task.ListDigest key digest) = IsTaken cs p.name key (Ok (command.ListDigest digest))
-AnswersTask owner cs p (task.Unlist key body) =
-    IsTaken cs p.name key (Ok (command.Unlist (record { kind = body.kind; digest = body.digest })))
-AnswersTask owner cs p (task.RevokeDigest key digest) = IsTaken cs p.name key (Ok (command.RevokeDigest digest))
-AnswersTask owner cs p (task.RevokeCertificate key digest) = IsTaken cs p.name key (Ok (command.RevokeCertificate digest))
-AnswersTask owner cs p (task.RaiseLevel key body) = IsTaken cs p.name key (Ok (command.RaiseLevel (raise_of body)))
-AnswersTask owner cs p (task.ImportDbx key bytes) = IsReadAndTaken cs p.name key (ReadsDbx bytes)
-AnswersTask owner cs p (task.ImportCsv key stamp text) = IsReadAndTaken cs p.name key (ReadsCsv text stamp)
-AnswersTask owner cs p (task.ImportLevel key text) = IsReadAndTaken cs p.name key (ReadsLevel text)
-AnswersTask owner cs p (task.Confirm key number) = IsTaken cs p.name key (Ok (command.Confirm number))
-AnswersTask owner cs p (task.Drop key number) = IsTaken cs p.name key (Ok (command.Drop number))
-AnswersTask owner cs p task.Proposals = IsRead cs (ShowsProposals cs (proposals_for cs (callers.Person p.name)))
-AnswersTask owner cs p (task.Verdict image) = IsRead cs (Judges cs image)
-AnswersTask owner cs p task.Dbx = IsRead cs (λ a. a ≡ answer.Dbx (exports.dbx owner cs))
-AnswersTask owner cs p task.Db = IsRead cs (λ a. a ≡ answer.Db (exports.db owner cs))
-AnswersTask owner cs p task.Level = IsRead cs (λ a. a ≡ answer.Level (exports.level cs))
-AnswersTask owner cs p task.Report = IsRead cs (λ a. a ≡ report_to p.role cs)
+AnswersTask owner cs p (task.Read reading) = IsRead cs (ShowsAsked owner cs p reading)
+AnswersTask owner cs p (task.Image with image) = AnswersImage cs p.name with image
+AnswersTask owner cs p (task.Command key command) = IsTaken cs p.name key (Ok command)
+AnswersTask owner cs p (task.Bytes key format bytes) = IsReadAndTaken cs p.name key (ReadsBytes format bytes)
 
 -- the same of a call
 abbrev pub AnswersCall : List ℕ → History → Call → Answer → History → Type 0

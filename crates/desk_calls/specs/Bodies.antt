@@ -6,6 +6,8 @@ use Rattle.desk_bytes.specs.declared.refusal.Refusal.TheVariants as refusals
 use Rattle.desk_texts.specs.declared.command.Command.{Command}
 use Rattle.desk_texts.specs.declared.command.Command.TheVariants as command
 use Rattle.desk_texts.specs.declared.facts.Facts.{Facts}
+use Rattle.http_requests.specs.declared.ask.BytesAsked.{BytesAsked}
+use Rattle.http_requests.specs.declared.ask.BytesAsked.TheVariants as asked
 use Rattle.http_responses.specs.Refusals as told
 use Rattle.http_responses.specs.declared.outage.Outage.TheVariants as outage
 use Rattle.http_responses.specs.declared.refused.Refused.{Refused}
@@ -69,6 +71,13 @@ ReadsCsv text stamp = ReadsImport (IsCsvImport text stamp) (RefusesCsv text)
 -- the text of an SBAT level
 abbrev pub ReadsLevel : List ℕ → Result Command Refused → Type 0
 ReadsLevel text = ReadsImport (IsLevelImport text) (RefusesLevelImport text)
+
+-- the command that bytes are, in the format that is asked for
+abbrev pub ReadsBytes : BytesAsked → List ℕ → Result Command Refused → Type 0
+ReadsBytes asked.ListCertificate body read = read ≡ listing_of body
+ReadsBytes asked.ImportDbx body read = ReadsDbx body read
+ReadsBytes (asked.ImportCsv stamp) body read = ReadsCsv body stamp read
+ReadsBytes asked.ImportLevel body read = ReadsLevel body read
 
 -- the code gives this, or tells that memory was refused
 abbrev pub Gives : {A : Type 0} → (Result A Refused → Type 0) → Result A Refused → Type 0

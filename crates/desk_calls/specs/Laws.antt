@@ -4,6 +4,7 @@ use Rattle.desk_texts.specs.declared.command.Person.{Person}
 use Rattle.desk_texts.specs.declared.role.Role.TheVariants as roles
 use Rattle.desk_history.specs.Calls.{History}
 use Rattle.desk_history.specs.Shown.{own, role_of}
+use Rattle.http_requests.specs.declared.ask.ReadAsked.TheVariants as read
 use Rattle.http_responses.specs.declared.refused.Refused.{Refused}
 use Rattle.desk_calls.specs.Answers.{AnswersCall, AnswersTask}
 use Rattle.desk_calls.specs.declared.answers.Answer.{Answer}
@@ -20,9 +21,9 @@ RefusalsChangeNothing =
 -- who asks desks of these histories for requests is answered by the second as by the first, whatever else they hold
 pub record AnswersAlike (one other : History) (p : Person) : Type 0 where
   pub each : (first second : List ℕ) (k : ℕ) (a : Answer) (later : History)
-      → AnswersTask first one p (task.Request k) a later → AnswersTask second other p (task.Request k) a other
+      → AnswersTask first one p (task.Read (read.Request k)) a later → AnswersTask second other p (task.Read (read.Request k)) a other
   pub all : (first second : List ℕ) (a : Answer) (later : History)
-      → AnswersTask first one p task.Requests a later → AnswersTask second other p task.Requests a other
+      → AnswersTask first one p (task.Read read.Requests) a later → AnswersTask second other p (task.Read read.Requests) a other
 
 -- What a submitter is answered who asks for requests comes of own requests alone: it is the same of all histories that have
 -- the same ones.

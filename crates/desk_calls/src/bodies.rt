@@ -1,7 +1,6 @@
 //! The bodies of calls, read.
 ghost use Rattle.std.specs.Prelude.{◌≡◌, ◌≢◌, Err};
 ghost use Rattle.desk_texts.specs.declared.command.Command.TheVariants as command;
-ghost use Rattle.desk_calls.specs.Answers.{raise_of};
 ghost use Rattle.desk_calls.specs.Bodies as spec;
 
 use crate::octets::Octets;
@@ -9,13 +8,13 @@ use crate::refusing::{NO_MEMORY, of_facts, of_import};
 use desk_bytes::{Refusal, tbs};
 use desk_service::{facts, import_csv, import_dbx, import_level, tbs_is_read, token_digest};
 use desk_texts::{
-    Ballot, Certificate, Command, Facts, LONGEST_CERTIFICATE, Listing, Raise, RequestNumber,
-    ReturnedFile, Submission, Title,
+    Certificate, Command, Facts, LONGEST_CERTIFICATE, RequestNumber, ReturnedFile, Submission,
+    Title,
 };
-use http_requests::{LevelBody, ReviewBody, UnlistBody};
+use http_requests::BytesAsked;
 use http_responses::{Outage, Refused};
 use pe_image::{Pieces, no_slice_fails};
-use sbat::{Component, Stamp};
+use sbat::Stamp;
 use std::alloc::Global;
 
 /// The facts of an image.
@@ -64,52 +63,8 @@ pub(crate) fn returned(
     }
 }
 
-/// The command of a review.
-pub(crate) fn review(request: RequestNumber, body: ReviewBody) -> Command
-    ensures { result ≡ command.Review (record {
-      request = request;
-      vote = body.vote;
-      note = body.note;
-    }) }
-{
-    let ReviewBody { note, vote } = body;
-    Command::Review(Ballot {
-        request,
-        vote,
-        note,
-    })
-}
-
-/// The command that takes an entry off the list.
-pub(crate) fn unlisting(body: UnlistBody) -> Command
-    ensures { result ≡ command.Unlist (record { kind = body.kind; digest = body.digest }) }
-{
-    Command::Unlist(Listing {
-        kind: body.kind,
-        digest: body.digest,
-    })
-}
-
-/// The command that raises the level.
-pub(crate) fn raise(body: LevelBody) -> Command
-    ensures { result ≡ command.RaiseLevel (raise_of body) }
-{
-    let LevelBody {
-        component,
-        generation,
-        stamp,
-    } = body;
-    Command::RaiseLevel(Raise {
-        component: Component {
-            name: component,
-            generation,
-        },
-        stamp,
-    })
-}
-
 /// The command that lists a certificate.
-pub(crate) fn listing(body: Octets) -> Result<Command, Refused>
+fn listing(body: Octets) -> Result<Command, Refused>
     ensures reads { result ≡ spec.listing_of body }
     ensures no_store { result ≢ Err (Refused.Unavailable Outage.Store) }
 {
@@ -129,7 +84,7 @@ pub(crate) fn listing(body: Octets) -> Result<Command, Refused>
 }
 
 /// The command that signature lists are.
-pub(crate) fn from_dbx(alloc: Global, body: &Octets) -> Result<Command, Refused>
+fn from_dbx(alloc: Global, body: &Octets) -> Result<Command, Refused>
     ensures reads { spec.Gives (spec.ReadsDbx body.now) result }
     ensures no_store { result ≢ Err (Refused.Unavailable Outage.Store) }
 {
@@ -145,11 +100,7 @@ pub(crate) fn from_dbx(alloc: Global, body: &Octets) -> Result<Command, Refused>
 }
 
 /// The command that a CSV file is.
-pub(crate) fn from_csv(
-    alloc: Global,
-    body: &Octets,
-    stamp: Option<Stamp>,
-) -> Result<Command, Refused>
+fn from_csv(alloc: Global, body: &Octets, stamp: Option<Stamp>) -> Result<Command, Refused>
     ensures reads { spec.Gives (spec.ReadsCsv body.now stamp) result }
     ensures no_store { result ≢ Err (Refused.Unavailable Outage.Store) }
 {
@@ -165,7 +116,7 @@ pub(crate) fn from_csv(
 }
 
 /// The command that the text of an SBAT level is.
-pub(crate) fn from_level(alloc: Global, body: &Octets) -> Result<Command, Refused>
+fn from_level(alloc: Global, body: &Octets) -> Result<Command, Refused>
     ensures reads { spec.Gives (spec.ReadsLevel body.now) result }
     ensures no_store { result ≢ Err (Refused.Unavailable Outage.Store) }
 {
@@ -177,5 +128,18 @@ pub(crate) fn from_level(alloc: Global, body: &Octets) -> Result<Command, Refuse
             }
             Err(of_import(fault))
         }
+    }
+}
+
+/// The command that bytes are, in the format that is asked for.
+pub(crate) fn command_of(alloc: Global, asked: BytesAsked, body: Octets) -> Result<Command, Refused>
+    ensures reads { spec.Gives (spec.ReadsBytes asked body) result }
+    ensures no_store { result ≢ Err (Refused.Unavailable Outage.Store) }
+{
+    match asked {
+        BytesAsked::ListCertificate => listing(body),
+        BytesAsked::ImportDbx => from_dbx(alloc, &body),
+        BytesAsked::ImportCsv(stamp) => from_csv(alloc, &body, stamp),
+        BytesAsked::ImportLevel => from_level(alloc, &body),
     }
 }

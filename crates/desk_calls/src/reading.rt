@@ -11,13 +11,14 @@ use crate::answers::Answer;
 use crate::bodies::read_facts;
 use crate::refusing::without_place;
 use desk_exports::Export;
-use desk_texts::{Caller, PersonName, RequestNumber, Role};
+use desk_texts::{Caller, Person, PersonName, RequestNumber, Role};
+use http_requests::ReadAsked;
 use http_responses::Refused;
 use pe_image::Pieces;
 use std::alloc::Global;
 
 /// The request of this number, as the person of this name is shown it.
-pub(crate) fn request<D: Answering>(desk: &mut D, name: PersonName, number: RequestNumber) -> Answer
+fn request<D: Answering>(desk: &mut D, name: PersonName, number: RequestNumber) -> Answer
     ensures served { D.clean desk.new → (owner : List ℕ) (cs : History)
         → D.shows desk.old owner cs
         → spec.Serves (D.shows desk.new owner) (D.failed desk.new) cs (spec.IsRead cs
@@ -33,7 +34,7 @@ pub(crate) fn request<D: Answering>(desk: &mut D, name: PersonName, number: Requ
 }
 
 /// The requests that the person of this name is shown.
-pub(crate) fn requests<D: Answering>(desk: &mut D, name: PersonName) -> Answer
+fn requests<D: Answering>(desk: &mut D, name: PersonName) -> Answer
     ensures served { D.clean desk.new → (owner : List ℕ) (cs : History)
         → D.shows desk.old owner cs
         → spec.Serves (D.shows desk.new owner) (D.failed desk.new) cs (spec.IsRead cs
@@ -49,7 +50,7 @@ pub(crate) fn requests<D: Answering>(desk: &mut D, name: PersonName) -> Answer
 }
 
 /// The proposals, for an officer of this name.
-pub(crate) fn proposals<D: Answering>(desk: &mut D, name: PersonName) -> Answer
+fn proposals<D: Answering>(desk: &mut D, name: PersonName) -> Answer
     ensures served { D.clean desk.new → (owner : List ℕ) (cs : History)
         → D.shows desk.old owner cs
         → spec.Serves (D.shows desk.new owner) (D.failed desk.new) cs (spec.IsRead cs
@@ -86,7 +87,7 @@ pub(crate) fn judge<D: Answering>(alloc: Global, desk: &mut D, image: Pieces) ->
 }
 
 /// The bytes of dbx.
-pub(crate) fn dbx<D: Answering>(alloc: Global, desk: &mut D) -> Answer
+fn dbx<D: Answering>(alloc: Global, desk: &mut D) -> Answer
     ensures served { D.clean desk.new → (owner : List ℕ) (cs : History)
         → D.shows desk.old owner cs
         → spec.Serves (D.shows desk.new owner) (D.failed desk.new) cs (spec.IsRead cs
@@ -102,7 +103,7 @@ pub(crate) fn dbx<D: Answering>(alloc: Global, desk: &mut D) -> Answer
 }
 
 /// The bytes of db.
-pub(crate) fn db<D: Answering>(alloc: Global, desk: &mut D) -> Answer
+fn db<D: Answering>(alloc: Global, desk: &mut D) -> Answer
     ensures served { D.clean desk.new → (owner : List ℕ) (cs : History)
         → D.shows desk.old owner cs
         → spec.Serves (D.shows desk.new owner) (D.failed desk.new) cs (spec.IsRead cs
@@ -118,7 +119,7 @@ pub(crate) fn db<D: Answering>(alloc: Global, desk: &mut D) -> Answer
 }
 
 /// The text of the level.
-pub(crate) fn level<D: Answering>(alloc: Global, desk: &mut D) -> Answer
+fn level<D: Answering>(alloc: Global, desk: &mut D) -> Answer
     ensures served { D.clean desk.new → (owner : List ℕ) (cs : History)
         → D.shows desk.old owner cs
         → spec.Serves (D.shows desk.new owner) (D.failed desk.new) cs (spec.IsRead cs
@@ -134,7 +135,7 @@ pub(crate) fn level<D: Answering>(alloc: Global, desk: &mut D) -> Answer
 }
 
 /// The text of the report, for an officer.
-pub(crate) fn report<D: Answering>(alloc: Global, desk: &mut D, role: Role) -> Answer
+fn report<D: Answering>(alloc: Global, desk: &mut D, role: Role) -> Answer
     ensures served { D.clean desk.new → (owner : List ℕ) (cs : History)
         → D.shows desk.old owner cs
         → spec.Serves (D.shows desk.new owner) (D.failed desk.new) cs (spec.IsRead cs
@@ -153,5 +154,33 @@ pub(crate) fn report<D: Answering>(alloc: Global, desk: &mut D, role: Role) -> A
     match desk.report(alloc) {
         Ok(text) => Answer::Report(text),
         Err(refusal) => Answer::Refused(without_place(refusal)),
+    }
+}
+
+/// What the person is shown.
+pub(crate) fn show<D: Answering>(
+    alloc: Global,
+    desk: &mut D,
+    person: Person,
+    asked: ReadAsked,
+) -> Answer
+    ensures served { D.clean desk.new → (owner : List ℕ) (cs : History)
+        → D.shows desk.old owner cs
+        → spec.Serves (D.shows desk.new owner) (D.failed desk.new) cs (spec.IsRead cs
+        (spec.ShowsAsked owner cs person asked)) result }
+    ensures before { D.clean desk.new → D.clean desk.old }
+    ensures poisons { result ≡ spec.store_failed → D.failed desk.new }
+    ensures closed { D.failed desk.old → spec.IsClosed (λ owner cs. spec.IsRead cs
+        (spec.ShowsAsked owner cs person asked)) result × (desk.new ≡ desk.old) }
+{
+    let Person { name, role, .. } = person;
+    match asked {
+        ReadAsked::Requests => requests(desk, name),
+        ReadAsked::Request(number) => request(desk, name, number),
+        ReadAsked::Proposals => proposals(desk, name),
+        ReadAsked::Dbx => dbx(alloc, desk),
+        ReadAsked::Db => db(alloc, desk),
+        ReadAsked::Level => level(alloc, desk),
+        ReadAsked::Report => report(alloc, desk, role),
     }
 }

@@ -7,16 +7,16 @@ ghost use Rattle.desk_calls.specs.Desks.{StillShows, ForEachShown, person_with};
 
 use crate::answering::Answering;
 use crate::answers::Answer;
-use crate::bodies::{
-    from_csv, from_dbx, from_level, listing, raise, returned, review, submission, unlisting,
-};
+use crate::bodies::{command_of, returned, submission};
 use crate::call::{Call, Task};
-use crate::reading::{db, dbx, judge, level, proposals, report, request, requests};
+use crate::reading::{judge, show};
 use crate::refusing::outage;
 use crate::taking::take;
 use desk_service::token_digest;
-use desk_texts::{Command, Person};
+use desk_texts::{Person, PersonName};
+use http_requests::ImageAsked;
 use http_responses::Outage;
+use pe_image::Pieces;
 use std::alloc::Global;
 
 /// The person whose token this is, if there is one. Takes memory.
@@ -40,6 +40,31 @@ pub fn caller<D: Answering>(desk: &mut D, token: &[u8]) -> Result<Option<Person>
     }
 }
 
+/// Answers what the person of this name asks for with an image.
+fn answer_image<D: Answering>(
+    alloc: Global,
+    desk: &mut D,
+    name: PersonName,
+    asked: ImageAsked,
+    image: Pieces,
+) -> Answer
+    ensures served { D.clean desk.new → (owner : List ℕ) (cs : History)
+        → D.shows desk.old owner cs
+        → spec.Serves (D.shows desk.new owner) (D.failed desk.new) cs
+        (spec.AnswersImage cs name asked image) result }
+    ensures before { D.clean desk.new → D.clean desk.old }
+    ensures poisons { result ≡ spec.store_failed → D.failed desk.new }
+    ensures closed { D.failed desk.old
+        → spec.IsClosed (λ _ cs. spec.AnswersImage cs name asked image) result
+        × (desk.new ≡ desk.old) }
+{
+    match asked {
+        ImageAsked::Submit(key, title) => take(desk, name, &key, submission(alloc, title, image)),
+        ImageAsked::Return(key, number) => take(desk, name, &key, returned(alloc, number, image)),
+        ImageAsked::Verdict => judge(alloc, desk, image),
+    }
+}
+
 /// Answers a call. A body is read before the desk is asked, and what is wrong with it is answered first. Takes
 /// memory.
 ///
@@ -53,44 +78,17 @@ pub fn answer<D: Answering>(alloc: Global, desk: &mut D, call: Call) -> Answer
         (spec.AnswersCall owner cs call) result }
     ensures before { D.clean desk.new → D.clean desk.old }
     ensures poisons { result ≡ spec.store_failed → D.failed desk.new }
-    ensures closed { D.failed desk.old → spec.IsClosed (λ owner cs. spec.AnswersCall owner cs call) result
+    ensures closed { D.failed desk.old
+        → spec.IsClosed (λ owner cs. spec.AnswersCall owner cs call) result
         × (desk.new ≡ desk.old) }
 {
     let Call { person, task } = call;
-    let Person { name, role, .. } = person;
     match task {
-        Task::Submit(key, title, image) => take(desk, name, &key, submission(alloc, title, image)),
-        Task::Requests => requests(desk, name),
-        Task::Request(number) => request(desk, name, number),
-        Task::Review(key, number, body) => take(desk, name, &key, Ok(review(number, body))),
-        Task::Withdraw(key, number) => take(desk, name, &key, Ok(Command::Withdraw(number))),
-        Task::Return(key, number, image) => take(desk, name, &key, returned(alloc, number, image)),
-        Task::ListCertificate(key, body) => take(desk, name, &key, listing(body)),
-        Task::ListDigest(key, digest) => take(desk, name, &key, Ok(Command::ListDigest(digest))),
-        Task::Unlist(key, body) => take(desk, name, &key, Ok(unlisting(body))),
-        Task::RevokeDigest(key, digest) => take(
-            desk,
-            name,
-            &key,
-            Ok(Command::RevokeDigest(digest)),
-        ),
-        Task::RevokeCertificate(key, digest) => take(
-            desk,
-            name,
-            &key,
-            Ok(Command::RevokeCertificate(digest)),
-        ),
-        Task::RaiseLevel(key, body) => take(desk, name, &key, Ok(raise(body))),
-        Task::ImportDbx(key, body) => take(desk, name, &key, from_dbx(alloc, &body)),
-        Task::ImportCsv(key, stamp, body) => take(desk, name, &key, from_csv(alloc, &body, stamp)),
-        Task::ImportLevel(key, body) => take(desk, name, &key, from_level(alloc, &body)),
-        Task::Confirm(key, number) => take(desk, name, &key, Ok(Command::Confirm(number))),
-        Task::Drop(key, number) => take(desk, name, &key, Ok(Command::Drop(number))),
-        Task::Proposals => proposals(desk, name),
-        Task::Verdict(image) => judge(alloc, desk, image),
-        Task::Dbx => dbx(alloc, desk),
-        Task::Db => db(alloc, desk),
-        Task::Level => level(alloc, desk),
-        Task::Report => report(alloc, desk, role),
+        Task::Read(asked) => show(alloc, desk, person, asked),
+        Task::Image(asked, image) => answer_image(alloc, desk, person.name, asked, image),
+        Task::Command(key, command) => take(desk, person.name, &key, Ok(command)),
+        Task::Bytes(key, asked, bytes) => {
+            take(desk, person.name, &key, command_of(alloc, asked, bytes))
+        }
     }
 }

@@ -7,13 +7,17 @@ use Rattle.desk_history.specs.Calls.{History}
 use Rattle.http_requests.specs.heads.Fields.{parts_of}
 use Rattle.http_requests.specs.heads.Heads.{FindsOf, HasFewFields, HasHead}
 use Rattle.http_requests.specs.declared.heads.begun.Begun.TheVariants.{Head}
+use Rattle.http_requests.specs.Asked.{image_at, keyed_at}
 use Rattle.http_requests.specs.Wanted.{Want, wanted_of}
+use Rattle.http_requests.specs.declared.route.PostRoute.TheVariants.{Image, Command}
+use Rattle.http_requests.specs.declared.route.Route.{Route}
+use Rattle.http_requests.specs.declared.route.Route.TheVariants.{Get, Post}
 use Rattle.http_requests.specs.declared.fault.WantedFault.{WantedFault}
 use Rattle.http_requests.specs.declared.fault.WantedFault.TheVariants.{NoMemory}
 use Rattle.http_responses.specs.declared.outage.Outage.TheVariants as outage
 use Rattle.desk_calls.specs.Desks.{ForEachShown}
 use Rattle.desk_texts.specs.declared.command.Person.{Person}
-use Rattle.desk_http.specs.Asked.{Asks, Due, HasRequest, caller_of, due_of, of_body, of_caller, of_head}
+use Rattle.desk_http.specs.Asked.{Asks, Due, HasRequest, caller_of, due_of, of_caller, of_head, of_route, with_body, with_image}
 use Rattle.desk_http.specs.Refused.{refused_by_head}
 use Rattle.desk_http.specs.declared.served.Unread.{Unread}
 use Rattle.desk_http.specs.declared.served.Unread.TheVariants.{Outage}
@@ -33,10 +37,18 @@ asks_once cs b due other (inl x) (inr y) = absurd (y.1 x.0 x.1 x.2)
 asks_once cs b due other (inr x) (inl y) = absurd (x.1 y.0 y.1 y.2)
 asks_once cs b due other (inr x) (inr y) = x.2 ∙ sym y.2
 
+route_followed : (p : Person) (w : Want) (rest more : List ℕ) (r : Route) → w.size ≤ length rest
+    → of_route p w (rest ++ more) r ≡ of_route p w rest r
+route_followed p w rest more (Get r) le = refl
+route_followed p w rest more (Post (Image r)) le =
+    ap (λ (image : Option (List ℕ)). with_image p (image_at r w) image) (body_followed w.size rest more le)
+route_followed p w rest more (Post (Command r)) le =
+    ap (λ (body : Option (List ℕ)). with_body p (keyed_at r w) body) (body_followed w.size rest more le)
+
 caller_followed : (w : Want) (rest more : List ℕ) (p : Option Person) → w.size ≤ length rest
     → of_caller w (rest ++ more) p ≡ of_caller w rest p
 caller_followed w rest more None le = refl
-caller_followed w rest more (Some p) le = ap (λ (body : Option (List ℕ)). of_body p w body) (body_followed w.size rest more le)
+caller_followed w rest more (Some p) le = route_followed p w rest more w.route le
 
 head_followed : (cs : History) (rest more : List ℕ) (w : Result Want WantedFault) → IfOk w (λ v. v.size ≤ length rest)
     → of_head cs (rest ++ more) w ≡ of_head cs rest w

@@ -6,15 +6,21 @@ use Rattle.desk_history.specs.Calls.{History}
 use Rattle.desk_texts.specs.declared.command.Person.{Person}
 use Rattle.http_requests.specs.heads.Fields.{parts_of}
 use Rattle.http_requests.specs.heads.Heads.{HasHead, HasNoHead}
-use Rattle.http_requests.specs.Asked.{asked_of}
+use Rattle.http_requests.specs.Asked.{read_at, image_at, keyed_at}
 use Rattle.http_requests.specs.Wanted.{Want, wanted_of}
-use Rattle.http_requests.specs.declared.ask.Asked.{Asked}
+use Rattle.http_requests.specs.declared.ask.ImageAsked.{ImageAsked}
+use Rattle.http_requests.specs.declared.ask.KeyedAsked.{KeyedAsked}
+use Rattle.http_requests.specs.declared.ask.ReadAsked.{ReadAsked}
 use Rattle.http_requests.specs.declared.fault.AskedFault.{AskedFault}
 use Rattle.http_requests.specs.declared.fault.WantedFault.{WantedFault}
+use Rattle.http_requests.specs.declared.route.PostRoute.TheVariants.{Image, Command}
+use Rattle.http_requests.specs.declared.route.Route.{Route}
+use Rattle.http_requests.specs.declared.route.Route.TheVariants.{Get, Post}
 use Rattle.http_responses.specs.declared.refused.Refused.{Refused}
 use Rattle.http_responses.specs.declared.refused.Refused.TheVariants as refused
 use Rattle.desk_calls.specs.declared.call.Call.{Call}
 use Rattle.desk_calls.specs.declared.call.Task.{Task}
+use Rattle.desk_calls.specs.declared.call.Task.TheVariants as task
 use Rattle.desk_calls.specs.Desks.{ForEachShown, person_with}
 use Rattle.desk_http.specs.Bodies.{body_in}
 use Rattle.desk_http.specs.Tasks.{task_of}
@@ -29,25 +35,50 @@ abbrev pub caller_of : History → Option (List ℕ) → Option Person
 caller_of cs None = None
 caller_of cs (Some token) = person_with (sha256 token) cs
 
+-- the call of a person for a task
+abbrev pub call_for : Person → Task → Due
+call_for p task = Ok (record { person = p; task = task })
+
+-- the call of a person for what is read, where the field says this
+abbrev pub of_read : Person → Result ReadAsked AskedFault → Due
+of_read p (Err fault) = Err (refused_by_fields fault)
+of_read p (Ok asked) = call_for p (task.Read asked)
+
+-- what a person asks for with an image, where the fields say this
+abbrev pub of_image : Person → List ℕ → Result ImageAsked AskedFault → Due
+of_image p image (Err fault) = Err (refused_by_fields fault)
+of_image p image (Ok asked) = call_for p (task.Image asked image)
+
+-- the same, where the image may be cut short
+abbrev pub with_image : Person → Result ImageAsked AskedFault → Option (List ℕ) → Due
+with_image p asked None = Err refused.BadHead
+with_image p asked (Some image) = of_image p image asked
+
 -- the call of a person for a task; BadBody where the body says none
 abbrev pub called_by : Person → Option Task → Due
 called_by p None = Err refused.BadBody
-called_by p (Some task) = Ok (record { person = p; task = task })
+called_by p (Some task) = call_for p task
 
--- what a person asks for with a body, where the fields say this
-abbrev pub of_fields : Person → List ℕ → Result Asked AskedFault → Due
-of_fields p body (Err fault) = Err (refused_by_fields fault)
-of_fields p body (Ok asked) = called_by p (task_of asked body)
+-- the command that a person gives with a body, where the fields say this
+abbrev pub of_command : Person → List ℕ → Result KeyedAsked AskedFault → Due
+of_command p body (Err fault) = Err (refused_by_fields fault)
+of_command p body (Ok keyed) = called_by p (task_of keyed.key keyed.asked body)
 
--- what a person asks for with a body, which may be cut short
-abbrev pub of_body : Person → Want → Option (List ℕ) → Due
-of_body p w None = Err refused.BadHead
-of_body p w (Some body) = of_fields p body (asked_of w)
+-- the same, where the body may be cut short
+abbrev pub with_body : Person → Result KeyedAsked AskedFault → Option (List ℕ) → Due
+with_body p asked None = Err refused.BadHead
+with_body p asked (Some body) = of_command p body asked
 
--- what a caller asks for, whom nobody may know; rest follows the head
+-- what a person asks for at a route; rest follows the head
+abbrev pub of_route : Person → Want → List ℕ → Route → Due
+of_route p w rest (Get r) = of_read p (read_at r w)
+of_route p w rest (Post (Image r)) = with_image p (image_at r w) (body_in w.size rest)
+of_route p w rest (Post (Command r)) = with_body p (keyed_at r w) (body_in w.size rest)
+
+-- what a caller asks for, whom nobody may know
 abbrev pub of_caller : Want → List ℕ → Option Person → Due
 of_caller w rest None = Err refused.UnknownCaller
-of_caller w rest (Some p) = of_body p w (body_in w.size rest)
+of_caller w rest (Some p) = of_route p w rest w.route
 
 -- what is asked for where the head wants this
 abbrev pub of_head : History → List ℕ → Result Want WantedFault → Due

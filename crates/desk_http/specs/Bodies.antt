@@ -1,19 +1,10 @@
 -- The body of a request, which follows its head (RFC 9112, section 6).
-use Rattle.std.specs.Prelude.{ℕ, List, Bool, true, false, length, take, nat_le, if◌then◌else◌, Option, Some, None, option_map, Vec}
+use Rattle.std.specs.Prelude.{ℕ, List, length, take, nat_le, if◌then◌else◌, Option, Some, None, option_map, Vec}
 use Rattle.std.specs.declared.alloc.Global.{Global}
-use Rattle.http_requests.specs.declared.ask.Asked.{Asked}
-use Rattle.http_requests.specs.declared.ask.Asked.TheVariants as asked
 
 -- the body of this length at the front of what follows the head; none where that is shorter
 abbrev pub body_in : ℕ → List ℕ → Option (List ℕ)
 body_in size rest = if nat_le size (length rest) then Some (take size rest) else None
-
--- own: the body of what is asked for is an image
-abbrev pub asks_with_image : Asked → Bool
-asks_with_image (asked.Submit key title) = true
-asks_with_image (asked.Return key number) = true
-asks_with_image asked.Verdict = true
-asks_with_image _ = false
 
 -- the bytes that the code's body holds
 abbrev pub items_of : Option (Vec ℕ Global) → Option (List ℕ)

@@ -1,82 +1,120 @@
-//! What a person asks for with a body.
-ghost use Rattle.std.specs.Prelude.{◌≡◌, ◌≢◌, Err, IfErr, IfOk, IfSome, MatchResult, Ok, Some, false, true};
-ghost use Rattle.http_requests.specs.Routes as routes;
+//! What a person asks for.
+ghost use Rattle.std.specs.Prelude.{◌≡◌, ◌≢◌, Err, IfErr, IfOk, IfSome, MatchResult, Ok};
+ghost use Rattle.http_requests.specs.Asked as asks;
 ghost use Rattle.http_requests.specs.Wanted.{shown};
+ghost use Rattle.http_requests.specs.declared.heads.watch.Watch.{Watch as Watching};
 ghost use Rattle.desk_http.specs.Asked as spec;
-ghost use Rattle.desk_http.specs.Bodies as bodies;
+ghost use Rattle.desk_http.specs.Bodies.{body_in};
+ghost use Rattle.desk_http.specs.Refused.{refused_by_fields};
 ghost use Rattle.desk_http.specs.Unread.{HasCause, IsOwn};
 
 use crate::body_reading::read_bytes;
 use crate::image_reading::read_image;
 use crate::served::{Due, Unread};
-use crate::tasks::{task_with_body, task_with_image};
-use desk_calls::Call;
+use crate::tasks::task_with_body;
+use desk_calls::{Call, Task};
 use desk_texts::Person;
-use http_requests::{AskedFault, Wanted, Watch, asked};
+use http_requests::{
+    AskedFault, BodyFault, CommandRoute, GetRoute, ImageRoute, PostRoute, Route, Wanted, Watch,
+    command_asked, image_asked, read_asked,
+};
 use http_responses::{Outage, Refused};
-use pe_image::Pieces;
-use std::alloc::{AllocError, Global};
+use std::alloc::Global;
 use std::io::Read;
 
-/// What a person asks for with an image.
-fn ask_with_image(
-    alloc: Global,
-    person: Person,
-    wanted: &Wanted<'_>,
-    image: Pieces,
-) -> Result<Due, AllocError>
-    requires { routes.takes_image wanted.now.route ≡ true }
-    ensures asked { IfOk result (λ due. due ≡ spec.of_body person (shown wanted.now) (Some image)) }
+/// What is due where the fields have this fault.
+fn refuse(fault: AskedFault) -> Result<Due, Unread>
+    ensures refused { MatchResult result
+        (λ due. (fault ≢ AskedFault.NoMemory) × (due ≡ Err (refused_by_fields fault)))
+        (λ unread. unread ≡ Unread.Outage Outage.NoMemory) }
     ensures no_store { result ≢ Ok (Err (Refused.Unavailable Outage.Store)) }
+    ensures named { IfErr result IsOwn }
+    ensures device { (watch : Watching) → IfErr result (HasCause watch) }
 {
-    match asked(alloc, wanted) {
-        Ok(asked) => {
-            let task = task_with_image(asked, image);
-            Ok(Ok(Call { person, task }))
-        }
-        Err(AskedFault::BadField) => Ok(Err(Refused::BadField)),
-        Err(AskedFault::NoSuchRequest) => Ok(Err(Refused::NoSuchRequest)),
-        Err(AskedFault::NoSuchProposal) => Ok(Err(Refused::NoSuchProposal)),
-        Err(AskedFault::NoMemory) => Err(AllocError),
+    match fault {
+        AskedFault::BadField => Ok(Err(Refused::BadField)),
+        AskedFault::NoSuchRequest => Ok(Err(Refused::NoSuchRequest)),
+        AskedFault::NoSuchProposal => Ok(Err(Refused::NoSuchProposal)),
+        AskedFault::NoMemory => Err(Unread::Outage(Outage::NoMemory)),
     }
 }
 
-/// What a person asks for with a body that is no image.
-fn ask_with_body(
-    alloc: Global,
-    person: Person,
-    wanted: &Wanted<'_>,
-    body: Vec<u8>,
-) -> Result<Due, AllocError>
-    requires { routes.takes_image wanted.now.route ≡ false }
+/// What a person asks to be shown.
+fn ask_to_read(person: Person, route: GetRoute, wanted: &Wanted<'_>) -> Result<Due, Unread>
     ensures asked { IfOk result (λ due.
-        due ≡ spec.of_body person (shown wanted.now) (Some body.items)) }
+        due ≡ spec.of_read person (asks.read_at route (shown wanted.now))) }
     ensures no_store { result ≢ Ok (Err (Refused.Unavailable Outage.Store)) }
+    ensures named { IfErr result IsOwn }
+    ensures device { (watch : Watching) → IfErr result (HasCause watch) }
 {
-    match asked(alloc, wanted) {
-        Ok(asked) => match task_with_body(alloc, asked, body)? {
-            Some(task) => Ok(Ok(Call { person, task })),
-            None => Ok(Err(Refused::BadBody)),
-        },
-        Err(AskedFault::BadField) => Ok(Err(Refused::BadField)),
-        Err(AskedFault::NoSuchRequest) => Ok(Err(Refused::NoSuchRequest)),
-        Err(AskedFault::NoSuchProposal) => Ok(Err(Refused::NoSuchProposal)),
-        Err(AskedFault::NoMemory) => Err(AllocError),
+    match read_asked(route, wanted) {
+        Ok(asked) => Ok(Ok(Call {
+            person,
+            task: Task::Read(asked),
+        })),
+        Err(fault) => refuse(fault),
     }
 }
 
-/// The same, where want of memory is told as the desk's.
-fn or_unread(due: Result<Due, AllocError>) -> Result<Due, Unread>
-    ensures { MatchResult due (λ given. result ≡ Ok given)
-        (λ _. result ≡ Err (Unread.Outage Outage.NoMemory)) }
+/// What a person asks for with the image that the reader stands at.
+fn ask_with_image<R: Read>(
+    alloc: Global,
+    person: Person,
+    route: ImageRoute,
+    wanted: &Wanted<'_>,
+    reader: &mut R,
+    watch: &mut Watch,
+) -> Result<Due, Unread>
+    ensures asked { IfOk result (λ due. IfSome (R.remaining reader.old) (λ rest.
+        due ≡ spec.with_image person (asks.image_at route (shown wanted.now))
+        (body_in wanted.now.size rest))) }
+    ensures no_store { result ≢ Ok (Err (Refused.Unavailable Outage.Store)) }
+    ensures named { IfErr result IsOwn }
+    ensures device { IfErr result (HasCause watch.new) }
 {
-    match due {
-        Ok(due) => Ok(due),
-        Err(AllocError) => Err(Unread::Outage(Outage::NoMemory)),
+    let Some(image) = read_image(alloc, reader, watch, wanted.size)? else {
+        return Ok(Err(Refused::BadHead));
+    };
+    match image_asked(alloc, route, wanted) {
+        Ok(asked) => Ok(Ok(Call {
+            person,
+            task: Task::Image(asked, image),
+        })),
+        Err(fault) => refuse(fault),
     }
 }
 
-/// What a person asks for with the body that the reader stands at.
+/// The command that a person gives with the body that the reader stands at.
+fn ask_with_body<R: Read>(
+    alloc: Global,
+    person: Person,
+    route: CommandRoute,
+    wanted: &Wanted<'_>,
+    reader: &mut R,
+    watch: &mut Watch,
+) -> Result<Due, Unread>
+    ensures asked { IfOk result (λ due. IfSome (R.remaining reader.old) (λ rest.
+        due ≡ spec.with_body person (asks.keyed_at route (shown wanted.now))
+        (body_in wanted.now.size rest))) }
+    ensures no_store { result ≢ Ok (Err (Refused.Unavailable Outage.Store)) }
+    ensures named { IfErr result IsOwn }
+    ensures device { IfErr result (HasCause watch.new) }
+{
+    let Some(body) = read_bytes(alloc, reader, watch, wanted.size)? else {
+        return Ok(Err(Refused::BadHead));
+    };
+    let keyed = match command_asked(alloc, route, wanted) {
+        Ok(keyed) => keyed,
+        Err(fault) => return refuse(fault),
+    };
+    match task_with_body(alloc, keyed.key, keyed.asked, body) {
+        Ok(task) => Ok(Ok(Call { person, task })),
+        Err(BodyFault::BadBody) => Ok(Err(Refused::BadBody)),
+        Err(BodyFault::NoMemory) => Err(Unread::Outage(Outage::NoMemory)),
+    }
+}
+
+/// What a person asks for, with the body that the reader stands at. Of a GET nothing more is read.
 pub(crate) fn ask<R: Read>(
     alloc: Global,
     person: Person,
@@ -85,20 +123,18 @@ pub(crate) fn ask<R: Read>(
     watch: &mut Watch,
 ) -> Result<Due, Unread>
     ensures asked { IfOk result (λ due. IfSome (R.remaining reader.old) (λ rest.
-        due ≡ spec.of_body person (shown wanted.now) (bodies.body_in wanted.now.size rest))) }
+        due ≡ spec.of_route person (shown wanted.now) rest wanted.now.route)) }
     ensures no_store { result ≢ Ok (Err (Refused.Unavailable Outage.Store)) }
     ensures named { IfErr result IsOwn }
     ensures device { IfErr result (HasCause watch.new) }
 {
-    if wanted.route.takes_image() {
-        match read_image(alloc, reader, watch, wanted.size)? {
-            Some(image) => or_unread(ask_with_image(alloc, person, wanted, image)),
-            None => Ok(Err(Refused::BadHead)),
+    match wanted.route {
+        Route::Get(route) => ask_to_read(person, route, wanted),
+        Route::Post(PostRoute::Image(route)) => {
+            ask_with_image(alloc, person, route, wanted, reader, watch)
         }
-    } else {
-        match read_bytes(alloc, reader, watch, wanted.size)? {
-            Some(body) => or_unread(ask_with_body(alloc, person, wanted, body)),
-            None => Ok(Err(Refused::BadHead)),
+        Route::Post(PostRoute::Command(route)) => {
+            ask_with_body(alloc, person, route, wanted, reader, watch)
         }
     }
 }

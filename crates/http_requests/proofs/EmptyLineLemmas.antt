@@ -1,11 +1,11 @@
 -- Which bytes no head ends with.
-use Rattle.std.proofs.Common.{inl, inr, ◌≡◌, ◌≢◌, ◌∙◌, ℕ, ◌-◌, List, [], ◌∷◌, ◌++◌, length, drop, refl, sym, ap, subst, arith, append_assoc, length-append, Bool, true, false, ◌&&◌, ◌||◌, nat_eq}
+use Rattle.std.proofs.Common.{inl, inr, ◌≡◌, ◌∙◌, ℕ, ◌-◌, List, [], ◌∷◌, ◌++◌, length, drop, refl, sym, ap, subst, arith, append_assoc, length-append, Bool, true, false, ◌&&◌, ◌||◌, nat_eq}
 use Rattle.std.proofs.lemmas.List.{append-nil}
 use Rattle.std.proofs.lemmas.List.Folds.{list_all-append}
 use Rattle.std.proofs.Math.Seq.{drop-append_seam}
 use Rattle.std.specs.Prelude.{bytes_eq}
 use Rattle.std.specs.List.{ends_with, flat_map, list_all}
-use Rattle.httparse.specs.Grammar.{Field, LineEnd, crlf, lf, print_blank, print_end, print_field, print_section, print_version, RequestHead, print_request, HasNoRequest, ReadsRequest}
+use Rattle.httparse.specs.Grammar.{Field, LineEnd, crlf, lf, print_blank, print_end, print_field, print_section, print_version, RequestHead, print_request, HasNoRequest}
 use Rattle.http_requests.specs.heads.Heads.{EndsNoHead, ends_empty_line, is_line_break, may_end_head}
 use Rattle.http_requests.proofs.HeadLemmas.{end_front, request_ends, whole_or_before}
 

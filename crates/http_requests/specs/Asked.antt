@@ -1,14 +1,26 @@
--- own: what a request asks for, but for its body, or the first of the checks on its fields that fails.
+-- own: what a request asks for, but for its content, or the first of the checks on its fields that fails.
 use Rattle.std.specs.Prelude.{◌≡◌, ◌≢◌, ℕ, List, Option, Some, None, option_map, Result, Ok, Err, if◌then◌else◌}
 use Rattle.sbat.specs.Fields.{decimal_of, stamp_of}
 use Rattle.desk_texts.specs.Forms.{is_key, is_title, is_decimal}
+use Rattle.desk_texts.specs.declared.command.Command.TheVariants as command
 use Rattle.desk_texts.specs.declared.fault.TextFault.{TextFault}
 use Rattle.desk_texts.specs.declared.fault.TextFault.TheVariants as text
 use Rattle.http_requests.specs.Wanted.{Want}
-use Rattle.http_requests.specs.declared.ask.Asked.{Asked}
-use Rattle.http_requests.specs.declared.ask.Asked.TheVariants as asks
-use Rattle.http_requests.specs.declared.route.Route.{Route}
-use Rattle.http_requests.specs.declared.route.Route.TheVariants as route
+use Rattle.http_requests.specs.declared.ask.BytesAsked.TheVariants as bytes
+use Rattle.http_requests.specs.declared.ask.CommandAsked.{CommandAsked}
+use Rattle.http_requests.specs.declared.ask.CommandAsked.TheVariants.{Whole, Json, Bytes}
+use Rattle.http_requests.specs.declared.ask.ImageAsked.{ImageAsked}
+use Rattle.http_requests.specs.declared.ask.ImageAsked.TheVariants as image
+use Rattle.http_requests.specs.declared.ask.JsonAsked.TheVariants as json
+use Rattle.http_requests.specs.declared.ask.KeyedAsked.{KeyedAsked}
+use Rattle.http_requests.specs.declared.ask.ReadAsked.{ReadAsked}
+use Rattle.http_requests.specs.declared.ask.ReadAsked.TheVariants as read
+use Rattle.http_requests.specs.declared.route.CommandRoute.{CommandRoute}
+use Rattle.http_requests.specs.declared.route.CommandRoute.TheVariants as route
+use Rattle.http_requests.specs.declared.route.GetRoute.{GetRoute}
+use Rattle.http_requests.specs.declared.route.GetRoute.TheVariants as get
+use Rattle.http_requests.specs.declared.route.ImageRoute.{ImageRoute}
+use Rattle.http_requests.specs.declared.route.ImageRoute.TheVariants as posted
 use Rattle.http_requests.specs.declared.fault.AskedFault.{AskedFault}
 use Rattle.http_requests.specs.declared.fault.AskedFault.TheVariants.{BadField, NoSuchRequest, NoSuchProposal, NoMemory}
 
@@ -43,60 +55,76 @@ stamp_in w = stamp_given w.stamp
 abbrev pub number_in : Want → Option ℕ
 number_in w = if is_decimal w.number then Some (decimal_of w.number) else None
 
--- what is asked for under a key
-abbrev pub keyed : Option (List ℕ) → (List ℕ → Result Asked AskedFault) → Result Asked AskedFault
-keyed None ask = Err BadField
-keyed (Some key) ask = ask key
-
 -- what is asked for with a title
-abbrev pub titled : Option (List ℕ) → (List ℕ → Asked) → Result Asked AskedFault
+abbrev pub titled : Option (List ℕ) → (List ℕ → ImageAsked) → Result ImageAsked AskedFault
 titled None ask = Err BadField
 titled (Some title) ask = Ok (ask title)
 
 -- what is asked for with a stamp or none
-abbrev pub stamped : Option (Option ℕ) → (Option ℕ → Asked) → Result Asked AskedFault
+abbrev pub stamped : Option (Option ℕ) → (Option ℕ → CommandAsked) → Result CommandAsked AskedFault
 stamped None ask = Err BadField
 stamped (Some stamp) ask = Ok (ask stamp)
 
 -- what is asked for of a request
-abbrev pub numbered : Option ℕ → (ℕ → Asked) → Result Asked AskedFault
+abbrev pub numbered : {A : Type 0} → Option ℕ → (ℕ → A) → Result A AskedFault
 numbered None ask = Err NoSuchRequest
 numbered (Some number) ask = Ok (ask number)
 
 -- what is asked for of a proposal
-abbrev pub of_proposal : Option ℕ → (ℕ → Asked) → Result Asked AskedFault
+abbrev pub of_proposal : Option ℕ → (ℕ → CommandAsked) → Result CommandAsked AskedFault
 of_proposal None ask = Err NoSuchProposal
 of_proposal (Some number) ask = Ok (ask number)
 
--- what is asked for at a route
-abbrev pub asked_at : Route → Want → Result Asked AskedFault
-asked_at route.Submit w = keyed (key_in w) (λ key. titled (title_in w) (λ title. asks.Submit key title))
-asked_at route.Requests w = Ok asks.Requests
-asked_at route.Request w = numbered (number_in w) (λ number. asks.Request number)
-asked_at route.Review w = keyed (key_in w) (λ key. numbered (number_in w) (λ number. asks.Review key number))
-asked_at route.Withdraw w = keyed (key_in w) (λ key. numbered (number_in w) (λ number. asks.Withdraw key number))
-asked_at route.Return w = keyed (key_in w) (λ key. numbered (number_in w) (λ number. asks.Return key number))
-asked_at route.ListCertificate w = keyed (key_in w) (λ key. Ok (asks.ListCertificate key))
-asked_at route.ListDigest w = keyed (key_in w) (λ key. Ok (asks.ListDigest key))
-asked_at route.Unlist w = keyed (key_in w) (λ key. Ok (asks.Unlist key))
-asked_at route.RevokeDigest w = keyed (key_in w) (λ key. Ok (asks.RevokeDigest key))
-asked_at route.RevokeCertificate w = keyed (key_in w) (λ key. Ok (asks.RevokeCertificate key))
-asked_at route.RaiseLevel w = keyed (key_in w) (λ key. Ok (asks.RaiseLevel key))
-asked_at route.ImportDbx w = keyed (key_in w) (λ key. Ok (asks.ImportDbx key))
-asked_at route.ImportCsv w = keyed (key_in w) (λ key. stamped (stamp_in w) (λ stamp. asks.ImportCsv key stamp))
-asked_at route.ImportLevel w = keyed (key_in w) (λ key. Ok (asks.ImportLevel key))
-asked_at route.Confirm w = keyed (key_in w) (λ key. of_proposal (number_in w) (λ number. asks.Confirm key number))
-asked_at route.Drop w = keyed (key_in w) (λ key. of_proposal (number_in w) (λ number. asks.Drop key number))
-asked_at route.Proposals w = Ok asks.Proposals
-asked_at route.Verdict w = Ok asks.Verdict
-asked_at route.Dbx w = Ok asks.Dbx
-asked_at route.Db w = Ok asks.Db
-asked_at route.Level w = Ok asks.Level
-asked_at route.Report w = Ok asks.Report
+-- what GET asks for
+abbrev pub read_at : GetRoute → Want → Result ReadAsked AskedFault
+read_at get.Requests w = Ok read.Requests
+read_at get.Request w = numbered (number_in w) (λ number. read.Request number)
+read_at get.Proposals w = Ok read.Proposals
+read_at get.Dbx w = Ok read.Dbx
+read_at get.Db w = Ok read.Db
+read_at get.Level w = Ok read.Level
+read_at get.Report w = Ok read.Report
 
--- what a request asks for
-abbrev pub asked_of : Want → Result Asked AskedFault
-asked_of w = asked_at w.route w
+-- what is asked for with an image under a key
+abbrev pub with_image : Option (List ℕ) → (List ℕ → Result ImageAsked AskedFault) → Result ImageAsked AskedFault
+with_image None ask = Err BadField
+with_image (Some key) ask = ask key
+
+-- what is asked for with an image
+abbrev pub image_at : ImageRoute → Want → Result ImageAsked AskedFault
+image_at posted.Submit w = with_image (key_in w) (λ key. titled (title_in w) (λ title. image.Submit key title))
+image_at posted.Return w = with_image (key_in w) (λ key. numbered (number_in w) (λ number. image.Return key number))
+image_at posted.Verdict w = Ok image.Verdict
+
+-- the command of a route, as far as the target and the fields say it
+abbrev pub command_at : CommandRoute → Want → Result CommandAsked AskedFault
+command_at route.Review w = numbered (number_in w) (λ number. Json (json.Review number))
+command_at route.Withdraw w = numbered (number_in w) (λ number. Whole (command.Withdraw number))
+command_at route.ListCertificate w = Ok (Bytes bytes.ListCertificate)
+command_at route.ListDigest w = Ok (Json json.ListDigest)
+command_at route.Unlist w = Ok (Json json.Unlist)
+command_at route.RevokeDigest w = Ok (Json json.RevokeDigest)
+command_at route.RevokeCertificate w = Ok (Json json.RevokeCertificate)
+command_at route.RaiseLevel w = Ok (Json json.RaiseLevel)
+command_at route.ImportDbx w = Ok (Bytes bytes.ImportDbx)
+command_at route.ImportCsv w = stamped (stamp_in w) (λ stamp. Bytes (bytes.ImportCsv stamp))
+command_at route.ImportLevel w = Ok (Bytes bytes.ImportLevel)
+command_at route.Confirm w = of_proposal (number_in w) (λ number. Whole (command.Confirm number))
+command_at route.Drop w = of_proposal (number_in w) (λ number. Whole (command.Drop number))
+
+-- a command under this key
+abbrev pub under : List ℕ → Result CommandAsked AskedFault → Result KeyedAsked AskedFault
+under key (Err fault) = Err fault
+under key (Ok asked) = Ok (record { key = key; asked = asked })
+
+-- a command, under its key
+abbrev pub keyed : Option (List ℕ) → Result CommandAsked AskedFault → Result KeyedAsked AskedFault
+keyed None asked = Err BadField
+keyed (Some key) asked = under key asked
+
+-- the command of a route with its key: first the key is looked at
+abbrev pub keyed_at : CommandRoute → Want → Result KeyedAsked AskedFault
+keyed_at r w = keyed (key_in w) (command_at r w)
 
 -- the fault of a text that wasn't taken
 abbrev pub of_text : TextFault → AskedFault
@@ -109,6 +137,6 @@ GivesOr fault value (Ok given) = value ≡ Some given
 GivesOr fault value (Err other) = other ≢ NoMemory → (value ≡ None) × (other ≡ fault)
 
 -- the code gives this, or tells that memory was refused
-abbrev pub Gives : Result Asked AskedFault → Result Asked AskedFault → Type 0
+abbrev pub Gives : {A : Type 0} → Result A AskedFault → Result A AskedFault → Type 0
 Gives ask (Ok given) = ask ≡ Ok given
 Gives ask (Err fault) = fault ≢ NoMemory → ask ≡ Err fault

@@ -6,63 +6,82 @@ use Rattle.matchit.specs.Order.{placed}
 use Rattle.matchit.specs.Seek.{first}
 use Rattle.matchit.specs.Router.{RouteOf, route_from}
 use Rattle.matchit.specs.declared.error.InsertError.{InsertError}
-use Rattle.http_requests.specs.declared.path.Path.{Path}
-use Rattle.http_requests.specs.declared.path.Path.TheVariants.{Requests, Request, Review, Withdraw, Return, DbCertificates, DbDigests, DbUnlist, DbxDigests, DbxCertificates, Level, ImportsDbx, ImportsCsv, ImportsLevel, Proposals, Confirm, Drop, Verdict, Dbx, Db, Report}
+use Rattle.http_requests.specs.declared.resource.Resource.{Resource}
+use Rattle.http_requests.specs.declared.resource.Resource.TheVariants.{Get, Post, GetAndPost}
+use Rattle.http_requests.specs.declared.route.GetRoute.{GetRoute}
+use Rattle.http_requests.specs.declared.route.GetRoute.TheVariants as read
+use Rattle.http_requests.specs.declared.route.PostRoute.TheVariants.{Image, Command}
+use Rattle.http_requests.specs.declared.route.ImageRoute.{ImageRoute}
+use Rattle.http_requests.specs.declared.route.ImageRoute.TheVariants as image
+use Rattle.http_requests.specs.declared.route.CommandRoute.{CommandRoute}
+use Rattle.http_requests.specs.declared.route.CommandRoute.TheVariants as command
+
+-- what stands at a path that has GET alone
+abbrev pub get : GetRoute → Resource
+get r = Get r
+
+-- what stands at a path that has POST alone, with an image
+abbrev pub post_image : ImageRoute → Resource
+post_image r = Post (Image r)
+
+-- what stands at a path that has POST alone, of a command
+abbrev pub post_command : CommandRoute → Resource
+post_command r = Post (Command r)
 
 -- the rows of a router
 abbrev pub Table : Type 0
-Table = RowsOf (RouteOf Path)
+Table = RowsOf (RouteOf Resource)
 
--- the rows with a route more, where its text reads as one
-abbrev pub with_read : Result Scan InsertError → Path → Table → Table
-with_read (Ok scan) path rows = placed (scan.pattern, route_from scan path) rows
-with_read (Err fault) path rows = rows
+-- the rows with a path more, where its text reads as one
+abbrev pub with_read : Result Scan InsertError → Resource → Table → Table
+with_read (Ok scan) resource rows = placed (scan.pattern, route_from scan resource) rows
+with_read (Err fault) resource rows = rows
 
--- the rows with the route of this text more
-unfoldable pub added : List ℕ → Path → Table → Table
-added route path rows = with_read (parse_route route) path rows
+-- the rows with the path of this text more
+unfoldable pub added : List ℕ → Resource → Table → Table
+added path resource rows = with_read (parse_route path) resource rows
 
 -- the rows with the paths of requests
 unfoldable pub with_requests : Table → Table
 with_requests rows =
-    added (codes "/verdict") Verdict
-    (added (codes "/requests/{no}/return") Return
-    (added (codes "/requests/{no}/withdraw") Withdraw
-    (added (codes "/requests/{no}/review") Review
-    (added (codes "/requests/{no}") Request
-    (added (codes "/requests") Requests rows)))))
+    added (codes "/verdict") (post_image image.Verdict)
+    (added (codes "/requests/{no}/return") (post_image image.Return)
+    (added (codes "/requests/{no}/withdraw") (post_command command.Withdraw)
+    (added (codes "/requests/{no}/review") (post_command command.Review)
+    (added (codes "/requests/{no}") (get read.Request)
+    (added (codes "/requests") (GetAndPost read.Requests (Image image.Submit)) rows)))))
 
 -- the rows with the paths of proposals
 unfoldable pub with_proposals : Table → Table
 with_proposals rows =
-    added (codes "/proposals/{no}/drop") Drop
-    (added (codes "/proposals/{no}/confirm") Confirm
-    (added (codes "/proposals") Proposals rows))
+    added (codes "/proposals/{no}/drop") (post_command command.Drop)
+    (added (codes "/proposals/{no}/confirm") (post_command command.Confirm)
+    (added (codes "/proposals") (get read.Proposals) rows))
 
 -- the rows with the paths of what is listed and revoked
 unfoldable pub with_lists : Table → Table
 with_lists rows =
-    added (codes "/dbx/digests") DbxDigests
-    (added (codes "/dbx") Dbx
-    (added (codes "/db/unlist") DbUnlist
-    (added (codes "/db/digests") DbDigests
-    (added (codes "/db/certificates") DbCertificates
-    (added (codes "/db") Db rows)))))
+    added (codes "/dbx/digests") (post_command command.RevokeDigest)
+    (added (codes "/dbx") (get read.Dbx)
+    (added (codes "/db/unlist") (post_command command.Unlist)
+    (added (codes "/db/digests") (post_command command.ListDigest)
+    (added (codes "/db/certificates") (post_command command.ListCertificate)
+    (added (codes "/db") (get read.Db) rows)))))
 
 -- the rows with all other paths
 unfoldable pub with_rest : Table → Table
 with_rest rows =
-    added (codes "/report") Report
-    (added (codes "/imports/level") ImportsLevel
-    (added (codes "/imports/csv") ImportsCsv
-    (added (codes "/imports/dbx") ImportsDbx
-    (added (codes "/level") Level
-    (added (codes "/dbx/certificates") DbxCertificates rows)))))
+    added (codes "/report") (get read.Report)
+    (added (codes "/imports/level") (post_command command.ImportLevel)
+    (added (codes "/imports/csv") (post_command command.ImportCsv)
+    (added (codes "/imports/dbx") (post_command command.ImportDbx)
+    (added (codes "/level") (GetAndPost read.Level (Command command.RaiseLevel))
+    (added (codes "/dbx/certificates") (post_command command.RevokeCertificate) rows)))))
 
 -- the table
 unfoldable pub table : Table
 table = with_rest (with_lists (with_proposals (with_requests [])))
 
--- the path that a request's target is, by the definition of `matchit`
-unfoldable pub path_of : List ℕ → Option Path
-path_of target = option_map (λ route. route.value) (first table target)
+-- what stands at a request's target, by the definition of `matchit`
+unfoldable pub resource_of : List ℕ → Option Resource
+resource_of target = option_map (λ route. route.value) (first table target)

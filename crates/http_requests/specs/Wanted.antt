@@ -3,10 +3,11 @@ use Rattle.std.specs.Prelude.{◌≡◌, ◌≢◌, ℕ, List, Bool, Option, Som
 use Rattle.std.specs.List.{before_first, after_first}
 use Rattle.http_requests.specs.heads.Fields.{Parts}
 use Rattle.http_requests.specs.Fields.{Values, fields_of, bytes_of}
-use Rattle.http_requests.specs.Paths.{path_of}
-use Rattle.http_requests.specs.Routes.{route_of, methods_of, is_read, limit_of}
-use Rattle.http_requests.specs.declared.path.Path.{Path}
+use Rattle.http_requests.specs.Paths.{resource_of}
+use Rattle.http_requests.specs.Routes.{route_of, methods_of, limit_of}
+use Rattle.http_requests.specs.declared.resource.Resource.{Resource}
 use Rattle.http_requests.specs.declared.route.Route.{Route}
+use Rattle.http_requests.specs.declared.route.Route.TheVariants.{Get, Post}
 use Rattle.http_requests.specs.declared.want.Wanted.{Wanted}
 use Rattle.http_requests.specs.declared.fault.WantedFault.{WantedFault}
 use Rattle.http_requests.specs.declared.fault.WantedFault.TheVariants.{BadField, NoRoute, BadMethod, LengthNeeded, TooLarge, NoMemory}
@@ -31,10 +32,10 @@ pub record Want : Type 0 where
 
 -- the length of a route's body, where this one is announced: GET has none, POST announces it within the limit
 abbrev pub size_of : Route → Option ℕ → Result ℕ WantedFault
-size_of route None = if is_read route then Ok 0 else Err LengthNeeded
-size_of route (Some n) =
-    if is_read route then (if n == 0 then Ok 0 else Err BadField)
-    else (if nat_le n (limit_of route) then Ok n else Err TooLarge)
+size_of (Get r) None = Ok 0
+size_of (Get r) (Some n) = if n == 0 then Ok 0 else Err BadField
+size_of (Post r) None = Err LengthNeeded
+size_of (Post r) (Some n) = if nat_le n (limit_of r) then Ok n else Err TooLarge
 
 -- what is asked for at a route with a body of that length
 abbrev pub of_size : Parts → Values → Route → Result ℕ WantedFault → Result Want WantedFault
@@ -49,20 +50,20 @@ of_size p values route (Ok size) = Ok (record {
   stamp = values.stamp;
 })
 
--- what is asked for at a path, where its method has this route
-abbrev pub of_route : Parts → Values → Path → Option Route → Result Want WantedFault
-of_route p values path None = Err (BadMethod (methods_of path))
-of_route p values path (Some route) = of_size p values route (size_of route values.length)
+-- what is asked for of a resource, where its method has this route
+abbrev pub of_route : Parts → Values → Resource → Option Route → Result Want WantedFault
+of_route p values resource None = Err (BadMethod (methods_of resource))
+of_route p values resource (Some route) = of_size p values route (size_of route values.length)
 
--- what is asked for, where the target is this path
-abbrev pub of_path : Parts → Values → Option Path → Result Want WantedFault
-of_path p values None = Err NoRoute
-of_path p values (Some path) = of_route p values path (route_of path p.method)
+-- what is asked for, where this stands at the target
+abbrev pub of_resource : Parts → Values → Option Resource → Result Want WantedFault
+of_resource p values None = Err NoRoute
+of_resource p values (Some resource) = of_route p values resource (route_of resource p.method)
 
 -- what is asked for, where these are the fields
 abbrev pub of_fields : Parts → Result Values WantedFault → Result Want WantedFault
 of_fields p (Err fault) = Err fault
-of_fields p (Ok values) = of_path p values (path_of p.target)
+of_fields p (Ok values) = of_resource p values (resource_of p.target)
 
 -- what a head asks for: first its fields are looked at, then path, method and length
 abbrev pub wanted_of : Parts → Result Want WantedFault

@@ -1,34 +1,74 @@
-//! What a request asks for, but for its body.
+//! What a request asks for, but for its content.
 
-use desk_texts::{Key, ProposalNumber, RequestNumber, Title};
+use desk_texts::{Command, Key, ProposalNumber, RequestNumber, Title};
 use sbat::Stamp;
 
-/// What a request asks for, but for its body: a route with the values that it needs, each in its form. A
-/// command has the key under which the caller gives it.
-#[derive(Debug, Drop)]
-pub enum Asked {
-    Submit(Key, Title),
+/// What GET asks for.
+#[derive(Clone, Copy, Debug, PartialEq, Eq)]
+pub enum ReadAsked {
+    /// The requests that the caller is shown.
     Requests,
+    /// One of them.
     Request(RequestNumber),
-    Review(Key, RequestNumber),
-    Withdraw(Key, RequestNumber),
-    Return(Key, RequestNumber),
-    ListCertificate(Key),
-    ListDigest(Key),
-    Unlist(Key),
-    RevokeDigest(Key),
-    RevokeCertificate(Key),
-    RaiseLevel(Key),
-    ImportDbx(Key),
-    /// With the stamp of Desk-Stamp, if the request has that field.
-    ImportCsv(Key, Option<Stamp>),
-    ImportLevel(Key),
-    Confirm(Key, ProposalNumber),
-    Drop(Key, ProposalNumber),
+    /// The proposals of officers.
     Proposals,
-    Verdict,
     Dbx,
     Db,
     Level,
     Report,
+}
+
+/// What is asked for with an image. A command has the key under which the caller gives it.
+#[derive(Debug, Drop)]
+pub enum ImageAsked {
+    /// A request of this title to sign the image.
+    Submit(Key, Title),
+    /// To take the image as the signed one of this request.
+    Return(Key, RequestNumber),
+    /// What the desk says of the image.
+    Verdict,
+}
+
+/// A command without an image, and the key under which the caller gives it.
+#[derive(Debug, Drop)]
+pub struct KeyedAsked {
+    pub key: Key,
+    pub asked: CommandAsked,
+}
+
+/// A command, as far as the target and the fields say it.
+#[derive(Debug, Drop)]
+pub enum CommandAsked {
+    /// They say all of it, and the content has no effect.
+    Whole(Command),
+    /// The content is JSON.
+    Json(JsonAsked),
+    /// The content is in a format of its own.
+    Bytes(BytesAsked),
+}
+
+/// A command whose content is JSON.
+#[derive(Clone, Copy, Debug, PartialEq, Eq)]
+pub enum JsonAsked {
+    /// A vote on this request, with a note.
+    Review(RequestNumber),
+    ListDigest,
+    Unlist,
+    RevokeDigest,
+    /// By the SHA-256 of its TBSCertificate.
+    RevokeCertificate,
+    RaiseLevel,
+}
+
+/// A command whose content is in a format of its own.
+#[derive(Clone, Copy, Debug, PartialEq, Eq)]
+pub enum BytesAsked {
+    /// The bytes of a certificate.
+    ListCertificate,
+    /// Signature lists.
+    ImportDbx,
+    /// A CSV file, with the stamp of Desk-Stamp if the request has that field.
+    ImportCsv(Option<Stamp>),
+    /// The text of an SBAT level.
+    ImportLevel,
 }

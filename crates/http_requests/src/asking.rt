@@ -4,8 +4,11 @@ ghost use Rattle.http_requests.specs.Asked as spec;
 ghost use Rattle.http_requests.specs.Wanted as want;
 ghost use Rattle.http_requests.specs.declared.fault.AskedFault.TheVariants.{BadField, NoSuchProposal, NoSuchRequest};
 
-use crate::{Asked, AskedFault, Route, Wanted};
-use desk_texts::{GREATEST_NUMBER, Key, ProposalNumber, RequestNumber, TextFault, Title};
+use crate::{
+    AskedFault, BytesAsked, CommandAsked, CommandRoute, GetRoute, ImageAsked, ImageRoute,
+    JsonAsked, KeyedAsked, ReadAsked, Wanted,
+};
+use desk_texts::{Command, GREATEST_NUMBER, Key, ProposalNumber, RequestNumber, TextFault, Title};
 use sbat::Stamp;
 use std::alloc::Global;
 
@@ -80,57 +83,78 @@ fn proposal(wanted: &Wanted<'_>) -> Result<ProposalNumber, AskedFault>
     Ok(number)
 }
 
-/// What a request asks for, but for its body, or the first check that fails: a command has a Desk-Key in its
-/// form, a new request a Desk-Title, a Desk-Stamp of `/imports/csv` is in its form (else BadField); `{no}` is
-/// 1 to 6 digits without a leading zero (else NoSuchRequest, or NoSuchProposal at a path of proposals). To be
-/// called once the caller and the whole body are known. Takes memory for texts.
-pub fn asked(alloc: Global, wanted: &Wanted<'_>) -> Result<Asked, AskedFault>
-    ensures { spec.Gives (spec.asked_of (want.shown wanted.now)) result }
+/// What GET asks for, or NoSuchRequest where `{no}` isn't 1 to 6 digits without a leading zero. To be called
+/// once the caller is known.
+pub fn read_asked(route: GetRoute, wanted: &Wanted<'_>) -> Result<ReadAsked, AskedFault>
+    ensures { spec.Gives (spec.read_at route (want.shown wanted.now)) result }
 {
-    match wanted.route {
-        Route::Submit => {
-            let key = key(alloc, wanted)?;
-            Ok(Asked::Submit(key, title(alloc, wanted)?))
-        }
-        Route::Review => {
-            let key = key(alloc, wanted)?;
-            Ok(Asked::Review(key, number(wanted)?))
-        }
-        Route::Withdraw => {
-            let key = key(alloc, wanted)?;
-            Ok(Asked::Withdraw(key, number(wanted)?))
-        }
-        Route::Return => {
-            let key = key(alloc, wanted)?;
-            Ok(Asked::Return(key, number(wanted)?))
-        }
-        Route::ListCertificate => Ok(Asked::ListCertificate(key(alloc, wanted)?)),
-        Route::ListDigest => Ok(Asked::ListDigest(key(alloc, wanted)?)),
-        Route::Unlist => Ok(Asked::Unlist(key(alloc, wanted)?)),
-        Route::RevokeDigest => Ok(Asked::RevokeDigest(key(alloc, wanted)?)),
-        Route::RevokeCertificate => Ok(Asked::RevokeCertificate(key(alloc, wanted)?)),
-        Route::RaiseLevel => Ok(Asked::RaiseLevel(key(alloc, wanted)?)),
-        Route::ImportDbx => Ok(Asked::ImportDbx(key(alloc, wanted)?)),
-        Route::ImportCsv => {
-            let key = key(alloc, wanted)?;
-            Ok(Asked::ImportCsv(key, stamp(wanted)?))
-        }
-        Route::ImportLevel => Ok(Asked::ImportLevel(key(alloc, wanted)?)),
-        Route::Confirm => {
-            let key = key(alloc, wanted)?;
-            Ok(Asked::Confirm(key, proposal(wanted)?))
-        }
-        Route::Drop => {
-            let key = key(alloc, wanted)?;
-            Ok(Asked::Drop(key, proposal(wanted)?))
-        }
-        Route::Request => Ok(Asked::Request(number(wanted)?)),
-        Route::Requests => Ok(Asked::Requests),
-        Route::Proposals => Ok(Asked::Proposals),
-        Route::Verdict => Ok(Asked::Verdict),
-        Route::Dbx => Ok(Asked::Dbx),
-        Route::Db => Ok(Asked::Db),
-        Route::Level => Ok(Asked::Level),
-        Route::Report => Ok(Asked::Report),
+    match route {
+        GetRoute::Requests => Ok(ReadAsked::Requests),
+        GetRoute::Request => Ok(ReadAsked::Request(number(wanted)?)),
+        GetRoute::Proposals => Ok(ReadAsked::Proposals),
+        GetRoute::Dbx => Ok(ReadAsked::Dbx),
+        GetRoute::Db => Ok(ReadAsked::Db),
+        GetRoute::Level => Ok(ReadAsked::Level),
+        GetRoute::Report => Ok(ReadAsked::Report),
     }
+}
+
+/// What is asked for with an image, or the first check that fails: a command has a Desk-Key in its form, a new
+/// request a Desk-Title (else BadField); `{no}` is 1 to 6 digits without a leading zero (else NoSuchRequest).
+/// To be called once the caller and the whole image are known. Takes memory for texts.
+pub fn image_asked(
+    alloc: Global,
+    route: ImageRoute,
+    wanted: &Wanted<'_>,
+) -> Result<ImageAsked, AskedFault>
+    ensures { spec.Gives (spec.image_at route (want.shown wanted.now)) result }
+{
+    match route {
+        ImageRoute::Submit => {
+            let key = key(alloc, wanted)?;
+            Ok(ImageAsked::Submit(key, title(alloc, wanted)?))
+        }
+        ImageRoute::Return => {
+            let key = key(alloc, wanted)?;
+            Ok(ImageAsked::Return(key, number(wanted)?))
+        }
+        ImageRoute::Verdict => Ok(ImageAsked::Verdict),
+    }
+}
+
+/// The command of a route, as far as the target and the fields say it.
+fn command(route: CommandRoute, wanted: &Wanted<'_>) -> Result<CommandAsked, AskedFault>
+    ensures { spec.Gives (spec.command_at route (want.shown wanted.now)) result }
+{
+    Ok(match route {
+        CommandRoute::Review => CommandAsked::Json(JsonAsked::Review(number(wanted)?)),
+        CommandRoute::Withdraw => CommandAsked::Whole(Command::Withdraw(number(wanted)?)),
+        CommandRoute::ListCertificate => CommandAsked::Bytes(BytesAsked::ListCertificate),
+        CommandRoute::ListDigest => CommandAsked::Json(JsonAsked::ListDigest),
+        CommandRoute::Unlist => CommandAsked::Json(JsonAsked::Unlist),
+        CommandRoute::RevokeDigest => CommandAsked::Json(JsonAsked::RevokeDigest),
+        CommandRoute::RevokeCertificate => CommandAsked::Json(JsonAsked::RevokeCertificate),
+        CommandRoute::RaiseLevel => CommandAsked::Json(JsonAsked::RaiseLevel),
+        CommandRoute::ImportDbx => CommandAsked::Bytes(BytesAsked::ImportDbx),
+        CommandRoute::ImportCsv => CommandAsked::Bytes(BytesAsked::ImportCsv(stamp(wanted)?)),
+        CommandRoute::ImportLevel => CommandAsked::Bytes(BytesAsked::ImportLevel),
+        CommandRoute::Confirm => CommandAsked::Whole(Command::Confirm(proposal(wanted)?)),
+        CommandRoute::Drop => CommandAsked::Whole(Command::Drop(proposal(wanted)?)),
+    })
+}
+
+/// The command of a route with its key, or the first check that fails: there is a Desk-Key in its form, and a
+/// Desk-Stamp of `/imports/csv` is in its form (else BadField); `{no}` is 1 to 6 digits without a leading zero
+/// (else NoSuchRequest, or NoSuchProposal at a path of proposals). To be called once the caller and the whole
+/// body are known. Takes memory for the key.
+pub fn command_asked(
+    alloc: Global,
+    route: CommandRoute,
+    wanted: &Wanted<'_>,
+) -> Result<KeyedAsked, AskedFault>
+    ensures { spec.Gives (spec.keyed_at route (want.shown wanted.now)) result }
+{
+    let key = key(alloc, wanted)?;
+    let asked = command(route, wanted)?;
+    Ok(KeyedAsked { key, asked })
 }

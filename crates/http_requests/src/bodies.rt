@@ -1,10 +1,10 @@
 //! The JSON bodies of requests (RFC 8259, as `serde_json` reads it): exactly the named keys, each value in its
 //! form.
 
-mod body;
+mod fault;
 mod members;
 mod reading;
 mod values;
 
-pub use body::{BodyFault, LevelBody, ReviewBody, UnlistBody};
+pub use fault::BodyFault;
 pub use reading::{read_digest, read_level, read_review, read_unlist};

@@ -8,17 +8,15 @@ mod fault;
 mod fields;
 mod heads;
 mod laws;
-mod path;
+mod resource;
 mod route;
 mod routing;
 mod want;
 mod wanting;
 
-pub use ask::Asked;
-pub use asking::asked;
-pub use bodies::{
-    BodyFault, LevelBody, ReviewBody, UnlistBody, read_digest, read_level, read_review, read_unlist,
-};
+pub use ask::{BytesAsked, CommandAsked, ImageAsked, JsonAsked, KeyedAsked, ReadAsked};
+pub use asking::{command_asked, image_asked, read_asked};
+pub use bodies::{BodyFault, read_digest, read_level, read_review, read_unlist};
 pub use fault::{AskedFault, WantedFault};
 pub use heads::{
     Begun, Given, Head, Watch, head_is_one, parse_head, read_body, read_head,
@@ -28,7 +26,7 @@ pub use laws::{
     no_other_path_is_found, other_paths_are_found, paths_of_lists_are_found,
     paths_of_proposals_are_found, paths_of_requests_are_found,
 };
-pub use path::Path;
-pub use route::{Methods, Route};
+pub use resource::{Methods, Resource};
+pub use route::{CommandRoute, GetRoute, ImageRoute, PostRoute, Route};
 pub use want::Wanted;
 pub use wanting::wanted;

@@ -1,16 +1,17 @@
 //! The table of paths.
 ghost use Rattle.std.specs.Prelude.{◌≡◌, [], IfOk, OnOk};
-ghost use Rattle.http_requests.specs.Paths.{added, path_of, table, with_lists, with_proposals, with_requests, with_rest};
+ghost use Rattle.http_requests.specs.Paths.{added, get, post_command, post_image, resource_of};
+ghost use Rattle.http_requests.specs.Paths.{table, with_lists, with_proposals, with_requests, with_rest};
 
-use crate::Path;
+use crate::{CommandRoute, GetRoute, ImageRoute, PostRoute, Resource};
 use matchit::{InsertError, Router};
 use std::alloc::Global;
 
-/// The path that a request's target is, if it is one of the table's: `matchit` matches it as it stands, a
+/// What stands at a request's target, if it is a path of the table: `matchit` matches it as it stands, a
 /// query and percent signs included. Takes memory for the table, and fails where memory is refused.
-#[tactic(auto, unfolding(crate::specs::Paths::path_of))]
-pub(crate) fn path_of(alloc: Global, target: &str) -> Result<Option<Path>, InsertError>
-    ensures { IfOk result (λ path. path ≡ path_of target.now) }
+#[tactic(auto, unfolding(crate::specs::Paths::resource_of))]
+pub(crate) fn resource_of(alloc: Global, target: &str) -> Result<Option<Resource>, InsertError>
+    ensures { IfOk result (λ resource. resource ≡ resource_of target.now) }
 {
     let router = router(alloc)?;
     Ok(match router.at(target) {
@@ -20,7 +21,7 @@ pub(crate) fn path_of(alloc: Global, target: &str) -> Result<Option<Path>, Inser
 }
 
 /// The whole table.
-fn router(alloc: Global) -> Result<Router<Path>, InsertError>
+fn router(alloc: Global) -> Result<Router<Resource>, InsertError>
     ensures { IfOk result (λ router. router ≡ table) }
 {
     let mut router = Router::new(alloc);
@@ -32,57 +33,96 @@ fn router(alloc: Global) -> Result<Router<Path>, InsertError>
 }
 
 /// The paths of requests.
-fn add_requests(router: &mut Router<Path>) -> Result<(), InsertError>
+fn add_requests(router: &mut Router<Resource>) -> Result<(), InsertError>
     ensures { OnOk result (router.new ≡ with_requests router.old) }
 {
-    add(router, "/requests", Path::Requests)?;
-    add(router, "/requests/{no}", Path::Request)?;
-    add(router, "/requests/{no}/review", Path::Review)?;
-    add(router, "/requests/{no}/withdraw", Path::Withdraw)?;
-    add(router, "/requests/{no}/return", Path::Return)?;
-    add(router, "/verdict", Path::Verdict)?;
+    let submit = PostRoute::Image(ImageRoute::Submit);
+    add(
+        router,
+        "/requests",
+        Resource::GetAndPost(GetRoute::Requests, submit),
+    )?;
+    add_get(router, "/requests/{no}", GetRoute::Request)?;
+    add_command(router, "/requests/{no}/review", CommandRoute::Review)?;
+    add_command(router, "/requests/{no}/withdraw", CommandRoute::Withdraw)?;
+    add_image(router, "/requests/{no}/return", ImageRoute::Return)?;
+    add_image(router, "/verdict", ImageRoute::Verdict)?;
     Ok(())
 }
 
 /// The paths of proposals.
-fn add_proposals(router: &mut Router<Path>) -> Result<(), InsertError>
+fn add_proposals(router: &mut Router<Resource>) -> Result<(), InsertError>
     ensures { OnOk result (router.new ≡ with_proposals router.old) }
 {
-    add(router, "/proposals", Path::Proposals)?;
-    add(router, "/proposals/{no}/confirm", Path::Confirm)?;
-    add(router, "/proposals/{no}/drop", Path::Drop)?;
+    add_get(router, "/proposals", GetRoute::Proposals)?;
+    add_command(router, "/proposals/{no}/confirm", CommandRoute::Confirm)?;
+    add_command(router, "/proposals/{no}/drop", CommandRoute::Drop)?;
     Ok(())
 }
 
 /// The paths of what is listed and revoked.
-fn add_lists(router: &mut Router<Path>) -> Result<(), InsertError>
+fn add_lists(router: &mut Router<Resource>) -> Result<(), InsertError>
     ensures { OnOk result (router.new ≡ with_lists router.old) }
 {
-    add(router, "/db", Path::Db)?;
-    add(router, "/db/certificates", Path::DbCertificates)?;
-    add(router, "/db/digests", Path::DbDigests)?;
-    add(router, "/db/unlist", Path::DbUnlist)?;
-    add(router, "/dbx", Path::Dbx)?;
-    add(router, "/dbx/digests", Path::DbxDigests)?;
+    add_get(router, "/db", GetRoute::Db)?;
+    add_command(router, "/db/certificates", CommandRoute::ListCertificate)?;
+    add_command(router, "/db/digests", CommandRoute::ListDigest)?;
+    add_command(router, "/db/unlist", CommandRoute::Unlist)?;
+    add_get(router, "/dbx", GetRoute::Dbx)?;
+    add_command(router, "/dbx/digests", CommandRoute::RevokeDigest)?;
     Ok(())
 }
 
 /// All other paths.
-fn add_rest(router: &mut Router<Path>) -> Result<(), InsertError>
+fn add_rest(router: &mut Router<Resource>) -> Result<(), InsertError>
     ensures { OnOk result (router.new ≡ with_rest router.old) }
 {
-    add(router, "/dbx/certificates", Path::DbxCertificates)?;
-    add(router, "/level", Path::Level)?;
-    add(router, "/imports/dbx", Path::ImportsDbx)?;
-    add(router, "/imports/csv", Path::ImportsCsv)?;
-    add(router, "/imports/level", Path::ImportsLevel)?;
-    add(router, "/report", Path::Report)?;
+    let raise = PostRoute::Command(CommandRoute::RaiseLevel);
+    add_command(router, "/dbx/certificates", CommandRoute::RevokeCertificate)?;
+    add(
+        router,
+        "/level",
+        Resource::GetAndPost(GetRoute::Level, raise),
+    )?;
+    add_command(router, "/imports/dbx", CommandRoute::ImportDbx)?;
+    add_command(router, "/imports/csv", CommandRoute::ImportCsv)?;
+    add_command(router, "/imports/level", CommandRoute::ImportLevel)?;
+    add_get(router, "/report", GetRoute::Report)?;
     Ok(())
 }
 
-/// One path.
-fn add(router: &mut Router<Path>, route: &str, path: Path) -> Result<(), InsertError>
-    ensures { OnOk result (router.new ≡ added route.now path router.old) }
+/// A path that has GET alone.
+fn add_get(router: &mut Router<Resource>, path: &str, route: GetRoute) -> Result<(), InsertError>
+    ensures { OnOk result (router.new ≡ added path.now (get route) router.old) }
 {
-    router.insert(route, path)
+    add(router, path, Resource::Get(route))
+}
+
+/// A path that has POST alone, with an image.
+fn add_image(
+    router: &mut Router<Resource>,
+    path: &str,
+    route: ImageRoute,
+) -> Result<(), InsertError>
+    ensures { OnOk result (router.new ≡ added path.now (post_image route) router.old) }
+{
+    add(router, path, Resource::Post(PostRoute::Image(route)))
+}
+
+/// A path that has POST alone, of a command.
+fn add_command(
+    router: &mut Router<Resource>,
+    path: &str,
+    route: CommandRoute,
+) -> Result<(), InsertError>
+    ensures { OnOk result (router.new ≡ added path.now (post_command route) router.old) }
+{
+    add(router, path, Resource::Post(PostRoute::Command(route)))
+}
+
+/// One path.
+fn add(router: &mut Router<Resource>, path: &str, resource: Resource) -> Result<(), InsertError>
+    ensures { OnOk result (router.new ≡ added path.now resource router.old) }
+{
+    router.insert(path, resource)
 }

@@ -9,8 +9,7 @@ ghost use Rattle.http_requests.specs.Wanted as spec;
 ghost use Rattle.http_requests.specs.declared.fault.WantedFault.TheVariants.{BadHead};
 
 use crate::fields::checked_fields;
-use crate::route::{methods_of, route_of};
-use crate::routing::path_of;
+use crate::routing::resource_of;
 use crate::{Head, Route, Wanted, WantedFault, parse_head};
 use std::alloc::Global;
 
@@ -52,13 +51,12 @@ fn number_part(target: &[u8]) -> &[u8]
 fn size(route: Route, length: Option<u64>) -> Result<usize, WantedFault>
     ensures { result ≡ spec.size_of route length }
 {
-    match length {
-        None if route.is_read() => Ok(0),
-        None => Err(WantedFault::LengthNeeded),
-        Some(0) if route.is_read() => Ok(0),
-        Some(_) if route.is_read() => Err(WantedFault::BadField),
-        Some(length) if length <= route.limit() => Ok(length as usize),
-        Some(_) => Err(WantedFault::TooLarge),
+    match (route, length) {
+        (Route::Get(_), None | Some(0)) => Ok(0),
+        (Route::Get(_), Some(_)) => Err(WantedFault::BadField),
+        (Route::Post(_), None) => Err(WantedFault::LengthNeeded),
+        (Route::Post(route), Some(length)) if length <= route.limit() => Ok(length as usize),
+        (Route::Post(_), Some(_)) => Err(WantedFault::TooLarge),
     }
 }
 
@@ -67,14 +65,14 @@ fn wanted_by<'b>(alloc: Global, head: &Head<'b>) -> Result<Wanted<'b>, WantedFau
     ensures { spec.Gives (spec.wanted_of (parts.shown head.now)) result }
 {
     let fields = checked_fields(head)?;
-    let Ok(path) = path_of(alloc, head.target) else {
+    let Ok(resource) = resource_of(alloc, head.target) else {
         return Err(WantedFault::NoMemory);
     };
-    let Some(path) = path else {
+    let Some(resource) = resource else {
         return Err(WantedFault::NoRoute);
     };
-    let Some(route) = route_of(path, head.method) else {
-        return Err(WantedFault::BadMethod(methods_of(path)));
+    let Some(route) = resource.route(head.method) else {
+        return Err(WantedFault::BadMethod(resource.methods()));
     };
     let size = size(route, fields.length)?;
     Ok(Wanted {

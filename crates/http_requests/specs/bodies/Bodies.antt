@@ -5,81 +5,81 @@ use Rattle.serde_json.specs.Data.{Data}
 use Rattle.serde_json.specs.Read.{read}
 use Rattle.desk_bytes.specs.declared.refusal.Refusal.{Refusal}
 use Rattle.desk_bytes.specs.declared.refusal.Refusal.TheVariants as refusal
+use Rattle.desk_texts.specs.declared.command.Ballot.{Ballot}
+use Rattle.desk_texts.specs.declared.command.Listing.{Listing}
+use Rattle.desk_texts.specs.declared.command.Raise.{Raise}
 use Rattle.desk_texts.specs.declared.vote.Vote.{Vote}
 use Rattle.desk_texts.specs.declared.kind.ListedKind.{ListedKind}
 use Rattle.http_requests.specs.bodies.Forms.{digest_in, vote_in, kind_in, note_in, name_in, generation_in, stamp_in}
 use Rattle.http_requests.specs.bodies.Members.{one_of, two_of, three_of}
-use Rattle.http_requests.specs.declared.bodies.body.BodyFault.{BodyFault}
-use Rattle.http_requests.specs.declared.bodies.body.BodyFault.TheVariants.{BadBody, NoMemory}
-use Rattle.http_requests.specs.declared.bodies.body.ReviewBody.{ReviewBody}
-use Rattle.http_requests.specs.declared.bodies.body.UnlistBody.{UnlistBody}
-use Rattle.http_requests.specs.declared.bodies.body.LevelBody.{LevelBody}
+use Rattle.http_requests.specs.declared.bodies.fault.BodyFault.{BodyFault}
+use Rattle.http_requests.specs.declared.bodies.fault.BodyFault.TheVariants.{BadBody, NoMemory}
 
 -- the value of a body that is JSON text in UTF-8 (RFC 8259), as serde_json reads it
 abbrev pub data_of : List ℕ → Option Data
 data_of body = if is_utf8 body then read body else None
 
 -- a review of these parts
-abbrev pub review_by : Option (List ℕ) → Option Vote → Option ReviewBody
-review_by (Some note) (Some vote) = Some (record { note = note; vote = vote })
-review_by _ _ = None
+abbrev pub review_by : ℕ → Option (List ℕ) → Option Vote → Option Ballot
+review_by request (Some note) (Some vote) = Some (record { request = request; vote = vote; note = note })
+review_by request _ _ = None
 
 -- the review that two values are
-abbrev pub review_from : Option (Data × Data) → Option ReviewBody
-review_from None = None
-review_from (Some values) = review_by (note_in values.0) (vote_in values.1)
+abbrev pub review_from : ℕ → Option (Data × Data) → Option Ballot
+review_from request None = None
+review_from request (Some values) = review_by request (note_in values.0) (vote_in values.1)
 
 -- {"note":TEXT,"vote":"yes" or "no"}
-abbrev pub review_in : Data → Option ReviewBody
-review_in d = review_from (two_of (codes "note") (codes "vote") d)
+abbrev pub review_in : ℕ → Data → Option Ballot
+review_in request d = review_from request (two_of (codes "note") (codes "vote") d)
 
 -- {"digest":HEX}
 abbrev pub digest_object : Data → Option (List ℕ)
 digest_object d = option_and_then digest_in (one_of (codes "digest") d)
 
 -- what is taken off the list, of these parts
-abbrev pub unlist_by : Option (List ℕ) → Option ListedKind → Option UnlistBody
-unlist_by (Some digest) (Some kind) = Some (record { digest = digest; kind = kind })
+abbrev pub unlist_by : Option (List ℕ) → Option ListedKind → Option Listing
+unlist_by (Some digest) (Some kind) = Some (record { kind = kind; digest = digest })
 unlist_by _ _ = None
 
 -- that of two values
-abbrev pub unlist_from : Option (Data × Data) → Option UnlistBody
+abbrev pub unlist_from : Option (Data × Data) → Option Listing
 unlist_from None = None
 unlist_from (Some values) = unlist_by (digest_in values.0) (kind_in values.1)
 
 -- {"digest":HEX,"kind":"digest" or "certificate"}
-abbrev pub unlist_in : Data → Option UnlistBody
+abbrev pub unlist_in : Data → Option Listing
 unlist_in d = unlist_from (two_of (codes "digest") (codes "kind") d)
 
 -- what the level is raised by, of these parts
-abbrev pub level_by : Option (List ℕ) → Option ℕ → Option ℕ → Option LevelBody
+abbrev pub level_by : Option (List ℕ) → Option ℕ → Option ℕ → Option Raise
 level_by (Some component) (Some generation) (Some stamp) =
-    Some (record { component = component; generation = generation; stamp = stamp })
+    Some (record { component = record { name = component; generation = generation }; stamp = stamp })
 level_by _ _ _ = None
 
 -- that of three values
-abbrev pub level_from : Option (Data × Data × Data) → Option LevelBody
+abbrev pub level_from : Option (Data × Data × Data) → Option Raise
 level_from None = None
 level_from (Some values) = level_by (name_in values.0) (generation_in values.1) (stamp_in values.2)
 
 -- {"component":NAME,"generation":N,"stamp":N}
-abbrev pub level_in : Data → Option LevelBody
+abbrev pub level_in : Data → Option Raise
 level_in d = level_from (three_of (codes "component") (codes "generation") (codes "stamp") d)
 
--- the review that a body is
-abbrev pub review_of : List ℕ → Option ReviewBody
-review_of body = option_and_then review_in (data_of body)
+-- the review of a request that a body is
+abbrev pub review_of : ℕ → List ℕ → Option Ballot
+review_of request body = option_and_then (review_in request) (data_of body)
 
 -- the digest that a body is
 abbrev pub named_digest : List ℕ → Option (List ℕ)
 named_digest body = option_and_then digest_object (data_of body)
 
 -- what a body says is taken off the list
-abbrev pub unlist_of : List ℕ → Option UnlistBody
+abbrev pub unlist_of : List ℕ → Option Listing
 unlist_of body = option_and_then unlist_in (data_of body)
 
 -- what a body says the level is raised by
-abbrev pub level_of : List ℕ → Option LevelBody
+abbrev pub level_of : List ℕ → Option Raise
 level_of body = option_and_then level_in (data_of body)
 
 -- its row in the table of refusals

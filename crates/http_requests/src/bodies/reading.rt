@@ -3,17 +3,19 @@ ghost use Rattle.std.specs.Prelude.{◌≡◌, IfOk, IfErr, IfSome, Some};
 ghost use Rattle.serde_json.specs.View.{view};
 ghost use Rattle.http_requests.specs.bodies.Bodies as spec;
 
+use crate::BodyFault;
 use crate::bodies::members::{one, three, two};
 use crate::bodies::values::{component, digest, generation, kind, note, parse, stamp, vote};
-use crate::{BodyFault, LevelBody, ReviewBody, UnlistBody};
 use desk_bytes::Digest;
+use desk_texts::{Ballot, Listing, Raise, RequestNumber};
+use sbat::Component;
 use serde_json::Value;
 use std::alloc::Global;
 
-/// The review that a value is.
-fn review_in(alloc: Global, value: &Value) -> Result<ReviewBody, BodyFault>
-    ensures ok { IfOk result (λ body. spec.review_in (view value.now) ≡ Some body) }
-    ensures err { IfErr result (spec.Refuses (spec.review_in (view value.now))) }
+/// The review of a request that a value is.
+fn review_in(alloc: Global, request: RequestNumber, value: &Value) -> Result<Ballot, BodyFault>
+    ensures ok { IfOk result (λ ballot. spec.review_in request (view value.now) ≡ Some ballot) }
+    ensures err { IfErr result (spec.Refuses (spec.review_in request (view value.now))) }
 {
     let Some((said, word)) = two(value, ("note", "vote")) else {
         return Err(BodyFault::BadBody);
@@ -22,7 +24,11 @@ fn review_in(alloc: Global, value: &Value) -> Result<ReviewBody, BodyFault>
         return Err(BodyFault::BadBody);
     };
     let note = note(alloc, said)?;
-    Ok(ReviewBody { note, vote })
+    Ok(Ballot {
+        request,
+        vote,
+        note,
+    })
 }
 
 /// The digest of an object of one.
@@ -37,8 +43,8 @@ fn digest_in(value: &Value) -> Result<Digest, BodyFault>
 }
 
 /// What a value says is taken off the list.
-fn unlist_in(value: &Value) -> Result<UnlistBody, BodyFault>
-    ensures ok { IfOk result (λ body. spec.unlist_in (view value.now) ≡ Some body) }
+fn unlist_in(value: &Value) -> Result<Listing, BodyFault>
+    ensures ok { IfOk result (λ entry. spec.unlist_in (view value.now) ≡ Some entry) }
     ensures err { IfErr result (spec.Refuses (spec.unlist_in (view value.now))) }
 {
     let Some((text, word)) = two(value, ("digest", "kind")) else {
@@ -47,12 +53,12 @@ fn unlist_in(value: &Value) -> Result<UnlistBody, BodyFault>
     let (Some(digest), Some(kind)) = (digest(text), kind(word)) else {
         return Err(BodyFault::BadBody);
     };
-    Ok(UnlistBody { digest, kind })
+    Ok(Listing { kind, digest })
 }
 
 /// What a value says the level is raised by.
-fn level_in(alloc: Global, value: &Value) -> Result<LevelBody, BodyFault>
-    ensures ok { IfOk result (λ body. spec.level_in (view value.now) ≡ Some body) }
+fn level_in(alloc: Global, value: &Value) -> Result<Raise, BodyFault>
+    ensures ok { IfOk result (λ raise. spec.level_in (view value.now) ≡ Some raise) }
     ensures err { IfErr result (spec.Refuses (spec.level_in (view value.now))) }
 {
     let Some((name, least, time)) = three(value, ("component", "generation", "stamp")) else {
@@ -61,21 +67,20 @@ fn level_in(alloc: Global, value: &Value) -> Result<LevelBody, BodyFault>
     let (Some(generation), Some(stamp)) = (generation(least), stamp(time)) else {
         return Err(BodyFault::BadBody);
     };
-    let component = component(alloc, name)?;
-    Ok(LevelBody {
-        component,
-        generation,
+    let name = component(alloc, name)?;
+    Ok(Raise {
+        component: Component { name, generation },
         stamp,
     })
 }
 
-/// Reads the body `{"note":TEXT,"vote":"yes" or "no"}`. Takes memory.
-pub fn read_review(alloc: Global, body: &[u8]) -> Result<ReviewBody, BodyFault>
-    ensures ok { IfOk result (λ review. spec.review_of body.now ≡ Some review) }
-    ensures err { IfErr result (spec.Refuses (spec.review_of body.now)) }
+/// Reads the body `{"note":TEXT,"vote":"yes" or "no"}` of a review of the request. Takes memory.
+pub fn read_review(alloc: Global, request: RequestNumber, body: &[u8]) -> Result<Ballot, BodyFault>
+    ensures ok { IfOk result (λ ballot. spec.review_of request body.now ≡ Some ballot) }
+    ensures err { IfErr result (spec.Refuses (spec.review_of request body.now)) }
 {
     let value = parse(alloc, body)?;
-    review_in(alloc, &value)
+    review_in(alloc, request, &value)
 }
 
 /// Reads the body `{"digest":HEX}`, with 64 hexadecimal digits of either case. Takes memory.
@@ -88,8 +93,8 @@ pub fn read_digest(alloc: Global, body: &[u8]) -> Result<Digest, BodyFault>
 }
 
 /// Reads the body `{"digest":HEX,"kind":"digest" or "certificate"}`. Takes memory.
-pub fn read_unlist(alloc: Global, body: &[u8]) -> Result<UnlistBody, BodyFault>
-    ensures ok { IfOk result (λ unlist. spec.unlist_of body.now ≡ Some unlist) }
+pub fn read_unlist(alloc: Global, body: &[u8]) -> Result<Listing, BodyFault>
+    ensures ok { IfOk result (λ entry. spec.unlist_of body.now ≡ Some entry) }
     ensures err { IfErr result (spec.Refuses (spec.unlist_of body.now)) }
 {
     let value = parse(alloc, body)?;
@@ -97,8 +102,8 @@ pub fn read_unlist(alloc: Global, body: &[u8]) -> Result<UnlistBody, BodyFault>
 }
 
 /// Reads the body `{"component":NAME,"generation":N,"stamp":N}`. Takes memory.
-pub fn read_level(alloc: Global, body: &[u8]) -> Result<LevelBody, BodyFault>
-    ensures ok { IfOk result (λ level. spec.level_of body.now ≡ Some level) }
+pub fn read_level(alloc: Global, body: &[u8]) -> Result<Raise, BodyFault>
+    ensures ok { IfOk result (λ raise. spec.level_of body.now ≡ Some raise) }
     ensures err { IfErr result (spec.Refuses (spec.level_of body.now)) }
 {
     let value = parse(alloc, body)?;

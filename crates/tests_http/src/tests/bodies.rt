@@ -1,7 +1,7 @@
 //! JSON bodies.
 use desk_bytes::Digest;
-use desk_texts::{ListedKind, Vote};
-use http_requests::{read_digest, read_level, read_review, read_unlist};
+use desk_texts::{Ballot, ListedKind, RequestNumber, Vote};
+use http_requests::{BodyFault, read_digest, read_level, read_review, read_unlist};
 use std::alloc::{AllocError, Global};
 
 /// Bodies, each behind the reader's name and what it answers.
@@ -54,10 +54,18 @@ level BadBody {"component":"grub","generation":3}
 level BadBody {"component":"grub","generation":3,"stamp":2024010100,"why":""}
 "#;
 
+/// What a review of the first request is read as.
+fn review(alloc: Global, body: &[u8]) -> Option<Result<Ballot, BodyFault>> {
+    Some(read_review(alloc, RequestNumber::new(1)?, body))
+}
+
 /// What the reader of this name answers: the name of the refusal, or `Ok`.
 fn outcome(alloc: Global, reader: &str, body: &[u8]) -> &'static str {
     let fault = match reader {
-        "review" => read_review(alloc, body).err(),
+        "review" => match review(alloc, body) {
+            Some(read) => read.err(),
+            None => return "no number",
+        },
         "digest" => read_digest(alloc, body).err(),
         "unlist" => read_unlist(alloc, body).err(),
         _ => read_level(alloc, body).err(),
@@ -95,8 +103,9 @@ fn takes_the_object_that_is_asked_for_alone(rt: HostRuntime) {
 /// Whether the last note of a review and its vote are read.
 fn gives_a_review(alloc: Global) -> Option<bool> {
     let text = br#"{"note":"a","vote":"no","note":"b c"}"#;
-    let review = read_review(alloc, text).ok()?;
-    Some(review.note.as_str() == "b c" && review.vote == Vote::No)
+    let review = review(alloc, text)?.ok()?;
+    let is_first = Some(review.request) == RequestNumber::new(1);
+    Some(is_first && review.note.as_str() == "b c" && review.vote == Vote::No)
 }
 
 /// Whether the digest and the kind of an entry are read.
@@ -118,9 +127,10 @@ fn gives_a_digest(alloc: Global) -> Option<bool> {
 /// Whether the component, its generation and the stamp of a level are read.
 fn gives_a_level(alloc: Global) -> Option<bool> {
     let text = br#"{"component":"grub","generation":3,"stamp":2024010100}"#;
-    let level = read_level(alloc, text).ok()?;
-    let is_component = level.component.as_str() == "grub" && level.generation.value() == 3;
-    Some(is_component && level.stamp.value() == 2_024_010_100)
+    let raise = read_level(alloc, text).ok()?;
+    let component = &raise.component;
+    let is_component = component.name.as_str() == "grub" && component.generation.value() == 3;
+    Some(is_component && raise.stamp.value() == 2_024_010_100)
 }
 
 /// What a body for a component of this name of so many bytes is refused for, or `Ok`.

@@ -1,6 +1,9 @@
 //! What heads ask for.
-use desk_texts::{ProposalNumber, RequestNumber};
-use http_requests::{Asked, asked, wanted};
+use desk_texts::{Command, ProposalNumber, RequestNumber};
+use http_requests::{
+    AskedFault, BytesAsked, CommandAsked, ImageAsked, JsonAsked, KeyedAsked, PostRoute, ReadAsked,
+    Route, Wanted, command_asked, image_asked, read_asked, wanted,
+};
 use sbat::Stamp;
 use std::alloc::Global;
 use std::test::Fail;
@@ -151,44 +154,97 @@ Level ~|~GET /level HTTP/1.1~Host: desk~~
 RaiseLevel POST /level HTTP/1.1|CONTENT-LENGTH:\t 7 \t|desk-key:k||
 ";
 
+/// What a head asks for.
+#[derive(Drop)]
+enum Asked {
+    Read(ReadAsked),
+    Image(ImageAsked),
+    Command(KeyedAsked),
+}
+
+/// What a head asks for, by its route.
+fn ask(alloc: Global, wanted: &Wanted<'_>) -> Result<Asked, AskedFault> {
+    match wanted.route {
+        Route::Get(route) => Ok(Asked::Read(read_asked(route, wanted)?)),
+        Route::Post(PostRoute::Image(route)) => {
+            Ok(Asked::Image(image_asked(alloc, route, wanted)?))
+        }
+        Route::Post(PostRoute::Command(route)) => {
+            Ok(Asked::Command(command_asked(alloc, route, wanted)?))
+        }
+    }
+}
+
 /// The name of the first check that fails, or of the route.
 fn outcome(alloc: Global, head: &[u8]) -> &'static str {
     let wanted = match wanted(alloc, head) {
         Ok(wanted) => wanted,
         Err(fault) => return fault.refusal().name(),
     };
-    match asked(alloc, &wanted) {
-        Ok(asked) => name_of(&asked),
+    match ask(alloc, &wanted) {
+        Ok(Asked::Read(asked)) => name_of_read(asked),
+        Ok(Asked::Image(asked)) => name_of_image(&asked),
+        Ok(Asked::Command(keyed)) => name_of_command(&keyed.asked),
         Err(fault) => fault.refusal().name(),
     }
 }
 
-/// The name of the route.
-fn name_of(asked: &Asked) -> &'static str {
+/// The name of what is read.
+fn name_of_read(asked: ReadAsked) -> &'static str {
     match asked {
-        Asked::Submit(..) => "Submit",
-        Asked::Requests => "Requests",
-        Asked::Request(_) => "Request",
-        Asked::Review(..) => "Review",
-        Asked::Withdraw(..) => "Withdraw",
-        Asked::Return(..) => "Return",
-        Asked::ListCertificate(_) => "ListCertificate",
-        Asked::ListDigest(_) => "ListDigest",
-        Asked::Unlist(_) => "Unlist",
-        Asked::RevokeDigest(_) => "RevokeDigest",
-        Asked::RevokeCertificate(_) => "RevokeCertificate",
-        Asked::RaiseLevel(_) => "RaiseLevel",
-        Asked::ImportDbx(_) => "ImportDbx",
-        Asked::ImportCsv(..) => "ImportCsv",
-        Asked::ImportLevel(_) => "ImportLevel",
-        Asked::Confirm(..) => "Confirm",
-        Asked::Drop(..) => "Drop",
-        Asked::Proposals => "Proposals",
-        Asked::Verdict => "Verdict",
-        Asked::Dbx => "Dbx",
-        Asked::Db => "Db",
-        Asked::Level => "Level",
-        Asked::Report => "Report",
+        ReadAsked::Requests => "Requests",
+        ReadAsked::Request(_) => "Request",
+        ReadAsked::Proposals => "Proposals",
+        ReadAsked::Dbx => "Dbx",
+        ReadAsked::Db => "Db",
+        ReadAsked::Level => "Level",
+        ReadAsked::Report => "Report",
+    }
+}
+
+/// The name of what an image is for.
+fn name_of_image(asked: &ImageAsked) -> &'static str {
+    match asked {
+        ImageAsked::Submit(..) => "Submit",
+        ImageAsked::Return(..) => "Return",
+        ImageAsked::Verdict => "Verdict",
+    }
+}
+
+/// The name of a command that needs nothing of its content.
+fn name_of_whole(command: &Command) -> &'static str {
+    match command {
+        Command::Withdraw(_) => "Withdraw",
+        Command::Confirm(_) => "Confirm",
+        Command::Drop(_) => "Drop",
+        Command::AddPerson(_)
+        | Command::Submit(_)
+        | Command::Review(_)
+        | Command::Return(_)
+        | Command::ListCertificate(_)
+        | Command::ListDigest(_)
+        | Command::Unlist(_)
+        | Command::RevokeDigest(_)
+        | Command::RevokeCertificate(_)
+        | Command::RaiseLevel(_)
+        | Command::ImportRevocations(_) => "a command with content",
+    }
+}
+
+/// The name of a command.
+fn name_of_command(asked: &CommandAsked) -> &'static str {
+    match asked {
+        CommandAsked::Whole(command) => name_of_whole(command),
+        CommandAsked::Json(JsonAsked::Review(_)) => "Review",
+        CommandAsked::Json(JsonAsked::ListDigest) => "ListDigest",
+        CommandAsked::Json(JsonAsked::Unlist) => "Unlist",
+        CommandAsked::Json(JsonAsked::RevokeDigest) => "RevokeDigest",
+        CommandAsked::Json(JsonAsked::RevokeCertificate) => "RevokeCertificate",
+        CommandAsked::Json(JsonAsked::RaiseLevel) => "RaiseLevel",
+        CommandAsked::Bytes(BytesAsked::ListCertificate) => "ListCertificate",
+        CommandAsked::Bytes(BytesAsked::ImportDbx) => "ImportDbx",
+        CommandAsked::Bytes(BytesAsked::ImportCsv(_)) => "ImportCsv",
+        CommandAsked::Bytes(BytesAsked::ImportLevel) => "ImportLevel",
     }
 }
 
@@ -225,16 +281,24 @@ fn gives_the_values_of_fields(rt: HostRuntime) -> Result<(), Fail> {
 fn asked_by(alloc: Global, head: &str) -> Option<Asked> {
     let head = bytes_of(alloc, head).ok()?;
     let wanted = wanted(alloc, head.as_slice()).ok()?;
-    asked(alloc, &wanted).ok()
+    ask(alloc, &wanted).ok()
+}
+
+/// Whether an import of CSV with this stamp is asked for.
+fn is_csv(asked: &CommandAsked, stamp: Option<Stamp>) -> bool {
+    match asked {
+        CommandAsked::Bytes(BytesAsked::ImportCsv(found)) => *found == stamp,
+        CommandAsked::Bytes(_) | CommandAsked::Json(_) | CommandAsked::Whole(_) => false,
+    }
 }
 
 /// Whether this head asks for an import of CSV with its key and stamp.
 fn asks_for_csv(alloc: Global) -> bool {
     match asked_by(alloc, CSV) {
-        Some(Asked::ImportCsv(key, stamp)) => {
-            key.as_str() == "k1" && stamp == Stamp::new(2_024_010_100)
+        Some(Asked::Command(keyed)) => {
+            keyed.key.as_str() == "k1" && is_csv(&keyed.asked, Stamp::new(2_024_010_100))
         }
-        _ => false,
+        Some(Asked::Read(_) | Asked::Image(_)) | None => false,
     }
 }
 
@@ -244,24 +308,26 @@ const TITLE: &str = "POST /requests HTTP/1.1|Desk-Key: k|Desk-Title: shim 15.8|C
 /// Whether this head asks for a request with its title.
 fn asks_for_title(alloc: Global) -> bool {
     match asked_by(alloc, TITLE) {
-        Some(Asked::Submit(_, title)) => title.as_str() == "shim 15.8",
-        _ => false,
-    }
-}
-
-/// Whether the request of this number is asked for.
-fn is_request(asked: &Asked, number: u64) -> bool {
-    match asked {
-        Asked::Request(found) => Some(*found) == RequestNumber::new(number),
-        _ => false,
+        Some(Asked::Image(ImageAsked::Submit(_, title))) => title.as_str() == "shim 15.8",
+        Some(Asked::Image(_) | Asked::Read(_) | Asked::Command(_)) | None => false,
     }
 }
 
 /// Whether a head with a number asks for the request of that number.
 fn asks_for_number(alloc: Global) -> bool {
     match asked_by(alloc, "GET /requests/120 HTTP/1.1||") {
-        Some(asked) => is_request(&asked, 120),
-        None => false,
+        Some(Asked::Read(ReadAsked::Request(found))) => Some(found) == RequestNumber::new(120),
+        Some(Asked::Read(_) | Asked::Image(_) | Asked::Command(_)) | None => false,
+    }
+}
+
+/// Whether to confirm the proposal of this number is asked for.
+fn is_confirmation(asked: &CommandAsked, number: u64) -> bool {
+    match asked {
+        CommandAsked::Whole(Command::Confirm(found)) => {
+            Some(*found) == ProposalNumber::new(number)
+        }
+        CommandAsked::Whole(_) | CommandAsked::Json(_) | CommandAsked::Bytes(_) => false,
     }
 }
 
@@ -269,10 +335,10 @@ fn asks_for_number(alloc: Global) -> bool {
 fn asks_for_proposal(alloc: Global) -> bool {
     let head = "POST /proposals/120/confirm HTTP/1.1|Desk-Key: k1|Content-Length: 0||";
     match asked_by(alloc, head) {
-        Some(Asked::Confirm(key, found)) => {
-            key.as_str() == "k1" && Some(found) == ProposalNumber::new(120)
+        Some(Asked::Command(keyed)) => {
+            keyed.key.as_str() == "k1" && is_confirmation(&keyed.asked, 120)
         }
-        _ => false,
+        Some(Asked::Read(_) | Asked::Image(_)) | None => false,
     }
 }
 

@@ -6,6 +6,7 @@ use desk_calls::{Answer, Answering, Call as Asked, Octets, Task};
 use desk_http::{serve_each, serve_one};
 use desk_service::token_digest;
 use desk_texts::{Caller, Command, Key, PersonName, Role};
+use http_requests::ReadAsked;
 use testing::bytes_of;
 
 type Served = OpenDesk<MemStore>;
@@ -174,7 +175,7 @@ fn with_minutes<S: Alter + Drop>(
 fn level<S: Alter + Drop>(alloc: Global, desk: &mut OpenDesk<S>, line: &str) -> Option<Octets> {
     let call = Asked {
         person: person(alloc, line)?,
-        task: Task::Level,
+        task: Task::Read(ReadAsked::Level),
     };
     match desk_answers::answer(alloc, desk, call) {
         Answer::Level(text) => Some(text),

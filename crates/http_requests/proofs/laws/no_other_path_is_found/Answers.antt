@@ -1,20 +1,20 @@
 use Rattle.std.proofs.Common.{refl}
 use Rattle.matchit.proofs.OnLiterals.{matchit_on_literals}
-use Rattle.http_requests.specs.Paths.{added, with_requests, with_proposals, with_lists, with_rest, table, path_of}
+use Rattle.http_requests.specs.Paths.{added, with_requests, with_proposals, with_lists, with_rest, table, resource_of}
 use Rattle.http_requests.proofs.laws.no_other_path_is_found.Goals as goal
 
 pub returns-clause-query : goal.returns-clause-query
-unfolding matchit_on_literals added with_requests with_proposals with_lists with_rest table path_of
+unfolding matchit_on_literals added with_requests with_proposals with_lists with_rest table resource_of
 returns-clause-query c = refl
 
 pub returns-clause-end : goal.returns-clause-end
-unfolding matchit_on_literals added with_requests with_proposals with_lists with_rest table path_of
+unfolding matchit_on_literals added with_requests with_proposals with_lists with_rest table resource_of
 returns-clause-end c = refl
 
 pub returns-clause-no_part : goal.returns-clause-no_part
-unfolding matchit_on_literals added with_requests with_proposals with_lists with_rest table path_of
+unfolding matchit_on_literals added with_requests with_proposals with_lists with_rest table resource_of
 returns-clause-no_part c = refl
 
 pub returns-clause-proposal : goal.returns-clause-proposal
-unfolding matchit_on_literals added with_requests with_proposals with_lists with_rest table path_of
+unfolding matchit_on_literals added with_requests with_proposals with_lists with_rest table resource_of
 returns-clause-proposal c = refl

@@ -5,4 +5,4 @@ use Rattle.http_requests.proofs.routing.add.Goals as goal
 
 pub returns : goal.returns
 unfolding added
-returns c = inserted (parse_route c.args.route.now) c.args.path c.args.router.now c.insert.new.self c.insert.result c.insert.ensures
+returns c = inserted (parse_route c.args.path.now) c.args.resource c.args.router.now c.insert.new.self c.insert.result c.insert.ensures

@@ -1,8 +1,5 @@
 use Rattle.std.proofs.Common.{rules}
-use Rattle.std.proofs.Common.{rules, ◌≡◌, IfOk, IfErr, None, Some, true, ℕ, ◌+◌, ◌-◌, ◌*◌, ◌<◌, ◌≤◌, length, ◌/◌, ◌%◌, Bool, false, nat_eq, nat_lt, List, [], ◌∷◌, ◌++◌, slice_index_or, slice_set, bit_and, bit_or, Fits, w8, w32, w64, Bor, MutBor}
-use Rattle.serde_json.specs.View.{view}
-use Rattle.http_requests.specs.bodies.Bodies.{Refuses, data_of}
-use Rattle.http_requests.specs.bodies.Forms as form
+use Rattle.std.proofs.Common.{rules}
 use Rattle.http_requests.proofs.bodies.values.generation.Goals as goal
 
 pub returns-in-Ok : goal.returns-in-Ok

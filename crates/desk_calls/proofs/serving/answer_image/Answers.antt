@@ -1,0 +1,35 @@
+use Rattle.desk_calls.specs.Answers.{AnswersImage}
+use Rattle.desk_calls.proofs.AnswerLemmas.{closed_as, closed_read, serves_as, serves_read}
+use Rattle.desk_calls.proofs.serving.answer_image.Goals as goal
+
+pub returns-in-Submit-clause-served : goal.returns-in-Submit-clause-served
+returns-in-Submit-clause-served g c clean owner cs was =
+    serves_as (g.D.Answering.shows c.take.new.desk owner) (g.D.Answering.failed c.take.new.desk) cs (λ x. AnswersImage cs c.args.name x c.args.image) c.args.asked _ c.take.result c.in-Submit.is
+    (serves_read (g.D.Answering.shows c.take.new.desk owner) (g.D.Answering.failed c.take.new.desk) cs c.args.name c.in-Submit.key _ _ c.take.result c.submission.ensures.reads
+    (c.take.ensures.served clean owner cs was))
+
+pub returns-in-Return-clause-served : goal.returns-in-Return-clause-served
+returns-in-Return-clause-served g c clean owner cs was =
+    serves_as (g.D.Answering.shows c.take-in-Return.new.desk owner) (g.D.Answering.failed c.take-in-Return.new.desk) cs (λ x. AnswersImage cs c.args.name x c.args.image) c.args.asked _ c.take-in-Return.result c.in-Return.is
+    (serves_read (g.D.Answering.shows c.take-in-Return.new.desk owner) (g.D.Answering.failed c.take-in-Return.new.desk) cs c.args.name c.in-Return.key _ _ c.take-in-Return.result c.returned.ensures.reads
+    (c.take-in-Return.ensures.served clean owner cs was))
+
+pub returns-in-Verdict-clause-served : goal.returns-in-Verdict-clause-served
+returns-in-Verdict-clause-served g c clean owner cs was =
+    serves_as (g.D.Answering.shows c.judge.new.desk owner) (g.D.Answering.failed c.judge.new.desk) cs (λ x. AnswersImage cs c.args.name x c.args.image) c.args.asked _ c.judge.result c.in-Verdict.is
+    (c.judge.ensures.served clean owner cs was)
+
+pub returns-in-Submit-clause-closed : goal.returns-in-Submit-clause-closed
+returns-in-Submit-clause-closed g c was =
+    let shut = c.take.ensures.closed was in
+    (closed_as (λ x owner cs. AnswersImage cs c.args.name x c.args.image) c.args.asked _ c.take.result c.in-Submit.is (closed_read c.args.name c.in-Submit.key _ _ c.take.result c.submission.ensures.reads shut.0), shut.1)
+
+pub returns-in-Return-clause-closed : goal.returns-in-Return-clause-closed
+returns-in-Return-clause-closed g c was =
+    let shut = c.take-in-Return.ensures.closed was in
+    (closed_as (λ x owner cs. AnswersImage cs c.args.name x c.args.image) c.args.asked _ c.take-in-Return.result c.in-Return.is (closed_read c.args.name c.in-Return.key _ _ c.take-in-Return.result c.returned.ensures.reads shut.0), shut.1)
+
+pub returns-in-Verdict-clause-closed : goal.returns-in-Verdict-clause-closed
+returns-in-Verdict-clause-closed g c was =
+    let shut = c.judge.ensures.closed was in
+    (closed_as (λ x owner cs. AnswersImage cs c.args.name x c.args.image) c.args.asked _ c.judge.result c.in-Verdict.is shut.0, shut.1)

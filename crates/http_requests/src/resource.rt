@@ -1,0 +1,81 @@
+//! What the desk answers at a path.
+ghost use Rattle.std.specs.Prelude.{◌≡◌};
+ghost use Rattle.http_requests.specs.Routes as spec;
+
+use crate::{GetRoute, PostRoute, Route};
+
+/// What stands at a path of the table: its methods, and what each is for.
+#[derive(Clone, Copy, Debug, PartialEq, Eq)]
+pub enum Resource {
+    Get(GetRoute),
+    Post(PostRoute),
+    GetAndPost(GetRoute, PostRoute),
+}
+
+/// The methods of a resource, for the field `Allow` (RFC 9110, section 10.2.1).
+#[derive(Clone, Copy, Debug, PartialEq, Eq)]
+pub enum Methods {
+    Get,
+    Post,
+    GetAndPost,
+}
+
+impl Methods {
+    /// Their names, as `Allow` lists them: `GET`, `POST` or `GET, POST`.
+    pub fn text(self) -> &'static str
+        ensures { result.now ≡ spec.methods_text self }
+    {
+        match self {
+            Methods::Get => "GET",
+            Methods::Post => "POST",
+            Methods::GetAndPost => "GET, POST",
+        }
+    }
+}
+
+impl Resource {
+    /// The methods that it has.
+    pub(crate) fn methods(self) -> Methods
+        ensures { result ≡ spec.methods_of self }
+    {
+        match self {
+            Resource::Get(_) => Methods::Get,
+            Resource::Post(_) => Methods::Post,
+            Resource::GetAndPost(_, _) => Methods::GetAndPost,
+        }
+    }
+
+    /// What GET is for, if it has that.
+    fn got(self) -> Option<Route>
+        ensures { result ≡ spec.got self }
+    {
+        match self {
+            Resource::Get(route) | Resource::GetAndPost(route, _) => Some(Route::Get(route)),
+            Resource::Post(_) => None,
+        }
+    }
+
+    /// What POST is for, if it has that.
+    fn posted(self) -> Option<Route>
+        ensures { result ≡ spec.posted self }
+    {
+        match self {
+            Resource::Post(route) | Resource::GetAndPost(_, route) => Some(Route::Post(route)),
+            Resource::Get(_) => None,
+        }
+    }
+
+    /// What the method is for, if the resource has it. Methods are compared with their case (RFC 9110,
+    /// section 9.1).
+    pub(crate) fn route(self, method: &[u8]) -> Option<Route>
+        ensures { result ≡ spec.route_of self method.now }
+    {
+        if method == b"GET".as_slice() {
+            self.got()
+        } else if method == b"POST".as_slice() {
+            self.posted()
+        } else {
+            None
+        }
+    }
+}
