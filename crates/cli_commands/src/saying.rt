@@ -4,11 +4,11 @@ ghost use Rattle.std.specs.Io.KnownBytes.{Appends, Keeps};
 ghost use Rattle.desk_bytes.specs.Output.{AppendsBeginning};
 ghost use Rattle.cli_lines.specs.Faults.{row_of};
 ghost use Rattle.cli_lines.specs.VerdictLines.{verdict_line};
-ghost use Rattle.cli_commands.specs.Works.{line_of, outcome_of, reply_line};
+ghost use Rattle.cli_commands.specs.Works.{outcome_of, reply_line};
 
 use crate::ending::Outcome;
 use cli_lines::{Fault, print_verdict};
-use desk_bytes::{Refusal, WriteFailed, put};
+use desk_bytes::{Refusal, WriteFailed, put_each};
 use desk_history::Verdict;
 use desk_texts::{Facts, Reply, reply_text};
 use std::alloc::Global;
@@ -19,17 +19,6 @@ pub(crate) fn flush<W: Write>(writer: &mut W) -> Result<(), WriteFailed>
     ensures { Keeps (W.contents writer.old) (W.contents writer.new) }
 {
     writer.flush().map_err(|_| WriteFailed)
-}
-
-/// Writes a text and LF.
-fn put_line<W: Write>(text: &str, writer: &mut W) -> Result<(), WriteFailed>
-    ensures ok { OnOk result (Appends (W.contents writer.old) (W.contents writer.new)
-        (line_of text.now)) }
-    ensures err { OnErr result (AppendsBeginning (W.contents writer.old) (W.contents writer.new)
-        (line_of text.now)) }
-{
-    put(text.as_bytes(), writer)?;
-    put(b"\n", writer)
 }
 
 /// Writes the reply's text and LF.
@@ -46,7 +35,7 @@ pub(crate) fn say_reply<W: Write>(alloc: Global, reply: &Reply, writer: &mut W) 
     let Ok(text) = reply_text(alloc, reply) else {
         return Err(Fault::from(Refusal::NoMemory));
     };
-    put_line(text.as_str(), writer)?;
+    put_each(&[text.as_bytes(), b"\n"], writer)?;
     flush(writer)?;
     Ok(())
 }

@@ -1,9 +1,10 @@
 -- A line written whole or in part.
-use Rattle.std.proofs.Common.{◌≡◌, ℕ, List, ◌++◌, length, Option, Result, Ok, Err, OnErr, OnOk, sym, subst, arith}
+use Rattle.std.proofs.Common.{◌≡◌, ℕ, List, ◌++◌, length, codes, decimal, ap, ◌∙◌, Option, None, Some, Result, Ok, Err, OnErr, OnOk, sym, subst, arith}
 use Rattle.std.specs.Io.KnownBytes.{Appends}
-use Rattle.std.proofs.KnownBytes.{Appends-trans}
 use Rattle.std.proofs.lemmas.List.{take_all}
+use Rattle.sbat.specs.declared.component.Component.{Component}
 use Rattle.desk_bytes.specs.Output.{AppendsBeginning}
+use Rattle.cli_lines.specs.VerdictLines.{below_words}
 
 -- all of it is a beginning too
 pub AppendsBeginning-either : {T E : Type 0} (r : Result T E) (a b : Option (List ℕ)) (xs : List ℕ)
@@ -13,17 +14,31 @@ AppendsBeginning-either (Ok x) a b xs h k =
 AppendsBeginning-either (Err e) a b xs h k = k
 
 -- the same of bytes that are equal
-pub OnErr-same : {T E : Type 0} (r : Result T E) (a b : Option (List ℕ)) (xs ys : List ℕ) → xs ≡ ys
-    → OnErr r (AppendsBeginning a b xs) → OnErr r (AppendsBeginning a b ys)
-OnErr-same r a b xs ys e h = subst (λ zs. OnErr r (AppendsBeginning a b zs)) e h
-
 pub Appends-same : (a b : Option (List ℕ)) (xs ys : List ℕ) → xs ≡ ys → Appends a b xs → Appends a b ys
 Appends-same a b xs ys e h = subst (Appends a b) e h
 
 pub AppendsBeginning-same : (a b : Option (List ℕ)) (xs ys : List ℕ) → xs ≡ ys → AppendsBeginning a b xs → AppendsBeginning a b ys
 AppendsBeginning-same a b xs ys e h = subst (AppendsBeginning a b) e h
 
--- one write took its bytes, and the next took the rest
-pub OnOk-after : {T E : Type 0} (r : Result T E) (a b c : Option (List ℕ)) (xs ys : List ℕ) → Appends a b xs → OnOk r (Appends b c ys) → OnOk r (Appends a c (xs ++ ys))
-OnOk-after (Ok x) a b c xs ys h more = Appends-trans a b c xs ys h more
-OnOk-after (Err e) a b c xs ys h more = tt
+pub OnOk-same : {T E : Type 0} (r : Result T E) (a b : Option (List ℕ)) (xs ys : List ℕ) → xs ≡ ys → OnOk r (Appends a b xs) → OnOk r (Appends a b ys)
+OnOk-same r a b xs ys e h = subst (λ zs. OnOk r (Appends a b zs)) e h
+
+pub OnErr-same : {T E : Type 0} (r : Result T E) (a b : Option (List ℕ)) (xs ys : List ℕ) → xs ≡ ys
+    → OnErr r (AppendsBeginning a b xs) → OnErr r (AppendsBeginning a b ys)
+OnErr-same r a b xs ys e h = subst (λ zs. OnErr r (AppendsBeginning a b zs)) e h
+
+-- the line of a place that has no component
+pub below_none : (found : Option Component) (needs : ℕ) (n : List ℕ) → found ≡ None → n ≡ decimal needs
+    → codes "refused sbat " ++ n ++ codes "\n" ≡ below_words found needs ++ codes "\n"
+below_none found needs n none e =
+    ap (λ t. codes "refused sbat " ++ t ++ codes "\n") e ∙ ap (λ o. below_words o needs ++ codes "\n") (sym none)
+
+-- the line of a component
+pub below_some : (found : Option Component) (component : Component) (needs : ℕ) (t h n : List ℕ) → found ≡ Some component
+    → t ≡ component.name → h ≡ decimal component.generation → n ≡ decimal needs
+    → codes "refused sbat " ++ t ++ codes " " ++ h ++ codes " " ++ n ++ codes "\n" ≡ below_words found needs ++ codes "\n"
+below_some found component needs t h n some named held e =
+    ap (λ l. codes "refused sbat " ++ l ++ codes " " ++ h ++ codes " " ++ n ++ codes "\n") named
+    ∙ ap (λ l. codes "refused sbat " ++ component.name ++ codes " " ++ l ++ codes " " ++ n ++ codes "\n") held
+    ∙ ap (λ l. codes "refused sbat " ++ component.name ++ codes " " ++ decimal component.generation ++ codes " " ++ l ++ codes "\n") e
+    ∙ ap (λ o. below_words o needs ++ codes "\n") (sym some)

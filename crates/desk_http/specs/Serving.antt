@@ -5,8 +5,8 @@ use Rattle.desk_bytes.specs.Output.{AppendsBeginning}
 use Rattle.http_responses.specs.declared.outage.Outage.TheVariants as outage
 use Rattle.http_responses.specs.declared.refused.Refused.{Refused as Refusal}
 use Rattle.http_responses.specs.declared.refused.Refused.TheVariants as refused
-use Rattle.http_requests.specs.heads.Watches.{HasFailed}
-use Rattle.http_requests.specs.declared.heads.watch.Watch.{Watch}
+use Rattle.desk_bytes.specs.Watches.{HasFailed}
+use Rattle.desk_bytes.specs.declared.watch.Watch.{Watch}
 use Rattle.desk_history.specs.Calls.{History}
 use Rattle.desk_calls.specs.Answers.{AnswersCall, IsClosed, no_memory, store_failed}
 use Rattle.desk_calls.specs.Desks.{ForEachShown, StillShows}

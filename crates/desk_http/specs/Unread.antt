@@ -1,7 +1,7 @@
 -- Why nothing is known of what a request asks for.
 use Rattle.std.specs.Prelude.{◌≡◌, ⊤, ℕ, List, Option, Some, None, Result, Ok, Err, IfSome, IsErr}
-use Rattle.http_requests.specs.heads.Watches.{HasFailed}
-use Rattle.http_requests.specs.declared.heads.watch.Watch.{Watch}
+use Rattle.desk_bytes.specs.Watches.{HasFailed}
+use Rattle.desk_bytes.specs.declared.watch.Watch.{Watch}
 use Rattle.desk_history.specs.Calls.{History}
 use Rattle.http_responses.specs.declared.outage.Outage.TheVariants as outage
 use Rattle.desk_http.specs.Asked.{Asks, Due}

@@ -2,7 +2,7 @@
 ghost use Rattle.std.specs.Prelude.{◌≡◌, ◌≢◌, Err, IfErr, IfOk, IfSome, MatchResult, Ok};
 ghost use Rattle.http_requests.specs.Asked as asks;
 ghost use Rattle.http_requests.specs.Wanted.{shown};
-ghost use Rattle.http_requests.specs.declared.heads.watch.Watch.{Watch as Watching};
+ghost use Rattle.desk_bytes.specs.declared.watch.Watch.{Watch as Watching};
 ghost use Rattle.desk_http.specs.Asked as spec;
 ghost use Rattle.desk_http.specs.Bodies.{body_in};
 ghost use Rattle.desk_http.specs.Refused.{refused_by_fields};
@@ -12,10 +12,11 @@ use crate::body_reading::read_bytes;
 use crate::image_reading::read_image;
 use crate::served::{Due, Unread};
 use crate::tasks::task_with_body;
+use desk_bytes::Watch;
 use desk_calls::{Call, Task};
 use desk_texts::Person;
 use http_requests::{
-    AskedFault, BodyFault, CommandRoute, GetRoute, ImageRoute, PostRoute, Route, Wanted, Watch,
+    AskedFault, BodyFault, CommandRoute, GetRoute, ImageRoute, PostRoute, Route, Wanted,
     command_asked, image_asked, read_asked,
 };
 use http_responses::{Outage, Refused};

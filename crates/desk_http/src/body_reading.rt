@@ -1,13 +1,13 @@
 //! A head, and a body that is no image.
 ghost use Rattle.std.specs.Prelude.{◌≡◌, IfErr, IfOk, IfSome};
-ghost use Rattle.http_requests.specs.heads.Watches as watches;
-ghost use Rattle.http_requests.specs.declared.heads.watch.Watch.{Watch as Watching};
+ghost use Rattle.desk_bytes.specs.Watches as watches;
+ghost use Rattle.desk_bytes.specs.declared.watch.Watch.{Watch as Watching};
 ghost use Rattle.desk_http.specs.Bodies.{body_in, items_of};
 ghost use Rattle.desk_http.specs.Unread.{HasCause, IsOfInput, IsOwn};
 
 use crate::served::Unread;
-use desk_bytes::InputFault;
-use http_requests::{Watch, read_body};
+use desk_bytes::{InputFault, Watch};
+use http_requests::read_body;
 use std::alloc::Global;
 use std::io::Read;
 

@@ -2,9 +2,9 @@
 ghost use Rattle.std.specs.Prelude.{◌≡◌, ◌≢◌, ◌⊎◌, ℕ, List, [], Err, None, Ok, Some, IfErr, IfOk, IfSome};
 ghost use Rattle.std.specs.Prelude.{IsErr, MatchOption, MatchResult};
 ghost use Rattle.httparse.specs.Grammar.{ReadsRequest, RequestHead};
+ghost use Rattle.desk_bytes.specs.declared.watch.Watch.{Watch as Watching};
 ghost use Rattle.http_requests.specs.heads.Fields.{parts_of};
 ghost use Rattle.http_requests.specs.heads.Heads.{HasFewFields};
-ghost use Rattle.http_requests.specs.declared.heads.watch.Watch.{Watch as Watching};
 ghost use Rattle.http_requests.specs.Fields.{bytes_of};
 ghost use Rattle.http_requests.specs.Wanted as wants;
 ghost use Rattle.desk_calls.specs.Desks.{StillShows, ForEachShown};
@@ -16,9 +16,10 @@ ghost use Rattle.desk_http.specs.Unread.{CanCome, HasCause, IsKnownOfClosed, Whe
 use crate::asking::ask;
 use crate::body_reading::unread;
 use crate::served::{Due, Unread};
+use desk_bytes::Watch;
 use desk_calls::{Answering, caller};
 use desk_texts::Person;
-use http_requests::{Begun, Wanted, WantedFault, Watch, read_head, wanted};
+use http_requests::{Begun, Wanted, WantedFault, read_head, wanted};
 use http_responses::{Outage, Refused};
 use std::alloc::Global;
 use std::io::Read;

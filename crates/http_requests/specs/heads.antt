@@ -1,4 +1,3 @@
 pub mod Heads
 pub mod Bodies
 pub mod Fields
-pub mod Watches

@@ -6,7 +6,6 @@ mod head;
 mod head_parsing;
 mod head_reading;
 mod laws;
-mod watch;
 
 pub use begun::Begun;
 pub use body_reading::read_body;
@@ -14,4 +13,3 @@ pub use head::{Given, Head};
 pub use head_parsing::parse_head;
 pub use head_reading::read_head;
 pub use laws::{head_is_one, what_follows_changes_nothing};
-pub use watch::Watch;

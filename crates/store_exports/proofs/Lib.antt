@@ -9,4 +9,3 @@ pub mod StepLemmas
 pub mod CountedLemmas
 pub mod HeadLemmas
 pub mod ListedLemmas
-pub mod LineLemmas

@@ -1,5 +1,5 @@
 //! The minutes, a line for each call.
-ghost use Rattle.std.specs.Prelude.{◌≡◌, ◌++◌, ◌∷◌, [], IfErr, IfOk, OnErr, OnOk, codes, decimal, length, pos};
+ghost use Rattle.std.specs.Prelude.{◌≡◌, ◌∷◌, [], IfErr, IfOk, OnErr, OnOk, length, pos};
 ghost use Rattle.std.specs.Io.KnownBytes.{Appends};
 ghost use Rattle.sqlite.specs.Held.{state};
 ghost use Rattle.sqlite.specs.State.{HasCleanDisk};
@@ -15,7 +15,8 @@ ghost use Rattle.store_exports.specs.Rows.{IsPart};
 use crate::fault::ExportFault;
 use crate::forms::RowForm;
 use crate::taking::put_rows;
-use desk_bytes::{Refusal, WriteFailed, put, put_decimal};
+use desk_bytes::{Refusal, WriteFailed, put_each};
+use itoa::Buffer;
 use sqlite::types::ValueRef;
 use sqlite::{Alter, Connection, Row};
 use std::alloc::Global;
@@ -75,18 +76,6 @@ fn columns_of(row: &Row) -> Result<CallColumns<'_>, ReadFault>
     })
 }
 
-/// Writes the text and what ends it.
-fn put_text<W: Write>(text: &[u8], end: &[u8], writer: &mut W) -> Result<(), WriteFailed>
-    ensures ok { OnOk result (Appends (W.contents writer.old) (W.contents writer.new)
-        (text.now ++ end.now)) }
-    ensures err { OnErr result (AppendsBeginning (W.contents writer.old) (W.contents writer.new)
-        (text.now ++ end.now)) }
-{
-    put(text, writer)?;
-    put(end, writer)?;
-    Ok(())
-}
-
 /// Writes the line of these columns.
 fn put_line<W: Write>(columns: &CallColumns<'_>, writer: &mut W) -> Result<(), WriteFailed>
     ensures ok { OnOk result (Appends (W.contents writer.old) (W.contents writer.new)
@@ -96,13 +85,20 @@ fn put_line<W: Write>(columns: &CallColumns<'_>, writer: &mut W) -> Result<(), W
         (line_of columns.now.number columns.now.caller.now columns.now.key.now
         columns.now.text.now columns.now.reply.now)) }
 {
-    put_decimal(columns.number, writer)?;
-    put(b"\t", writer)?;
-    put_text(columns.caller, b"\t", writer)?;
-    put_text(columns.key, b"\t", writer)?;
-    put_text(columns.text, b"\t", writer)?;
-    put_text(columns.reply, b"\n", writer)?;
-    Ok(())
+    let mut digits = Buffer::new();
+    let slices: [&[u8]; 10] = [
+        digits.format(columns.number).as_bytes(),
+        b"\t",
+        columns.caller,
+        b"\t",
+        columns.key,
+        b"\t",
+        columns.text,
+        b"\t",
+        columns.reply,
+        b"\n",
+    ];
+    put_each(&slices, writer)
 }
 
 /// A call, as its line in the minutes.

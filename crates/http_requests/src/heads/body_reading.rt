@@ -1,10 +1,9 @@
 //! A body of a known length.
 ghost use Rattle.std.specs.Prelude.{IfErr, IfOk};
+ghost use Rattle.desk_bytes.specs.Watches.{HasCause};
 ghost use Rattle.http_requests.specs.heads.Bodies.{TakesBody};
-ghost use Rattle.http_requests.specs.heads.Watches.{HasCause};
 
-use crate::Watch;
-use desk_bytes::InputFault;
+use desk_bytes::{InputFault, ReadFailed, Watch};
 use std::alloc::Global;
 use std::io::Read;
 
@@ -33,7 +32,7 @@ pub fn read_body<R: Read>(
                     return Err(InputFault::NoMemory);
                 }
             }
-            Err(_) => return Err(InputFault::Read),
+            Err(ReadFailed) => return Err(InputFault::Read),
         }
     }
     Ok(Some(body))

@@ -1,11 +1,11 @@
 //! The head of a request, read byte by byte.
 ghost use Rattle.std.specs.Prelude.{◌≡◌, ◌&&◌, IfErr, IfOk};
+ghost use Rattle.desk_bytes.specs.Watches.{HasCause};
 ghost use Rattle.http_requests.specs.heads.Heads as spec;
 ghost use Rattle.http_requests.specs.heads.Heads.{FindsOf, Looks, TakesByte};
-ghost use Rattle.http_requests.specs.heads.Watches.{HasCause};
 
-use crate::{Begun, Watch};
-use desk_bytes::InputFault;
+use crate::Begun;
+use desk_bytes::{InputFault, ReadFailed, Watch};
 use httparse::Status;
 use httparse::spans::{EMPTY_HEADER_SPAN, parse_request};
 use std::alloc::Global;
@@ -36,7 +36,7 @@ fn read_byte<R: Read>(reader: &mut R, watch: &mut Watch) -> Result<Option<u8>, I
     match watch.read(reader, &mut byte) {
         Ok(0) => Ok(None),
         Ok(_) => Ok(Some(byte[0])),
-        Err(_) => Err(InputFault::Read),
+        Err(ReadFailed) => Err(InputFault::Read),
     }
 }
 

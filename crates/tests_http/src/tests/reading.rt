@@ -1,6 +1,6 @@
 //! Heads and bodies from readers.
-use desk_bytes::InputFault;
-use http_requests::{Begun, Watch, read_body, read_head};
+use desk_bytes::{InputFault, Watch};
+use http_requests::{Begun, read_body, read_head};
 use std::alloc::{AllocError, Global};
 use std::test::Fail;
 use testing::{Slow, bytes_of};

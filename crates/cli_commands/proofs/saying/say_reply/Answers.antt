@@ -7,5 +7,6 @@ use Rattle.cli_commands.proofs.saying.say_reply.Goals as goal
 
 pub returns-in_err-flush-clause-err : goal.returns-in_err-flush-clause-err
 returns-in_err-flush-clause-err g c =
-    let line = Appends-same _ _ _ _ (ap line_of (c.as_str.ensures.value ∙ c.in-Ok.ensures)) c.in_ok-put_line.ensures.ok in
+    let text = c.as_bytes.ensures.value ∙ c.in-Ok.ensures in
+    let line = Appends-same _ _ _ _ (ap line_of text) c.in_ok-put_each.ensures.ok in
     OnErr-fact _ _ (whole_kept _ _ _ _ line c.flush.ensures)
