@@ -17,7 +17,7 @@ else
 fi
 [ -x "$program" ] || { echo "checks/all.sh: there is no program $program" >&2; exit 1; }
 # The longest first, so that the last ones fill the lanes.
-checks=${*:-refused-memory.sh refused-requests.sh http.sh requests.sh cuts.sh exports.sh day.sh readme.sh version1.sh prove.sh runs.sh}
+checks=${*:-refused-memory.sh refused-requests.sh http.sh requests.sh cuts.sh exports.sh day.sh readme.sh version1.sh help.sh prove.sh runs.sh proved.sh}
 until=$((SECONDS + 600))
 room=$(mktemp -d) || exit 1
 trap 'rm -rf "$room"' EXIT
@@ -26,7 +26,7 @@ trap 'kill $(jobs -p) 2> /dev/null; wait; exit 1' HUP INT TERM
 # run CHECK: runs it, and gives its line.
 run() {
     local begun=$SECONDS words=("$program") left=$((until - SECONDS)) how=failed
-    case $1 in prove.sh | tables.sh) words=() ;; esac
+    case $1 in prove.sh | proved.sh | tables.sh) words=() ;; esac
     if [ "$left" -le 0 ]; then
         echo 'no time was left for it' > "$room/$1"
     else
