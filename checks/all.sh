@@ -17,7 +17,8 @@ else
 fi
 [ -x "$program" ] || { echo "checks/all.sh: there is no program $program" >&2; exit 1; }
 # The longest first, so that the last ones fill the lanes.
-checks=${*:-refused-memory.sh refused-requests.sh http.sh requests.sh cuts.sh exports.sh day.sh readme.sh version1.sh help.sh prove.sh runs.sh proved.sh}
+checks=${*:-refused-memory.sh refused-requests.sh http.sh requests.sh faults.sh cuts.sh exports.sh day.sh readme.sh version1.sh help.sh prove.sh
+    runs.sh proved.sh}
 until=$((SECONDS + 600))
 room=$(mktemp -d) || exit 1
 trap 'rm -rf "$room"' EXIT

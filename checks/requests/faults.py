@@ -1,0 +1,161 @@
+"""Each read and each write of a request fails: see ../faults.sh."""
+import subprocess
+import sys
+from typing import NamedTuple
+
+from days import TWO_OFFICERS, confirms, judges, refuses, submits, vote
+from desk import PLAIN, Program, Server, expect, fail
+
+PROGRAM, LIBRARY = sys.argv[1:]
+READ, WRITE = b"device 14 Read\n", b"device 17 Write\n"
+# How many bytes a read or a write takes: fewer of the requests and of the responses that are short.
+FEW, MANY = 9, 64
+
+
+class Case(NamedTuple):
+    """A request, the response that is due, how many bytes a call takes, and whether a command is accepted by it."""
+
+    name: str
+    given: bytes
+    due: bytes
+    piece: int
+    accepted: bool
+
+
+def case(name, step, piece):
+    return Case(name, step.given, step.due, piece, step.accepted)
+
+
+CASES = [
+    case("a verdict", judges("ann", PLAIN, {"verdict": "not-listed"}), MANY),
+    case("a submission", submits("ann", "k1", PLAIN, "A", 1), MANY),
+    case("a Confirm", confirms("otto", "k1", 1, 1, 0, 0, 0), FEW),
+    case("a refused review", refuses(23, "rita", "k1", "/requests/1/review", vote("yes")), FEW),
+]
+
+
+class Counts:
+    def __init__(self):
+        self.reads = self.writes = 0
+
+
+def contents(desk):
+    """The bytes of the desk's file."""
+    with open(desk, "rb") as it:
+        return it.read()
+
+
+def minutes_more(program, desk, before, count, what):
+    """The desk's minutes are those of before and so many more."""
+    found = program.minutes(desk)
+    if not found.startswith(before) or found.count(b"\n") != before.count(b"\n") + count:
+        fail(f"{what}: the minutes are {found!r}")
+    return found
+
+
+def stays(program, desk, before, it, what, ask):
+    """The command of the request stays, once: its key has the whole response, and changes nothing more."""
+    after = minutes_more(program, desk, before, int(it.accepted), what)
+    expect(ask(desk), it.due, f"{what}: the request again")
+    expect(program.minutes(desk), after, f"{what}: the minutes after the request again")
+
+
+def by_answer(program, base, it, counts):
+    """By a run for each fault."""
+    before = program.minutes(base)
+
+    def run(desk, **faults):
+        env = {**program.env, "LD_PRELOAD": LIBRARY, "PIECE": str(it.piece), **{name: str(number) for name, number in faults.items()}}
+        ran = subprocess.run([PROGRAM, "answer", desk], input=it.given, capture_output=True, timeout=60, env=env, check=False)
+        return ran.returncode, ran.stdout, ran.stderr
+
+    def again(desk):
+        return program.gives("answer", desk, given=it.given)
+
+    whole = (0, it.due, b"")
+    for number in range(1, 10_000):
+        what = f"{it.name} by answer, read {number} fails"
+        desk = program.copied(base, "tried.db")
+        found = contents(desk)
+        ran = run(desk, READ=number)
+        if ran == whole:
+            break
+        expect(ran, (3, b"", READ), what)
+        expect(contents(desk), found, f"{what}: the desk's file")
+        expect(again(desk), it.due, f"{what}: the request again")
+        counts.reads += 1
+    least = len(it.given) // it.piece
+    if number <= least:
+        fail(f"{it.name} by answer: {number - 1} reads failed in place of {least} or more")
+    for number in range(1, 10_000):
+        what = f"{it.name} by answer, write {number} fails"
+        desk = program.copied(base, "tried.db")
+        ran = run(desk, WRITE=number)
+        if ran == whole:
+            break
+        expect(ran, (3, it.due[: (number - 1) * it.piece], WRITE), what)
+        stays(program, desk, before, it, what, again)
+        counts.writes += 1
+    expect(number - 1, -(-len(it.due) // it.piece), f"{it.name} by answer: the writes")
+
+
+def by_serve(program, base, it, counts):
+    """Over a server for each fault, of which the first connection meets it."""
+    before = program.minutes(base)
+
+    def first(number, kind, what):
+        """What the first connection is answered, and whether the request is answered on the next one too; the desk's file."""
+        desk = program.copied(base, "tried.db")
+        env = {"LD_PRELOAD": LIBRARY, "PIECE": str(it.piece), "SOCKET": "1", kind: str(number)}
+        with Server(program, desk, 2, env=env) as server:
+            found = server.ask(it.given)
+            expect(server.ask(it.given), it.due, f"{what}: the request again")
+            server.ended()
+        minutes_more(program, desk, before, int(it.accepted), what)
+        return found
+
+    for number in range(1, 10_000):
+        what = f"{it.name} over serve, read {number} fails"
+        found = first(number, "READ", what)
+        if found == it.due:
+            break
+        expect(found, b"", what)
+        counts.reads += 1
+    least = len(it.given) // it.piece
+    if number <= least:
+        fail(f"{it.name} over serve: {number - 1} reads failed in place of {least} or more")
+    for number in range(1, 10_000):
+        what = f"{it.name} over serve, write {number} fails"
+        found = first(number, "WRITE", what)
+        if found == it.due:
+            break
+        # (what was written goes out before the connection ends, unless it is cut by a reset)
+        if not it.due.startswith(found) or len(found) > (number - 1) * it.piece:
+            fail(f"{what}: {found!r}")
+        counts.writes += 1
+    expect(number - 1, -(-len(it.due) // it.piece), f"{it.name} over serve: the writes")
+
+
+def no_accept(program, base):
+    """A server whose second accept fails ends; what the first connection was answered stays."""
+    it = CASES[1]
+    desk = program.copied(base, "tried.db")
+    with Server(program, desk, 3, env={"LD_PRELOAD": LIBRARY, "ACCEPT": "2"}) as server:
+        expect(server.ask(it.given), it.due, "before an accept fails")
+        out, err = server.process.communicate(timeout=60)
+        expect((server.process.returncode, out, err), (3, b"", READ), "an accept fails")
+    minutes_more(program, desk, program.minutes(base), 1, "after an accept failed")
+
+
+with Program(PROGRAM) as program:
+    people = program.founded("people.db")
+    proposed = program.copied(people, "proposed.db")
+    step = TWO_OFFICERS[0]
+    expect(program.gives("answer", proposed, given=step.given), step.due, "a proposal")
+    no_accept(program, people)
+    counts = Counts()
+    for it in CASES:
+        base = proposed if it.name == "a Confirm" else people
+        by_answer(program, base, it, counts)
+        by_serve(program, base, it, counts)
+    print(f"{counts.reads} reads and {counts.writes} writes failed, each within a request, and the desk went on as it has to")
