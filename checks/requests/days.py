@@ -2,8 +2,8 @@
 from typing import NamedTuple
 
 from desk import (
-    CERTIFICATE, PLAIN, SIGNED, TBS, THREE_LISTS, authenticode, certificate_list, changed, digest, digest_list, got, octets, ok, posted,
-    refused, said, sha256, signature_list, text, with_table, with_text, X509_KIND,
+    CERTIFICATE, PLAIN, SIGNED, TABLE, TBS, THREE_LISTS, authenticode, certificate_list, changed, digest, digest_list, got, octets, ok,
+    posted, refused, said, sha256, signature_list, signing, text, with_table, with_text, X509_KIND,
 )
 
 
@@ -90,11 +90,11 @@ def closes(number, what, name, key, proposal):
 # ---- what is shown
 
 
-def shown(number, submitter, title, state, votes, returned=None):
-    """The request of the plain image, with its votes (reviewer, vote, note) ascending by reviewer."""
+def shown(number, submitter, title, state, votes, returned=None, image=PLAIN):
+    """The request of an image without a table, with its votes (reviewer, vote, note) ascending by reviewer."""
     return {
-        "carried": [], "components": [], "digest": authenticode(PLAIN), "file": sha256(PLAIN), "gap": 0, "length": 1024,
-        "number": number, "returned": returned, "signing": authenticode(PLAIN), "state": state, "submitter": submitter, "title": title,
+        "carried": [], "components": [], "digest": authenticode(image), "file": sha256(image), "gap": 0, "length": len(image),
+        "number": number, "returned": returned, "signing": signing(image), "state": state, "submitter": submitter, "title": title,
         "votes": [{"note": note, "reviewer": reviewer, "vote": ballot} for reviewer, ballot, note in votes],
     }
 
@@ -104,7 +104,8 @@ def proposal(number, officer, state, digests=0, certificates=0, components=0):
     return {**counts, "number": number, "officer": officer, "state": state}
 
 
-APPROVED = shown(1, "ann", "A", "approved", [("raul", "yes", ""), ("rita", "yes", "")])
+YES = [("raul", "yes", ""), ("rita", "yes", "")]
+APPROVED = shown(1, "ann", "A", "approved", YES)
 REJECTED = shown(2, "rita", "B", "rejected", [("rosa", "no", "")])
 EMPTY_LEVEL = "sbat,1,2021030218\n"
 
@@ -128,7 +129,7 @@ REVIEWS = [
 ]
 
 # What is returned has to be listed, and to be the image that was approved; then verdicts, and a revoked certificate.
-SIGNED_REQUEST = shown(1, "ann", "A", "signed", [("raul", "yes", ""), ("rita", "yes", "")], sha256(SIGNED))
+SIGNED_REQUEST = shown(1, "ann", "A", "signed", YES, sha256(SIGNED))
 RETURNS = [
     *REVIEWS,
     refuses(29, "sid", "k1", "/requests/1/return", SIGNED),
@@ -162,6 +163,26 @@ REVOKED_BEFORE = [
     refuses(28, "ann", "k2", "/requests", PLAIN, ("Desk-Title", "again")),
     reads("ann", "/requests/1", ok(APPROVED)),
     judges("ann", SIGNED, {"verdict": "dbx-digest"}),
+]
+
+# An image whose length isn't a multiple of 8 may be returned as it is, or padded with zeros, which is what a signature holds.
+ODD = PLAIN + bytes(5)
+PADDED = ODD + bytes(3)
+RETURNED_ODD, RETURNED_PADDED = with_table(ODD, TABLE), with_table(PADDED, TABLE)
+PADDING = [
+    submits("ann", "k1", ODD, "A", 1),
+    submits("ann", "k2", ODD, "A", 2),
+    reads("ann", "/requests/2", ok(shown(2, "ann", "A", "open", [], image=ODD))),
+    *(reviews(name, f"k{number}", number, "yes", state) for name, state in (("rita", "open"), ("raul", "approved")) for number in (1, 2)),
+    takes("olga", "k1", "/db/certificates", CERTIFICATE, {"reply": "listed"}),
+    refuses(27, "sid", "k1", "/requests/1/return", SIGNED),
+    refuses(27, "sid", "k1", "/requests/1/return", changed(RETURNED_PADDED, (1030, "01"))),
+    returns("sid", "k1", 1, RETURNED_ODD),
+    returns("sid", "k2", 2, RETURNED_PADDED),
+    reads("ann", "/requests/1", ok(shown(1, "ann", "A", "signed", YES, sha256(RETURNED_ODD), ODD))),
+    reads("ann", "/requests/2", ok(shown(2, "ann", "A", "signed", YES, sha256(RETURNED_PADDED), ODD))),
+    judges("ann", RETURNED_ODD, {"verdict": "allowed"}),
+    judges("ann", RETURNED_PADDED, {"verdict": "allowed"}),
 ]
 
 # The level rises, and the verdict on an image with a component follows it.
@@ -217,7 +238,10 @@ LISTS = [
 CSV = f"kind,value,generation\nsha256,{digest('aa')},\nsbat,grub,2\nsbat,grub,3\n".encode()
 FILES = [
     refuses(32, "olga", "k1", "/imports/csv", CSV),
+    refuses(19, "olga", "k1", "/imports/csv", b"kind,value\n", at=0),
+    refuses(19, "olga", "k1", "/imports/csv", b"kind,value,generation\nsbat,sbat,2\n", ("Desk-Stamp", "2024010100"), at=1),
     reads("ann", "/level", text(EMPTY_LEVEL)),
+    reads("olga", "/proposals", ok([])),
     proposes("olga", "k1", "/imports/csv", CSV, 1, ("Desk-Stamp", "2024010100")),
     confirms("otto", "k1", 1, 1, 0, 1, 0),
     reads("ann", "/level", text("sbat,1,2024010100\ngrub,3\n")),
@@ -325,6 +349,13 @@ def largest(certificates, components):
 
 
 LONGEST = bytes.fromhex("3082fffc" "3003020101").ljust(65_536, b"\0")
+LARGEST_IMAGE = largest(64, 256)
+LARGEST_REQUEST = {
+    "carried": sorted(sha256(bytes([0x30, 3, 2, 1, number])) for number in range(64)),
+    "components": [[f"c{number}", 1] for number in range(256)],
+    "digest": authenticode(LARGEST_IMAGE), "file": sha256(LARGEST_IMAGE), "gap": 0, "length": len(LARGEST_IMAGE), "number": 1,
+    "returned": None, "signing": authenticode(LARGEST_IMAGE), "state": "open", "submitter": "ann", "title": "t" * 120, "votes": [],
+}
 LARGEST = [
     refuses(13, "olga", "k1", "/imports/dbx", digest_list(MANY)),
     reads("olga", "/proposals", ok([])),
@@ -336,14 +367,16 @@ LARGEST = [
     reads("ann", "/db", octets(signature_list(X509_KIND, [LONGEST]))),
     refuses(13, "ann", "k1", "/requests", largest(65, 256), ("Desk-Title", "t" * 120)),
     refuses(13, "ann", "k1", "/requests", largest(64, 257), ("Desk-Title", "t" * 120)),
-    refuses(51, "ann", "k1", "/requests", largest(64, 256), ("Desk-Title", "t" * 121)),
-    submits("ann", "k1", largest(64, 256), "t" * 120, 1),
-    again("ann", "k1", "/requests", largest(64, 256), {"reply": "submitted", "request": 1}, ("Desk-Title", "t" * 120)),
+    refuses(51, "ann", "k1", "/requests", LARGEST_IMAGE, ("Desk-Title", "t" * 121)),
+    submits("ann", "k1", LARGEST_IMAGE, "t" * 120, 1),
+    again("ann", "k1", "/requests", LARGEST_IMAGE, {"reply": "submitted", "request": 1}, ("Desk-Title", "t" * 120)),
+    reads("ann", "/requests/1", ok(LARGEST_REQUEST)),
+    reads("otto", "/proposals", ok([proposal(1, "olga", "confirmed", digests=10_000)])),
 ]
 
 # By name. Each begins on a desk of the people alone.
 DAYS = {
-    "reviews": REVIEWS, "returns": RETURNS, "revoked before": REVOKED_BEFORE, "levels": LEVELS, "keys": KEYS, "lists": LISTS,
+    "reviews": REVIEWS, "returns": RETURNS, "revoked before": REVOKED_BEFORE, "padding": PADDING, "levels": LEVELS, "keys": KEYS, "lists": LISTS,
     "files": FILES, "raises nothing": RAISES_NOTHING, "two officers": TWO_OFFICERS, "two proposals": TWO_PROPOSALS,
     "first requests": FIRST_REQUESTS, "the largest": LARGEST,
 }

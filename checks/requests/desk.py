@@ -89,6 +89,11 @@ def authenticode(image):
     return sha256(image[:152] + image[156:232] + image[240:end])
 
 
+def signing(image):
+    """The digest that a signature of such an image without a table holds: that of the image, padded to a multiple of 8."""
+    return authenticode(image.ljust(-(-len(image) // 8) * 8, b"\0"))
+
+
 SIGNED = with_table(PLAIN, TABLE)
 SHA256_KIND, X509_KIND, X509_SHA256_KIND = (
     bytes.fromhex(it)
@@ -149,7 +154,7 @@ PHRASES = {
 # The name and the status of each refusal that is met here.
 REFUSALS = {
     1: ("Short", 422), 4: ("Magic", 422), 6: ("Headers", 422), 7: ("Sections", 422), 9: ("Table", 422), 10: ("Der", 422),
-    13: ("TooLong", 422), 15: ("List", 422), 20: ("UnknownCaller", 401), 21: ("NotYourRole", 403), 22: ("KeyReused", 409),
+    13: ("TooLong", 422), 15: ("List", 422), 19: ("CsvRow", 422), 20: ("UnknownCaller", 401), 21: ("NotYourRole", 403), 22: ("KeyReused", 409),
     23: ("NoSuchRequest", 404), 24: ("WrongState", 409), 25: ("OwnRequest", 409), 26: ("AlreadyReviewed", 409),
     27: ("DigestDiffers", 409), 28: ("Revoked", 409), 29: ("NotListed", 409), 30: ("AlreadyRevoked", 409), 31: ("NotHigher", 409),
     32: ("StampNotLater", 409), 33: ("AlreadyListed", 409), 34: ("NotThere", 409), 37: ("NoSuchProposal", 404),
