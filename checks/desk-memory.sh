@@ -9,7 +9,7 @@ set -eu
 root=$(CDPATH='' cd -- "$(dirname -- "$(readlink -f -- "$0")")/.." && pwd -P)
 test=${1:-a_day_of_levels}
 stride=${2:-1}
-program=$root/crates/tests_store/out/desk_tests_tests
+program=$root/crates/tests_store/out/tests_store_tests
 [ -x "$program" ] || (cd "$root/crates/tests_store" && rt test > /dev/null)
 room=$(mktemp -d)
 trap 'rm -rf "$room"' EXIT
