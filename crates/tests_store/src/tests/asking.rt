@@ -246,21 +246,12 @@ fn put_answer<S: Alter + Drop>(
 }
 
 /// The answer to a line.
-fn answer<S: Alter + Drop>(alloc: Global, desk: &mut Desk<S>, given: &str) -> Option<String> {
-    let mut line = Line::new(alloc);
-    put_answer(alloc, desk, given, &mut line)?;
-    Some(line.text)
-}
-
-/// The answer to a line, which is asked once more where memory was refused.
-pub(super) fn answer_at_last<S: Alter + Drop>(
+pub(super) fn answer<S: Alter + Drop>(
     alloc: Global,
     desk: &mut Desk<S>,
     given: &str,
 ) -> Option<String> {
-    let told = answer(alloc, desk, given)?;
-    if told.ends_with("NoMemory") {
-        return answer(alloc, desk, given);
-    }
-    Some(told)
+    let mut line = Line::new(alloc);
+    put_answer(alloc, desk, given, &mut line)?;
+    Some(line.text)
 }

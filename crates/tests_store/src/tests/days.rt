@@ -1,5 +1,5 @@
 //! Days of a desk in a store: lines of what it is asked, and what it has to answer.
-use super::asking::answer_at_last;
+use super::asking::answer;
 use super::founding::{make, open, run};
 use super::scripts::{
     BARRED, EXPORTS, FAULTS, HUNDRED, LARGEST, LEVELS, OFFICERS, REQUESTS, ROWS, SPOILT, TABLES,
@@ -39,12 +39,11 @@ fn turn(alloc: Global, desk: Memory, given: &str) -> Option<(Memory, String)> {
         return Some((new_desk(alloc)?, String::new(alloc)));
     }
     let mut desk = desk;
-    let told = answer_at_last(alloc, &mut desk, given)?;
+    let told = answer(alloc, &mut desk, given)?;
     Some((desk, told))
 }
 
-/// Plays the lines of a script, `GIVEN : ANSWER` or `GIVEN` alone. Where memory was refused the desk is asked once more, and has
-/// to be as it was before.
+/// Plays the lines of a script, `GIVEN : ANSWER` or `GIVEN` alone.
 fn play(rt: &impl Abort, alloc: Global, script: &str) -> Result<(), Fail> {
     let mut desk = new_desk(alloc).ok_or("a desk")?;
     for line in script.lines() {

@@ -369,7 +369,18 @@ console p1 add ann officer 1 : added ann
 UPDATE people SET role = 'king'
 alone ann a1 list 1 : Store
 console p2 add rita reviewer 2 : Reopen
+rows ann a1 list 1 : Reopen
+image-rows 1 1 0 0 : Reopen
 verdict 1 1 0 0 : Reopen
+shows ann 1 : Reopen
+lists ann : Reopen
+proposals ann : Reopen
+who 1 : Reopen
+report : Reopen
+export dbx : 0 Reopen
+export db : 0 Reopen
+export level : 0 Reopen
+export minutes : 0 Reopen
 reopen
 ann a1 list 1 : Store
 UPDATE people SET role = 'officer'
