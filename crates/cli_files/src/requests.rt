@@ -15,7 +15,7 @@ use desk_answers::OpenDesk;
 use desk_bytes::Refusal;
 use desk_calls::Answering;
 use desk_store::Desk;
-use http_net::{answer_connection, listen, outcome, serve};
+use http_net::{answer_connection, listen, serve};
 use sqlite::{File, FileStore};
 use sqlite_disk::Disk;
 use std::alloc::Global;
@@ -33,7 +33,7 @@ fn answer_one<D: Answering, R: Read + Drop, W: Write>(
     ensures done { IfOk result (λ outcome. outcome ≡ Outcome.Done) }
     ensures named { IfErr result (IsRow IsAnsweringRefusal) }
 {
-    match outcome(answer_connection(alloc, desk, reader, writer)) {
+    match http_net::outcome(answer_connection(alloc, desk, reader, writer)) {
         Ok(()) => Ok(Outcome::Done),
         Err(refusal) => Err(Fault::from(refusal)),
     }
