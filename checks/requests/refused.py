@@ -131,6 +131,8 @@ with Program(program_path) as program:
     base = program.founded("base.db")
     names = names or [it for it in DAYS if it != "the largest"]
     found = [passes(program, library, base, name, DAYS[name]) for name in names]
+    if not all(it.told for it in found):
+        fail("on a day no refusal was told as NoMemory")
     if not any(it.lost for it in found):
         fail("no command was accepted without its response")
     print(f"{sum(it.all() for it in found)} allocations refused, each once, and the desk answered as it has to after each")
