@@ -1,4 +1,4 @@
-//! What a peer still sends.
+//! Bytes that a peer sends after its request, read and dropped.
 ghost use Rattle.std.specs.Prelude.{◌≡◌, ℕ, List, ◌≤◌, length};
 ghost use Rattle.std.specs.Io.KnownBytes.{Consumes};
 

@@ -1,4 +1,4 @@
-//! What a served connection comes to.
+//! The outcome of a served connection.
 ghost use Rattle.std.specs.Prelude.{◌≡◌, IfErr, IfSome};
 ghost use Rattle.http_net.specs.Faults.{IsAnsweringRefusal, IsLasting};
 ghost use Rattle.http_net.specs.Served as spec;

@@ -1,4 +1,4 @@
-//! What is answered of images, and what the program prints. Tests alone.
+//! Tests of images, and of the lines that the program prints.
 #![tactic(auto)]
 
 #[cfg(test)]

@@ -1,4 +1,4 @@
-//! What is refused before the desk is asked.
+//! Requests that are refused before the desk is asked.
 use super::serving::answers;
 use std::test::Fail;
 

@@ -1,4 +1,4 @@
-//! What heads ask for.
+//! Requests by their heads.
 use desk_texts::{Command, ProposalNumber, RequestNumber};
 use http_requests::{
     AskedFault, BytesAsked, CommandAsked, ImageAsked, JsonAsked, KeyedAsked, PostRoute, ReadAsked,

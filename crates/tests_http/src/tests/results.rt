@@ -1,4 +1,4 @@
-//! What `serve_one` gives.
+//! Results of `serve_one`.
 use desk_http::{Answered, HttpFault, Served, serve_one};
 use http_responses::{Outage, Refused, Status};
 use std::alloc::Global;

@@ -1,4 +1,4 @@
-//! What is answered, and what the desk is asked.
+//! Answers to each route, and the calls that reach the desk.
 use super::serving::answers;
 use std::test::Fail;
 
