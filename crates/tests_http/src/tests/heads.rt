@@ -313,11 +313,25 @@ fn asks_for_title(alloc: Global) -> bool {
     }
 }
 
+/// Whether the request of this number is asked for.
+fn is_request(asked: &ReadAsked, number: u64) -> bool {
+    match asked {
+        ReadAsked::Request(found) => Some(*found) == RequestNumber::new(number),
+        ReadAsked::Requests
+        | ReadAsked::Proposals
+        | ReadAsked::Dbx
+        | ReadAsked::Db
+        | ReadAsked::Level
+        | ReadAsked::Report => false,
+    }
+}
+
 /// Whether a head with a number asks for the request of that number.
 fn asks_for_number(alloc: Global) -> bool {
-    match asked_by(alloc, "GET /requests/120 HTTP/1.1||") {
-        Some(Asked::Read(ReadAsked::Request(found))) => Some(found) == RequestNumber::new(120),
-        Some(Asked::Read(_) | Asked::Image(_) | Asked::Command(_)) | None => false,
+    let found = asked_by(alloc, "GET /requests/120 HTTP/1.1||");
+    match &found {
+        Some(Asked::Read(asked)) => is_request(asked, 120),
+        Some(Asked::Image(_) | Asked::Command(_)) | None => false,
     }
 }
 
