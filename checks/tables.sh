@@ -29,7 +29,7 @@ done
 mkdir -p "$room/crates/write_day/src"
 cp "$root/checks/tables/main.rt.txt" "$room/crates/write_day/src/main.rt"
 cp "$root/checks/tables/writes.rt.txt" "$room/crates/write_day/src/writes.rt"
-echo 'write_day: store_writes store_schema desk_history desk_texts sbat desk_bytes sqlite' >> "$room/crates.txt"
+echo 'write_day: store_writes store_schema store_sql desk_history desk_texts sbat desk_bytes sqlite' >> "$room/crates.txt"
 rm -f "$room/desk.db" "$room/desk.db-wal"
 (cd "$room/crates/write_day" && rt try --seconds 600 -- "$room/desk.db" > "$room/run.log" 2>&1) || { tail -20 "$room/run.log" >&2; exit 1; }
 test -s "$room/desk.db"
