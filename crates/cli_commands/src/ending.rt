@@ -1,4 +1,4 @@
-//! How a subcommand over a desk's file ends.
+//! The exit status of a subcommand over a desk's file.
 ghost use Rattle.std.specs.Prelude.{◌≡◌};
 ghost use Rattle.cli_commands.specs.Endings.{unopened};
 

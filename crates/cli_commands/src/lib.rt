@@ -1,4 +1,4 @@
-//! What each subcommand does with an open desk, and how it ends.
+//! The work of each subcommand at an open desk, and its exit status.
 #![tactic(auto)]
 
 mod ending;

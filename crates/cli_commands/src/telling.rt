@@ -1,4 +1,4 @@
-//! What a subcommand over a desk's file tells of its end.
+//! The last line of a subcommand over a desk's file.
 ghost use Rattle.std.specs.Prelude.{◌≡◌};
 ghost use Rattle.desk_bytes.specs.Output.{AppendsBeginning};
 ghost use Rattle.cli_commands.specs.Endings.{TellsEnding, closing_line, status_after};
@@ -37,7 +37,7 @@ fn print_closing<W: Write>(status: u8, closing: Option<Fault>, writer: &mut W) -
 }
 
 /// Writes the line of what stopped a subcommand, and then the line of a close that failed, and gives the exit
-/// status, also where a write fails. Takes no memory.
+/// status, also where a write fails.
 pub fn print_ending<W: Write>(ending: Ending, writer: &mut W) -> u8
     ensures status { result ≡ status_of_ending ending }
     ensures out { TellsEnding (W.contents writer.old) (W.contents writer.new) ending }

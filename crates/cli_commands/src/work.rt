@@ -1,4 +1,4 @@
-//! What a subcommand does with an open desk, in any store.
+//! Subcommands at an open desk, over any store.
 ghost use Rattle.std.specs.Prelude.{◌≡◌, ◌≢◌, Err, IfErr, IfOk, IsErrOf, OnErr, OnOk, true};
 ghost use Rattle.std.specs.Io.KnownBytes.{Appends};
 ghost use Rattle.sqlite.specs.Held.{state};

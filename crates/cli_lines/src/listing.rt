@@ -1,4 +1,4 @@
-//! What the subcommands print.
+//! The lines that the subcommands print.
 use crate::fault::Fault;
 use desk_bytes::{LONGEST_IMAGE, Refusal, WriteFailed};
 use desk_texts::Facts;
@@ -23,7 +23,7 @@ pub fn print_ranges<S: Source, W: Write>(source: &mut S, writer: &mut W) -> Resu
 
 /// Writes what the desk keeps of an image, a line each: `length N`, `file HEX`, `digest HEX`, `signing HEX` and
 /// `gap N`, then `certificate HEX` for each certificate, ascending, and `component NAME GENERATION` for each
-/// component, in the image's order. Takes no memory.
+/// component, in the image's order.
 pub fn print_facts<W: Write>(facts: &Facts, writer: &mut W) -> Result<(), WriteFailed> {
     let extent = facts.extent;
     writeln!(writer, "length {}", extent.length()).map_err(|_| WriteFailed)?;

@@ -21,7 +21,7 @@ fn word(refusal: Refusal) -> &'static [u8]
 }
 
 /// Writes the line of a fault, `refused NUMBER NAME` or `device NUMBER NAME`, with ` at PLACE` where there is a
-/// place. Takes no memory.
+/// place.
 pub fn put_fault<W: Write>(
     refusal: Refusal,
     place: Option<u64>,

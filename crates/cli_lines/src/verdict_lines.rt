@@ -40,7 +40,7 @@ fn put_below<W: Write>(
 
 /// Writes the line of a verdict on the image of these facts: `allowed`, or `refused` and `dbx-digest`,
 /// `dbx-certificate`, `not-listed`, or `sbat NAME HAS NEEDS`: the first component below the level, its
-/// generation and the one that the level asks of it. Takes no memory.
+/// generation and the one that the level asks of it.
 pub fn print_verdict<W: Write>(
     verdict: &Verdict,
     facts: &Facts,

@@ -1,4 +1,4 @@
-//! What the program's words say.
+//! The command line, parsed.
 ghost use Rattle.std.specs.Prelude.{◌≡◌, option_map};
 ghost use Rattle.cli_words.specs.Lines.{line_of, of_one_word};
 

@@ -1,4 +1,4 @@
-//! What the words of a subcommand stand for, or the first of them that is out of its form.
+//! The values of a subcommand's words, or the first word that is malformed.
 
 mod numbers;
 mod owner;

@@ -1,4 +1,4 @@
-//! What calls are answered.
+//! Answers to calls.
 use crate::octets::Octets;
 use crate::shown_proposals::ShownProposals;
 use crate::shown_requests::ShownRequests;

@@ -1,4 +1,4 @@
-//! What people call the desk for.
+//! Calls of the desk: a person, and a task.
 use crate::octets::Octets;
 use desk_texts::{Command, Key, Person};
 use http_requests::{BytesAsked, ImageAsked, ReadAsked};

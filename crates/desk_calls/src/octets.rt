@@ -16,7 +16,7 @@ impl Model for Octets {
 }
 
 impl Octets {
-    /// These bytes. Takes no memory.
+    /// These bytes.
     pub fn new(bytes: Vec<u8>) -> Octets
         ensures { result ≡ bytes.items }
     {
@@ -30,7 +30,7 @@ impl Octets {
         &self.bytes
     }
 
-    /// Gives the bytes back. Takes no memory.
+    /// Gives the bytes back.
     pub fn into_vec(self) -> Vec<u8>
         ensures { result.items ≡ self }
     {

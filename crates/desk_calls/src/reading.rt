@@ -1,4 +1,4 @@
-//! What is read of a desk.
+//! Reading calls of a desk.
 ghost use Rattle.std.specs.Prelude.{◌≡◌, ℕ, List};
 ghost use Rattle.desk_exports.specs.Exports as exports;
 ghost use Rattle.desk_history.specs.Calls.{History};

@@ -18,7 +18,7 @@ impl Model for ShownProposals {
 }
 
 impl ShownProposals {
-    /// These proposals. Takes no memory.
+    /// These proposals.
     pub fn new(proposals: Vec<Proposal>) -> ShownProposals
         ensures { result ≡ proposals.items }
     {

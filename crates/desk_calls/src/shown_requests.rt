@@ -18,7 +18,7 @@ impl Model for ShownRequests {
 }
 
 impl ShownRequests {
-    /// These requests. Takes no memory.
+    /// These requests.
     pub fn new(requests: Vec<ShownRequest>) -> ShownRequests
         ensures { result ≡ requests.items }
     {

@@ -1,4 +1,4 @@
-//! What a person asks for.
+//! Requests that have a body.
 ghost use Rattle.std.specs.Prelude.{◌≡◌, ◌≢◌, Err, IfErr, IfOk, IfSome, MatchResult, Ok};
 ghost use Rattle.http_requests.specs.Asked as asks;
 ghost use Rattle.http_requests.specs.Wanted.{shown};

@@ -1,4 +1,4 @@
-//! What the input of a connection asks for.
+//! The request of a connection, read.
 ghost use Rattle.std.specs.Prelude.{◌≡◌, ◌≢◌, ◌⊎◌, ℕ, List, [], Err, None, Ok, Some, IfErr, IfOk, IfSome};
 ghost use Rattle.std.specs.Prelude.{IsErr, MatchOption, MatchResult};
 ghost use Rattle.httparse.specs.Grammar.{ReadsRequest, RequestHead};

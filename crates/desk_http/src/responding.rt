@@ -87,7 +87,7 @@ fn send<W: Write>(bytes: &[u8], says: Answered, writer: &mut W) -> Result<Served
     }
 }
 
-/// Writes the response where the desk can answer no request. Takes no memory.
+/// Writes the response where the desk can answer no request.
 fn send_outage<W: Write>(outage: Outage, writer: &mut W) -> Result<Served, HttpFault>
     ensures { sending.Sends (W.contents writer.old) (W.contents writer.new)
         (Answer.Refused (Refused.Unavailable outage)) result }

@@ -1,4 +1,4 @@
-//! What became of a connection.
+//! The result of serving a connection.
 ghost use Rattle.std.specs.Prelude.{◌≡◌};
 ghost use Rattle.desk_http.specs.Responses as spec;
 

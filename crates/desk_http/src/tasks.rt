@@ -1,4 +1,4 @@
-//! What the content of a request says of a command.
+//! The task of a request with a body.
 ghost use Rattle.std.specs.Prelude.{◌≡◌, IfErr, IfOk, Some};
 ghost use Rattle.http_requests.specs.bodies.Bodies.{Refuses};
 ghost use Rattle.desk_http.specs.Tasks as spec;

@@ -1,4 +1,4 @@
-//! What a desk answers to whoever asks: people by their tokens, verdicts, and what it counts.
+//! Answers of a desk: people by their tokens, verdicts, and counts.
 ghost use Rattle.std.specs.Prelude.{◌≡◌, ◌≢◌, Err, filter, true, false, IfErr, IfOk, IsErrOf};
 ghost use Rattle.sqlite.specs.Held.{state};
 ghost use Rattle.sqlite.specs.State.{HasCleanDisk};

@@ -1,4 +1,4 @@
-//! What a desk exports, written row by row as its store gives it.
+//! Exports of a desk, written row by row as the store gives them.
 ghost use Rattle.std.specs.Prelude.{◌≡◌, ◌≢◌, ℕ, List, Err, false, true};
 ghost use Rattle.std.specs.Prelude.{IfErr, IsErrOf, OnErr, OnOk};
 ghost use Rattle.sqlite.specs.Held.{state};

@@ -1,4 +1,4 @@
-//! What the row of the table `desk` tells of the desk.
+//! The row of the table `desk`, read as the desk is opened.
 ghost use Rattle.std.specs.Prelude.{◌≡◌, ◌≢◌, ◌<◌, ◌⊎◌, ℕ, List, [], false, codes, length, pos};
 ghost use Rattle.std.specs.Prelude.{Some, IfErr, IfOk, IfSome, IsTrue, OnOk};
 ghost use Rattle.sqlite.specs.Held.{state};

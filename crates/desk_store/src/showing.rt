@@ -1,4 +1,4 @@
-//! What a person is shown of a desk's requests and proposals.
+//! A desk's requests and proposals, as a person may see them.
 ghost use Rattle.std.specs.Prelude.{◌≡◌, ◌≢◌, Err, MatchResult, false, map, true};
 ghost use Rattle.std.specs.Prelude.{IfErr, IfOk, IsErrOf};
 ghost use Rattle.sqlite.specs.Held.{state};

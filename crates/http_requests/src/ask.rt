@@ -1,4 +1,4 @@
-//! What a request asks for, but for its content.
+//! A request without its body.
 
 use desk_texts::{Command, Key, ProposalNumber, RequestNumber, Title};
 use sbat::Stamp;

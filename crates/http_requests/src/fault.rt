@@ -1,4 +1,4 @@
-//! Why a request is refused by its head.
+//! Reasons why a head is refused.
 ghost use Rattle.std.specs.Prelude.{◌≡◌};
 ghost use Rattle.http_requests.specs.Faults as spec;
 

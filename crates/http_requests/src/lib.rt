@@ -1,4 +1,4 @@
-//! What a request of HTTP asks the desk for: routes, checks of a request's head, and what its fields say.
+//! HTTP requests: heads, bodies, routes, checks of a head, and the values of its fields.
 #![tactic(auto)]
 
 mod ask;

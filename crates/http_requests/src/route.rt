@@ -1,4 +1,4 @@
-//! What a method at a path is for.
+//! Routes: a path and a method.
 ghost use Rattle.std.specs.Prelude.{◌≡◌};
 ghost use Rattle.http_requests.specs.Routes as spec;
 

@@ -1,4 +1,4 @@
-//! What a head asks for.
+//! A head, checked.
 
 use crate::Route;
 

@@ -1,4 +1,4 @@
-//! What a head asks for, or the first check on it that fails.
+//! Checks of a head, in their order.
 ghost use Rattle.std.specs.Prelude.{◌≡◌, ◌≢◌, ℕ, List, Err, position};
 ghost use Rattle.std.specs.List.{after_first, before_first};
 ghost use Rattle.httparse.specs.Grammar.{ReadsRequest, RequestHead};

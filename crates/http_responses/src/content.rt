@@ -1,4 +1,4 @@
-//! What the body of a response is.
+//! The content of a response.
 ghost use Rattle.std.specs.Prelude.{◌≡◌};
 ghost use Rattle.http_responses.specs.Responses as spec;
 

@@ -1,5 +1,4 @@
-//! What the desk answers, in JSON (RFC 8259): replies, requests, proposals and verdicts, without a space between
-//! tokens, each object's keys in ascending order.
+//! Replies, requests, proposals and verdicts in JSON (RFC 8259): no space between tokens, keys in ascending order.
 
 mod arrays;
 mod in_json;

@@ -1,4 +1,4 @@
-//! Why the desk can answer no request, and the responses that tell it.
+//! Reasons why the desk can answer no request, and their responses.
 ghost use Rattle.std.specs.Prelude.{◌≡◌};
 ghost use Rattle.http_responses.specs.Outages.{outage_text as text_of};
 ghost use Rattle.http_responses.specs.Refusals as spec;
@@ -75,7 +75,7 @@ Connection: close\r\n\
     }
 }
 
-/// The whole response where the desk can answer no request. Takes no memory.
+/// The whole response where the desk can answer no request.
 #[tactic(auto, using(crate::proofs::OutageLemmas::outage_text_is))]
 pub fn outage_response(outage: Outage) -> &'static [u8]
     ensures { result.now ≡ refused_text (Unavailable outage) }

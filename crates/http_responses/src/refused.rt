@@ -1,4 +1,4 @@
-//! What a request is refused for.
+//! Refusals of a request.
 ghost use Rattle.std.specs.Prelude.{◌≡◌, IfSome};
 ghost use Rattle.http_responses.specs.Refusals as spec;
 

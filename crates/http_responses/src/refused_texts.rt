@@ -1,4 +1,4 @@
-//! What a request is refused for, in JSON.
+//! A refusal in JSON.
 ghost use Rattle.std.specs.Prelude.{◌≡◌, IfOk};
 ghost use Rattle.serde_json.specs.View.{view};
 ghost use Rattle.serde_json.specs.Written.{compact_text};

@@ -1,4 +1,4 @@
-//! What is counted of a history's tables.
+//! Counts of a history's tables.
 ghost use Rattle.std.specs.Prelude.{ℕ, List};
 ghost use Rattle.store_counts.specs.Counts.{CountHistory, CountTables};
 ghost use Rattle.store_counts.specs.declared.numbers.Counts.{Counts};

@@ -1,4 +1,4 @@
-//! What a desk counts: people, accepted calls, requests by their states, and what is listed and revoked.
+//! Counts of a desk (people, accepted calls, requests by state, what is listed and revoked), and its report.
 #![tactic(auto)]
 
 mod counting;

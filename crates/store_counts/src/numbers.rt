@@ -1,4 +1,4 @@
-//! What a desk counts.
+//! Counts.
 use sbat::Stamp;
 
 /// How many requests there are, and how many are in each state.

@@ -1,4 +1,4 @@
-//! Why an export stopped.
+//! Reasons why an export stops.
 ghost use Rattle.std.specs.Prelude.{◌≡◌};
 ghost use Rattle.store_exports.specs.Faults.{IsExportFailure};
 ghost use Rattle.store_exports.specs.declared.fault.ExportFault.TheVariants as faults;

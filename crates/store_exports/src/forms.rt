@@ -1,4 +1,4 @@
-//! How the rows of what is revoked, of the level and of the minutes are written.
+//! Written forms of revoked digests, of the level's components and of the minutes.
 ghost use Rattle.std.specs.Prelude.{◌≡◌, ℕ, List, IfOk, OnErr, OnOk};
 ghost use Rattle.sqlite.specs.Order.{Row as Shown};
 ghost use Rattle.sbat.specs.Writing.{row_text};

@@ -1,4 +1,4 @@
-//! What is read before the rows of an export: its owner, its stamp, and how many rows come.
+//! Reads before the rows of an export: its owner, its stamp, and the number of rows.
 ghost use Rattle.std.specs.Prelude.{◌≡◌, ◌≤◌, IfOk};
 ghost use Rattle.sqlite.specs.Held.{state};
 ghost use Rattle.sqlite.specs.State.{HasCleanDisk};

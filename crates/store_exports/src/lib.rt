@@ -1,4 +1,4 @@
-//! What a desk exports, written row by row as its store gives it.
+//! Exports of a desk, written row by row as the store gives them.
 #![tactic(auto)]
 
 mod db;

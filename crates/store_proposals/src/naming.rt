@@ -1,4 +1,4 @@
-//! What the rows of items name.
+//! The digests, certificates and components that rows of items name.
 ghost use Rattle.std.specs.Prelude.{◌≡◌, IfOk};
 ghost use Rattle.store_proposals.specs.Reading.{IsStampOf};
 

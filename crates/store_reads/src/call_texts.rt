@@ -18,7 +18,7 @@ impl Model for ColumnText {
 }
 
 impl ColumnText {
-    /// The text. Takes no memory.
+    /// The text.
     pub(crate) fn new(text: String) -> ColumnText
         ensures { result ≡ string_bytes text }
     {

@@ -1,4 +1,4 @@
-//! How many rows tables have. A count visits every row of its table.
+//! Counts of rows. A count visits every row of its table.
 ghost use Rattle.std.specs.Prelude.{◌≡◌, [], ◌∷◌, MatchOption};
 ghost use Rattle.sqlite.specs.Values.{bound};
 ghost use Rattle.sqlite.specs.declared.types.Value.TheVariants.{Text};

@@ -18,7 +18,7 @@ impl Model for Mark {
 }
 
 impl Mark {
-    /// The text. Takes no memory.
+    /// The text.
     pub(crate) fn new(text: String) -> Mark
         ensures { result ≡ string_bytes text }
     {

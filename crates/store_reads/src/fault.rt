@@ -1,4 +1,4 @@
-//! Why a read failed.
+//! Reasons why a read fails.
 ghost use Rattle.std.specs.Prelude.{◌≡◌};
 ghost use Rattle.store_reads.specs.Faults.{of_store, refusal_of};
 ghost use Rattle.store_sql.specs.Faults.{fault_of};

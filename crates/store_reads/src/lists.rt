@@ -1,4 +1,4 @@
-//! What is listed, what is revoked, and the level's components, by their keys.
+//! Listed and revoked entries and the level's components, by key.
 ghost use Rattle.std.specs.Prelude.{◌≡◌, bytes_eq, filter};
 ghost use Rattle.desk_history.specs.Listing.{is_entry};
 ghost use Rattle.desk_history.specs.Writes.{is_named};

@@ -1,4 +1,4 @@
-//! What a person is shown of a desk's requests and proposals, read inside a transaction.
+//! A desk's requests and proposals as a person may see them, read inside a transaction.
 #![tactic(auto)]
 
 mod listing;

@@ -1,4 +1,4 @@
-//! What each text means over the fifteen tables, a function a table.
+//! The meaning of each statement over the fifteen tables, a function a table.
 ghost use Rattle.std.specs.Prelude.{[], ◌∷◌, codes};
 ghost use Rattle.store_sql.specs.Meanings.{CountsRows, DeletesRows, InsertsRow, SelectsRows, UpdatesRows};
 ghost use Rattle.store_schema.specs.Columns.{by_first, columns_after, columns_of, equals, names_of, set_to, values_of};

@@ -1,4 +1,4 @@
-//! What the fifteen tables of a desk are as rows of SQL, as definitions, and laws of them.
+//! The fifteen tables of a desk as rows of SQL: definitions and laws.
 
 mod laws;
 

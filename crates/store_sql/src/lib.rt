@@ -1,4 +1,4 @@
-//! What SQL statements do to the rows of a store, stated once for any schema.
+//! The effect of SQL statements on the rows of a store, for any schema.
 #![tactic(auto)]
 
 mod catalog;

@@ -1,4 +1,4 @@
-//! What a decision on a call needs of a desk's tables: rows by the call's own keys, and sizes.
+//! The rows that a decision on a call needs: by the call's own keys, with the sizes of tables.
 #![tactic(auto)]
 
 mod keyed;

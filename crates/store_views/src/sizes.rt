@@ -1,5 +1,5 @@
-//! How many rows the tables have that a desk's limits count, as far as that is known: counted once, and carried from one
-//! accepted command to the next.
+//! Sizes of the tables that a desk's limits count, as far as they are known: counted once, then carried from one accepted
+//! command to the next.
 
 mod kept;
 mod need;

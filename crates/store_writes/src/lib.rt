@@ -1,4 +1,4 @@
-//! What a decision writes, written into the fifteen tables of a desk inside a transaction.
+//! Writes of a decision into the fifteen tables of a desk, inside a transaction.
 #![tactic(auto)]
 
 mod committing;

@@ -1,4 +1,4 @@
-//! What tests share: readers and writers that fail at a call, and bytes written as text.
+//! Helpers of the tests: readers and writers that fail at a call, bytes written as text, scripts of calls.
 #![tactic(auto)]
 
 mod bytes;

@@ -52,7 +52,7 @@ pub(crate) fn port(text: &str) -> Option<u16>
     Some(number as u16)
 }
 
-/// The count of connections that a word spells, 1 to 1,000,000, as `port` reads it. Takes no memory.
+/// The count of connections that a word spells, 1 to 1,000,000, as `port` reads it.
 pub(crate) fn count(text: &str) -> Option<u32>
     ensures { result ≡ spec.count_of text.now }
 {

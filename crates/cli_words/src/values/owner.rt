@@ -5,7 +5,7 @@ ghost use Rattle.desk_bytes.specs.Guids.{IsGuidText};
 use crate::values::stop::{Stop, Word};
 use desk_bytes::Guid;
 
-/// The owner whose GUID the word spells. Takes no memory.
+/// The owner whose GUID the word spells.
 pub fn owner_from(text: &str) -> Result<Guid, Stop>
     ensures ok { IfOk result (IsGuidText text.now) }
     ensures err { IfErr result (λ why. (why ≡ Stop.Word Word.Owner)

@@ -1,4 +1,4 @@
-//! Where connections are taken, and how many.
+//! The address to listen at, and the count of connections.
 ghost use Rattle.std.specs.Prelude.{◌≡◌};
 ghost use Rattle.cli_words.specs.values.Numbers.{place_of};
 
@@ -15,7 +15,7 @@ pub struct Place {
 }
 
 /// The place that the words spell, in decimal digits without a sign; zeros may lead them. The port is looked at
-/// first. Takes no memory.
+/// first.
 pub fn place_from(port_word: &str, count_word: &str) -> Result<Place, Stop>
     ensures { result ≡ place_of port_word.now count_word.now }
 {

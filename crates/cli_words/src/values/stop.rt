@@ -1,4 +1,4 @@
-//! What stops a subcommand.
+//! Reasons to stop a subcommand.
 ghost use Rattle.std.specs.Prelude.{◌≡◌};
 ghost use Rattle.cli_words.specs.values.Words.{name_of, of_fault};
 

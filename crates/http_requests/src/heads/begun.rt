@@ -1,4 +1,4 @@
-//! What an input begins with.
+//! The beginning of an input.
 
 /// What the input of a connection begins with.
 #[derive(Debug, Drop)]

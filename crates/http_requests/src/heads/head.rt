@@ -1,4 +1,4 @@
-//! What a head says.
+//! A head.
 
 /// What a head gives under one field's name.
 #[derive(Clone, Copy, Debug, PartialEq, Eq)]

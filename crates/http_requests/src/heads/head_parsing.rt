@@ -45,7 +45,7 @@ fn given<'b>(bytes: &'b [u8], spans: &[HeaderSpan], name: &str) -> Given<'b>
 }
 
 /// The parts of the head that begins the bytes, or `None` where no head of at most 64 fields begins them
-/// (RFC 9112, sections 2 to 5, as `httparse` takes it). Takes no memory.
+/// (RFC 9112, sections 2 to 5, as `httparse` takes it).
 pub fn parse_head(bytes: &[u8]) -> Option<Head<'_>>
     ensures found { (h : RequestHead) (rest : List ℕ) → ReadsRequest bytes.now h rest
         → HasFewFields h → IsSomeAnd result (λ head. shown head ≡ parts_of h) }

@@ -1,4 +1,4 @@
-//! What stands in JSON.
+//! Values in JSON.
 ghost use Rattle.std.specs.Prelude.{◌≡◌, IfOk, map};
 ghost use Rattle.serde_json.specs.Data.{Data, array};
 ghost use Rattle.serde_json.specs.View.{items_of, view};

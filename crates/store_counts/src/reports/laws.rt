@@ -1,4 +1,4 @@
-//! That a report of what is counted is the history's.
+//! The report of the counts is the report of the history.
 ghost use Rattle.std.specs.Prelude.{◌≡◌};
 ghost use Rattle.store_counts.specs.Counts.{CountHistory};
 ghost use Rattle.store_counts.specs.declared.numbers.Counts.{Counts};
