@@ -63,7 +63,7 @@ fn cross<D: Stopping>(alloc: Global, first: &[u8], which: Which) -> Result<(), F
     let mut bytes = Vec::from_slice(alloc, first)?;
     for life in LIVES.lines() {
         bytes = opened_at_last::<D>(alloc, bytes.as_slice(), which).ok_or(life)?;
-        bytes = outlived::<D>(alloc, bytes.as_slice(), life, REVOKED).ok_or(life)?;
+        bytes = outlived::<D>(alloc, bytes.as_slice(), which, life, REVOKED).ok_or(life)?;
     }
     if whole::<D>(alloc, bytes.as_slice(), "").ok_or("exports")? != wanted {
         return Err("each call once, in order")?;

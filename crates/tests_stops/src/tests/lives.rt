@@ -128,11 +128,12 @@ fn holds<D: Stopping>(alloc: Global, bytes: &[u8], barred: &str) -> Option<bool>
     }
 }
 
-/// The database file after a life, in which the log stops at the next of its calls once the first call of the desk is answered. The
-/// desk that is opened in it bars the image.
+/// The database file after a life, in which one of the two files stops at its next call once the first call of the desk is
+/// answered. The desk that is opened in it bars the image.
 pub(super) fn outlived<D: Stopping>(
     alloc: Global,
     bytes: &[u8],
+    which: Which,
     line: &str,
     barred: &str,
 ) -> Option<Vec<u8>> {
@@ -141,8 +142,8 @@ pub(super) fn outlived<D: Stopping>(
         request: life.request,
         told: life.first,
     };
-    let calls = calls_to::<D>(alloc, bytes, Which::Log, goal)?;
-    let stopping: Files<D> = files(alloc, bytes, Stops::at(Which::Log, calls))?;
+    let calls = calls_to::<D>(alloc, bytes, which, goal)?;
+    let stopping: Files<D> = files(alloc, bytes, Stops::at(which, calls))?;
     let left = after(alloc, stopping, life, barred)?;
     let bytes = bytes_of(alloc, &left)?;
     if holds::<D>(alloc, bytes.as_slice(), barred)? {
@@ -185,12 +186,22 @@ pub(super) fn whole<D: Stopping>(alloc: Global, bytes: &[u8], lives: &str) -> Op
     }
 }
 
-/// Lives all lives, and compares what is exported at their end.
+/// The other of the two files.
+fn other(which: Which) -> Which {
+    match which {
+        Which::Log => Which::Db,
+        Which::Db => Which::Log,
+    }
+}
+
+/// Lives all lives, in which the log and the database file stop in turn, and compares what is exported at their end.
 fn live<D: Stopping>(alloc: Global) -> Result<(), Fail> {
     let mut bytes = before_lives::<D>(alloc).ok_or("a desk before its lives")?;
     let wanted = whole::<D>(alloc, bytes.as_slice(), LIVES).ok_or("a desk without a stop")?;
+    let mut which = Which::Log;
     for life in LIVES.lines() {
-        bytes = outlived::<D>(alloc, bytes.as_slice(), life, REVOKED).ok_or(life)?;
+        bytes = outlived::<D>(alloc, bytes.as_slice(), which, life, REVOKED).ok_or(life)?;
+        which = other(which);
     }
     if whole::<D>(alloc, bytes.as_slice(), "").ok_or("exports")? != wanted {
         return Err("each call once, in order")?;
