@@ -40,10 +40,7 @@ fn pack_through<R: Read, W: Write + Drop>(
 
 /// Packs the standard input.
 fn run_pack(rt: &HostRuntime, owner: &str) -> Result<(), Stop> {
-    let owner = match owner_from(owner) {
-        Ok(owner) => owner,
-        Err(why) => return Err(why),
-    };
+    let owner = owner_from(owner)?;
     pack_through(rt.alloc(), &owner, &mut rt.stdin(), rt.stdout())?;
     Ok(())
 }
@@ -78,10 +75,7 @@ fn run_list(rt: &HostRuntime, file: &str) -> Result<(), Stop> {
 
 /// Makes a desk.
 fn run_init(rt: &HostRuntime, db: &str, owner: &str) -> Result<Ending, Stop> {
-    let owner = match owner_from(owner) {
-        Ok(owner) => owner,
-        Err(why) => return Err(why),
-    };
+    let owner = owner_from(owner)?;
     Ok(make_desk(rt, db, &owner))
 }
 
@@ -93,10 +87,7 @@ fn run_person(rt: &HostRuntime, words: PersonWords<'_>) -> Result<Ending, Stop> 
         role,
         key,
     } = words;
-    let (key, person) = match person_from(rt.alloc(), name, role, key, &mut rt.stdin()) {
-        Ok(read) => read,
-        Err(why) => return Err(why),
-    };
+    let (key, person) = person_from(rt.alloc(), name, role, key, &mut rt.stdin())?;
     let mut out = buffered(rt.alloc(), rt.stdout())?;
     Ok(add_person(rt, db, &key, person, &mut out))
 }
@@ -104,10 +95,8 @@ fn run_person(rt: &HostRuntime, words: PersonWords<'_>) -> Result<Ending, Stop> 
 /// Serves requests, one connection after another.
 fn run_serve(rt: &HostRuntime, words: ServeWords<'_>) -> Result<Ending, Stop> {
     let ServeWords { db, port, count } = words;
-    match place_from(port, count) {
-        Ok(place) => Ok(serve_from(rt, db, place.port, place.count)),
-        Err(why) => Err(why),
-    }
+    let place = place_from(port, count)?;
+    Ok(serve_from(rt, db, place.port, place.count))
 }
 
 /// Answers the request on the standard input.
@@ -127,12 +116,12 @@ fn run_export(rt: &HostRuntime, db: &str, what: Export) -> Result<Ending, Stop> 
     Ok(export_from(rt, db, what, &mut out))
 }
 
-/// Says a fault on standard error, and gives its status.
+/// Prints a fault on standard error, and returns its status.
 fn tell(rt: &HostRuntime, fault: Fault) -> ExitCode {
     ExitCode::from(print_fault(fault.refusal, fault.place, &mut rt.stderr()))
 }
 
-/// Says on standard error what stopped the program, and gives the status of that.
+/// Prints what stopped the program on standard error, and returns the status for it.
 pub fn stop(rt: &HostRuntime, why: Stop) -> ExitCode {
     match why {
         Stop::Word(word) => {
@@ -152,7 +141,7 @@ fn status_of(rt: &HostRuntime, done: Result<(), Stop>) -> ExitCode {
     }
 }
 
-/// The status of a subcommand over a desk's file: a desk that couldn't be closed is told last.
+/// The status of a subcommand over a desk's file: a desk that couldn't be closed is reported last.
 fn status_of_ending(rt: &HostRuntime, ended: Result<Ending, Stop>) -> ExitCode {
     match ended {
         Ok(ending) => ExitCode::from(print_ending(ending, &mut rt.stderr())),
@@ -160,7 +149,7 @@ fn status_of_ending(rt: &HostRuntime, ended: Result<Ending, Stop>) -> ExitCode {
     }
 }
 
-/// Does what the words say, and gives the status.
+/// Runs the subcommand, and returns its status.
 pub fn run(rt: &HostRuntime, line: Words<'_>) -> ExitCode {
     match line {
         Words::Init { db, owner } => status_of_ending(rt, run_init(rt, db, owner)),
