@@ -12,11 +12,11 @@ ghost use Rattle.desk_calls.specs.Desks.{IsOutage, IsReadingRefusal, StillShows,
 
 use crate::octets::Octets;
 use crate::shown_proposals::ShownProposals;
-use crate::shown_requests::ShownRequests;
 use desk_bytes::{Digest, Refusal};
 use desk_exports::Export;
 use desk_history::Verdict;
 use desk_texts::{Caller, Command, Facts, Key, Person, Reply, RequestNumber, ShownRequest};
+use http_responses::RequestsText;
 use std::alloc::Global;
 
 /// A desk that answers for a history of accepted calls. What its clauses say of the history holds where the
@@ -92,7 +92,7 @@ pub trait Answering {
         ensures closed { failed self.old → (result ≡ Err Refusal.Reopen) × (self.new ≡ self.old) };
 
     /// The requests that the caller is shown, ascending by number.
-    fn requests_of(&mut self, caller: &Caller) -> Result<ShownRequests, Refusal>
+    fn requests_of(&mut self, caller: &Caller) -> Result<RequestsText, Refusal>
         ensures given { clean self.new → IfOk result (λ shown. ForEachShown (shows self.old)
             (λ _ cs. MatchResult (requests_for cs caller.now)
             (λ ws. AreShown ws shown) (λ _. ⊥))) }

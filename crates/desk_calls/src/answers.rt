@@ -1,10 +1,9 @@
 //! Answers to calls.
 use crate::octets::Octets;
 use crate::shown_proposals::ShownProposals;
-use crate::shown_requests::ShownRequests;
 use desk_history::Verdict;
 use desk_texts::{Facts, Reply, ShownRequest};
-use http_responses::Refused;
+use http_responses::{Refused, RequestsText};
 
 /// What the desk answers to a call.
 #[derive(Drop)]
@@ -13,7 +12,7 @@ pub enum Answer {
     Reply(Reply),
     Request(ShownRequest),
     /// Ascending by number.
-    Requests(ShownRequests),
+    Requests(RequestsText),
     /// Ascending by number.
     Proposals(ShownProposals),
     /// On the image of these facts.

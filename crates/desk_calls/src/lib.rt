@@ -11,7 +11,6 @@ mod reading;
 mod refusing;
 mod serving;
 mod shown_proposals;
-mod shown_requests;
 mod taking;
 
 pub use answering::Answering;
@@ -21,4 +20,3 @@ pub use laws::{refusals_change_nothing, submitters_are_answered_by_own};
 pub use octets::Octets;
 pub use serving::{answer, caller};
 pub use shown_proposals::ShownProposals;
-pub use shown_requests::ShownRequests;

@@ -1,8 +1,9 @@
 //! Texts of arrays, whose items are written one after another.
-ghost use Rattle.std.specs.Prelude.{◌≡◌, ◌++◌, ◌∷◌, IfOk, OnOk, flat_map, map};
+ghost use Rattle.std.specs.Prelude.{◌≡◌, ◌++◌, ◌∷◌, IfOk, MatchResult, OnOk, map};
 ghost use Rattle.serde_json.specs.Data.{Data, array};
 ghost use Rattle.serde_json.specs.View.{items_of};
 ghost use Rattle.serde_json.specs.Written.{compact_text};
+ghost use Rattle.http_responses.specs.json.Arrays as spec;
 
 use std::alloc::{AllocError, Global};
 
@@ -16,44 +17,68 @@ pub(crate) trait JsonText {
         ensures { IfOk result (λ text. text.items ≡ compact_text (as_data self.now)) };
 }
 
-/// Adds the text of an item.
-fn push_item<T: JsonText>(alloc: Global, text: &mut Vec<u8>, item: &T) -> Result<(), AllocError>
-    ensures { OnOk result (text.new.items ≡ text.old.items ++ compact_text (T.as_data item.now)) }
+/// Adds bytes after a comma. Takes memory, and without it leaves the text as it is.
+fn push_after_comma(text: &mut Vec<u8>, bytes: &[u8]) -> Result<(), AllocError>
+    ensures { MatchResult result (λ _. text.new.items ≡ text.old.items ++ 44 ∷ bytes.now)
+        (λ _. text.new.items ≡ text.old.items) }
+{
+    let length = text.len();
+    text.push(b',')?;
+    match text.extend_from_slice(bytes) {
+        Ok(()) => Ok(()),
+        Err(error) => {
+            text.truncate(length);
+            Err(error)
+        }
+    }
+}
+
+/// Adds the text of an item, after a comma. Takes memory, and without it leaves the text as it is.
+pub(crate) fn push_item<T: JsonText>(
+    alloc: Global,
+    text: &mut Vec<u8>,
+    item: &T,
+) -> Result<(), AllocError>
+    ensures { MatchResult result
+        (λ _. text.new.items ≡ text.old.items ++ spec.after_comma (T.as_data item.now))
+        (λ _. text.new.items ≡ text.old.items) }
 {
     let one = item.json_text(alloc)?;
-    text.extend_from_slice(&one)
+    push_after_comma(text, &one)
 }
 
 /// Adds the texts of items, each after a comma.
-fn push_others<T: JsonText>(
-    alloc: Global,
-    text: &mut Vec<u8>,
-    items: &[T],
-) -> Result<(), AllocError>
+fn push_items<T: JsonText>(alloc: Global, text: &mut Vec<u8>, items: &[T]) -> Result<(), AllocError>
     ensures { OnOk result (text.new.items
-        ≡ text.old.items ++ flat_map (λ x. 44 ∷ compact_text (T.as_data x)) items.now) }
+        ≡ text.old.items ++ spec.after_commas T.as_data items.now) }
 {
     for item in items {
-        text.push(b',')?;
         push_item(alloc, text, item)?;
     }
     Ok(())
 }
 
+/// The array of the items that stand in the text, each after a comma. Takes memory for its brackets.
+pub(crate) fn bracketed(mut text: Vec<u8>) -> Result<Vec<u8>, AllocError>
+    ensures { IfOk result (λ whole. whole.items ≡ spec.bracketed text.items) }
+{
+    if text.is_empty() {
+        text.push(b'[')?;
+    } else {
+        text[0] = b'[';
+    }
+    text.push(b']')?;
+    Ok(text)
+}
+
 /// The text of an array of the items, in their order. Takes memory for it, and for the tree of one
 /// item at a time.
+#[tactic(auto, using(crate::proofs::ArrayLemmas::bracketed_array))]
 pub(crate) fn array_text<T: JsonText>(alloc: Global, items: &[T]) -> Result<Vec<u8>, AllocError>
     ensures { IfOk result (λ text.
         text.items ≡ compact_text (array (items_of (map T.as_data items.now)))) }
 {
     let mut text = Vec::new(alloc);
-    text.push(b'[')?;
-    let Some((first, others)) = items.split_first() else {
-        text.push(b']')?;
-        return Ok(text);
-    };
-    push_item(alloc, &mut text, first)?;
-    push_others(alloc, &mut text, others)?;
-    text.push(b']')?;
-    Ok(text)
+    push_items(alloc, &mut text, items)?;
+    bracketed(text)
 }

@@ -6,7 +6,7 @@ ghost use Rattle.serde_json.specs.View.{members_view, view};
 ghost use Rattle.http_responses.specs.json.Members.{with_facts, with_state};
 ghost use Rattle.http_responses.specs.json.Requests as spec;
 
-use crate::json::arrays::{JsonText, array_text};
+use crate::json::arrays::JsonText;
 use crate::json::in_json::{InJson, array_of};
 use desk_texts::{Facts, ShownRequest, ShownReturn, ShownVote};
 use serde_json::{Map, Value, json, put};
@@ -113,12 +113,4 @@ impl JsonText for ShownRequest {
     fn json_text(&self, alloc: Global) -> Result<Vec<u8>, AllocError> {
         request_json(alloc, self)
     }
-}
-
-/// Requests as a JSON array, in their order. Takes memory for the text, and for the tree of one request
-/// at a time.
-pub fn requests_json(alloc: Global, requests: &[ShownRequest]) -> Result<Vec<u8>, AllocError>
-    ensures { IfOk result (λ text. text.items ≡ compact_text (spec.requests_data requests.now)) }
-{
-    array_text(alloc, requests)
 }

@@ -1,0 +1,17 @@
+-- own: an array in JSON, written item by item.
+use Rattle.std.specs.Prelude.{ℕ, List, [], ◌∷◌, ◌++◌, flat_map}
+use Rattle.serde_json.specs.Data.{Data}
+use Rattle.serde_json.specs.Written.{compact_text}
+
+-- an item, after a comma
+abbrev pub after_comma : Data → List ℕ
+after_comma item = 44 ∷ compact_text item
+
+-- items, each after a comma
+abbrev pub after_commas : {X : Type 0} → (X → Data) → List X → List ℕ
+after_commas as_data items = flat_map (λ item. after_comma (as_data item)) items
+
+-- items that stand each after a comma, as an array: its opening bracket is in place of the first comma
+abbrev pub bracketed : List ℕ → List ℕ
+bracketed [] = 91 ∷ 93 ∷ []
+bracketed (comma ∷ rest) = 91 ∷ rest ++ 93 ∷ []
