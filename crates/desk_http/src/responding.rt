@@ -14,7 +14,7 @@ use desk_bytes::put;
 use desk_calls::Answer;
 use http_responses::{
     Content, Outage, Refused, Status, outage_response, proposals_json, refused_response,
-    reply_json, request_json, requests_json, response, verdict_json,
+    reply_json, request_json, response, verdict_json,
 };
 use std::alloc::{AllocError, Global};
 use std::io::Write;
@@ -37,9 +37,7 @@ fn response_to(alloc: Global, answer: Answer) -> Result<Vec<u8>, AllocError>
     match answer {
         Answer::Reply(reply) => json_response(alloc, reply_json(alloc, &reply)?),
         Answer::Request(shown) => json_response(alloc, Some(request_json(alloc, &shown)?)),
-        Answer::Requests(shown) => {
-            json_response(alloc, Some(requests_json(alloc, shown.as_slice())?))
-        }
+        Answer::Requests(shown) => json_response(alloc, Some(shown.into_text()?)),
         Answer::Proposals(shown) => {
             json_response(alloc, Some(proposals_json(alloc, shown.as_slice())?))
         }
