@@ -4,7 +4,7 @@ ghost use Rattle.desk_calls.specs.Desks.{IsOutage};
 ghost use Rattle.desk_history.specs.DecisionRefusals.{may_answer};
 
 use desk_bytes::{Digest, Refusal};
-use desk_calls::{Answering, Octets, ShownProposals, ShownRequests};
+use desk_calls::{Answering, Octets, ShownProposals};
 use desk_exports::Export;
 use desk_history::Verdict;
 use desk_service::token_digest;
@@ -12,6 +12,7 @@ use desk_texts::{
     Caller, Command, Confirmation, Counts, Facts, Key, Outcome, Person, PersonName, Proposal,
     ProposalNumber, ProposalState, Reply, RequestNumber, Role, ShownRequest, State, command_text,
 };
+use http_responses::RequestsText;
 use std::alloc::{AllocError, Global};
 
 /// A desk that shows no history. It knows one token, and fails where a command's key is `store`.
@@ -198,12 +199,12 @@ impl Answering for StandIn {
         }
     }
 
-    fn requests_of(&mut self, caller: &Caller) -> Result<ShownRequests, Refusal> {
+    fn requests_of(&mut self, caller: &Caller) -> Result<RequestsText, Refusal> {
         if self.has_failed {
             return Err(Refusal::Reopen);
         }
         match tell(&mut self.asked, &["requests", caller.name()]) {
-            Ok(()) => Ok(ShownRequests::new(Vec::new(self.alloc))),
+            Ok(()) => Ok(RequestsText::new(self.alloc)),
             Err(AllocError) => Err(Refusal::NoMemory),
         }
     }

@@ -6,7 +6,7 @@ use desk_texts::{
     ProposalNumber, ProposalState, Reply, RequestNumber, ShownRequest, ShownReturn, ShownVote,
     ShownVotes, State, Title, Vote,
 };
-use http_responses::{proposals_json, reply_json, request_json, requests_json, verdict_json};
+use http_responses::{RequestsText, proposals_json, reply_json, request_json, verdict_json};
 use sbat::{Component, ComponentName, Generation};
 use std::alloc::Global;
 use std::test::Fail;
@@ -126,43 +126,46 @@ fn writes_a_request_with_a_return(rt: HostRuntime) -> Result<(), Fail> {
     Ok(())
 }
 
-/// The two requests.
-fn two(alloc: Global) -> Result<Vec<ShownRequest>, Fail> {
-    let mut requests = Vec::new(alloc);
-    requests.push(open(alloc)?)?;
-    requests.push(signed(alloc)?)?;
-    Ok(requests)
+/// The array of these requests, written one after another.
+fn array_of(alloc: Global, requests: &[ShownRequest]) -> Result<Vec<u8>, Fail> {
+    let mut text = RequestsText::new(alloc);
+    for request in requests {
+        text.push(request)?;
+    }
+    Ok(text.into_text()?)
 }
 
 #[test]
 fn writes_lists_of_requests(rt: HostRuntime) -> Result<(), Fail> {
-    let none = requests_json(rt.alloc(), &[])?;
+    let none = array_of(rt.alloc(), &[])?;
     assert!(rt; none.as_slice() == b"[]".as_slice(), "none");
-    let requests = two(rt.alloc())?;
-    let text = requests_json(rt.alloc(), requests.as_slice())?;
+    let two = [open(rt.alloc())?, signed(rt.alloc())?];
+    let text = array_of(rt.alloc(), &two)?;
     let both = format!(in rt.alloc(); "[{OPEN},{SIGNED}]")?;
     assert!(rt; text.as_slice() == both.as_bytes(), "two requests");
     Ok(())
 }
 
-/// So many requests whose signed files were returned, and their array.
-fn many(alloc: Global, count: usize) -> Result<(Vec<ShownRequest>, String), Fail> {
-    let mut requests = Vec::new(alloc);
+/// The array of so many requests whose signed files were returned.
+fn many(alloc: Global, count: usize) -> Result<String, Fail> {
     let mut text = String::new(alloc);
     for index in 0..count {
-        requests.push(signed(alloc)?)?;
         text.push_str(if index == 0 { "[" } else { "," })?;
         text.push_str(SIGNED)?;
     }
     text.push_str("]")?;
-    Ok((requests, text))
+    Ok(text)
 }
 
 #[test]
 fn writes_hundreds_of_requests(rt: HostRuntime) -> Result<(), Fail> {
-    let (requests, wanted) = many(rt.alloc(), 300)?;
-    let text = requests_json(rt.alloc(), requests.as_slice())?;
-    assert!(rt; text.as_slice() == wanted.as_bytes());
+    let signed = signed(rt.alloc())?;
+    let mut text = RequestsText::new(rt.alloc());
+    for _ in 0..300 {
+        text.push(&signed)?;
+    }
+    let wanted = many(rt.alloc(), 300)?;
+    assert!(rt; text.into_text()?.as_slice() == wanted.as_bytes());
     Ok(())
 }
 
