@@ -3,6 +3,7 @@ mod ItemLemmas
 mod ListingLemmas
 mod LoopLemmas
 mod MadeLemmas
+mod NumberLemmas
 mod OrderLemmas
 mod PartLemmas
 mod ProposedLemmas

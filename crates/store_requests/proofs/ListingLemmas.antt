@@ -1,12 +1,12 @@
 -- What is given to a person who asks for all requests.
-use Rattle.std.proofs.Common.{◌≡◌, ℕ, ◌+◌, ◌<◌, Bool, true, List, [], ◌∷◌, map, filter, length, Option, Some, None, Ok, Err, refl, sym, ap, subst, ◌∙◌, arith}
-use Rattle.std.specs.Prelude.{bytes_eq, ok_or, reverse}
+use Rattle.std.proofs.Common.{◌≡◌, ℕ, suc, ◌+◌, ◌<◌, ◌==◌, Bool, List, [], ◌∷◌, ◌++◌, map, filter, length, Option, Some, None, Ok, Err, refl, sym, ap, ap₂, subst, ◌∙◌, arith}
+use Rattle.std.specs.Prelude.{⊤, bytes_eq, ok_or, reverse}
 use Rattle.std.specs.List.{AllByRecursion, AllZip}
-use Rattle.std.specs.List.Sorted.{IsPermutation}
 use Rattle.std.specs.Result.{result_map_both}
-use Rattle.std.proofs.lemmas.List.Sorted.{Contains-permutation, IsPermutation-reverse, IsPermutation-sym, IsPermutation-trans}
+use Rattle.std.proofs.lemmas.List.{length-map, length-reverse, reverse-append}
+use Rattle.std.proofs.lemmas.List.Sorted.{IsPermutation-reverse}
 use Rattle.sqlite_trees.specs.Tree.{IsAscending}
-use Rattle.sqlite_trees.proofs.ListLemmas.{all-filter, all-permutation, all_of, ascending-filter, ascending-map, filter-map, filter_same}
+use Rattle.sqlite_trees.proofs.ListLemmas.{all-filter, all-permutation, filter-map}
 use Rattle.desk_bytes.specs.declared.refusal.Refusal.{Refusal}
 use Rattle.desk_bytes.specs.declared.refusal.Refusal.TheVariants as refusals
 use Rattle.desk_texts.specs.declared.caller.Caller.TheVariants as callers
@@ -16,15 +16,15 @@ use Rattle.desk_history.specs.Calls.{History}
 use Rattle.desk_history.specs.Formed.{IsHistory}
 use Rattle.desk_history.specs.People.{has_name, people}
 use Rattle.desk_history.specs.Requests.{Request, Submitted, numbered, requests, submitted}
-use Rattle.desk_history.specs.Shown.{AreShown, IsGiven, IsShown, Whole, is_shown_to, requests_for, sees, whole, wholes}
-use Rattle.desk_history.specs.Tables.{Tables, tables}
+use Rattle.desk_history.specs.Shown.{IsGiven, IsShown, Whole, is_shown_to, requests_for, sees, whole, wholes}
+use Rattle.desk_history.specs.Tables.{tables}
 use Rattle.desk_history.specs.declared.rows.RequestRow.{RequestRow}
 use Rattle.store_reads.specs.Reads.{listed}
-use Rattle.store_requests.specs.Steps.{AreInOrder, AreRowsFor, IsShownIn}
-use Rattle.store_reads.proofs.PartLemmas.{one_order}
+use Rattle.store_requests.specs.Lists.{HoldsShown}
+use Rattle.store_requests.specs.Steps.{AreNumbered, IsShownIn, ListsFirst, sees_row}
 use Rattle.store_requests.proofs.ItemLemmas.{found_listed}
 use Rattle.store_requests.proofs.MadeLemmas.{is_shown, row_of}
-use Rattle.store_requests.proofs.OrderLemmas.{IsOnly, all_only, map-reverse, turned}
+use Rattle.store_requests.proofs.OrderLemmas.{IsOnly, all_only, filter-reverse, map-reverse}
 
 -- ---- numbers of requests
 
@@ -35,6 +35,27 @@ lower n (s ∷ ss) h = (omega (arith, h), lower n ss (omega (arith, h)))
 newest_first : (ss : List Submitted) → IsAscending (λ (a b : Request). b.number < a.number) (numbered ss)
 newest_first [] = tt
 newest_first (s ∷ ss) = (lower (length ss + 1) ss (omega arith), newest_first ss)
+
+-- the requests have the numbers from this one on, with no gap
+abbrev HaveNumbers : ℕ → List Request → Type 0
+HaveNumbers k [] = ⊤
+HaveNumbers k (r ∷ rs) = (r.number ≡ k) × HaveNumbers (k + 1) rs
+
+next_number : (k : ℕ) (rs : List Request) (r : Request) → HaveNumbers k rs → r.number ≡ k + length rs → HaveNumbers k (rs ++ r ∷ [])
+next_number k [] r up is = (omega (arith, is), tt)
+next_number k (q ∷ rs) r up is = (up.0, next_number (k + 1) rs r up.1 (omega (arith, is)))
+
+length-numbered : (ss : List Submitted) → length (numbered ss) ≡ length ss
+length-numbered [] = refl
+length-numbered (s ∷ ss) = ap suc (length-numbered ss)
+
+oldest_first : (ss : List Submitted) → HaveNumbers 1 (reverse (numbered ss))
+oldest_first [] = tt
+oldest_first (s ∷ ss) =
+    let r : Request = record { number = length ss + 1; submitter = s.submitter; title = s.submission.title; facts = s.submission.facts } in
+    let long = length-reverse (numbered ss) in
+    let all = length-numbered ss in
+    subst (HaveNumbers 1) (sym (reverse-append (r ∷ []) (numbered ss))) (next_number 1 (reverse (numbered ss)) r (oldest_first ss) (omega arith))
 
 -- the request is the only one of its number among these
 abbrev IsAlone : List Request → Request → Type 0
@@ -49,23 +70,30 @@ module _ (owner : List ℕ) (cs : History) (p : Person) where
   abbrev mine : List Request
   mine = filter is_mine (requests cs)
 
-  abbrev number : RequestRow → ℕ
-  number row = row.number
+  -- the rows that were read by the numbers of these requests are theirs
+  rows_are : (k : ℕ) (rs : List Request) → HaveNumbers k rs → AllByRecursion (IsAlone (requests cs)) rs → (rows : List RequestRow) → AreNumbered (tables owner cs) k rows → length rows ≡ length rs
+      → rows ≡ map (row_of cs) rs
+  rows_are k [] up only [] read long = refl
+  rows_are k [] up only (row ∷ rows) read long = absurd (omega arith)
+  rows_are k (r ∷ rs) up only [] read long = absurd (omega arith)
+  rows_are k (r ∷ rs) up only (row ∷ rows) read long =
+      let own : filter (λ (q : Request). k == q.number) (requests cs) ≡ r ∷ [] = subst (λ n. filter (λ (q : Request). n == q.number) (requests cs) ≡ r ∷ []) up.0 only.0 in
+      let one : row ∷ [] ≡ row_of cs r ∷ [] = sym read.0 ∙ filter-map (λ (x : RequestRow). k == x.number) (row_of cs) (requests cs) ∙ ap (map (row_of cs)) own in
+      let same : row ≡ row_of cs r = cc in
+      ap₂ ◌∷◌ same (rows_are (k + 1) rs up.1 only.1 rows read.1 (omega (arith, long)))
 
-  rows_are : (rows : List RequestRow) → AreRowsFor p (tables owner cs) rows → AreInOrder rows → rows ≡ map (row_of cs) (reverse mine)
-  rows_are rows are up =
-      let oldest = map (row_of cs) (reverse mine) in
-      let given : IsPermutation (map (row_of cs) mine) rows =
-      subst (λ l. IsPermutation l rows) (filter-map (λ (r : RequestRow). sees p.role (bytes_eq p.name r.submitter)) (row_of cs) (requests cs)) are.all in
-      let about : IsPermutation (map (row_of cs) mine) oldest =
-      subst (IsPermutation (map (row_of cs) mine)) (sym (map-reverse (row_of cs) mine)) (IsPermutation-reverse (map (row_of cs) mine)) in
-      let moved : IsPermutation rows oldest = IsPermutation-trans rows (map (row_of cs) mine) oldest (IsPermutation-sym (map (row_of cs) mine) rows given) about in
-      let ascends : IsAscending (λ (a b : RequestRow). a.number < b.number) oldest =
-      ascending-map (λ (a b : RequestRow). a.number < b.number) (row_of cs) (reverse mine)
-      (turned (λ (a b : Request). a.number < b.number) mine (ascending-filter (λ (a b : Request). b.number < a.number) is_mine (requests cs) (newest_first (submitted cs)))) in
-      one_order number rows oldest up ascends
-      (λ d h. Contains-permutation rows oldest d moved h)
-      (λ d h. Contains-permutation oldest rows d (IsPermutation-sym rows oldest moved) h)
+  only_each : AllByRecursion (IsAlone (requests cs)) (reverse (requests cs))
+  only_each =
+      all-permutation (IsAlone (requests cs)) (requests cs) (reverse (requests cs)) (IsPermutation-reverse (requests cs)) (all_only (λ (r : Request). r.number) (requests cs) (newest_first (submitted cs)))
+
+  -- those that the person is shown, among all rows in their order
+  mine_are : (rows : List RequestRow) → AreNumbered (tables owner cs) 1 rows → length rows ≡ length (tables owner cs).requests → filter (sees_row p) rows ≡ map (row_of cs) (reverse mine)
+  mine_are rows read count =
+      let all = length-map (requests cs) (row_of cs) in
+      let turned = length-reverse (requests cs) in
+      let long : length rows ≡ length (reverse (requests cs)) = count ∙ all ∙ sym turned in
+      ap (filter (sees_row p)) (rows_are 1 (reverse (requests cs)) (oldest_first (submitted cs)) only_each rows read long)
+      ∙ filter-map (sees_row p) (row_of cs) (reverse (requests cs)) ∙ ap (map (row_of cs)) (filter-reverse is_mine (requests cs))
 
   only_mine : AllByRecursion (IsAlone (requests cs)) (reverse mine)
   only_mine = all-permutation (IsAlone (requests cs)) mine (reverse mine) (IsPermutation-reverse mine) (all-filter (IsAlone (requests cs)) is_mine (requests cs) (all_only (λ (r : Request). r.number) (requests cs) (newest_first (submitted cs))))
@@ -80,11 +108,14 @@ module _ (owner : List ℕ) (cs : History) (p : Person) where
   wholes_are : reverse (filter (λ (w : Whole). is_shown_to p w) (wholes cs)) ≡ map (whole cs) (reverse mine)
   wholes_are = ap reverse (filter-map (λ (w : Whole). is_shown_to p w) (whole cs) (requests cs)) ∙ sym (map-reverse (whole cs) mine)
 
-  pub are_shown : IsHistory cs → (rows : List RequestRow) → AreRowsFor p (tables owner cs) rows → AreInOrder rows → (given : List ShownRequest) → AllZip (IsShownIn (tables owner cs)) rows given
-      → AreShown (reverse (filter (λ (w : Whole). is_shown_to p w) (wholes cs))) given
-  are_shown h rows are up given z =
-      subst (λ ws. AllZip IsShown ws given) (sym wholes_are)
-      (each_shown h (reverse mine) only_mine given (subst (λ l. AllZip (IsShownIn (tables owner cs)) l given) (rows_are rows are up) z))
+  pub are_shown : IsHistory cs → (n : ℕ) → n ≡ length (tables owner cs).requests → {L : Type 0} (holds : L → List ShownRequest → Type 0) (list : L) → ListsFirst p (tables owner cs) n (holds list)
+      → HoldsShown holds (reverse (filter (λ (w : Whole). is_shown_to p w) (wholes cs))) list
+  are_shown h n count holds list l = record {
+    shown = l.shown;
+    are = subst (λ ws. AllZip IsShown ws l.shown) (sym wholes_are)
+        (each_shown h (reverse mine) only_mine l.shown (subst (λ rows. AllZip (IsShownIn (tables owner cs)) rows l.shown) (mine_are l.rows l.numbered (l.count ∙ count)) l.are));
+    held = l.held;
+  }
 
 -- what is due to the person of a name
 pub all_due : (owner : List ℕ) (cs : History) (name : List ℕ) (found : Option Person) → filter (has_name name) (tables owner cs).people ≡ listed found
@@ -99,25 +130,6 @@ module _ (owner : List ℕ) (cs : History) (name : List ℕ) where
       → IsGiven (requests_for cs (callers.Person name)) (Err refusals.UnknownCaller) shows
   gives_nobody shows e = subst (λ d. IsGiven d (Err refusals.UnknownCaller) shows) (sym (all_due owner cs name None e)) refl
 
-  pub gives_all : {B : Type 0} → IsHistory cs → (p : Person) → filter (has_name name) (tables owner cs).people ≡ listed (Some p) → (rows : List RequestRow) → AreRowsFor p (tables owner cs) rows
-      → AreInOrder rows → (given : B) (items : B → List ShownRequest) → AllZip (IsShownIn (tables owner cs)) rows (items given)
-      → IsGiven (requests_for cs (callers.Person name)) (Ok given) (λ ws x. AreShown ws (items x))
-  gives_all h p e rows are up given items z =
-      subst (λ d. IsGiven d (Ok given) (λ ws x. AreShown ws (items x))) (sym (all_due owner cs name (Some p) e)) (are_shown owner cs p h rows are up (items given) z)
-
--- ---- what the reads of rows told
-
-module _ (p : Person) (t : Tables) (rows : List RequestRow) where
-  pub all_rows : ((is_own : Bool) → sees p.role is_own ≡ true) → IsPermutation (filter (λ (r : RequestRow). true) t.requests) rows → AreRowsFor p t rows
-  all_rows every found = record {
-    all = subst (λ l. IsPermutation l rows)
-        (sym (filter_same (λ (r : RequestRow). sees p.role (bytes_eq p.name r.submitter)) (λ r. true) t.requests
-        (all_of (λ (r : RequestRow). sees p.role (bytes_eq p.name r.submitter) ≡ true) (λ r. every (bytes_eq p.name r.submitter)) t.requests))) found;
-  }
-
-  pub own_rows : ((is_own : Bool) → sees p.role is_own ≡ is_own) → IsPermutation (filter (λ (r : RequestRow). bytes_eq p.name r.submitter) t.requests) rows → AreRowsFor p t rows
-  own_rows own found = record {
-    all = subst (λ l. IsPermutation l rows)
-        (sym (filter_same (λ (r : RequestRow). sees p.role (bytes_eq p.name r.submitter)) (λ r. bytes_eq p.name r.submitter) t.requests
-        (all_of (λ (r : RequestRow). sees p.role (bytes_eq p.name r.submitter) ≡ bytes_eq p.name r.submitter) (λ r. own (bytes_eq p.name r.submitter)) t.requests))) found;
-  }
+  pub gives_all : IsHistory cs → (p : Person) → filter (has_name name) (tables owner cs).people ≡ listed (Some p) → (n : ℕ) → n ≡ length (tables owner cs).requests
+      → {L : Type 0} (holds : L → List ShownRequest → Type 0) (list : L) → ListsFirst p (tables owner cs) n (holds list) → IsGiven (requests_for cs (callers.Person name)) (Ok list) (HoldsShown holds)
+  gives_all h p e n count holds list l = subst (λ d. IsGiven d (Ok list) (HoldsShown holds)) (sym (all_due owner cs name (Some p) e)) (are_shown owner cs p h n count holds list l)

@@ -1,14 +1,11 @@
 -- Loops over rows, one row more.
-use Rattle.std.proofs.Common.{◌≡◌, ℕ, ◌+◌, ◌<◌, ◌≤◌, add-one, List, [], ◌∷◌, ◌++◌, map, take, length, get_or, refl, sym, ap, subst, ◌∙◌, arith}
-use Rattle.std.specs.List.{AllByRecursion, AllZip}
+use Rattle.std.proofs.Common.{◌≡◌, ℕ, ◌+◌, ◌<◌, add-one, List, [], ◌∷◌, ◌++◌, map, take, length, get_or, refl, sym, ap, ◌∙◌, arith}
+use Rattle.std.specs.List.{AllZip}
 use Rattle.std.proofs.Math.Seq.{take-suc}
 use Rattle.std.proofs.lemmas.List.{map-append}
-use Rattle.sqlite_trees.proofs.ListLemmas.{all-append, all_weaker, ascending-append}
 use Rattle.desk_history.specs.Tables.{placed_from}
 use Rattle.desk_history.specs.declared.rows.RequestComponentRow.{RequestComponentRow}
-use Rattle.desk_history.specs.declared.rows.RequestRow.{RequestRow}
 use Rattle.sbat.specs.declared.component.Component.{Component}
-use Rattle.store_requests.specs.Steps.{AreInOrder}
 
 pub map_more : {X Y : Type 0} (f : X → Y) (rows : List X) (i : ℕ) (row : X) → i < length rows → row ≡ get_or rows i row
     → map f (take (i + 1) rows) ≡ map f (take i rows) ++ f row ∷ []
@@ -27,27 +24,6 @@ pub placed_more : (k place : ℕ) (xs : List Component) (x : Component) → plac
 placed_more k place [] x = ap (λ n. placed k n x ∷ []) (let same : place ≡ place + 0 = omega arith in same)
 placed_more k place (y ∷ ys) x =
     ap (λ l. placed k place y ∷ l) (placed_more k (place + 1) ys x ∙ ap (λ n. placed_from k (place + 1) ys ++ placed k n x ∷ []) (let same : place + 1 + length ys ≡ place + length (y ∷ ys) = omega arith in same))
-
--- ---- numbers that ascend
-
-take_one : {X : Type 0} (rows : List X) (i : ℕ) (row : X) → i < length rows → row ≡ get_or rows i row → take (i + 1) rows ≡ take i rows ++ row ∷ []
-take_one rows i row low is = ap (λ k. take k rows) (add-one i) ∙ take-suc rows i row low ∙ ap (λ r. take i rows ++ r ∷ []) (sym is)
-
--- the numbers of the rows ascend up to this one
-abbrev pub AscendTo : List RequestRow → ℕ → Type 0
-AscendTo rows above = AreInOrder rows × AllByRecursion (λ r. r.number ≤ above) rows
-
-one_higher : (rows : List RequestRow) (row : RequestRow) (above : ℕ) → above < row.number → AscendTo rows above → AscendTo (rows ++ row ∷ []) row.number
-one_higher rows row above h so_far = (
-  ascending-append (λ (a b : RequestRow). a.number < b.number) rows (row ∷ []) so_far.0 (tt, tt)
-      (all_weaker (λ (r : RequestRow). r.number ≤ above) (λ r. AllByRecursion (λ (b : RequestRow). r.number < b.number) (row ∷ [])) (λ r low. (omega (arith, low, h), tt)) rows so_far.1),
-  all-append (λ (r : RequestRow). r.number ≤ row.number) rows (row ∷ [])
-      (all_weaker (λ (r : RequestRow). r.number ≤ above) (λ r. r.number ≤ row.number) (λ r low. omega (arith, low, h)) rows so_far.1) (omega arith, tt),
-)
-
-pub order_more : (rows : List RequestRow) (i : ℕ) (row : RequestRow) (above : ℕ) → i < length rows → row ≡ get_or rows i row → above < row.number → AscendTo (take i rows) above
-    → AscendTo (take (i + 1) rows) row.number
-order_more rows i row above low is h so_far = subst (λ l. AscendTo l row.number) (sym (take_one rows i row low is)) (one_higher (take i rows) row above h so_far)
 
 -- what two lists show of one another, with one item more
 pub zip_more : {A B : Type 0} (P : A → B → Type 0) (xs : List A) (ys : List B) (x : A) (y : B) → AllZip P xs ys → P x y → AllZip P (xs ++ x ∷ []) (ys ++ y ∷ [])

@@ -1,7 +1,7 @@
 -- What the reads of a request tell, part by part: no reader has to believe these words.
-use Rattle.std.specs.Prelude.{◌≡◌, ◌<◌, ℕ, ◌==◌, List, map, filter, bytes_eq, if◌then◌else◌, Option, Some, None, option_map}
+use Rattle.std.specs.Prelude.{◌≡◌, ℕ, ◌+◌, ◌==◌, ⊤, Bool, true, false, List, [], ◌∷◌, ◌++◌, map, filter, length, bytes_eq, if◌then◌else◌, Option, Some, None, option_map}
+use Rattle.std.specs.List.{AllZip}
 use Rattle.std.specs.List.Sorted.{IsPermutation}
-use Rattle.sqlite_trees.specs.Tree.{IsAscending}
 use Rattle.desk_bytes.specs.Digests.{IsArranged}
 use Rattle.desk_texts.specs.declared.command.Person.{Person}
 use Rattle.desk_texts.specs.declared.shown.ShownRequest.{ShownRequest}
@@ -50,15 +50,32 @@ pub record IsShownIn (t : Tables) (row : RequestRow) (s : ShownRequest) : Type 0
   pub are : ArePartsOf parts t row.number
   pub made : IsMadeOf row parts s
 
--- the numbers of the rows ascend, each once
-abbrev pub AreInOrder : List RequestRow → Type 0
-AreInOrder rows = IsAscending (λ a b. a.number < b.number) rows
+-- the person is shown the request of this row
+abbrev pub sees_row : Person → RequestRow → Bool
+sees_row reader row = sees reader.role (bytes_eq reader.name row.submitter)
 
--- the rows of these tables that a person is shown
-pub record AreRowsFor (reader : Person) (t : Tables) (rows : List RequestRow) : Type 0 where
-  pub all : IsPermutation (filter (λ r. sees reader.role (bytes_eq reader.name r.submitter)) t.requests) rows
+-- The row of this number is read, the only one. The list takes the request in, if the person is shown it, and stays otherwise.
+pub record TakesNumbered (reader : Person) (t : Tables) (k : ℕ) (before after : List ShownRequest → Type 0) : Type 0 where
+  pub row : RequestRow
+  pub is : filter (λ r. k == r.number) t.requests ≡ row ∷ []
+  pub stays : sees_row reader row ≡ false → (held : List ShownRequest) → before held → after held
+  pub takes : sees_row reader row ≡ true → (s : ShownRequest) × IsShownIn t row s × ((held : List ShownRequest) → before held → after (held ++ s ∷ []))
+
+-- the rows of the numbers from this one on, each the only one of its number
+abbrev pub AreNumbered : Tables → ℕ → List RequestRow → Type 0
+AreNumbered t k [] = ⊤
+AreNumbered t k (row ∷ rows) = (filter (λ r. k == r.number) t.requests ≡ row ∷ []) × AreNumbered t (k + 1) rows
+
+-- The rows of the first n numbers are read; the list holds the requests of those that the person is shown, in their order.
+pub record ListsFirst (reader : Person) (t : Tables) (n : ℕ) (holds : List ShownRequest → Type 0) : Type 0 where
+  pub rows : List RequestRow
+  pub numbered : AreNumbered t 1 rows
+  pub count : length rows ≡ n
+  pub shown : List ShownRequest
+  pub are : AllZip (IsShownIn t) (filter (sees_row reader) rows) shown
+  pub held : holds shown
 
 -- the row, if it is there and the person is shown its request
 abbrev pub visible_row : Person → Option RequestRow → Option RequestRow
 visible_row reader None = None
-visible_row reader (Some row) = if sees reader.role (bytes_eq reader.name row.submitter) then Some row else None
+visible_row reader (Some row) = if sees_row reader row then Some row else None

@@ -5,8 +5,10 @@ mod listing;
 mod making;
 mod parts;
 mod proposed;
+mod request_list;
 mod showing;
 
 pub use listing::requests_of;
 pub use proposed::proposals_of;
+pub use request_list::RequestList;
 pub use showing::request;

@@ -1,102 +1,90 @@
 //! All requests that a person is shown.
-ghost use Rattle.std.specs.Prelude.{◌≡◌, Bool, IfErr, IfOk, IsTrue, false, true};
-ghost use Rattle.std.specs.List.{AllZip};
-ghost use Rattle.desk_history.specs.Shown.{AreShown, IsGiven, requests_for, sees};
+ghost use Rattle.std.specs.Prelude.{◌≡◌, IfErr, IfOk};
+ghost use Rattle.desk_history.specs.Shown.{IsGiven, requests_for};
 ghost use Rattle.store_reads.specs.Reads.{ReadsTables};
-ghost use Rattle.store_requests.specs.Steps.{AreInOrder, AreRowsFor, IsShownIn};
+ghost use Rattle.store_requests.specs.Lists.{HoldsShown};
+ghost use Rattle.store_requests.specs.Steps.{ListsFirst, TakesNumbered};
 ghost use Rattle.store_requests.specs.Telling.{IsReaderRefusal, TellsOf};
 ghost use Rattle.store_sql.specs.States.{DoesInside, CommitsNothing, Spares, StaysInside};
 ghost use Rattle.desk_texts.specs.declared.caller.Caller.TheVariants as callers;
 
-use crate::making::push;
-use crate::showing::shown_of;
+use crate::request_list::RequestList;
+use crate::showing::{is_shown_to, shown_of};
 use desk_bytes::Refusal;
-use desk_history::RequestRow;
-use desk_texts::{Person, PersonName, Role, ShownRequest};
+use desk_texts::{Person, PersonName, RequestNumber};
 use sqlite::{Alter, Transaction};
 use std::alloc::Global;
-use store_reads::{ReadFault, person_named, requests_all, requests_by};
+use store_reads::{Counted, ReadFault, count, person_named, request_numbered};
 
-/// Whether the role is shown each request, not own ones alone.
-fn sees_all(role: Role) -> bool
-    ensures all { IsTrue result → (is_own : Bool) → sees role is_own ≡ true }
-    ensures own { result ≡ false → (is_own : Bool) → sees role is_own ≡ is_own }
-{
-    match role {
-        Role::Submitter => false,
-        Role::Reviewer | Role::Officer | Role::Signer => true,
-    }
-}
-
-/// The rows of the requests that the person is shown.
-fn rows_for<S: Alter>(
+/// Adds the request of this number to the list, if the person is shown it.
+///
+/// `Row`: no request has the number.
+fn take_numbered<S: Alter, L: RequestList>(
     alloc: Global,
     tx: &mut Transaction<'_, S>,
     reader: &Person,
-) -> Result<Vec<RequestRow>, ReadFault>
+    number: u64,
+    list: &mut L,
+) -> Result<(), ReadFault>
     ensures same_reference { tx.new.conn.ghost_name ≡ tx.old.conn.ghost_name }
     ensures value { DoesInside S.Store tx.old.conn.now tx.new.conn.now result
-        (λ rows. ReadsTables (λ t. AreRowsFor reader.now t rows.items)) }
-    ensures inside { StaysInside S.Store tx.old.conn.now tx.new.conn.now result }
+        (λ _. ReadsTables (λ t. TakesNumbered reader.now t number
+        (L.RequestList.holds list.old) (L.RequestList.holds list.new))) }
     ensures kept { CommitsNothing S.Store tx.old.conn.now tx.new.conn.now }
     ensures survives { Spares S.Store tx.old.conn.now tx.new.conn.now }
 {
-    if sees_all(reader.role) {
-        let rows = requests_all(alloc, tx)?;
-        return Ok(rows);
+    let Some(number) = RequestNumber::new(number) else {
+        return Err(ReadFault::Row);
+    };
+    let Some(row) = request_numbered(alloc, tx, number)? else {
+        return Err(ReadFault::Row);
+    };
+    if !is_shown_to(reader, &row) {
+        return Ok(());
     }
-    let rows = requests_by(alloc, tx, &reader.name)?;
-    Ok(rows)
+    let shown = shown_of(alloc, tx, row)?;
+    match list.push(shown) {
+        Ok(()) => Ok(()),
+        Err(_) => Err(ReadFault::NoMemory),
+    }
 }
 
-/// Whether the numbers of the rows ascend, each once.
-fn are_in_order(rows: &[RequestRow]) -> bool
-    ensures { IsTrue result → AreInOrder rows.now }
-{
-    let mut above = 0;
-    for row in rows {
-        let number = row.number.value();
-        if number <= above {
-            return false;
-        }
-        above = number;
-    }
-    true
-}
-
-/// The requests of these rows, in their order.
-fn shown_all<S: Alter>(
+/// The requests of the first so many numbers, as far as the person is shown them.
+fn list_first<S: Alter, L: RequestList + Drop>(
     alloc: Global,
     tx: &mut Transaction<'_, S>,
-    rows: Vec<RequestRow>,
-) -> Result<Vec<ShownRequest>, ReadFault>
+    reader: &Person,
+    count: u64,
+) -> Result<L, ReadFault>
     ensures same_reference { tx.new.conn.ghost_name ≡ tx.old.conn.ghost_name }
     ensures value { DoesInside S.Store tx.old.conn.now tx.new.conn.now result
-        (λ shown. ReadsTables (λ t. AllZip (IsShownIn t) rows.items shown.items)) }
+        (λ list. ReadsTables (λ t. ListsFirst reader.now t count (L.RequestList.holds list))) }
     ensures kept { CommitsNothing S.Store tx.old.conn.now tx.new.conn.now }
     ensures survives { Spares S.Store tx.old.conn.now tx.new.conn.now }
 {
-    let mut all = Vec::new(alloc);
-    for row in rows {
-        let shown = shown_of(alloc, tx, row)?;
-        push(&mut all, shown)?;
+    let mut list = L::new(alloc);
+    let mut number = 0;
+    while number < count {
+        number += 1;
+        take_numbered(alloc, tx, reader, number, &mut list)?;
     }
-    Ok(all)
+    Ok(list)
 }
 
 /// The requests that the person of this name is shown, ascending by number: a submitter's own, and
-/// all for everybody else. Takes memory for their rows.
+/// all for everybody else. They are read one at a time, by the numbers that requests are given: 1 and
+/// up, with no gap. Takes memory for one request, and for the list.
 ///
 /// `UnknownCaller`: nobody has the name.
-pub fn requests_of<S: Alter>(
+pub fn requests_of<S: Alter, L: RequestList + Drop>(
     alloc: Global,
     tx: &mut Transaction<'_, S>,
     name: &PersonName,
-) -> Result<Result<Vec<ShownRequest>, Refusal>, ReadFault>
+) -> Result<Result<L, Refusal>, ReadFault>
     ensures same_reference { tx.new.conn.ghost_name ≡ tx.old.conn.ghost_name }
     ensures value { DoesInside S.Store tx.old.conn.now tx.new.conn.now result
         (λ given. TellsOf (λ cs. IsGiven (requests_for cs (callers.Person name.now)) given
-        (λ ws shown. AreShown ws shown.items))) }
+        (HoldsShown L.RequestList.holds))) }
     ensures named { IfOk result (λ given. IfErr given IsReaderRefusal) }
     ensures inside { StaysInside S.Store tx.old.conn.now tx.new.conn.now result }
     ensures kept { CommitsNothing S.Store tx.old.conn.now tx.new.conn.now }
@@ -106,10 +94,7 @@ pub fn requests_of<S: Alter>(
     let Some(reader) = found else {
         return Ok(Err(Refusal::UnknownCaller));
     };
-    let rows = rows_for(alloc, tx, &reader)?;
-    if !are_in_order(&rows) {
-        return Err(ReadFault::Row);
-    }
-    let shown = shown_all(alloc, tx, rows)?;
-    Ok(Ok(shown))
+    let count = count(tx, Counted::Requests)?;
+    let list = list_first(alloc, tx, &reader, count)?;
+    Ok(Ok(list))
 }

@@ -35,7 +35,7 @@ pub(crate) fn shown_of<S: Alter>(
 }
 
 /// Whether the person is shown the request of this row.
-fn is_shown_to(reader: &Person, row: &RequestRow) -> bool
+pub(crate) fn is_shown_to(reader: &Person, row: &RequestRow) -> bool
     ensures { result ≡ sees reader.now.role (bytes_eq reader.now.name row.now.submitter) }
 {
     match reader.role {

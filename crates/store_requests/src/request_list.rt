@@ -1,0 +1,37 @@
+//! Lists that requests are collected into.
+ghost use Rattle.std.specs.Prelude.{◌≡◌, ◌++◌, ◌∷◌, [], List, OnOk};
+ghost use Rattle.desk_texts.specs.declared.shown.ShownRequest.{ShownRequest as Shown};
+
+use desk_texts::ShownRequest;
+use std::alloc::{AllocError, Global};
+
+/// What requests are collected into, one after another.
+pub trait RequestList {
+    /// The requests that it holds, in their order.
+    ghost holds: { Self → List Shown → Type 0 };
+
+    /// An empty one.
+    fn new(alloc: Global) -> Self
+        ensures { holds result [] };
+
+    /// Adds a request behind the others. Fails where memory is refused; what it then holds is not
+    /// said.
+    fn push(&mut self, shown: ShownRequest) -> Result<(), AllocError>
+        ensures { (before : List Shown) → holds self.old before
+            → OnOk result (holds self.new (before ++ shown ∷ [])) };
+}
+
+impl RequestList for Vec<ShownRequest> {
+    ghost holds = { λ v shown. v.items ≡ shown };
+
+    fn new(alloc: Global) -> Vec<ShownRequest> {
+        Vec::new(alloc)
+    }
+
+    fn push(&mut self, shown: ShownRequest) -> Result<(), AllocError> {
+        match Vec::push(self, shown) {
+            Ok(()) => Ok(()),
+            Err(_) => Err(AllocError),
+        }
+    }
+}
