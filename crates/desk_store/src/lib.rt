@@ -18,3 +18,4 @@ pub use desk::Desk;
 pub use living::{calls_make_lives, openings_begin_lives};
 pub use restarting::{reopen, restart};
 pub use store_counts::{Counts, KindCounts, ListCounts, RequestCounts};
+pub use store_requests::RequestList;

@@ -2,7 +2,7 @@
 ghost use Rattle.std.specs.Prelude.{◌≡◌, ⊤, filter, map, IfErr};
 ghost use Rattle.store_counts.specs.Counts.{CountTables};
 ghost use Rattle.desk_history.specs.People.{has_token};
-ghost use Rattle.desk_history.specs.Shown.{AreShown, GivesRequest, IsGiven, requests_for};
+ghost use Rattle.desk_history.specs.Shown.{GivesRequest, IsGiven, requests_for};
 ghost use Rattle.desk_history.specs.Shown.{proposals_for, shown_proposal};
 ghost use Rattle.desk_history.specs.Tables.{tables};
 ghost use Rattle.store_views.specs.lists.Lists.{HoldsNoOther};
@@ -10,6 +10,7 @@ ghost use Rattle.store_reads.specs.Reads.{listed};
 ghost use Rattle.desk_rules.specs.Decisions.{called};
 ghost use Rattle.desk_rules.specs.Shown.{Shows};
 ghost use Rattle.desk_rules.specs.Views.{ShowsLists, keys_of};
+ghost use Rattle.store_requests.specs.Lists.{HoldsShown};
 ghost use Rattle.store_requests.specs.Telling.{IsOfficerRefusal, IsReaderRefusal, IsRequestRefusal};
 ghost use Rattle.store_views.specs.sizes.Sizes.{AreRight};
 ghost use Rattle.desk_texts.specs.declared.caller.Caller.TheVariants as callers;
@@ -23,9 +24,10 @@ use desk_texts::{
 };
 use sqlite::{Alter, Transaction};
 use std::alloc::Global;
+use std::marker::PhantomData;
 use store_counts::{Counts, counts};
 use store_reads::person_of_token;
-use store_requests::{proposals_of, request, requests_of};
+use store_requests::{RequestList, proposals_of, request, requests_of};
 use store_views::{KeptSizes, list_view, view};
 
 /// Who has the token of this SHA-256?
@@ -168,17 +170,18 @@ impl<'a> Question for OneRequest<'a> {
     }
 }
 
-/// Which requests is the person of this name shown?
+/// Which requests is the person of this name shown? They are collected into an `L`.
 #[derive(Drop)]
-pub(crate) struct AllRequests<'a> {
+pub(crate) struct AllRequests<'a, L> {
     pub(crate) name: &'a PersonName,
+    pub(crate) list: PhantomData<L>,
 }
 
-impl<'a> Question for AllRequests<'a> {
-    type Answer = Result<Vec<ShownRequest>, Refusal>;
+impl<'a, L: RequestList + Drop> Question for AllRequests<'a, L> {
+    type Answer = Result<L, Refusal>;
 
     ghost tells = { λ q given owner cs. IsGiven (requests_for cs (callers.Person q.name.now)) given
-        (λ ws shown. AreShown ws shown.items) };
+        (HoldsShown L.RequestList.holds) };
 
     ghost bounds = { λ _ given. IfErr given IsReaderRefusal };
 
@@ -186,7 +189,7 @@ impl<'a> Question for AllRequests<'a> {
         &self,
         alloc: Global,
         tx: &mut Transaction<'_, S>,
-    ) -> Result<Result<Vec<ShownRequest>, Refusal>, Refusal> {
+    ) -> Result<Result<L, Refusal>, Refusal> {
         match requests_of(alloc, tx, self.name) {
             Ok(given) => Ok(given),
             Err(fault) => Err(fault.refusal()),

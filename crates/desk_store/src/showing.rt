@@ -3,8 +3,9 @@ ghost use Rattle.std.specs.Prelude.{◌≡◌, ◌≢◌, Err, MatchResult, fals
 ghost use Rattle.std.specs.Prelude.{IfErr, IfOk, IsErrOf};
 ghost use Rattle.sqlite.specs.Held.{state};
 ghost use Rattle.sqlite.specs.State.{HasCleanDisk};
-ghost use Rattle.desk_history.specs.Shown.{AreShown, IsShown, request_for, requests_for};
+ghost use Rattle.desk_history.specs.Shown.{IsShown, request_for, requests_for};
 ghost use Rattle.desk_history.specs.Shown.{proposals_for, shown_proposal};
+ghost use Rattle.store_requests.specs.Lists.{HoldsShown};
 ghost use Rattle.store_sql.specs.States.{Spares};
 ghost use Rattle.desk_store.specs.Desks.{KeepsDesk, Views};
 ghost use Rattle.desk_store.specs.Showing.{IsReadingRefusal};
@@ -14,6 +15,8 @@ use crate::questions::{AllProposals, AllRequests, OneRequest};
 use desk_bytes::Refusal;
 use desk_texts::{Caller, Proposal, RequestNumber, ShownRequest};
 use sqlite::Alter;
+use std::marker::PhantomData;
+use store_requests::RequestList;
 
 impl<S: Alter + Drop> Desk<S> {
     /// The request of this number, as the caller is shown it: its facts, its state, the votes on it
@@ -57,14 +60,16 @@ impl<S: Alter + Drop> Desk<S> {
     }
 
     /// The requests that the caller is shown, ascending by number: a submitter's own, and all for
-    /// every other person. Nothing is changed. Takes memory for them.
+    /// every other person. They are collected into an `L`, one after another. Nothing is changed. Takes
+    /// memory for one request, and for the list.
     ///
     /// `NotYourRole`: the console calls. `UnknownCaller`: nobody has the name. `NoMemory`: memory was
     /// refused. `Store`: the store failed, or isn't as a desk left it.
-    pub fn requests_of(&mut self, caller: &Caller) -> Result<Vec<ShownRequest>, Refusal>
-        ensures shown { HasCleanDisk (state S.Store self.new.conn) → IfOk result (λ shown.
+    pub fn requests_of<L: RequestList + Drop>(&mut self, caller: &Caller) -> Result<L, Refusal>
+        ensures shown { HasCleanDisk (state S.Store self.new.conn) → IfOk result (λ list.
             Views S.Store self.old self.new (λ owner cs.
-            MatchResult (requests_for cs caller.now) (λ ws. AreShown ws shown.items) (λ _. ⊥))) }
+            MatchResult (requests_for cs caller.now)
+            (λ ws. HoldsShown L.RequestList.holds ws list) (λ _. ⊥))) }
         ensures refused { HasCleanDisk (state S.Store self.new.conn) → IfErr result (λ refusal.
             refusal ≢ Refusal.NoMemory → refusal ≢ Refusal.Store
             → Views S.Store self.old self.new (λ owner cs.
@@ -85,7 +90,11 @@ impl<S: Alter + Drop> Desk<S> {
         let Caller::Person(name) = caller else {
             return Err(Refusal::NotYourRole);
         };
-        match self.answer_question(&AllRequests { name }) {
+        let question: AllRequests<'_, L> = AllRequests {
+            name,
+            list: PhantomData,
+        };
+        match self.answer_question(&question) {
             Ok(given) => given,
             Err(failure) => Err(failure),
         }

@@ -136,7 +136,7 @@ fn all_shown<S: Alter + Drop>(
     line: &mut Line,
 ) -> Option<()> {
     let caller = words.caller()?;
-    match desk.requests_of(&caller) {
+    match desk.requests_of::<Vec<ShownRequest>>(&caller) {
         Ok(requests) => put_requests(line, &requests).ok(),
         Err(refusal) => line.put(refusal.name()).ok(),
     }
