@@ -8,12 +8,14 @@ ghost use Rattle.desk_store.specs.Desks.{ShowsDesk};
 
 use crate::open_desk::OpenDesk;
 use crate::reporting::report;
+use crate::written_requests::WrittenRequests;
 use desk_bytes::{Digest, Refusal};
-use desk_calls::{Answering, Octets, ShownProposals, ShownRequests};
+use desk_calls::{Answering, Octets, ShownProposals};
 use desk_exports::Export;
 use desk_history::Verdict;
 use desk_store::Desk;
 use desk_texts::{Caller, Command, Facts, Key, Person, Reply, RequestNumber, ShownRequest};
+use http_responses::RequestsText;
 use sqlite::Alter;
 use std::alloc::Global;
 
@@ -77,9 +79,9 @@ impl<S: Alter + Drop> Answering for OpenDesk<S> {
         self.desk.request(caller, number)
     }
 
-    fn requests_of(&mut self, caller: &Caller) -> Result<ShownRequests, Refusal> {
-        match self.desk.requests_of(caller) {
-            Ok(requests) => Ok(ShownRequests::new(requests)),
+    fn requests_of(&mut self, caller: &Caller) -> Result<RequestsText, Refusal> {
+        match self.desk.requests_of::<WrittenRequests>(caller) {
+            Ok(written) => Ok(written.text),
             Err(refusal) => Err(refusal),
         }
     }
