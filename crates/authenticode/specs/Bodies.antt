@@ -1,17 +1,17 @@
--- The body of a signature as nested elements (RFC 5652), by what stands where.
+-- The body of a signature (RFC 5652), as nested elements.
 use Rattle.std.specs.Prelude.{◌≡◌, ◌⊎◌, ℕ, false, List, [], ◌++◌}
 use Rattle.desk_bytes.specs.Elements.{IsElement, sequence}
 use Rattle.desk_bytes.specs.Lines.{begins_with}
 use Rattle.authenticode.specs.SignedData.{first_own, integer, object_identifier, set}
 
--- an element of this tag and content begins the bytes, and this follows it
+-- the bytes are an element of this tag and content, and then `rest`
 pub record Begins (tag : ℕ) (content rest b : List ℕ) : Type 0 where
   pub whole : List ℕ
   pub element : IsElement tag content whole
   pub is : b ≡ whole ++ rest
 
--- what follows encapContentInfo holds this row of certificates: that of the element [0] (RFC 5652, 5.1), and
--- none where [0] doesn't follow
+-- the bytes after encapContentInfo hold this row of certificates: the content of the element [0]
+-- (RFC 5652, 5.1), or none if [0] doesn't follow
 abbrev pub HoldsSet : List ℕ → List ℕ → Type 0
 HoldsSet b row =
     ((rest : List ℕ) × Begins first_own row rest b) ⊎ ((begins_with first_own b ≡ false) × (row ≡ []))

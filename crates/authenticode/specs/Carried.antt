@@ -14,33 +14,33 @@ abbrev pub IsEntryOf : List ℕ → List (List ℕ) → Type 0
 IsEntryOf t own =
     ((type_at t ≡ signed_data) × IsBodyOf (body_at t) own) ⊎ ((type_at t ≢ signed_data) × (own ≡ []))
 
--- one entry of a table, the TBSCertificates that it carries, and the bytes from the next place on
+-- one entry of a table, the TBSCertificates that it carries, and the bytes from the next entry on
 pub record GivesEntry (t : List ℕ) (own : List (List ℕ)) (rest : List ℕ) : Type 0 where
   pub goes_on : is_end t ≡ false
   pub stands : has_no_entry t ≡ false
   pub gives : IsEntryOf t own
   pub rest_is : rest ≡ drop (next_at t) t
 
--- an entry of type 2 stands at the front, and no TBSCertificates can be read of its body
+-- the entry at the front is of type 2, and no TBSCertificates can be read from its body
 pub record IsUnreadable (t : List ℕ) : Type 0 where
   pub stands : has_no_entry t ≡ false
   pub signed : type_at t ≡ signed_data
   pub none : (tbs : List (List ℕ)) → IsBodyOf (body_at t) tbs → ⊥
 
--- what the entry at the front is refused for; NoMemory may come at any time
+-- why the entry at the front is refused; NoMemory may come at any time
 abbrev pub IsEntryFault : List ℕ → CarriedFault → Type 0
 IsEntryFault t fault.Table = has_no_entry t ≡ true
 IsEntryFault t fault.Der = IsUnreadable t
 IsEntryFault t fault.TooLong = ⊥
 IsEntryFault t fault.NoMemory = ⊤
 
--- the walk over a table comes to its end, and these are the TBSCertificates that it meets
+-- the walk over the table reaches its end, and these are the TBSCertificates on the way
 pub record IsWalked (table : List ℕ) (tbs : List (List ℕ)) : Type 0 where
   pub left : List ℕ
   pub walk : Walks GivesEntry table tbs left
   pub ended : is_end left ≡ true
 
--- own: what the table carries: the SHA-256 of each TBSCertificate, ascending, each once
+-- own: the table carries these digests: the SHA-256 of each TBSCertificate, ascending, each once
 pub record Carries (table : List ℕ) (digests : List (List ℕ)) : Type 0 where
   pub tbs : List (List ℕ)
   pub walked : IsWalked table tbs
@@ -56,7 +56,7 @@ pub record PassesLimit (table : List ℕ) : Type 0 where
   pub carries : Carries table digests
   pub many : most_certificates < length digests
 
--- the walk over a table comes to bytes that aren't its end, and are refused for this
+-- the walk over the table comes to bytes that aren't its end, and are refused for this fault
 pub record MeetsFault (table : List ℕ) (fault : CarriedFault) : Type 0 where
   pub tbs : List (List ℕ)
   pub left : List ℕ

@@ -1,4 +1,4 @@
--- What a certificate table is refused for.
+-- Reasons why a certificate table is refused.
 use Rattle.desk_bytes.specs.declared.refusal.Refusal.{Refusal}
 use Rattle.desk_bytes.specs.declared.refusal.Refusal.TheVariants as refusal
 use Rattle.authenticode.specs.declared.fault.CarriedFault.{CarriedFault}
@@ -11,6 +11,6 @@ refusal_of fault.Der = refusal.Der
 refusal_of fault.TooLong = refusal.TooLong
 refusal_of fault.NoMemory = refusal.NoMemory
 
--- own: where no element of DER, or no certificate, stands, the fault is Der
+-- own: a missing DER element or certificate is the fault Der
 abbrev pub not_der : CarriedFault
 not_der = fault.Der

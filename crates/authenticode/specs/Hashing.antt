@@ -14,12 +14,12 @@ image_digest f = sha256 (hashed_bytes f)
 abbrev pub bytes_between : List ℕ → ℕ → ℕ → List Span → List ℕ
 bytes_between f from to ss = flat_map (λ s. slice_range f (max s.from from) (min s.to to)) ss
 
--- how many bytes are missing to a multiple of 8
+-- how many bytes a length lacks to a multiple of 8
 abbrev pub padding_of : ℕ → ℕ
 padding_of n = (8 - n % 8) % 8
 
--- what a signature of f covers. own: where there is no table yet, a signing tool brings the length to a
--- multiple of 8 by zero bytes before it appends one, so they are hashed too
+-- the bytes that a signature of f covers. own: if there is no table yet, a signing tool pads the
+-- file with zero bytes to a multiple of 8 before it appends one, so these are hashed too
 abbrev pub signed_bytes : List ℕ → List ℕ
 signed_bytes f = if has_table f then hashed_bytes f else hashed_bytes f ++ replicate (padding_of (length f)) 0
 

@@ -1,11 +1,11 @@
--- SignedData (RFC 5652, section 5.1), as far as its certificates. Tags are those of X.690, section 8.
+-- SignedData (RFC 5652, section 5.1), up to its certificates. Tags are those of X.690, section 8.
 use Rattle.std.specs.Prelude.{ℕ, ◌==◌, List, [], Option, Some, None, if◌then◌else◌}
 use Rattle.desk_bytes.specs.Elements.{sequence}
 use Rattle.desk_bytes.specs.Parts.{Part, element_of}
 use Rattle.desk_bytes.specs.Lines.{begins_with}
 
 infixl 10 ◌>>=◌
--- what a value is taken to, where there is one
+-- f of the value, if there is one
 abbrev pub ◌>>=◌ : {A B : Type 0} → Option A → (A → Option B) → Option B
 (Some x) >>= f = f x
 None >>= f = None
@@ -34,15 +34,16 @@ with_tag tag p = if p.tag == tag then Some p else None
 unfoldable pub tagged : ℕ → List ℕ → Option Part
 tagged tag b = element_of b >>= with_tag tag
 
--- what the certificates of a SignedData hold (RFC 5652, 10.2.3), where [0] follows; otherwise there are none
+-- the content of a SignedData's certificates (RFC 5652, 10.2.3) if [0] follows; otherwise none
 unfoldable pub certificate_set : List ℕ → Option (List ℕ)
 certificate_set b =
     if begins_with first_own b
     then (tagged first_own b >>= λ certificates. Some certificates.content)
     else Some []
 
--- the certificates of a body: ContentInfo (RFC 5652, 3), its contentType and content; SignedData (5.1), its
--- version, digestAlgorithms and encapContentInfo. own: what these hold isn't looked at, nor what follows
+-- the certificates of a body: ContentInfo (RFC 5652, 3), its contentType and content; SignedData
+-- (5.1), its version, digestAlgorithms and encapContentInfo. own: the contents of these, and the
+-- bytes after them, aren't examined
 unfoldable pub certificates_of : List ℕ → Option (List ℕ)
 certificates_of body = do
   info ← tagged sequence body

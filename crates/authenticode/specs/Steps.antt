@@ -1,2 +1,2 @@
--- What the steps of the walk hand to one another. No public contract names these words.
+-- Relations between the steps of the walk. No public contract names these words.
 pub mod Adding

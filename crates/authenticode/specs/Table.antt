@@ -1,10 +1,10 @@
--- Entries of a certificate table (PE/COFF, "The Attribute Certificate Table"). Numbers have their low byte
--- first, and places count from the front.
+-- Entries of a certificate table (PE/COFF, "The Attribute Certificate Table"). Numbers are
+-- little-endian, and offsets count from the front.
 use Rattle.std.specs.Prelude.{ℕ, ◌+◌, ◌*◌, ◌/◌, ◌==◌, ◌||◌, min, nat_lt, length, take, drop, List, Bool}
 use Rattle.std.specs.List.{list_all}
 use Rattle.desk_bytes.specs.Numbers.{u16_at, u32_at}
 
--- dwLength of the entry at the front: how many bytes it has, those of its header included
+-- dwLength of the entry at the front: how many bytes it has, its header included
 abbrev pub length_at : List ℕ → ℕ
 length_at t = u32_at t 0
 
@@ -28,6 +28,7 @@ next_at t = min (length t) ((length_at t + 7) / 8 * 8)
 abbrev pub is_end : List ℕ → Bool
 is_end t = list_all (λ b. b == 0) t
 
--- no entry stands at the front: its header isn't there, or dwLength is less than that or passes the end
+-- there is no entry at the front: its header isn't there, or dwLength is less than the header or
+-- passes the end
 abbrev pub has_no_entry : List ℕ → Bool
 has_no_entry t = nat_lt (length t) 8 || nat_lt (length_at t) 8 || nat_lt (length t) (length_at t)

@@ -1,12 +1,12 @@
 -- Walks over bytes, a step at a time.
 use Rattle.std.specs.Prelude.{◌≡◌, ℕ, zero, suc, List, [], ◌++◌}
 
--- what a step is: `Step b own c` says that one leads from the bytes b to the bytes c that are left, and gives
--- the items `own`
+-- the type of a step: `Step b own c` says that one step leads from the bytes b to the bytes c that
+-- are left, and gives the items `own`
 abbrev pub Stepping : Type 1
 Stepping = List ℕ → List (List ℕ) → List ℕ → Type 0
 
--- so many steps lead from b to c, and these are the items that they give, in order
+-- this many steps lead from b to c, and these are the items that they give, in order
 abbrev pub Reaches : Stepping → ℕ → List ℕ → List (List ℕ) → List ℕ → Type 0
 Reaches Step zero b items c = (items ≡ []) × (b ≡ c)
 Reaches Step (suc n) b items c =

@@ -7,11 +7,12 @@ use crate::walk::push_table;
 use desk_bytes::{Digest, MOST_CERTIFICATES, arrange};
 use std::alloc::Global;
 
-/// The SHA-256 of each TBSCertificate that the bytes of a certificate table hold, ascending, each once.
-/// Takes memory for 32 bytes a certificate, repeats included; the time is that of sorting them.
+/// The SHA-256 of each TBSCertificate in the bytes of a certificate table, ascending, each once.
+/// Takes 32 bytes of memory for each certificate, repeats included; the time is that of sorting
+/// them.
 ///
-/// Of several faults the one that the walk over the table meets first is answered, TooLong where there
-/// is no other.
+/// Of several faults the first that the walk over the table meets is returned; TooLong only if
+/// there is no other.
 pub fn carried(alloc: Global, table: &[u8]) -> Result<Vec<Digest>, CarriedFault>
     ensures exact { IfOk result (λ digests. IsCarried table.now digests.items) }
 

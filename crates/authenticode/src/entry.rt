@@ -8,7 +8,7 @@ use desk_bytes::{u16_at, u32_at};
 /// WIN_CERT_TYPE_PKCS_SIGNED_DATA.
 pub(crate) const SIGNED_DATA: u16 = 2;
 
-/// An entry: its type, its body, and the bytes from the next place on.
+/// An entry: its type, its body, and the bytes from the next entry on.
 #[derive(Clone, Copy, Debug)]
 pub(crate) struct Entry<'a> {
     pub(crate) kind: u16,

@@ -5,10 +5,10 @@ ghost use Rattle.authenticode.specs.Faults.{not_der, refusal_of};
 use desk_bytes::{NotDer, Refusal};
 use thiserror::Error;
 
-/// What a certificate table was refused for.
+/// Why a certificate table is refused.
 #[derive(Clone, Copy, Debug, PartialEq, Eq, Error)]
 pub enum CarriedFault {
-    /// No entry stands where one is needed.
+    /// An entry is missing or isn't whole.
     #[error("an entry of the certificate table isn't whole")]
     Table,
     /// An entry of type 2 has no SignedData, or a certificate of it has no TBSCertificate.

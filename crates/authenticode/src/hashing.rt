@@ -11,7 +11,7 @@ use desk_bytes::Digest;
 use pe_image::{Layout, PIECE, Ranges, ReadFailed, Source, Span, ranges, table};
 use sha2::{Digest as Hasher, Sha256};
 
-/// Adds the bytes of a span to the message of a hasher, by the pieces in which they stand.
+/// Adds the bytes of a span to a hasher's message, piece by piece, as the source keeps them.
 fn feed<S: Source>(source: &mut S, span: Span, hasher: &mut Sha256) -> Result<(), ReadFailed>
     requires order { span.from ≤ span.to }
     requires within { span.to ≤ length (S.content source.old) }
@@ -34,7 +34,7 @@ fn feed<S: Source>(source: &mut S, span: Span, hasher: &mut Sha256) -> Result<()
     Ok(())
 }
 
-/// Adds the bytes at ranges to the message of a hasher.
+/// Adds the bytes at ranges to a hasher's message.
 pub(crate) fn feed_ranges<S: Source>(
     source: &mut S,
     ranges: Ranges,
@@ -55,7 +55,7 @@ pub(crate) fn feed_ranges<S: Source>(
     Ok(())
 }
 
-/// A hasher of the bytes that are hashed.
+/// A hasher that has taken the bytes to hash.
 fn hash_image<S: Source>(source: &mut S, layout: &Layout) -> Result<Sha256, ReadFailed>
     requires { IsLayoutOf (S.content source.old) layout.now }
     ensures ok { IfOk result (λ hasher. Holds256 hasher (hashed_bytes (S.content source.old))) }
@@ -69,7 +69,7 @@ fn hash_image<S: Source>(source: &mut S, layout: &Layout) -> Result<Sha256, Read
     Ok(hasher)
 }
 
-/// How many bytes are missing to a multiple of 8.
+/// How many bytes a length lacks to a multiple of 8.
 fn missing(length: u64) -> usize
     ensures value { result ≡ padding_of length }
     ensures few { result < 8 }
@@ -77,7 +77,7 @@ fn missing(length: u64) -> usize
     ((8 - length % 8) % 8) as usize
 }
 
-/// Adds the zero bytes that a signature of the image covers, where it has no certificate table.
+/// If the image has no certificate table, adds the zero bytes that a signature of it covers.
 pub(crate) fn pad(hasher: &mut Sha256, layout: &Layout, size: u64)
     ensures { (f : List ℕ) → layout.now ≡ places_of f → size ≡ length f
         → Holds256 hasher.old (hashed_bytes f) → Holds256 hasher.new (signed_bytes f) }
@@ -87,13 +87,13 @@ pub(crate) fn pad(hasher: &mut Sha256, layout: &Layout, size: u64)
     }
 }
 
-/// The Authenticode SHA-256 digest of an image. The layout is that of the source. It reads each range
-/// once, by the pieces of 65,536 bytes in which it stands, and takes no memory.
+/// The Authenticode SHA-256 digest of an image. The layout must be that of the source. Each range
+/// is read once, in pieces of at most 65,536 bytes; no memory is taken.
 pub fn digest<S: Source>(source: &mut S, layout: &Layout) -> Result<Digest, ReadFailed>
     requires { IsLayoutOf (S.content source.old) layout.now }
     ensures exact { IfOk result (λ digest. digest ≡ image_digest (S.content source.old)) }
 
-    // A fault comes only where the source's count of failures rose or stood at its greatest.
+    // A fault is returned only if the source's failure count rose or was already at its maximum.
     ensures device { OnErr result (HaveRisen (S.failures source.old) (S.failures source.new)) }
 
     ensures reads { OnlyReads S.content S.failures source.old source.new }
@@ -102,14 +102,14 @@ pub fn digest<S: Source>(source: &mut S, layout: &Layout) -> Result<Digest, Read
     Ok(Digest::from(hasher.finalize()))
 }
 
-/// The digest that a signature of an image holds: where the image has a certificate table, its digest;
-/// where it has none, that of the image with the zero bytes that a table appended to it has before it.
-/// The layout is that of the source. It reads as `digest` does, and takes no memory.
+/// The digest that a signature of an image holds: that of the image, or, if it has no certificate
+/// table, that of the image padded with the zero bytes that appending a table adds. The layout must
+/// be that of the source. It reads as `digest` does and takes no memory.
 pub fn signing_digest<S: Source>(source: &mut S, layout: &Layout) -> Result<Digest, ReadFailed>
     requires { IsLayoutOf (S.content source.old) layout.now }
     ensures exact { IfOk result (λ digest. digest ≡ signed_digest (S.content source.old)) }
 
-    // A fault comes only where the source's count of failures rose or stood at its greatest.
+    // A fault is returned only if the source's failure count rose or was already at its maximum.
     ensures device { OnErr result (HaveRisen (S.failures source.old) (S.failures source.new)) }
 
     ensures reads { OnlyReads S.content S.failures source.old source.new }

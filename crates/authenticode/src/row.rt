@@ -17,8 +17,8 @@ fn hash_of(bytes: &[u8]) -> Digest
     Digest::from(Sha256::digest(bytes))
 }
 
-/// Adds the SHA-256 of the TBSCertificate of the element at the front, where that has the tag of a
-/// certificate, and gives the bytes after it.
+/// Adds the SHA-256 of the TBSCertificate of the element at the front, if it has the tag of a
+/// certificate. Returns the bytes after it.
 fn push_first<'a>(digests: &mut Vec<Digest>, row: &'a [u8]) -> Result<&'a [u8], CarriedFault>
     ensures ok { IfOk result (λ rest.
         AddsStep GivesCertificate row.now rest.now digests.old.items digests.new.items) }

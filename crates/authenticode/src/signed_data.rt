@@ -1,4 +1,4 @@
-//! SignedData, as far as its certificates (RFC 5652).
+//! SignedData, up to its certificates (RFC 5652).
 ghost use Rattle.std.specs.Prelude.{◌≡◌, None, Some, MatchOption};
 ghost use Rattle.desk_bytes.specs.Parts.{part_of};
 ghost use Rattle.authenticode.specs.SignedData as spec;
@@ -32,7 +32,7 @@ fn tagged(tag: u8, bytes: &[u8]) -> Option<(Element<'_>, &[u8])>
     }
 }
 
-/// The certificates of what follows encapContentInfo: none where [0] doesn't follow.
+/// The certificates in the bytes after encapContentInfo: none unless [0] follows.
 #[tactic(auto, unfolding(crate::specs::SignedData::certificate_set))]
 fn certificate_set(bytes: &[u8]) -> Option<&[u8]>
     ensures { MatchOption result (spec.certificate_set bytes.now ≡ None)
@@ -47,7 +47,7 @@ fn certificate_set(bytes: &[u8]) -> Option<&[u8]>
     }
 }
 
-/// The certificates of a body, as the row of elements that they are.
+/// The certificates of a body, as a row of elements.
 #[tactic(auto, unfolding(crate::specs::SignedData::certificates_of))]
 pub(crate) fn certificates(body: &[u8]) -> Option<&[u8]>
     ensures { MatchOption result (spec.certificates_of body.now ≡ None)

@@ -1,4 +1,4 @@
-//! All hashes of an image by one pass over its file.
+//! All hashes of an image in one pass over its file.
 ghost use Rattle.std.specs.Prelude.{◌≡◌, ◌+◌, ◌<◌, ◌≤◌, ◌^◌, ◌++◌, ℕ, List, length, slice_range, IfOk, OnErr};
 ghost use Rattle.sha2.specs.Hashers.{Holds256};
 ghost use Rattle.sha2.specs.Sha256.{sha256};
@@ -14,7 +14,8 @@ use desk_bytes::Digest;
 use pe_image::{Layout, PIECE, ReadFailed, Source, first_pass, second_pass};
 use sha2::{Digest as Hasher, Sha256};
 
-/// Adds what a piece of the file, from a place on, has of the ranges that one pass meets.
+/// Adds the bytes that a piece of the file, from an offset on, shares with the ranges of the first
+/// pass.
 fn feed_piece(hasher: &mut Sha256, layout: &Layout, at: u64, piece: &[u8])
     requires { at + length piece.now < 2 ^ 64 }
     ensures { (f m : List ℕ) → piece.now ≡ slice_range f at (at + length piece.now)
@@ -31,13 +32,13 @@ fn feed_piece(hasher: &mut Sha256, layout: &Layout, at: u64, piece: &[u8])
     }
 }
 
-/// Hashes that run side by side: that of the file, and that of the ranges.
+/// Two running hashes: one of the file, one of the ranges.
 struct Running {
     file: Sha256,
     ranges: Sha256,
 }
 
-/// The hashes of the file and of the ranges that one pass meets, by reading each piece once.
+/// The hashes of the file and of the ranges of the first pass, reading each piece once.
 fn hash_pieces<S: Source>(source: &mut S, layout: &Layout) -> Result<Running, ReadFailed>
     requires { IsLayoutOf (S.content source.old) layout.now }
     ensures file { IfOk result (λ running. Holds256 running.file (S.content source.old)) }
@@ -64,15 +65,15 @@ fn hash_pieces<S: Source>(source: &mut S, layout: &Layout) -> Result<Running, Re
 }
 
 /// The SHA-256 of a file, its Authenticode digest and the digest that a signature of it holds. The
-/// layout is that of the source. It reads each piece of 65,536 bytes once, and with a gap the last
-/// range once more; it takes no memory.
+/// layout must be that of the source. Each piece of 65,536 bytes is read once, and if there is a
+/// gap the last range once more. No memory is taken.
 pub fn sums<S: Source>(source: &mut S, layout: &Layout) -> Result<Sums, ReadFailed>
     requires { IsLayoutOf (S.content source.old) layout.now }
     ensures file { IfOk result (λ sums. sums.file ≡ sha256 (S.content source.old)) }
     ensures digest { IfOk result (λ sums. sums.digest ≡ image_digest (S.content source.old)) }
     ensures signing { IfOk result (λ sums. sums.signing ≡ signed_digest (S.content source.old)) }
 
-    // A fault comes only where the source's count of failures rose or stood at its greatest.
+    // A fault is returned only if the source's failure count rose or was already at its maximum.
     ensures device { OnErr result (HaveRisen (S.failures source.old) (S.failures source.new)) }
 
     ensures reads { OnlyReads S.content S.failures source.old source.new }

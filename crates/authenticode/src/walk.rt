@@ -9,7 +9,7 @@ use crate::fault::CarriedFault;
 use crate::row::push_body;
 use desk_bytes::Digest;
 
-/// Adds what the entry at the front carries, and gives the bytes from the next place on.
+/// Adds the digests of the entry at the front, and returns the bytes from the next entry on.
 fn push_entry<'a>(digests: &mut Vec<Digest>, table: &'a [u8]) -> Result<&'a [u8], CarriedFault>
     requires { spec.is_end table.now ≡ false }
     ensures ok { IfOk result (λ rest.
@@ -27,7 +27,7 @@ fn push_entry<'a>(digests: &mut Vec<Digest>, table: &'a [u8]) -> Result<&'a [u8]
     Ok(entry.rest)
 }
 
-/// Adds what all entries carry.
+/// Adds the digests of all entries.
 pub(crate) fn push_table(digests: &mut Vec<Digest>, table: &[u8]) -> Result<(), CarriedFault>
     ensures ok { OnOk result (AddsAll (IsWalked table.now) digests.old.items digests.new.items) }
 

@@ -14,7 +14,7 @@ IsShortForm b bs n = (b < 128) × (bs ≡ []) × (n ≡ b)
 abbrev pub IsLongForm : ℕ → List ℕ → ℕ → Type 0
 IsLongForm b bs n = (128 < b) × (b < 133) × (length bs ≡ b - 128) × (n ≡ number_of bs)
 
--- these bytes tell the length n (X.690, 8.1.3)
+-- these bytes encode the length n (X.690, 8.1.3)
 abbrev pub IsLengthForm : List ℕ → ℕ → Type 0
 IsLengthForm [] n = ⊥
 IsLengthForm (b ∷ bs) n = IsShortForm b bs n ⊎ IsLongForm b bs n

@@ -2,12 +2,12 @@
 use Rattle.std.specs.Prelude.{◌≡◌, ℕ, List, ◌∷◌, ◌++◌, Ok, length, slice_index, slice_range}
 use Rattle.hex.specs.Hex.{IsBytes, decode_of, encode_lower}
 
--- what is stored as a GUID
+-- the stored bytes of a GUID
 abbrev pub IsGuid : List ℕ → Type 0
 IsGuid g = (length g ≡ 16) × IsBytes g
 
--- The bytes in the order of the text, from those in the order of storage, or the other way round: a u32 and
--- two u16 are stored with their low byte first, and 8 bytes as they are written.
+-- The bytes reordered from storage order to text order, or back: a u32 and two u16 are stored
+-- little-endian, and 8 bytes in the order of the text.
 abbrev pub swapped : List ℕ → List ℕ
 swapped (a ∷ b ∷ c ∷ d ∷ e ∷ f ∷ g ∷ h ∷ rest) = d ∷ c ∷ b ∷ a ∷ f ∷ e ∷ h ∷ g ∷ rest
 swapped g = g

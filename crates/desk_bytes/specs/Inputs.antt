@@ -1,4 +1,4 @@
--- The rows of the table of refusals that reading meets.
+-- The refusals of reading an input.
 use Rattle.desk_bytes.specs.declared.input.InputFault.{InputFault}
 use Rattle.desk_bytes.specs.declared.input.InputFault.TheVariants as fault
 use Rattle.desk_bytes.specs.declared.refusal.Refusal.{Refusal}

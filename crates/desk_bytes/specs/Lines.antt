@@ -3,12 +3,12 @@ use Rattle.std.specs.Prelude.{ℕ, ◌+◌, ◌==◌, ◌&&◌, Bool, false, if�
 use Rattle.std.specs.List.{onto_first}
 use Rattle.desk_bytes.specs.declared.line.Line.{Line}
 
--- the list has b in front
+-- the list begins with b
 abbrev pub begins_with : ℕ → List ℕ → Bool
 begins_with b [] = false
 begins_with b (x ∷ xs) = x == b
 
--- own: a text is parted at each LF (10) alone, and one CR (13) is dropped only where an LF follows it
+-- own: LF (10) alone ends a line, and one CR (13) is dropped only before an LF
 abbrev pub lines_of : List ℕ → List (List ℕ)
 lines_of [] = [] ∷ []
 lines_of (b ∷ bs) =
@@ -21,7 +21,7 @@ pub record Numbered : Type 0 where
   pub number : ℕ
   pub text : List ℕ
 
--- own: the lines with their numbers from n on: an empty line is counted and passed over
+-- own: the lines with their numbers from n on; an empty line is counted and left out
 abbrev pub numbered_from : ℕ → List (List ℕ) → List Numbered
 numbered_from n [] = []
 numbered_from n ([] ∷ lines) = numbered_from (n + 1) lines
@@ -31,21 +31,21 @@ numbered_from n ((b ∷ bs) ∷ lines) = record { number = n; text = b ∷ bs } 
 abbrev pub parted : List ℕ → List Numbered
 parted t = numbered_from 1 (lines_of t)
 
--- what a borrowed line shows
+-- the value of a borrowed line
 abbrev pub line_of : Line → Numbered
 line_of l = record { number = l.number; text = l.text.now }
 
--- one more in front of what was read, where that was no wrong line
+-- x before the results so far, unless they name a wrong line
 abbrev pub put_first : {X : Type 0} → X → Result (List X) ℕ → Result (List X) ℕ
 put_first x (Ok xs) = Ok (x ∷ xs)
 put_first x (Err line) = Err line
 
--- what the line with this number names, in front of what the rest names
+-- the item that the line with this number names, before those of the rest
 abbrev pub named_at : {X : Type 0} → ℕ → Option X → Result (List X) ℕ → Result (List X) ℕ
 named_at line None rest = Err line
 named_at line (Some x) rest = put_first x rest
 
--- own: what lines name, in their order, or the number of the first line that names nothing
+-- own: the items that the lines name, in order, or the number of the first line that names none
 abbrev pub named_in : {X : Type 0} → (List ℕ → Option X) → List Numbered → Result (List X) ℕ
 named_in name [] = Ok []
 named_in name (l ∷ ls) = named_at l.number (name l.text) (named_in name ls)

@@ -1,9 +1,10 @@
--- What stands at the front of bytes: an element (X.690, section 8.1) and what follows it.
+-- The element at the front of bytes (X.690, section 8.1) and the bytes after it.
 use Rattle.std.specs.Prelude.{ℕ, ◌+◌, ◌-◌, ◌%◌, ◌==◌, ◌||◌, nat_lt, length, take, drop, List, [], ◌∷◌, Option, Some, None, if◌then◌else◌}
 use Rattle.desk_bytes.specs.Elements.{number_of}
 use Rattle.desk_bytes.specs.declared.der.Element.{Element}
 
--- how many bytes the length form at the front takes, and the length that it tells (X.690, 8.1.3)
+-- the length form at the front: how many bytes it has, and the length that it encodes (X.690,
+-- 8.1.3)
 unfoldable pub form_of : List ℕ → Option (ℕ × ℕ)
 form_of [] = None
 form_of (b ∷ bs) =
@@ -19,7 +20,8 @@ pub record Part : Type 0 where
   pub whole : List ℕ
   pub rest : List ℕ
 
--- the element of a tag, with so many bytes of length form and of content after it, where they are there
+-- the element of a tag, with `sizes.0` bytes of length form and `sizes.1` of content after it, if
+-- they are there
 abbrev pub cut_of : ℕ → List ℕ → ℕ × ℕ → Option Part
 cut_of tag after sizes =
     if nat_lt (length after) (sizes.0 + sizes.1) then None
@@ -30,7 +32,7 @@ cut_of tag after sizes =
       rest = drop (sizes.0 + sizes.1) after;
     })
 
--- the same where a length form may be missing
+-- the same, where the length form may be missing
 abbrev pub cut_where : ℕ → List ℕ → Option (ℕ × ℕ) → Option Part
 cut_where tag after None = None
 cut_where tag after (Some sizes) = cut_of tag after sizes
@@ -40,6 +42,6 @@ unfoldable pub element_of : List ℕ → Option Part
 element_of [] = None
 element_of (tag ∷ after) = if tag % 32 == 31 then None else cut_where tag after (form_of after)
 
--- what a borrowed element and the bytes after it show
+-- the value of a borrowed element and of the bytes after it
 abbrev pub part_of : Element → List ℕ → Part
 part_of e rest = record { tag = e.tag; content = e.content.now; whole = e.whole.now; rest = rest }

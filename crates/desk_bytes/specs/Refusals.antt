@@ -3,7 +3,7 @@ use Rattle.std.specs.Prelude.{ℕ, Bool, false, true, List, codes}
 use Rattle.desk_bytes.specs.declared.refusal.Refusal.{Refusal}
 use Rattle.desk_bytes.specs.declared.refusal.Refusal.TheVariants as refusal
 
--- own: each number stands for one refusal, and is never given to another
+-- own: each number belongs to one refusal, and is never reused
 abbrev pub number_of : Refusal → ℕ
 number_of refusal.Short = 1
 number_of refusal.NoMz = 2
@@ -60,7 +60,7 @@ number_of refusal.LengthNeeded = 55
 number_of refusal.TooLarge = 56
 number_of refusal.NotSupported = 57
 
--- own: as `refused NUMBER NAME` shows it
+-- own: the name, as in `refused NUMBER NAME`
 abbrev pub name_of : Refusal → List ℕ
 name_of refusal.Short = codes "Short"
 name_of refusal.NoMz = codes "NoMz"
@@ -117,7 +117,7 @@ name_of refusal.LengthNeeded = codes "LengthNeeded"
 name_of refusal.TooLarge = codes "TooLarge"
 name_of refusal.NotSupported = codes "NotSupported"
 
--- own: a device failed, where the others refuse the input
+-- own: whether a device failed; the other refusals are of the input
 abbrev pub is_device : Refusal → Bool
 is_device refusal.Short = false
 is_device refusal.NoMz = false

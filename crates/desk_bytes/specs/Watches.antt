@@ -1,14 +1,14 @@
--- own: what a watch over reads remembers, and which faults of an input it accounts for.
+-- own: the memory of a watch over reads, and the input faults that it explains.
 use Rattle.std.specs.Prelude.{◌≡◌, true, ⊤}
 use Rattle.desk_bytes.specs.declared.input.InputFault.{InputFault}
 use Rattle.desk_bytes.specs.declared.input.InputFault.TheVariants.{TooLong, Read, NoMemory}
 use Rattle.desk_bytes.specs.declared.watch.Watch.{Watch}
 
--- a read failed, of those that the watch made
+-- a read of the watch failed
 abbrev pub HasFailed : Watch → Type 0
 HasFailed watch = watch.failed ≡ true
 
--- a fault has its cause: a read failed, or memory was refused; no input is too long
+-- the fault has its cause: a read failed, or memory was refused; TooLong has none
 abbrev pub HasCause : Watch → InputFault → Type 0
 HasCause watch TooLong = ⊥
 HasCause watch Read = HasFailed watch

@@ -13,7 +13,7 @@ pub struct Element<'a> {
     pub content: &'a [u8],
 }
 
-/// No DER element, or no certificate, stands where one is needed.
+/// A DER element, or a certificate, is missing where one is needed.
 #[derive(Clone, Copy, Debug, PartialEq, Eq, Error)]
 #[error("no DER element stands there")]
 pub struct NotDer;

@@ -32,7 +32,8 @@ fn first_element(bytes: &[u8]) -> Option<(Element<'_>, &[u8])>
     ))
 }
 
-/// The element that begins the bytes, and the bytes after it. Takes no memory, and no longer for more bytes.
+/// The element at the front of the bytes, and the bytes after it. Takes no memory; the time doesn't
+/// depend on how many bytes there are.
 ///
 /// A tag has one byte, and a length form up to five; a length needn't be in its shortest form.
 pub fn element(bytes: &[u8]) -> Result<(Element<'_>, &[u8]), NotDer>

@@ -11,8 +11,8 @@ use std::alloc::{AllocError, Global};
 use std::marker::Model;
 use thiserror::Error;
 
-/// A GUID, held as the 16 bytes that stand in a signature list: a u32 and two u16, little-endian, and
-/// 8 bytes as they are written. A contract sees the list of the 16 bytes.
+/// A GUID, as the 16 bytes that a signature list holds: a u32 and two u16, little-endian, then 8
+/// bytes in the order of the text. A contract sees the list of the 16 bytes.
 #[derive(Clone, Copy, Debug, PartialEq, Eq)]
 pub struct Guid([u8; 16]);
 
@@ -39,7 +39,7 @@ impl From<[u8; 16]> for Guid {
     }
 }
 
-/// The bytes in the order of the text, from those in the order of storage, or the other way round.
+/// The bytes reordered from storage order to text order, or back.
 fn swapped(bytes: &[u8; 16]) -> [u8; 16]
     ensures { result ≡ spec.swapped bytes.now }
 {
@@ -69,7 +69,7 @@ fn push_group(alloc: Global, text: &mut String, bytes: &[u8]) -> Result<(), Allo
 }
 
 impl Guid {
-    /// The 16 bytes as they stand in a signature list.
+    /// The 16 bytes, as a signature list holds them.
     pub fn as_bytes(&self) -> &[u8]
         ensures value { result.now ≡ self.now }
         ensures len { length result.now ≡ 16 }

@@ -11,7 +11,7 @@ use thiserror::Error;
 /// Why an input was not read.
 #[derive(Clone, Copy, Debug, PartialEq, Eq, Error)]
 pub enum InputFault {
-    /// More bytes came than the limit.
+    /// The input is longer than the limit.
     #[error("the input passes its limit")]
     TooLong,
     /// The reader failed or was interrupted.
@@ -35,7 +35,7 @@ impl InputFault {
     }
 }
 
-/// How many bytes are asked for at a time.
+/// The most bytes that one read asks for.
 const PIECE: usize = 65_536;
 
 /// Reads until there are `most` bytes or the input ends.
@@ -64,8 +64,8 @@ fn read_up_to<R: Read>(alloc: Global, reader: &mut R, most: usize) -> Result<Vec
     Ok(bytes)
 }
 
-/// Reads an input to its end. TooLong where it has more than `most` bytes: one more than these is read at most.
-/// An interrupted read is a fault: none is tried again. Takes memory for what it reads.
+/// Reads an input to its end. TooLong if it has more than `most` bytes; at most one byte past the
+/// limit is read. An interrupted read is a fault and isn't retried. Takes memory for what it reads.
 pub fn read_all<R: Read>(alloc: Global, reader: &mut R, most: usize) -> Result<Vec<u8>, InputFault>
     requires { most < 2 ^ 64 - 1 }
     ensures whole { IfOk result (λ bytes.

@@ -8,12 +8,12 @@ ghost use Rattle.desk_bytes.specs.Parts.{element_of, Part};
 ghost use Rattle.desk_bytes.specs.Refusals.{number_of};
 ghost use Rattle.desk_bytes.specs.declared.refusal.Refusal.{Refusal};
 
-/// No two refusals have one number.
+/// No two refusals share a number.
 pub fn refusal_numbers_differ()
     ensures { (r s : Refusal) → number_of r ≡ number_of s → r ≡ s }
 {}
 
-/// A text spells one GUID at most.
+/// A text spells at most one GUID.
 pub fn guid_text_is_one()
     ensures { (text g h : List ℕ) → IsGuidText text g → IsGuidText text h → g ≡ h }
 {}
@@ -29,12 +29,12 @@ pub fn digest_text_reads_back()
     ensures { (d : List ℕ) → length d ≡ 32 → IsBytes d → digest_of (encode_lower d) ≡ Some d }
 {}
 
-/// Digests are arranged in one way alone.
+/// Named digests have only one arrangement.
 pub fn arranged_is_one()
     ensures { (named ds es : List (List ℕ)) → IsArranged named ds → IsArranged named es → ds ≡ es }
 {}
 
-/// What `element_of` reads at the front of bytes is an element, and it reads each that stands there.
+/// `element_of` returns only elements, and returns each element that is at the front of the bytes.
 pub fn element_is_read()
     ensures found { (b : List ℕ) (p : Part) → element_of b ≡ Some p
         → IsElement p.tag p.content p.whole × (b ≡ p.whole ++ p.rest) }

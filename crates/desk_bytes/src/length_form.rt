@@ -19,7 +19,7 @@ fn number(bytes: &[u8]) -> usize
     }
 }
 
-/// The length form at the front: how many bytes it takes, and the length that it tells.
+/// The length form at the front: how many bytes it has, and the length that it encodes.
 #[tactic(auto, unfolding(crate::specs::Parts::form_of))]
 pub(crate) fn length_form(bytes: &[u8]) -> Option<(usize, usize)>
     ensures value { result ≡ form_of bytes.now }

@@ -1,8 +1,8 @@
-//! Numbers that stand in bytes, low byte first.
+//! Little-endian numbers in bytes.
 ghost use Rattle.std.specs.Prelude.{◌≡◌, ◌+◌, ◌≤◌, length};
 ghost use Rattle.desk_bytes.specs.Numbers as spec;
 
-/// The number in the two bytes from a place on, low byte first.
+/// The little-endian number in the two bytes from an offset on.
 #[tactic(auto, unfolding(crate::specs::Numbers::u16_at))]
 pub fn u16_at(bytes: &[u8], at: usize) -> u16
     requires { at + 2 ≤ length bytes.now }
@@ -12,7 +12,7 @@ pub fn u16_at(bytes: &[u8], at: usize) -> u16
     u16::from_le_bytes([two[0], two[1]])
 }
 
-/// The number in the four bytes from a place on, low byte first.
+/// The little-endian number in the four bytes from an offset on.
 #[tactic(auto, unfolding(crate::specs::Numbers::u32_at))]
 pub fn u32_at(bytes: &[u8], at: usize) -> u32
     requires { at + 4 ≤ length bytes.now }

@@ -21,8 +21,8 @@ impl WriteFailed {
     }
 }
 
-/// Writes all of the bytes, in as many writes as the writer needs. An interrupted write and one that
-/// takes nothing are faults: none is tried again.
+/// Writes all of the bytes, in as many writes as the writer needs. An interrupted write and one
+/// that takes nothing are faults and aren't retried.
 pub fn put<W: Write>(bytes: &[u8], writer: &mut W) -> Result<(), WriteFailed>
     ensures ok { OnOk result (Appends (W.contents writer.old) (W.contents writer.new) bytes.now) }
     ensures err { OnErr result
@@ -39,7 +39,7 @@ pub fn put<W: Write>(bytes: &[u8], writer: &mut W) -> Result<(), WriteFailed>
     Ok(())
 }
 
-/// Writes all of the slices, one after another, as `put` writes one.
+/// Writes all of the slices, one after another, each as `put` does.
 pub fn put_each<W: Write>(slices: &[&[u8]], writer: &mut W) -> Result<(), WriteFailed>
     ensures ok { OnOk result (Appends (W.contents writer.old) (W.contents writer.new)
         (joined slices.now)) }

@@ -4,8 +4,8 @@ ghost use Rattle.desk_bytes.specs.Lines as spec;
 
 use crate::line::Parted;
 
-/// The lines of a text with their numbers from 1. Each LF ends a line, and takes one CR before it along.
-/// Empty lines are counted and passed over.
+/// The lines of a text with their numbers from 1. Each LF ends a line and drops one CR before it.
+/// Empty lines are counted but not returned.
 pub fn parted(text: &[u8]) -> Parted<'_>
     ensures { result ≡ spec.parted text.now }
 {

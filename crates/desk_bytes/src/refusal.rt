@@ -8,15 +8,15 @@ use std::fmt;
 
 /// Why a call was refused, or which device failed it.
 ///
-/// A refusal keeps its number and its name for good. Some come with a place: a line, a record or an
-/// offset, which the fault of the call that refuses holds beside it.
+/// A refusal's number and name never change. Some have a place, a line, a record or an offset,
+/// which the fault of the refusing call holds.
 #[derive(Clone, Copy, Debug, PartialEq, Eq)]
 pub enum Refusal {
     /// The file ends before a header that it needs.
     Short,
     /// The file doesn't begin with `MZ`.
     NoMz,
-    /// No `PE`, 0, 0 stands where the u32 at 0x3C points.
+    /// The u32 at 0x3C doesn't lead to `PE`, 0, 0.
     NoPe,
     /// The optional header is neither PE32 (0x10B) nor PE32+ (0x20B).
     Magic,
@@ -31,7 +31,7 @@ pub enum Refusal {
     /// The certificate table isn't the end of the file or begins before the sections' end, or an entry of it
     /// isn't whole.
     Table,
-    /// No DER element, SignedData or certificate stands where one is needed.
+    /// A DER element, SignedData or certificate is missing where one is needed.
     Der,
     /// Two sections are named `.sbat`.
     TwoSbat,
@@ -41,7 +41,7 @@ pub enum Refusal {
     TooLong,
     /// A device: a read failed or was interrupted.
     Read,
-    /// No signature list stands there. The place is its offset in bytes.
+    /// There is no signature list at that place: its offset in bytes.
     List,
     /// A signature list's entries can't have the size that it gives. The place is its offset in
     /// bytes.
@@ -108,7 +108,7 @@ pub enum Refusal {
     Exists,
     /// The head of an HTTP request is wrong, too long or cut short.
     BadHead,
-    /// A field of an HTTP request is wrong, or stands twice.
+    /// A field of an HTTP request is wrong or repeated.
     BadField,
     /// The JSON body of an HTTP request is wrong.
     BadBody,

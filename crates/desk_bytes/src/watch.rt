@@ -12,29 +12,29 @@ use thiserror::Error;
 #[error("a read failed")]
 pub struct ReadFailed;
 
-/// Reads from a reader until a read fails, and remembers that it failed: from then on it reads no more.
+/// Reads from a reader until a read fails. It remembers the failure and reads no more.
 #[derive(Debug, Drop)]
 pub struct Watch {
     failed: bool,
 }
 
 impl Watch {
-    /// A watch that has seen no read.
+    /// A watch that has made no read.
     pub fn new() -> Watch
         ensures { result.failed ≡ false }
     {
         Watch { failed: false }
     }
 
-    /// Whether a read failed, of those that it made. None was made after that one.
+    /// Whether one of its reads failed. No read follows a failed one.
     pub fn has_failed(&self) -> bool
         ensures { result ≡ self.now.failed }
     {
         self.failed
     }
 
-    /// Reads some bytes, as the reader's own `read`: none only at the end of the input or into an empty slice. It
-    /// fails where the reader does, or did at an earlier read of this watch.
+    /// Reads some bytes, as the reader's own `read` does: none only at the end of the input or into
+    /// an empty slice. Fails if the reader does, or if an earlier read of this watch did.
     pub fn read<R: Read>(&mut self, reader: &mut R, buf: &mut [u8]) -> Result<usize, ReadFailed>
         ensures bound { ReadsAtMost result buf.new }
         ensures bytes { ReadConsumes (R.remaining reader.old) (R.remaining reader.new) result buf.new }

@@ -3,7 +3,7 @@ use Rattle.std.specs.Prelude.{◌<◌, ℕ, List, length}
 use Rattle.desk_bytes.specs.Digests.{IsArranged}
 use Rattle.desk_bytes.specs.Limits.{most_certificates}
 
--- own: more of the digests are different than an image may carry
+-- own: there are more different digests than an image may carry
 pub record HasMore (digests : List (List ℕ)) : Type 0 where
   pub arranged : List (List ℕ)
   pub is : IsArranged digests arranged

@@ -1,4 +1,5 @@
--- Forms of the values in commands and replies, as far as their canonical texts need them; the constructors test more.
+-- Forms of the values in commands and replies, as their canonical texts need them; the constructors
+-- check more.
 use Rattle.std.specs.Prelude.{◌≡◌, ℕ, ◌<◌, ◌^◌, List, Option, Some, None, All, true, length}
 use Rattle.hex.specs.Hex.{IsBytes}
 use Rattle.sbat.specs.declared.component.Component.{Component}

@@ -1,4 +1,4 @@
--- A call in its forms and within its limits: what holds of each call that a program can have.
+-- A call in its forms and within its limits, as each call of a program is.
 use Rattle.std.specs.Prelude.{◌≡◌, ◌≤◌, length, true}
 use Rattle.desk_bytes.specs.Digests.{IsAscending}
 use Rattle.desk_bytes.specs.Limits.{longest_image, most_certificates, most_components}
@@ -12,7 +12,7 @@ use Rattle.desk_texts.specs.declared.command.Command.{Command}
 use Rattle.desk_texts.specs.declared.command.Command.TheVariants.{AddPerson, Submit, Review, Withdraw, Return, ListCertificate, ListDigest, Unlist, RevokeDigest, RevokeCertificate, RaiseLevel, ImportRevocations, Confirm, Drop}
 use Rattle.desk_texts.specs.declared.facts.Facts.{Facts}
 
--- own: how long an image's file is and how much of it no section holds; its certificates ascend, each once
+-- own: the limits of an image's file and gap; its certificates ascend, each once
 pub record AreFactsWithin (facts : Facts) : Type 0 where
   pub gap : facts.extent.gap ≤ facts.extent.length
   pub file : facts.extent.length ≤ longest_image
@@ -20,12 +20,12 @@ pub record AreFactsWithin (facts : Facts) : Type 0 where
   pub carried : length facts.carried ≤ most_certificates
   pub components : length facts.components ≤ most_components
 
--- own: how many entries an import has, with those that it passes over; `sbat` is none of them
+-- own: the limit of an import's entries, including those that it skips; `sbat` is none of them
 pub record IsImportWithin (named : Imported) : Type 0 where
   pub entries : named_count named.passed named.digests named.certificates named.components ≤ most_imported
   pub no_sbat : names_no_sbat named.components ≡ true
 
--- the command keeps within the limits of what it names
+-- the command is within the limits of its values
 abbrev pub IsWithin : Command → Type 0
 IsWithin (AddPerson _) = Unit {0}
 IsWithin (Submit s) = AreFactsWithin s.facts
@@ -42,7 +42,7 @@ IsWithin (ImportRevocations i) = IsImportWithin i
 IsWithin (Confirm _) = Unit {0}
 IsWithin (Drop _) = Unit {0}
 
--- Who calls, the key, and all that the command names are in their forms and within their limits.
+-- The caller, the key and all values of the command are in their forms and within their limits.
 pub record IsCall (c : Call) : Type 0 where
   pub caller : IsCaller c.caller
   pub key : is_key c.key ≡ true

@@ -1,4 +1,4 @@
--- own: the words that stand for roles, votes, states and kinds.
+-- own: the words for roles, votes, states and kinds.
 use Rattle.std.specs.Prelude.{ℕ, List, codes}
 use Rattle.desk_texts.specs.declared.role.Role.{Role}
 use Rattle.desk_texts.specs.declared.role.Role.TheVariants.{Submitter, Reviewer, Officer, Signer}

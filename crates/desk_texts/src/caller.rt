@@ -15,7 +15,7 @@ pub enum Caller {
 }
 
 impl Caller {
-    /// The name under which the minutes hold it: `console`, or the person's name.
+    /// The caller's name in the minutes: `console`, or the person's name.
     pub fn name(&self) -> &str
         ensures { result.now ≡ caller_name self.now }
     {
@@ -25,8 +25,8 @@ impl Caller {
         }
     }
 
-    /// The caller whom the minutes hold under this name: the console for `console`, and else the person of the
-    /// name. Takes memory for the name.
+    /// The caller whose name in the minutes this is: the console for `console`, otherwise the
+    /// person of that name. Takes memory for the name.
     pub fn parse(alloc: Global, name: &[u8]) -> Result<Caller, TextFault>
         ensures found { (caller : Caller) → IsCaller caller → is_told_by_name caller ≡ true
             → name.now ≡ caller_name caller
@@ -43,7 +43,7 @@ impl Caller {
         }
     }
 
-    /// The same name in the type of people's names. Takes memory for it.
+    /// The same name as a `PersonName`. Takes memory for it.
     pub fn to_person_name(&self, alloc: Global) -> Result<PersonName, AllocError>
         ensures { IfOk result (λ name. name ≡ caller_name self.now) }
     {

@@ -25,7 +25,7 @@ impl Model for Carried {
 }
 
 impl Carried {
-    /// Digests that ascend already, each once, within the limit.
+    /// Digests that are ascending, each once, and within the limit.
     pub fn of(digests: Vec<Digest>) -> Carried
         requires ascending { IsAscending digests.items }
         requires few { length digests.items ≤ most_certificates }
@@ -34,8 +34,8 @@ impl Carried {
         Carried { digests }
     }
 
-    /// The digests, ascending, each once, or `None` where more than `MOST_CERTIFICATES` are different. The time is
-    /// that of sorting.
+    /// The digests, ascending, each once, or `None` if more than `MOST_CERTIFICATES` are different.
+    /// The time is that of sorting.
     pub fn new(digests: Vec<Digest>) -> Option<Carried>
         ensures { MatchOption result (HasMore digests.items)
             (λ carried. IsArranged digests.items carried) }

@@ -9,7 +9,8 @@ use std::marker::Model;
 /// The most bytes of a listed certificate.
 pub const LONGEST_CERTIFICATE: usize = 65_536;
 
-/// A certificate of 1 to `LONGEST_CERTIFICATE` bytes with the SHA-256 of its TBSCertificate, both as handed in.
+/// A certificate of 1 to `LONGEST_CERTIFICATE` bytes with the SHA-256 of its TBSCertificate, both
+/// as given.
 #[derive(Debug, Drop)]
 pub struct Certificate {
     body: Vec<u8>,
@@ -28,7 +29,7 @@ impl Model for Certificate {
 }
 
 impl Certificate {
-    /// The two, or `None` where the certificate is empty or has more than `LONGEST_CERTIFICATE` bytes.
+    /// The two, or `None` if the certificate is empty or has more than `LONGEST_CERTIFICATE` bytes.
     pub fn new(body: Vec<u8>, tbs: Digest) -> Option<Certificate>
         ensures { MatchOption result (is_certificate_size (length body.items) ≡ false)
             (λ certificate. certificate ≡ record { body = body.items; tbs = tbs }) }

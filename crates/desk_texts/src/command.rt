@@ -72,7 +72,7 @@ pub enum Command {
     Drop(ProposalNumber),
 }
 
-/// A command, who gives it, and the key under which the caller gives it.
+/// A command, its caller, and the key under which the caller gives it.
 #[derive(Debug, Drop)]
 pub struct Call {
     pub caller: Caller,

@@ -36,7 +36,7 @@ impl Components {
         Components { items }
     }
 
-    /// The components, or `None` where there are more than `MOST_COMPONENTS`.
+    /// The components, or `None` if there are more than `MOST_COMPONENTS`.
     pub fn new(items: Vec<Component>) -> Option<Components>
         ensures { MatchOption result (most_components < length items.items)
             (λ components. components ≡ items.items) }

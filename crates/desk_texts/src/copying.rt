@@ -1,4 +1,4 @@
-//! Copies of commands and of what they are made of.
+//! Copies of commands and of their parts.
 ghost use Rattle.std.specs.Prelude.{◌≡◌, IfOk};
 
 use crate::{Ballot, Call, Command, Person, Raise, Reply, ReturnedFile, Submission};

@@ -30,7 +30,7 @@ impl Digests {
         Digests { digests }
     }
 
-    /// The digests, or `None` where there are more than `MOST_IMPORTED`.
+    /// The digests, or `None` if there are more than `MOST_IMPORTED`.
     pub fn new(digests: Vec<Digest>) -> Option<Digests>
         ensures { MatchOption result (most_imported < length digests.items)
             (λ named. named ≡ digests.items) }

@@ -25,7 +25,8 @@ impl Model for Extent {
 }
 
 impl Extent {
-    /// The numbers of a file that is no longer than `LONGEST_IMAGE`, of a gap that is no longer than the file.
+    /// The lengths of a file of at most `LONGEST_IMAGE` bytes and of its gap, which is no longer
+    /// than the file.
     pub fn of(length: u64, gap: u64) -> Extent
         requires inside { gap ≤ length }
         requires few { length ≤ longest_image }
@@ -34,7 +35,8 @@ impl Extent {
         Extent { length, gap }
     }
 
-    /// Both numbers, or `None` where the gap is longer than the file or the file than `LONGEST_IMAGE`.
+    /// Both lengths, or `None` if the gap is longer than the file, or the file longer than
+    /// `LONGEST_IMAGE`.
     pub fn new(length: u64, gap: u64) -> Option<Extent>
         ensures { MatchOption result ((length < gap) ⊎ (longest_image < length))
             (λ extent. extent ≡ record { length = length; gap = gap }) }

@@ -1,5 +1,5 @@
-//! Values of a program, in their forms and within their limits. These calls serve proofs alone: they change
-//! nothing and give nothing back.
+//! Values of a program, in their forms and within their limits. These calls serve proofs only: they
+//! change nothing and return nothing.
 ghost use Rattle.std.specs.Prelude.{All};
 ghost use Rattle.hex.specs.Hex.{IsBytes};
 ghost use Rattle.desk_texts.specs.Commands.{AreCounts, IsCaller, IsCommand, IsComponent, IsCount, IsDigest, IsFacts, IsImport, IsReply};
@@ -92,8 +92,8 @@ fn show_caller(caller: &Caller)
     }
 }
 
-/// Each command that a program holds is in its form (`forms`, the premise of `command_texts_differ`) and within
-/// its limits.
+/// Each command of a program is in its form (`forms`, the premise of `command_texts_differ`) and
+/// within its limits.
 pub fn command_is_formed(command: &Command)
     ensures forms { IsCommand command.now }
     ensures limits { IsWithin command.now }
@@ -138,7 +138,7 @@ pub fn command_is_formed(command: &Command)
     }
 }
 
-/// Each call that a program holds, by its parts, is in its forms and within its limits.
+/// Each call of a program, by its parts, is in its forms and within its limits.
 pub fn call_is_formed(caller: &Caller, key: &Key, command: &Command)
     ensures { IsCall record { caller = caller.now; key = key.now; command = command.now } }
 {
@@ -147,7 +147,7 @@ pub fn call_is_formed(caller: &Caller, key: &Key, command: &Command)
     command_is_formed(command);
 }
 
-/// Each reply that a program holds is in its form: the premise of `reply_texts_differ`.
+/// Each reply of a program is in its form: the premise of `reply_texts_differ`.
 pub fn reply_is_formed(reply: &Reply)
     ensures { IsReply reply.now }
 {

@@ -23,7 +23,7 @@ const LONGEST_NOTE: usize = 200;
 /// The most digits of a request's number.
 const MOST_DIGITS: usize = 6;
 
-/// True if each byte is between `low` and `high`, both included.
+/// True if each byte is between `low` and `high`, inclusive.
 fn are_between(text: &[u8], low: u8, high: u8) -> bool
     ensures { result ≡ list_all (spec.is_between low high) text.now }
 {
@@ -143,7 +143,7 @@ fn held(alloc: Global, text: &[u8]) -> Result<String, TextFault>
     String::from_str(alloc, text).map_err(|_| TextFault::NoMemory)
 }
 
-/// An owned copy of the text, where it has its form. Takes memory for it.
+/// An owned copy of the text, if it has its form. Takes memory for it.
 pub(crate) fn held_in_form(alloc: Global, has_form: bool, text: &[u8]) -> Result<String, TextFault>
     requires { has_form ≡ true → list_all (spec.is_between 32 126) text.now ≡ true }
     ensures found { has_form ≡ true → MatchResult result (λ held. string_bytes held ≡ text.now)

@@ -8,11 +8,12 @@ use sbat::Stamp;
 use std::alloc::AllocError;
 use std::marker::Model;
 
-/// The most entries of one import, with those that it passes over.
+/// The most entries of one import, including those that it skips.
 pub const MOST_IMPORTED: usize = 10_000;
 
-/// The entries of one import: digests of images, digests of certificates, components, and the count of those that it
-/// passes over, `MOST_IMPORTED` entries at most in all; with the stamp of its level, if it has one.
+/// The entries of one import: digests of images, digests of certificates, components, and the count
+/// of entries that it skips, at most `MOST_IMPORTED` in all; and the stamp of its level, if it has
+/// one.
 #[derive(Debug, Drop)]
 pub struct Import {
     stamp: Option<Stamp>,
@@ -68,7 +69,7 @@ impl Import {
         }
     }
 
-    /// The import of these, or `None` where they are more than `MOST_IMPORTED` entries in all.
+    /// The import of these, or `None` if they are more than `MOST_IMPORTED` entries in all.
     pub fn new(
         stamp: Option<Stamp>,
         passed: u64,
@@ -106,7 +107,7 @@ impl Import {
         self.stamp
     }
 
-    /// The count of entries that it passes over.
+    /// The count of entries that it skips.
     pub fn passed(&self) -> u64
         ensures value { result ≡ self.now.passed }
         ensures few { result ≤ most_imported }

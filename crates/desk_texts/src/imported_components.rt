@@ -49,7 +49,7 @@ impl ImportedComponents {
         ImportedComponents { components }
     }
 
-    /// The components, or `None` where there are more than `MOST_IMPORTED` or one is named `sbat`.
+    /// The components, or `None` if there are more than `MOST_IMPORTED` or one is named `sbat`.
     pub fn new(components: Vec<Component>) -> Option<ImportedComponents>
         ensures { MatchOption result
             ((most_imported < length components.items) ⊎ (names_no_sbat components.items ≡ false))

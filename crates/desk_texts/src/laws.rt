@@ -17,7 +17,7 @@ pub fn reply_texts_differ()
     ensures { (a b : Reply) → IsReply a → IsReply b → reply_text_of a ≡ reply_text_of b → a ≡ b }
 {}
 
-/// The texts of some commands and replies are those that were written down by hand.
+/// The definitions give the texts of some commands and replies that were written by hand.
 pub fn worked_texts_are_written()
     ensures commands { WritesCommands }
     ensures replies { WritesReplies }

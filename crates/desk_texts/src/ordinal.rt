@@ -26,7 +26,7 @@ impl Model for Ordinal {
 }
 
 impl Ordinal {
-    /// The number, or `None` where it is 0 or above `GREATEST_NUMBER`.
+    /// The number, or `None` if it is 0 or above `GREATEST_NUMBER`.
     pub(crate) fn new(number: u64) -> Option<Ordinal>
         ensures { MatchOption result (is_ordinal number ≡ false)
             (λ ordinal. (ordinal ≡ number) × (is_ordinal number ≡ true)) }

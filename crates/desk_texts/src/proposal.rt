@@ -1,7 +1,7 @@
 //! Proposals to revoke, and to raise the level.
 use crate::{PersonName, ProposalNumber};
 
-/// The kind of what a proposal names.
+/// The kind of a proposal.
 #[derive(Clone, Copy, Debug, PartialEq, Eq)]
 pub enum ProposalKind {
     /// An image's digest.
@@ -10,7 +10,7 @@ pub enum ProposalKind {
     Certificate,
     /// A generation of a component.
     Level,
-    /// All of an import.
+    /// A whole import.
     Import,
 }
 

@@ -20,7 +20,7 @@ impl Model for ProposalNumber {
 }
 
 impl ProposalNumber {
-    /// The number, or `None` where it is 0 or above `GREATEST_NUMBER`.
+    /// The number, or `None` if it is 0 or above `GREATEST_NUMBER`.
     pub fn new(number: u64) -> Option<ProposalNumber>
         ensures { MatchOption result (is_proposal_number number ≡ false)
             (λ proposal. (proposal ≡ number) × (is_proposal_number number ≡ true)) }
@@ -29,7 +29,7 @@ impl ProposalNumber {
         Some(ProposalNumber { ordinal })
     }
 
-    /// The number, already tested.
+    /// The number, already checked.
     pub(crate) fn of(ordinal: Ordinal) -> ProposalNumber
         ensures { result ≡ ordinal }
     {

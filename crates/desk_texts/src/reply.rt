@@ -1,7 +1,8 @@
 //! Replies to accepted calls.
 use crate::{PersonName, ProposalNumber, RequestNumber, State};
 
-/// Counts of what was put into force, and of the entries of an import that were passed over.
+/// Counts of the entries that were put into force, and of the entries of an import that were
+/// skipped.
 #[derive(Clone, Copy, Debug, PartialEq, Eq)]
 pub struct Counts {
     /// Digests of images that weren't revoked before.
@@ -10,7 +11,7 @@ pub struct Counts {
     pub certificates: u64,
     /// Components whose generation rose.
     pub components: u64,
-    /// Entries passed over.
+    /// Entries skipped.
     pub passed: u64,
 }
 

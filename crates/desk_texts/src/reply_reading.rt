@@ -42,7 +42,7 @@ fn outcome_of(text: &[u8]) -> Option<Outcome>
     Some(Outcome { request, state })
 }
 
-/// The four numbers of what was put into force.
+/// The four counts of a reply.
 fn counts_of(text: &[u8]) -> Option<Counts>
     ensures found { IfSome result (λ c. AreCounts c
         × (text.now ≡ spaced (decimal c.digests ∷ decimal c.certificates ∷ decimal c.components ∷ decimal c.passed ∷ []))) }

@@ -20,7 +20,7 @@ impl Model for RequestNumber {
 }
 
 impl RequestNumber {
-    /// The number, or `None` where it is 0 or above `GREATEST_NUMBER`.
+    /// The number, or `None` if it is 0 or above `GREATEST_NUMBER`.
     pub fn new(number: u64) -> Option<RequestNumber>
         ensures { MatchOption result (is_request_number number ≡ false)
             (λ request. (request ≡ number) × (is_request_number number ≡ true)) }
@@ -29,7 +29,7 @@ impl RequestNumber {
         Some(RequestNumber { ordinal })
     }
 
-    /// The number, already tested.
+    /// The number, already checked.
     pub(crate) fn of(ordinal: Ordinal) -> RequestNumber
         ensures { result ≡ ordinal }
     {

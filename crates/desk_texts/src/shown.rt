@@ -11,7 +11,7 @@ use desk_bytes::Digest;
 use std::cmp::Ordering;
 use std::marker::Model;
 
-/// A vote on a request, and whose it is.
+/// A vote on a request, and its reviewer.
 #[derive(Debug, Drop)]
 pub struct ShownVote {
     pub reviewer: PersonName,

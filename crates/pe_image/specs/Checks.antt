@@ -1,4 +1,5 @@
--- What holds of an image that is accepted. own: the order of the checks, and those that name no section.
+-- The conditions for an accepted image. own: the order of the checks, and those that name no
+-- section.
 use Rattle.std.specs.Prelude.{◌≡◌, ◌⊎◌, ℕ, ◌+◌, ◌*◌, ◌==◌, ◌&&◌, ◌||◌, Bool, true, not, nat_le, if◌then◌else◌, List, [], ◌∷◌, ◌++◌, length, Option, Some, None}
 use Rattle.std.specs.List.{list_all}
 use Rattle.desk_bytes.specs.Limits.{longest_image}
@@ -36,7 +37,7 @@ magic_checks f =
     (nat_le (optional_header_offset f + 2) (length f) && (magic f == pe32 || magic f == pe32_plus), Magic)
     ∷ []
 
--- own: the optional header has room for what it needs ("Optional Header")
+-- own: the optional header has room for the fields that are needed ("Optional Header")
 abbrev pub size_checks : List ℕ → List (Bool × LayoutFault)
 size_checks f =
     (nat_le (fixed_size f) (size_of_optional_header f) && nat_le (sections_begin f) (length f), Headers)
@@ -56,11 +57,11 @@ header_checks f =
     )
     ∷ []
 
--- what is asked before the sections
+-- the checks before the sections
 abbrev pub front_checks : List ℕ → List (Bool × LayoutFault)
 front_checks f = start_checks f ++ magic_checks f ++ size_checks f ++ header_checks f
 
--- own: raw sections stand within a file of this length, after its headers, and share no byte
+-- own: raw sections lie within a file of this length, after its headers, and share no byte
 abbrev pub section_checks : List Span → ℕ → ℕ → List (Bool × LayoutFault)
 section_checks spans headers_end size =
     (list_all (λ s. nat_le s.to size) spans, Sections)
@@ -104,12 +105,12 @@ abbrev pub first_of : List (Bool × LayoutFault) → Option LayoutFault
 first_of [] = None
 first_of (c ∷ cs) = if c.0 then first_of cs else Some c.1
 
--- the same of a whole file
+-- the same for a whole file
 abbrev pub first_fault : List ℕ → Option LayoutFault
 first_fault f = first_of (checks f)
 
--- why there is no layout: the first check that fails, or a read that did, of which the counts before and
--- after the call tell
+-- Why an image is refused: its first failing check, or a failed read, in which case the failure
+-- count rose or was already at its maximum.
 abbrev pub IsRefused : List (Bool × LayoutFault) → ℕ → ℕ → LayoutFault → Type 0
 IsRefused cs before after fault =
     (first_of cs ≡ Some fault) ⊎ ((fault ≡ Read) × HaveRisen before after)

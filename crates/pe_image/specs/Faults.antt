@@ -1,4 +1,4 @@
--- Which refusal a fault of an image is.
+-- The refusal of each fault of an image.
 use Rattle.desk_bytes.specs.declared.refusal.Refusal.{Refusal}
 use Rattle.desk_bytes.specs.declared.refusal.Refusal.TheVariants as refusal
 use Rattle.pe_image.specs.declared.fault.LayoutFault.{LayoutFault}

@@ -17,6 +17,6 @@ plain f =
     then without (checksum_offset f) (checksum_offset f + 4) (without (certificate_directory_offset f) (certificate_directory_offset f + 8) (take (image_end f) f))
     else without (checksum_offset f) (checksum_offset f + 4) (take (image_end f) f)
 
--- an image without a gap is hashed but for those
+-- an image without a gap is hashed except for those bytes
 abbrev pub HashesAllElse : Type 0
 HashesAllElse = (f : List ℕ) → IsLaid f → gap f ≡ 0 → hashed_bytes f ≡ plain f

@@ -5,7 +5,7 @@ use Rattle.pe_image.specs.declared.header.Header.{Header}
 use Rattle.pe_image.specs.Spans.{span}
 use Rattle.pe_image.specs.declared.span.Span.{Span}
 
--- the section header at a place: Name, VirtualSize, SizeOfRawData, PointerToRawData
+-- the section header at an offset: Name, VirtualSize, SizeOfRawData, PointerToRawData
 unfoldable pub header_at : List ℕ → ℕ → Header
 header_at f at = record {
   name = slice_range f at (at + 8);
@@ -14,7 +14,7 @@ header_at f at = record {
   pointer_to_raw_data = u32_at f (at + 20);
 }
 
--- so many section headers, one after another from a place on
+-- this many section headers, one after another from an offset on
 unfoldable pub headers_from : List ℕ → ℕ → ℕ → List Header
 headers_from f at zero = []
 headers_from f at (suc n) = header_at f at ∷ headers_from f (at + 40) n
@@ -23,10 +23,10 @@ headers_from f at (suc n) = header_at f at ∷ headers_from f (at + 40) n
 abbrev pub is_raw : Header → Bool
 is_raw h = nat_lt 0 h.size_of_raw_data
 
--- where the raw data of a section stand: SizeOfRawData bytes from PointerToRawData on
+-- the raw data of a section: SizeOfRawData bytes from PointerToRawData on
 abbrev pub span_of : Header → Span
 span_of h = span h.pointer_to_raw_data (h.pointer_to_raw_data + h.size_of_raw_data)
 
--- where the raw sections stand, in the order of their headers
+-- the spans of the raw sections, in the order of their headers
 unfoldable pub raw_of : List Header → List Span
 raw_of hs = map span_of (filter is_raw hs)

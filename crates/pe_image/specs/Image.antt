@@ -1,4 +1,4 @@
--- The numbers of an image, at their places in the file (PE/COFF).
+-- The numbers of an image, at their offsets in the file (PE/COFF).
 use Rattle.std.specs.Prelude.{ℕ, ◌+◌, ◌-◌, ◌==◌, ◌&&◌, Bool, nat_lt, if◌then◌else◌, List, length, sum_by}
 use Rattle.desk_bytes.specs.Numbers.{u16_at, u32_at}
 use Rattle.pe_image.specs.Headers.{headers_from, raw_of}
@@ -6,7 +6,7 @@ use Rattle.pe_image.specs.Spans.{size_of, reach}
 use Rattle.pe_image.specs.declared.header.Header.{Header}
 use Rattle.pe_image.specs.declared.span.Span.{Span}
 
--- `MZ` ("MS-DOS Stub"), as the u16 that it is
+-- `MZ` ("MS-DOS Stub"), as a u16
 abbrev pub mz : ℕ
 mz = 0x5a4d
 
@@ -14,11 +14,11 @@ mz = 0x5a4d
 abbrev pub dos_header_size : ℕ
 dos_header_size = 64
 
--- `PE`, 0, 0 ("Signature"), as the u32 that it is
+-- `PE`, 0, 0 ("Signature"), as a u32
 abbrev pub pe : ℕ
 pe = 0x4550
 
--- the offset of the signature, which stands at 0x3c ("MS-DOS Stub")
+-- the offset of the signature, which is stored at 0x3c ("MS-DOS Stub")
 abbrev pub pe_signature_offset : List ℕ → ℕ
 pe_signature_offset f = u32_at f 0x3c
 
@@ -74,7 +74,7 @@ has_certificate_directory f = nat_lt 4 (number_of_rva_and_sizes f)
 abbrev pub certificate_directory_offset : List ℕ → ℕ
 certificate_directory_offset f = optional_header_offset f + (fixed_size f + 32)
 
--- where the certificate table begins: its entry gives a place in the file
+-- where the certificate table begins: its entry gives a file offset
 abbrev pub table_offset : List ℕ → ℕ
 table_offset f = u32_at f (certificate_directory_offset f)
 
@@ -94,7 +94,7 @@ sections_begin f = optional_header_offset f + size_of_optional_header f
 unfoldable pub headers : List ℕ → List Header
 headers f = headers_from f (sections_begin f) (number_of_sections f)
 
--- where the raw sections stand, in the order of their headers
+-- the spans of the raw sections, in the order of their headers
 unfoldable pub raw : List ℕ → List Span
 raw f = raw_of (headers f)
 
@@ -106,7 +106,7 @@ sum_of_bytes_hashed f = size_of_headers f + sum_by size_of (raw f)
 abbrev pub sections_end : List ℕ → ℕ
 sections_end f = reach (size_of_headers f) (raw f)
 
--- own: how many bytes before the sections' end stand in no header and in no section
+-- own: how many bytes before the sections' end are in no header and in no section
 abbrev pub gap : List ℕ → ℕ
 gap f = sections_end f - sum_of_bytes_hashed f
 

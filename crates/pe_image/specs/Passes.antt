@@ -1,10 +1,10 @@
--- The hashed ranges in the order in which passes over the file meet them.
+-- The hashed ranges, in passes over the file.
 use Rattle.std.specs.Prelude.{ℕ, ◌-◌, ◌==◌, if◌then◌else◌, List, length, take, drop}
 use Rattle.pe_image.specs.Places.{Places, spans_of}
 use Rattle.pe_image.specs.declared.span.Span.{Span}
 
--- own: how many of the ranges one pass meets in their order: all, or with a gap all but the last, which begins
--- before the sections end
+-- own: how many of the ranges one pass reads in order: all, or, if there is a gap, all but the
+-- last, which begins before the sections end
 abbrev pub in_first_pass : Places → ℕ
 in_first_pass p = if p.gap == 0 then length (spans_of p) else length (spans_of p) - 1
 

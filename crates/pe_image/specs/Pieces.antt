@@ -1,4 +1,4 @@
--- The rows of the table of refusals that reading into pieces meets.
+-- The refusals of reading into pieces.
 use Rattle.desk_bytes.specs.declared.refusal.Refusal.{Refusal}
 use Rattle.desk_bytes.specs.declared.refusal.Refusal.TheVariants as refusal
 use Rattle.pe_image.specs.declared.pieces.PiecesFault.{PiecesFault}

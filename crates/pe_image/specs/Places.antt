@@ -1,4 +1,4 @@
--- What a layout tells of a file, and which places of it are hashed.
+-- The layout of a file, and the ranges of it that are hashed.
 use Rattle.std.specs.Prelude.{◌≡◌, ℕ, ◌+◌, ◌≤◌, if◌then◌else◌, List, [], ◌∷◌, ◌++◌, length, Option, Some, None, IfSome}
 use Rattle.pe_image.specs.Spans.{span, nonempty, in_order, EndWithin, IsWithin, StandBetween}
 use Rattle.pe_image.specs.Checks.{IsLaid}
@@ -52,9 +52,9 @@ abbrev pub around : Span → Option Span → ℕ → List Span
 around c None end = span 0 c.from ∷ span c.to end ∷ []
 around c (Some e) end = span 0 c.from ∷ span c.to e.from ∷ span e.to end ∷ []
 
--- What is hashed (Authenticode, "Calculating the PE Image Hash"): the headers, the sections in ascending
--- order, and the bytes from SUM_OF_BYTES_HASHED up to the certificate table. own: with a gap they begin
--- there too, and may repeat bytes of a section.
+-- The hashed ranges (Authenticode, "Calculating the PE Image Hash"): the headers, the sections in
+-- ascending order, and the bytes from SUM_OF_BYTES_HASHED up to the certificate table. own: if
+-- there is a gap, they begin there too, and may repeat bytes of a section.
 unfoldable pub spans_of : Places → List Span
 spans_of p =
     nonempty (
@@ -67,8 +67,9 @@ abbrev pub end_by : Option Span → ℕ → ℕ
 end_by None n = n
 end_by (Some t) n = t.from
 
--- p is the layout of f: f is accepted, its sections stand in ascending order after the headers, no two
--- share a byte, and all that is hashed, the table, the text of `.sbat` and the gap lie within the file
+-- p is the layout of f: f is accepted, its sections are in ascending order after the headers, no
+-- two share a byte, and the hashed ranges, the table, the text of `.sbat` and the gap lie within
+-- the file
 pub record IsLayoutOf (f : List ℕ) (p : Places) : Type 0 where
   pub laid : IsLaid f
   pub places : p ≡ places_of f

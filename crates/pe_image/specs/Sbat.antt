@@ -9,16 +9,17 @@ use Rattle.pe_image.specs.declared.span.Span.{Span}
 abbrev pub is_sbat : Header → Bool
 is_sbat h = bytes_eq h.name (codes ".sbat" ++ 0 ∷ 0 ∷ 0 ∷ [])
 
--- own: how many bytes of a section are text: VirtualSize of them at most, where it is given
+-- own: how many bytes of a section are text: SizeOfRawData, or VirtualSize if that is given and
+-- less
 abbrev pub text_size : Header → ℕ
 text_size h = if h.virtual_size == 0 then h.size_of_raw_data else min h.virtual_size h.size_of_raw_data
 
--- the same where there may be no section
+-- the same, where there may be no section
 abbrev pub size_of_text : Option Header → ℕ
 size_of_text None = 0
 size_of_text (Some h) = text_size h
 
--- own: where the text of a section stands; a section without a byte of text counts as none
+-- own: the span of a section's text; a section without a byte of text counts as none
 abbrev pub text_at : Option Header → Option Span
 text_at None = None
 text_at (Some h) =

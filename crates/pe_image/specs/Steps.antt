@@ -1,2 +1,2 @@
--- What the steps of a reading hand to one another. No public contract names these words.
+-- Relations between the steps of a reading. No public contract names these words.
 pub mod Front

@@ -13,7 +13,7 @@ use crate::span::Span;
 /// The most bytes that the table may have.
 const LONGEST_TABLE: u64 = 1_048_576;
 
-/// Where the certificate table stands, for its entry and the end of the sections.
+/// The span of the certificate table, for its entry and the end of the sections.
 pub(crate) fn read_table<S: Source>(
     source: &mut S,
     directory: Option<Span>,

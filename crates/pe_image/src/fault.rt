@@ -5,7 +5,7 @@ ghost use Rattle.pe_image.specs.Faults.{read_failed, refusal_of};
 use desk_bytes::{ReadFailed, Refusal};
 use thiserror::Error;
 
-/// The first condition that an image doesn't meet, or a read that failed.
+/// The first condition that an image fails, or a failed read.
 #[derive(Clone, Copy, Debug, PartialEq, Eq, Error)]
 pub enum LayoutFault {
     #[error("the file ends before a header that it needs")]

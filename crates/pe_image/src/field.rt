@@ -3,7 +3,7 @@
 /// The size of the MS-DOS header.
 pub(crate) const DOS_HEADER_SIZE: u64 = 64;
 
-/// Where the offset of the signature stands, from the file's beginning.
+/// The place of the signature's offset, from the file's beginning.
 pub(crate) const PE_SIGNATURE_OFFSET: u64 = 0x3c;
 
 /// NumberOfSections, a u16.
@@ -30,7 +30,7 @@ pub(crate) const SUBSYSTEM: u64 = OPTIONAL_HEADER + 68;
 /// The size of the optional header of PE32 without its data directories.
 pub(crate) const PE32_SIZE: u64 = 96;
 
-/// The same of PE32+.
+/// The same for PE32+.
 pub(crate) const PE32_PLUS_SIZE: u64 = 112;
 
 /// The index of the certificate table's entry among the data directories.

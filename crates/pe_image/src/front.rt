@@ -9,7 +9,7 @@ use crate::optional::{Directories, Extent, read_directories, read_extent, read_f
 use crate::source::Source;
 use crate::start::read_start;
 
-/// The offset of the PE signature, and what the headers say of the image.
+/// The offset of the PE signature, and the values of the headers.
 #[derive(Clone, Copy, Debug)]
 pub(crate) struct Front {
     pub(crate) pe_signature: u64,
@@ -17,7 +17,7 @@ pub(crate) struct Front {
     pub(crate) extent: Extent,
 }
 
-/// What stands before the sections.
+/// The headers before the sections.
 pub(crate) fn read_front<S: Source>(source: &mut S) -> Result<Front, LayoutFault>
     ensures ok { OnOk result (first_of (front_checks (S.content source.old)) ≡ None) }
     ensures exact { IfOk result (λ front. IsFront (S.content source.old) front) }

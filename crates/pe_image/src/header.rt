@@ -8,7 +8,7 @@ use crate::field::SECTION_HEADER_SIZE;
 use crate::source::Source;
 use desk_bytes::{ReadFailed, u32_at};
 
-/// What a section header says.
+/// The fields of a section header.
 #[derive(Clone, Copy, Debug)]
 pub(crate) struct Header {
     pub(crate) name: [u8; 8],
@@ -27,7 +27,7 @@ impl Header {
     };
 }
 
-/// The section header at a place.
+/// The section header at an offset.
 #[tactic(auto, unfolding(crate::specs::Headers::header_at))]
 fn read_header<S: Source>(source: &mut S, at: u64) -> Result<Header, ReadFailed>
     requires { at + 40 ≤ length (S.content source.old) }
@@ -49,7 +49,7 @@ fn read_header<S: Source>(source: &mut S, at: u64) -> Result<Header, ReadFailed>
     })
 }
 
-/// Writes the section table's headers over the first `count`, for where the table begins.
+/// Reads the section table, which begins at `begin`, into the first `count` headers.
 pub(crate) fn read_headers<S: Source>(
     source: &mut S,
     begin: u64,

@@ -47,11 +47,11 @@ fn end_of(table: Option<Span>, length: u64) -> u64
     }
 }
 
-/// The layout of an image. It reads the headers alone, and takes no memory.
+/// The layout of an image. Only its headers are read, and no memory is taken.
 pub fn layout<S: Source>(source: &mut S) -> Result<Layout, LayoutFault>
     ensures exact { IfOk result (λ places. IsLayoutOf (S.content source.old) places) }
 
-    // Read is answered only where the source's count of failures rose or stood at its greatest.
+    // Read is returned only if the source's failure count rose or was already at its maximum.
     ensures first { IfErr result (IsRefused (checks (S.content source.old))
         (S.failures source.old) (S.failures source.new)) }
 

@@ -1,4 +1,4 @@
-//! Which places of an image are hashed.
+//! The ranges of an image that are hashed.
 ghost use Rattle.std.specs.Prelude.{◌≡◌, ◌+◌, ◌<◌, ◌≤◌, ◌++◌, ◌∷◌, ℕ, List, [], All, length, take};
 ghost use Rattle.pe_image.specs.Spans.{nonempty, bytes_at};
 ghost use Rattle.pe_image.specs.Places.{around, places_of, spans_of};
@@ -8,7 +8,7 @@ use crate::places::Layout;
 use crate::span::Span;
 use crate::span_list::{Ranges, push};
 
-/// Puts the spans around CheckSum and the entry, and says how many there are.
+/// Puts the spans around CheckSum and the entry, and returns how many there are.
 fn push_headers(spans: &mut [Span], checksum: Span, directory: Option<Span>, end: u64) -> usize
     requires { 3 ≤ length spans.old }
     ensures few { result ≤ 3 }
@@ -24,7 +24,7 @@ fn push_headers(spans: &mut [Span], checksum: Span, directory: Option<Span>, end
     }
 }
 
-/// Puts the sections after the first `count` spans, and says how many there are then.
+/// Puts the sections after the first `count` spans, and returns how many there are then.
 fn push_sections(spans: &mut [Span], count: usize, sections: &[Span]) -> usize
     requires { count + length sections.now ≤ length spans.old }
     ensures few { result ≤ count + length sections.now }
@@ -44,7 +44,7 @@ pub fn ranges(layout: &Layout) -> Ranges
     ensures few { length result ≤ 100 }
     ensures full { All (λ s. s.from < s.to) result }
 
-    // Of a file with this layout the slices, joined, are its hashed bytes.
+    // For a file with this layout, the slices at these ranges, joined, are its hashed bytes.
     ensures joined { (f : List ℕ) → layout.now ≡ places_of f → bytes_at f result ≡ hashed_bytes f }
 {
     let mut spans = [Span::EMPTY; 100];

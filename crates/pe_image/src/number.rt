@@ -1,4 +1,4 @@
-//! Numbers that stand in a source, low byte first.
+//! Little-endian numbers in a source.
 ghost use Rattle.std.specs.Prelude.{◌≡◌, ◌+◌, ◌≤◌, length, slice_range, OnErr, IfOk};
 ghost use Rattle.desk_bytes.specs.Numbers.{u16_at, u32_at};
 ghost use Rattle.pe_image.specs.Sources.{HaveRisen, OnlyReads};
@@ -6,7 +6,7 @@ ghost use Rattle.pe_image.specs.Sources.{HaveRisen, OnlyReads};
 use crate::source::Source;
 use desk_bytes::{ReadFailed, u16_at, u32_at};
 
-/// The bytes from a place on, as many as the array has.
+/// The bytes from an offset on, as many as the array has.
 fn read_array<S: Source, const N: usize>(source: &mut S, at: u64) -> Result<[u8; N], ReadFailed>
     requires { at + N ≤ length (S.content source.old) }
     ensures ok { IfOk result (λ bytes. bytes ≡ slice_range (S.content source.old) at (at + N)) }
@@ -20,7 +20,7 @@ fn read_array<S: Source, const N: usize>(source: &mut S, at: u64) -> Result<[u8;
     Ok(bytes)
 }
 
-/// The number in the two bytes from a place on.
+/// The number in the two bytes from an offset on.
 pub(crate) fn read_u16<S: Source>(source: &mut S, at: u64) -> Result<u16, ReadFailed>
     requires { at + 2 ≤ length (S.content source.old) }
     ensures ok { IfOk result (λ n. n ≡ u16_at (S.content source.old) at) }
@@ -33,7 +33,7 @@ pub(crate) fn read_u16<S: Source>(source: &mut S, at: u64) -> Result<u16, ReadFa
     Ok(u16_at(&bytes, 0))
 }
 
-/// The number in the four bytes from a place on.
+/// The number in the four bytes from an offset on.
 pub(crate) fn read_u32<S: Source>(source: &mut S, at: u64) -> Result<u32, ReadFailed>
     requires { at + 4 ≤ length (S.content source.old) }
     ensures ok { IfOk result (λ n. n ≡ u32_at (S.content source.old) at) }

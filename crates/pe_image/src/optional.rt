@@ -29,7 +29,8 @@ const EFI_ROM: u16 = 13;
 /// The most sections that an image may have.
 const MOST_SECTIONS: u16 = 96;
 
-/// The size of the optional header without its directories, for the offset of the PE signature.
+/// The size of the optional header without its directories. `pe_signature` is the signature's
+/// offset.
 pub(crate) fn read_fixed_size<S: Source>(
     source: &mut S,
     pe_signature: u64,
@@ -61,7 +62,8 @@ pub(crate) struct Directories {
     pub(crate) certificate_directory: Option<Span>,
 }
 
-/// The directories, for the offset of the PE signature and the size that `read_fixed_size` gave.
+/// The directories, from the offset of the PE signature and the size that `read_fixed_size`
+/// returned.
 pub(crate) fn read_directories<S: Source>(
     source: &mut S,
     pe_signature: u64,
@@ -110,7 +112,8 @@ pub(crate) struct Extent {
     pub(crate) headers_end: u64,
 }
 
-/// The extent of the headers, for the offset of the PE signature and what `read_directories` gave.
+/// The extent of the headers, from the offset of the PE signature and the result of
+/// `read_directories`.
 pub(crate) fn read_extent<S: Source>(
     source: &mut S,
     pe_signature: u64,

@@ -1,4 +1,4 @@
-//! The ranges of an image, as passes over the file meet them.
+//! The ranges of an image, in passes over the file.
 ghost use Rattle.std.specs.Prelude.{◌≡◌, ◌<◌, ◌++◌, ℕ, List, All, length};
 ghost use Rattle.pe_image.specs.Hashed.{hashed_bytes};
 ghost use Rattle.pe_image.specs.Passes.{first_pass_of, second_pass_of};
@@ -9,8 +9,8 @@ use crate::listing::ranges;
 use crate::places::{Layout, gap};
 use crate::span_list::Ranges;
 
-/// The ranges that one pass over the file meets in their order: all of them, or with a gap all but
-/// the last, which begins before the sections end.
+/// The ranges that one pass over the file reads in order: all of them, or, if there is a gap, all
+/// but the last, which begins before the sections end.
 pub fn first_pass(layout: &Layout) -> Ranges
     ensures exact { result ≡ first_pass_of layout.now }
     ensures full { All (λ s. s.from < s.to) result }
@@ -25,13 +25,13 @@ pub fn first_pass(layout: &Layout) -> Ranges
     }
 }
 
-/// The ranges that a second pass has to read: with a gap the last one, none without. Takes no
+/// The ranges left for a second pass: the last one if there is a gap, otherwise none. Takes no
 /// memory.
 pub fn second_pass(layout: &Layout) -> Ranges
     ensures exact { result ≡ second_pass_of layout.now }
     ensures full { All (λ s. s.from < s.to) result }
 
-    // The slices of a file with this layout at the ranges of both passes, joined, are its hashed
+    // For a file with this layout, the slices at the ranges of both passes, joined, are its hashed
     // bytes.
     ensures joined { (f : List ℕ) → layout.now ≡ places_of f
         → bytes_at f (first_pass_of layout.now) ++ bytes_at f result ≡ hashed_bytes f }

@@ -14,10 +14,10 @@ use std::io::Read;
 use std::marker::Model;
 use thiserror::Error;
 
-/// How many bytes a piece has.
+/// The size of a piece in bytes.
 pub const PIECE: usize = 65_536;
 
-/// Why an input isn't in pieces.
+/// Why an input wasn't read into pieces.
 #[derive(Clone, Copy, Debug, PartialEq, Eq, Error)]
 pub enum PiecesFault {
     /// The reader failed or was interrupted.
@@ -59,7 +59,7 @@ impl Model for Pieces {
         × (p.size ≡ PIECE * length p.full.items + length p.last.items) };
 }
 
-/// Reads until the slice is full or the input ends, and says how many bytes came.
+/// Reads until the slice is full or the input ends, and returns how many bytes came.
 fn fill<R: Read>(reader: &mut R, watch: &mut Watch, out: &mut [u8]) -> Result<usize, PiecesFault>
     ensures ok { IfOk result (λ count.
         Consumes (R.remaining reader.old) (R.remaining reader.new) (take count out.new)) }
@@ -82,7 +82,7 @@ fn fill<R: Read>(reader: &mut R, watch: &mut Watch, out: &mut [u8]) -> Result<us
     Ok(count)
 }
 
-/// Reads so many bytes, or fewer where the input ends.
+/// Reads `most` bytes, or fewer if the input ends.
 fn read_piece<R: Read>(
     alloc: Global,
     reader: &mut R,
@@ -107,7 +107,7 @@ fn read_piece<R: Read>(
 }
 
 impl Pieces {
-    /// Takes what `take` does, under a watch. Read where a read fails, and only there: none is made after it.
+    /// Like `take`, but under a watch, which records a failed read. No read follows a failed one.
     pub fn take_watched<R: Read>(
         alloc: Global,
         reader: &mut R,
@@ -142,9 +142,9 @@ impl Pieces {
         }
     }
 
-    /// Reads until `most` bytes came or the input ended, and asks for no byte more. An interrupted
-    /// read is a fault: none is tried again. Takes memory for what it reads, in pieces of 65,536
-    /// bytes.
+    /// Reads until `most` bytes have come or the input ends, and never asks for more. An
+    /// interrupted read is a fault and isn't retried. Takes memory for what it reads, in pieces of
+    /// 65,536 bytes.
     pub fn take<R: Read>(alloc: Global, reader: &mut R, most: u64) -> Result<Pieces, PiecesFault>
         ensures whole { IfOk result (λ bytes.
             Consumes (R.remaining reader.old) (R.remaining reader.new) bytes) }
@@ -155,7 +155,7 @@ impl Pieces {
         Pieces::take_watched(alloc, reader, &mut Watch::new(), most)
     }
 
-    /// The bytes from a place up to the end of its piece.
+    /// The bytes from an offset to the end of its piece.
     fn rest_of_piece(&self, at: u64) -> &[u8]
         requires { at < length self.now }
         ensures some { 0 < length result.now }

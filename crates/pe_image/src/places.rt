@@ -6,7 +6,7 @@ use crate::sections::Sections;
 use crate::span::Span;
 use std::marker::Model;
 
-/// Where the parts of an image stand. A contract sees all of them.
+/// The places of an image's parts. A contract sees all of them.
 #[derive(Debug, Drop)]
 pub struct Layout {
     pub(crate) checksum: Span,
@@ -36,21 +36,21 @@ impl Model for Layout {
     } };
 }
 
-/// How many bytes before the sections' end stand in no header and in no section.
+/// How many bytes before the sections' end are in no header and in no section.
 pub fn gap(layout: &Layout) -> u64
     ensures { result ≡ layout.now.gap }
 {
     layout.gap
 }
 
-/// Where the certificate table stands, where the image has one.
+/// The span of the certificate table, if the image has one.
 pub fn table(layout: &Layout) -> Option<Span>
     ensures { result ≡ layout.now.table }
 {
     layout.table
 }
 
-/// Where the text of the section `.sbat` stands, where it has any bytes.
+/// The span of the text of the section `.sbat`, if it has any bytes.
 pub fn sbat_range(layout: &Layout) -> Option<Span>
     ensures { result ≡ layout.now.sbat }
 {

@@ -49,7 +49,7 @@ fn size_of_text(header: Header) -> u32
     }
 }
 
-/// Where the text of the section `.sbat` stands.
+/// The span of the text of the section `.sbat`.
 pub(crate) fn find_text(headers: &[Header]) -> Result<Option<Span>, LayoutFault>
     ensures ok { OnOk result (first_of (sbat_checks headers.now) ≡ None) }
     ensures exact { IfOk result (λ text. text ≡ text_at (sbat_section headers.now)) }

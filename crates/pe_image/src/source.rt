@@ -1,27 +1,27 @@
-//! Sources of bytes that are read at places.
+//! Sources of bytes with random access.
 ghost use Rattle.std.specs.Prelude.{◌≡◌, ◌+◌, ◌≤◌, ℕ, List, length, slice_range, OnOk, OnErr};
 ghost use Rattle.pe_image.specs.Sources.{HaveRisen, OnlyReads};
 
 use desk_bytes::ReadFailed;
 
-/// Bytes that are read at places, as those of a file. Places are bytes from the beginning. No read
+/// Bytes with random access, such as a file's. Offsets count bytes from the beginning. No read
 /// changes the content, and the source counts the reads that fail.
 pub trait Source {
     /// The bytes of the source.
     ghost content: { Self → List ℕ };
 
-    /// How many reads failed. At the greatest `u64` the count stays.
+    /// How many reads failed. The count stops at the greatest `u64`.
     ghost failures: { Self → ℕ };
 
     /// How many bytes there are.
     fn len(&self) -> u64
         ensures { result ≡ length (content self.now) };
 
-    /// How many reads failed so far.
+    /// How many reads have failed so far.
     fn failures(&self) -> u64
         ensures { result ≡ failures self.now };
 
-    /// Fills the slice with the bytes from a place on. The caller stays within the length.
+    /// Fills the slice with the bytes from an offset on. The caller stays within the length.
     fn read_at(&mut self, at: u64, out: &mut [u8]) -> Result<(), ReadFailed>
         requires { at + length out.old ≤ length (content self.old) }
         ensures ok { OnOk result (out.new

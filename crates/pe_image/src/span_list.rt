@@ -41,7 +41,7 @@ impl Iterator for Ranges {
     }
 }
 
-/// Puts a span after the first `count`, unless it is empty, and says how many there are then.
+/// Puts a span after the first `count`, unless it is empty, and returns how many there are then.
 pub(crate) fn push(spans: &mut [Span], count: usize, span: Span) -> usize
     requires { count < length spans.old }
     ensures more { result ≤ count + 1 }

@@ -10,10 +10,10 @@ use crate::number::{read_u16, read_u32};
 use crate::source::Source;
 use desk_bytes::LONGEST_IMAGE;
 
-/// `MZ`, low byte first.
+/// `MZ`, little-endian.
 const MZ: u16 = 0x5a4d;
 
-/// `PE`, 0, 0, low byte first.
+/// `PE`, 0, 0, little-endian.
 const PE: u32 = 0x4550;
 
 /// The offset of the PE signature.

@@ -1,17 +1,17 @@
--- The fields of a line (shim's SBAT.md), and what may stand in them.
+-- The fields of a line (shim's SBAT.md), and their values.
 use Rattle.std.specs.Prelude.{ℕ, ◌+◌, ◌-◌, ◌*◌, ◌==◌, ◌&&◌, nat_lt, nat_le, not, length, fold, List, codes, Bool, Option, Some, None, if◌then◌else◌}
 use Rattle.std.specs.Char.{is_ascii_digit, is_ascii_graphic}
 use Rattle.std.specs.List.{list_all, slice_split}
 
--- own: whether a byte is a comma (44), which parts fields; none is quoted
+-- own: whether a byte is a comma (44), which separates fields; none is quoted
 abbrev pub is_comma : ℕ → Bool
 is_comma b = b == 44
 
--- the fields of a line, parted at each comma
+-- the fields of a line, separated by commas
 abbrev pub fields_of : List ℕ → List (List ℕ)
 fields_of line = slice_split is_comma line
 
--- own: a byte of a name: 0x21 to 0x7E without comma
+-- own: a byte of a name: 0x21 to 0x7E except the comma
 abbrev pub is_name_byte : ℕ → Bool
 is_name_byte b = is_ascii_graphic b && not (is_comma b)
 

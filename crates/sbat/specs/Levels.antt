@@ -26,12 +26,12 @@ stamped_code =
     code_by (ℕ × Generations) (coded× coded_ℕ (code (coded_list coded_ℕ) coded_ℕ))
     (λ l. (l.stamp, l.generations)) (λ p. record { stamp = p.0; generations = p.1 }) (λ _. refl)
 
--- the greater of a generation that there may be and another
+-- the greater of a generation that may be missing and another
 abbrev pub greater : Option ℕ → ℕ → ℕ
 greater None n = n
 greater (Some m) n = max m n
 
--- the generations after a row: its name has the greater of what it had and the row's
+-- the generations after a row, which raises its name's to its own unless that is higher already
 abbrev pub raised : Generations → Row → Generations
 raised m r = insert m r.name (greater (get m r.name) r.generation)
 
@@ -54,7 +54,7 @@ abbrev pub is_one : Option ℕ → Bool
 is_one None = false
 is_one (Some n) = nat_eq n 1
 
--- what fields give as a level's stamp
+-- the stamp that the fields of a level's first line give
 abbrev pub stamp_in : List (List ℕ) → Option ℕ
 stamp_in (name ∷ generation ∷ stamp ∷ more) =
     if bytes_eq name sbat && is_one (generation_of generation) then stamp_of stamp else None
@@ -69,12 +69,13 @@ abbrev pub with_rows : ℕ → Result (List Row) ℕ → Result Stamped ℕ
 with_rows stamp (Ok rows) = Ok (record { stamp = stamp; generations = generations_in rows })
 with_rows stamp (Err line) = Err line
 
--- the same where the line with this number may have no stamp
+-- the same, where the line with this number may have no stamp
 abbrev pub begun : ℕ → Option ℕ → Result (List Row) ℕ → Result Stamped ℕ
 begun line None rows = Err line
 begun line (Some stamp) rows = with_rows stamp rows
 
--- the level of some lines, or the number of the first wrong one. own: without a line that number is 1
+-- the level of some lines, or the number of the first wrong one. own: without lines that number is
+-- 1
 abbrev pub level_in : List Numbered → Result Stamped ℕ
 level_in [] = Err 1
 level_in (l ∷ ls) = begun l.number (stamp_on l.text) (named_in level_row ls)
@@ -83,14 +84,14 @@ level_in (l ∷ ls) = begun l.number (stamp_on l.text) (named_in level_row ls)
 abbrev pub level_of : List ℕ → Result Stamped ℕ
 level_of text = level_in (rows_of text)
 
--- own: what a level is made of: a stamp, names other than `sbat`, and generations
+-- own: the form of a level: a stamp, names other than `sbat`, and generations
 pub record IsLevel (l : Stamped) : Type 0 where
   pub stamped : is_stamp l.stamp ≡ true
   pub named : (q : List ℕ) (n : ℕ) → get l.generations q ≡ Some n → is_name q ≡ true
   pub counted : (q : List ℕ) (n : ℕ) → get l.generations q ≡ Some n → is_generation n ≡ true
   pub others : get l.generations sbat ≡ None
 
--- what a borrowed name and its generation show
+-- the values of a borrowed name and its generation
 abbrev pub entry_of : Bor (List ℕ) × ℕ → List ℕ × ℕ
 entry_of e = (e.0.now, e.1)
 
@@ -98,6 +99,6 @@ entry_of e = (e.0.now, e.1)
 abbrev pub byte_entries : {Y : Type 0} → List (String Y × ℕ) → List (List ℕ × ℕ)
 byte_entries {Y} entries = map (λ (e : String Y × ℕ). (string_bytes e.0, e.1)) entries
 
--- the generations that these are
+-- the map of these generations
 abbrev pub generations_of : {Y : Type 0} → List (String Y × ℕ) → Generations
 generations_of entries = from_entries (byte_entries entries)

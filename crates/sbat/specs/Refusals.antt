@@ -1,4 +1,4 @@
--- What SBAT text is refused for.
+-- Reasons why SBAT text is refused.
 use Rattle.std.specs.Prelude.{◌≡◌, ℕ, ◌<◌, ◌≤◌, ⊤, length, List, Option, Some, None, Result, Ok, Err, IsOkAnd}
 use Rattle.std.specs.FinMap.{len}
 use Rattle.desk_bytes.specs.Limits.{most_components}
@@ -25,14 +25,14 @@ place_of (fault.Row line) = Some line
 place_of fault.TooLong = None
 place_of fault.NoMemory = None
 
--- what was read, or the number of the first wrong line, is refused for this, where `TooMany` says what passes the
--- limit; NoMemory may come at any time
+-- why a reading is refused: the number of the first wrong line, or, if `TooMany` holds, that it
+-- passes the limit; NoMemory may come at any time
 abbrev pub IsRefused : {X : Type 0} → Result X ℕ → (X → Type 0) → SbatFault → Type 0
 IsRefused read TooMany (fault.Row line) = read ≡ Err line
 IsRefused read TooMany fault.TooLong = IsOkAnd read TooMany
 IsRefused read TooMany fault.NoMemory = ⊤
 
--- the text's lines are all right, and these are its components, within the limit
+-- all lines of the text are right, and these are its components, within the limit
 abbrev pub IsComponents : List ℕ → List Row → Type 0
 IsComponents text rows = (components_of text ≡ Ok rows) × (length rows ≤ most_components)
 
@@ -48,10 +48,11 @@ PassesNames level = most_names < len level.generations
 abbrev pub IsRead : Result Stamped ℕ → Stamped → Type 0
 IsRead read level = (read ≡ Ok level) × (len level.generations ≤ most_names)
 
--- the text's lines are all right, and this is its level, within the limit
+-- all lines of the text are right, and this is its level, within the limit
 abbrev pub IsLevelOf : List ℕ → Stamped → Type 0
 IsLevelOf text level = IsRead (level_of text) level
 
--- own: the text is refused for this; TooLong only where its lines are all right, and by the count of different names
+-- own: the text is refused for this; TooLong only where its lines are all right, counting different
+-- names
 abbrev pub RefusesLevel : List ℕ → SbatFault → Type 0
 RefusesLevel text = IsRefused (level_of text) PassesNames

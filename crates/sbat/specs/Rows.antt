@@ -5,26 +5,27 @@ use Rattle.sbat.specs.Fields.{fields_of, generation_of, is_name}
 use Rattle.sbat.specs.Texts.{rows_of}
 use Rattle.sbat.specs.declared.component.Component.{Component}
 
--- what a row names, with the fields `name` and `generation`
+-- a row: the fields `name` and `generation`
 abbrev pub Row : Type 0
 Row = Component
 
--- a name with the generation read beside it
+-- a name with its generation, if that was read
 abbrev pub with_generation : List ℕ → Option ℕ → Option Row
 with_generation name None = None
 with_generation name (Some n) = Some (record { name = name; generation = n })
 
--- what the first two of some fields name
+-- the row of the first two fields
 abbrev pub row_in : List (List ℕ) → Option Row
 row_in (name ∷ generation ∷ more) =
     if is_name name then with_generation name (generation_of generation) else None
 row_in _ = None
 
--- an image's line: component_name, component_generation, vendor_name, vendor_package_name, vendor_version and
--- vendor_url. own: more may follow, and what stands in the last four isn't looked at
+-- an image's line: component_name, component_generation, vendor_name, vendor_package_name,
+-- vendor_version and vendor_url. own: more may follow, and the last four aren't examined
 abbrev pub image_row : List ℕ → Option Row
 image_row line = if nat_lt (length (fields_of line)) 6 then None else row_in (fields_of line)
 
--- the components of an image, of the text of its section `.sbat`, or the number of the first wrong line
+-- the components that the text of an image's section `.sbat` names, or the number of the first
+-- wrong line
 abbrev pub components_of : List ℕ → Result (List Row) ℕ
 components_of text = named_in image_row (rows_of text)

@@ -4,15 +4,15 @@ use Rattle.std.specs.List.{before_first}
 use Rattle.std.specs.Str.{bytes_eq}
 use Rattle.desk_bytes.specs.Lines.{Numbered, parted}
 
--- own: the bytes before the first zero byte, or all where there is none
+-- own: the bytes before the first zero byte, or all if there is none
 abbrev pub before_zero : List ℕ → List ℕ
 before_zero text = before_first (λ b. b == 0) text
 
--- the mark of UTF-8 text, EF BB BF
+-- the byte order mark of UTF-8, EF BB BF
 abbrev pub mark : List ℕ
 mark = 0xef ∷ 0xbb ∷ 0xbf ∷ []
 
--- own: the text without a mark at its beginning
+-- own: the text without a byte order mark at its beginning
 abbrev pub without_mark : List ℕ → List ℕ
 without_mark text = if bytes_eq (take 3 text) mark then drop 3 text else text
 

@@ -11,7 +11,7 @@ pub fn are_digits(text: &[u8]) -> bool
     text.iter().all(|b| b.is_ascii_digit())
 }
 
-/// The number that at most ten decimal digits spell, zeros leading or not.
+/// The number that at most ten decimal digits spell. Leading zeros are allowed.
 pub fn decimal(digits: &[u8]) -> u64
     requires few { length digits.now ≤ 10 }
     requires digits { list_all is_ascii_digit digits.now ≡ true }

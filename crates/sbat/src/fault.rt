@@ -5,10 +5,10 @@ ghost use Rattle.sbat.specs.Refusals.{place_of, refusal_of};
 use desk_bytes::Refusal;
 use thiserror::Error;
 
-/// What SBAT text was refused for.
+/// Why SBAT text is refused.
 #[derive(Clone, Copy, Debug, PartialEq, Eq, Error)]
 pub enum SbatFault {
-    /// The number of the first wrong line, from 1; of a level without a line, 1.
+    /// The number of the first wrong line, from 1; for a level without lines, 1.
     #[error("line {0} of the SBAT text is wrong")]
     Row(u64),
     /// There are more than 256 components in an image, or more than 10,000 names in a level.

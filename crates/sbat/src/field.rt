@@ -16,7 +16,7 @@ fn count_commas(line: &[u8]) -> usize
     line.iter().filter(|b| **b == b',').count()
 }
 
-/// The field at the front, and what follows the comma after it, where there is one.
+/// The field at the front, and the bytes after its comma, if there is one.
 pub(crate) fn first_field(line: &[u8]) -> (&[u8], Option<&[u8]>)
     ensures { MatchOption result.1 (fields_of line.now ≡ result.0.now ∷ [])
         (λ rest. fields_of line.now ≡ result.0.now ∷ fields_of rest.now) }

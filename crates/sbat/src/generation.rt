@@ -39,7 +39,7 @@ impl Generation {
         self.0
     }
 
-    /// The generation that 1 to 10 decimal digits spell; zeros may lead them.
+    /// The generation that 1 to 10 decimal digits spell. Leading zeros are allowed.
     pub fn parse(text: &[u8]) -> Option<Generation>
         ensures { result ≡ generation_of text.now }
     {

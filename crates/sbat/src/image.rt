@@ -11,7 +11,7 @@ use crate::text::rows;
 use desk_bytes::MOST_COMPONENTS;
 use std::alloc::{AllocError, Global};
 
-/// Adds a component where there are no more than the limit.
+/// Adds a component unless there are more than the limit already.
 fn keep(found: &mut Vec<Component>, component: Component) -> Result<(), AllocError>
     ensures ok { OnOk result (found.new.items ≡ (if nat_le (length found.old.items) most_components
         then found.old.items ++ component ∷ [] else found.old.items)) }
@@ -22,12 +22,12 @@ fn keep(found: &mut Vec<Component>, component: Component) -> Result<(), AllocErr
     Ok(())
 }
 
-/// The components that the text of an image's section `.sbat` names, in their order; a name may come twice.
-/// An image without that section has the text of no bytes, and no component. Takes memory for 257 components
-/// at most.
+/// The components that the text of an image's section `.sbat` names, in order; a name may come
+/// twice. An image without that section has the empty text and no component. Takes memory for at
+/// most 257 components.
 ///
-/// The first wrong line is answered as Row with its number. TooLong, for more than 256 components, comes only
-/// where no line is wrong.
+/// The first wrong line is returned as Row with its number. TooLong, for more than 256 components,
+/// comes only if no line is wrong.
 pub fn components(alloc: Global, text: &[u8]) -> Result<Vec<Component>, SbatFault>
     ensures exact { IfOk result (λ found. IsComponents text.now found.items) }
 

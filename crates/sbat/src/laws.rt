@@ -8,13 +8,13 @@ ghost use Rattle.sbat.specs.Refusals.{IsLevelOf, most_names};
 ghost use Rattle.sbat.specs.Rows.{Row};
 ghost use Rattle.sbat.specs.Writing.{head_text, level_text, row_text};
 
-/// Of the generations that rows give a name, the greatest counts.
+/// The greatest of the generations that rows give a name counts.
 pub fn greatest_counts()
     ensures { (rows : List Row) (name : List ℕ)
         → IsGreatest rows name (get (generations_in rows) name) }
 {}
 
-/// The first line of a level and then the line of each name, in their order, are the level's text.
+/// The text of a level is its first line and then the line of each name, in order.
 pub fn level_is_its_lines()
     ensures { (l : Stamped) → level_text l ≡ head_text l.stamp
         ++ flat_map (λ e. row_text e.0 e.1) (entries l.generations) }

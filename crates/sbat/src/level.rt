@@ -1,4 +1,4 @@
-//! The level that an image is held against.
+//! The level that an image is checked against.
 ghost use Rattle.std.specs.Prelude.{◌≡◌, ℕ, List, OnErr, OnOk, false, string_bytes, true};
 ghost use Rattle.std.specs.BTreeMap.{IsUnchanged};
 ghost use Rattle.std.specs.FinMap.{empty, entries, get, len};
@@ -16,8 +16,8 @@ use std::collections::{BTreeMap, btree_map};
 use std::marker::Model;
 use std::str;
 
-/// A stamp, and the least generation that an image may have of each name, of which none is `sbat`. A contract
-/// sees the stamp, and the map from names to generations.
+/// A stamp, and the least generation that an image may have of each name other than `sbat`. A
+/// contract sees the stamp, and the map from names to generations.
 #[derive(Debug, Drop)]
 pub struct Level {
     stamp: Stamp,
@@ -37,7 +37,7 @@ impl Model for Level {
     }) };
 }
 
-/// Gives a name the greater of the generation that it has and this one.
+/// Raises the generation of a name to this one, unless it is higher already.
 fn raise_name(
     names: &mut BTreeMap<String, Generation>,
     name: String,
@@ -60,7 +60,7 @@ fn raise_name(
 }
 
 impl Level {
-    /// The level of that stamp without a name. Takes no memory.
+    /// The level of that stamp, without names. Takes no memory.
     pub fn new(alloc: Global, stamp: Stamp) -> Level
         ensures { result ≡ record { stamp = stamp; generations = empty } }
     {
@@ -79,8 +79,8 @@ impl Level {
         self.stamp
     }
 
-    /// Gives a name other than `sbat` the greater of the generation that it has and the component's. Takes
-    /// memory for the name.
+    /// Raises the generation of the component's name, which isn't `sbat`, to the component's,
+    /// unless it is higher already. Takes memory for the name.
     pub fn raise(&mut self, component: &Component) -> Result<(), AllocError>
         requires other { bytes_eq component.now.name sbat ≡ false }
         ensures ok { OnOk result
@@ -91,7 +91,7 @@ impl Level {
         raise_name(&mut self.names, name, component.generation)
     }
 
-    /// The generation of the name that the bytes are, where the level has one.
+    /// The generation of the name with these bytes, if the level has it.
     pub fn generation_of(&self, name: &[u8]) -> Option<Generation>
         ensures { result ≡ get self.now.generations name.now }
     {

@@ -1,4 +1,4 @@
-//! Levels read.
+//! The reading of levels.
 ghost use Rattle.std.specs.Prelude.{◌≡◌, IfErr, IfOk, OnOk, false, if◌then◌else◌, nat_le};
 ghost use Rattle.std.specs.FinMap.{len};
 ghost use Rattle.std.specs.Str.{bytes_eq};
@@ -35,7 +35,7 @@ fn read_stamp(line: &[u8]) -> Option<Stamp>
     Stamp::parse(stamp)
 }
 
-/// Raises the level where it has no more names than the limit.
+/// Raises the level unless it has more names than the limit already.
 fn raise_within(level: &mut Level, component: &Component) -> Result<(), AllocError>
     requires other { bytes_eq component.now.name sbat ≡ false }
     ensures ok { OnOk result (level.new ≡ (if nat_le (len level.old.generations) most_names
@@ -48,7 +48,7 @@ fn raise_within(level: &mut Level, component: &Component) -> Result<(), AllocErr
     Ok(())
 }
 
-/// The level of a stamp and the rows of lines.
+/// The level of a stamp and of the rows that the lines hold.
 fn read_rows(alloc: Global, stamp: Stamp, lines: Parted<'_>) -> Result<Level, SbatFault>
     ensures exact { IfOk result (IsRead (with_rows stamp (named_in level_row lines.entry))) }
 
@@ -73,13 +73,13 @@ fn read_rows(alloc: Global, stamp: Stamp, lines: Parted<'_>) -> Result<Level, Sb
     Ok(level)
 }
 
-/// The level that a text spells: the first line holds `sbat`, generation 1 and the stamp, each later one a
-/// name other than `sbat` and a generation; more fields are passed over, and of a repeated name the greatest
-/// generation counts. The text ends and its lines are parted as an image's. Takes memory for 10,001 names at
-/// most.
+/// The level that a text spells: the first line holds `sbat`, generation 1 and the stamp, each
+/// later one a name other than `sbat` and a generation; further fields are ignored, and the
+/// greatest generation of a repeated name counts. The text ends and splits into lines as an image's
+/// does. Takes memory for at most 10,001 names.
 ///
-/// The first wrong line is answered as Row with its number, line 1 where there is none at all. TooLong, for
-/// more than 10,000 different names, comes only where no line is wrong.
+/// The first wrong line is returned as Row with its number, which is 1 if there is no line.
+/// TooLong, for more than 10,000 different names, comes only if no line is wrong.
 pub fn read_level(alloc: Global, text: &[u8]) -> Result<Level, SbatFault>
     ensures exact { IfOk result (IsLevelOf text.now) }
 

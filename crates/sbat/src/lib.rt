@@ -1,4 +1,4 @@
-//! SBAT: the components of an image, and the level that an image is held against (shim's SBAT.md).
+//! SBAT: the components of an image, and the level that it is checked against (shim's SBAT.md).
 #![tactic(auto)]
 
 mod component;

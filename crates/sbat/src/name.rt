@@ -13,8 +13,8 @@ use std::marker::Model;
 use std::str;
 use thiserror::Error;
 
-/// A component's name: 1 to 128 bytes of 0x21 to 0x7E without comma. Names are ordered by their bytes. A
-/// contract sees the list of the bytes.
+/// A component's name: 1 to 128 bytes of 0x21 to 0x7E except the comma. Names are ordered by their
+/// bytes. A contract sees the list of the bytes.
 #[derive(Debug, Drop)]
 pub struct ComponentName(String);
 
@@ -26,10 +26,10 @@ impl Model for ComponentName {
     ghost invariant = { λ n. spec.is_name (string_bytes n.0) ≡ true };
 }
 
-/// Why bytes were not taken as a name.
+/// Why bytes weren't accepted as a name.
 #[derive(Clone, Copy, Debug, PartialEq, Eq, Error)]
 pub enum NameFault {
-    /// They aren't 1 to 128 bytes of 0x21 to 0x7E without comma.
+    /// They aren't 1 to 128 bytes of 0x21 to 0x7E except the comma.
     #[error("not a component's name")]
     Form,
     /// Memory was refused.
@@ -37,7 +37,7 @@ pub enum NameFault {
     NoMemory,
 }
 
-/// Whether all bytes may stand in a name.
+/// Whether a name may have each of the bytes.
 fn are_name_bytes(bytes: &[u8]) -> bool
     ensures { result ≡ list_all spec.is_name_byte bytes.now }
 {
@@ -63,7 +63,7 @@ fn text_of(bytes: &[u8]) -> &str
 }
 
 impl ComponentName {
-    /// The name that the bytes are. Takes memory for it.
+    /// The name with these bytes. Takes memory for it.
     pub fn parse(alloc: Global, bytes: &[u8]) -> Result<ComponentName, NameFault>
         ensures exact { IfOk result (λ name. name ≡ bytes.now) }
         ensures form { IfOk result (λ name. spec.is_name name ≡ true) }

@@ -11,7 +11,7 @@ use crate::generation::Generation;
 use crate::name::{ComponentName, NameFault};
 use std::alloc::Global;
 
-/// What the first two fields of a line name, or Form.
+/// The component of the first two fields of a line, or Form.
 fn read_row(alloc: Global, line: &[u8]) -> Result<Component, NameFault>
     ensures ok { IfOk result (λ row. row_in (fields_of line.now) ≡ Some row) }
     ensures form { IsErrOf result NameFault.Form → row_in (fields_of line.now) ≡ None }

@@ -5,7 +5,7 @@ ghost use Rattle.sbat.specs.Fields.{is_stamp, stamp_of};
 use crate::digits::{are_digits, decimal};
 use std::marker::Model;
 
-/// The stamp of a level, ten digits of which the first isn't 0: 1,000,000,000 to 9,999,999,999. A contract
+/// The stamp of a level: ten digits, the first not 0, so 1,000,000,000 to 9,999,999,999. A contract
 /// sees the number.
 #[derive(Clone, Copy, Debug, PartialEq, Eq, PartialOrd, Ord)]
 pub struct Stamp(u64);
@@ -21,7 +21,7 @@ impl Model for Stamp {
 }
 
 impl Stamp {
-    /// The stamp of that number, where it is one.
+    /// The stamp of that number, if it is in range.
     pub fn new(number: u64) -> Option<Stamp>
         ensures { result ≡ (if is_stamp number then Some number else None) }
     {
@@ -40,7 +40,7 @@ impl Stamp {
         self.0
     }
 
-    /// The stamp that ten decimal digits spell, of which the first isn't 0.
+    /// The stamp that ten decimal digits spell, the first not 0.
     pub fn parse(text: &[u8]) -> Option<Stamp>
         ensures { result ≡ stamp_of text.now }
     {

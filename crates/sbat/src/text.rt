@@ -4,7 +4,7 @@ ghost use Rattle.sbat.specs.Texts as spec;
 
 use desk_bytes::{Parted, parted};
 
-/// The mark that UTF-8 text may begin with.
+/// The byte order mark that UTF-8 text may begin with.
 const MARK: [u8; 3] = [0xef, 0xbb, 0xbf];
 
 /// The place of the first zero byte.
@@ -24,7 +24,7 @@ fn before_zero(text: &[u8]) -> &[u8]
     }
 }
 
-/// The text without a mark at its beginning.
+/// The text without a byte order mark at its beginning.
 fn without_mark(text: &[u8]) -> &[u8]
     ensures { result.now ≡ spec.without_mark text.now }
 {
@@ -34,9 +34,9 @@ fn without_mark(text: &[u8]) -> &[u8]
     }
 }
 
-/// The lines of SBAT text with their numbers from 1, as `desk_bytes::parted` gives them: empty lines are
-/// counted and passed over. The text ends before its first zero byte, and a mark EF BB BF at its beginning
-/// is dropped.
+/// The lines of SBAT text with their numbers from 1, as `desk_bytes::parted` gives them: empty
+/// lines are counted but not returned. The text ends before its first zero byte, and a byte order
+/// mark EF BB BF at its beginning is dropped.
 pub fn rows(text: &[u8]) -> Parted<'_>
     ensures { result ≡ spec.rows_of text.now }
 {

@@ -2,6 +2,6 @@
 use Rattle.siglist.specs.SignatureLists as spec
 use Rattle.siglist.specs.declared.entry.Entry.{Entry}
 
--- what a borrowed entry shows
+-- the value of a borrowed entry
 abbrev pub seen_entry : Entry → spec.Entry
 seen_entry e = record { owner = e.owner; body = e.body.now }

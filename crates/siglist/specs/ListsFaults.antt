@@ -1,4 +1,4 @@
--- Where and why bytes are no row of signature lists (UEFI 2.10, section 32.4.1).
+-- Where and why bytes aren't a row of signature lists (UEFI 2.10, section 32.4.1).
 use Rattle.std.specs.Prelude.{◌≡◌, ◌+◌, ◌<◌, ◌⊎◌, ℕ, true, List, ◌++◌, length, take, drop}
 use Rattle.desk_bytes.specs.declared.refusal.Refusal.{Refusal}
 use Rattle.desk_bytes.specs.declared.refusal.Refusal.TheVariants as refusal
@@ -10,11 +10,11 @@ use Rattle.siglist.specs.declared.fault.Lack.TheVariants as lack
 use Rattle.siglist.specs.declared.fault.ListsFault.{ListsFault}
 use Rattle.siglist.specs.declared.fault.ListsFault.TheVariants as fault
 
--- no list stands at the front of these bytes
+-- there is no list at the front of these bytes
 abbrev pub HasNoList : List ℕ → Type 0
 HasNoList b = (l : SignatureList) (rest : List ℕ) → IsList l → b ≡ list_bytes l ++ rest → ⊥
 
--- the bytes before the offset are spelt, and no list stands there
+-- the bytes before the offset spell a row, and there is no list at the offset
 pub record Stops (bytes : List ℕ) (offset : ℕ) : Type 0 where
   pub row : List SignatureList
   pub before : Spells row (take offset bytes)
@@ -32,7 +32,7 @@ abbrev pub IsRefused : List ℕ → ListsFault → Type 0
 IsRefused bytes (fault.List offset) = Stops bytes offset × LacksRoom (drop offset bytes)
 IsRefused bytes (fault.EntrySize offset) = Stops bytes offset × (LacksRoom (drop offset bytes) → ⊥)
 
--- what is wrong, with its place
+-- the fault with its offset
 abbrev pub fault_of : Lack → ℕ → ListsFault
 fault_of lack.List offset = fault.List offset
 fault_of lack.EntrySize offset = fault.EntrySize offset

@@ -1,4 +1,4 @@
--- What stops a pack, and its rows in the table of refusals.
+-- Reasons why a pack stops, and their refusals.
 use Rattle.std.specs.Prelude.{ℕ, Option, Some, None}
 use Rattle.desk_bytes.specs.declared.refusal.Refusal.{Refusal}
 use Rattle.desk_bytes.specs.declared.refusal.Refusal.TheVariants as refusal
@@ -23,7 +23,7 @@ place_of fault.Write = None
 place_of (fault.Line line) = Some line
 place_of fault.NoMemory = None
 
--- own: what a fault of the input is to `pack`
+-- own: the fault of `pack` for a fault of its input
 abbrev pub fault_of : InputFault → PackFault
 fault_of input.TooLong = fault.TooLong
 fault_of input.Read = fault.Read

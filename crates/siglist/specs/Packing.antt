@@ -26,14 +26,14 @@ pub record Packs (text : List ℕ) (ds : List (List ℕ)) : Type 0 where
 abbrev pub packed : List ℕ → List (List ℕ) → List ℕ
 packed owner ds = spelling (sha256_row owner ds)
 
--- the text was packed into `count` entries, all of which went out
+-- the text was packed into `count` entries, and all of them were written
 pub record IsPacked (owner text : List ℕ) (count : ℕ) (old new : Option (List ℕ)) : Type 0 where
   pub digests : List (List ℕ)
   pub packs : Packs text digests
   pub count_is : count ≡ length digests
   pub out : Appends old new (packed owner digests)
 
--- the text was packed, and a beginning of that went out
+-- the text was packed, and a prefix of the list was written
 pub record IsPartlyPacked (owner text : List ℕ) (old new : Option (List ℕ)) : Type 0 where
   pub digests : List (List ℕ)
   pub packs : Packs text digests

@@ -1,10 +1,10 @@
--- What bytes spell a row of signature lists (UEFI 2.10, section 32.4.1, EFI_SIGNATURE_LIST).
+-- The bytes that spell a row of signature lists (UEFI 2.10, section 32.4.1, EFI_SIGNATURE_LIST).
 use Rattle.std.specs.Prelude.{◌≡◌, ℕ, ◌+◌, ◌*◌, ◌^◌, ◌<◌, ◌≤◌, List, [], ◌∷◌, ◌++◌, length}
 use Rattle.std.specs.List.{flat_map, AllByRecursion}
 use Rattle.std.specs.Int.{w32, to_le_bytes}
 use Rattle.siglist.specs.Kinds.{sha256_kind, sha256_size, x509_kind, x509_sha256_kind, x509_sha256_size}
 
--- EFI_SIGNATURE_DATA: who put the entry there (16 bytes), and what was put
+-- EFI_SIGNATURE_DATA: SignatureOwner (16 bytes), and SignatureData
 pub record Entry : Type 0 where
   pub owner : List ℕ
   pub body : List ℕ
@@ -43,7 +43,7 @@ pub record KeepsKind (l : SignatureList) : Type 0 where
   pub x509 : l.kind ≡ x509_kind → (l.header ≡ []) × (17 ≤ l.entry_size)
   pub x509_sha256 : l.kind ≡ x509_sha256_kind → (l.header ≡ []) × (l.entry_size ≡ x509_sha256_size)
 
--- what has a spelling: each size fits its u32
+-- a list that has a spelling: each size fits its u32
 pub record IsList (l : SignatureList) : Type 0 where
   pub kind : length l.kind ≡ 16
   pub least : 16 ≤ l.entry_size
@@ -71,12 +71,12 @@ pub record Placed : Type 0 where
   pub offset : ℕ
   pub list : SignatureList
 
--- lists that stand one after another, the first of them at this offset
+-- the lists one after another with their offsets, the first at `at`
 abbrev pub placed_from : ℕ → List SignatureList → List Placed
 placed_from at [] = []
 placed_from at (l ∷ ls) = record { offset = at; list = l } ∷ placed_from (at + list_size l) ls
 
--- the bytes spell these lists, each of which stands at its offset
+-- the bytes spell these lists, each at its offset
 pub record SpellsPlaced (placed : List Placed) (bytes : List ℕ) : Type 0 where
   pub row : List SignatureList
   pub spelt : Spells row bytes

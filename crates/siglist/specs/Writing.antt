@@ -9,11 +9,12 @@ use Rattle.siglist.specs.SignatureLists.{Entry, SignatureList, entry_bytes}
 abbrev pub most_digests : ℕ
 most_digests = 1000000
 
--- what this owner put there
+-- an entry of this owner and body
 abbrev pub entry_of : List ℕ → List ℕ → Entry
 entry_of owner body = record { owner = owner; body = body }
 
--- own: TimeOfRevocation, an EFI_TIME, is always 16 zero bytes, by which a certificate is revoked at any time
+-- own: TimeOfRevocation, an EFI_TIME, is always 16 zero bytes, which revoke a certificate whenever
+-- it signed
 abbrev pub no_time : List ℕ
 no_time = replicate 16 0
 
@@ -51,13 +52,13 @@ one_row kind owner body = bare_row kind (16 + length body) (entry_of owner body 
 abbrev pub x509_row : List ℕ → List ℕ → List SignatureList
 x509_row owner certificate = one_row x509_kind owner certificate
 
--- The head of a list without a header, of so many entries of one size: SignatureType, SignatureListSize,
--- SignatureHeaderSize and SignatureSize
+-- The head of a list without a header, of `count` entries of one size: SignatureType,
+-- SignatureListSize, SignatureHeaderSize and SignatureSize
 abbrev pub bare_head : List ℕ → ℕ → ℕ → List ℕ
 bare_head kind entry_size count =
     kind ++ to_le_bytes w32 (28 + entry_size * count) ++ to_le_bytes w32 0 ++ to_le_bytes w32 entry_size
 
--- the head of a SHA256 list of so many digests
+-- the head of a SHA256 list of `count` digests
 abbrev pub sha256_head_bytes : ℕ → List ℕ
 sha256_head_bytes count = bare_head sha256_kind sha256_size count
 
@@ -65,7 +66,7 @@ sha256_head_bytes count = bare_head sha256_kind sha256_size count
 abbrev pub sha256_entry_bytes : List ℕ → List ℕ → List ℕ
 sha256_entry_bytes owner d = entry_bytes (entry_of owner d)
 
--- the head of an X509_SHA256 list of so many digests
+-- the head of an X509_SHA256 list of `count` digests
 abbrev pub x509_sha256_head_bytes : ℕ → List ℕ
 x509_sha256_head_bytes count = bare_head x509_sha256_kind x509_sha256_size count
 

@@ -8,7 +8,7 @@ ghost use Rattle.siglist.specs.EntryViews.{seen_entry};
 use desk_bytes::Guid;
 use std::marker::Model;
 
-/// Who put the entry there, and what was put: a slice of the bytes that were read.
+/// An entry: its owner, and its body, a slice of the bytes that were read.
 #[derive(Clone, Copy, Debug)]
 pub struct Entry<'a> {
     pub owner: Guid,

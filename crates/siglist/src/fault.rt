@@ -1,4 +1,4 @@
-//! Reasons why a pack stops, and why bytes are no signature lists.
+//! Reasons why a pack stops, and why bytes aren't signature lists.
 ghost use Rattle.std.specs.Prelude.{◌≡◌};
 ghost use Rattle.siglist.specs.ListsFaults as lists;
 ghost use Rattle.siglist.specs.PackFaults.{fault_of, place_of, refusal_of, write_failed};
@@ -6,7 +6,7 @@ ghost use Rattle.siglist.specs.PackFaults.{fault_of, place_of, refusal_of, write
 use desk_bytes::{InputFault, Refusal, WriteFailed};
 use thiserror::Error;
 
-/// Why a text was not packed.
+/// Why a text wasn't packed.
 #[derive(Clone, Copy, Debug, PartialEq, Eq, Error)]
 pub enum PackFault {
     /// The text is over 8,388,608 bytes.
@@ -71,13 +71,14 @@ impl PackFault {
     }
 }
 
-/// Where bytes are no row of signature lists, and why. Offsets count bytes from the input's start.
+/// Where bytes aren't a row of signature lists, and why. Offsets count bytes from the input's
+/// start.
 #[derive(Clone, Copy, Debug, PartialEq, Eq, Error)]
 pub enum ListsFault {
-    /// No whole list stands there, or one of a kind without a header has one.
+    /// There is no whole list there, or a list of a kind without a header has one.
     #[error("no signature list stands at {offset}")]
     List { offset: u64 },
-    /// The list's entries can't have the size that it gives.
+    /// The list's entries can't have its SignatureSize.
     #[error("the entries of the signature list at {offset} can't have its SignatureSize")]
     EntrySize { offset: u64 },
 }
@@ -103,7 +104,7 @@ impl ListsFault {
     }
 }
 
-/// What is wrong with the bytes at a place.
+/// The fault of the bytes at an offset.
 #[derive(Clone, Copy, Debug, PartialEq, Eq)]
 pub(crate) enum Lack {
     List,
@@ -111,7 +112,7 @@ pub(crate) enum Lack {
 }
 
 impl Lack {
-    /// The same with its place.
+    /// The fault with its offset.
     pub(crate) fn at(self, offset: u64) -> ListsFault
         ensures { result ≡ lists.fault_of self offset }
     {

@@ -8,7 +8,7 @@ use crate::fault::Lack;
 use crate::kind::kind_of;
 use desk_bytes::u32_at;
 
-/// Says how long the list at the front is, or why none stands there.
+/// The length of the list at the front, or why there is none.
 #[tactic(auto, unfolding(crate::specs::Steps::Reading::lack_at))]
 pub(crate) fn read_size(bytes: &[u8]) -> Result<usize, Lack>
     ensures lack { MatchResult result (λ _. lack_at bytes.now ≡ None)

@@ -25,7 +25,7 @@ pub(crate) const SHA256_SIZE: u32 = 48;
 /// SignatureSize of an X509_SHA256 list: the owner, a SHA-256 value and an EFI_TIME.
 pub(crate) const X509_SHA256_SIZE: u32 = 64;
 
-/// What the entries of a list are (UEFI 2.10, section 32.4.1).
+/// The kind of a list's entries (UEFI 2.10, section 32.4.1).
 #[derive(Clone, Copy, Debug, PartialEq, Eq)]
 pub enum Kind {
     /// EFI_CERT_SHA256_GUID: a body is a SHA-256 value.

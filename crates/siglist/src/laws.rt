@@ -7,25 +7,25 @@ ghost use Rattle.siglist.specs.SignatureLists.{SignatureList, Spells, spelling};
 ghost use Rattle.siglist.specs.Writing.{most_digests, sha256_parts, sha256_row, x509_row, x509_sha256_parts, x509_sha256_row};
 ghost use Rattle.siglist.specs.declared.fault.ListsFault.{ListsFault};
 
-/// No bytes spell two rows of lists.
+/// Bytes spell at most one row of lists.
 pub fn row_is_one()
     ensures { (ls ms : List SignatureList) (bytes : List ℕ)
         → Spells ls bytes → Spells ms bytes → ls ≡ ms }
 {}
 
-/// Bytes that spell a row of lists are refused for nothing.
+/// Bytes that spell a row of lists are never refused.
 pub fn row_is_not_refused()
     ensures { (bytes : List ℕ) (ls : List SignatureList) (fault : ListsFault)
         → Spells ls bytes → IsRefused bytes fault → ⊥ }
 {}
 
-/// Bytes are refused at one place at most, and for one reason.
+/// Bytes are refused at most at one place, and for one reason.
 pub fn fault_is_one()
     ensures { (bytes : List ℕ) (f g : ListsFault) → IsRefused bytes f → IsRefused bytes g → f ≡ g }
 {}
 
-/// A list of up to a million digests, and one of a certificate of up to 65,536 bytes, has a spelling, and
-/// it is what is written.
+/// A list of up to a million digests, and one of a certificate of up to 65,536 bytes, has a
+/// spelling: the bytes that are written.
 pub fn row_is_spelt()
     ensures sha256 { (owner : List ℕ) (ds : List (List ℕ)) → length owner ≡ 16
         → AllByRecursion (λ d. length d ≡ 32) ds → length ds ≤ most_digests
@@ -38,7 +38,8 @@ pub fn row_is_spelt()
         → Spells (x509_row owner certificate) (spelling (x509_row owner certificate)) }
 {}
 
-/// A head and then each of its entries, in their order, are the spelling of the list; so no digest is no byte.
+/// The spelling of a list is its head and then each of its entries, in order; a list of no digests
+/// has no bytes.
 pub fn list_is_its_parts()
     ensures sha256 { (owner : List ℕ) (ds : List (List ℕ))
         → spelling (sha256_row owner ds) ≡ sha256_parts owner ds }
@@ -46,7 +47,7 @@ pub fn list_is_its_parts()
         → spelling (x509_sha256_row owner ds) ≡ x509_sha256_parts owner ds }
 {}
 
-/// A text packs into one list alone.
+/// A text packs into only one list.
 pub fn packed_list_is_one()
     ensures { (text : List ℕ) (ds es : List (List ℕ)) → Packs text ds → Packs text es → ds ≡ es }
 {}

@@ -36,7 +36,8 @@ impl<'a> Model for SignatureList<'a> {
         (16 ≤ l.entry_size) × (l.count * l.entry_size ≤ length l.entries.now) };
 }
 
-/// The list of these sizes at the front, which stands at this offset, and the bytes after it.
+/// The list of these sizes at the front of the bytes, which begin at `offset`, and the bytes after
+/// it.
 fn cut(
     offset: u64,
     bytes: &[u8],
@@ -64,7 +65,7 @@ fn cut(
     (list, rest)
 }
 
-/// The list at the front, which stands at this offset, and the bytes after it.
+/// The list at the front of the bytes, which begin at `offset`, and the bytes after it.
 pub(crate) fn front(offset: u64, bytes: &[u8]) -> (SignatureList<'_>, &[u8])
     requires { lack_at bytes.now ≡ None }
     ensures list { result.0 ≡ placed offset (front_of bytes.now) }
@@ -91,7 +92,7 @@ impl<'a> SignatureList<'a> {
         kind_of(self.guid)
     }
 
-    /// The SignatureHeader: a slice of the input, empty but for other kinds than the three.
+    /// The SignatureHeader: a slice of the input, empty for the three known kinds.
     pub fn header(&self) -> &'a [u8]
         ensures { result.now ≡ self.now.list.header }
     {

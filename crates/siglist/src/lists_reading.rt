@@ -1,4 +1,4 @@
-//! Bytes read as a row of lists.
+//! The reading of a row of lists.
 ghost use Rattle.std.specs.Prelude.{IfOk, IfErr};
 ghost use Rattle.siglist.specs.SignatureLists.{SpellsPlaced};
 ghost use Rattle.siglist.specs.ListsFaults.{IsRefused};
@@ -7,13 +7,13 @@ use crate::fault::ListsFault;
 use crate::head::read_size;
 use crate::row::Lists;
 
-/// The signature lists that the bytes are, one after another (UEFI 2.10, section 32.4.1). All of them are
-/// tested before the first is given. Offsets count bytes from the input's start. Takes no memory; bodies
-/// and headers are slices of the input.
+/// The signature lists that the bytes spell, one after another (UEFI 2.10, section 32.4.1). All are
+/// checked before the first is returned. Offsets count bytes from the input's start. Takes no
+/// memory; bodies and headers are slices of the input.
 ///
-/// Refused is the first place where no list stands: by List where fewer than 28 bytes are left, where
-/// SignatureListSize is below 28 plus SignatureHeaderSize or passes the input's end, or where a list of one
-/// of the three kinds has a header; otherwise by EntrySize. A list without entries is one.
+/// The fault is at the first place without a list: List if fewer than 28 bytes are left, if
+/// SignatureListSize is below 28 plus SignatureHeaderSize or passes the input's end, or if a list
+/// of one of the three known kinds has a header; otherwise EntrySize. A list may have no entries.
 pub fn lists(bytes: &[u8]) -> Result<Lists<'_>, ListsFault>
     ensures found { IfOk result (λ row. SpellsPlaced row bytes.now) }
 

@@ -49,12 +49,13 @@ fn read_digests(alloc: Global, text: &[u8]) -> Result<Vec<Digest>, PackFault>
     Ok(digests)
 }
 
-/// Reads lines of 64 hexadecimal digits to the end, writes the digests as one SHA256 list, ascending,
-/// each once, and answers how many there are. Nothing is written for no digest, nor before all lines
-/// are read. Takes memory for the text and its digests; the time is that of sorting them.
+/// Reads lines of 64 hexadecimal digits to the end, writes the digests as one SHA256 list,
+/// ascending, each once, and returns their count. Nothing is written if there is no digest, nor
+/// before all lines are read. Takes memory for the text and its digests; the time is that of
+/// sorting them.
 ///
-/// The text may have 8,388,608 bytes; that is tested before its lines are. An interrupted read or write
-/// is a fault. Of what a reader or a writer doesn't tell of its bytes the clauses say nothing.
+/// The text may have 8,388,608 bytes, which is checked before its lines. An interrupted read or
+/// write is a fault. The clauses say nothing of a reader or writer whose bytes aren't known.
 pub fn pack<R: Read, W: Write>(
     alloc: Global,
     owner: &Guid,

@@ -1,4 +1,4 @@
-//! Lists written part by part: a head, and then its entries.
+//! The writing of lists in parts: a head, and then its entries.
 ghost use Rattle.std.specs.Prelude.{◌≤◌, OnErr, OnOk};
 ghost use Rattle.std.specs.Io.KnownBytes.{Appends};
 ghost use Rattle.desk_bytes.specs.Output.{AppendsBeginning};
@@ -9,8 +9,8 @@ use crate::writing::{put_entry, put_head};
 use desk_bytes::{Digest, Guid, WriteFailed, put};
 use std::io::Write;
 
-/// Writes the 28 bytes at the head of a SHA256 list of so many digests, whose entries have to follow (UEFI
-/// 2.10, section 32.4.1). The head names no owner.
+/// Writes the 28 bytes at the head of a SHA256 list of `count` digests, whose entries must follow
+/// (UEFI 2.10, section 32.4.1). The head names no owner.
 pub fn sha256_head<W: Write>(count: u32, writer: &mut W) -> Result<(), WriteFailed>
     requires some { 1 ≤ count }
     requires few { count ≤ most_digests }
@@ -36,7 +36,8 @@ pub fn sha256_entry<W: Write>(
     put_entry(owner.as_bytes(), digest.as_bytes(), writer)
 }
 
-/// Writes the 28 bytes at the head of an X509_SHA256 list of so many digests, whose entries have to follow.
+/// Writes the 28 bytes at the head of an X509_SHA256 list of `count` digests, whose entries must
+/// follow.
 pub fn x509_sha256_head<W: Write>(count: u32, writer: &mut W) -> Result<(), WriteFailed>
     requires some { 1 ≤ count }
     requires few { count ≤ most_digests }

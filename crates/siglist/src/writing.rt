@@ -1,4 +1,4 @@
-//! Lists written.
+//! The writing of lists.
 ghost use Rattle.std.specs.Prelude.{◌≡◌, ◌+◌, ◌*◌, ◌<◌, ◌≤◌, ◌^◌, length, OnOk, OnErr};
 ghost use Rattle.std.specs.Int.{w32, to_le_bytes};
 ghost use Rattle.std.specs.Io.KnownBytes.{Appends};
@@ -10,7 +10,7 @@ use crate::kind::{SHA256, SHA256_SIZE, X509, X509_SHA256};
 use desk_bytes::{Digest, Guid, WriteFailed, put};
 use std::io::Write;
 
-/// Writes a number, its low byte first.
+/// Writes a number, little-endian.
 fn put_u32<W: Write>(number: u32, writer: &mut W) -> Result<(), WriteFailed>
     ensures ok { OnOk result (Appends (W.contents writer.old) (W.contents writer.new)
         (to_le_bytes w32 number)) }
@@ -20,7 +20,7 @@ fn put_u32<W: Write>(number: u32, writer: &mut W) -> Result<(), WriteFailed>
     put(&number.to_le_bytes(), writer)
 }
 
-/// Writes the head of a list that has no header.
+/// Writes the head of a list without a header.
 pub(crate) fn put_head<W: Write>(
     kind: &[u8; 16],
     entry_size: u32,
@@ -96,7 +96,7 @@ fn put_one<W: Write>(
     put_entry(owner, body, writer)
 }
 
-/// Writes one SHA256 list of the digests, in the order handed in, or nothing where there is none.
+/// Writes one SHA256 list of the digests, in the order given, or nothing if there is none.
 pub fn write_sha256<W: Write>(
     owner: &Guid,
     digests: &[Digest],
@@ -115,9 +115,9 @@ pub fn write_sha256<W: Write>(
     }
 }
 
-/// Writes one X509_SHA256 list, in the order handed in, or nothing where there is none. Each digest is the
-/// SHA-256 of a TBSCertificate; its TimeOfRevocation, an EFI_TIME, is 16 zero bytes, which revoke the
-/// certificate whenever it signed.
+/// Writes one X509_SHA256 list, in the order given, or nothing if there is no digest. Each digest
+/// is the SHA-256 of a TBSCertificate; its TimeOfRevocation, an EFI_TIME, is 16 zero bytes, which
+/// revoke the certificate whenever it signed.
 pub fn write_x509_sha256<W: Write>(
     owner: &Guid,
     digests: &[Digest],

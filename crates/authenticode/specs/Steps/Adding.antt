@@ -1,11 +1,11 @@
--- What a step of the walk adds to a list of digests, and what it is refused for.
+-- The effect of a step of the walk on a list of digests, and its faults.
 use Rattle.std.specs.Prelude.{◌≡◌, List, ◌++◌, ℕ, map, ⊤}
 use Rattle.sha2.specs.Sha256.{sha256}
 use Rattle.authenticode.specs.Walks.{Stepping}
 use Rattle.authenticode.specs.declared.fault.CarriedFault.{CarriedFault}
 use Rattle.authenticode.specs.declared.fault.CarriedFault.TheVariants as fault
 
--- one step from b to c was made, and the SHA-256 of each item added to a list
+-- one step from b to c was made, and the SHA-256 of each of its items added to a list
 pub record AddsStep (Step : Stepping) (b c : List ℕ) (old new : List (List ℕ)) : Type 0 where
   pub own : List (List ℕ)
   pub step : Step b own c

@@ -1,4 +1,4 @@
--- What is known of an image before its sections are read.
+-- The values of an image's headers before its sections are read.
 use Rattle.std.specs.Prelude.{◌≡◌, ◌<◌, ◌≤◌, ◌+◌, ◌*◌, ◌^◌, ℕ, List, length, IfSome}
 use Rattle.desk_bytes.specs.Limits.{longest_image}
 use Rattle.pe_image.specs.Image.{pe_signature_offset, fixed_size, sections_begin, number_of_sections, size_of_headers}
@@ -7,7 +7,7 @@ use Rattle.pe_image.specs.declared.front.Front.{Front}
 use Rattle.pe_image.specs.declared.optional.Directories.{Directories}
 use Rattle.pe_image.specs.declared.optional.Extent.{Extent}
 
--- the signature stands at an offset of a file that isn't too long
+-- the signature's offset, in a file that isn't too long
 pub record IsStart (f : List ℕ) (pe_signature : ℕ) : Type 0 where
   pub exact : pe_signature ≡ pe_signature_offset f
   pub small : pe_signature < 2 ^ 32

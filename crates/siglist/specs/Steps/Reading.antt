@@ -1,4 +1,5 @@
--- Lists read from the front of bytes (UEFI 2.10, section 32.4.1), apart from their spelling.
+-- The reading of lists from the front of bytes (UEFI 2.10, section 32.4.1), apart from their
+-- spelling.
 use Rattle.std.specs.Prelude.{ℕ, zero, suc, ◌+◌, ◌-◌, ◌/◌, ◌%◌, ◌==◌, ◌&&◌, nat_lt, List, [], ◌∷◌, length, take, drop, Option, Some, None, if◌then◌else◌}
 use Rattle.siglist.specs.Heads.{size_at, header_size_at, entry_size_at}
 use Rattle.siglist.specs.Kinds.{kind_of, is_bare, suits}
@@ -10,7 +11,7 @@ use Rattle.siglist.specs.declared.fault.Lack.TheVariants as lack
 abbrev pub entries_size_at : List ℕ → ℕ
 entries_size_at b = size_at b - (28 + header_size_at b)
 
--- own: why no list stands at the front of these bytes; that no whole list does comes before its entries' size
+-- own: why there is no list at the front of these bytes; List comes before EntrySize
 unfoldable pub lack_at : List ℕ → Option Lack
 lack_at b =
     if nat_lt (length b) 28 then Some lack.List
@@ -27,7 +28,7 @@ abbrev pub entries_of : ℕ → ℕ → List ℕ → List Entry
 entries_of zero size b = []
 entries_of (suc n) size b = record { owner = take 16 b; body = take (size - 16) (drop 16 b) } ∷ entries_of n size (drop size b)
 
--- the list at the front, whose sizes are these: all of it, its header, one entry
+-- the list at the front with these sizes: of the list, its header and one entry
 unfoldable pub list_with : List ℕ → ℕ → ℕ → ℕ → SignatureList
 list_with b size header entry = record {
   kind = take 16 b;
@@ -36,7 +37,7 @@ list_with b size header entry = record {
   entries = entries_of ((size - (28 + header)) / entry) entry (drop (28 + header) b);
 }
 
--- the list at the front of these bytes, where one stands
+-- the list at the front of these bytes, if there is one
 abbrev pub front_of : List ℕ → SignatureList
 front_of b = list_with b (size_at b) (header_size_at b) (entry_size_at b)
 
