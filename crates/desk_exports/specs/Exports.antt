@@ -1,5 +1,5 @@
--- What a desk with this owner exports after these calls: dbx and db as signature lists (UEFI 2.10, section 32.4.1), the
--- level (shim's SBAT.md), and the minutes.
+-- The exports of a desk with this owner after these calls: dbx and db as signature lists (UEFI
+-- 2.10, section 32.4.1), the level (shim's SBAT.md), and the minutes.
 use Rattle.std.specs.Prelude.{ℕ, List, ◌++◌, codes, decimal, filter, flat_map, map, reverse}
 use Rattle.sbat.specs.declared.component.Component.{Component}
 use Rattle.sbat.specs.Writing.{level_lines}
@@ -47,7 +47,7 @@ db_lists owner cs =
 abbrev pub db : List ℕ → History → List ℕ
 db owner cs = spelling (db_lists owner cs)
 
--- the level's components beside `sbat`, ascending by their names
+-- the level's components other than `sbat`, ascending by name
 abbrev pub level_components : History → List Component
 level_components cs = ascending_by (λ (x : Component). x.name) (level_rows (generations cs))
 
@@ -55,7 +55,7 @@ level_components cs = ascending_by (λ (x : Component). x.name) (level_rows (gen
 abbrev pub level : History → List ℕ
 level cs = level_lines (stamp cs) (map (λ x. (x.name, x.generation)) (level_components cs))
 
--- own: a line of the minutes: number, caller, key, text and reply, parted by tabs
+-- own: a line of the minutes: number, caller, key, text and reply, separated by tabs
 abbrev pub minute_line : Minute → List ℕ
 minute_line m =
     decimal m.number ++ codes "\t" ++ caller_name m.caller ++ codes "\t" ++ m.key ++ codes "\t" ++ m.text ++ codes "\t"

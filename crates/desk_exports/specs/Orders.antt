@@ -8,12 +8,12 @@ use Rattle.std.specs.Cmp.Lexicographic.{slice_cmp}
 abbrev pub is_before : List ℕ → List ℕ → Bool
 is_before a b = is_le (slice_cmp nat_cmp a b)
 
--- the item among others that ascend by this key
+-- the item inserted among others that ascend by this key
 abbrev pub in_place : {X : Type 0} → (X → List ℕ) → X → List X → List X
 in_place key x [] = x ∷ []
 in_place key x (y ∷ ys) = if is_before (key x) (key y) then x ∷ y ∷ ys else y ∷ in_place key x ys
 
--- the items in ascending order of this key
+-- the items, ascending by this key
 abbrev pub ascending_by : {X : Type 0} → (X → List ℕ) → List X → List X
 ascending_by key [] = []
 ascending_by key (x ∷ xs) = in_place key x (ascending_by key xs)

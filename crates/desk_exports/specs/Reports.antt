@@ -1,4 +1,4 @@
--- own: what a desk counts, as a text.
+-- own: the counts of a desk, as a text.
 use Rattle.std.specs.Prelude.{ℕ, ◌-◌, List, ◌++◌, codes, count_by, decimal, length, replicate}
 use Rattle.desk_texts.specs.declared.kind.ListedKind.{ListedKind}
 use Rattle.desk_texts.specs.declared.kind.ListedKind.TheVariants as kinds
@@ -19,7 +19,7 @@ count_in s cs = count_by (λ r. is_state s (state cs r.number)) (requests cs)
 abbrev pub count_listed : ListedKind → History → ℕ
 count_listed kind cs = count_by (λ e. is_same_kind kind e.kind) (listed cs)
 
--- the label left in 24 places, the number right in 10, and LF
+-- the label at the left in 24 places, the number at the right in 10, and LF
 abbrev pub line : List ℕ → ℕ → List ℕ
 line label number =
     label ++ replicate (24 - length label) 32 ++ replicate (10 - length (decimal number)) 32 ++ decimal number ++ codes "\n"

@@ -1,4 +1,4 @@
--- Worked exports, written down by hand and computed by the definitions.
+-- Worked exports, written by hand and computed by the definitions.
 use Rattle.std.specs.Prelude.{◌≡◌, ℕ, List, [], ◌∷◌, ◌++◌, codes, length, None}
 use Rattle.desk_texts.specs.declared.command.Command.TheVariants as command
 use Rattle.desk_texts.specs.declared.role.Role.TheVariants as roles
@@ -42,7 +42,7 @@ bb_list = 0x92 ∷ 0xa4 ∷ 0xd2 ∷ 0x3b ∷ 0xc0 ∷ 0x96 ∷ 0x79 ∷ 0x40 �
 abbrev pub ExportsImport : Type 0
 ExportsImport = dbx owner listed_history ≡ aa_list ++ bb_list
 
--- what is proposed isn't exported until it is confirmed
+-- a proposal isn't exported until it is confirmed
 abbrev pub ExportsProposals : Type 0
 ExportsProposals =
     (dbx owner proposals.after_proposal ≡ [])
@@ -51,7 +51,7 @@ ExportsProposals =
     × (dbx owner proposals.import_history ≡ aa_list ++ bb_list)
     × (length (dbx owner proposals.import_history) ≡ 168)
 
--- digests that were revoked in another order, and one of them twice
+-- digests revoked in another order, one of them twice
 abbrev unordered : History
 unordered =
     item (by (codes "otto") (codes "otto-2") (command.Confirm 2))
@@ -60,7 +60,7 @@ unordered =
     ∷ item (by (codes "olga") (codes "olga-1") (command.RevokeDigest (digest 204)))
     ∷ officers_added
 
--- stand in dbx in ascending order, each once
+-- dbx has them in ascending order, each once
 abbrev pub ExportsInOrder : Type 0
 ExportsInOrder = dbx owner unordered ≡ 0x26 ∷ 0x16 ∷ 0xc4 ∷ 0xc1 ∷ 0x4c ∷ 0x50 ∷ 0x92 ∷ 0x40 ∷ 0xac ∷ 0xa9 ∷ 0x41 ∷ 0xf9 ∷ 0x36 ∷ 0x93 ∷ 0x43 ∷ 0x28 ∷ 0xac ∷ 0x00 ∷ 0x00 ∷ 0x00 ∷ 0x00 ∷ 0x00 ∷ 0x00 ∷ 0x00 ∷ 0x30 ∷ 0x00 ∷ 0x00 ∷ 0x00 ∷ 0x33 ∷ 0x22 ∷ 0x11 ∷ 0x00 ∷ 0x55 ∷ 0x44 ∷ 0x77 ∷ 0x66 ∷ 0x88 ∷ 0x99 ∷ 0xaa ∷ 0xbb ∷ 0xcc ∷ 0xdd ∷ 0xee ∷ 0xff ∷ 0xaa ∷ 0xaa ∷ 0xaa ∷ 0xaa ∷ 0xaa ∷ 0xaa ∷ 0xaa ∷ 0xaa ∷ 0xaa ∷ 0xaa ∷ 0xaa ∷ 0xaa ∷ 0xaa ∷ 0xaa ∷ 0xaa ∷ 0xaa ∷ 0xaa ∷ 0xaa ∷ 0xaa ∷ 0xaa ∷ 0xaa ∷ 0xaa ∷ 0xaa ∷ 0xaa ∷ 0xaa ∷ 0xaa ∷ 0xaa ∷ 0xaa ∷ 0xaa ∷ 0xaa ∷ 0xaa ∷ 0xaa ∷ 0x33 ∷ 0x22 ∷ 0x11 ∷ 0x00 ∷ 0x55 ∷ 0x44 ∷ 0x77 ∷ 0x66 ∷ 0x88 ∷ 0x99 ∷ 0xaa ∷ 0xbb ∷ 0xcc ∷ 0xdd ∷ 0xee ∷ 0xff ∷ 0xbb ∷ 0xbb ∷ 0xbb ∷ 0xbb ∷ 0xbb ∷ 0xbb ∷ 0xbb ∷ 0xbb ∷ 0xbb ∷ 0xbb ∷ 0xbb ∷ 0xbb ∷ 0xbb ∷ 0xbb ∷ 0xbb ∷ 0xbb ∷ 0xbb ∷ 0xbb ∷ 0xbb ∷ 0xbb ∷ 0xbb ∷ 0xbb ∷ 0xbb ∷ 0xbb ∷ 0xbb ∷ 0xbb ∷ 0xbb ∷ 0xbb ∷ 0xbb ∷ 0xbb ∷ 0xbb ∷ 0xbb ∷ 0x33 ∷ 0x22 ∷ 0x11 ∷ 0x00 ∷ 0x55 ∷ 0x44 ∷ 0x77 ∷ 0x66 ∷ 0x88 ∷ 0x99 ∷ 0xaa ∷ 0xbb ∷ 0xcc ∷ 0xdd ∷ 0xee ∷ 0xff ∷ 0xcc ∷ 0xcc ∷ 0xcc ∷ 0xcc ∷ 0xcc ∷ 0xcc ∷ 0xcc ∷ 0xcc ∷ 0xcc ∷ 0xcc ∷ 0xcc ∷ 0xcc ∷ 0xcc ∷ 0xcc ∷ 0xcc ∷ 0xcc ∷ 0xcc ∷ 0xcc ∷ 0xcc ∷ 0xcc ∷ 0xcc ∷ 0xcc ∷ 0xcc ∷ 0xcc ∷ 0xcc ∷ 0xcc ∷ 0xcc ∷ 0xcc ∷ 0xcc ∷ 0xcc ∷ 0xcc ∷ 0xcc ∷ []
 
@@ -76,7 +76,7 @@ ExportsMinutes =
     minutes_text (item (by (codes "ann") (codes "k1") (command.Withdraw 1)) ∷ item (record (person (codes "ann") roles.Submitter 1) { key = codes "p" }) ∷ [])
     ≡ codes "1\tconsole\tp\tadd-person ann submitter 0101010101010101010101010101010101010101010101010101010101010101\tadded ann\n2\tann\tk1\twithdraw 1\twithdrawn 1\n"
 
--- reports: of a desk with one person, and after a signed file came back
+-- reports: of a desk with one person, and after a signed file was returned
 abbrev pub ExportsReports : Type 0
 ExportsReports =
     (report (item (person (codes "ann") roles.Submitter 1) ∷ []) ≡ codes "people                           1\nrequests                         0\nopen                             0\napproved                         0\nrejected                         0\nwithdrawn                        0\nsigned                           0\nlisted digests                   0\nlisted certificates              0\nrevoked digests                  0\nrevoked certificates             0\nlevel components                 0\ncommands                         1\nstamp                   2021030218\n")

@@ -1,4 +1,5 @@
-//! Laws of the exports, and worked ones: each clause of these is what the definitions give for one.
+//! Laws of the exports, and worked exports: the results that the definitions give, one in each
+//! clause.
 ghost use Rattle.std.specs.Prelude.{◌≡◌, ◌++◌, ℕ, List, filter, length, map};
 ghost use Rattle.std.specs.List.{flat_map};
 ghost use Rattle.sbat.specs.Writing.{head_text, row_text};
@@ -16,9 +17,9 @@ ghost use Rattle.desk_exports.specs.Exports.{db, db_lists, dbx, dbx_lists, entri
 ghost use Rattle.desk_exports.specs.Orders.{IsInOrder};
 ghost use Rattle.desk_exports.specs.Worked as worked;
 
-/// An export is its parts, one after another: of dbx a head and its entries for each kind that is revoked, of db those
-/// of the listed digests and then a list for each listed certificate, of the level its first line and a line for each
-/// component.
+/// An export is its parts, one after another: of dbx, a head and its entries for each kind that is
+/// revoked; of db, those of the listed digests and then a list for each listed certificate; of the
+/// level, its first line and a line for each component.
 pub fn exports_are_their_parts()
     ensures dbx { (owner : List ℕ) (cs : History) → dbx owner cs
         ≡ sha256_parts owner (revoked kinds.Digest cs)
@@ -31,8 +32,9 @@ pub fn exports_are_their_parts()
         ++ flat_map (λ x. row_text x.name x.generation) (level_components cs) }
 {}
 
-/// Of a desk's history and an owner of 16 bytes, the bytes of dbx spell the lists of dbx, and those of db the lists
-/// of db (UEFI 2.10, section 32.4.1): each size fits its field, and the bytes spell no other lists.
+/// For a desk's history and an owner of 16 bytes, the bytes of dbx spell the lists of dbx, and
+/// those of db the lists of db (UEFI 2.10, section 32.4.1): each size fits its field, and the bytes
+/// spell no other lists.
 pub fn exports_are_spelt()
     ensures dbx { (owner : List ℕ) (cs : History) → length owner ≡ 16 → IsHistory cs
         → Spells (dbx_lists owner cs) (dbx owner cs) }
@@ -40,9 +42,9 @@ pub fn exports_are_spelt()
         → Spells (db_lists owner cs) (db owner cs) }
 {}
 
-/// Each export has the items that it is of, in the order of their keys, each key once: dbx the digests of each kind that
-/// are revoked, all of them and no other; db the entries of each kind that are listed, by their digests; the level its
-/// components, by their names.
+/// Each export has its items in the order of their keys, each key once: dbx all digests of each
+/// kind that are revoked and no others; db the listed entries of each kind, by their digests; the
+/// level its components, by their names.
 pub fn exports_are_in_order()
     ensures dbx { (kind : ListedKind) (cs : History)
         → IsInOrder (λ digest. digest) (distinct (revocations kind cs)) (revoked kind cs) }
@@ -54,7 +56,7 @@ pub fn exports_are_in_order()
         → IsInOrder (λ x. x.name) (level_rows (generations cs)) (level_components cs) }
 {}
 
-/// Exports of worked histories are those that were written down by hand.
+/// Exports of worked histories are those that were written by hand.
 pub fn exports_are_written()
     ensures nothing { worked.ExportsNothing }
     ensures db { worked.ExportsDb }

@@ -1,4 +1,4 @@
--- Calls, and lists of what they name.
+-- Calls, and lists of texts.
 use Rattle.std.specs.Prelude.{◌≡◌, ℕ, Bool, true, false, not, ◌&&◌, if◌then◌else◌, List, [], ◌∷◌, ◌++◌, bytes_eq}
 use Rattle.std.specs.List.{list_any}
 use Rattle.desk_texts.specs.Callers.{caller_name}
@@ -6,8 +6,8 @@ use Rattle.desk_texts.specs.declared.command.Call.{Call}
 use Rattle.desk_texts.specs.declared.kind.ListedKind.{ListedKind}
 use Rattle.desk_texts.specs.declared.kind.ListedKind.TheVariants as kinds
 
--- The rules by which a call was accepted: by the first one officer revokes and raises alone, by the second another one
--- confirms.
+-- The rules by which a call was accepted: by the first, one officer alone revokes and raises; by
+-- the second, another one confirms.
 pub data Rules : Type 0 where
   First : Rules
   Second : Rules
@@ -33,11 +33,12 @@ is_first i = elim i.rules [ First ↦ true | Second ↦ false ]
 abbrev pub History : Type 0
 History = List Item
 
--- the later history goes on from the earlier, which is its beginning
+-- the later history extends the earlier one
 abbrev pub GoesOnFrom : History → History → Type 0
 GoesOnFrom earlier later = (new : List Item) × (later ≡ new ++ earlier)
 
--- own: keys are each caller's own, so calls repeat one another only where both the caller and the key are the same
+-- own: keys are each caller's own, so a call repeats another only if both the caller and the key
+-- are the same
 abbrev pub has_same_key : Call → Call → Bool
 has_same_key a b = bytes_eq (caller_name a.caller) (caller_name b.caller) && bytes_eq a.key b.key
 
@@ -51,7 +52,7 @@ is_same_kind _ _ = false
 abbrev pub is_same_item : Item → Item → Bool
 is_same_item a b = has_same_key a.call b.call
 
--- the text is one of these
+-- the text is one of these texts
 abbrev pub is_among : List (List ℕ) → List ℕ → Bool
 is_among texts text = list_any (bytes_eq text) texts
 

@@ -3,7 +3,7 @@ use Rattle.std.specs.Prelude.{Bool, true, false}
 use Rattle.desk_bytes.specs.declared.refusal.Refusal.{Refusal}
 use Rattle.desk_bytes.specs.declared.refusal.Refusal.TheVariants as refusals
 
--- the refusals that a call may be answered by the desk's rules, and NoMemory
+-- whether the desk's rules may answer a call with this refusal, or it is NoMemory
 abbrev pub may_answer : Refusal → Bool
 may_answer refusals.Short = false
 may_answer refusals.NoMz = false

@@ -11,8 +11,8 @@ use Rattle.desk_texts.specs.declared.kind.ListedKind.TheVariants as kinds
 use Rattle.desk_history.specs.Calls.{First, History, Item, Second}
 use Rattle.desk_history.specs.Proposals.{named_by, proposal}
 
--- digests of images, digests of certificates, and components with their generations, the last one named first, and the stamp
--- that the level gets, if there is one
+-- digests of images, digests of certificates, and components with their generations, each in
+-- reverse order of naming, and the stamp that the level gets, if there is one
 pub record InForce : Type 0 where
   pub digests : List (List ℕ)
   pub certificates : List (List ℕ)
@@ -32,7 +32,7 @@ forced i = record {
   stamp = i.stamp;
 }
 
--- a Confirm confirms what its proposal names
+-- the entries that a Confirm confirms: those of its proposal
 abbrev pub confirmed_by : History → Command → Option Imported
 confirmed_by cs (command.Confirm k) = option_map (λ p. p.named.entries) (proposal cs k)
 confirmed_by cs (command.AddPerson _) = None
@@ -49,19 +49,19 @@ confirmed_by cs (command.RaiseLevel _) = None
 confirmed_by cs (command.ImportRevocations _) = None
 confirmed_by cs (command.Drop _) = None
 
--- own: by the first rules a call puts into force what it names; by the second only a Confirm puts anything into force, what it
--- confirms
+-- own: by the first rules a call puts into force the entries that it names; by the second only a
+-- Confirm does, those of its proposal
 abbrev pub enforced_by : History → Item → Option Imported
 enforced_by cs i = elim i.rules [
   | First ↦ option_map (λ n. n.entries) (named_by i.call.command)
   | Second ↦ confirmed_by cs i.call.command
 ]
 
--- the entries that a call puts into force which is accepted after these
+-- the entries that a call accepted after these puts into force
 abbrev pub into_force : History → Item → InForce
 into_force cs i = option_map_or forced (enforced_by cs i) nothing
 
--- the digests of this kind in it
+-- the digests of this kind among them
 abbrev pub revoked_in : ListedKind → InForce → List (List ℕ)
 revoked_in kinds.Digest f = f.digests
 revoked_in kinds.Certificate f = f.certificates

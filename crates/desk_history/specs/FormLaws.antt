@@ -42,7 +42,7 @@ AllRowsStandOnce = (owner : List ℕ) (cs : History) → IsHistory cs → AllSta
 abbrev pub LevelHasNoSbat : Type 0
 LevelHasNoSbat = (owner : List ℕ) (cs : History) → IsHistory cs → IsTrue (names_no_sbat (tables owner cs).components)
 
--- nobody but the console calls by the name `console`
+-- only the console calls by the name `console`
 abbrev pub CallersAreTold : Type 0
 CallersAreTold = (cs : History) → IsTrue (is_legal cs) → IsTrue (list_all (λ i. is_told_by_name i.call.caller) cs)
 
@@ -50,7 +50,8 @@ CallersAreTold = (cs : History) → IsTrue (is_legal cs) → IsTrue (list_all (�
 abbrev pub MinutesAreReadable : Type 0
 MinutesAreReadable = (cs : History) → IsHistory cs → All IsReadable (minutes cs)
 
--- minutes of one caller's name are of one caller, and those of one reply's text have one reply
+-- minutes with the same caller's name have the same caller, and those with the same reply's text
+-- the same reply
 pub record AreAlike (a b : Minute) : Type 0 where
   pub callers : caller_name a.caller ≡ caller_name b.caller → a.caller ≡ b.caller
   pub replies : reply_text_of a.reply ≡ reply_text_of b.reply → a.reply ≡ b.reply
@@ -60,7 +61,7 @@ abbrev pub MinutesDiffer : Type 0
 MinutesDiffer =
     (cs : History) → IsHistory cs → (a b : Minute) → Contains (minutes cs) a → Contains (minutes cs) b → AreAlike a b
 
--- the call itself stands in the history, and was given this reply when it was accepted, by whichever rules
+-- the call is in the history, and was given this reply when it was accepted, by either rules
 pub record Stands (cs : History) (c : Call) (given : Reply) : Type 0 where
   pub rules : Rules
   pub later : History
@@ -68,7 +69,7 @@ pub record Stands (cs : History) (c : Call) (given : Reply) : Type 0 where
   pub is : cs ≡ later ++ under rules c ∷ before
   pub same : reply_to before (under rules c) ≡ given
 
--- each history that a series of lives may leave is a desk's, where each of its calls was in its forms
+-- each history that a series of lives may leave is a desk's, if each of its calls was in its forms
 abbrev pub EndsAreHistories : Type 0
 EndsAreHistories =
     (lives : List Life) (cs : History) → Ends lives cs → All (λ e. IsItem e.item) (events_of lives) → IsHistory cs
@@ -79,9 +80,10 @@ AnsweredCallsStand =
     (lives : List Life) (cs : History) → Ends lives cs → All (λ e. IsItem e.item) (events_of lives)
     → (i : Item) (reply : Reply) (at : History) → WasAnswered (events_of lives) cs i reply at → Stands cs i.call reply
 
--- Each history that a series of lives left keeps all that was answered Ok. `each`: every call that was answered Ok was answered
--- at some history, and with each such: the call is in the history that is left, with its reply; that history goes on from the
--- history of that time; and each image that was barred then is barred, and so isn't allowed.
+-- Each history that a series of lives left keeps all that was answered Ok. `each`: every call that
+-- was answered Ok was answered at some history. For each such history, the call is in the history
+-- that is left, with its reply; the history that is left extends it; and each image that was barred
+-- then is barred, and so isn't allowed.
 pub record KeepsAnswered (events : List Event) (cs : History) : Type 0 where
   pub each : (i : Item) (reply : Reply) (earlier later : List Event)
       → events ≡ earlier ++ record { item = i; fate = Answered reply } ∷ later → (at : History) × WasAnswered events cs i reply at
@@ -92,7 +94,8 @@ pub record KeepsAnswered (events : List Event) (cs : History) : Type 0 where
   pub refused : (i : Item) (reply : Reply) (at : History) → WasAnswered events cs i reply at
       → (x : Facts) → IsTrue (is_barred at x) → verdict cs x ≢ Allowed
 
--- any number of lives leave a desk's history that keeps all that was answered in them, where each call was in its forms
+-- any number of lives leave a desk's history that keeps all that was answered in them, if each call
+-- was in its forms
 abbrev pub LivesKeepAnswered : Type 0
 LivesKeepAnswered =
     (lives : List Life) (cs : History) → Ends lives cs → All (λ e. IsItem e.item) (events_of lives)

@@ -12,14 +12,14 @@ use Rattle.desk_history.specs.Runs.{is_legal}
 abbrev pub IsItem : Item → Type 0
 IsItem i = IsCall i.call
 
--- A desk's history: each call is in its forms and within its limits, and was accepted after those before it. What a desk
--- shows is such a history.
+-- A desk's history: each call is in its forms and within its limits, and was accepted after those
+-- before it. The history that a desk shows is one.
 pub record IsHistory (cs : History) : Type 0 where
   pub legal : IsTrue (is_legal cs)
   pub formed : All IsItem cs
 
--- the minute is told by the caller's name, the key and the reply's text: each of them is in its form, and stands for one
--- caller, one key and one reply
+-- the caller's name, the key and the reply's text identify the minute: each is in its form, and
+-- belongs to one caller, one key and one reply
 pub record IsReadable (m : Minute) : Type 0 where
   pub caller : IsCaller m.caller
   pub told : is_told_by_name m.caller ≡ true

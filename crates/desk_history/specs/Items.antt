@@ -10,7 +10,7 @@ use Rattle.desk_history.specs.declared.rows.ProposalRow.{ProposalRow}
 abbrev pub items_of : Imported → List ProposalItem
 items_of i = map items.Digest i.digests ++ (map items.Certificate i.certificates ++ map items.Component i.components)
 
--- the rows of these items of the proposal k, the first of them at this place
+-- the rows of these items of the proposal k, with places from this one on
 abbrev pub items_from : ℕ → ℕ → List ProposalItem → List ProposalItemRow
 items_from k place [] = []
 items_from k place (x ∷ xs) = record { proposal = k; place = place; item = x } ∷ items_from k (place + 1) xs

@@ -21,7 +21,7 @@ use Rattle.desk_history.specs.Lives.{Answered, Ends, Event, Holds, Life, WasAnsw
 use Rattle.desk_history.specs.Runs.{is_legal, run, run_by}
 use Rattle.desk_history.specs.Verdicts.{is_barred, stands_in_db, verdict}
 
--- an image is allowed exactly where it isn't barred and stands in db
+-- an image is allowed exactly if it isn't barred and is in db
 abbrev pub AllowsExactly : Type 0
 AllowsExactly =
     (cs : History) (x : Facts) → (verdict cs x ≡ Allowed) ↔ ((is_barred cs x ≡ false) × (stands_in_db cs x ≡ true))
@@ -32,11 +32,12 @@ StaysBarred =
     (earlier later : History) (x : Facts) → GoesOnFrom earlier later → IsTrue (is_barred earlier x)
     → IsTrue (is_barred later x)
 
--- each step of a run goes on from those before it
+-- each step of a run extends those before it
 abbrev pub RunsGoOn : Type 0
 RunsGoOn = (cs : History) (calls more : List Call) → GoesOnFrom (run cs calls) (run cs (calls ++ more))
 
--- the legal histories are those that runs from nothing leave, of which the first calls may be by the first rules
+-- the legal histories are those that runs from an empty history leave, whose first calls may be by
+-- the first rules
 abbrev pub LegalIsRun : Type 0
 LegalIsRun =
     (cs : History) → IsTrue (is_legal cs) ↔ ((first more : List Call) × (cs ≡ run (run_by First [] first) more))
@@ -72,7 +73,7 @@ pub record StandOnce (t : Tables) : Type 0 where
 abbrev pub RowsStandOnce : Type 0
 RowsStandOnce = (owner : List ℕ) (cs : History) → IsTrue (is_legal cs) → StandOnce (tables owner cs)
 
--- in a legal history each key of a caller stands once
+-- in a legal history a caller uses each key once
 abbrev pub KeysStandOnce : Type 0
 KeysStandOnce = (cs : History) → IsTrue (is_legal cs) → IsTrue (are_apart is_same_item cs)
 
@@ -87,8 +88,8 @@ AnswersHaveHistories =
     → events_of lives ≡ earlier ++ record { item = i; fate = Answered reply } ∷ later
     → (at : History) × WasAnswered (events_of lives) cs i reply at
 
--- each history that a series leaves holds each call that was answered Ok with its reply, and goes on from the history of that
--- time
+-- each history that a series leaves holds each call that was answered Ok with its reply, and
+-- extends the history of that time
 abbrev pub AnswersAreKept : Type 0
 AnswersAreKept =
     (lives : List Life) (cs : History) → Ends lives cs → (i : Item) (reply : Reply) (at : History)

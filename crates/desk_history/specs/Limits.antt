@@ -1,4 +1,4 @@
--- How much a desk holds.
+-- Limits of a desk.
 use Rattle.std.specs.Prelude.{ℕ, Bool, ◌&&◌, nat_le, length}
 use Rattle.desk_texts.specs.declared.kind.ListedKind.TheVariants as kinds
 use Rattle.desk_history.specs.Calls.{History, distinct}
@@ -33,7 +33,7 @@ most_revoked_digests = 100000
 abbrev pub most_revoked_certificates : ℕ
 most_revoked_certificates = 10000
 
--- own: the most components of the level, beside `sbat`
+-- own: the most components of the level, not counting `sbat`
 abbrev pub most_level_components : ℕ
 most_level_components = 10000
 
@@ -41,7 +41,7 @@ most_level_components = 10000
 abbrev pub most_calls : ℕ
 most_calls = 1000000
 
--- the desk keeps within what it may hold
+-- the desk is within its limits
 abbrev pub is_within : History → Bool
 is_within cs =
     nat_le (length (people cs)) most_people

@@ -13,7 +13,7 @@ use Rattle.desk_history.specs.Calls.{History, is_same_kind}
 abbrev pub is_entry : ListedKind → List ℕ → Entry → Bool
 is_entry kind digest e = is_same_kind kind e.kind && bytes_eq digest e.digest
 
--- the command lists the entry of this kind and digest, or takes it off
+-- the command lists the entry of this kind and digest, or takes it off the list
 abbrev pub is_about : ListedKind → List ℕ → Command → Bool
 is_about kind digest (command.ListDigest d) = is_same_kind kind kinds.Digest && bytes_eq digest d
 is_about kind digest (command.ListCertificate c) = is_same_kind kind kinds.Certificate && bytes_eq digest c.tbs
@@ -47,15 +47,15 @@ lists (command.ImportRevocations _) = false
 lists (command.Confirm _) = false
 lists (command.Drop _) = false
 
--- the last call about the entry lists it
+-- the last call that lists the entry or takes it off lists it
 abbrev pub is_listed : ListedKind → History → List ℕ → Bool
 is_listed kind cs digest = option_map_or (λ i. lists i.call.command) (find (λ i. is_about kind digest i.call.command) cs) false
 
--- an entry of this kind and digest is there
+-- the entries have one of this kind and digest
 abbrev pub has_entry : ListedKind → List ℕ → List Entry → Bool
 has_entry kind digest entries = list_any (is_entry kind digest) entries
 
--- the entries but for this one
+-- the entries except this one
 abbrev pub without : ListedKind → List ℕ → List Entry → List Entry
 without kind digest entries = filter (λ e. not (is_entry kind digest e)) entries
 
@@ -78,7 +78,7 @@ relisted (command.ImportRevocations _) entries = entries
 relisted (command.Confirm _) entries = entries
 relisted (command.Drop _) entries = entries
 
--- the listed entries, with the bodies that the last calls about them gave
+-- the listed entries, with the bodies that the last calls that list them gave
 abbrev pub listed : History → List Entry
 listed [] = []
 listed (i ∷ cs) = relisted i.call.command (listed cs)

@@ -1,4 +1,4 @@
--- Lives of a desk, and what stops leave of its history.
+-- Lives of a desk, and the histories that stops may leave.
 use Rattle.std.specs.Prelude.{◌≡◌, ◌⊎◌, Bool, true, false, ◌&&◌, if◌then◌else◌, IsTrue, List, [], ◌∷◌, ◌++◌, Some, flat_map}
 use Rattle.std.specs.List.{list_all}
 use Rattle.desk_texts.specs.declared.command.Call.{Call}
@@ -15,7 +15,7 @@ pub data Fate : Type 0 where
   Refused : Fate
   Stopped : Fate
 
--- a call with the rules by which it was judged, and what became of it
+-- a call with the rules that judged it, and its fate
 pub record Event : Type 0 where
   pub item : Item
   pub fate : Fate
@@ -28,13 +28,13 @@ LeavesEither cs i later = (later ≡ cs) ⊎ (later ≡ next_item cs i)
 abbrev pub IsLeft : History → Call → History → Type 0
 IsLeft cs c later = LeavesEither cs (item c) later
 
--- the history that an event may leave
+-- the histories that an event may leave
 abbrev pub MayTurn : History → Item → Fate → History → Type 0
 MayTurn cs i (Answered reply) later = (reply_in (ruling cs i) ≡ Some reply) × (later ≡ next_item cs i)
 MayTurn cs i Refused later = later ≡ cs
 MayTurn cs i Stopped later = LeavesEither cs i later
 
--- the history that events may leave, the first of them first
+-- the histories that events may leave, the first of them first
 abbrev pub MayLeave : History → List Event → History → Type 0
 MayLeave cs [] end = end ≡ cs
 MayLeave cs (e ∷ events) end = (later : History) × MayTurn cs e.item e.fate later × MayLeave later events end
@@ -89,7 +89,7 @@ is_life life =
 abbrev pub is_second_life : Life → Bool
 is_second_life life = are_rules Second life.rules
 
--- the desk was opened by the second rules
+-- a program of the second rules opened the desk
 abbrev pub is_opened_by_second : Life → Bool
 is_opened_by_second life = elim life.opening [ Opened ↦ is_second_life life | NotOpened ↦ false ]
 

@@ -12,7 +12,7 @@ use Rattle.desk_history.specs.Proposals.{named_by, outcome_by, outcomes, proposa
 use Rattle.desk_history.specs.Refusals.{may_give}
 use Rattle.desk_history.specs.Runs.{is_legal}
 
--- the call names these entries to be revoked or raised
+-- the call names these entries, to be revoked or raised
 abbrev pub Names : Item → Imported → Type 0
 Names i entries = option_map (λ n. n.entries) (named_by i.call.command) ≡ Some entries
 
@@ -30,8 +30,8 @@ pub record TwoOfficers (cs : History) (i : Item) (entries : Imported) : Type 0 w
   pub confirmer : IsTrue (may_give cs i.call.caller i.call.command)
   pub differ : bytes_eq (caller_name proposing.call.caller) (caller_name i.call.caller) ≡ false
 
--- The entries that an accepted call puts into force it names itself, by the first rules, or two officers put them into force, by
--- the second.
+-- An accepted call names the entries that it puts into force itself, by the first rules, or two
+-- officers put them into force, by the second.
 abbrev pub TwoOfficersPut : Type 0
 TwoOfficersPut =
     (cs : History) (i : Item) (entries : Imported) → IsTrue (is_legal (i ∷ cs)) → enforced_by cs i ≡ Some entries

@@ -1,4 +1,5 @@
--- Proposals of revocations and of raised generations. own: one officer proposes, and another one confirms.
+-- Proposals of revocations and of raised generations. own: one officer proposes, and another
+-- confirms.
 use Rattle.std.specs.Prelude.{ℕ, ◌+◌, ◌==◌, Bool, List, [], ◌∷◌, length, filter_map, find, Option, Some, None}
 use Rattle.std.specs.Option.{option_map_or}
 use Rattle.desk_texts.specs.Callers.{caller_name}
@@ -42,9 +43,9 @@ named_by (command.Unlist _) = None
 named_by (command.Confirm _) = None
 named_by (command.Drop _) = None
 
--- ---- what is proposed
+-- ---- proposals
 
--- a command that an officer proposed, and what it names
+-- a command that an officer proposed, and the entries that it names
 pub record Proposal : Type 0 where
   pub number : ℕ
   pub officer : List ℕ
@@ -55,7 +56,7 @@ pub record Proposal : Type 0 where
 abbrev pub proposed_by : Item → Option Named
 proposed_by i = elim i.rules [ First ↦ None | Second ↦ named_by i.call.command ]
 
--- the proposals, with the next one in front if the call proposes something
+-- the proposals, with the next one first if the call proposes something
 abbrev pub with_next : List Proposal → Call → Option Named → List Proposal
 with_next ps c None = ps
 with_next ps c (Some named) =
@@ -74,7 +75,7 @@ is_proposal k p = k == p.number
 abbrev pub proposal : History → ℕ → Option Proposal
 proposal cs k = find (is_proposal k) (proposals cs)
 
--- ---- what becomes of it
+-- ---- outcomes
 
 -- the outcome that a command gives to a proposal: a Confirm confirms the one that it names, a Drop drops it
 abbrev pub outcome_by : Command → Option ProposalOutcome
@@ -93,7 +94,7 @@ outcome_by (command.RevokeCertificate _) = None
 outcome_by (command.RaiseLevel _) = None
 outcome_by (command.ImportRevocations _) = None
 
--- the outcomes of the closed ones, the newest first
+-- the outcomes of the closed proposals, the newest first
 abbrev pub outcomes : History → List ProposalOutcome
 outcomes cs = filter_map (λ i. outcome_by i.call.command) cs
 

@@ -31,7 +31,7 @@ use Rattle.desk_history.specs.Roles.{is_for, is_for_console}
 use Rattle.desk_history.specs.Limits.{is_within}
 use Rattle.desk_history.specs.Verdicts.{is_barred, stands_in_db}
 
--- the refusal where the condition holds
+-- the refusal, if the condition holds
 abbrev pub refuse_if : Bool → Refusal → Option Refusal
 refuse_if condition refusal = if condition then Some refusal else None
 
@@ -44,23 +44,23 @@ is_one_of ps (caller.Person name) = is_some (find (has_name name) ps)
 abbrev pub is_known : History → Caller → Bool
 is_known cs c = is_one_of (people cs) c
 
--- the caller gives such commands, where these are the people
+-- the caller may give the command, if these are the people
 abbrev pub is_theirs : List Person → Caller → Command → Bool
 is_theirs ps caller.Console command = is_for_console command
 is_theirs ps (caller.Person name) command = option_map_or (λ p. is_for p.role command) (find (has_name name) ps) false
 
--- the caller gives such commands
+-- the caller may give the command
 abbrev pub may_give : History → Caller → Command → Bool
 may_give cs c command = is_theirs (people cs) c command
 
--- AddPerson. own: a name and a token are one person's, and `console` is nobody's name
+-- AddPerson. own: a name or a token belongs to one person, and nobody is named `console`
 abbrev pub add_refusal : List Person → Person → Option Refusal
 add_refusal ps p =
     refuse_if (bytes_eq p.name (codes "console") || list_any (has_name p.name) ps || list_any (has_token p.token) ps)
     refusals.NameTaken
 
--- Review, of a request in this state, the reviewer's own or not, on which the reviewer voted or not. own: nobody votes
--- twice or on an own request
+-- Review, of a request in this state. `own`: it is the reviewer's own; `voted`: the reviewer has
+-- voted on it. own: nobody votes twice or on an own request
 abbrev pub review_by : State → Bool → Bool → Option Refusal
 review_by state own voted =
     if not (elim state [ states.Open ↦ true | _ ↦ false ]) then Some refusals.WrongState
@@ -72,7 +72,8 @@ review_refusal None state vs reviewer = Some refusals.NoSuchRequest
 review_refusal (Some r) state vs reviewer =
     review_by state (bytes_eq r.submitter reviewer) (list_any (is_vote_of reviewer) vs)
 
--- Withdraw, of a request in this state, the caller's own or not. own: another's request is none to the caller
+-- Withdraw, of a request in this state. `own`: it is the caller's own. own: to anybody else there
+-- is no such request
 abbrev pub withdraw_by : State → Bool → Option Refusal
 withdraw_by state own =
     if not own then Some refusals.NoSuchRequest
@@ -83,38 +84,39 @@ abbrev pub withdraw_refusal : Option Request → State → List ℕ → Option R
 withdraw_refusal None state caller = Some refusals.NoSuchRequest
 withdraw_refusal (Some r) state caller = withdraw_by state (bytes_eq r.submitter caller)
 
--- an image as the signed one of the image that has this digest and this digest to be signed; it is barred or not, and
--- stands in db or not
+-- an image, returned as the signed one of the image with this digest and this digest to be signed.
+-- `barred`: it is barred; `listed`: it is in db
 abbrev pub image_refusal : List ℕ → List ℕ → Facts → Bool → Bool → Option Refusal
 image_refusal digest signing x barred listed =
     if not (bytes_eq x.digest signing || bytes_eq x.digest digest) then Some refusals.DigestDiffers
     else (if barred then Some refusals.Revoked else refuse_if (not listed) refusals.NotListed)
 
--- Return for a request in this state, of which the image is refused or not
+-- Return, for a request in this state. `image` is the refusal of the returned image, if there is
+-- one
 abbrev pub return_by : State → Option Refusal → Option Refusal
 return_by state image = if not (elim state [ states.Approved ↦ true | _ ↦ false ]) then Some refusals.WrongState else image
 
--- Return of an image for the request with its state; the image is barred or not, and stands in db or not
+-- Return of an image for the request with its state. `barred`: it is barred; `listed`: it is in db
 abbrev pub return_refusal : Option Request → State → Facts → Bool → Bool → Option Refusal
 return_refusal None state x barred listed = Some refusals.NoSuchRequest
 return_refusal (Some r) state x barred listed =
     return_by state (image_refusal r.facts.digest r.facts.signing x barred listed)
 
--- RaiseLevel, over the present generation of the component and the present stamp
+-- RaiseLevel, over the current generation of the component and the current stamp
 abbrev pub raise_refusal : Option ℕ → ℕ → Raise → Option Refusal
 raise_refusal present now r =
     if is_sbat r.component.name || not (is_above r.component.generation present) then Some refusals.NotHigher
     else refuse_if (not (nat_lt now r.stamp)) refusals.StampNotLater
 
--- a stamp is there, and above the present one
+-- there is a stamp, and it is above the current one
 abbrev pub is_later : ℕ → Option ℕ → Bool
 is_later now stamp = option_map_or (λ s. nat_lt now s) stamp false
 
--- ImportRevocations, which raises some generation or none, over the present stamp
+-- ImportRevocations, over the current stamp. `raises`: it raises some generation
 abbrev pub import_refusal : Bool → ℕ → Option ℕ → Option Refusal
 import_refusal raises now stamp = refuse_if (raises && not (is_later now stamp)) refusals.StampNotLater
 
--- why what a command names can't be put into force now; other commands than these four name nothing of the kind
+-- why a command's entries can't be put into force now; only four commands name entries
 abbrev pub force_refusal : History → Command → Option Refusal
 force_refusal cs (command.RevokeDigest d) = refuse_if (is_revoked kinds.Digest cs d) refusals.AlreadyRevoked
 force_refusal cs (command.RevokeCertificate d) = refuse_if (is_revoked kinds.Certificate cs d) refusals.AlreadyRevoked
@@ -135,8 +137,9 @@ force_refusal cs (command.Drop _) = None
 abbrev pub is_closed : ProposalState → Bool
 is_closed state = elim state [ proposal_states.Open ↦ false | _ ↦ true ]
 
--- Confirm, of a proposal in this state, the caller's own or not, whose command would be refused now or not. own: an officer
--- confirms only what another one proposed
+-- Confirm, of a proposal in this state. `own`: it is the caller's own; `refused` is the refusal
+-- that its command would meet now, if there is one. own: an officer confirms only another's
+-- proposal
 abbrev pub confirm_by : ProposalState → Bool → Option Refusal → Option Refusal
 confirm_by state own refused =
     if is_closed state then Some refusals.ProposalClosed else (if own then Some refusals.OwnProposal else refused)
@@ -146,7 +149,7 @@ abbrev pub confirm_refusal : History → Option Proposal → ProposalState → L
 confirm_refusal cs None state caller = Some refusals.NoSuchProposal
 confirm_refusal cs (Some p) state caller = confirm_by state (bytes_eq p.officer caller) (force_refusal cs p.command)
 
--- Drop, of a proposal in this state. own: any officer may drop it, the one who proposed it included
+-- Drop, of a proposal in this state. own: any officer may drop it, its proposer included
 abbrev pub drop_by : ProposalState → Option Refusal
 drop_by state = refuse_if (is_closed state) refusals.ProposalClosed
 
@@ -175,7 +178,8 @@ own_refusal cs name (command.ImportRevocations i) = force_refusal cs (command.Im
 own_refusal cs name (command.Confirm k) = confirm_refusal cs (proposal cs k) (proposal_state cs k) name
 own_refusal cs name (command.Drop k) = drop_refusal (proposal cs k) (proposal_state cs k)
 
--- own: the caller's role comes first, then the command's own conditions, and at the end how much a desk may hold
+-- own: the caller's role comes first, then the command's own conditions, and last the limits of a
+-- desk
 abbrev pub refusal_of : History → Item → Option Refusal
 refusal_of cs i =
     if not (may_give cs i.call.caller i.call.command) then Some refusals.NotYourRole

@@ -22,12 +22,12 @@ use Rattle.desk_texts.specs.CommandTexts.{text_of}
 abbrev pub gained : ListedKind → History → Item → ℕ
 gained kind cs i = length (distinct (revocations kind (i ∷ cs))) - length (distinct (revocations kind cs))
 
--- how many different names get a higher generation by what is put into force
+-- how many different names the entries put into force raise
 abbrev pub raised_count : History → InForce → ℕ
 raised_count cs f = length (names (filter (raises cs) f.components))
 
--- counts of what a call puts into force: different new digests, different new certificates, names raised, and entries passed
--- over
+-- the counts of a call that puts entries into force: different new digests, different new
+-- certificates, names raised, and entries skipped
 abbrev pub counted : History → Item → Counts
 counted cs i = record {
   digests = gained kinds.Digest cs i;
@@ -36,7 +36,7 @@ counted cs i = record {
   passed = option_map_or (λ n. n.passed) (enforced_by cs i) 0;
 }
 
--- own: by the first rules this reply; by the second the number of the proposal that the call makes
+-- own: by the first rules this reply; by the second, the number of the proposal that the call makes
 abbrev pub or_proposed : History → Rules → Reply → Reply
 or_proposed cs First reply = reply
 or_proposed cs Second reply = replies.Proposed (length (proposals cs) + 1)

@@ -1,4 +1,4 @@
--- Requests to sign an image, their votes, what becomes of them, and the files that are returned.
+-- Requests to sign an image, their votes, their states, and the files that are returned.
 use Rattle.std.specs.Prelude.{ℕ, ◌+◌, ◌==◌, Bool, true, false, not, nat_le, if◌then◌else◌, List, [], ◌∷◌, length, filter, filter_map, find, count_by, Option, Some, None, option_map, bytes_eq}
 use Rattle.std.specs.List.{list_any}
 use Rattle.desk_texts.specs.declared.caller.Caller.{Caller}
@@ -46,7 +46,7 @@ submission_of (command.ImportRevocations _) = None
 submission_of (command.Confirm _) = None
 submission_of (command.Drop _) = None
 
--- who submits what
+-- a submission and its submitter
 pub record Submitted : Type 0 where
   pub submitter : List ℕ
   pub submission : Submission
@@ -166,7 +166,8 @@ state_by_votes vs =
     if list_any (λ v. not (is_yes v)) vs then states.Rejected
     else (if nat_le 2 (count_by is_yes vs) then states.Approved else states.Open)
 
--- own: the state of a request that is returned or not, withdrawn or not, with these votes on it
+-- own: the state of a request with these votes. `is_signed`: a file was returned for it;
+-- `is_taken`: it was withdrawn
 abbrev pub state_by : Bool → Bool → List VoteRow → State
 state_by is_signed is_taken vs =
     if is_signed then states.Signed else (if is_taken then states.Withdrawn else state_by_votes vs)

@@ -4,7 +4,7 @@ use Rattle.desk_texts.specs.declared.kind.ListedKind.{ListedKind}
 use Rattle.desk_history.specs.Calls.{History, is_among}
 use Rattle.desk_history.specs.Forces.{into_force, revoked_in}
 
--- the digests that some call revokes, each as often as it is named. own: no call takes a revocation back
+-- the digests that some call revokes, with repeats. own: no call takes a revocation back
 abbrev pub revocations : ListedKind → History → List (List ℕ)
 revocations kind [] = []
 revocations kind (i ∷ cs) = revoked_in kind (into_force cs i) ++ revocations kind cs

@@ -5,28 +5,28 @@ use Rattle.desk_texts.specs.declared.command.Command.TheVariants as command
 use Rattle.desk_texts.specs.declared.role.Role.{Role}
 use Rattle.desk_texts.specs.declared.role.Role.TheVariants as role
 
--- own: those who ask for signatures
+-- own: the roles that submit requests
 abbrev pub asks : Role → Bool
 asks role.Submitter = true
 asks role.Reviewer = true
 asks role.Officer = false
 asks role.Signer = false
 
--- those who review
+-- the role that reviews
 abbrev pub is_reviewer : Role → Bool
 is_reviewer role.Submitter = false
 is_reviewer role.Reviewer = true
 is_reviewer role.Officer = false
 is_reviewer role.Signer = false
 
--- those who keep what is listed, revoked and asked
+-- the role that keeps the lists and the level
 abbrev pub is_officer : Role → Bool
 is_officer role.Submitter = false
 is_officer role.Reviewer = false
 is_officer role.Officer = true
 is_officer role.Signer = false
 
--- those who return signed files
+-- the role that returns signed files
 abbrev pub is_signer : Role → Bool
 is_signer role.Submitter = false
 is_signer role.Reviewer = false
@@ -50,7 +50,7 @@ is_for r (command.ImportRevocations _) = is_officer r
 is_for r (command.Confirm _) = is_officer r
 is_for r (command.Drop _) = is_officer r
 
--- own: the console gives this command and no other
+-- own: the console gives AddPerson and no other command
 abbrev pub is_for_console : Command → Bool
 is_for_console (command.AddPerson _) = true
 is_for_console (command.Submit _) = false

@@ -22,7 +22,8 @@ has_key caller key m = bytes_eq caller (caller_name m.caller) && bytes_eq key m.
 abbrev pub earlier : History → Call → Option Minute
 earlier cs c = find (has_key (caller_name c.caller) c.key) (minutes cs)
 
--- own: a key repeats the call that it was given for, with the reply given then, and serves no other command
+-- own: a key belongs to the command that it was first given for: it gets that call's reply again,
+-- and is refused for any other command
 abbrev pub repeated : Minute → List ℕ → Answer
 repeated m text = if bytes_eq m.text text then Repeated m.reply else Refused refusals.KeyReused
 
@@ -31,13 +32,13 @@ abbrev pub answer_new_key : Option Refusal → Reply → Answer
 answer_new_key None reply = Accepted reply
 answer_new_key (Some refusal) reply = Refused refusal
 
--- the answer to a caller who is known
+-- the answer to a known caller
 abbrev pub answer_known : Option Minute → List ℕ → Option Refusal → Reply → Answer
 answer_known (Some m) text refusal reply = repeated m text
 answer_known None text refusal reply = answer_new_key refusal reply
 
--- own: the answer to the item's call after these, by the item's rules: first by who calls, then by the key, then by the
--- refusals of a call with a new key
+-- own: the answer to the item's call after these, by the item's rules: the caller is checked first,
+-- then the key, then the refusals of a call with a new key
 abbrev pub ruling : History → Item → Answer
 ruling cs i =
     if not (is_known cs i.call.caller) then Refused refusals.UnknownCaller
@@ -58,7 +59,7 @@ reply_in (Accepted reply) = Some reply
 reply_in (Repeated reply) = Some reply
 reply_in (Refused refusal) = None
 
--- the history after an item's call: a repeated and a refused one leave no trace
+-- the history after an item's call: only an accepted call changes it
 abbrev pub next_item : History → Item → History
 next_item cs i = if is_accepted (ruling cs i) then i ∷ cs else cs
 
@@ -75,7 +76,7 @@ run_by rules cs (c ∷ calls) = run_by rules (next_item cs (under rules c)) call
 abbrev pub run : History → List Call → History
 run cs calls = run_by Second cs calls
 
--- the answers to calls by these rules, each after those before it
+-- the answers to calls by these rules, each after the calls before it
 abbrev pub answers_by : Rules → History → List Call → List Answer
 answers_by rules cs [] = []
 answers_by rules cs (c ∷ calls) = ruling cs (under rules c) ∷ answers_by rules (next_item cs (under rules c)) calls
@@ -88,7 +89,7 @@ answers cs calls = answers_by Second cs calls
 abbrev pub may_follow : History → Item → Bool
 may_follow cs i = elim i.rules [ First ↦ list_all is_first cs | Second ↦ true ]
 
--- the item may stand next in the history: its call is accepted, and its rules may follow
+-- the item may be next in the history: its call is accepted, and its rules may follow
 abbrev pub joins : History → Item → Bool
 joins cs i = is_accepted (ruling cs i) && may_follow cs i
 

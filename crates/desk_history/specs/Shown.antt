@@ -26,22 +26,22 @@ use Rattle.desk_history.specs.declared.rows.VoteRow.{VoteRow}
 abbrev pub returned : History → ℕ → Option Returned
 returned cs k = find (λ r. k == r.request) (returns cs)
 
--- All that there is of a request: what was submitted, its state, the votes on it, and what was returned.
+-- All of a request: its submission, its state, the votes on it, and the returned file.
 pub record Whole : Type 0 where
   pub request : Request
   pub state : State
   pub votes : List VoteRow
   pub returned : Option Returned
 
--- all that there is of this request
+-- all of this request
 abbrev pub whole : History → Request → Whole
 whole cs r = record { request = r; state = state cs r.number; votes = votes_on (votes cs) r.number; returned = returned cs r.number }
 
--- of each request, the newest first
+-- all of each request, the newest first
 abbrev pub wholes : History → List Whole
 wholes cs = map (whole cs) (requests cs)
 
--- ---- how it is shown
+-- ---- as shown
 
 -- a vote, as it is shown
 abbrev pub shown_vote : VoteRow → ShownVote
@@ -51,7 +51,7 @@ shown_vote v = record { reviewer = v.reviewer; vote = v.vote; note = v.note }
 abbrev pub shown_return : Returned → ShownReturn
 shown_return r = record { length = r.facts.extent.length; file = r.facts.file; digest = r.facts.digest }
 
--- All of the request is shown, and nothing else. Its votes stand in the order of their reviewers.
+-- All of the request is shown, and nothing else. Its votes are in the order of their reviewers.
 pub record IsShown (w : Whole) (s : ShownRequest) : Type 0 where
   pub number : s.number ≡ w.request.number
   pub submitter : s.submitter ≡ w.request.submitter
@@ -61,13 +61,13 @@ pub record IsShown (w : Whole) (s : ShownRequest) : Type 0 where
   pub votes : IsPermutation (map shown_vote w.votes) s.votes
   pub returned : s.returned ≡ option_map shown_return w.returned
 
--- the same of each request, in their order
+-- the same for each request, in order
 abbrev pub AreShown : List Whole → List ShownRequest → Type 0
 AreShown ws shown = AllZip IsShown ws shown
 
--- ---- to whom
+-- ---- readers
 
--- own: a submitter is shown own requests alone, everybody else each request
+-- own: a submitter is shown only own requests, everybody else all of them
 abbrev pub sees : Role → Bool → Bool
 sees roles.Submitter is_own = is_own
 sees roles.Reviewer is_own = true
@@ -78,7 +78,7 @@ sees roles.Signer is_own = true
 abbrev pub is_shown_to : Person → Whole → Bool
 is_shown_to p w = sees p.role (bytes_eq p.name w.request.submitter)
 
--- the person who asks. own: the console is shown neither requests nor proposals
+-- the reader. own: the console is shown neither requests nor proposals
 abbrev pub reader : History → Caller → Result Person Refusal
 reader cs callers.Console = Err refusals.NotYourRole
 reader cs (callers.Person name) = ok_or (person cs name) refusals.UnknownCaller
@@ -96,7 +96,8 @@ abbrev pub found_among : ℕ → Result (List Whole) Refusal → Result Whole Re
 found_among k (Ok ws) = ok_or (find (is_numbered k) ws) refusals.NoSuchRequest
 found_among k (Err refusal) = Err refusal
 
--- the answer to a caller about one request. own: a request that the caller isn't shown doesn't exist for the caller
+-- the answer to a caller about one request. own: for the caller, a request that the caller isn't
+-- shown doesn't exist
 abbrev pub request_for : History → Caller → ℕ → Result Whole Refusal
 request_for cs c k = found_among k (shown_to cs c)
 
@@ -104,22 +105,22 @@ request_for cs c k = found_among k (shown_to cs c)
 abbrev pub requests_for : History → Caller → Result (List Whole) Refusal
 requests_for cs c = result_map_both reverse (λ refusal. refusal) (shown_to cs c)
 
--- ---- what is given to a caller
+-- ---- answers
 
--- the answer that is due is shown, or the refusal that is due is given
+-- the due result is shown, or the due refusal is given
 abbrev pub IsGiven : {A B : Type 0} → Result A Refusal → Result B Refusal → (A → B → Type 0) → Type 0
 IsGiven (Ok due) (Ok given) shows = shows due given
 IsGiven (Ok due) (Err refusal) shows = ⊥
 IsGiven (Err refusal) (Ok given) shows = ⊥
 IsGiven (Err refusal) (Err given) shows = given ≡ refusal
 
--- to a caller who asks for this request
+-- the answer to a caller about this request
 abbrev pub GivesRequest : History → Caller → ℕ → Result ShownRequest Refusal → Type 0
 GivesRequest cs c k given = IsGiven (request_for cs c k) given IsShown
 
 -- ---- proposals
 
--- own: proposals are shown to officers alone
+-- own: only officers are shown proposals
 abbrev pub officer : Result Person Refusal → Result Person Refusal
 officer (Ok p) = if is_officer p.role then Ok p else Err refusals.NotYourRole
 officer (Err refusal) = Err refusal
@@ -139,7 +140,7 @@ shown_proposal cs p = record {
   components = length p.named.entries.components;
 }
 
--- ---- what a submitter learns
+-- ---- what a submitter can learn
 
 -- the requests that a person submitted, the newest first
 abbrev pub own : History → List ℕ → List Whole
@@ -149,7 +150,7 @@ own cs name = filter (λ w. bytes_eq name w.request.submitter) (wholes cs)
 abbrev pub role_of : History → List ℕ → Option Role
 role_of cs name = option_map (λ p. p.role) (person cs name)
 
--- the caller is told the same of both, whatever is asked for
+-- the caller gets the same answers from both histories
 pub record TellAlike (one other : History) (c : Caller) : Type 0 where
   pub each : (k : ℕ) → request_for one c k ≡ request_for other c k
   pub all : requests_for one c ≡ requests_for other c

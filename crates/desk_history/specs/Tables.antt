@@ -1,4 +1,4 @@
--- The tables that a history stands for: lists of rows, whose order means nothing.
+-- The tables of a history: lists of rows, whose order means nothing.
 use Rattle.std.specs.Prelude.{ℕ, ◌+◌, List, [], ◌∷◌, map, flat_map, count_by, unwrap_or, codes}
 use Rattle.sbat.specs.declared.component.Component.{Component}
 use Rattle.desk_texts.specs.declared.kind.ListedKind.TheVariants as kinds
@@ -22,7 +22,8 @@ use Rattle.desk_history.specs.Replies.{minutes}
 use Rattle.desk_history.specs.Requests.{Request, Returned, requests, returns, state, votes}
 use Rattle.desk_history.specs.Revocations.{revocations}
 
--- own: the one row of a desk: its mark, the version of its tables, the owner of every entry that it exports, as stored
+-- own: the one row of a desk: its mark, the version of its tables, the owner of each entry that it
+-- exports, and the level's stamp
 pub record DeskRow : Type 0 where
   pub id : ℕ
   pub mark : List ℕ
@@ -63,7 +64,7 @@ abbrev pub return_row : Returned → ReturnRow
 return_row r =
     record { request = r.request; signer = r.signer; length = r.facts.extent.length; file = r.facts.file; digest = r.facts.digest }
 
--- the name with the greatest generation that these components have under it
+-- the name with the greatest generation that these components give it
 abbrev pub level_row : List Component → List ℕ → Component
 level_row named name = record { name = name; generation = unwrap_or (greatest named name) 0 }
 
@@ -81,7 +82,8 @@ pub record MigratedRow : Type 0 where
   pub id : ℕ
   pub calls : ℕ
 
--- the fifteen tables: a proposal's row has what it names in it, which a file keeps in a table of its own
+-- the fifteen tables; a proposal's row includes the entries that it names, which a file keeps in a
+-- table of its own
 pub record Tables : Type 0 where
   pub desk : DeskRow
   pub people : List Person

@@ -28,11 +28,12 @@ standing cs = record {
   required = λ name. level cs name;
 }
 
--- the image's digest is revoked (UEFI 2.10, 32.5.3.3). own: or the one that a signature of it would hold
+-- the image's digest is revoked (UEFI 2.10, 32.5.3.3). own: or the digest that a signature of it
+-- would hold
 abbrev pub has_revoked_digest : Standing → Facts → Bool
 has_revoked_digest s x = s.revoked kinds.Digest x.digest || s.revoked kinds.Digest x.signing
 
--- a certificate that the image carries is revoked (UEFI 2.10, 32.5.3.3). own: at whatever time
+-- a certificate that the image carries is revoked (UEFI 2.10, 32.5.3.3). own: whatever its time
 abbrev pub has_revoked_certificate : Standing → Facts → Bool
 has_revoked_certificate s x = list_any (s.revoked kinds.Certificate) x.carried
 
@@ -40,7 +41,8 @@ has_revoked_certificate s x = list_any (s.revoked kinds.Certificate) x.carried
 abbrev pub is_less : ℕ → Option ℕ → Bool
 is_less generation required = option_map_or (λ needed. nat_lt generation needed) required false
 
--- the component's generation is below the level's (SBAT.md, "Version Check"); one that the level doesn't name isn't
+-- the component's generation is below the level's (SBAT.md, "Version Check"); never, if the level
+-- doesn't name it
 abbrev pub is_below : Standing → Component → Bool
 is_below s x = is_less x.generation (s.required x.name)
 
@@ -48,7 +50,7 @@ is_below s x = is_less x.generation (s.required x.name)
 abbrev pub bars : Standing → Facts → Bool
 bars s x = has_revoked_digest s x || has_revoked_certificate s x || list_any (is_below s) x.components
 
--- the image stands in db (UEFI 2.10, 32.5.3.3): by its digest, or by a certificate that it carries
+-- the image is in db (UEFI 2.10, 32.5.3.3): by its digest, or by a certificate that it carries
 abbrev pub lists_image : Standing → Facts → Bool
 lists_image s x = s.listed kinds.Digest x.digest || list_any (s.listed kinds.Certificate) x.carried
 
@@ -56,11 +58,12 @@ lists_image s x = s.listed kinds.Digest x.digest || list_any (s.listed kinds.Cer
 abbrev pub is_barred : History → Facts → Bool
 is_barred cs x = bars (standing cs) x
 
--- the image stands in db after these calls
+-- the image is in db after these calls
 abbrev pub stands_in_db : History → Facts → Bool
 stands_in_db cs x = lists_image (standing cs) x
 
--- the component at this place, if its generation is below the required one; none is below where none is required
+-- the component at this place, if its generation is below the required one; none is below if none
+-- is required
 abbrev pub lack_at : ℕ → ℕ → Option ℕ → Option Below
 lack_at place generation None = None
 lack_at place generation (Some needed) =
@@ -72,7 +75,7 @@ first_below s place [] = None
 first_below s place (x ∷ xs) =
     option_or (lack_at place x.generation (s.required x.name)) (first_below s (place + 1) xs)
 
--- own: the first that holds is the verdict
+-- own: the verdict is the first that holds
 abbrev pub verdict_by : Bool → Bool → Bool → Option Below → Verdict
 verdict_by digest certificate listed below =
     if digest then DbxDigest

@@ -1,5 +1,5 @@
--- Worked histories: calls with what each is answered, written down by hand and computed by the definitions. This file
--- has the words that they share.
+-- Worked histories: calls and their answers, written by hand and computed by the definitions. This
+-- file has the words that they share.
 use Rattle.std.specs.Prelude.{ℕ, List, [], ◌∷◌, map, replicate, codes, Option}
 use Rattle.desk_bytes.specs.declared.refusal.Refusal.{Refusal}
 use Rattle.sbat.specs.declared.component.Component.{Component}
@@ -27,7 +27,7 @@ pub mod Returns
 pub mod Reviews
 pub mod Showing
 
--- a call, and what it is answered
+-- a call and its answer
 pub record Step : Type 0 where
   pub call : Call
   pub answer : Answer
@@ -98,7 +98,7 @@ otto = person (codes "otto") roles.Officer 7
 abbrev pub otto_added : Step
 otto_added = added (codes "otto") roles.Officer 7
 
--- the people of a day on which something is revoked: he is one of them
+-- the people of a day on which something is revoked, he among them
 abbrev pub with_officers : List Step → List Step
 with_officers steps = with_people (otto_added ∷ steps)
 
@@ -143,7 +143,7 @@ abbrev pub raise : List ℕ → ℕ → ℕ → Command
 raise name generation stamp =
     command.RaiseLevel (record { component = record { name = name; generation = generation }; stamp = stamp })
 
--- an import with this stamp, that passes over so many entries
+-- an import with this stamp, which skips `passed` entries
 abbrev pub imported : Option ℕ → ℕ → List (List ℕ) → List (List ℕ) → List Component → Command
 imported stamp passed digests certificates components =
     command.ImportRevocations (record {
@@ -154,7 +154,7 @@ imported stamp passed digests certificates components =
       components = components;
     })
 
--- so many new digests, new certificates and raised names, and entries passed over
+-- these counts of new digests, new certificates, raised names and skipped entries
 abbrev numbers : ℕ → ℕ → ℕ → ℕ → Counts
 numbers digests certificates components passed =
     record { digests = digests; certificates = certificates; components = components; passed = passed }
@@ -163,7 +163,7 @@ numbers digests certificates components passed =
 abbrev pub counts : ℕ → ℕ → ℕ → ℕ → Reply
 counts digests certificates components passed = replies.Imported (numbers digests certificates components passed)
 
--- the reply to what was proposed
+-- the reply to a proposal
 abbrev pub proposed : ℕ → Reply
 proposed number = replies.Proposed number
 

@@ -12,11 +12,11 @@ use Rattle.desk_history.specs.declared.write.Write.TheVariants as writes
 use Rattle.desk_history.specs.Listing.{without}
 use Rattle.desk_history.specs.Tables.{Tables}
 
--- the row, with this state where it is that of the request k
+-- the row, with this state if it is that of the request k
 abbrev pub set_state : ℕ → State → RequestRow → RequestRow
 set_state k state row = if k == row.number then record row { state = state } else row
 
--- the row, with this state where it is that of the proposal k
+-- the row, with this state if it is that of the proposal k
 abbrev pub set_proposal_state : ℕ → ProposalState → ProposalRow → ProposalRow
 set_proposal_state k state row = if k == row.number then record row { state = state } else row
 
@@ -24,7 +24,7 @@ set_proposal_state k state row = if k == row.number then record row { state = st
 abbrev pub is_named : List ℕ → Component → Bool
 is_named name row = bytes_eq name row.name
 
--- the row, with the component's generation where it has its name
+-- the row, with the component's generation if it has its name
 abbrev pub set_generation : Component → Component → Component
 set_generation x row = if is_named x.name row then record row { generation = x.generation } else row
 

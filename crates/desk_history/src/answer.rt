@@ -7,7 +7,7 @@ use desk_texts::Reply;
 pub enum Answer {
     /// It was accepted, with this reply.
     Accepted(Reply),
-    /// The caller gave the same command under this key before, and this is the reply that was given then.
+    /// The caller gave the same command under this key before; this is the reply of that time.
     Repeated(Reply),
     /// It was refused, and nothing changed.
     Refused(Refusal),

@@ -1,4 +1,4 @@
-//! Laws of the definitions: the clause of each function is one.
+//! Laws of the definitions, one clause for each function.
 ghost use Rattle.desk_history.specs.Laws as law;
 ghost use Rattle.desk_history.specs.Shown.{SubmittersSeeOwn};
 
@@ -12,17 +12,17 @@ pub fn what_is_barred_stays_barred()
     ensures { law.StaysBarred }
 {}
 
-/// The history at each step of a run goes on from those before it.
+/// The history after some steps of a run extends those before it.
 pub fn runs_go_on()
     ensures { law.RunsGoOn }
 {}
 
-/// The legal histories are those that runs from nothing leave.
+/// The legal histories are those that runs from an empty history leave.
 pub fn legal_histories_are_runs()
     ensures { law.LegalIsRun }
 {}
 
-/// The listed rows are those of the entries that are listed.
+/// The listed rows are those of the listed entries.
 pub fn listed_rows_are_listed()
     ensures { law.ListsListed }
 {}
@@ -47,8 +47,8 @@ pub fn answers_have_histories()
     ensures { law.AnswersHaveHistories }
 {}
 
-/// Each history that a series leaves holds each call that was answered Ok, with its reply, and goes on from the history
-/// of that time.
+/// Each history that a series leaves holds each call that was answered Ok, with its reply, and
+/// extends the history of that time.
 pub fn answers_are_kept()
     ensures { law.AnswersAreKept }
 {}

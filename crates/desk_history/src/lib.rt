@@ -1,5 +1,6 @@
-//! Definitions of the desk's decisions, which an auditor has to read: the meaning of a history of accepted calls, the
-//! answer to each call after it, what a stop may leave of it, and the laws of these definitions.
+//! Definitions of the desk's decisions, for auditors to read: the meaning of a history of accepted
+//! calls, the answer to each call after it, the histories that a stop may leave, and the laws of
+//! these definitions.
 #![tactic(auto)]
 
 mod answer;

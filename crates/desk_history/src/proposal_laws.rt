@@ -1,7 +1,8 @@
-//! Laws of proposals: the clause of each function is one.
+//! Laws of proposals, one clause for each function.
 ghost use Rattle.desk_history.specs.ProposalLaws as law;
 
-/// By the second rules, what is put into force was proposed by one officer and is confirmed by another.
+/// By the second rules, one officer proposes the entries that are put into force, and another
+/// confirms them.
 pub fn two_officers_put_into_force()
     ensures { law.TwoOfficersPut }
 {}

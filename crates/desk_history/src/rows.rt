@@ -38,7 +38,8 @@ impl CommandText {
     }
 }
 
-/// The bytes of a listed certificate, and none for the digest of an image. A contract sees the list of them.
+/// The bytes of a listed certificate, or none for the digest of an image. A contract sees the list
+/// of them.
 #[derive(Debug, Drop)]
 pub struct EntryBody {
     bytes: Vec<u8>,
@@ -66,8 +67,8 @@ impl EntryBody {
     }
 }
 
-/// The minute of an accepted call: its number from 1, who called, the caller's key, the canonical text of
-/// the command, and the reply.
+/// The minute of an accepted call: its number from 1, the caller, the caller's key, the canonical
+/// text of the command, and the reply.
 #[derive(Debug, Drop)]
 pub struct Minute {
     pub number: u64,
@@ -77,8 +78,8 @@ pub struct Minute {
     pub reply: Reply,
 }
 
-/// A request, with its state: who submitted what, the length and the gap of the image's file, the SHA-256 of the
-/// file, the image's digest, and the digest that a signature of it holds.
+/// A request with its state: its submitter and title, the length and the gap of the image's file,
+/// the SHA-256 of the file, the image's digest, and the digest that a signature of it holds.
 #[derive(Debug, Drop)]
 pub struct RequestRow {
     pub number: RequestNumber,
@@ -108,7 +109,7 @@ pub struct RequestComponentRow {
     pub generation: Generation,
 }
 
-/// A vote on a request, and who gave it.
+/// A vote on a request, and its reviewer.
 #[derive(Debug, Drop)]
 pub struct VoteRow {
     pub request: RequestNumber,
@@ -117,7 +118,8 @@ pub struct VoteRow {
     pub note: Note,
 }
 
-/// The signed file of a request: who returned it, how many bytes it has, the SHA-256 of it, and the image's digest.
+/// The signed file of a request: its signer, its length in bytes, its SHA-256, and the image's
+/// digest.
 #[derive(Debug, Drop)]
 pub struct ReturnRow {
     pub request: RequestNumber,
@@ -127,8 +129,8 @@ pub struct ReturnRow {
     pub digest: Digest,
 }
 
-/// A listed entry: a certificate by the SHA-256 of its TBSCertificate and with its bytes, or the digest of an image
-/// without any.
+/// A listed entry: a certificate by the SHA-256 of its TBSCertificate and with its bytes, or the
+/// digest of an image without bytes.
 #[derive(Debug, Drop)]
 pub struct Entry {
     pub kind: ListedKind,
@@ -136,7 +138,7 @@ pub struct Entry {
     pub body: EntryBody,
 }
 
-/// A proposal, with its state: who proposed what.
+/// A proposal with its state: the officer who made it, and the entries that it names.
 #[derive(Debug, Drop)]
 pub struct ProposalRow {
     pub number: ProposalNumber,

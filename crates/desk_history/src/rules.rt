@@ -1,4 +1,4 @@
-//! Rules, each by itself: over values, not over histories or rows.
+//! Rules, each by itself, over values rather than histories or rows.
 ghost use Rattle.std.specs.Prelude.{◌≡◌};
 ghost use Rattle.desk_history.specs.Calls.{is_same_kind};
 ghost use Rattle.desk_history.specs.Level as level;
@@ -70,7 +70,7 @@ pub fn is_for_console(command: &Command) -> bool
     }
 }
 
-/// True if the generation is above the present one, or there is none.
+/// True if the generation is above the current one, or there is no current one.
 pub fn is_above(generation: Generation, present: Option<Generation>) -> bool
     ensures { result ≡ level.is_above generation present }
 {
@@ -80,14 +80,15 @@ pub fn is_above(generation: Generation, present: Option<Generation>) -> bool
     }
 }
 
-/// The refusal where the condition holds.
+/// The refusal, if the condition holds.
 pub fn refuse_if(condition: bool, refusal: Refusal) -> Option<Refusal>
     ensures { result ≡ spec.refuse_if condition refusal }
 {
     if condition { Some(refusal) } else { None }
 }
 
-/// The refusal of a vote on a request in this state, the reviewer's own or not, on which the reviewer voted or not.
+/// The refusal of a vote on a request in this state. `is_own`: the request is the reviewer's own;
+/// `has_voted`: the reviewer has voted on it.
 pub fn review_by(state: State, is_own: bool, has_voted: bool) -> Option<Refusal>
     ensures { result ≡ spec.review_by state is_own has_voted }
 {
@@ -105,7 +106,7 @@ pub fn review_by(state: State, is_own: bool, has_voted: bool) -> Option<Refusal>
     }
 }
 
-/// The refusal to withdraw a request in this state, the caller's own or not.
+/// The refusal to withdraw a request in this state. `is_own`: the request is the caller's own.
 pub fn withdraw_by(state: State, is_own: bool) -> Option<Refusal>
     ensures { result ≡ spec.withdraw_by state is_own }
 {
@@ -137,7 +138,8 @@ pub fn image_refusal<S: Standing>(
     refuse_if(!lists_image(lists, facts), Refusal::NotListed)
 }
 
-/// The refusal of a file returned for a request in this state, whose image is refused or not.
+/// The refusal of a file returned for a request in this state. `image` is the refusal of its image,
+/// if there is one.
 pub fn return_by(state: State, image: Option<Refusal>) -> Option<Refusal>
     ensures { result ≡ spec.return_by state image }
 {
@@ -159,7 +161,8 @@ fn is_closed(state: ProposalState) -> bool
     }
 }
 
-/// The refusal to confirm a proposal in this state, the caller's own or not, whose command would be refused now or not.
+/// The refusal to confirm a proposal in this state. `is_own`: the proposal is the caller's own;
+/// `refused` is the refusal that its command would meet now, if there is one.
 pub fn confirm_by(state: ProposalState, is_own: bool, refused: Option<Refusal>) -> Option<Refusal>
     ensures { result ≡ spec.confirm_by state is_own refused }
 {
@@ -179,7 +182,7 @@ pub fn drop_by(state: ProposalState) -> Option<Refusal>
     refuse_if(is_closed(state), Refusal::ProposalClosed)
 }
 
-/// True if there is a stamp, and it is above the present one.
+/// True if there is a stamp, and it is above the current one.
 pub fn is_later(now: Stamp, stamp: Option<Stamp>) -> bool
     ensures { result ≡ spec.is_later now stamp }
 {

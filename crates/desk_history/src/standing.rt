@@ -1,4 +1,4 @@
-//! Revoked and listed entries and the required generations, whatever they are read from.
+//! Revoked and listed entries and required generations, from any source.
 ghost use Rattle.std.specs.Prelude.{◌≡◌};
 ghost use Rattle.desk_history.specs.Verdicts.{Standing as Stands};
 
@@ -8,7 +8,7 @@ use sbat::{ComponentName, Generation};
 
 /// The revoked and the listed entries, and the generations that the level requires.
 pub trait Standing {
-    /// The lists and the level that it answers for.
+    /// The lists and the level that the value represents.
     ghost standing: { Self → Stands };
 
     /// True if the digest is revoked: of an image, or of a TBSCertificate.

@@ -88,7 +88,7 @@ pub fn bars<S: Standing>(lists: &S, facts: &Facts) -> bool
         || has_below(lists, facts.components.as_slice())
 }
 
-/// True if the generation is below the required one; none is below where none is required.
+/// True if the generation is below the required one, if there is one.
 fn is_less(generation: Generation, asked: Option<Generation>) -> bool
     ensures { result ≡ spec.is_less generation asked }
 {

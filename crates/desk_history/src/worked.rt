@@ -1,4 +1,4 @@
-//! Worked histories: the clauses of each function are what the definitions give for one.
+//! Worked histories: each function's clauses give the results that the definitions have for one.
 ghost use Rattle.desk_history.specs.Worked.FirstRules as first;
 ghost use Rattle.desk_history.specs.Worked.Imports as imports;
 ghost use Rattle.desk_history.specs.Worked.Keys as keys;
@@ -8,14 +8,14 @@ ghost use Rattle.desk_history.specs.Worked.Returns as returns;
 ghost use Rattle.desk_history.specs.Worked.Reviews as reviews;
 ghost use Rattle.desk_history.specs.Worked.Showing as showing;
 
-/// A request is approved by two votes of yes, and another one rejected by one of no.
+/// Two votes of yes approve a request, and one of no rejects another.
 pub fn reviews_are_answered()
     ensures answers { reviews.AnswersReviews }
     ensures history { reviews.KeepsReviews }
     ensures rows { reviews.TablesReviews }
 {}
 
-/// A signed file comes back; its certificate is listed, revoked and taken off.
+/// A signed file is returned; its certificate is listed, revoked and taken off the list.
 pub fn returns_are_answered()
     ensures answers { returns.AnswersReturns }
     ensures history { returns.KeepsReturns }
@@ -58,7 +58,7 @@ pub fn proposals_are_answered()
     ensures all_of_an_import { proposals.AnswersImport }
 {}
 
-/// A desk of one officer has two from then on.
+/// A desk with one officer gets a second.
 pub fn first_rules_are_answered()
     ensures answers { first.AnswersFirst }
     ensures rows { first.TablesFirst }

@@ -49,29 +49,31 @@ use Rattle.desk_history.specs.Requests.{request_of}
 use Rattle.desk_history.specs.Verdicts.{bars, lists_image}
 use Rattle.desk_rules.specs.Views.{generation_in, seen_standing}
 
--- The command's own conditions accept it, with this reply, and the writes make the tables of the history with the call, but for
--- the call's own row. Where they take a listed entry off, they put none in, and no more is listed than before.
+-- The command's own conditions accept it, with this reply, and the writes make the tables of the
+-- history with the call, except for the call's own row. If they take a listed entry off the list,
+-- they insert none, and no more is listed than before.
 pub record IsCommandStep (changes : Changes) (owner : List ℕ) (cs : History) (c : Call) : Type 0 where
   pub accepted : own_refusal cs (caller_name c.caller) c.command ≡ None
   pub replied : changes.reply ≡ reply cs c
   pub made : all_written changes.writes.items (tables owner cs) ≡ record (tables owner (item c ∷ cs)) { calls = minutes cs }
   pub listed : IsRoomed changes.writes.items cs c
 
--- the command's own conditions refuse it so, or memory ran out
+-- the command's own conditions give this refusal, or memory ran out
 abbrev pub RefusesOwn : Refusal → History → Call → Type 0
 RefusesOwn refusal cs c = (own_refusal cs (caller_name c.caller) c.command ≡ Some refusal) ⊎ (refusal ≡ refusals.NoMemory)
 
--- the result is what the command's own conditions and writes are after this history
+-- the result agrees with the command's own conditions and writes after this history
 abbrev pub MatchesOwn : List ℕ → History → Call → Result Changes Refusal → Type 0
 MatchesOwn owner cs c result = MatchResult result (λ changes. IsCommandStep changes owner cs c) (λ refusal. RefusesOwn refusal cs c)
 
--- the same on each legal history that the view shows
+-- the same for each legal history that the view shows
 abbrev pub DecidesOwn : View → Caller → Command → Result Changes Refusal → Type 0
 DecidesOwn v caller command result =
     (owner : List ℕ) (cs : History) (key : List ℕ) → IsTrue (is_legal cs) → Shows v (tables owner cs) (called caller key command)
     → MatchesOwn owner cs (called caller key command) result
 
--- the result is this refusal where there is one, and else this reply with these writes, or memory ran out
+-- the result is this refusal if there is one, otherwise this reply with these writes; or memory ran
+-- out
 abbrev pub Decided : Result Changes Refusal → Option Refusal → Reply → List Write → Type 0
 Decided result refusal reply ws =
     MatchResult result (λ changes. (refusal ≡ None) × (changes.reply ≡ reply) × (changes.writes.items ≡ ws))
@@ -87,7 +89,7 @@ review_refusal_in v k reviewer =
     option_map_or (λ row. review_by row.state (bytes_eq row.submitter reviewer) (list_any (is_vote_of reviewer) (votes_on v.votes.items k)))
     (find (is_request_row k) v.requests.items) (Some refusals.NoSuchRequest)
 
--- why, by these rows, the request k isn't withdrawn
+-- why, by these rows, the withdrawal of the request k is refused
 abbrev pub withdraw_refusal_in : View → ℕ → List ℕ → Option Refusal
 withdraw_refusal_in v k caller =
     option_map_or (λ row. withdraw_by row.state (bytes_eq row.submitter caller)) (find (is_request_row k) v.requests.items) (Some refusals.NoSuchRequest)
@@ -102,7 +104,8 @@ return_refusal_in v h =
 abbrev pub vote_row : List ℕ → Ballot → VoteRow
 vote_row reviewer b = record { request = b.request; reviewer = reviewer; vote = b.vote; note = b.note }
 
--- the state of an open request after this vote, where an earlier vote was a no or none was, and so many were a yes
+-- the state of an open request after this vote. `some_no`: an earlier vote was a no; `count`
+-- earlier votes were a yes
 abbrev pub state_with : Vote → Bool → ℕ → State
 state_with votes.No some_no count = states.Rejected
 state_with votes.Yes some_no count =
@@ -114,7 +117,7 @@ state_after v b =
     state_with b.vote (list_any (λ w. not (is_yes w)) (votes_on v.votes.items b.request))
     (count_by is_yes (votes_on v.votes.items b.request))
 
--- the request with that state
+-- the request with its state after the ballot
 abbrev pub outcome_after : View → Ballot → Outcome
 outcome_after v b = record { request = b.request; state = state_after v b }
 
@@ -137,7 +140,7 @@ submission_writes k caller s =
 abbrev pub revocation_writes : ListedKind → List (List ℕ) → List Write
 revocation_writes kind digests = map (λ d. writes.Revoke (record { kind = kind; digest = d })) digests
 
--- the write of a component whose present generation is this: a row, or the generation of the row that is there
+-- the write of a component whose current generation is this: a row, or a new generation of its row
 abbrev pub put_of : Option ℕ → Component → Write
 put_of None x = writes.Component x
 put_of (Some _) x = writes.Generation x
@@ -146,7 +149,8 @@ put_of (Some _) x = writes.Generation x
 abbrev pub is_lower_in : List Component → Component → Bool
 is_lower_in rows x = is_sbat x.name || not (is_above x.generation (generation_in rows x.name))
 
--- why, by the rows of a view, what is named can't be put into force, by its kind; so many names are raised by it
+-- why, by the rows of a view, the named entries can't be put into force, by their kind; `names` is
+-- the count of names that they raise
 abbrev pub force_refusal_in : View → ProposalKind → Imported → ℕ → Option Refusal
 force_refusal_in v kinds.Digest n names =
     refuse_if (list_any ((seen_standing v.lists).revoked listed.Digest) n.digests) refusals.AlreadyRevoked
@@ -157,7 +161,7 @@ force_refusal_in v kinds.Level n names =
     else refuse_if (not (is_later v.stamp n.stamp)) refusals.StampNotLater
 force_refusal_in v kinds.Import n names = import_refusal (nat_lt 0 names) v.stamp n.stamp
 
--- why, by these rows, the proposal k isn't dropped
+-- why, by these rows, dropping the proposal k is refused
 abbrev pub drop_refusal_in : View → ℕ → Option Refusal
 drop_refusal_in v k =
     option_map_or (λ row. drop_by row.state) (find (is_proposal_row k) v.proposals.items) (Some refusals.NoSuchProposal)
@@ -167,15 +171,16 @@ abbrev pub open_row : ℕ → List ℕ → ProposalKind → Imported → Proposa
 open_row number officer kind named =
     record { number = number; officer = officer; kind = kind; named = named; state = proposal_states.Open }
 
--- The result is the decision by the command's own conditions with the call's row after its writes, where the tables have
--- room for them, or Full where they have not, or memory ran out.
+-- The result is the decision by the command's own conditions with the call's row after its writes
+-- if the tables have room for them, and otherwise Full; or memory ran out.
 abbrev pub AppendsCallRow : Result Changes Refusal → View → Changes → Minute → Type 0
 AppendsCallRow result v own row =
     MatchResult result
     (λ changes. (has_room v.sizes own.writes.items ≡ true) × (changes.reply ≡ own.reply) × (changes.writes.items ≡ own.writes.items ++ writes.Call row ∷ []))
     (λ r. ((has_room v.sizes own.writes.items ≡ false) × (r ≡ refusals.Full)) ⊎ (r ≡ refusals.NoMemory))
 
--- the result is what the key's earlier call says of a call with this text, and no write, or memory ran out
+-- the result is the earlier call's answer to a call with this key and this text, without writes; or
+-- memory ran out
 abbrev pub Repeats : Result Changes Refusal → Minute → List ℕ → Type 0
 Repeats result m text =
     MatchResult result (λ changes. (repeated m text ≡ Repeated changes.reply) × (changes.writes.items ≡ []))

@@ -1,4 +1,4 @@
--- Decisions over a view of the tables: what each has to be.
+-- The conditions on a decision over a view of the tables.
 use Rattle.std.specs.Prelude.{◌≡◌, ◌⊎◌, ℕ, List, [], Result, MatchResult, IsTrue}
 use Rattle.desk_bytes.specs.declared.refusal.Refusal.{Refusal}
 use Rattle.desk_bytes.specs.declared.refusal.Refusal.TheVariants as refusals
@@ -23,7 +23,7 @@ pub record Decides (changes : Changes) (owner : List ℕ) (cs : History) (c : Ca
   pub told : (answer cs c ≡ Accepted changes.reply) ⊎ ((answer cs c ≡ Repeated changes.reply) × (changes.writes.items ≡ []))
   pub made : all_written changes.writes.items (tables owner cs) ≡ tables owner (next cs c)
 
--- the call is refused so, or memory ran out
+-- the call gets this refusal, or memory ran out
 abbrev pub RefusesCall : Refusal → History → Call → Type 0
 RefusesCall refusal cs c = (answer cs c ≡ Refused refusal) ⊎ (refusal ≡ refusals.NoMemory)
 

@@ -1,4 +1,4 @@
--- Words of the steps by which what is named is put into force.
+-- Words of the steps that put named entries into force.
 use Rattle.std.specs.Prelude.{◌≡◌, ℕ, Bool, true, false, if◌then◌else◌, IsTrue, List, [], ◌∷◌, ◌++◌, Option, Some, None, filter, length, map, nat_lt, reverse}
 use Rattle.std.specs.FinMap.{get}
 use Rattle.std.specs.List.{list_any}
@@ -22,41 +22,43 @@ use Rattle.desk_rules.specs.DecisionSteps.{revocation_writes}
 use Rattle.desk_rules.specs.Room.{takes_off}
 use Rattle.desk_rules.specs.Views.{generation_in}
 
--- the rows, and those of the named that aren't there, the last first
+-- the rows with those of the named that they lack, the last first
 abbrev pub put_new : List (List ℕ) → List (List ℕ) → List (List ℕ)
 put_new [] rows = rows
 put_new (d ∷ ds) rows = put_new ds (if is_among rows d then rows else d ∷ rows)
 
--- these are the named digests that the table lacks, each once and in their order, where the rows show the table for them
+-- these are the named digests that the table lacks, each once and in order, if the rows show the
+-- table for them
 abbrev pub AreNew : List (List ℕ) → List (List ℕ) → List (List ℕ) → Type 0
 AreNew rows named new =
     (table : List (List ℕ)) → ((d : List ℕ) → IsTrue (is_among named d) → is_among rows d ≡ is_among table d)
     → put_new named table ≡ reverse new ++ table
 
--- the first of two that is there
+-- the first of two that is present
 abbrev pub or_else : Option ℕ → Option ℕ → Option ℕ
 or_else None o = o
 or_else (Some n) o = Some n
 
--- the generation rose from this one, if there was one
+-- the generation rose from the earlier one, if there was one
 abbrev pub rose : Option ℕ → Option ℕ → Bool
 rose None before = false
 rose (Some now) before = is_above now before
 
--- a component's generation is above the one before
+-- a component's generation is above its name's before
 abbrev pub is_raise : List Component → Component → Bool
 is_raise old x = is_above x.generation (greatest old x.name)
 
--- the names of those that are above the one before
+-- the names of the components that are above their names' generations before
 abbrev pub raised_names : List Component → List Component → List (List ℕ)
 raised_names old seen = map (λ x. x.name) (filter (is_raise old) seen)
 
--- the generations that the rows give
+-- the generations are those of the rows
 abbrev pub HasRows : Generations → List Component → Type 0
 HasRows generations rows = (q : List ℕ) → is_sbat q ≡ false → get generations q ≡ generation_in rows q
 
--- The changes that the components seen so far, the last first, make to a level that names these: the generations of the names
--- that are asked for, `sbat` never one of them, how many names were raised, and the writes, which take no entry off.
+-- The changes that the components seen so far, the last first, make to a level of the components
+-- `old`: the generations of the names in `asked`, which never include `sbat`; how many names were
+-- raised; and the writes, which take no entry off the list.
 pub record HasTaken (asked old seen : List Component) (s : SoFar) : Type 0 where
   pub other : names_no_sbat asked ≡ true
   pub level : (q : List ℕ) → IsTrue (is_among (map (λ x. x.name) asked) q) → get s.level.generations q ≡ greatest (seen ++ old) q
@@ -64,7 +66,7 @@ pub record HasTaken (asked old seen : List Component) (s : SoFar) : Type 0 where
   pub written : (t : Tables) → t.components ≡ level_rows old → all_written s.writes.items t ≡ record t { components = level_rows (seen ++ old) }
   pub kept : list_any takes_off s.writes.items ≡ false
 
--- the write of the stamp, where names were raised
+-- the write of the stamp, if names were raised
 abbrev pub stamp_writes : ℕ → Option ℕ → List Write
 stamp_writes names None = []
 stamp_writes names (Some s) = if nat_lt 0 names then writes.Stamp s ∷ [] else []
@@ -75,8 +77,9 @@ HasTakenAll v n s =
     (old : List Component) → ((q : List ℕ) → IsTrue (is_among (map (λ x. x.name) n.components) q) → generation_in v.lists.components.items q ≡ greatest old q)
     → HasTaken n.components old (reverse n.components) s
 
--- The changes put into force what proposal k names, of which the components make this: its new digests, its new
--- certificates, the generations, the stamp where some rose, and at last the proposal's state.
+-- The changes put the entries of proposal k into force; `s` is the changes that its components
+-- make. In order: its new digests, its new certificates, the generations, the stamp if some rose,
+-- and last the proposal's state.
 pub record PutsIntoForce (v : View) (n : Imported) (k : ℕ) (s : SoFar) (changes : Changes) : Type 0 where
   pub digests : List (List ℕ)
   pub certificates : List (List ℕ)

@@ -1,4 +1,4 @@
--- Keys that a command names: people, a request or a proposal, and keys of the lists.
+-- Keys of a command: people, a request or a proposal, and keys of the lists.
 use Rattle.std.specs.Prelude.{ℕ, List, [], ◌∷◌, map, Option, Some, None}
 use Rattle.std.specs.Option.{option_map_or}
 use Rattle.desk_texts.specs.declared.command.Command.{Command}
@@ -86,14 +86,14 @@ one_key kinds.Certificate digest = record { digests = []; certificates = digest 
 abbrev pub no_keys : Keys
 no_keys = record { listed = no_entries; revoked = no_entries; names = [] }
 
--- the keys of all that an import names
+-- the keys of an import's entries
 abbrev pub import_keys : Imported → Keys
 import_keys i = record no_keys {
   revoked = record { digests = i.digests; certificates = i.certificates };
   names = map (λ x. x.name) i.components;
 }
 
--- the keys that a command has of what is listed, of what is revoked and of the level
+-- the keys of a command in the listed and the revoked entries and in the level
 abbrev pub keys_named : Command → Keys
 keys_named (command.AddPerson _) = no_keys
 keys_named (command.Submit s) = record no_keys { revoked = revoked_keys s.facts; names = component_names s.facts }
@@ -110,12 +110,12 @@ keys_named (command.ImportRevocations i) = import_keys i
 keys_named (command.Confirm _) = no_keys
 keys_named (command.Drop _) = no_keys
 
--- the keys of all that a proposal's row names, if there is one
+-- the keys of the entries of a proposal's row, if there is one
 abbrev pub row_keys : Option ProposalRow → Keys
 row_keys o = option_map_or (λ row. import_keys row.named) o no_keys
 
--- own: the keys of the lists that a command reads: a Confirm reads those of all that its proposal's row names, which is found by
--- its number, and every other command those that it names
+-- own: the keys of the lists that a command reads: a Confirm reads those of its proposal's row,
+-- which is found by its number, and every other command its own
 abbrev pub keys_with : Command → (ℕ → Option ProposalRow) → Keys
 keys_with c row_of = elim c [
   | command.Confirm k ↦ row_keys (row_of k)

@@ -1,4 +1,4 @@
--- Room in the tables for what a decision writes.
+-- Room in the tables for the writes of a decision.
 use Rattle.std.specs.Prelude.{◌≡◌, ◌≤◌, ◌⊎◌, ℕ, ◌+◌, ◌==◌, Bool, true, false, ◌&&◌, ◌||◌, nat_le, List, ◌∷◌, length, count_by}
 use Rattle.std.specs.List.{list_any}
 use Rattle.desk_texts.specs.declared.command.Call.{Call}
@@ -18,7 +18,7 @@ abbrev pub revokes : ListedKind → Write → Bool
 revokes kind (writes.Revoke l) = is_same_kind kind l.kind
 revokes kind _ = false
 
--- the write puts a row into the table
+-- the write inserts a row into the table
 abbrev pub puts : LimitedTable → Write → Bool
 puts counted.People (writes.Person p) = true
 puts counted.Requests (writes.Request r) = true
@@ -29,16 +29,17 @@ puts counted.Components (writes.Component x) = true
 puts counted.Proposals (writes.Propose p) = true
 puts _ _ = false
 
--- the write takes an entry off
+-- the write takes an entry off the list
 abbrev pub takes_off : Write → Bool
 takes_off (writes.Unlist l) = true
 takes_off _ = false
 
--- so many rows more keep within the limit; where none is put in, the table's size isn't looked at
+-- a table of this size has room for `count` more rows; if there are none, its size doesn't matter
 abbrev pub fits : ℕ → ℕ → ℕ → Bool
 fits count size most = (count == 0) || nat_le (count + size) most
 
--- own: tables of these sizes have room for the rows that a command's writes put into them, and for the call's own
+-- own: tables of these sizes have room for the rows that a command's writes insert, and for the
+-- call's own
 abbrev pub has_room : Sizes → List Write → Bool
 has_room s ws =
     fits (count_by (puts counted.People) ws) s.people most_people
@@ -50,6 +51,7 @@ has_room s ws =
     && fits (count_by (puts counted.Components) ws) s.components most_level_components
     && nat_le (1 + s.calls) most_calls
 
--- the writes take no listed entry off, or they put none in and no more is listed after the call than before
+-- the writes take no listed entry off the list, or they insert none and no more is listed after the
+-- call than before
 abbrev pub IsRoomed : List Write → History → Call → Type 0
 IsRoomed ws cs c = (list_any takes_off ws ≡ false) ⊎ ((count_by (puts counted.Listed) ws ≡ 0) × (length (listed (item c ∷ cs)) ≤ length (listed cs)))

@@ -1,4 +1,4 @@
--- Rows of the tables that a view has to show for a decision.
+-- Rows of the tables that a view must show for a decision.
 use Rattle.std.specs.Prelude.{◌≡◌, ℕ, ◌==◌, ◌||◌, Bool, true, false, List, length, map, find, bytes_eq, Some, IsPermutation, IsTrue}
 use Rattle.std.specs.List.{list_any}
 use Rattle.desk_texts.specs.declared.command.Call.{Call}
@@ -29,7 +29,7 @@ is_request_row k row = k == row.number
 abbrev pub is_proposal_row : ℕ → ProposalRow → Bool
 is_proposal_row k row = k == row.number
 
--- the keys of the lists that a call reads, where these are the tables
+-- the keys of the lists that a call reads, if these are the tables
 abbrev pub keys_asked : Tables → Call → Keys
 keys_asked t c = keys_with c.command (λ k. find (is_proposal_row k) t.proposals)
 
@@ -44,7 +44,7 @@ is_table counted.Components counted.Components = true
 is_table counted.Proposals counted.Proposals = true
 is_table _ _ = false
 
--- the command may put rows into the table
+-- the command may insert rows into the table
 abbrev pub may_put : Command → LimitedTable → Bool
 may_put (command.AddPerson _) table = is_table counted.People table
 may_put (command.Submit _) table = is_table counted.Requests table
@@ -62,7 +62,7 @@ may_put (command.Confirm _) table =
     is_table counted.RevokedDigests table || is_table counted.RevokedCertificates table || is_table counted.Components table
 may_put (command.Drop _) table = false
 
--- how many rows the sizes tell of the table
+-- the table's size among the sizes
 abbrev pub size_in : Sizes → LimitedTable → ℕ
 size_in s counted.People = s.people
 size_in s counted.Requests = s.requests
@@ -82,10 +82,11 @@ rows_in t counted.RevokedCertificates = length t.revoked_certificates
 rows_in t counted.Components = length t.components
 rows_in t counted.Proposals = length t.proposals
 
--- The view shows of the tables for a call: the level's stamp; how many calls there are, and how many rows each table has
--- that the command may put rows into; for the caller, the caller's key and all that the command names the tables' row, or none
--- where they have none; the votes on the request that it names; and for a Confirm the rows of the lists for all that its proposal
--- names. It may have other rows.
+-- The view shows these of the tables for a call: the level's stamp; how many calls there are, and
+-- how many rows each table has into which the command may insert rows; for the caller, the caller's
+-- key and all that the command names, the tables' row, or none if they have none; the votes on the
+-- request that it names; and for a Confirm, the rows of the lists for its proposal's entries. It
+-- may have other rows.
 pub record Shows (v : View) (t : Tables) (c : Call) : Type 0 where
   pub stamp : v.stamp ≡ t.desk.stamp
   pub count : v.sizes.calls ≡ length t.calls

@@ -1,4 +1,4 @@
--- Views: rows of the tables that a verdict or a decision is made from, and what they have to show.
+-- Views: rows of the tables for a verdict or a decision, and the rows that they must show.
 use Rattle.std.specs.Prelude.{◌≡◌, ℕ, Bool, ◌&&◌, if◌then◌else◌, List, [], ◌∷◌, map, find, Option, Some, option_map, bytes_eq, IsTrue}
 use Rattle.std.specs.List.{list_any}
 use Rattle.sbat.specs.declared.component.Component.{Component}
@@ -55,29 +55,32 @@ keys_for k kinds.Certificate = k.certificates
 abbrev pub no_entries : EntryKeys
 no_entries = record { digests = []; certificates = [] }
 
--- the keys that a verdict or a decision reads: of what is listed, of what is revoked, and names of the level
+-- the keys that a verdict or a decision reads: of the listed and the revoked entries, and names of
+-- the level
 pub record Keys : Type 0 where
   pub listed : EntryKeys
   pub revoked : EntryKeys
   pub names : List (List ℕ)
 
--- the keys that an image's facts have in what is listed: its digest, and the certificates that it carries
+-- the keys of an image's facts among the listed entries: its digest, and the certificates that it
+-- carries
 abbrev pub listed_keys : Facts → EntryKeys
 listed_keys x = record { digests = x.digest ∷ []; certificates = x.carried }
 
--- the keys that they have in what is revoked: also the digest that a signature of the image holds
+-- their keys among the revoked entries: also the digest that a signature of the image holds
 abbrev pub revoked_keys : Facts → EntryKeys
 revoked_keys x = record { digests = x.digest ∷ x.signing ∷ []; certificates = x.carried }
 
--- and those that they have in the level: the names of its components
+-- their keys in the level: the names of the image's components
 abbrev pub component_names : Facts → List (List ℕ)
 component_names x = map (λ y. y.name) x.components
 
--- all keys that an image's facts have
+-- all keys of an image's facts
 abbrev pub keys_of : Facts → Keys
 keys_of x = record { listed = listed_keys x; revoked = revoked_keys x; names = component_names x }
 
--- For each of these keys the view has the tables' row, or none where they have none. It may have other rows.
+-- For each of these keys the view has the tables' row, or none if they have none. It may have other
+-- rows.
 pub record ShowsLists (v : ListView) (t : Tables) (k : Keys) : Type 0 where
   pub revoked : (kind : ListedKind) (digest : List ℕ) → IsTrue (is_among (keys_for k.revoked kind) digest)
       → is_among (seen_revoked v kind) digest ≡ is_among (revoked_rows t kind) digest

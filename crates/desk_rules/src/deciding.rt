@@ -1,4 +1,5 @@
-//! Decisions over a view: who calls, the call's key, the caller's role, the command, and room for what it writes.
+//! Decisions over a view: the caller, the call's key, the caller's role, the command, and room for
+//! its writes.
 ghost use Rattle.std.specs.Prelude.{◌≡◌, ◌+◌, find, option_copied, IfErr, IsTrue, MatchResult};
 ghost use Rattle.desk_history.specs.DecisionRefusals.{may_answer};
 ghost use Rattle.desk_texts.specs.Callers.{caller_name};
@@ -36,7 +37,7 @@ fn text_of(alloc: Global, command: &Command) -> Result<CommandText, Refusal>
     Ok(CommandText::new(command_text(alloc, command)?))
 }
 
-/// The answer to a call with the key of this minute: the reply given then, if the command has the same text.
+/// The answer to a call with the key of this minute: its reply, if the command has the same text.
 fn repeat(alloc: Global, minute: &Minute, text: &CommandText) -> Result<Changes, Refusal>
     ensures { steps.Repeats result minute.now text.now }
 {
@@ -77,10 +78,10 @@ fn join(
     })
 }
 
-/// The answer to a call, and the rows that it writes, by the rows that the view has: the first refusal that holds of
-/// `UnknownCaller`, then for a key that the caller gave before the reply given then or `KeyReused`, then `NotYourRole`,
-/// the command's own conditions and `Full`; or `NoMemory`. Takes memory for the rows that it writes, and for the
-/// command's canonical text.
+/// The answer to a call, and the rows that it writes, from the rows of the view. `UnknownCaller`
+/// comes first; then, for a key that the caller gave before, the reply given then or `KeyReused`;
+/// then `NotYourRole`, the command's own conditions and `Full`. `NoMemory` may come at any time.
+/// Takes memory for the rows that it writes, and for the command's canonical text.
 pub fn decide(
     alloc: Global,
     view: &View,

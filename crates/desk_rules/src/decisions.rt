@@ -26,7 +26,7 @@ use requests::{return_file, review, withdraw};
 use std::alloc::{AllocError, Global};
 use submissions::submit;
 
-/// Puts the item after the others. Takes memory for it.
+/// Appends the item. Takes memory for it.
 pub(crate) fn push<T: Drop>(items: &mut Vec<T>, item: T) -> Result<(), AllocError>
     ensures { OnOk result (items.new.items ≡ items.old.items ++ item ∷ []) }
 {
@@ -79,7 +79,7 @@ fn submit_next(
     }
 }
 
-/// The answer by the command's own conditions, and the rows that it writes except the call's own.
+/// The answer by the command's own conditions, and the rows that it writes, without the call's own.
 pub(crate) fn decide_own(
     alloc: Global,
     view: &View,

@@ -1,4 +1,4 @@
-//! Rows of the tables that a verdict is given from, and the verdict.
+//! Rows of the tables for a verdict, and the verdict.
 ghost use Rattle.std.specs.Prelude.{◌≡◌, find, option_copied};
 ghost use Rattle.desk_history.specs.Writes.{is_named};
 ghost use Rattle.desk_rules.specs.Views as spec;
@@ -8,8 +8,8 @@ use desk_history::{Standing, Verdict, is_same, verdict_of};
 use desk_texts::{Facts, ListedKind, Listing};
 use sbat::{Component, ComponentName, Generation};
 
-/// The rows that a verdict on an image needs: of the listed and revoked entries and the SBAT level, those whose keys the
-/// image's facts have. It may have others.
+/// The rows for a verdict on an image: those of the listed and revoked entries and of the SBAT
+/// level whose keys are in the image's facts. It may have others.
 #[derive(Drop)]
 pub struct ListView {
     /// The keys of the listed entries.
@@ -70,7 +70,7 @@ impl Standing for ListView {
     }
 }
 
-/// The desk's verdict on the image, by the rows that the view has.
+/// The desk's verdict on the image, from the rows of the view.
 pub fn verdict(view: &ListView, facts: &Facts) -> Verdict
     ensures { spec.SaysVerdict view.now facts.now result }
 {

@@ -1,4 +1,4 @@
-//! Room in the tables for what a decision writes.
+//! Room in the tables for the writes of a decision.
 ghost use Rattle.std.specs.Prelude.{◌≡◌, count_by};
 ghost use Rattle.desk_rules.specs.Room as spec;
 
@@ -9,7 +9,8 @@ use desk_history::{
 };
 use desk_texts::ListedKind;
 
-/// True if these rows more keep within the limit; where none is put in, the table's size isn't looked at.
+/// True if a table of this size has room for these rows; if there are none, its size doesn't
+/// matter.
 fn fits(count: usize, size: u64, most: usize) -> bool
     ensures { result ≡ spec.fits count size most }
 {
@@ -27,7 +28,7 @@ fn revokes(kind: ListedKind, write: &Write) -> bool
     }
 }
 
-/// True if the write puts a row into the table.
+/// True if the write inserts a row into the table.
 fn puts(table: LimitedTable, write: &Write) -> bool
     ensures { result ≡ spec.puts table write.now }
 {
@@ -42,14 +43,15 @@ fn puts(table: LimitedTable, write: &Write) -> bool
     }
 }
 
-/// The count of rows that the writes put into the table.
+/// The count of rows that the writes insert into the table.
 pub fn count(table: LimitedTable, writes: &[Write]) -> usize
     ensures { result ≡ count_by (spec.puts table) writes.now }
 {
     writes.iter().filter(|write| puts(table, write)).count()
 }
 
-/// True if tables of these sizes have room for what the writes put in, and for the call's own row.
+/// True if tables of these sizes have room for the rows that the writes insert, and for the call's
+/// own row.
 pub(crate) fn has_room(sizes: &Sizes, writes: &[Write]) -> bool
     ensures { result ≡ spec.has_room sizes.now writes.now }
 {

@@ -38,7 +38,7 @@ pub(crate) fn minute(
     })
 }
 
-/// The row of the request of this number, that is open. Takes memory for it.
+/// The row of the request of this number, in the state open. Takes memory for it.
 pub(crate) fn open_request(
     alloc: Global,
     number: RequestNumber,
@@ -142,7 +142,7 @@ pub(crate) fn certificate_entry(alloc: Global, certificate: &Certificate) -> Res
     })
 }
 
-/// The row of the caller's proposal of this number, that is open. Takes memory for it.
+/// The row of the caller's proposal of this number, in the state open. Takes memory for it.
 pub(crate) fn open_proposal(
     alloc: Global,
     number: ProposalNumber,

@@ -1,10 +1,10 @@
-//! Rows of the tables that a decision is made from, and what it changes.
+//! Rows of the tables for a decision, and its changes.
 use crate::list_view::ListView;
 use desk_history::{Minute, ProposalRow, RequestRow, VoteRow, Write};
 use desk_texts::{Person, Reply};
 use sbat::Stamp;
 
-/// A table whose rows a limit of the desk counts, but for that of calls.
+/// A table whose rows a limit of the desk counts, other than the table of calls.
 #[derive(Clone, Copy, Debug, PartialEq, Eq)]
 pub enum LimitedTable {
     People,
@@ -29,9 +29,9 @@ pub struct Sizes {
     pub proposals: u64,
 }
 
-/// The rows that a decision on a call needs: those of the caller, of the caller's key and of what the command names, with
-/// the votes on a request that it names, and for a Confirm also those of all that its proposal names. It may have
-/// others.
+/// The rows for a decision on a call: those of the caller, of the caller's key and of all that the
+/// command names, the votes on a request that it names, and, for a Confirm, those of all that its
+/// proposal names. It may have others.
 #[derive(Drop)]
 pub struct View {
     /// The level's stamp.
@@ -46,7 +46,7 @@ pub struct View {
     pub lists: ListView,
 }
 
-/// The reply to a call, and the rows that it writes, in the order in which they are written. A repeated call writes none.
+/// The reply to a call, and the rows that it writes, in order. A repeated call writes none.
 #[derive(Debug, Drop)]
 pub struct Changes {
     pub reply: Reply,

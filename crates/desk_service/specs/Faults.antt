@@ -1,4 +1,4 @@
--- Faults of an image as rows of the table of refusals.
+-- The refusal of each fault of an image.
 use Rattle.std.specs.Prelude.{ℕ, Option, None}
 use Rattle.desk_bytes.specs.declared.refusal.Refusal.{Refusal}
 use Rattle.desk_bytes.specs.declared.refusal.Refusal.TheVariants as refusal
@@ -18,11 +18,11 @@ refusal_of (Carried fault) = carried.refusal_of fault
 refusal_of (Components fault) = sbat.refusal_of fault
 refusal_of NoMemory = refusal.NoMemory
 
--- own: a read behind the headers that failed is the fault Read
+-- own: a failed read after the headers is the fault Read
 abbrev pub read_failed : FactsFault
 read_failed = Read
 
--- own: the fault of an image by a fault of a part
+-- own: the fault of an image for a fault of a part
 abbrev pub of_part : PartFault → FactsFault
 of_part part.Read = Read
 of_part part.NoMemory = NoMemory

@@ -1,4 +1,4 @@
--- Facts of an image, and the fault for which it has none.
+-- Facts of an image, and the fault of an image without facts.
 use Rattle.std.specs.Prelude.{◌≡◌, ℕ, List, length, ⊤}
 use Rattle.sha2.specs.Sha256.{sha256}
 use Rattle.pe_image.specs.Checks.{IsLaid, IsRefused, checks}
@@ -13,11 +13,12 @@ use Rattle.desk_service.specs.Parts.{part_of}
 use Rattle.desk_service.specs.declared.fault.FactsFault.{FactsFault}
 use Rattle.desk_service.specs.declared.fault.FactsFault.TheVariants.{Carried, Components, Layout, NoMemory, Read}
 
--- the certificate table of a file, no byte where it has none (PE/COFF, "The Attribute Certificate Table")
+-- the certificate table of a file, or no byte if it has none (PE/COFF, "The Attribute Certificate
+-- Table")
 abbrev pub table_bytes : List ℕ → List ℕ
 table_bytes f = part_of f (places_of f).table
 
--- the text of a file's section `.sbat`, no byte where it has none (SBAT.md)
+-- the text of a file's section `.sbat`, or no byte if it has none (SBAT.md)
 abbrev pub sbat_bytes : List ℕ → List ℕ
 sbat_bytes f = part_of f (places_of f).sbat
 
@@ -37,8 +38,9 @@ pub record HasCarried (f : List ℕ) : Type 0 where
   pub digests : List (List ℕ)
   pub carried : carried.IsCarried (table_bytes f) digests
 
--- Why f has no facts: own: its layout's fault comes first, then one of its certificates, then one of its
--- components. Of a failed read the counts before and after the call tell; NoMemory may come at any time.
+-- Why f has no facts. own: its layout's fault comes first, then one of its certificates, then one
+-- of its components. For Read, the failure count rose or was already at its maximum; NoMemory may
+-- come at any time.
 abbrev pub IsFirstFault : List ℕ → ℕ → ℕ → FactsFault → Type 0
 IsFirstFault f before after (Layout fault) = IsRefused (checks f) before after fault
 IsFirstFault f before after Read = IsLaid f × HaveRisen before after

@@ -5,7 +5,7 @@ use Rattle.pe_image.specs.declared.span.Span.{Span}
 use Rattle.desk_service.specs.declared.part.PartFault.{PartFault}
 use Rattle.desk_service.specs.declared.part.PartFault.TheVariants as fault
 
--- the bytes of a span, none where there is no span
+-- the bytes of a span, or none if there is no span
 abbrev pub part_of : List ℕ → Option Span → List ℕ
 part_of f None = []
 part_of f (Some p) = slice_range f p.from p.to
@@ -14,7 +14,7 @@ part_of f (Some p) = slice_range f p.from p.to
 abbrev pub read_failed : PartFault
 read_failed = fault.Read
 
--- a part isn't read for this, of which the counts of failures before and after tell
+-- why a part isn't read; for Read, the count of failures rose or was already at its maximum
 abbrev pub IsPartFault : ℕ → ℕ → PartFault → Type 0
 IsPartFault before after fault.Read = HaveRisen before after
 IsPartFault before after fault.NoMemory = ⊤

@@ -1,4 +1,4 @@
--- Tokens, by which people are known over HTTP.
+-- Tokens, which identify people over HTTP.
 use Rattle.std.specs.Prelude.{◌≡◌, ◌⊎◌, ℕ, ◌+◌, ◌<◌, ◌==◌, ◌&&◌, Bool, false, nat_le, length, if◌then◌else◌}
 use Rattle.std.specs.Prelude.{List, [], ◌∷◌, ◌++◌, Option, Some, None, slice_index}
 use Rattle.std.specs.List.{list_all}
@@ -19,11 +19,11 @@ abbrev pub is_token : List ℕ → Bool
 is_token text =
     nat_le shortest_token (length text) && nat_le (length text) longest_token && list_all (is_between 33 126) text
 
--- the last byte is no CR (13)
+-- the last byte isn't a CR (13)
 abbrev pub HasNoCrAtEnd : List ℕ → Type 0
 HasNoCrAtEnd text = (last : ℕ) → last + 1 ≡ length text → (slice_index text last == 13) ≡ false
 
--- the text of a line whose LF was taken off: one CR at its end isn't the text's
+-- the text of a line without its LF: one CR at its end isn't part of the text
 abbrev pub IsTextOf : List ℕ → List ℕ → Type 0
 IsTextOf line text = (line ≡ text ++ 13 ∷ []) ⊎ ((line ≡ text) × HasNoCrAtEnd text)
 
@@ -36,7 +36,7 @@ first_of (line ∷ lines) = line
 abbrev pub first_line : List ℕ → List ℕ
 first_line text = first_of (lines_of text)
 
--- the first line of a text is no token
+-- the first line of a text isn't a token
 abbrev pub HasNoToken : List ℕ → Type 0
 HasNoToken text = is_token (first_line text) ≡ false
 

@@ -34,7 +34,7 @@ fn read_carried<S: Source>(
     Ok(Carried::of(digests))
 }
 
-/// The components of an image with this layout, whose certificates are right.
+/// The components of an image with this layout. Its certificates are right.
 fn read_components<S: Source>(
     alloc: Global,
     source: &mut S,
@@ -54,13 +54,13 @@ fn read_components<S: Source>(
     Ok(Components::of(found))
 }
 
-/// The facts that the desk keeps of an image. It reads each piece of 65,536 bytes of the source once, with a
-/// gap the last range once more, and the headers, the certificate table and the text of `.sbat`
-/// besides; it takes memory for the table and the text and for what they hold.
+/// The facts of an image that the desk keeps. Each piece of 65,536 bytes of the source is read
+/// once, and if there is a gap the last range once more; so are the headers, the certificate table
+/// and the text of `.sbat`. Takes memory for the table, for the text, and for the facts in them.
 ///
-/// Of several faults the layout's is answered first, then that of the certificates, then that of the
-/// components; Read, and Layout with Read, only where the source's count of failures rose or stood at its
-/// greatest.
+/// Of several faults the layout's comes first, then that of the certificates, then that of the
+/// components. Read, and Layout with Read, are returned only if the source's failure count rose or
+/// was already at its maximum.
 pub fn facts<S: Source>(alloc: Global, source: &mut S) -> Result<Facts, FactsFault>
     ensures exact { IfOk result (IsFactsOf (S.content source.old)) }
 

@@ -10,7 +10,7 @@ use pe_image::{LayoutFault, ReadFailed};
 use sbat::SbatFault;
 use thiserror::Error;
 
-/// The reason why an image was refused, or the failure while it was read.
+/// Why an image was refused, or the failure of reading it.
 #[derive(Clone, Copy, Debug, PartialEq, Eq, Error)]
 pub enum FactsFault {
     /// It has no layout.

@@ -1,5 +1,5 @@
-//! Imports: revocations that others publish, as signature lists, a CSV file or the text of an SBAT level, read as one
-//! command.
+//! Imports: revocations that others publish, as signature lists, a CSV file or the text of an SBAT
+//! level, each read as one command.
 
 mod csv_rows;
 mod entries;

@@ -7,7 +7,7 @@ ghost use Rattle.desk_service.specs.Parts.{IsPartFault, part_of, read_failed};
 use pe_image::{ReadFailed, Source, Span};
 use std::alloc::Global;
 
-/// The reason why a part isn't in memory.
+/// Why a part couldn't be read into memory.
 #[derive(Clone, Copy, Debug, PartialEq, Eq)]
 pub enum PartFault {
     Read,
@@ -22,7 +22,7 @@ impl From<ReadFailed> for PartFault {
     }
 }
 
-/// The bytes of a span, none where there is no span.
+/// The bytes of a span, or none if there is no span.
 pub fn read_part<S: Source>(
     alloc: Global,
     source: &mut S,

@@ -18,7 +18,7 @@ const SHORTEST_TOKEN: usize = 16;
 /// The most bytes of a token.
 const LONGEST_TOKEN: usize = 128;
 
-/// The most bytes that are read of a line: those of the longest token, a CR, and one more.
+/// The most bytes that are read of a line: the longest token, a CR, and one more.
 const MOST_READ: usize = LONGEST_TOKEN + 2;
 
 /// True if each byte is a visible character of ASCII.
@@ -38,7 +38,7 @@ pub fn is_token(text: &[u8]) -> bool
     are_visible(text)
 }
 
-/// The SHA-256 of a token's bytes, which is what a desk keeps of it.
+/// The SHA-256 of a token's bytes, the only form in which a desk keeps it.
 pub fn token_digest(token: &[u8]) -> Digest
     ensures { result ≡ sha256 token.now }
 {
@@ -54,7 +54,7 @@ fn ends_in_cr(line: &[u8]) -> bool
     !line.is_empty() && line[line.len() - 1] == b'\r'
 }
 
-/// The text of a line whose LF was taken off: one CR at its end isn't the text's.
+/// The text of a line without its LF: one CR at its end isn't part of the text.
 fn without_cr(line: Vec<u8>) -> Vec<u8>
     ensures { spec.IsTextOf line.items result.items }
 {
@@ -65,7 +65,7 @@ fn without_cr(line: Vec<u8>) -> Vec<u8>
     text
 }
 
-/// The next byte of an input, `None` at its end. An interrupted read is a fault: none is tried again.
+/// The next byte of an input, `None` at its end. An interrupted read is a fault and isn't retried.
 fn next_byte<R: Read>(reader: &mut R) -> Result<Option<u8>, InputFault>
     ensures byte { IfOk result (λ found. IfSome found
         (λ b. Consumes (R.remaining reader.old) (R.remaining reader.new) (b ∷ []))) }
@@ -83,9 +83,9 @@ fn next_byte<R: Read>(reader: &mut R) -> Result<Option<u8>, InputFault>
     }
 }
 
-/// Reads the first line of an input, a byte at a time, and no byte after it. An LF ends it and takes one
-/// CR before it along; so does the end of the input, which takes none. TooLong where the line can't be a
-/// token for its length.
+/// Reads the first line of an input, one byte at a time, and no byte after it. It ends at an LF,
+/// which drops one CR before it, or at the end of the input, which drops none. TooLong if the line
+/// is too long for a token.
 fn read_first_line<R: Read>(alloc: Global, reader: &mut R) -> Result<Vec<u8>, InputFault>
     ensures line { IfOk result (λ line. IfSome (R.remaining reader.old)
         (λ given. line.items ≡ spec.first_line given)) }
@@ -108,11 +108,11 @@ fn read_first_line<R: Read>(alloc: Global, reader: &mut R) -> Result<Vec<u8>, In
     Err(InputFault::TooLong)
 }
 
-/// Reads a token, the first line of an input, and gives what a desk keeps of it; `None` where that line is
-/// no token. Of the input it takes that line and no byte after it. Takes memory for the line.
+/// Reads a token, the first line of an input, and returns the SHA-256 that a desk keeps of it;
+/// `None` if that line isn't a token. No byte after the line is read. Takes memory for the line.
 ///
-/// TooLong where the line has more bytes than a token with its CR. Read where the reader failed or was
-/// interrupted: no read is tried again.
+/// TooLong if the line has more bytes than a token with its CR. Read if the reader failed or was
+/// interrupted; no read is retried.
 pub fn read_token<R: Read>(alloc: Global, reader: &mut R) -> Result<Option<Digest>, InputFault>
     ensures exact { IfOk result (λ kept. IfSome (R.remaining reader.old)
         (λ given. kept ≡ spec.token_in given)) }

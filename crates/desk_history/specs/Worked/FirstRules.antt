@@ -1,4 +1,4 @@
--- A desk of one officer, which has two from then on.
+-- A desk with one officer gets a second.
 use Rattle.std.specs.Prelude.{◌≡◌, true, false, List, [], ◌∷◌, map, codes}
 use Rattle.desk_bytes.specs.declared.refusal.Refusal.TheVariants as refusals
 use Rattle.desk_texts.specs.declared.command.Call.{Call}
@@ -15,7 +15,7 @@ use Rattle.desk_history.specs.declared.answer.Answer.TheVariants.{Repeated}
 abbrev revoke_c : Call
 revoke_c = by (codes "olga") (codes "olga-6") (command.RevokeCertificate (digest 12))
 
--- by the first rules what olga names is in force at once
+-- by the first rules the entries that olga names are in force at once
 abbrev pub first_steps : List Step
 first_steps = with_people (
     accepted (by (codes "olga") (codes "olga-1") lists) (counts 1 1 0 1)
@@ -32,7 +32,7 @@ first_steps = with_people (
 abbrev pub first_history : History
 first_history = run_by First [] (calls_of first_steps)
 
--- by the second rules olga's old key gives its old reply, and what she names anew is proposed
+-- by the second rules olga's old key gives its old reply, and her new entries are only proposed
 abbrev pub second_steps : List Step
 second_steps =
     otto_added
@@ -46,7 +46,7 @@ second_steps =
 abbrev pub second_history : History
 second_history = run first_history (calls_of second_steps)
 
--- each call is answered so
+-- each call has this answer
 abbrev pub AnswersFirst : Type 0
 AnswersFirst =
     (answers_by First [] (calls_of first_steps) ≡ answers_of first_steps)

@@ -40,7 +40,7 @@ tabled_steps = with_officers (
     ∷ accepted (by (codes "otto") (codes "otto-2") (command.Confirm 2)) (confirmed 2 0 0 0 0)
     ∷ [])
 
--- the calls that were accepted of the first
+-- the accepted calls of the first steps
 abbrev pub listed_history : History
 listed_history =
     item (by (codes "otto") (codes "otto-2") (command.Confirm 2))
@@ -58,7 +58,7 @@ tabled_history =
     ∷ item (by (codes "olga") (codes "olga-2") table)
     ∷ officers_added
 
--- each call is answered so
+-- each call has this answer
 abbrev pub AnswersImports : Type 0
 AnswersImports =
     (answers [] (calls_of listed_steps) ≡ answers_of listed_steps)

@@ -12,7 +12,7 @@ use Rattle.desk_history.specs.declared.answer.Answer.TheVariants.{Repeated}
 use Rattle.desk_history.specs.Worked.{Step, accepted, answers_of, by, calls_of, digest, people_added, person, refused, submit, with_people}
 use Rattle.desk_history.specs.Worked.Reviews.{a}
 
--- keys that are given again, and names that are taken
+-- keys given again, and a name that is taken
 abbrev pub steps : List Step
 steps = with_people (
     accepted (by (codes "ann") (codes "k1") (submit a)) (replies.Submitted 1)
@@ -35,7 +35,7 @@ history =
     ∷ item (by (codes "ann") (codes "k1") (submit a))
     ∷ people_added
 
--- each call is answered so
+-- each call has this answer
 abbrev pub AnswersKeys : Type 0
 AnswersKeys = answers [] (calls_of steps) ≡ answers_of steps
 

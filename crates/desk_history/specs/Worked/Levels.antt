@@ -16,7 +16,7 @@ use Rattle.desk_history.specs.Worked.{Step, accepted, answers_of, by, calls_of, 
 abbrev pub with_grub : ℕ → Facts
 with_grub generation = image 21 22 22 [] (grub generation ∷ [])
 
--- raises of the level, and what they bar
+-- calls that raise the level, and the images that it bars
 abbrev pub steps : List Step
 steps = with_officers (
     accepted (by (codes "olga") (codes "olga-1") (raise (codes "grub") 3 2024010100)) (proposed 1)
@@ -36,7 +36,7 @@ history =
     ∷ item (by (codes "olga") (codes "olga-1") (raise (codes "grub") 3 2024010100))
     ∷ officers_added
 
--- each call is answered so
+-- each call has this answer
 abbrev pub AnswersLevels : Type 0
 AnswersLevels = answers [] (calls_of steps) ≡ answers_of steps
 

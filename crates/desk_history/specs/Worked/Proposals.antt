@@ -31,7 +31,7 @@ otto key given = by (codes "otto") key given
 abbrev pub ann : List ℕ → Command → Call
 ann key given = by (codes "ann") key given
 
--- ---- a digest is proposed, and confirmed by the second officer alone
+-- ---- a digest is proposed, and only the second officer confirms it
 
 -- the image's digest aa
 abbrev pub revoke_aa : Command
@@ -41,7 +41,7 @@ revoke_aa = command.RevokeDigest (digest 170)
 abbrev pub one_proposed : List Step
 one_proposed = with_officers (accepted (olga (codes "olga-1") revoke_aa) (proposed 1) ∷ [])
 
--- neither she nor ann confirms it, otto does, and once
+-- she and ann can't confirm it; otto can, once
 abbrev pub one_confirmed : List Step
 one_confirmed =
     refused (olga (codes "olga-2") (command.Confirm 1)) refusals.OwnProposal
@@ -60,7 +60,7 @@ after_proposal = item (olga (codes "olga-1") revoke_aa) ∷ officers_added
 abbrev pub after_confirmation : History
 after_confirmation = item (otto (codes "otto-1") (command.Confirm 1)) ∷ after_proposal
 
--- each call is answered so
+-- each call has this answer
 abbrev pub AnswersOne : Type 0
 AnswersOne =
     (answers [] (calls_of one_proposed) ≡ answers_of one_proposed)
@@ -68,11 +68,11 @@ AnswersOne =
     × (answers after_proposal (calls_of one_confirmed) ≡ answers_of one_confirmed)
     × (run after_proposal (calls_of one_confirmed) ≡ after_confirmation)
 
--- the proposals that a person is shown who asks for them
+-- the proposals that a person is shown
 abbrev pub shown_to : History → List ℕ → Result (List ShownProposal) Refusal
 shown_to cs name = result_map_both (map (shown_proposal cs)) (λ refusal. refusal) (proposals_for cs (callers.Person name))
 
--- the proposal as otto is shown it
+-- the proposal, as otto is shown it
 abbrev pub one_shown : ShownProposal
 one_shown = record {
   number = 1;
@@ -92,7 +92,7 @@ ShowsOne =
     × (shown_to after_confirmation (codes "ann") ≡ Err refusals.NotYourRole)
     × (shown_to after_confirmation (codes "eve") ≡ Err refusals.UnknownCaller)
 
--- their keys, given again; and of a closed proposal it is told first that it is closed
+-- their keys, given again; for a closed proposal, that it is closed comes first
 abbrev pub one_repeated : List Step
 one_repeated =
     record { call = olga (codes "olga-1") revoke_aa; answer = Repeated (proposed 1) }
@@ -102,7 +102,7 @@ one_repeated =
     ∷ refused (record { caller = callers.Console; key = codes "k"; command = command.Confirm 1 }) refusals.NotYourRole
     ∷ []
 
--- a repeated proposal makes no second one, and a repeated confirmation is told as the first
+-- a repeated proposal makes no second one, and a repeated confirmation gets the first one's reply
 abbrev pub RepeatsOne : Type 0
 RepeatsOne =
     (answers after_confirmation (calls_of one_repeated) ≡ answers_of one_repeated)
@@ -114,7 +114,7 @@ RepeatsOne =
 abbrev pub revoke_bb : Command
 revoke_bb = command.RevokeDigest (digest 187)
 
--- one is confirmed, so the other one can't be, and is dropped
+-- one is confirmed, so the other can't be, and is dropped
 abbrev pub both_steps : List Step
 both_steps = with_officers (
     accepted (olga (codes "olga-1") revoke_bb) (proposed 1)
@@ -126,7 +126,7 @@ both_steps = with_officers (
     ∷ refused (otto (codes "otto-4") (command.Drop 3)) refusals.NoSuchProposal
     ∷ [])
 
--- each call is answered so
+-- each call has this answer
 abbrev pub AnswersBoth : Type 0
 AnswersBoth = answers [] (calls_of both_steps) ≡ answers_of both_steps
 
@@ -146,7 +146,7 @@ level_steps = with_officers (
     ∷ refused (otto (codes "otto-2") (command.Confirm 1)) refusals.NotHigher
     ∷ [])
 
--- each call is answered so
+-- each call has this answer
 abbrev pub AnswersLevel : Type 0
 AnswersLevel = answers [] (calls_of level_steps) ≡ answers_of level_steps
 
@@ -171,7 +171,7 @@ abbrev pub import_history : History
 import_history =
     item (otto (codes "otto-1") (command.Confirm 1)) ∷ item (olga (codes "olga-1") lists) ∷ officers_added
 
--- each call is answered so
+-- each call has this answer
 abbrev pub AnswersImport : Type 0
 AnswersImport =
     (answers [] (calls_of import_steps) ≡ answers_of import_steps)

@@ -1,4 +1,5 @@
--- The signed file of a request comes back, and its certificate is listed, revoked and taken off.
+-- The signed file of a request is returned, and its certificate is listed, revoked and taken off
+-- the list.
 use Rattle.std.specs.Prelude.{◌≡◌, ℕ, List, [], ◌∷◌, ◌++◌, map, codes}
 use Rattle.desk_bytes.specs.declared.refusal.Refusal.TheVariants as refusals
 use Rattle.desk_texts.specs.declared.command.Command.{Command}
@@ -34,11 +35,11 @@ changed = image 14 15 15 (c ∷ []) []
 abbrev pub list_c : Command
 list_c = command.ListCertificate (record { tbs = c; body = codes "30053003020101" })
 
--- takes C off
+-- takes C off the list
 abbrev pub unlist_c : Command
 unlist_c = command.Unlist (record { kind = kinds.Certificate; digest = c })
 
--- after the reviews the signed file comes back
+-- after the reviews the signed file is returned
 abbrev pub returned : List Step
 returned =
     refused (by (codes "sid") (codes "sid-1") (give_back 1 signed)) refusals.NotListed
@@ -51,7 +52,7 @@ returned =
     ∷ refused (by (codes "ann") (codes "ann-4") (command.Withdraw 2)) refusals.NoSuchRequest
     ∷ []
 
--- then C is revoked, and taken off
+-- then C is revoked, and taken off the list
 abbrev pub revoked : List Step
 revoked =
     otto_added
@@ -78,11 +79,11 @@ after_revocation =
     ∷ item otto
     ∷ after_return
 
--- after C was taken off
+-- after C was taken off the list
 abbrev pub after_unlisting : History
 after_unlisting = item (by (codes "olga") (codes "olga-5") unlist_c) ∷ after_revocation
 
--- each call is answered so
+-- each call has this answer
 abbrev pub AnswersReturns : Type 0
 AnswersReturns = answers reviews.history (calls_of (returned ++ revoked)) ≡ answers_of (returned ++ revoked)
 
@@ -96,7 +97,7 @@ KeepsReturns =
 abbrev day : Tables
 day = tables (codes "owner") after_return
 
--- the rows after the return, and after C was taken off
+-- the rows after the return, and after C was taken off the list
 abbrev pub TablesReturns : Type 0
 TablesReturns =
     (map (λ r. r.state) day.requests ≡ states.Rejected ∷ states.Signed ∷ [])
@@ -105,7 +106,7 @@ TablesReturns =
     × ((tables (codes "owner") after_unlisting).listed ≡ [])
     × ((tables (codes "owner") after_unlisting).revoked_certificates ≡ c ∷ [])
 
--- the verdicts on the images: before the revocation, after it, and after C was taken off
+-- the verdicts on the images: before the revocation, after it, and after C was taken off the list
 abbrev pub SaysReturns : Type 0
 SaysReturns =
     (verdict after_return signed ≡ says.Allowed)
@@ -113,7 +114,7 @@ SaysReturns =
     × (verdict after_revocation signed ≡ says.DbxCertificate)
     × (verdict after_unlisting signed ≡ says.DbxCertificate)
 
--- the digest of A is revoked before the signed file comes back
+-- the digest of A is revoked before the signed file is returned
 abbrev pub barred : List Step
 barred =
     otto_added
@@ -123,7 +124,7 @@ barred =
     ∷ refused (by (codes "sid") (codes "sid-1") (give_back 1 signed)) refusals.Revoked
     ∷ []
 
--- then the file isn't taken, and the request stays approved
+-- then the file is refused, and the request stays approved
 abbrev pub BarsReturns : Type 0
 BarsReturns =
     (answers reviews.history (calls_of barred) ≡ answers_of barred)
@@ -154,7 +155,7 @@ approved =
 abbrev taking : Facts → List Step
 taking x = approved ++ accepted (by (codes "sid") (codes "sid-1") (give_back 3 x)) (replies.Returned 3) ∷ []
 
--- either signed file is taken
+-- either signed file is accepted
 abbrev pub TakesEither : Type 0
 TakesEither =
     (answers reviews.history (calls_of (taking signed_unpadded)) ≡ answers_of (taking signed_unpadded))

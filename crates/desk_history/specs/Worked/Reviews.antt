@@ -14,7 +14,7 @@ use Rattle.desk_history.specs.Worked.{Step, accepted, answers_of, by, calls_of, 
 abbrev pub a : Facts
 a = image 10 11 11 [] []
 
--- the calls of a day of reviews, and their answers
+-- the calls of a day of reviews, with their answers
 abbrev pub steps : List Step
 steps = with_people (
     accepted (by (codes "ann") (codes "ann-1") (submit a)) (replies.Submitted 1)
@@ -44,7 +44,7 @@ history =
 abbrev day : Tables
 day = tables (codes "owner") history
 
--- each call of the day is answered so
+-- each call of the day has this answer
 abbrev pub AnswersReviews : Type 0
 AnswersReviews = answers [] (calls_of steps) ≡ answers_of steps
 

@@ -9,7 +9,7 @@ use Rattle.desk_history.specs.Shown.{Whole, request_for, requests_for}
 use Rattle.desk_history.specs.Worked.Returns.{after_return, signed}
 use Rattle.desk_history.specs.Worked.Reviews.{a}
 
--- ann's request, and the newest vote on it first
+-- ann's request, its newest vote first
 abbrev pub first : Whole
 first = record {
   request = record { number = 1; submitter = codes "ann"; title = codes "shim 15.8"; facts = a };
@@ -30,11 +30,11 @@ second = record {
   returned = None;
 }
 
--- a person who asks
+-- a person as the reader
 abbrev asks : List ℕ → Caller
 asks name = callers.Person name
 
--- ann asks for another's request, and for one that isn't there: she is told the same
+-- ann reads another's request and one that doesn't exist: she gets the same answer
 abbrev pub TellsRequests : Type 0
 TellsRequests =
     (request_for after_return (asks (codes "ann")) 1 ≡ Ok first)
@@ -46,7 +46,7 @@ TellsRequests =
     × (request_for after_return (asks (codes "eve")) 1 ≡ Err refusals.UnknownCaller)
     × (request_for after_return callers.Console 1 ≡ Err refusals.NotYourRole)
 
--- and all at once
+-- and all of them
 abbrev pub TellsAll : Type 0
 TellsAll =
     (requests_for after_return (asks (codes "ann")) ≡ Ok (first ∷ []))

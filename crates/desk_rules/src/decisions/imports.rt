@@ -1,4 +1,4 @@
-//! Entries that an import names, put into force.
+//! The entries of an import, put into force.
 ghost use Rattle.std.specs.Prelude.{◌≡◌, ◌+◌, ◌<◌, ◌≤◌, ◌^◌, ◌||◌, ◌++◌, ◌∷◌, [], ℕ, List, IfErr, IfOk, IsTrue, OnOk, bytes_eq, false, if◌then◌else◌, map, not, reverse, true};
 ghost use Rattle.std.specs.FinMap.{get};
 ghost use Rattle.sbat.specs.declared.component.Component.{Component as ComponentValue};
@@ -22,7 +22,7 @@ use sbat::{Component, ComponentName, Generation, Level, Stamp};
 use std::alloc::{AllocError, Global};
 use std::collections::BTreeSet;
 
-/// Puts the digest to the known ones, and says whether it is new.
+/// Adds the digest to the known ones, and returns whether it is new.
 fn note(known: &mut BTreeSet<Digest>, digest: Digest) -> Result<bool, Refusal>
     ensures ok { IfOk result (λ is_new. is_new ≡ not (is_among known.old.keys digest)) }
     ensures known { OnOk result ((q : List ℕ) → is_among known.new.keys q
@@ -48,7 +48,7 @@ fn set_of(alloc: Global, digests: &[Digest]) -> Result<BTreeSet<Digest>, Refusal
     Ok(known)
 }
 
-/// Puts the digest to the new ones, where it isn't known.
+/// Adds the digest to the new ones, unless it is known.
 fn take_digest(
     known: &mut BTreeSet<Digest>,
     new: &mut Vec<Digest>,
@@ -68,7 +68,7 @@ fn take_digest(
     Ok(())
 }
 
-/// The named digests that have no row yet, each once, in their order. Costs the time of sorting both.
+/// The named digests without a row, each once, in order. The time is that of sorting both.
 fn new_digests(alloc: Global, rows: &[Digest], named: &[Digest]) -> Result<Vec<Digest>, Refusal>
     ensures ok { IfOk result (λ new. spec.AreNew rows.now named.now new.items) }
     ensures err { IfErr result (λ refusal. refusal ≡ Refusal.NoMemory) }
@@ -81,7 +81,7 @@ fn new_digests(alloc: Global, rows: &[Digest], named: &[Digest]) -> Result<Vec<D
     Ok(new)
 }
 
-/// Gives the row's name its generation in the level, where it has none.
+/// Gives the row's name its generation in the level, unless it has one.
 fn take_row(level: &mut Level, row: &Component) -> Result<(), Refusal>
     ensures ok { OnOk result ((q : List ℕ) → sbat_name q ≡ false → get level.new.generations q
         ≡ spec.or_else (get level.old.generations q) (generation_in (row.now ∷ []) q)) }
@@ -97,7 +97,7 @@ fn take_row(level: &mut Level, row: &Component) -> Result<(), Refusal>
     Ok(())
 }
 
-/// The level that the rows give, with any stamp.
+/// The level of the rows, with any stamp.
 fn level_of(alloc: Global, stamp: Stamp, rows: &[Component]) -> Result<Level, Refusal>
     ensures ok { IfOk result (λ level. spec.HasRows level.generations rows.now) }
     ensures err { IfErr result (λ refusal. refusal ≡ Refusal.NoMemory) }
@@ -139,7 +139,7 @@ fn rose(now: Option<Generation>, before: Option<Generation>) -> bool
     }
 }
 
-/// True if the name's generation rose so far.
+/// True if the name's generation has risen so far.
 fn has_risen(before: &Level, so_far: &SoFar, name: &ComponentName) -> bool
     ensures { result ≡ spec.rose (get so_far.now.level.generations name.now)
         (get before.now.generations name.now) }
@@ -150,7 +150,7 @@ fn has_risen(before: &Level, so_far: &SoFar, name: &ComponentName) -> bool
     )
 }
 
-/// Takes one component in.
+/// Adds the changes of one component.
 fn take_in(before: &Level, component: &Component, so_far: &mut SoFar) -> Result<(), Refusal>
     requires other { sbat_name component.now.name ≡ false }
     requires room { so_far.old.names + 1 < 2 ^ 64 }
@@ -173,7 +173,8 @@ fn take_in(before: &Level, component: &Component, so_far: &mut SoFar) -> Result<
     Ok(())
 }
 
-/// The changes that the components make to a level that has these rows, one after another. Costs the time of sorting both.
+/// The changes that the components, one after another, make to a level that has these rows. The
+/// time is that of sorting both.
 fn take_all(
     alloc: Global,
     stamp: Stamp,
@@ -208,7 +209,7 @@ pub(crate) fn taken(alloc: Global, view: &View, named: &Import) -> Result<SoFar,
     take_all(alloc, view.stamp, &view.lists.components, components)
 }
 
-/// Writes the revoked digests of this kind, after others.
+/// Appends the writes that revoke these digests of this kind.
 fn put_revoked(writes: &mut Vec<Write>, kind: ListedKind, digests: &[Digest]) -> Result<(), Refusal>
     ensures ok { OnOk result (writes.new.items
         ≡ writes.old.items ++ revocation_writes kind digests.now) }
@@ -221,7 +222,7 @@ fn put_revoked(writes: &mut Vec<Write>, kind: ListedKind, digests: &[Digest]) ->
     Ok(())
 }
 
-/// Writes the stamp, where names were raised, after others.
+/// Appends the write of the stamp, if names were raised.
 fn put_stamp(writes: &mut Vec<Write>, names: u64, stamp: Option<Stamp>) -> Result<(), Refusal>
     ensures ok { OnOk result (writes.new.items
         ≡ writes.old.items ++ spec.stamp_writes names stamp) }
@@ -236,7 +237,7 @@ fn put_stamp(writes: &mut Vec<Write>, names: u64, stamp: Option<Stamp>) -> Resul
     Ok(())
 }
 
-/// Puts into force what the proposal names, of which the components make this.
+/// Puts the proposal's entries into force. `so_far` is the changes that its components make.
 pub(crate) fn enforce(
     alloc: Global,
     view: &View,

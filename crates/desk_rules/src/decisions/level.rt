@@ -5,7 +5,7 @@ ghost use Rattle.desk_rules.specs.DecisionSteps.{put_of};
 use desk_history::Write;
 use sbat::{Component, Generation};
 
-/// The write of the component, whose present generation is this.
+/// The write of the component, whose current generation is this.
 pub(crate) fn put(present: Option<Generation>, component: Component) -> Write
     ensures { result ≡ put_of present component }
 {

@@ -52,7 +52,7 @@ pub(crate) fn list_certificate(
     one(alloc, Reply::Listed, Write::List(entry))
 }
 
-/// Takes the entry off.
+/// Takes the entry off the list.
 pub(crate) fn unlist(alloc: Global, view: &View, listing: Listing) -> Result<Changes, Refusal>
     ensures { Decided result
         (refuse_if (not ((seen_standing view.now.lists).listed listing.kind listing.digest)) Refusal.NotThere)

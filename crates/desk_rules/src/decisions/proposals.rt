@@ -40,7 +40,7 @@ fn number_after(proposals: u64) -> Option<ProposalNumber>
     ProposalNumber::new(proposals + 1)
 }
 
-/// The import of these: no more than one entry, which isn't `sbat`.
+/// The import of these: at most one entry, which isn't `sbat`.
 fn entry_of(
     stamp: Option<Stamp>,
     digests: Vec<Digest>,
@@ -98,7 +98,8 @@ impl View {
         components.iter().any(|component| self.is_lower(component))
     }
 
-    /// The refusal to put what is named into force, by its kind and by the count of names that it raises.
+    /// The refusal to put the named entries into force, by their kind and by the count of names
+    /// that they raise.
     fn force_refusal(&self, kind: ProposalKind, named: &Import, names: u64) -> Option<Refusal>
         ensures { result ≡ spec.force_refusal_in self.now kind named.now names }
     {
@@ -138,7 +139,8 @@ impl View {
     }
 }
 
-/// Proposes what is named as the proposal of this number, by the count of names that it raises.
+/// Proposes the named entries as the proposal of this number. `names` is the count of names that
+/// they raise.
 fn propose_as(
     alloc: Global,
     view: &View,
@@ -159,7 +161,7 @@ fn propose_as(
     one(alloc, Reply::Proposed(number), Write::Propose(row))
 }
 
-/// Proposes what is named as the next proposal.
+/// Proposes the named entries as the next proposal.
 fn propose(
     alloc: Global,
     view: &View,
@@ -250,8 +252,8 @@ pub(crate) fn propose_import(
     propose(alloc, view, caller, ProposalKind::Import, named)
 }
 
-/// Puts into force what the proposal names, which is looked at only where the proposal is open and not the caller's
-/// own.
+/// Puts the proposal's entries into force. They are read only if the proposal is open and not the
+/// caller's own.
 pub(crate) fn confirm(
     alloc: Global,
     view: &View,

@@ -23,7 +23,8 @@ fn is_yes(vote: &VoteRow) -> bool
     matches!(vote.vote, Vote::Yes)
 }
 
-/// The state of an open request after the vote, by whether a vote before it was a no and how many were yes.
+/// The state of an open request after the vote, for whether an earlier vote was a no, and how many
+/// were a yes.
 fn state_with(vote: Vote, has_no: bool, yes: usize) -> State
     ensures { result ≡ spec.state_with vote has_no yes }
 {
@@ -135,7 +136,7 @@ impl View {
     }
 }
 
-/// Takes the caller's vote on a request.
+/// Records the caller's vote on a request.
 pub(crate) fn review(
     alloc: Global,
     view: &View,
@@ -185,7 +186,7 @@ pub(crate) fn withdraw(
     )
 }
 
-/// Takes the signed file of a request.
+/// Accepts the signed file of a request.
 pub(crate) fn return_file(
     alloc: Global,
     view: &View,

@@ -58,7 +58,7 @@ fn put_components(
     Ok(())
 }
 
-/// Takes the submission as the request of this number.
+/// Accepts the submission as the request of this number.
 pub(crate) fn submit(
     alloc: Global,
     view: &View,

@@ -1,4 +1,4 @@
--- Faults of an import as rows of the table of refusals.
+-- The refusal of each fault of an import.
 use Rattle.std.specs.Prelude.{ℕ, Option, Some, None}
 use Rattle.desk_bytes.specs.declared.refusal.Refusal.{Refusal}
 use Rattle.desk_bytes.specs.declared.refusal.Refusal.TheVariants as refusal

@@ -17,8 +17,9 @@ use Rattle.desk_service.specs.declared.imports.fault.ImportFault.TheVariants as 
 abbrev pub Record : Type 0
 Record = List (List ℕ)
 
--- the records of the file, its header first: parted by commas and ends of lines, with double quotes. own: the mark
--- EF BB BF at its beginning is dropped, and empty lines are no records
+-- the records of the file, its header first: separated by commas and ends of lines, with double
+-- quotes. own: the byte order mark EF BB BF at its beginning is dropped, and empty lines aren't
+-- records
 abbrev pub records_of : List ℕ → List Record
 records_of text = records default_config (strip_bom text)
 
@@ -32,8 +33,8 @@ is_header _ = false
 abbrev pub digest_at : List ℕ → List ℕ → Option (List ℕ)
 digest_at value generation = if length generation == 0 then digest_of value else None
 
--- own: the entry that a record is by its fields: `sha256` is a digest of an image, `x509_sha256` the SHA-256 of a TBSCertificate,
--- `sbat` a component's name, other than `sbat`, with its generation
+-- own: the entry of three fields: `sha256` is a digest of an image, `x509_sha256` the SHA-256 of a
+-- TBSCertificate, `sbat` a component's name, other than `sbat`, with its generation
 unfoldable pub fields_item : List ℕ → List ℕ → List ℕ → Option Item
 fields_item kind value generation =
     if bytes_eq kind (codes "sha256") then option_map item.Digest (digest_at value generation)
@@ -46,12 +47,12 @@ abbrev pub record_item : Record → Option Item
 record_item (kind ∷ value ∷ generation ∷ []) = fields_item kind value generation
 record_item _ = None
 
--- the entries that records are, numbered from n, or the number of the first record that is none
+-- the entries of the records, numbered from n, or the number of the first wrong record
 abbrev pub items_from : ℕ → List Record → Result (List Item) ℕ
 items_from n [] = Ok []
 items_from n (r ∷ rs) = named_at n (record_item r) (items_from (n + 1) rs)
 
--- own: the entries of a file behind its header; the header is record 0, and has to be there
+-- own: the entries of a file after its header, which is record 0 and must be there
 abbrev pub items_in : List Record → Result (List Item) ℕ
 items_in [] = Err 0
 items_in (r ∷ rs) = if is_header r then items_from 1 rs else Err 0
@@ -62,8 +63,8 @@ pub record IsCsvImport (text : List ℕ) (stamp : Option ℕ) (command : Command
   pub read : items_in (records_of text) ≡ Ok items
   pub is : IsCommandOf stamp items command
 
--- own: the entries read of a file, or the number of its first wrong record, are refused for this; TooLong only where no
--- record is wrong
+-- own: why a file is refused: the number of its first wrong record, or TooLong, only if no record
+-- is wrong
 abbrev pub IsRefused : Result (List Item) ℕ → ImportFault → Type 0
 IsRefused read (fault.Lists why) = ⊥
 IsRefused read (fault.Record number) = read ≡ Err number

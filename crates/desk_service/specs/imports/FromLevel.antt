@@ -19,13 +19,14 @@ name_item entry = item.Component (record { name = entry.0; generation = entry.1 
 abbrev pub level_items : Stamped → List Item
 level_items level = map name_item (entries level.generations)
 
--- the text is that of a level, and the command names all that the level names, with its stamp
+-- the text is that of a level, and the command has all of the level's names, and its stamp
 pub record IsLevelImport (text : List ℕ) (command : Command) : Type 0 where
   pub level : Stamped
   pub read : IsLevelOf text level
   pub is : IsCommandOf (Some level.stamp) (level_items level) command
 
--- own: the text is refused for this; TooLong, for more different names than the limit, only where no line is wrong
+-- own: the text is refused for this; TooLong, for more different names than the limit, only if no
+-- line is wrong
 abbrev pub RefusesLevelImport : List ℕ → ImportFault → Type 0
 RefusesLevelImport text (fault.Lists why) = ⊥
 RefusesLevelImport text (fault.Record number) = ⊥

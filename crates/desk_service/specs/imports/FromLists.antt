@@ -16,28 +16,29 @@ use Rattle.desk_service.specs.declared.imports.item.Item.TheVariants as item
 use Rattle.desk_service.specs.declared.imports.fault.ImportFault.{ImportFault}
 use Rattle.desk_service.specs.declared.imports.fault.ImportFault.TheVariants as fault
 
--- the element that begins a certificate's content, which is its TBSCertificate where it is a SEQUENCE
+-- the first element of a certificate's content, which is its TBSCertificate if it is a SEQUENCE
 abbrev pub first_in : Option Part → Option (List ℕ)
 first_in None = None
 first_in (Some part) = if part.tag == sequence then Some part.whole else None
 
--- the same of an element that has to be a certificate and all of the bytes
+-- the same for an element that must be a certificate and all of the bytes
 abbrev pub tbs_in : Option Part → Option (List ℕ)
 tbs_in None = None
 tbs_in (Some part) =
     if (part.tag == sequence) && (length part.rest == 0) then first_in (element_of part.content) else None
 
--- the TBSCertificate of the certificate that the bytes are (RFC 5280, 4.1), or none
+-- the TBSCertificate of a certificate (RFC 5280, 4.1), or none if the bytes aren't one
 unfoldable pub tbs_of : List ℕ → Option (List ℕ)
 tbs_of bytes = tbs_in (element_of bytes)
 
--- own: a certificate is known by the SHA-256 of its TBSCertificate; a body that is none is passed over
+-- own: a certificate is identified by the SHA-256 of its TBSCertificate; a body that isn't a
+-- certificate is skipped
 abbrev pub certificate_item : Option (List ℕ) → Item
 certificate_item None = item.Passed
 certificate_item (Some tbs) = item.Certificate (sha256 tbs)
 
--- own: the entry of a list of this kind, as the desk takes it: of EFI_CERT_X509_SHA256_GUID the digest counts, not the time of
--- revocation after it; entries of other kinds are passed over
+-- own: the entry of a list of this kind, as an entry of an import: of EFI_CERT_X509_SHA256_GUID the
+-- digest counts, not the time of revocation after it; entries of other kinds are skipped
 abbrev pub item_of : Kind → Entry → Item
 item_of kind.Sha256 entry = item.Digest entry.body
 item_of kind.X509 entry = certificate_item (tbs_of entry.body)
@@ -64,7 +65,7 @@ pub record HasManyEntries (bytes : List ℕ) : Type 0 where
   pub spelt : Spells row bytes
   pub many : IsTooMany (row_items row)
 
--- own: the bytes are refused for this; TooLong only where they are lists
+-- own: the bytes are refused for this; TooLong only if they are lists
 abbrev pub RefusesDbx : List ℕ → ImportFault → Type 0
 RefusesDbx bytes (fault.Lists why) = lists.IsRefused bytes why
 RefusesDbx bytes (fault.Record number) = ⊥

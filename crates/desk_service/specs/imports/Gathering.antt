@@ -7,7 +7,7 @@ use Rattle.desk_service.specs.imports.Items.{named_by}
 use Rattle.desk_service.specs.declared.imports.item.Item.{Item}
 use Rattle.desk_service.specs.declared.imports.item.Item.TheVariants as item
 
--- how many entries were gathered, and what they name
+-- how many entries were gathered, and the import of them
 pub record Gathering : Type 0 where
   pub count : ℕ
   pub names : Imported
@@ -19,8 +19,8 @@ is_free (item.Certificate digest) = true
 is_free (item.Component component) = not (bytes_eq component.name sbat)
 is_free item.Passed = true
 
--- these entries, gathered: their count, up to one more than the limit, and what they name unless the limit
--- is passed
+-- these entries, gathered: their count, up to one more than the limit, and the import of them
+-- unless the limit is passed
 pub record Gathers (items : List Item) (g : Gathering) : Type 0 where
   pub count : g.count ≡ min (length items) (most_imported + 1)
   pub named : g.count ≤ most_imported → g.names ≡ named_by None items

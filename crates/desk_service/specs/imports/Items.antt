@@ -9,35 +9,36 @@ use Rattle.desk_texts.specs.declared.command.Command.TheVariants.{ImportRevocati
 use Rattle.desk_service.specs.declared.imports.item.Item.{Item}
 use Rattle.desk_service.specs.declared.imports.item.Item.TheVariants as item
 
--- the digest of an image that an entry is, or none
+-- the digest of an image, if the entry is one
 abbrev pub digest_in : Item → List (List ℕ)
 digest_in (item.Digest digest) = digest ∷ []
 digest_in (item.Certificate digest) = []
 digest_in (item.Component component) = []
 digest_in item.Passed = []
 
--- the digest of a certificate that an entry is, or none
+-- the digest of a certificate, if the entry is one
 abbrev pub certificate_in : Item → List (List ℕ)
 certificate_in (item.Digest digest) = []
 certificate_in (item.Certificate digest) = digest ∷ []
 certificate_in (item.Component component) = []
 certificate_in item.Passed = []
 
--- the component that an entry is, or none
+-- the component, if the entry is one
 abbrev pub component_in : Item → List Component
 component_in (item.Digest digest) = []
 component_in (item.Certificate digest) = []
 component_in (item.Component component) = component ∷ []
 component_in item.Passed = []
 
--- an entry that is passed over
+-- a skipped entry
 abbrev pub is_passed : Item → Bool
 is_passed (item.Digest digest) = false
 is_passed (item.Certificate digest) = false
 is_passed (item.Component component) = false
 is_passed item.Passed = true
 
--- own: the import that entries make: those of each kind in their order, repeats kept, and how many are passed over
+-- own: the import of these entries: those of each kind in order, repeats kept, and how many are
+-- skipped
 abbrev pub named_by : Option ℕ → List Item → Imported
 named_by stamp items = record {
   stamp = stamp;
@@ -51,7 +52,7 @@ named_by stamp items = record {
 abbrev pub command_of : Option ℕ → List Item → Command
 command_of stamp items = ImportRevocations (named_by stamp items)
 
--- own: entries passed over count too, and each repeat
+-- own: skipped entries count too, and so does each repeat
 abbrev pub IsTooMany : List Item → Type 0
 IsTooMany items = most_imported < length items
 

@@ -25,7 +25,8 @@ pub(crate) enum Next {
     NoMemory,
 }
 
-/// Reads the next record into `row`. Reading a slice never fails, so an error means that memory was refused.
+/// Reads the next record into `row`. Reading a slice never fails, so an error means that memory was
+/// refused.
 pub(crate) fn read_next(reader: &mut Reader<&[u8]>, row: &mut ByteRecord) -> Next
     ensures { (rows : List Record) → Leaves (λ s. Some s.now) reader.old rows
         → Reads (λ s. Some s.now) result (fields_of row.new) rows reader.new }

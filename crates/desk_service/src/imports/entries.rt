@@ -1,4 +1,4 @@
-//! Entries of signature lists, as the desk takes them.
+//! Entries of signature lists, as entries of an import.
 ghost use Rattle.std.specs.Prelude.{◌≡◌, ◌≤◌, length, take, true};
 ghost use Rattle.siglist.specs.EntryViews.{seen_entry};
 ghost use Rattle.desk_service.specs.imports.Entries as spec;
@@ -21,8 +21,8 @@ fn first_digest(bytes: &[u8]) -> Digest
     Digest::from(digest)
 }
 
-/// The SHA-256 of the TBSCertificate of the certificate that the bytes are, or nothing of other
-/// bytes.
+/// The SHA-256 of the TBSCertificate of a certificate, if the bytes are one; otherwise the entry is
+/// skipped.
 fn certificate_item(bytes: &[u8]) -> Item
     ensures { result ≡ items.certificate_item (items.tbs_of bytes.now) }
 {
@@ -32,7 +32,7 @@ fn certificate_item(bytes: &[u8]) -> Item
     }
 }
 
-/// The entry of a list of this kind, as the desk takes it.
+/// The entry of a list of this kind, as an entry of an import.
 pub(crate) fn item_of(kind: &Kind, entry: &Entry<'_>) -> Item
     requires { spec.Suits kind.now (seen_entry entry.now) }
     ensures value { result ≡ items.item_of kind.now (seen_entry entry.now) }

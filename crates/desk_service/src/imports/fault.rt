@@ -6,19 +6,19 @@ use desk_bytes::Refusal;
 use siglist::ListsFault;
 use thiserror::Error;
 
-/// The reason why an import was refused.
+/// Why an import was refused.
 #[derive(Clone, Copy, Debug, PartialEq, Eq, Error)]
 pub enum ImportFault {
-    /// The bytes are no row of signature lists.
+    /// The bytes aren't a row of signature lists.
     #[error("{0}")]
     Lists(ListsFault),
     /// The number of the first wrong record of a CSV file; the header's is 0.
     #[error("record {0} of the CSV file is wrong")]
     Record(u64),
-    /// The number of the first wrong line of a level's text, from 1; of a text without a line, 1.
+    /// The number of the first wrong line of a level's text, from 1; for a text without lines, 1.
     #[error("line {0} of the level is wrong")]
     Line(u64),
-    /// There are more than 10,000 entries, with those that are passed over.
+    /// There are more than 10,000 entries, including those that are skipped.
     #[error("there are more than 10,000 entries")]
     TooLong,
     /// Memory was refused.
@@ -40,7 +40,7 @@ impl ImportFault {
         }
     }
 
-    /// The offset of the list, or the number of the record or the line, that was refused.
+    /// The offset of the refused list, or the number of the refused record or line.
     pub fn place(self) -> Option<u64>
         ensures { result ≡ place_of self }
     {

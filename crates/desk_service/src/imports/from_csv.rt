@@ -1,4 +1,4 @@
-//! CSV files imported.
+//! Imports of CSV files.
 ghost use Rattle.std.specs.Prelude.{◌≡◌, List, IfErr, IfOk, Some};
 ghost use Rattle.desk_service.specs.imports.FromCsv.{IsCsvImport, IsRefused, Record, RefusesCsv, items_in};
 ghost use Rattle.desk_service.specs.imports.Records.{GathersRecords, Leaves, PassesHeader};
@@ -31,7 +31,7 @@ fn read_header(reader: &mut Reader<&[u8]>, row: &mut ByteRecord) -> Result<(), I
     Ok(())
 }
 
-/// Gathers the records that the reader has left, of which the first is the header.
+/// Gathers the records that the reader has left; the first is the header.
 fn gather(alloc: Global, reader: &mut Reader<&[u8]>) -> Result<Gathered, ImportFault>
     ensures ok { IfOk result (λ gathered. (rows : List Record)
         → Leaves (λ s. Some s.now) reader.old rows → GathersRecords rows gathered) }
@@ -63,18 +63,18 @@ fn gather(alloc: Global, reader: &mut Reader<&[u8]>) -> Result<Gathered, ImportF
     Err(ImportFault::NoMemory)
 }
 
-/// The import of a CSV file, which is one command with this stamp or none. The file is read with
-/// the defaults of the crate `csv`: commas, double quotes, any of CR, LF and CRLF at a line's end;
-/// empty lines are no records, and a mark EF BB BF at its beginning is dropped.
+/// The import of a CSV file, as one command with this stamp or none. The file is read with the
+/// defaults of the crate `csv`: commas, double quotes, and any of CR, LF and CRLF at a line's end;
+/// empty lines aren't records, and a byte order mark EF BB BF at the beginning is dropped.
 ///
-/// Its header is `kind,value,generation`. Each record has three fields: `sha256` or `x509_sha256`,
-/// 64 hexadecimal digits of either case and no generation revoke a digest of an image or the
-/// certificate with that SHA-256 of its TBSCertificate; `sbat`, a component's name other than
-/// `sbat` and a generation raise a level. The file is read record by record; takes memory for
-/// 10,001 entries at most, and for the longest record.
+/// The header is `kind,value,generation`. Each record has three fields. `sha256` or `x509_sha256`,
+/// 64 hexadecimal digits of either case and no generation revoke a digest of an image, or the
+/// certificate whose TBSCertificate has that SHA-256. `sbat`, a component's name other than `sbat`
+/// and a generation raise the level. The file is read record by record; takes memory for at most
+/// 10,001 entries, and for the longest record.
 ///
-/// The first wrong record is answered as Record with its number; the header, which has to be there,
-/// is 0. TooLong, for more than 10,000 entries, comes only where no record is wrong.
+/// The first wrong record is returned as Record with its number; a missing or wrong header is
+/// record 0. TooLong, for more than 10,000 entries, comes only if no record is wrong.
 pub fn import_csv(alloc: Global, text: &[u8], stamp: Option<Stamp>) -> Result<Command, ImportFault>
     ensures exact { IfOk result (IsCsvImport text.now stamp) }
 

@@ -1,4 +1,4 @@
-//! SBAT levels imported.
+//! Imports of SBAT levels.
 ghost use Rattle.std.specs.Prelude.{◌≡◌, IfErr, IfOk, IfSome, MatchResult, true};
 ghost use Rattle.sbat.specs.Fields.{is_name};
 ghost use Rattle.desk_service.specs.imports.FromLevel.{IsLevelImport, RefusesLevelImport, level_items};
@@ -22,7 +22,7 @@ fn component_of(alloc: Global, name: &str, generation: Generation) -> Result<Com
     Ok(Component { name, generation })
 }
 
-/// Gathers the names of a level, or nothing where memory was refused.
+/// Gathers the names of a level, or returns `None` if memory is refused.
 fn gather(alloc: Global, level: &Level) -> Option<Gathered>
     ensures { IfSome result (Gathers (level_items level.now)) }
 {
@@ -38,13 +38,12 @@ fn gather(alloc: Global, level: &Level) -> Option<Gathered>
     Some(gathered)
 }
 
-/// The import of the text of an SBAT level (shim's SBAT.md), which is one command with the level's
-/// stamp. It names the level's names ascending by their bytes, each once with its greatest
-/// generation. The text is read as `sbat::read_level` reads it. Takes memory for 10,001 names at
-/// most, twice.
+/// The import of the text of an SBAT level (shim's SBAT.md), as one command with the level's stamp.
+/// It has the level's names ascending by their bytes, each once with its greatest generation. The
+/// text is read as `sbat::read_level` does. Takes memory for at most 10,001 names, twice.
 ///
-/// The first wrong line is answered as Line with its number, line 1 where there is none at all.
-/// TooLong, for more than 10,000 different names, comes only where no line is wrong.
+/// The first wrong line is returned as Line with its number, which is 1 if there is no line.
+/// TooLong, for more than 10,000 different names, comes only if no line is wrong.
 pub fn import_level(alloc: Global, text: &[u8]) -> Result<Command, ImportFault>
     ensures exact { IfOk result (IsLevelImport text.now) }
 

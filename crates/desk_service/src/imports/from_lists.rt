@@ -1,4 +1,4 @@
-//! Signature lists imported.
+//! Imports of signature lists.
 ghost use Rattle.std.specs.Prelude.{◌≡◌, ◌++◌, List, IfErr, IfOk, OnOk};
 ghost use Rattle.siglist.specs.SignatureLists.{IsList, Placed};
 ghost use Rattle.desk_service.specs.imports.FromLists.{IsDbxImport, RefusesDbx, list_items};
@@ -25,15 +25,15 @@ fn keep_list(gathered: &mut Gathered, list: &SignatureList<'_>) -> Result<(), Al
     Ok(())
 }
 
-/// The import of the signature lists that the bytes are (UEFI 2.10, section 32.4.1), which is one
-/// command without a stamp. An entry of a list of EFI_CERT_SHA256_GUID revokes a digest of an
-/// image; one of EFI_CERT_X509_SHA256_GUID the certificate with that SHA-256 of its TBSCertificate,
-/// at any time; one of EFI_CERT_X509_GUID the certificate that its body is. All other entries, and
-/// bodies that are no certificate, are passed over and counted. Takes memory for 10,001 entries at
-/// most.
+/// The import of the signature lists that the bytes spell (UEFI 2.10, section 32.4.1), as one
+/// command without a stamp. An entry of an EFI_CERT_SHA256_GUID list revokes a digest of an image;
+/// of an EFI_CERT_X509_SHA256_GUID list, the certificate whose TBSCertificate has that SHA-256,
+/// whatever the time; of an EFI_CERT_X509_GUID list, the certificate in its body. All other
+/// entries, and bodies that aren't a certificate, are skipped and counted. Takes memory for at most
+/// 10,001 entries.
 ///
-/// Bytes that are no row of lists are refused as Lists, with the offset of the first list that is
-/// wrong. TooLong, for more than 10,000 entries, comes only where all lists are right.
+/// Bytes that aren't a row of lists are refused as Lists, with the offset of the first wrong list.
+/// TooLong, for more than 10,000 entries, comes only if all lists are right.
 pub fn import_dbx(alloc: Global, bytes: &[u8]) -> Result<Command, ImportFault>
     ensures exact { IfOk result (IsDbxImport bytes.now) }
 

@@ -13,8 +13,8 @@ use sbat::{Component, Stamp};
 use std::alloc::{AllocError, Global};
 use std::marker::Model;
 
-/// The entries of an import, one more than the limit at most. A contract sees their count and what
-/// they name.
+/// The entries of an import, at most one more than the limit. A contract sees their count and the
+/// import of them.
 #[derive(Debug, Drop)]
 pub(crate) struct Gathered {
     count: usize,
@@ -60,7 +60,7 @@ impl Gathered {
         }
     }
 
-    /// Gathers one more entry, and none where the limit is passed already.
+    /// Gathers one more entry, or none if the limit is passed already.
     pub(crate) fn keep(&mut self, item: Item) -> Result<(), AllocError>
         requires other { is_free item ≡ true }
         ensures ok { OnOk result ((items : List Item)
@@ -79,7 +79,7 @@ impl Gathered {
         Ok(())
     }
 
-    /// The command that names all entries, or `None` where they are more than the limit.
+    /// The command that names all entries, or `None` if they are more than the limit.
     pub(crate) fn into_command(self, stamp: Option<Stamp>) -> Option<Command>
         ensures { (items : List Item) → Gathers items self
             → MatchOption result (IsTooMany items) (IsCommandOf stamp items) }

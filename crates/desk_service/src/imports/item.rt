@@ -2,7 +2,7 @@
 use desk_bytes::Digest;
 use sbat::Component;
 
-/// One entry of an import, as the desk takes it.
+/// One entry of an import.
 #[derive(Debug, Drop)]
 pub(crate) enum Item {
     /// The digest of an image.
@@ -11,6 +11,6 @@ pub(crate) enum Item {
     Certificate(Digest),
     /// A component whose generation is raised.
     Component(Component),
-    /// Nothing that the desk keeps: the entry is counted.
+    /// An entry that the desk skips and only counts.
     Passed,
 }

@@ -6,13 +6,13 @@ ghost use Rattle.desk_service.specs.imports.FromCsv.{IsCsvImport};
 ghost use Rattle.desk_service.specs.imports.FromLevel.{IsLevelImport};
 ghost use Rattle.desk_service.specs.imports.FromLists.{IsDbxImport, tbs_of};
 
-/// `tbs_of` reads the TBSCertificate of each certificate, and nothing of other bytes.
+/// `tbs_of` returns the TBSCertificate of each certificate, and nothing for other bytes.
 pub fn tbs_is_read()
     ensures found { (b t : List ℕ) → tbs_of b ≡ Some t → IsCertificate b t }
     ensures each { (b t : List ℕ) → IsCertificate b t → tbs_of b ≡ Some t }
 {}
 
-/// An input is one import at most.
+/// An input is at most one import.
 pub fn import_is_one()
     ensures dbx { (bytes : List ℕ) (c d : Command)
         → IsDbxImport bytes c → IsDbxImport bytes d → c ≡ d }

@@ -12,7 +12,7 @@ use desk_bytes::Digest;
 use sbat::{Component, ComponentName, Generation, NameFault};
 use std::alloc::Global;
 
-/// The fields of a record, where they are three.
+/// The fields of a record, if there are three.
 fn three_fields(row: &ByteRecord) -> Option<(&[u8], &[u8], &[u8])>
     ensures { MatchOption result (length (fields_of row.now) ≢ 3)
         (λ f. fields_of row.now ≡ f.0.now ∷ f.1.now ∷ f.2.now ∷ []) }
@@ -46,7 +46,7 @@ pub(crate) fn is_header(row: &ByteRecord) -> bool
     }
 }
 
-/// The digest that a value beside no generation spells.
+/// The digest that the value spells, if the generation is empty.
 fn read_digest(value: &[u8], generation: &[u8]) -> Option<Digest>
     ensures { result ≡ spec.digest_at value.now generation.now }
 {
@@ -81,7 +81,7 @@ fn read_component(alloc: Global, name: &[u8], generation: &[u8]) -> Result<Compo
     Ok(Component { name, generation })
 }
 
-/// The entry that three fields are, or Form.
+/// The entry of three fields, or Form.
 #[tactic(auto, unfolding(crate::specs::imports::FromCsv::fields_item))]
 fn read_fields(
     alloc: Global,
@@ -117,7 +117,7 @@ fn read_fields(
     }
 }
 
-/// The entry that a record is, or Form.
+/// The entry of a record, or Form.
 pub(crate) fn read_record(alloc: Global, row: &ByteRecord) -> Result<Item, NameFault>
     ensures ok { IfOk result (λ item. spec.record_item (fields_of row.now) ≡ Some item) }
     ensures other { IfOk result (λ item. is_free item ≡ true) }
