@@ -1,4 +1,4 @@
--- What a desk counts, of its tables and of its history.
+-- The counts of a desk, of its tables and of its history.
 use Rattle.std.specs.Prelude.{◌≡◌, count_by, length}
 use Rattle.desk_texts.specs.declared.kind.ListedKind.TheVariants as kinds
 use Rattle.desk_texts.specs.declared.state.State.TheVariants as states
@@ -35,14 +35,14 @@ pub record CountRevoked (n : KindCounts) (t : Tables) : Type 0 where
   pub digests : n.digests ≡ length t.revoked_digests
   pub certificates : n.certificates ≡ length t.revoked_certificates
 
--- what is listed and revoked, and the level
+-- listed and revoked entries, and the level
 pub record CountLists (n : ListCounts) (t : Tables) : Type 0 where
   pub listed : CountEntries n.listed t
   pub revoked : CountRevoked n.revoked t
   pub components : n.components ≡ length t.components
   pub stamp : n.stamp ≡ t.desk.stamp
 
--- all that a desk counts
+-- all counts of a desk
 pub record CountTables (n : Counts) (t : Tables) : Type 0 where
   pub people : n.people ≡ length t.people
   pub calls : n.calls ≡ length t.calls

@@ -11,7 +11,7 @@ use sqlite::{Alter, Transaction};
 use std::alloc::Global;
 use store_reads::{Counted, ReadFault, count, own_row};
 
-/// How many requests wait for a vote, and for a signature.
+/// How many requests wait for votes, and how many for the signed file.
 #[derive(Clone, Copy)]
 struct Waiting {
     still_open: u64,
@@ -43,7 +43,7 @@ fn count_waiting<S: Alter>(tx: &mut Transaction<'_, S>) -> Result<Waiting, ReadF
     })
 }
 
-/// Counts the requests that wait no more.
+/// Counts the requests that no longer wait.
 fn count_ended<S: Alter>(tx: &mut Transaction<'_, S>) -> Result<Ended, ReadFault>
     ensures same_reference { tx.new.conn.ghost_name ≡ tx.old.conn.ghost_name }
     ensures value { DoesInside S.Store tx.old.conn.now tx.new.conn.now result
@@ -84,7 +84,7 @@ fn count_by_state<S: Alter>(tx: &mut Transaction<'_, S>) -> Result<RequestCounts
     })
 }
 
-/// Counts what is listed.
+/// Counts the listed entries of each kind.
 fn count_entries<S: Alter>(tx: &mut Transaction<'_, S>) -> Result<KindCounts, ReadFault>
     ensures same_reference { tx.new.conn.ghost_name ≡ tx.old.conn.ghost_name }
     ensures value { DoesInside S.Store tx.old.conn.now tx.new.conn.now result
@@ -101,7 +101,7 @@ fn count_entries<S: Alter>(tx: &mut Transaction<'_, S>) -> Result<KindCounts, Re
     })
 }
 
-/// Counts what is revoked.
+/// Counts the revoked entries of each kind.
 fn count_revoked<S: Alter>(tx: &mut Transaction<'_, S>) -> Result<KindCounts, ReadFault>
     ensures same_reference { tx.new.conn.ghost_name ≡ tx.old.conn.ghost_name }
     ensures value { DoesInside S.Store tx.old.conn.now tx.new.conn.now result
@@ -118,7 +118,7 @@ fn count_revoked<S: Alter>(tx: &mut Transaction<'_, S>) -> Result<KindCounts, Re
     })
 }
 
-/// Counts what is listed and revoked, and the level.
+/// Counts the listed and revoked entries, and the level.
 fn count_lists<S: Alter>(
     alloc: Global,
     tx: &mut Transaction<'_, S>,
@@ -142,9 +142,11 @@ fn count_lists<S: Alter>(
     })
 }
 
-/// Counts all that a desk counts: thirteen counts, each of which visits a whole table. Takes memory for the desk's own row.
+/// All counts of a desk: thirteen, each of which visits a whole table. Takes memory for the desk's
+/// own row.
 ///
-/// `Row`: the desk's own row isn't one that a desk writes. `NoMemory`, `Store`: as they say.
+/// `Row`: the desk's own row isn't one that a desk writes. `NoMemory`: memory was refused. `Store`:
+/// the store failed.
 pub fn counts<S: Alter>(alloc: Global, tx: &mut Transaction<'_, S>) -> Result<Counts, ReadFault>
     ensures same_reference { tx.new.conn.ghost_name ≡ tx.old.conn.ghost_name }
     ensures value { DoesInside S.Store tx.old.conn.now tx.new.conn.now result

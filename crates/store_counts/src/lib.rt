@@ -1,4 +1,5 @@
-//! Counts of a desk (people, accepted calls, requests by state, what is listed and revoked), and its report.
+//! Counts of a desk (people, accepted calls, requests by state, listed and revoked entries), and
+//! its report.
 #![tactic(auto)]
 
 mod counting;

@@ -20,7 +20,8 @@ pub struct KindCounts {
     pub certificates: u64,
 }
 
-/// How many entries are listed and revoked, and the level: how many components it names beside `sbat`, and its stamp.
+/// How many entries are listed and revoked, and the level: how many components it names apart from
+/// `sbat`, and its stamp.
 #[derive(Clone, Copy, Debug, PartialEq, Eq)]
 pub struct ListCounts {
     pub listed: KindCounts,
@@ -29,11 +30,11 @@ pub struct ListCounts {
     pub stamp: Stamp,
 }
 
-/// What a desk counts.
+/// All counts of a desk.
 #[derive(Clone, Copy, Debug, PartialEq, Eq)]
 pub struct Counts {
     pub people: u64,
-    /// The calls that were accepted, each key once.
+    /// The accepted calls, each key once.
     pub calls: u64,
     pub requests: RequestCounts,
     pub lists: ListCounts,

@@ -1,4 +1,4 @@
-//! The report of a desk: what it counts, as fourteen lines of text.
+//! The report of a desk: its counts, as fourteen lines of text.
 
 mod laws;
 mod text;

@@ -1,4 +1,4 @@
--- What an export of a desk writes, and what it leaves of the connection.
+-- The bytes of a desk's export, and its effect on the connection.
 use Rattle.std.specs.Prelude.{◌≡◌, ℕ, List, Option, Result, MatchResult}
 use Rattle.std.specs.Io.KnownBytes.{Appends}
 use Rattle.sqlite.specs.Held.{Held, state}
@@ -16,19 +16,20 @@ use Rattle.store_sql.specs.States.{Spares}
 abbrev pub WritesOf : State → Option (List ℕ) → Option (List ℕ) → (List ℕ → History → List ℕ) → Type 0
 WritesOf old before after bytes = (owner : List ℕ) (cs : History) → ShowsHistory old owner cs → Appends before after (bytes owner cs)
 
--- a beginning of them is
+-- a prefix of them is written
 abbrev pub BeginsOf : State → Option (List ℕ) → Option (List ℕ) → (List ℕ → History → List ℕ) → Type 0
 BeginsOf old before after bytes = (owner : List ℕ) (cs : History) → ShowsHistory old owner cs → AppendsBeginning before after (bytes owner cs)
 
--- the connection shows each history that it showed
+-- the connection still shows each history that it showed
 abbrev pub StaysOf : State → State → Type 0
 StaysOf old new = (owner : List ℕ) (cs : History) → ShowsHistory old owner cs → ShowsHistory new owner cs
 
--- where it showed one, a stop leaves what it left before
+-- if it showed a history, a stop leaves only what it could have left before
 abbrev pub SparesOf : {S : Type 0} → Ghosts S → Held S → Held S → Type 0
 SparesOf g old new = (owner : List ℕ) (cs : History) → ShowsHistory (state g old) owner cs → Spares g old new
 
--- A step of an export: on a clean disk it wrote these bytes, or where it failed a beginning of them; and what it leaves
+-- A step of an export: on a clean disk it wrote these bytes, or, if it failed, a prefix of them;
+-- and its effect on the connection
 pub record Exports {S X E : Type 0} (g : Ghosts S) (old new : Held S) (before after : Option (List ℕ)) (result : Result X E) (bytes : List ℕ → History → List ℕ) : Type 0 where
   pub wrote : HasCleanDisk (state g new) → MatchResult result (λ _. WritesOf (state g old) before after bytes) (λ _. BeginsOf (state g old) before after bytes)
   pub same : StaysOf (state g old) (state g new)

@@ -1,4 +1,4 @@
--- Which refusals an export may give.
+-- The refusals that an export may give.
 use Rattle.std.specs.Prelude.{◌≡◌, ◌⊎◌}
 use Rattle.desk_bytes.specs.declared.refusal.Refusal.{Refusal}
 use Rattle.desk_bytes.specs.declared.refusal.Refusal.TheVariants as refusals

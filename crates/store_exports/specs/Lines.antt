@@ -6,7 +6,7 @@ use Rattle.desk_texts.specs.Callers.{caller_name}
 use Rattle.desk_texts.specs.ReplyTexts.{reply_text_of}
 use Rattle.desk_history.specs.declared.rows.Minute.{Minute}
 
--- what a call's row holds
+-- the columns of a call's row
 pub record Columns : Type 0 where
   pub number : ℕ
   pub caller : List ℕ
@@ -22,7 +22,7 @@ columns_row c = Int (pos c.number) ∷ Text c.caller ∷ Text c.key ∷ Text c.t
 abbrev pub columns_of : Minute → Columns
 columns_of m = record { number = m.number; caller = caller_name m.caller; key = m.key; text = m.text; reply = reply_text_of m.reply }
 
--- own: number, caller, key, text and reply, parted by tabs
+-- own: number, caller, key, text and reply, separated by tabs
 abbrev pub line_of : ℕ → List ℕ → List ℕ → List ℕ → List ℕ → List ℕ
 line_of number caller key text reply =
     decimal number ++ codes "\t" ++ caller ++ codes "\t" ++ key ++ codes "\t" ++ text ++ codes "\t" ++ reply ++ codes "\n"

@@ -9,7 +9,7 @@ use Rattle.desk_bytes.specs.Output.{AppendsBeginning}
 use Rattle.store_sql.specs.Effects.{Streams}
 use Rattle.store_sql.specs.Streaming.{BeginsAnswer, SparesShown, StaysShown}
 
--- the bytes are this part of each thing that the row shows
+-- the bytes are this part of each value that the row may show
 abbrev pub IsPart : {X : Type 0} → (X → Row) → (X → List ℕ) → Row → List ℕ → Type 0
 IsPart {X} shown part row bytes = (x : X) → row ≡ shown x → bytes ≡ part x
 
@@ -19,7 +19,7 @@ pub record WritesRow (spells : List ℕ → Type 0) (before after : Option (List
   pub spelt : spells bytes
   pub written : Appends before after bytes
 
--- a beginning of them is
+-- a prefix of them is written
 abbrev pub BeginsRow : (List ℕ → Type 0) → Option (List ℕ) → Option (List ℕ) → Type 0
 BeginsRow spells before after = (bytes : List ℕ) → spells bytes → AppendsBeginning before after bytes
 
@@ -37,12 +37,12 @@ pub record WritesAnswer (spells : Row → List ℕ → Type 0) (text : List ℕ)
   pub spelt : AreSpelt spells answer bytes
   pub written : Appends before after bytes
 
--- the next row of the answer is begun, or nothing of it is written
+-- a prefix of the answer's next row is written, or nothing of it
 abbrev pub EndsIn : (Row → List ℕ → Type 0) → List ℕ → Row → State → List Row → Option (List ℕ) → Option (List ℕ) → Type 0
 EndsIn spells text params s taken mid after =
     (mid ≡ after) ⊎ ((row : Row) × BeginsRow (spells row) mid after × BeginsAnswer text params s (taken ++ row ∷ []))
 
--- the bytes of the first rows of an answer are written, and a beginning of the next row's
+-- the bytes of the first rows of an answer are written, and a prefix of the next row's
 pub record WritesFirst (spells : Row → List ℕ → Type 0) (text : List ℕ) (params : Row) (s : State) (before after : Option (List ℕ)) : Type 0 where
   pub taken : List Row
   pub bytes : List ℕ
@@ -52,7 +52,8 @@ pub record WritesFirst (spells : Row → List ℕ → Type 0) (text : List ℕ) 
   pub begins : (taken ≡ []) ⊎ BeginsAnswer text params s taken
   pub ends : EndsIn spells text params s taken mid after
 
--- The rows of a query's answer are written, or where that failed the first of them; and what it leaves
+-- The rows of a query's answer are written, or, after a failure, the first of them; and the effect
+-- on the connection
 pub record PutsRows {S X E : Type 0} (g : Ghosts S) (spells : Row → List ℕ → Type 0) (text : List ℕ) (params : Row) (old new : Held S) (before after : Option (List ℕ)) (result : Result X E) : Type 0 where
   pub wrote : HasCleanDisk (state g new)
       → MatchResult result (λ _. WritesAnswer spells text params (state g old) (state g new) before after) (λ _. WritesFirst spells text params (state g old) before after)

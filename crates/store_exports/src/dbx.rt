@@ -1,4 +1,4 @@
-//! dbx: what is revoked.
+//! dbx: the revoked entries.
 ghost use Rattle.std.specs.Prelude.{◌≡◌, IfErr, OnErr, OnOk};
 ghost use Rattle.std.specs.List.{flat_map};
 ghost use Rattle.sqlite.specs.Held.{state};

@@ -35,11 +35,12 @@ fn put<S: Alter, W: Write>(
     }
 }
 
-/// Writes an export. Each row is written as the store gives it, and none is kept. Takes memory for the desk's own row and
-/// for one row of the export; the minutes take none beside the store's.
+/// Writes an export. Each row is written as the store gives it, and none is kept. Takes memory for
+/// the desk's own row and for one row of the export; the minutes take no memory except the store's.
 ///
-/// `Write`: the writer failed. `NoMemory`: memory was refused, also to the store. `Store`: the store failed,
-/// or isn't as a desk left it. Each leaves a beginning of the export in the writer, which may be empty.
+/// `Write`: the writer failed. `NoMemory`: memory was refused, to the desk or to the store.
+/// `Store`: the store failed, or isn't as a desk left it. After each the writer holds a prefix of
+/// the export, which may be empty.
 pub fn export<S: Alter, W: Write>(
     alloc: Global,
     conn: &mut Connection<S>,

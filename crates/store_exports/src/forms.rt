@@ -17,7 +17,7 @@ use store_reads::FromRow;
 
 /// How a row is written.
 pub(crate) trait RowForm {
-    /// What is written of a row: the form, the row, the bytes.
+    /// The bytes of a row in this form: the form, the row, the bytes.
     ghost spells: { Self → Shown → List ℕ → Type 0 };
 
     /// Writes the row.

@@ -14,7 +14,7 @@ use store_reads::{Counted, DeskRow, ReadFault, count, own_row};
 /// The most digests of a list.
 const MOST_DIGESTS: u64 = 1_000_000;
 
-/// How many there are of what is counted. It commits nothing.
+/// The count of these rows. It commits nothing.
 pub(crate) fn size<S: Alter>(conn: &mut Connection<S>, what: Counted) -> Result<u64, ReadFault>
     ensures ok { HasCleanDisk (state S.Store conn.new)
         → IfOk result (IsSizeOf (state S.Store conn.old) what) }
@@ -46,7 +46,7 @@ pub(crate) fn own<S: Alter>(alloc: Global, conn: &mut Connection<S>) -> Result<D
     read
 }
 
-/// The size of a list as its head tells it. `Read`: it has more digests than a list may have.
+/// The size of a list, as its head gives it. `Read`: it has more digests than a list may have.
 pub(crate) fn head_count(counted: u64) -> Result<u32, ExportFault>
     ensures { IfOk result (λ n. (n ≡ counted) × (n ≤ most_digests)) }
 {

@@ -24,7 +24,7 @@ use std::io::Write;
 use store_reads::ReadFault;
 use store_schema::SELECT_CALLS;
 
-/// The columns of a call as they stand in its row.
+/// The columns of a call, borrowed from its row.
 #[derive(Drop)]
 struct CallColumns<'a> {
     number: u64,

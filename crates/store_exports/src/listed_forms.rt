@@ -34,7 +34,8 @@ impl RowForm for ListedDigest {
     }
 }
 
-/// Writes a list of this certificate. `Read`: it has no byte, or more than are listed; nothing was written.
+/// Writes a list of this certificate. `Read`: it is empty, or longer than a listed certificate may
+/// be; nothing was written.
 fn put_certificate<W: Write>(
     owner: &Guid,
     certificate: &[u8],

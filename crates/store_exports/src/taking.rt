@@ -12,7 +12,7 @@ use std::io::Write;
 use store_reads::ReadFault;
 use store_sql::{Halt, TakesRow, stream};
 
-/// Writes each row that it is handed.
+/// Writes each row that it takes.
 #[derive(Drop)]
 pub(crate) struct RowWriter<'a, F, W> {
     alloc: Global,

@@ -1,4 +1,4 @@
--- What a migration does: inside its transaction, and as a whole.
+-- The effect of a migration: inside its transaction, and as a whole.
 use Rattle.std.specs.Prelude.{ℕ, List, IsTrue}
 use Rattle.sqlite.specs.Schema.{Schema}
 use Rattle.sqlite.specs.State.{State, KeepsCommit}
@@ -9,8 +9,8 @@ use Rattle.store_sql.specs.States.{Sees, Shows}
 use Rattle.store_schema.specs.Tables.{desk_schema, first_schema}
 use Rattle.store_schema.specs.rows.Histories.{AreFirst, HoldsHistory, ShowsFirst, first_rows_of, rows_of}
 
--- inside a transaction the tables of version 1 are turned into those of version 2 that stand for the same history; nothing is
--- committed
+-- inside a transaction the tables of version 1 turn into those of version 2 of the same history;
+-- nothing is committed
 pub record TurnsFirst (old new : State) : Type 0 where
   pub is_open : IsTrue old.is_open → IsTrue new.is_open
   pub inside : IsTrue new.in_transaction
@@ -21,6 +21,6 @@ pub record TurnsFirst (old new : State) : Type 0 where
 abbrev pub Migrates : State → Trees → Type 0
 Migrates old db = (owner : List ℕ) (cs : History) → ShowsFirst old owner cs → HoldsHistory db owner cs
 
--- whatever the connection showed, it shows
+-- the connection still shows all that it showed
 abbrev pub KeepsShown : State → State → Type 0
 KeepsShown old new = (schema : Schema) (contents : Contents) → Shows schema old contents → Shows schema new contents

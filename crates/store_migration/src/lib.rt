@@ -1,4 +1,4 @@
-//! A file of version 1 becomes one of version 2, by one commit.
+//! The migration of a file from version 1 to version 2, in one commit.
 #![tactic(auto)]
 
 mod migrating;

@@ -35,7 +35,7 @@ fn calls_in<S: Alter>(tx: &mut Transaction<'_, S>) -> Result<u64, StoreFault>
     }
 }
 
-/// Makes the three tables, puts in how many calls were accepted before, and sets the version.
+/// Makes the three tables, inserts how many calls were accepted before, and sets the version.
 fn migrate_inside<S: Alter>(tx: &mut Transaction<'_, S>) -> Result<(), StoreFault>
     ensures same_reference { tx.new.conn.ghost_name ≡ tx.old.conn.ghost_name }
     ensures value { DoesInside S.Store tx.old.conn.now tx.new.conn.now result
@@ -51,7 +51,7 @@ fn migrate_inside<S: Alter>(tx: &mut Transaction<'_, S>) -> Result<(), StoreFaul
     Ok(())
 }
 
-/// The migration where the names are free.
+/// The migration, if the names are free.
 fn migrate_at_once<S: Alter>(conn: &mut Connection<S>) -> Result<(), Refusal>
     requires outside { conn.old.in_transaction ≡ false }
     ensures ok { HasCleanDisk (state S.Store conn.new) → OnOk result
@@ -81,13 +81,13 @@ fn migrate_at_once<S: Alter>(conn: &mut Connection<S>) -> Result<(), Refusal>
 }
 
 /// Turns the tables of version 1 that the connection shows into those of version 2, in one
-/// transaction whose commit is the last call: it makes the three tables that version 2 adds, puts
-/// in how many calls were accepted before, and sets the version. No call is made anew, and no other
-/// row changes. The connection has to be in no transaction (`is_autocommit`). Takes memory.
+/// transaction that ends with its commit: it makes the three tables that version 2 adds, inserts
+/// how many calls were accepted before, and sets the version. No call is added, and no other row
+/// changes. The connection must be outside a transaction (`is_autocommit`). Takes memory.
 ///
 /// `NotADesk`: a table, an index or a view has one of the three names already. `NoMemory`: memory
-/// was refused. After these nothing was committed. `Store`: the store failed, and committed nothing
-/// or all of it.
+/// was refused. After either, nothing was committed. `Store`: the store failed, and committed
+/// nothing or everything.
 pub fn migrate<S: Alter>(conn: &mut Connection<S>) -> Result<(), Refusal>
     requires outside { conn.old.in_transaction ≡ false }
     ensures ok { HasCleanDisk (state S.Store conn.new) → OnOk result

@@ -1,4 +1,4 @@
--- What is told of all proposals, each with how much it names.
+-- All proposals, each with the counts of its items.
 use Rattle.std.specs.Prelude.{◌≡◌, ◌==◌, List, [], ◌∷◌, filter, length, map, true}
 use Rattle.std.specs.List.{All, AllZip}
 use Rattle.desk_texts.specs.declared.proposal.Proposal.{Proposal}
@@ -21,14 +21,14 @@ shown_row p = record {
   components = length p.named.components;
 }
 
--- one proposal has the head's number, and is shown so
+-- one proposal has the head's number, and this is how it is shown
 abbrev pub IsShown : Tables → ProposalHead → Proposal → Type 0
 IsShown t head shown = (p : ProposalRow) × (filter (λ q. head.number == q.number) t.proposals ≡ p ∷ []) × (shown ≡ shown_row p)
 
--- where no stamp is 0, the proposal of each of these heads is shown, in their order
+-- if no stamp is 0, the proposal of each of these heads is shown, in order
 abbrev pub AreShown : List ProposalHead → List Proposal → Tables → Type 0
 AreShown heads shown t = All IsStamped t.proposals → AllZip (IsShown t) heads shown
 
--- the heads of all proposals, by number, and what is shown of each
+-- the heads of all proposals, by number, and the proposal that is shown for each
 abbrev pub AreListed : List Proposal → Tables → Type 0
 AreListed shown t = (heads : List ProposalHead) × AreFound head_columns tables.proposals 1 (λ h. true) (map head_of t.proposals) heads × AreShown heads shown t

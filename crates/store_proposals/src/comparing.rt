@@ -1,11 +1,12 @@
-//! Rows of items, beside those that a proposal's items are written as.
+//! Rows of items, compared with those of a proposal's items.
 ghost use Rattle.std.specs.Prelude.{◌≡◌, ◌<◌, Some, length, slice_get, true};
 ghost use Rattle.desk_history.specs.Items.{items_from, items_of};
 
 use desk_history::{ProposalItem, ProposalItemRow};
 use desk_texts::{Import, ProposalNumber};
 
-/// Whether the item is the one at this place, which counts digests, then certificates, then components.
+/// Whether the item is the one at this place; places count digests, then certificates, then
+/// components.
 fn is_item(named: &Import, place: usize, item: &ProposalItem) -> bool
     ensures { result ≡ true → slice_get (items_of named.now) place ≡ Some item.now }
 {
@@ -53,7 +54,7 @@ fn is_row(proposal: ProposalNumber, named: &Import, place: usize, row: &Proposal
     is_item(named, place, &row.item)
 }
 
-/// How many items it has.
+/// How many items the import has.
 fn count_of(named: &Import) -> usize
     ensures { result ≡ length (items_of named.now) }
 {
@@ -62,7 +63,7 @@ fn count_of(named: &Import) -> usize
         + named.components().as_slice().len()
 }
 
-/// Whether the rows are those that the proposal's items are written as.
+/// Whether the rows are those of the proposal's items.
 pub(crate) fn are_items(proposal: ProposalNumber, named: &Import, rows: &[ProposalItemRow]) -> bool
     ensures { result ≡ true → rows.now ≡ items_from proposal 0 (items_of named.now) }
 {

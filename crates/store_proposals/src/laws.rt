@@ -9,7 +9,7 @@ ghost use Rattle.desk_history.specs.Tables.{tables};
 ghost use Rattle.store_proposals.specs.Items.{is_item_key};
 ghost use Rattle.store_proposals.specs.Reading.{IsStamped};
 
-/// Among the proposals of a desk's history no stamp is 0.
+/// No proposal of a desk's history has the stamp 0.
 pub fn stamps_are_above_none()
     ensures { (owner : List ℕ) → (cs : History) → IsHistory cs
         → All IsStamped (tables owner cs).proposals }

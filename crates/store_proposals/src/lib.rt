@@ -1,4 +1,4 @@
-//! Proposals with all that they name, read out of a desk's tables inside a transaction.
+//! Proposals with all of their items, read from a desk's tables inside a transaction.
 #![tactic(auto)]
 
 mod comparing;

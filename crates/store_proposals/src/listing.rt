@@ -1,4 +1,4 @@
-//! All proposals, each with how much it names.
+//! All proposals, each with the counts of its items.
 ghost use Rattle.std.specs.Prelude.{◌≡◌};
 ghost use Rattle.store_reads.specs.Reads.{ReadsTables};
 ghost use Rattle.store_sql.specs.States.{DoesInside, CommitsNothing, Spares};
@@ -28,7 +28,7 @@ fn shown_row(row: ProposalRow) -> Proposal
     }
 }
 
-/// The proposals of the heads, as they are shown, in their order.
+/// The proposals of the heads, as they are shown, in order.
 fn shown_of<S: Alter>(
     alloc: Global,
     tx: &mut Transaction<'_, S>,
@@ -52,7 +52,8 @@ fn shown_of<S: Alter>(
     Ok(shown)
 }
 
-/// All proposals, by number, each with how much it names. Takes memory for all of one at a time, and for their heads.
+/// All proposals, by number, each with the counts of its items. Takes memory for their heads, and
+/// for all items of one at a time.
 ///
 /// `Row`: their rows aren't those that the desk writes.
 pub fn proposals<S: Alter>(

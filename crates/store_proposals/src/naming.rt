@@ -1,4 +1,4 @@
-//! The digests, certificates and components that rows of items name.
+//! The digests, certificates and components in rows of items.
 ghost use Rattle.std.specs.Prelude.{◌≡◌, IfOk};
 ghost use Rattle.store_proposals.specs.Reading.{IsStampOf};
 
@@ -9,7 +9,7 @@ use sbat::{Component, Stamp};
 use std::alloc::Global;
 use store_reads::{ProposalHead, ReadFault};
 
-/// What items name, by kind.
+/// Items by kind.
 #[derive(Drop)]
 struct Parts {
     digests: Vec<Digest>,
@@ -17,7 +17,7 @@ struct Parts {
     components: Vec<Component>,
 }
 
-/// What the rows name, by kind, each in the order of the rows. Takes memory for it.
+/// The items of the rows by kind, each in the order of the rows. Takes memory for them.
 fn parts_of(alloc: Global, rows: &[ProposalItemRow]) -> Result<Parts, ReadFault> {
     let mut digests = Vec::new(alloc);
     let mut certificates = Vec::new(alloc);
@@ -42,7 +42,7 @@ fn parts_of(alloc: Global, rows: &[ProposalItemRow]) -> Result<Parts, ReadFault>
     })
 }
 
-/// The stamp of that number, or none for 0. `Row`: the number is out of the form.
+/// The stamp of that number, or none for 0. `Row`: the number isn't a stamp's.
 fn stamp_of(number: u64) -> Result<Option<Stamp>, ReadFault>
     ensures { IfOk result (λ stamp. IsStampOf number stamp) }
 {
@@ -55,9 +55,11 @@ fn stamp_of(number: u64) -> Result<Option<Stamp>, ReadFault>
     }
 }
 
-/// What the rows name, with the stamp and the count of the proposal's own row. Takes memory for it.
+/// The import of the rows' items, with the stamp and the count of the proposal's own row. Takes
+/// memory for it.
 ///
-/// `Row`: more than an import may name, a component named `sbat`, or a stamp out of its form.
+/// `Row`: there are more items than an import may have, a component is named `sbat`, or the stamp
+/// isn't in its form.
 pub(crate) fn named_of(
     alloc: Global,
     head: &ProposalHead,

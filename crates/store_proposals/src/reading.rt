@@ -1,4 +1,4 @@
-//! A proposal with all that it names.
+//! A proposal with all of its items.
 ghost use Rattle.std.specs.Prelude.{◌≡◌};
 ghost use Rattle.store_reads.specs.Reads.{ReadsTables};
 ghost use Rattle.store_sql.specs.States.{DoesInside, CommitsNothing, Spares, StaysInside};

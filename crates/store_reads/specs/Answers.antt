@@ -1,4 +1,4 @@
--- Rows as a SELECT of whole rows shows them, and what asks for those of a kind.
+-- Rows as a SELECT of whole rows shows them, and the texts that find those of a kind.
 use Rattle.std.specs.Prelude.{ℕ, pos, List, [], ◌∷◌}
 use Rattle.sqlite.specs.declared.types.Value.TheVariants.{Int, Text, Blob}
 use Rattle.sqlite.specs.Order.{Row}
@@ -19,7 +19,7 @@ desk_columns d = Int (pos d.id) ∷ Text d.mark ∷ Int (pos d.version) ∷ Blob
 abbrev pub desk_row : ReadDeskRow → DeskRow
 desk_row d = record { id = d.id; mark = d.mark; version = d.version; owner = d.owner; stamp = d.stamp }
 
--- a row of the tables, as a read gives it
+-- a row of the tables, as a read returns it
 abbrev pub read_row : DeskRow → ReadDeskRow
 read_row d = record { id = d.id; mark = d.mark; version = d.version; owner = d.owner; stamp = d.stamp }
 
@@ -33,7 +33,7 @@ request_columns r =
 abbrev pub return_columns : ReturnRow → Row
 return_columns r = Int (pos r.request) ∷ Text r.signer ∷ Int (pos r.length) ∷ Blob r.file ∷ Blob r.digest ∷ []
 
--- the text that looks among what is revoked of a kind
+-- the text that finds a revoked digest of a kind
 abbrev pub select_revoked : ListedKind → List ℕ
 select_revoked kinds.Digest = texts.SELECT_REVOKED_DIGEST.now
 select_revoked kinds.Certificate = texts.SELECT_REVOKED_CERTIFICATE.now

@@ -1,4 +1,4 @@
--- What is counted of a desk's tables, and how SQL is asked for it.
+-- The counts of a desk's tables, and their SQL texts.
 use Rattle.std.specs.Prelude.{ℕ, List, [], ◌∷◌, count_by, length}
 use Rattle.sqlite.specs.declared.types.Value.TheVariants.{Text}
 use Rattle.sqlite.specs.Order.{Row}
@@ -10,7 +10,7 @@ use Rattle.store_schema.specs.declared.counting.TheConstants as texts
 use Rattle.store_reads.specs.declared.counts.Counted.{Counted}
 use Rattle.store_reads.specs.declared.counts.Counted.TheVariants as what
 
--- how many the tables have
+-- the count of the tables
 abbrev pub counted : Counted → Tables → ℕ
 counted what.People t = length t.people
 counted what.Calls t = length t.calls
@@ -23,7 +23,7 @@ counted what.RevokedCertificates t = length t.revoked_certificates
 counted what.Components t = length t.components
 counted what.Proposals t = length t.proposals
 
--- the text that asks for it
+-- the text of the count
 abbrev pub count_text : Counted → List ℕ
 count_text what.People = texts.COUNT_PEOPLE.now
 count_text what.Calls = texts.COUNT_CALLS.now
@@ -36,7 +36,7 @@ count_text what.RevokedCertificates = texts.COUNT_REVOKED_CERTIFICATES.now
 count_text what.Components = texts.COUNT_COMPONENTS.now
 count_text what.Proposals = texts.COUNT_PROPOSALS.now
 
--- what the text is given
+-- the parameters of the text
 abbrev pub count_params : Counted → Row
 count_params what.People = []
 count_params what.Calls = []

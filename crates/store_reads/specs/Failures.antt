@@ -1,4 +1,4 @@
--- Which refusals a read may give.
+-- The refusals that a read may give.
 use Rattle.std.specs.Prelude.{◌≡◌, ◌⊎◌}
 use Rattle.desk_bytes.specs.declared.refusal.Refusal.{Refusal}
 use Rattle.desk_bytes.specs.declared.refusal.Refusal.TheVariants as refusals

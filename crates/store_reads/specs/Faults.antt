@@ -1,4 +1,4 @@
--- Why a read failed.
+-- Reasons why a read fails.
 use Rattle.desk_bytes.specs.declared.refusal.Refusal.{Refusal}
 use Rattle.desk_bytes.specs.declared.refusal.Refusal.TheVariants as refusals
 use Rattle.store_reads.specs.declared.fault.ReadFault.{ReadFault}
@@ -11,7 +11,7 @@ abbrev pub of_store : StoreFault → ReadFault
 of_store store_faults.NoMemory = faults.NoMemory
 of_store store_faults.Store = faults.Store
 
--- its row in the table of refusals: a wrong row is the store's failure
+-- its row in the table of refusals: a wrong row counts as a failure of the store
 abbrev pub refusal_of : ReadFault → Refusal
 refusal_of faults.Row = refusals.Store
 refusal_of faults.NoMemory = refusals.NoMemory

@@ -1,4 +1,4 @@
-//! A row of the calls, before its caller and its reply are told by their texts.
+//! A row of the calls, with its caller and reply still as texts.
 ghost use Rattle.std.specs.Prelude.{◌≡◌, ℕ, List, string_bytes};
 
 use desk_history::CommandText;

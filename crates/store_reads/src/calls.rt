@@ -30,7 +30,7 @@ fn text_at(row: &Row, at: usize) -> Result<ColumnText, ReadFault>
     Ok(ColumnText::new(text))
 }
 
-/// The key in a column. Takes memory for it. `Row`: the text is no key.
+/// The key in a column. Takes memory for it. `Row`: the text isn't a key.
 fn key_at(alloc: Global, row: &Row, at: usize) -> Result<Key, ReadFault>
     ensures { IfOk result (λ key. column row.now at ≡ Text key) }
 {
@@ -72,7 +72,7 @@ impl FromRow for CallTexts {
     }
 }
 
-/// The caller of a name. `Row`: it is no caller's.
+/// The caller of a name. `Row`: the name isn't a caller's.
 fn caller_of(alloc: Global, name: &[u8]) -> Result<Caller, ReadFault>
     ensures { IfOk result (λ caller. (m : Told) → IsReadable m → name.now ≡ caller_name m.caller
         → caller ≡ m.caller) }
@@ -84,7 +84,7 @@ fn caller_of(alloc: Global, name: &[u8]) -> Result<Caller, ReadFault>
     }
 }
 
-/// The reply of a text. `Row`: it is no reply's.
+/// The reply of a text. `Row`: the text isn't a reply's.
 fn reply_of(alloc: Global, text: &[u8]) -> Result<Reply, ReadFault>
     ensures { IfOk result (λ reply. (m : Told) → IsReadable m → text.now ≡ reply_text_of m.reply
         → reply ≡ m.reply) }
@@ -96,7 +96,7 @@ fn reply_of(alloc: Global, text: &[u8]) -> Result<Reply, ReadFault>
     }
 }
 
-/// The minute of these texts. `Row`: the name is no caller's, or the reply's text no reply's.
+/// The minute of these texts. `Row`: the name isn't a caller's, or the reply's text not a reply's.
 fn minute_of(alloc: Global, texts: CallTexts) -> Result<Minute, ReadFault>
     ensures { IfOk result (λ minute. (m : Told) → IsReadable m → texts ≡ texts_of m → minute ≡ m) }
 {

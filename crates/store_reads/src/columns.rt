@@ -1,6 +1,6 @@
-//! Columns of a row, as the values that they hold. A place is counted from 0.
+//! Columns of a row, as their values. Places are counted from 0.
 //!
-//! `Row`: the column is of another kind or out of its form, or there is none.
+//! `Row`: the column has another kind or isn't in its form, or there is none.
 ghost use Rattle.std.specs.Prelude.{◌≡◌, ◌<◌, IfOk, length, pos};
 ghost use Rattle.sqlite.specs.declared.types.Value.TheVariants.{Blob, Int, Text};
 ghost use Rattle.sqlite_value.specs.Order.{column};
@@ -91,7 +91,7 @@ pub(crate) fn component_name_at(
     }
 }
 
-/// The generation in a column. `Row`, too: it is 0.
+/// The generation in a column. `Row` also for 0.
 pub(crate) fn generation_at(row: &Row, at: usize) -> Result<Generation, ReadFault>
     ensures { IfOk result (λ generation. column row.now at ≡ Int (pos generation)) }
 {
@@ -102,7 +102,7 @@ pub(crate) fn generation_at(row: &Row, at: usize) -> Result<Generation, ReadFaul
     }
 }
 
-/// The request's number in a column. `Row`, too: it is 0 or above 999,999.
+/// The request's number in a column. `Row` also for 0 or above 999,999.
 pub(crate) fn request_at(row: &Row, at: usize) -> Result<RequestNumber, ReadFault>
     ensures { IfOk result (λ request. column row.now at ≡ Int (pos request)) }
 {

@@ -19,7 +19,7 @@ use store_sql::count as count_rows;
 /// The greatest integer of SQL, at which counts stop.
 const MOST: u64 = 9_223_372_036_854_775_807;
 
-/// What is counted of a desk.
+/// A count of a desk.
 #[derive(Clone, Copy)]
 pub enum Counted {
     /// All people.
@@ -44,7 +44,7 @@ pub enum Counted {
     Proposals,
 }
 
-/// The text that asks for the count.
+/// The text of the count's statement.
 fn text_of(what: Counted) -> &'static str
     ensures { result.now ≡ count_text what }
 {
@@ -62,7 +62,7 @@ fn text_of(what: Counted) -> &'static str
     }
 }
 
-/// The word that the text is given, if it takes one.
+/// The word that is the text's parameter, if it has one.
 fn word_of(what: Counted) -> Option<&'static str>
     ensures { MatchOption result (count_params what ≡ [])
         (λ word. count_params what ≡ Text word.now ∷ []) }
@@ -81,7 +81,7 @@ fn word_of(what: Counted) -> Option<&'static str>
     }
 }
 
-/// What a text counts. `Store`: more rows than SQL counts.
+/// The count of a text. `Store`: more rows than SQL counts.
 fn count_of<S: Alter>(
     tx: &mut Transaction<'_, S>,
     sql: &str,
@@ -101,9 +101,10 @@ fn count_of<S: Alter>(
     Ok(counted)
 }
 
-/// How many there are of what is counted. It visits every row of the table.
+/// The count of these rows. It visits every row of the table.
 ///
-/// `Store`: more rows than SQL counts, or the store failed. `NoMemory`: memory was refused to the store.
+/// `Store`: more rows than SQL counts, or the store failed. `NoMemory`: memory was refused to the
+/// store.
 pub fn count<S: Alter>(tx: &mut Transaction<'_, S>, what: Counted) -> Result<u64, ReadFault>
     ensures same_reference { tx.new.conn.ghost_name ≡ tx.old.conn.ghost_name }
     ensures value { DoesInside S.Store tx.old.conn.now tx.new.conn.now result

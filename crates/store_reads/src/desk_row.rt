@@ -5,7 +5,7 @@ use desk_bytes::Guid;
 use sbat::Stamp;
 use std::marker::Model;
 
-/// What marks a file as a desk's. A contract sees the list of its bytes.
+/// The mark of a desk's file. A contract sees the list of its bytes.
 #[derive(Debug, Drop)]
 pub struct Mark {
     text: String,

@@ -11,10 +11,11 @@ use thiserror::Error as ErrorText;
 /// Why rows weren't read.
 #[derive(Clone, Copy, Debug, PartialEq, Eq, ErrorText)]
 pub enum ReadFault {
-    /// A row isn't one that the desk writes: a column is of another kind or out of its form, or a key stands twice.
+    /// A row isn't one that the desk writes: a column has another kind or isn't in its form, or a
+    /// key is repeated.
     #[error("a row isn't the desk's")]
     Row,
-    /// Memory was refused, also to the store.
+    /// Memory was refused, to the desk or to the store.
     #[error("no memory")]
     NoMemory,
     /// The store failed.

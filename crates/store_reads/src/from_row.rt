@@ -1,4 +1,4 @@
-//! Values that rows stand for.
+//! Values of rows.
 ghost use Rattle.std.specs.Prelude.{◌≡◌, IfOk};
 ghost use Rattle.sqlite.specs.Order.{Row as Shown};
 
@@ -6,14 +6,14 @@ use crate::ReadFault;
 use sqlite::Row;
 use std::alloc::Global;
 
-/// A value that a row of an answer stands for.
+/// A value that a row of an answer represents.
 pub trait FromRow {
-    /// The columns that stand for the value.
+    /// The columns that represent the value.
     ghost shown: { Self → Shown };
 
-    /// The value that the row stands for. Takes memory for texts and bytes.
+    /// The value of the row. Takes memory for texts and bytes.
     ///
-    /// `Row`: a column is of another kind or out of its form, or there are more or fewer columns.
+    /// `Row`: a column has another kind or isn't in its form, or there are more or fewer columns.
     fn from_row(alloc: Global, row: &Row) -> Result<Self, ReadFault>
         ensures value { IfOk result (λ x. (y : Self) → row.now ≡ shown y → x ≡ y) }
         ensures only { IfOk result (λ x. row.now ≡ shown x) };

@@ -1,4 +1,4 @@
-//! Rows of the desk itself, of people, of listed entries, of what is revoked, and of the level.
+//! Rows of the desk itself, of people, of listed and revoked entries, and of the level.
 ghost use Rattle.std.specs.Prelude.{◌≡◌, IfOk, pos};
 ghost use Rattle.sqlite.specs.declared.types.Value.TheVariants.{Blob, Int, Text};
 ghost use Rattle.sqlite_value.specs.Order.{column};

@@ -41,7 +41,7 @@ pub fn entry_of<S: Alter>(
     Ok(row)
 }
 
-/// The text that looks among what is revoked of a kind.
+/// The text of the statement that finds a revoked digest of a kind.
 fn revoked_text(kind: ListedKind) -> &'static str
     ensures { result.now ≡ select_revoked kind }
 {

@@ -1,6 +1,6 @@
-//! Columns of proposals, as the values that they hold. A place is counted from 0.
+//! Columns of proposals, as their values. Places are counted from 0.
 //!
-//! `Row`: the column is of another kind or out of its form, or there is none.
+//! `Row`: the column has another kind or isn't in its form, or there is none.
 ghost use Rattle.std.specs.Prelude.{◌≡◌, IfOk, pos};
 ghost use Rattle.sqlite.specs.declared.types.Value.TheVariants.{Int, Text};
 ghost use Rattle.sqlite_value.specs.Order.{column};
@@ -12,7 +12,7 @@ use desk_texts::{ItemKind, ProposalKind, ProposalNumber, ProposalState};
 use sqlite::Row;
 use sqlite::types::Value;
 
-/// The proposal's number in a column. `Row`, too: it is 0 or above 999,999.
+/// The proposal's number in a column. `Row` also for 0 or above 999,999.
 pub(crate) fn proposal_at(row: &Row, at: usize) -> Result<ProposalNumber, ReadFault>
     ensures { IfOk result (λ proposal. column row.now at ≡ Int (pos proposal)) }
 {

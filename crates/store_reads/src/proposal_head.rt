@@ -1,4 +1,4 @@
-//! Proposals without what they name.
+//! Proposals without their items.
 ghost use Rattle.store_reads.specs.ProposalColumns.{head_columns};
 
 use crate::ReadFault;
@@ -9,7 +9,7 @@ use desk_texts::{PersonName, ProposalKind, ProposalNumber, ProposalState};
 use sqlite::Row;
 use std::alloc::Global;
 
-/// A proposal without what it names: the stamp of its level is 0 where it has none.
+/// A proposal without its items. `stamp` is the stamp of its level, or 0 if it has none.
 #[derive(Debug, Drop)]
 pub struct ProposalHead {
     pub number: ProposalNumber,

@@ -1,4 +1,4 @@
-//! Items of proposals. What an item of its kind doesn't have must stand empty.
+//! Items of proposals. Columns that an item's kind doesn't have must be empty.
 ghost use Rattle.std.specs.Prelude.{◌≡◌, [], IfOk, OnOk, pos};
 ghost use Rattle.sqlite.specs.declared.types.Value.TheVariants.{Blob, Int, Text};
 ghost use Rattle.sqlite_value.specs.Order.{column};

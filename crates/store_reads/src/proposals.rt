@@ -1,4 +1,4 @@
-//! Proposals by their numbers, and what they name.
+//! Proposals by their numbers, and their items.
 ghost use Rattle.std.specs.Prelude.{◌≡◌, ◌==◌, filter, flat_map, map, true};
 ghost use Rattle.store_schema.specs.rows.Values.{item_values};
 ghost use Rattle.desk_history.specs.Items.{item_rows};
@@ -17,7 +17,7 @@ use sqlite::{Alter, Transaction, params};
 use std::alloc::Global;
 use store_schema::{SELECT_PROPOSAL, SELECT_PROPOSAL_ITEMS, SELECT_PROPOSALS};
 
-/// The proposal of a number without what it names, if there is one. Takes memory for the row.
+/// The proposal of a number without its items, if there is one. Takes memory for the row.
 pub fn head_numbered<S: Alter>(
     alloc: Global,
     tx: &mut Transaction<'_, S>,
@@ -35,7 +35,7 @@ pub fn head_numbered<S: Alter>(
     Ok(head)
 }
 
-/// All proposals without what they name, by number. Takes memory for the rows.
+/// All proposals without their items, by number. Takes memory for the rows.
 pub fn heads_all<S: Alter>(
     alloc: Global,
     tx: &mut Transaction<'_, S>,
@@ -52,7 +52,7 @@ pub fn heads_all<S: Alter>(
     Ok(heads)
 }
 
-/// What a proposal names, by place. Takes memory for the rows.
+/// The items of a proposal, by place. Takes memory for the rows.
 pub fn items_of<S: Alter>(
     alloc: Global,
     tx: &mut Transaction<'_, S>,

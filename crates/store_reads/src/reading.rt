@@ -11,7 +11,7 @@ use sqlite::{Alter, Row, Transaction};
 use std::alloc::Global;
 use store_sql::select;
 
-/// The values that the rows stand for, in their order.
+/// The values of the rows, in order.
 fn values_of<T: FromRow + Drop>(alloc: Global, rows: &[Row]) -> Result<Vec<T>, ReadFault>
     ensures { IfOk result (λ values. AreRead T.FromRow.shown rows.now values.items) }
 {
@@ -25,7 +25,7 @@ fn values_of<T: FromRow + Drop>(alloc: Global, rows: &[Row]) -> Result<Vec<T>, R
     Ok(values)
 }
 
-/// The values of the answer, in its order.
+/// The values of the answer's rows, in order.
 pub(crate) fn rows_of<S: Alter, T: FromRow + Drop>(
     alloc: Global,
     tx: &mut Transaction<'_, S>,
@@ -44,7 +44,7 @@ pub(crate) fn rows_of<S: Alter, T: FromRow + Drop>(
     Ok(values)
 }
 
-/// The value of the only row of the answer, or `None` where it has none. `Row`: it has more.
+/// The value of the answer's only row, or `None` if it has none. `Row`: it has more.
 pub(crate) fn row_of<S: Alter, T: FromRow + Drop>(
     alloc: Global,
     tx: &mut Transaction<'_, S>,

@@ -1,4 +1,4 @@
-//! Rows of requests, and of what belongs to them.
+//! Rows of requests, and of their certificates, components, votes and files.
 ghost use Rattle.store_schema.specs.rows.Values.{request_certificate_values, request_component_values, vote_values};
 ghost use Rattle.store_reads.specs.Answers.{request_columns, return_columns};
 

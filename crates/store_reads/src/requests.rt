@@ -1,4 +1,4 @@
-//! Requests by their numbers, and what belongs to them.
+//! Requests by their numbers, and their certificates, components, votes and files.
 ghost use Rattle.std.specs.Prelude.{◌≡◌, ◌==◌, bytes_eq, filter, true};
 ghost use Rattle.store_schema.specs.rows.Values.{request_certificate_values, request_component_values, vote_values};
 ghost use Rattle.store_reads.specs.Answers.{request_columns};

@@ -1,4 +1,4 @@
--- What the reads of a request tell, part by part: no reader has to believe these words.
+-- The reads of a request, part by part. Auditors needn't believe these words.
 use Rattle.std.specs.Prelude.{◌≡◌, ℕ, ◌+◌, ◌==◌, ⊤, Bool, true, false, List, [], ◌∷◌, ◌++◌, map, filter, length, bytes_eq, if◌then◌else◌, Option, Some, None, option_map}
 use Rattle.std.specs.List.{AllZip}
 use Rattle.std.specs.List.Sorted.{IsPermutation}

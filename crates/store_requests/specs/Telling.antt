@@ -1,4 +1,4 @@
--- What is told of the requests and proposals of a desk's history.
+-- The answers about the requests and proposals of a desk's history.
 use Rattle.std.specs.Prelude.{◌≡◌, ◌⊎◌, ℕ, List}
 use Rattle.sqlite.specs.State.{State}
 use Rattle.desk_bytes.specs.declared.refusal.Refusal.{Refusal}
@@ -10,7 +10,8 @@ use Rattle.store_schema.specs.rows.Histories.{rows_of}
 use Rattle.store_sql.specs.States.{Changes, Sees}
 use Rattle.store_schema.specs.Tables.{desk_schema}
 
--- Nothing changes, and this is told of each history that a desk may have and whose tables the store holds.
+-- Nothing changes, and this holds of each history that a desk may have and whose tables the store
+-- holds.
 pub record TellsOf (told : History → Type 0) (old new : State) : Type 0 where
   pub kept : Changes desk_schema contents old new (λ t. t)
   pub tells : (owner : List ℕ) (cs : History) → IsHistory cs → Sees desk_schema old (rows_of owner cs) → told cs
@@ -23,6 +24,6 @@ IsReaderRefusal refusal = refusal ≡ refusals.UnknownCaller
 abbrev pub IsRequestRefusal : Refusal → Type 0
 IsRequestRefusal refusal = IsReaderRefusal refusal ⊎ (refusal ≡ refusals.NoSuchRequest)
 
--- own: nobody has the name, or the person is no officer
+-- own: nobody has the name, or the person isn't an officer
 abbrev pub IsOfficerRefusal : Refusal → Type 0
 IsOfficerRefusal refusal = IsReaderRefusal refusal ⊎ (refusal ≡ refusals.NotYourRole)

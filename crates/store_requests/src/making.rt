@@ -1,4 +1,4 @@
-//! A request as it is shown, out of its row and the rows that belong to it.
+//! A request as it is shown, made from its row and its other rows.
 ghost use Rattle.std.specs.Prelude.{◌≡◌, ◌++◌, ◌∷◌, [], IfOk, OnOk, map, option_map};
 ghost use Rattle.std.specs.List.Sorted.{IsPermutation};
 ghost use Rattle.desk_bytes.specs.Digests.{IsArranged};
@@ -17,7 +17,7 @@ use sbat::Component;
 use std::alloc::Global;
 use store_reads::ReadFault;
 
-/// Puts an item to the others.
+/// Appends an item.
 pub(crate) fn push<T: Drop>(items: &mut Vec<T>, item: T) -> Result<(), ReadFault>
     ensures { OnOk result (items.new.items ≡ items.old.items ++ item ∷ []) }
 {
@@ -84,8 +84,8 @@ fn placed_in(
     Ok(components)
 }
 
-/// The components of a request's image. `Row`: the rows aren't the request's, in their places from 0 on, or they are
-/// more than an image may name.
+/// The components of a request's image. `Row`: the rows aren't the request's, in their places from
+/// 0 on, or there are more than an image may name.
 fn components_in(
     alloc: Global,
     rows: Vec<RequestComponentRow>,
@@ -136,7 +136,7 @@ fn returned_in(row: Option<ReturnRow>) -> Option<ShownReturn>
     }
 }
 
-/// The facts of a request's image. `Row`: they aren't those of an image that a desk takes.
+/// The facts of a request's image. `Row`: they aren't those of an image that a desk accepts.
 fn facts_in(
     alloc: Global,
     row: &RequestRow,

@@ -1,4 +1,4 @@
-//! The rows that belong to a request.
+//! The certificates, components, votes and file of a request.
 ghost use Rattle.std.specs.Prelude.{◌≡◌};
 ghost use Rattle.store_reads.specs.Reads.{ReadsTables};
 ghost use Rattle.store_requests.specs.Steps.{ArePartsOf};

@@ -23,11 +23,11 @@ fn sees_proposals(role: Role) -> bool
     }
 }
 
-/// All proposals, ascending by number, for the person of this name, who has to be an officer. Takes
-/// memory for what is shown of them, and for all that one of them names at a time.
+/// All proposals, ascending by number, for the person of this name, who must be an officer. Takes
+/// memory for what is shown of them, and for all items of one at a time.
 ///
-/// `UnknownCaller`: nobody has the name. `NotYourRole`: the person is no officer; no proposal is read
-/// then.
+/// `UnknownCaller`: nobody has the name. `NotYourRole`: the person isn't an officer, and no
+/// proposal is read.
 pub fn proposals_of<S: Alter>(
     alloc: Global,
     tx: &mut Transaction<'_, S>,

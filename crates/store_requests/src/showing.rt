@@ -59,8 +59,8 @@ fn row_for(reader: &Person, row: Option<RequestRow>) -> Option<RequestRow>
 
 /// The request of this number, as the person of this name is shown it. Takes memory for its rows.
 ///
-/// `UnknownCaller`: nobody has the name. `NoSuchRequest`: no request has the number, or the person is
-/// a submitter and the request another's; nothing that belongs to it is read then.
+/// `UnknownCaller`: nobody has the name. `NoSuchRequest`: no request has the number, or it belongs
+/// to someone else and the person is a submitter; then none of its other rows is read.
 pub fn request<S: Alter>(
     alloc: Global,
     tx: &mut Transaction<'_, S>,

@@ -10,12 +10,12 @@ use Rattle.sqlite_schema.specs.declared.schema.Column.{Column}
 use Rattle.sqlite_value.specs.Keys.{plain}
 use Rattle.store_sql.specs.Meanings.{schema_after}
 
--- a column of a STRICT table, NOT NULL, compared byte by byte where it is text
+-- a column of a STRICT table, NOT NULL; text is compared byte by byte
 abbrev pub column_of : List ℕ → Kind → Column
 column_of name kind = record { name = name; kind = kind; is_strict = true; not_null = true; default = Null; collation = Binary }
 
--- A table whose first column is its INTEGER PRIMARY KEY, or one whose primary key is other columns. A key's columns are
--- counted from 0 where it is the row id, and from 1, after the row id, elsewhere.
+-- A table whose first column is its INTEGER PRIMARY KEY, or one whose primary key is other columns.
+-- A key's columns are counted from 0 if it is the row id, and otherwise from 1, after the row id.
 abbrev pub table_of : List ℕ → ℕ → List Column → Option ℕ → List ℕ → List (List ℕ) → Table
 table_of name tree columns key primary uniques = record {
   name = name;
@@ -40,7 +40,7 @@ numbered_table name tree columns uniques = table_of name tree columns (Some 0) (
 abbrev pub keyed_table : List ℕ → ℕ → List Column → List ℕ → List (List ℕ) → Table
 keyed_table name tree columns primary others = table_of name tree columns None primary (primary ∷ others)
 
--- ---- the tables, each with its tree; a tree more stands after it for each key that isn't the row id
+-- ---- the tables, each with its tree; each key that isn't the row id has one more tree after it
 
 -- the desk itself, in one row: its mark, the version of the tables, the owner of its lists, and the stamp of the level
 abbrev pub desk : Table
@@ -49,7 +49,7 @@ desk = numbered_table (codes "desk") 0
     ∷ column_of (codes "stamp") Integer ∷ [])
     []
 
--- who may call, in which role, and the SHA-256 of the token
+-- the people who may call, with their roles and the SHA-256 of their tokens
 abbrev pub people : Table
 people = keyed_table (codes "people") 1
     (column_of (codes "name") Text ∷ column_of (codes "role") Text ∷ column_of (codes "token") Blob ∷ [])
@@ -82,20 +82,20 @@ request_components = keyed_table (codes "request_components") 9
     (column_of (codes "request") Integer ∷ column_of (codes "place") Integer ∷ column_of (codes "name") Text ∷ column_of (codes "generation") Integer ∷ [])
     (1 ∷ 2 ∷ []) []
 
--- who voted what on a request
+-- the votes on requests, with their reviewers
 abbrev pub votes : Table
 votes = keyed_table (codes "votes") 11
     (column_of (codes "request") Integer ∷ column_of (codes "reviewer") Text ∷ column_of (codes "vote") Text ∷ column_of (codes "note") Text ∷ [])
     (1 ∷ 2 ∷ []) []
 
--- the signed file of a request, and who returned it
+-- the signed file of a request, and its signer
 abbrev pub returns : Table
 returns = numbered_table (codes "returns") 13
     (column_of (codes "request") Integer ∷ column_of (codes "signer") Text ∷ column_of (codes "length") Integer ∷ column_of (codes "file") Blob
     ∷ column_of (codes "digest") Blob ∷ [])
     []
 
--- what is listed in db: digests of images, and certificates with their bytes
+-- the entries listed in db: digests of images, and certificates with their bytes
 abbrev pub listed : Table
 listed = keyed_table (codes "listed") 14
     (column_of (codes "kind") Text ∷ column_of (codes "digest") Blob ∷ column_of (codes "body") Blob ∷ [])
@@ -115,15 +115,15 @@ components = keyed_table (codes "components") 20
     (column_of (codes "name") Text ∷ column_of (codes "generation") Integer ∷ [])
     (1 ∷ []) []
 
--- who proposed what kind of revocation, numbered from 1, with the stamp of the level, the entries that an import passed over, and
--- the state
+-- the proposals, numbered from 1, with their officer and kind, the stamp of the level, the count of
+-- entries that an import skipped, and the state
 abbrev pub proposals : Table
 proposals = numbered_table (codes "proposals") 22
     (column_of (codes "no") Integer ∷ column_of (codes "officer") Text ∷ column_of (codes "kind") Text ∷ column_of (codes "stamp") Integer
     ∷ column_of (codes "passed") Integer ∷ column_of (codes "state") Text ∷ [])
     []
 
--- what a proposal names: digests, certificates and components, at their places from 0
+-- the items of a proposal: digests, certificates and components, at their places from 0
 abbrev pub proposal_items : Table
 proposal_items = keyed_table (codes "proposal_items") 23
     (column_of (codes "proposal") Integer ∷ column_of (codes "place") Integer ∷ column_of (codes "kind") Text ∷ column_of (codes "digest") Blob

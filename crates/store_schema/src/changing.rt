@@ -15,5 +15,5 @@ pub const UPDATE_VERSION: &str = "UPDATE desk SET version = ?1";
 /// Sets the generation (`?2`) of the component with a name (`?1`).
 pub const UPDATE_GENERATION: &str = "UPDATE components SET generation = ?2 WHERE name = ?1";
 
-/// Takes out the entry with a kind (`?1`) and a digest (`?2`).
+/// Deletes the entry with a kind (`?1`) and a digest (`?2`).
 pub const DELETE_LISTED: &str = "DELETE FROM listed WHERE kind = ?1 AND digest = ?2";

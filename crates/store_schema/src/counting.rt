@@ -1,4 +1,4 @@
-//! SELECT count(*): every row of the table is visited.
+//! SELECT count(*), which visits every row of the table.
 
 /// How many people there are.
 pub const COUNT_PEOPLE: &str = "SELECT count(*) FROM people";

@@ -48,7 +48,7 @@ fn make_first<S: Alter>(tx: &mut Transaction<'_, S>) -> Result<(), Error>
     }
 }
 
-/// Makes the three tables that version 2 adds, where those of version 1 stand, whose rows stay.
+/// Makes the three tables that version 2 adds, after those of version 1, whose rows stay.
 pub fn make_added<S: Alter>(tx: &mut Transaction<'_, S>) -> Result<(), Error>
     ensures same_reference { tx.new.conn.ghost_name ≡ tx.old.conn.ghost_name }
     ensures value { HasCleanDisk (state S.Store tx.new.conn.now)

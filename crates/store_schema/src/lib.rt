@@ -1,4 +1,4 @@
-//! The statements of a desk over its fifteen tables, and what each means there.
+//! The statements of a desk over its fifteen tables, and their meanings there.
 #![tactic(auto)]
 
 mod changing;

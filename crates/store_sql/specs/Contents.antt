@@ -1,4 +1,4 @@
--- What the tables of a store hold: for each table its rows, in any order.
+-- The contents of a store's tables: the rows of each, in any order.
 use Rattle.std.specs.Prelude.{◌≡◌, ℕ, zero, suc, ◌==◌, Bool, true, not, ◌&&◌, IsTrue, List, [], ◌∷◌, map, drop, Option, Some, None}
 use Rattle.std.specs.List.{AllByRecursion, AllZip}
 use Rattle.std.specs.List.Sorted.{IsPermutation}
@@ -11,30 +11,31 @@ use Rattle.sqlite.specs.Tree.{Trees, IsTable, rowid}
 use Rattle.sqlite_catalog.specs.Listing.{IsSound}
 use Rattle.sqlite_trees.specs.View.{is_int}
 
--- A stored row begins with its row id. Where an INTEGER PRIMARY KEY is that number, all of the row counts; in other
--- tables what follows the row id does (SQLite, "Rowid Tables").
+-- A stored row begins with its row id. If the table has an INTEGER PRIMARY KEY, which is that
+-- number, the whole row counts; in other tables, only the columns after the row id (SQLite, "Rowid
+-- Tables").
 abbrev pub by_key : Option ℕ → Row → Row
 by_key (Some _) row = row
 by_key None row = drop 1 row
 
--- what of a stored row of this table counts
+-- the columns of a stored row of this table that count
 abbrev pub seen : Table → Row → Row
 seen table row = by_key table.key row
 
--- a stored row, where what counts of it is known: a row id that doesn't count is written as NULL
+-- a stored row from the columns that count: a row id that doesn't count is written as NULL
 abbrev pub with_rowid_by_key : Option ℕ → Row → Row
 with_rowid_by_key (Some _) row = row
 with_rowid_by_key None row = Null ∷ row
 
--- a stored row of this table, where what counts of it is known
+-- a stored row of this table from the columns that count
 abbrev pub whole : Table → Row → Row
 whole table row = with_rowid_by_key table.key row
 
--- for each table of the schema what counts of its rows
+-- the rows of each table of the schema, by the columns that count
 abbrev pub Contents : Type 0
 Contents = List (List Row)
 
--- The row ids are integers and rise, so none comes twice. UPDATE and DELETE find rows by them.
+-- The row ids are integers and ascend, so none repeats. UPDATE and DELETE find rows by them.
 abbrev pub IsKeyed : List Row → Type 0
 IsKeyed rows = IsTable rows × AllByRecursion (λ (r : Row). IsTrue (is_int (rowid r))) rows
 
@@ -43,27 +44,27 @@ pub record IsIn (db : Trees) (table : Table) (rows : List Row) : Type 0 where
   pub same : IsPermutation rows (map (seen table) (db table.tree))
   pub keyed : IsKeyed (db table.tree)
 
--- the trees hold for each table these rows
+-- for each table the trees hold these rows
 abbrev pub HoldRows : Trees → List Table → Contents → Type 0
 HoldRows db tables contents = AllZip (IsIn db) tables contents
 
--- The trees are a database of this schema: their catalog lists its tables and no other, and the rows obey it. Whoever opens
--- them finds the schema by the catalog.
+-- The trees are a database of this schema: their catalog lists its tables and no others, and the
+-- rows obey it. Opening them finds the schema in the catalog.
 unfoldable pub IsDatabaseOf : Schema → Trees → Type 0
 IsDatabaseOf schema db = IsSound schema db
 
--- they hold these rows besides
+-- the trees also hold these rows
 pub record AreTablesOf (schema : Schema) (db : Trees) (contents : Contents) : Type 0 where
   pub sound : IsDatabaseOf schema db
   pub rows : HoldRows db schema.tables contents
 
--- the database has these tables and no other, with these rows
+-- the database has these tables and no others, with these rows
 pub record Holds (schema : Schema) (db : Database) (contents : Contents) : Type 0 where
   pub listed : db.schema ≡ schema
   pub sound : IsDatabaseOf schema db.trees
   pub rows : HoldRows db.trees schema.tables contents
 
--- the contents where the rows of the table at this place change
+-- the contents, with the rows of the table at this place changed
 abbrev pub change_at : ℕ → (List Row → List Row) → Contents → Contents
 change_at at change [] = []
 change_at zero change (rows ∷ contents) = change rows ∷ contents
@@ -74,12 +75,12 @@ abbrev pub no_rows : List Table → Contents
 no_rows [] = []
 no_rows (t ∷ ts) = [] ∷ no_rows ts
 
--- none of the tables has this tree
+-- no table has this tree
 abbrev pub are_other : ℕ → List Table → Bool
 are_other tree [] = true
 are_other tree (t ∷ ts) = not (t.tree == tree) && are_other tree ts
 
--- none but the one at this place has it
+-- only the table at this place has this tree
 abbrev pub is_apart : ℕ → ℕ → List Table → Bool
 is_apart at tree [] = true
 is_apart zero tree (t ∷ ts) = are_other tree ts

@@ -1,4 +1,5 @@
--- What each kind of statement does to the contents of a store, whatever the schema and however many rows it meets.
+-- The effect of each kind of statement on the contents of a store, for any schema and any number of
+-- matching rows.
 use Rattle.std.specs.Prelude.{◌≡◌, ℕ, min, List, [], ◌∷◌, ◌++◌, length, map, filter, not, Bool, if◌then◌else◌, slice_get, Some}
 use Rattle.std.specs.List.Sorted.{IsPermutation, IsSorted}
 use Rattle.sqlite.specs.Cast.{cast_row}
@@ -16,48 +17,49 @@ use Rattle.store_sql.specs.Meanings.{InsertsRow, UpdatesRows, DeletesRows, Selec
 use Rattle.store_sql.specs.Queries.{meets, projected, rewritten, keys_of, by_keys}
 use Rattle.store_sql.specs.States.{Sees, Moves, Makes}
 
--- the row meets the terms
+-- the row satisfies the terms
 abbrev pub passes : Table → List Term → Row → Row → Bool
 passes table terms params row = meets terms params (whole table row)
 
--- the row after an UPDATE: rewritten where it meets the terms, and itself elsewhere
+-- the row after an UPDATE: rewritten if it satisfies the terms, otherwise unchanged
 abbrev pub updated : Table → List Term → List Term → Row → Row → Row
 updated table terms rest params row = if passes table terms params row then seen table (rewritten table rest params (whole table row)) else row
 
--- what a SELECT shows of the row
+-- the columns that a SELECT shows of the row
 abbrev pub shown_of : Table → List Term → Row → Row → Row
 shown_of table project params row = projected project params (whole table row)
 
--- the row that an INSERT puts in, whatever rows stand there
+-- the row that an INSERT adds, whatever rows are there
 abbrev pub IsInserted : Table → List Term → Row → Row → Type 0
 IsInserted table terms params row = (rows : List Row) → seen table (with_rowid Chosen rows (cast_row table (eval_all terms (params ∷ [])))) ≡ row
 
--- ---- the effects of a text with its parameters, where it means one of these
+-- ---- the effects of a text with its parameters, if it means one of these
 
--- INSERT: this row is put to its table, and no other table changes
+-- INSERT: this row is added to its table, and no other table changes
 abbrev pub Inserts : List ℕ → Row → State → State → Type 0
 Inserts text params old new = (schema : Schema) (at : ℕ) (table : Table) (terms : List Term) (row : Row) → InsertsRow schema at table text terms → IsInserted table terms params row
     → Moves schema (change_at at (λ rows. row ∷ rows)) old new
 
--- UPDATE: the rows of one table that meet WHERE are rewritten, and all else stays
+-- UPDATE: the rows of one table that satisfy WHERE are rewritten, and all else stays
 abbrev pub Updates : List ℕ → Row → State → State → Type 0
 Updates text params old new = (schema : Schema) (at : ℕ) (table : Table) (terms rest : List Term) → UpdatesRows schema at table text terms rest
     → Moves schema (change_at at (map (updated table terms rest params))) old new
 
--- DELETE: the rows of one table that meet WHERE are gone, and all else stays
+-- DELETE: the rows of one table that satisfy WHERE are deleted, and all else stays
 abbrev pub Deletes : List ℕ → Row → State → State → Type 0
 Deletes text params old new = (schema : Schema) (at : ℕ) (table : Table) (terms : List Term) → DeletesRows schema at table text terms
     → Moves schema (change_at at (filter (λ r. not (passes table terms params r)))) old new
 
--- CREATE TABLE: an empty table stands after the others, whose rows stay
+-- CREATE TABLE: an empty table comes after the others, whose rows stay
 abbrev pub Creates : List ℕ → State → State → Type 0
 Creates text old new = (schema : Schema) (table : Table) → MakesTable schema table text → Makes old new schema (created schema table) (table ∷ [])
 
--- CREATE TABLE of each text: the empty tables stand in the order of the texts
+-- CREATE TABLE of each text: the empty tables come in the order of the texts
 abbrev pub CreatesAll : List (List ℕ) → State → State → Type 0
 CreatesAll texts old new = (schema : Schema) (tables : List Table) → MakeTables schema tables texts → Makes old new schema (schema_after schema tables) tables
 
--- the answer is what the query shows of the rows that meet the terms, all and only those, in the order asked for
+-- the answer is the query's columns of the rows that satisfy the terms, all and only those, in the
+-- requested order
 pub record IsSelected (table : Table) (terms : List Term) (order : List (Term × Key)) (rest : List Term) (params : Row) (rows answer : List Row) : Type 0 where
   pub same : IsPermutation (map (shown_of table (keys_of order ++ rest) params) (filter (passes table terms params) rows)) answer
   pub sorted : IsSorted (by_keys order) answer
@@ -68,18 +70,18 @@ Selects text params old new answer = (schema : Schema) (at : ℕ) (table : Table
     → SelectsRows schema at table text terms order rest names → Moves schema (λ c. c) old new
     × ((c : Contents) (rows : List Row) → Sees schema old c → slice_get c at ≡ Some rows → IsSelected table terms order rest params rows answer)
 
--- outside a transaction, of what the database holds; a query still changes nothing
+-- outside a transaction, over the contents of the database; a query still changes nothing
 abbrev pub Streams : List ℕ → Row → State → State → List Row → Type 0
 Streams text params old new answer = (schema : Schema) (at : ℕ) (table : Table) (terms : List Term) (order : List (Term × Key)) (rest : List Term) (names : List (List ℕ))
     → SelectsRows schema at table text terms order rest names → old.now.schema ≡ schema → IsUnchanged old new
     × ((c : Contents) (rows : List Row) → Holds schema old.now c → slice_get c at ≡ Some rows → IsSelected table terms order rest params rows answer)
 
--- a taker was handed these rows, one after another, and no other
+-- a taker was passed these rows, one after another, and no others
 abbrev pub TakesAll : {T : Type 0} → (T → Row → T → Type 0) → T → List Row → T → Type 0
 TakesAll takes old [] new = old ≡ new
 TakesAll {T = T} takes old (row ∷ rows) new = (mid : T) × takes old row mid × TakesAll takes mid rows new
 
--- what was handed over, in this order, is the whole answer
+-- the rows that were passed on, in this order, are the whole answer
 pub record HandsOver {T : Type 0} (takes : T → Row → T → Type 0) (text : List ℕ) (params : Row) (old new : State) (before after : T) : Type 0 where
   pub answer : List Row
   pub handed : TakesAll takes before answer after
@@ -89,7 +91,7 @@ pub record HandsOver {T : Type 0} (takes : T → Row → T → Type 0) (text : L
 abbrev pub counted : ℕ → ℕ
 counted n = min n 9223372036854775807
 
--- SELECT count(*): how many rows of the table meet WHERE; nothing changes
+-- SELECT count(*): how many rows of the table satisfy WHERE; nothing changes
 abbrev pub Counts : List ℕ → Row → State → State → ℕ → Type 0
 Counts text params old new n = (schema : Schema) (at : ℕ) (table : Table) (terms : List Term) (names : List (List ℕ))
     → CountsRows schema at table text terms names → Moves schema (λ c. c) old new

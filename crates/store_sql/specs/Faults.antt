@@ -1,4 +1,4 @@
--- Which fault an error of the store is, and which refusal a fault.
+-- The fault of each error of the store, and the refusal of each fault.
 use Rattle.desk_bytes.specs.declared.refusal.Refusal.{Refusal}
 use Rattle.desk_bytes.specs.declared.refusal.Refusal.TheVariants as refusals
 use Rattle.sqlite.specs.declared.error.Error.{Error}
@@ -7,7 +7,7 @@ use Rattle.sqlite.specs.declared.error.ErrorCode.TheVariants.{OutOfMemory}
 use Rattle.store_sql.specs.declared.fault.StoreFault.{StoreFault}
 use Rattle.store_sql.specs.declared.fault.StoreFault.TheVariants.{NoMemory, Store}
 
--- own: an error is want of memory where it says so, and otherwise the store's failure
+-- own: an OutOfMemory error is NoMemory, any other error Store
 abbrev pub fault_of : Error → StoreFault
 fault_of (SqliteFailure OutOfMemory) = NoMemory
 fault_of error = Store

@@ -1,4 +1,4 @@
--- What a text means where a schema stands. Each of these is told by computing, for a schema and a text that are known.
+-- The meaning of a text under a schema. For a known schema and text each is shown by computing.
 use Rattle.std.specs.Prelude.{◌≡◌, ℕ, ◌/◌, List, [], ◌∷◌, ◌++◌, length, true, false, slice_get, Option, Some, None, Ok, ⊤}
 use Rattle.sqlite.proofs.Callers.{IsPlain, command_of, statement_of}
 use Rattle.sqlite.specs.Change.{created}
@@ -19,7 +19,8 @@ use Rattle.sqlite_value.specs.declared.keys.Key.{Key}
 use Rattle.store_sql.specs.Contents.{seen, is_apart}
 use Rattle.store_sql.specs.Queries.{plain_query, count_query, finding, meets, projected, rewritten, keys_of}
 
--- the table stands at this place, alone has its tree, and no trigger or foreign key of another acts on it
+-- the table is at this place, no other has its tree, and no trigger or foreign key of another acts
+-- on it
 pub record StandsAt (schema : Schema) (at : ℕ) (table : Table) : Type 0 where
   pub place : slice_get schema.tables at ≡ Some table
   pub apart : is_apart at table.tree schema.tables ≡ true
@@ -34,12 +35,12 @@ pub record InsertsRow (schema : Schema) (at : ℕ) (table : Table) (text : List 
   pub means : command_of (understood schema text) ≡ Insert at (Values terms (length terms))
   pub plain : IsPlain (understood schema text)
 
--- no row id that doesn't count is read
+-- a row id that doesn't count isn't read
 abbrev pub OverlooksRowid : {Y : Type 0} → Option ℕ → (Row → Y) → Type 0
 OverlooksRowid (Some _) f = ⊤
 OverlooksRowid None f = (id : Value) (row : Row) → f (id ∷ row) ≡ f (Null ∷ row)
 
--- UPDATE: in the rows that meet the terms, these columns, the first the row id
+-- UPDATE: in the rows that satisfy the terms, these columns, the first the row id
 pub record UpdatesRows (schema : Schema) (at : ℕ) (table : Table) (text : List ℕ) (terms rest : List Term) : Type 0 where
   pub stands : StandsAt schema at table
   pub means : command_of (understood schema text) ≡ Update at (finding table.tree terms (col 1 0 ∷ rest))
@@ -47,14 +48,15 @@ pub record UpdatesRows (schema : Schema) (at : ℕ) (table : Table) (text : List
   pub overlooks : (params : Row) → OverlooksRowid table.key (meets terms params)
   pub passes_over : (params : Row) → OverlooksRowid table.key (λ r. seen table (rewritten table rest params r))
 
--- DELETE: the rows that meet the terms
+-- DELETE: the rows that satisfy the terms
 pub record DeletesRows (schema : Schema) (at : ℕ) (table : Table) (text : List ℕ) (terms : List Term) : Type 0 where
   pub stands : StandsAt schema at table
   pub means : command_of (understood schema text) ≡ Delete at (finding table.tree terms (col 1 0 ∷ []))
   pub plain : IsPlain (understood schema text)
   pub overlooks : (params : Row) → OverlooksRowid table.key (meets terms params)
 
--- SELECT: of the rows that meet the terms, the columns of ORDER BY and then these others, in that order of rows
+-- SELECT: of the rows that satisfy the terms, the columns of ORDER BY and then these others, in
+-- that order of rows
 pub record SelectsRows (schema : Schema) (at : ℕ) (table : Table) (text : List ℕ) (terms : List Term) (order : List (Term × Key)) (rest : List Term) (names : List (List ℕ)) : Type 0 where
   pub place : slice_get schema.tables at ≡ Some table
   pub means : command_of (understood schema text) ≡ Select (record { lets = []; body = plain_query table.tree terms (keys_of order ++ rest) order }) names
@@ -63,7 +65,7 @@ pub record SelectsRows (schema : Schema) (at : ℕ) (table : Table) (text : List
   pub overlooks : (params : Row) → OverlooksRowid table.key (meets terms params)
   pub passes_over : (params : Row) → OverlooksRowid table.key (projected (keys_of order ++ rest) params)
 
--- SELECT count(*): the rows that meet the terms
+-- SELECT count(*): the rows that satisfy the terms
 pub record CountsRows (schema : Schema) (at : ℕ) (table : Table) (text : List ℕ) (terms : List Term) (names : List (List ℕ)) : Type 0 where
   pub place : slice_get schema.tables at ≡ Some table
   pub means : command_of (understood schema text) ≡ Select (record { lets = []; body = count_query table.tree terms }) names
@@ -84,7 +86,7 @@ abbrev pub schema_after : Schema → List Table → Schema
 schema_after schema [] = schema
 schema_after schema (t ∷ ts) = schema_after (created schema t) ts
 
--- each of the texts makes its table, where the tables before it stand
+-- each of the texts makes its table, after the tables before it
 abbrev pub MakeTables : Schema → List Table → List (List ℕ) → Type 0
 MakeTables schema [] [] = ⊤
 MakeTables schema [] (x ∷ xs) = ⊥

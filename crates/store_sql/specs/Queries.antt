@@ -50,7 +50,7 @@ count_query tree terms = record {
   offset = lit (Int (pos 0));
 }
 
--- what a count answers: one row, of one integer
+-- the answer of a count: one row, of one integer
 abbrev pub number_row : ℕ → List Row
 number_row n = (Int (pos n) ∷ []) ∷ []
 
@@ -58,7 +58,7 @@ number_row n = (Int (pos n) ∷ []) ∷ []
 abbrev pub finding : ℕ → List Term → List Term → Program
 finding tree terms project = record { lets = []; body = plain_query tree terms project [] }
 
--- ---- one row, as the parameters and the row stand in the terms
+-- ---- one row, with the parameters, as the terms see them
 
 -- all of the terms are true of the row
 abbrev pub meets : List Term → Row → Row → Bool
@@ -68,7 +68,7 @@ meets terms params row = list_all (holds (params ∷ row ∷ [])) terms
 abbrev pub projected : List Term → Row → Row → Row
 projected project params row = eval_all project (params ∷ row ∷ [])
 
--- what a row becomes where an UPDATE writes these columns, the first of them the row id
+-- the row after an UPDATE writes these columns, the first of them the row id
 abbrev pub rewritten : Table → List Term → Row → Row → Row
 rewritten table rest params row = cast_row table (projected rest params row)
 

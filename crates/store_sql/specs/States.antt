@@ -1,4 +1,5 @@
--- What a connection shows of a store's tables, inside a transaction and outside, and how steps change that.
+-- The contents of a store's tables as a connection shows them, inside a transaction and outside,
+-- and the effect of steps on them.
 use Rattle.std.specs.Prelude.{◌≡◌, IsTrue, false, List, ◌++◌, Result, IfOk, OnOk}
 use Rattle.sqlite.specs.Held.{Held, state}
 use Rattle.sqlite.specs.Schema.{Schema}
@@ -13,54 +14,55 @@ pub record Sees (schema : Schema) (s : State) (contents : Contents) : Type 0 whe
   pub inside : IsTrue s.in_transaction
   pub holds : Holds schema s.now contents
 
--- Outside. After some failures nobody knows whether the connection is still open, so what it holds is said of an open one.
+-- Outside a transaction. After some failures nobody knows whether the connection is still open, so
+-- only an open one is said to hold contents.
 pub record Shows (schema : Schema) (s : State) (contents : Contents) : Type 0 where
   pub outside : s.in_transaction ≡ false
   pub holds : HasCleanDisk s → IsTrue s.is_open → Holds schema s.now contents × (s.now ≡ s.committed)
 
--- Steps inside a transaction commit nothing, and turn what the tables held before into what they hold after.
--- T is the type of what the tables stand for.
+-- Steps inside a transaction commit nothing, and turn the contents `before` of the tables into the
+-- contents `after`. T is the type of the values that the tables represent.
 pub record Turns {T : Type 0} (schema : Schema) (before after : T → Contents) (old new : State) : Type 0 where
   pub is_open : IsTrue old.is_open → IsTrue new.is_open
   pub inside : IsTrue new.in_transaction
   pub kept : KeepsCommit old new
   pub value : (t : T) → Sees schema old (before t) → Sees schema new (after t)
 
--- the same, by what becomes of what the tables stand for
+-- the same, for a change of the value that the tables represent
 abbrev pub Changes : {T : Type 0} → Schema → (T → Contents) → State → State → (T → T) → Type 0
 Changes schema contents old new change = Turns schema contents (λ t. contents (change t)) old new
 
--- the same, of the contents themselves
+-- the same, for a change of the contents themselves
 abbrev pub Moves : Schema → (Contents → Contents) → State → State → Type 0
 Moves schema change old new = Turns schema (λ (c : Contents). c) change old new
 
--- what a stop leaves
+-- each database that a stop may leave has this property
 abbrev pub Leaves : State → (Trees → Type 0) → Type 0
 Leaves s P = HasCleanDisk s → (db : Trees) → s.may_leave db → P db
 
--- Steps that make tables: these stand after the others, without a row, and the others keep theirs.
+-- Steps that make tables: these come after the others, without rows, and the others keep theirs.
 pub record Makes (old new : State) (before after : Schema) (added : List Table) : Type 0 where
   pub is_open : IsTrue old.is_open → IsTrue new.is_open
   pub inside : IsTrue new.in_transaction
   pub kept : KeepsCommit old new
   pub value : (c : Contents) → Holds before old.now c → Holds after new.now (c ++ no_rows added)
 
--- ---- what a call inside a transaction promises of the connection, where the disk is clean at its end
+-- ---- the effect of a call inside a transaction on the connection, if the disk is clean at its end
 
--- what it gave, and how the state changed with that
+-- the call's result, and how the state changed with it
 abbrev pub DoesInside : {S X E : Type 0} → Ghosts S → Held S → Held S → Result X E → (X → State → State → Type 0) → Type 0
 DoesInside g old new result does =
     HasCleanDisk (state g new) → IsTrue (state g old).in_transaction → IfOk result (λ x. does x (state g old) (state g new))
 
--- Ok is given by an open connection that is still inside its transaction
+-- Ok comes only from an open connection that is still inside its transaction
 abbrev pub StaysInside : {S X E : Type 0} → Ghosts S → Held S → Held S → Result X E → Type 0
 StaysInside g old new result =
     HasCleanDisk (state g new) → IsTrue (state g old).in_transaction → OnOk result (IsTrue (state g new).is_open × IsTrue (state g new).in_transaction)
 
--- nothing is committed, also after an error
+-- nothing is committed, not even after an error
 abbrev pub CommitsNothing : {S : Type 0} → Ghosts S → Held S → Held S → Type 0
 CommitsNothing g old new = HasCleanDisk (state g new) → IsTrue (state g old).in_transaction → KeepsCommit (state g old) (state g new)
 
--- a stop leaves what it left before, on any disk
+-- a stop leaves only what it could have left before, on any disk
 abbrev pub Spares : {S : Type 0} → Ghosts S → Held S → Held S → Type 0
 Spares g old new = Survives (state g old) (state g new) (λ _. ⊥)

@@ -15,19 +15,19 @@ use Rattle.store_sql.specs.Effects.{IsSelected, TakesAll}
 use Rattle.store_sql.specs.Meanings.{SelectsRows}
 use Rattle.store_sql.specs.States.{Shows, Spares}
 
--- a plain text changes nothing, whatever comes of it: the connection shows what it showed
+-- a plain text changes nothing, whatever its outcome: the connection still shows the same contents
 abbrev pub StaysShown : List ℕ → State → State → Type 0
 StaysShown text old new = (schema : Schema) (c : Contents) → IsPlain (understood schema text) → Shows schema old c → Shows schema new c
 
--- and a stop leaves what it left before
+-- and a stop leaves only what it could have left before
 abbrev pub SparesShown : {S : Type 0} → Ghosts S → List ℕ → Held S → Held S → Type 0
 SparesShown g text old new = (schema : Schema) (c : Contents) → IsPlain (understood schema text) → Shows schema (state g old) c → Spares g old new
 
--- nothing changed, or what wasn't committed is undone
+-- nothing changed, or uncommitted changes were undone
 abbrev pub StaysOrUndoes : State → State → Type 0
 StaysOrUndoes old new = IsUnchanged old new ⊎ IsRolledBack old new
 
--- the rows begin an answer of the query; more of it may be to come
+-- the rows begin an answer of the query; more may follow
 abbrev pub StreamsFirst : List ℕ → Row → State → List Row → Type 0
 StreamsFirst text params s given = (schema : Schema) (at : ℕ) (table : Table) (terms : List Term) (order : List (Term × Key)) (rest : List Term) (names : List (List ℕ))
     → SelectsRows schema at table text terms order rest names → s.now.schema ≡ schema
@@ -37,13 +37,13 @@ StreamsFirst text params s given = (schema : Schema) (at : ℕ) (table : Table) 
 abbrev pub BeginsAnswer : List ℕ → Row → State → List Row → Type 0
 BeginsAnswer text params s given = IsTrue s.is_open × StreamsFirst text params s given
 
--- the next row was handed over as well, and wasn't taken
+-- the next row was passed on too, and wasn't taken
 pub record IsGivenUp {T : Type 0} (gives_up : T → Row → T → Type 0) (text : List ℕ) (params : Row) (s : State) (taken : List Row) (last after : T) : Type 0 where
   pub row : Row
   pub refused : gives_up last row after
   pub begins : BeginsAnswer text params s (taken ++ row ∷ [])
 
--- What was taken, one row after another, begins an answer, or nothing was taken.
+-- The rows taken, one after another, begin an answer, or none was taken.
 pub record HandsFirst {T : Type 0} (takes gives_up : T → Row → T → Type 0) (text : List ℕ) (params : Row) (s : State) (before after : T) : Type 0 where
   pub taken : List Row
   pub last : T

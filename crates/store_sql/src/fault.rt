@@ -1,4 +1,4 @@
-//! Why a statement failed.
+//! Reasons why a statement fails.
 ghost use Rattle.std.specs.Prelude.{◌≡◌};
 ghost use Rattle.store_sql.specs.Faults.{fault_of, refusal_of};
 
@@ -6,10 +6,10 @@ use desk_bytes::Refusal;
 use sqlite::{Error, ErrorCode};
 use thiserror::Error as ErrorText;
 
-/// Why a statement failed, or the store's opening or close.
+/// Why a statement, or the store's opening or closing, failed.
 #[derive(Clone, Copy, Debug, PartialEq, Eq, ErrorText)]
 pub enum StoreFault {
-    /// Memory was refused, also to the store.
+    /// Memory was refused, to the desk or to the store.
     #[error("no memory")]
     NoMemory,
     /// The store failed, or SQL's integers can't hold a number.

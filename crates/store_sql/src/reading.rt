@@ -1,4 +1,4 @@
-//! Queries inside a transaction: they change nothing.
+//! Queries inside a transaction, which change nothing.
 ghost use Rattle.std.specs.Prelude.{◌≡◌, ℕ, IfOk};
 ghost use Rattle.sqlite.specs.Values.{bound};
 ghost use Rattle.store_sql.specs.Effects.{Counts, Selects};

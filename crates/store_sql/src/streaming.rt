@@ -1,4 +1,4 @@
-//! Queries outside a transaction, whose rows are handed over one at a time.
+//! Queries outside a transaction, whose rows are passed on one at a time.
 ghost use Rattle.std.specs.Prelude.{◌≡◌, List, false, IfOk, IsTrue, OnErr, OnOk};
 ghost use Rattle.sqlite.specs.Given.{IsPlain};
 ghost use Rattle.sqlite.specs.Held.{state};
@@ -13,24 +13,24 @@ ghost use Rattle.store_sql.specs.Streaming.{HandsFirst, SparesShown, StaysOrUndo
 use sqlite::types::ValueRef;
 use sqlite::{Alter, Connection, Error, Row};
 
-/// Who is handed the rows of an answer, one after another.
+/// A taker of an answer's rows, one after another.
 pub trait TakesRow {
     /// Why a row isn't taken.
     type Fault;
 
-    /// What a taker becomes by taking a row: the taker before, the row, the taker after.
+    /// How taking a row changes the taker: the taker before, the row, the taker after.
     ghost takes: { Self → Shown → Self → Type 0 };
 
-    /// What a taker becomes by a row that it doesn't take, in the same order.
+    /// How a row that isn't taken changes the taker, in the same order.
     ghost gives_up: { Self → Shown → Self → Type 0 };
 
-    /// Takes the next row. After an error no further row is handed over.
+    /// Takes the next row. After an error no more rows come.
     fn take(&mut self, row: &Row) -> Result<(), Self::Fault>
         ensures ok { OnOk result (takes self.old row.now self.new) }
         ensures err { OnErr result (gives_up self.old row.now self.new) };
 }
 
-/// Why rows weren't handed over to the end of their answer.
+/// Why the rows of an answer weren't passed on to its end.
 #[derive(Debug, Drop)]
 pub enum Halt<F> {
     /// The store failed, or refused the query.
@@ -52,7 +52,7 @@ fn compile<S: Alter>(conn: &mut Connection<S>, sql: &str) -> Result<(), Error>
     Ok(())
 }
 
-/// Hands each row to the taker, on a connection that was seen to be open.
+/// Passes each row to the taker, on a connection that was found open.
 fn hand_over<S: Alter, T: TakesRow>(
     conn: &mut Connection<S>,
     sql: &str,
@@ -92,10 +92,10 @@ fn hand_over<S: Alter, T: TakesRow>(
     Err(Halt::Store(Error::InvalidQuery))
 }
 
-/// `SELECT .. FROM .. WHERE .. ORDER BY ..`: hands each row to the taker as the store gives it, and keeps none. Takes no
-/// memory for the rows.
+/// `SELECT .. FROM .. WHERE .. ORDER BY ..`: passes each row to the taker as the store gives it,
+/// and keeps none. Takes no memory for the rows.
 ///
-/// A query changes nothing, also where it ends early: what was taken until then begins an answer.
+/// A query changes nothing, even if it ends early: the rows taken until then begin an answer.
 pub fn stream<S: Alter, T: TakesRow>(
     conn: &mut Connection<S>,
     sql: &str,

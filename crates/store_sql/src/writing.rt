@@ -1,4 +1,5 @@
-//! Statements that write, inside a transaction: nothing is committed, and a stop leaves what stood before.
+//! Statements that write, inside a transaction: nothing is committed, and a stop leaves the state
+//! before.
 ghost use Rattle.std.specs.Prelude.{◌≡◌, IsTrue, OnOk, map};
 ghost use Rattle.sqlite.specs.Held.{state};
 ghost use Rattle.sqlite.specs.State.{HasCleanDisk};
@@ -26,7 +27,7 @@ pub fn insert<S: Alter>(
     Ok(())
 }
 
-/// `UPDATE .. SET .. WHERE ..`. Rows that aren't there are no error.
+/// `UPDATE .. SET .. WHERE ..`. It isn't an error if no row matches.
 pub fn update<S: Alter>(
     tx: &mut Transaction<'_, S>,
     sql: &str,
@@ -43,7 +44,7 @@ pub fn update<S: Alter>(
     Ok(())
 }
 
-/// `DELETE FROM .. WHERE ..`. Rows that aren't there are no error.
+/// `DELETE FROM .. WHERE ..`. It isn't an error if no row matches.
 pub fn delete<S: Alter>(
     tx: &mut Transaction<'_, S>,
     sql: &str,
@@ -60,7 +61,7 @@ pub fn delete<S: Alter>(
     Ok(())
 }
 
-/// `CREATE TABLE ..`: the table stands after the others, without a row.
+/// `CREATE TABLE ..`: the table comes after the others, without rows.
 pub fn create_table<S: Alter>(tx: &mut Transaction<'_, S>, sql: &str) -> Result<(), Error>
     ensures same_reference { tx.new.conn.ghost_name ≡ tx.old.conn.ghost_name }
     ensures value { DoesInside S.Store tx.old.conn.now tx.new.conn.now result

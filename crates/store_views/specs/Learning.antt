@@ -1,4 +1,4 @@
--- Which sizes are known after a command.
+-- The sizes that are known after a command.
 use Rattle.std.specs.Prelude.{◌≡◌, ℕ, not, Some, IsTrue}
 use Rattle.desk_texts.specs.declared.command.Command.{Command}
 use Rattle.desk_rules.specs.declared.view.LimitedTable.{LimitedTable}
@@ -6,7 +6,8 @@ use Rattle.desk_rules.specs.Shown.{may_put}
 use Rattle.store_views.specs.sizes.Sizes.{AreEnough, known}
 use Rattle.store_views.specs.declared.sizes.kept.KeptSizes.{KeptSizes}
 
--- The sizes that the command needs are known after it. Those that were known, and those that it doesn't need, are as they were.
+-- The sizes that the command needs are known after it. Those that were known before, and those that
+-- it doesn't need, don't change.
 pub record Learns (command : Command) (before after : KeptSizes) : Type 0 where
   pub enough : AreEnough after command
   pub calls : (n : ℕ) → before.calls ≡ Some n → after.calls ≡ Some n

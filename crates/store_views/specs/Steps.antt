@@ -1,4 +1,4 @@
--- What the reads of a view tell, part by part: no reader has to believe these words.
+-- The reads of a view, part by part. Auditors needn't believe these words.
 use Rattle.std.specs.Prelude.{◌≡◌, ℕ, List, Option, Some, find, not, bytes_eq, All, IsPermutation, IsTrue, is_some}
 use Rattle.std.specs.List.{list_any}
 use Rattle.desk_texts.specs.Callers.{caller_name}
@@ -27,7 +27,7 @@ pub record ReadsBack (t : Tables) : Type 0 where
   pub calls : All IsReadable t.calls
   pub proposals : All IsStamped t.proposals
 
--- people, as far as a call names them
+-- people, those that a call names
 pub record ShowsPeople (rows : List Person) (t : Tables) (own : List ℕ) (command : Command) : Type 0 where
   pub caller : find (has_name own) rows ≡ find (has_name own) t.people
   pub names : (name : List ℕ) → IsTrue (list_any (λ n. bytes_eq name n) (people_named command))
@@ -47,7 +47,7 @@ ShowsVotes rows t number = (k : ℕ) → number ≡ Some k → IsPermutation (vo
 abbrev pub ShowsProposal : List ProposalRow → Tables → Option ℕ → Type 0
 ShowsProposal rows t number = (k : ℕ) → number ≡ Some k → find (is_proposal_row k) rows ≡ find (is_proposal_row k) t.proposals
 
--- all rows that a call names, but for those of the lists
+-- all rows that a call names, except those of the lists
 pub record ShowsNamed (n : CallRows) (t : Tables) (c : Call) : Type 0 where
   pub people : ShowsPeople n.people.items t (caller_name c.caller) c.command
   pub call : find (has_key (caller_name c.caller) c.key) n.calls.items ≡ find (has_key (caller_name c.caller) c.key) t.calls
@@ -55,7 +55,7 @@ pub record ShowsNamed (n : CallRows) (t : Tables) (c : Call) : Type 0 where
   pub votes : ShowsVotes n.votes.items t (request_named c.command)
   pub proposal : ShowsProposal n.proposals.items t (proposal_named c.command)
 
--- and no other
+-- and no others
 pub record HoldsNamed (n : CallRows) (c : Call) : Type 0 where
   pub people : All (λ p. IsTrue (is_named_person (caller_name c.caller) c.command p)) n.people.items
   pub calls : All (λ m. IsTrue (has_key (caller_name c.caller) c.key m)) n.calls.items
@@ -63,15 +63,15 @@ pub record HoldsNamed (n : CallRows) (c : Call) : Type 0 where
   pub votes : All (λ r. request_named c.command ≡ Some r.request) n.votes.items
   pub proposals : All (λ r. proposal_named c.command ≡ Some r.number) n.proposals.items
 
--- of these tables the sizes that the command needs are known; those that were known, and those that it doesn't need, are as they
--- were
+-- the sizes of these tables that the command needs are known; those that were known, and those that
+-- it doesn't need, don't change
 pub record LearnsOf (tables : List LimitedTable) (command : Command) (before after : KeptSizes) : Type 0 where
   pub calls : before.calls ≡ after.calls
   pub enough : All (λ table. IsTrue (may_put command table) → IsTrue (is_some (known after table))) tables
   pub sizes : (table : LimitedTable) (n : ℕ) → known before table ≡ Some n → known after table ≡ Some n
   pub others : (table : LimitedTable) → IsTrue (not (may_put command table)) → known after table ≡ known before table
 
--- how many calls there are is known; all else is as it was
+-- how many calls there are is known; all else stays
 pub record LearnsCalls (before after : KeptSizes) : Type 0 where
   pub enough : IsTrue (is_some after.calls)
   pub kept : (n : ℕ) → before.calls ≡ Some n → after.calls ≡ Some n

@@ -1,4 +1,4 @@
-//! Rows by a key. A row that hasn't the key that was asked for is no desk's.
+//! Rows by a key. A row with another key than the requested one isn't a desk's.
 ghost use Rattle.std.specs.Prelude.{◌≡◌, ◌==◌, All, IfOk, IsTrue, filter};
 ghost use Rattle.store_schema.specs.rows.Values.{vote_values};
 ghost use Rattle.desk_history.specs.Formed.{IsReadable};

@@ -1,5 +1,5 @@
-//! The rows of what is listed, of what is revoked and of the level that an image's facts or a command name, by keyed
-//! statements inside a transaction.
+//! The listed and revoked entries and the components of the level that an image's facts or a
+//! command name, by keyed statements inside a transaction.
 
 mod finding;
 mod gathering;

@@ -1,4 +1,4 @@
-//! The rows that a call names, but for those of the lists.
+//! The rows that a call names, except those of the lists.
 ghost use Rattle.std.specs.Prelude.{◌≡◌, ℕ, All, IfOk, IsTrue, Some, find, option_copied};
 ghost use Rattle.desk_history.specs.Formed.{IsReadable};
 ghost use Rattle.desk_history.specs.People.{added_by};
@@ -22,7 +22,7 @@ use sqlite::{Alter, Transaction};
 use std::alloc::Global;
 use store_reads::ReadFault;
 
-/// The rows that a call names, but for those of the lists.
+/// The rows that a call names, except those of the lists.
 #[derive(Drop)]
 pub(crate) struct CallRows {
     pub(crate) people: Vec<Person>,
@@ -120,8 +120,8 @@ pub(crate) fn named_row<'a>(
     }
 }
 
-/// The people whom the call names: who calls, and who has the name or the token of a person whom
-/// the command adds.
+/// The people whom the call names: the caller, and those who have the name or the token of a person
+/// whom the command adds.
 fn people_of<S: Alter>(
     alloc: Global,
     tx: &mut Transaction<'_, S>,
@@ -242,7 +242,7 @@ fn proposals_of<S: Alter>(
     Ok(rows)
 }
 
-/// The rows that the call names, but for those of the lists.
+/// The rows that the call names, except those of the lists.
 pub(crate) fn rows_of_call<S: Alter>(
     alloc: Global,
     tx: &mut Transaction<'_, S>,

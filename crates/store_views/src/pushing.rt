@@ -1,10 +1,10 @@
-//! A row that may be there, put after others.
+//! An optional row, appended to others.
 ghost use Rattle.std.specs.Prelude.{◌≡◌, ◌++◌, OnOk};
 ghost use Rattle.store_reads.specs.Reads.{listed};
 
 use store_reads::ReadFault;
 
-/// Puts the row after the others, if there is one. `NoMemory`: memory was refused.
+/// Appends the row, if there is one. `NoMemory`: memory was refused.
 pub(crate) fn push_some<T: Drop>(rows: &mut Vec<T>, row: Option<T>) -> Result<(), ReadFault>
     ensures { OnOk result (rows.new.items ≡ rows.old.items ++ listed row) }
 {

@@ -1,5 +1,5 @@
-//! Sizes of the tables that a desk's limits count, as far as they are known: counted once, then carried from one accepted
-//! command to the next.
+//! Sizes of the tables that a desk's limits count, if they are known: counted once, then carried
+//! from one accepted command to the next.
 
 mod kept;
 mod need;

@@ -1,4 +1,4 @@
-//! The sizes that a command needs: counted where they aren't known.
+//! The sizes that a command needs: counted if they aren't known.
 ghost use Rattle.std.specs.Prelude.{◌≡◌, ◌&&◌, [], ◌∷◌, IfOk, is_some, not};
 ghost use Rattle.desk_history.specs.Tables.{Tables};
 ghost use Rattle.store_reads.specs.Counting.{counted};
@@ -15,7 +15,7 @@ use desk_texts::Command;
 use sqlite::{Alter, Transaction};
 use store_reads::{Counted, ReadFault, count};
 
-/// What is counted where the table's size is asked for.
+/// The count that gives the table's size.
 fn counted_of(table: LimitedTable) -> Counted
     ensures { (t : Tables) → counted result t ≡ spec.rows_in t table }
 {
@@ -49,7 +49,7 @@ fn is_lacking(sizes: &KeptSizes, command: &Command, table: LimitedTable) -> bool
     may_put(command, table) && sizes.size(table).is_none()
 }
 
-/// The sizes, with that of the table where the command needs it.
+/// The sizes, with that of the table if the command needs it.
 fn learn_one<S: Alter>(
     tx: &mut Transaction<'_, S>,
     sizes: KeptSizes,
@@ -110,7 +110,7 @@ fn learn_calls<S: Alter>(
     Ok(sizes.with_calls(counted))
 }
 
-/// The sizes, with those that the command needs: what isn't known is counted.
+/// The sizes, with those that the command needs: unknown ones are counted.
 pub(crate) fn learn<S: Alter>(
     tx: &mut Transaction<'_, S>,
     sizes: KeptSizes,

@@ -1,4 +1,4 @@
-//! The rows and sizes that a decision is made from.
+//! The rows and sizes for a decision.
 ghost use Rattle.std.specs.Prelude.{◌≡◌, ℕ, List, IfErr, IfOk, OnErr};
 ghost use Rattle.store_schema.specs.rows.Contents.{contents};
 ghost use Rattle.desk_history.specs.Calls.{History};
@@ -72,8 +72,8 @@ fn see<S: Alter>(
     Ok(Seen { view, sizes: known })
 }
 
-/// The rows and sizes by which the tables are shown for the call. Sizes that the command needs and
-/// that aren't known are counted, and known from then on. Takes memory for the rows.
+/// The rows and sizes that show the tables for the call. Unknown sizes that the command needs are
+/// counted, and known from then on. Takes memory for the rows.
 ///
 /// `Store`: the store failed, or a row that the call names isn't one that the desk writes.
 pub fn view<S: Alter>(

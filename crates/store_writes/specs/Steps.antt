@@ -1,4 +1,5 @@
--- What a step inside a transaction makes of the desk's tables, of a connection before and after it.
+-- The effect of a step inside a transaction on the desk's tables, from the connection before and
+-- after it.
 use Rattle.std.specs.Prelude.{⊤, ℕ, pos, List, [], ◌∷◌, ◌++◌, map, Result}
 use Rattle.sqlite.specs.declared.types.Value.TheVariants.{Int, Text, Blob}
 use Rattle.sqlite.specs.Order.{Row}
@@ -14,25 +15,26 @@ use Rattle.desk_history.specs.Tables.{Tables, tables}
 use Rattle.store_schema.specs.rows.Contents.{contents}
 use Rattle.store_schema.specs.rows.Values.{item_values}
 
--- where it was done, they hold what this change makes of what they held
+-- after a success, the tables hold what this change makes of their contents
 abbrev pub Steps : {S X E : Type 0} → Ghosts S → Held S → Held S → Result X E → (Tables → Tables) → Type 0
 Steps g old new result change = DoesInside g old new result (λ _ before after. Changes desk_schema contents before after change)
 
--- where it was done in tables without a row, they hold those of this owner's desk without calls
+-- after a success in tables without rows, they hold those of this owner's desk without calls
 abbrev pub Begins : {S X E : Type 0} → Ghosts S → Held S → Held S → Result X E → List ℕ → Type 0
 Begins g old new result owner =
     DoesInside g old new result (λ _ before after. Turns desk_schema (λ (_ : ⊤). no_rows desk_schema.tables) (λ _. contents (tables owner [])) before after)
 
--- the tables of a desk without calls, before it is written how many calls were accepted by the first rules
+-- the tables of a desk without calls, before the row that says how many calls were accepted by the
+-- first rules
 abbrev pub unmigrated : List ℕ → Tables
 unmigrated owner = record (tables owner []) { migrated = [] }
 
--- where it was done in tables without a row, they hold these
+-- after a success in tables without rows, they hold these
 abbrev pub Founds : {S X E : Type 0} → Ghosts S → Held S → Held S → Result X E → Tables → Type 0
 Founds g old new result t =
     DoesInside g old new result (λ _ before after. Turns desk_schema (λ (_ : ⊤). no_rows desk_schema.tables) (λ _. contents t) before after)
 
--- the tables where it is written that so many calls were accepted by the first rules
+-- the tables with the row that says how many calls were accepted by the first rules
 abbrev pub with_migrated : ℕ → Tables → Tables
 with_migrated calls t = record t { migrated = record { id = 1; calls = calls } ∷ t.migrated }
 

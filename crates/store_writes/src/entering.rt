@@ -1,4 +1,4 @@
-//! The desk itself, people, calls and the level's components: rows that are put in.
+//! The desk itself, people, calls and the level's components: rows that are inserted.
 ghost use Rattle.std.specs.Prelude.{◌≡◌};
 ghost use Rattle.desk_history.specs.Writes.{written};
 ghost use Rattle.desk_history.specs.declared.write.Write.TheVariants as writes;
@@ -15,7 +15,7 @@ use std::alloc::Global;
 use store_schema::{INSERT_CALL, INSERT_COMPONENT, INSERT_DESK, INSERT_MIGRATED, INSERT_PERSON};
 use store_sql::{StoreFault, insert};
 
-/// The mark by which the file of a desk is known.
+/// The mark that identifies the file of a desk.
 pub const MARK: &str = "boot-desk";
 
 /// The version of the tables.
@@ -24,7 +24,7 @@ pub const VERSION: u32 = 2;
 /// The stamp of shim's first level.
 const FIRST_STAMP: u32 = 2021030218;
 
-/// Puts in the desk's own row, in tables without a row.
+/// Inserts the desk's own row into tables without rows.
 fn put_own<S: Alter>(tx: &mut Transaction<'_, S>, owner: &Guid) -> Result<(), StoreFault>
     ensures same_reference { tx.new.conn.ghost_name ≡ tx.old.conn.ghost_name }
     ensures value { Founds S.Store tx.old.conn.now tx.new.conn.now result (unmigrated owner.now) }
@@ -40,7 +40,7 @@ fn put_own<S: Alter>(tx: &mut Transaction<'_, S>, owner: &Guid) -> Result<(), St
     Ok(())
 }
 
-/// Puts in how many calls were accepted by the first rules.
+/// Inserts how many calls were accepted by the first rules.
 pub fn put_migrated<S: Alter>(tx: &mut Transaction<'_, S>, calls: u64) -> Result<(), StoreFault>
     ensures same_reference { tx.new.conn.ghost_name ≡ tx.old.conn.ghost_name }
     ensures value { Steps S.Store tx.old.conn.now tx.new.conn.now result (with_migrated calls) }
@@ -53,7 +53,8 @@ pub fn put_migrated<S: Alter>(tx: &mut Transaction<'_, S>, calls: u64) -> Result
     Ok(())
 }
 
-/// Puts in the rows of a desk without calls, in tables without a row. Every entry that the desk exports is this owner's.
+/// Inserts the rows of a desk without calls into tables without rows. The owner is that of each
+/// entry that the desk exports.
 pub fn put_desk<S: Alter>(tx: &mut Transaction<'_, S>, owner: &Guid) -> Result<(), StoreFault>
     ensures same_reference { tx.new.conn.ghost_name ≡ tx.old.conn.ghost_name }
     ensures value { Begins S.Store tx.old.conn.now tx.new.conn.now result owner.now }
@@ -66,7 +67,7 @@ pub fn put_desk<S: Alter>(tx: &mut Transaction<'_, S>, owner: &Guid) -> Result<(
     Ok(())
 }
 
-/// Puts in a person.
+/// Inserts a person.
 pub(crate) fn put_person<S: Alter>(
     tx: &mut Transaction<'_, S>,
     person: &Person,
@@ -90,7 +91,8 @@ pub(crate) fn put_person<S: Alter>(
     Ok(())
 }
 
-/// Puts in an accepted call, with the caller's name and the reply's text. Takes memory for that text.
+/// Inserts an accepted call, with the caller's name and the reply's text. Takes memory for that
+/// text.
 pub(crate) fn put_call<S: Alter>(
     alloc: Global,
     tx: &mut Transaction<'_, S>,
@@ -121,7 +123,7 @@ pub(crate) fn put_call<S: Alter>(
     Ok(())
 }
 
-/// Puts in a component of the level.
+/// Inserts a component of the level.
 pub(crate) fn put_component<S: Alter>(
     tx: &mut Transaction<'_, S>,
     component: &Component,

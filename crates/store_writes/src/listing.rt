@@ -15,7 +15,7 @@ use store_schema::{
 };
 use store_sql::{StoreFault, delete, insert};
 
-/// Puts in a listed entry.
+/// Inserts a listed entry.
 pub(crate) fn put_entry<S: Alter>(
     tx: &mut Transaction<'_, S>,
     entry: &Entry,
@@ -39,7 +39,7 @@ pub(crate) fn put_entry<S: Alter>(
     Ok(())
 }
 
-/// Takes out the listed entry of a kind and digest.
+/// Deletes the listed entry of a kind and digest.
 pub(crate) fn unlist<S: Alter>(
     tx: &mut Transaction<'_, S>,
     listing: &Listing,
@@ -59,7 +59,7 @@ pub(crate) fn unlist<S: Alter>(
     Ok(())
 }
 
-/// Puts in a revoked digest of an image.
+/// Inserts a revoked digest of an image.
 fn revoke_digest<S: Alter>(tx: &mut Transaction<'_, S>, digest: &Digest) -> Result<(), StoreFault>
     ensures same_reference { tx.new.conn.ghost_name ≡ tx.old.conn.ghost_name }
     ensures value { Steps S.Store tx.old.conn.now tx.new.conn.now result
@@ -72,7 +72,7 @@ fn revoke_digest<S: Alter>(tx: &mut Transaction<'_, S>, digest: &Digest) -> Resu
     Ok(())
 }
 
-/// Puts in a revoked certificate, by its digest.
+/// Inserts a revoked certificate, by its digest.
 fn revoke_certificate<S: Alter>(
     tx: &mut Transaction<'_, S>,
     digest: &Digest,
@@ -88,7 +88,7 @@ fn revoke_certificate<S: Alter>(
     Ok(())
 }
 
-/// Puts in what is revoked.
+/// Inserts a revoked digest, of an image or of a certificate.
 pub(crate) fn revoke<S: Alter>(
     tx: &mut Transaction<'_, S>,
     listing: &Listing,

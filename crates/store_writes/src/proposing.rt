@@ -1,4 +1,4 @@
-//! Proposals, with what they name: rows that are put in.
+//! Proposals with their items: rows that are inserted.
 ghost use Rattle.std.specs.Prelude.{◌≡◌, ◌<◌, Some, length, slice_get, unwrap_or};
 ghost use Rattle.store_schema.specs.rows.Contents.{contents};
 ghost use Rattle.store_schema.specs.rows.Values.{item_values};
@@ -17,7 +17,7 @@ use sqlite::{Alter, Transaction, params};
 use store_schema::{INSERT_PROPOSAL, INSERT_PROPOSAL_ITEM};
 use store_sql::{StoreFault, insert};
 
-/// Puts in an item by its columns.
+/// Inserts an item by its columns.
 fn insert_item<S: Alter>(
     tx: &mut Transaction<'_, S>,
     proposal: ProposalNumber,
@@ -45,7 +45,7 @@ fn insert_item<S: Alter>(
     Ok(())
 }
 
-/// Puts in the item at a place, which counts digests, then certificates, then components.
+/// Inserts the item at a place; places count digests, then certificates, then components.
 fn put_item<S: Alter>(
     tx: &mut Transaction<'_, S>,
     proposal: ProposalNumber,
@@ -101,7 +101,7 @@ fn count_of(named: &Import) -> usize
         + named.components().as_slice().len()
 }
 
-/// Puts in all that a proposal names, the last first.
+/// Inserts all items of a proposal, the last first.
 fn put_items<S: Alter>(
     tx: &mut Transaction<'_, S>,
     proposal: ProposalNumber,
@@ -122,7 +122,7 @@ fn put_items<S: Alter>(
     Ok(())
 }
 
-/// The number of the stamp, or 0 where there is none.
+/// The number of the stamp, or 0 if there is none.
 fn stamp_number(stamp: Option<Stamp>) -> u64
     ensures { result ≡ unwrap_or stamp 0 }
 {
@@ -132,7 +132,7 @@ fn stamp_number(stamp: Option<Stamp>) -> u64
     }
 }
 
-/// Puts in a proposal, and before it all that it names.
+/// Inserts a proposal, after all of its items.
 pub(crate) fn put_proposal<S: Alter>(
     tx: &mut Transaction<'_, S>,
     proposal: &ProposalRow,

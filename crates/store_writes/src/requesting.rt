@@ -1,4 +1,4 @@
-//! Requests, and what belongs to them: rows that are put in.
+//! Requests and their certificates, components, votes and files: rows that are inserted.
 ghost use Rattle.std.specs.Prelude.{◌≡◌};
 ghost use Rattle.desk_history.specs.Writes.{written};
 ghost use Rattle.desk_history.specs.declared.write.Write.TheVariants as writes;
@@ -14,7 +14,7 @@ use store_schema::{
 };
 use store_sql::{StoreFault, insert};
 
-/// Puts in a request.
+/// Inserts a request.
 pub(crate) fn put_request<S: Alter>(
     tx: &mut Transaction<'_, S>,
     request: &RequestRow,
@@ -47,7 +47,7 @@ pub(crate) fn put_request<S: Alter>(
     Ok(())
 }
 
-/// Puts in a certificate of a request's image.
+/// Inserts a certificate of a request's image.
 pub(crate) fn put_request_certificate<S: Alter>(
     tx: &mut Transaction<'_, S>,
     certificate: &RequestCertificateRow,
@@ -68,7 +68,7 @@ pub(crate) fn put_request_certificate<S: Alter>(
     Ok(())
 }
 
-/// Puts in a component of a request's image.
+/// Inserts a component of a request's image.
 pub(crate) fn put_request_component<S: Alter>(
     tx: &mut Transaction<'_, S>,
     component: &RequestComponentRow,
@@ -95,7 +95,7 @@ pub(crate) fn put_request_component<S: Alter>(
     Ok(())
 }
 
-/// Puts in a vote.
+/// Inserts a vote.
 pub(crate) fn put_vote<S: Alter>(
     tx: &mut Transaction<'_, S>,
     vote: &VoteRow,
@@ -121,7 +121,7 @@ pub(crate) fn put_vote<S: Alter>(
     Ok(())
 }
 
-/// Puts in a returned file.
+/// Inserts a returned file.
 pub(crate) fn put_return<S: Alter>(
     tx: &mut Transaction<'_, S>,
     returned: &ReturnRow,

@@ -1,11 +1,11 @@
-//! Numbers as SQL holds them.
+//! Numbers as integers of SQL.
 ghost use Rattle.std.specs.Prelude.{◌≡◌, ◌<◌, IfOk, OnErr, pos};
 ghost use Rattle.sqlite.specs.declared.types.Value.TheVariants.{Int};
 
 use sqlite::types::Value;
 use store_sql::StoreFault;
 
-/// The number as an integer of SQL, which ends at 2^63 - 1: `Store` above it.
+/// The number as an integer of SQL; `Store` above 2^63 - 1, the greatest of those.
 pub(crate) fn stored(number: u64) -> Result<Value, StoreFault>
     ensures value { IfOk result (λ value. value ≡ Int (pos number)) }
     ensures only { OnErr result (9223372036854775807 < number) }

@@ -1,4 +1,4 @@
-//! The writes of a decision, one and all.
+//! The writes of a decision, one or all.
 ghost use Rattle.std.specs.Prelude.{◌≡◌};
 ghost use Rattle.desk_history.specs.Writes.{all_written, written};
 ghost use Rattle.store_sql.specs.States.{CommitsNothing, Spares, StaysInside};

@@ -1,4 +1,4 @@
--- The report of what is counted.
+-- The report of the counts.
 use Rattle.std.specs.Prelude.{ℕ, List, ◌++◌, codes}
 use Rattle.store_counts.specs.declared.numbers.Counts.{Counts}
 use Rattle.store_counts.specs.declared.numbers.ListCounts.{ListCounts}
@@ -18,7 +18,7 @@ state_lines n =
     ++ line (codes "withdrawn") n.withdrawn
     ++ line (codes "signed") n.signed
 
--- the lines of what is listed and revoked
+-- the lines of the listed and revoked entries
 unfoldable pub list_lines : ListCounts → List ℕ
 list_lines n =
     line (codes "listed digests") n.listed.digests

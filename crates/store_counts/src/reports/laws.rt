@@ -6,7 +6,7 @@ ghost use Rattle.desk_exports.specs.Reports as exports;
 ghost use Rattle.desk_history.specs.Calls.{History};
 ghost use Rattle.store_counts.specs.reports.Reports.{report_of};
 
-/// Where the numbers are those of a history, their report is the history's.
+/// If the numbers are those of a history, their report is the history's.
 pub fn report_is_the_history()
     ensures { (n : Counts) (cs : History) → CountHistory n cs
         → report_of n ≡ exports.report cs }

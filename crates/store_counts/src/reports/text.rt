@@ -7,7 +7,7 @@ use crate::{Counts, ListCounts, RequestCounts};
 use itoa::Buffer;
 use std::alloc::{AllocError, Global};
 
-/// Puts so many spaces to the text.
+/// Appends `count` spaces to the text.
 fn pad(text: &mut String, count: usize) -> Result<(), AllocError>
     ensures { OnOk result (string_bytes text.new
         ≡ string_bytes text.old ++ replicate count 32) }
@@ -18,7 +18,7 @@ fn pad(text: &mut String, count: usize) -> Result<(), AllocError>
     Ok(())
 }
 
-/// Puts a line: the label left in 24 places, and the number right in 10.
+/// Appends a line: the label at the left in 24 places, and the number at the right in 10.
 fn put_line(text: &mut String, label: &str, number: u64) -> Result<(), AllocError>
     ensures { OnOk result (string_bytes text.new
         ≡ string_bytes text.old ++ line label.now number) }
@@ -74,8 +74,8 @@ fn put_end(text: &mut String, counts: &ListCounts, calls: u64) -> Result<(), All
     put_line(text, "stamp", counts.stamp.value())
 }
 
-/// The report of what a desk counts: fourteen lines, each with a label left in 24 places, a number right in 10, and LF. Takes
-/// memory for the text.
+/// The report of a desk's counts: fourteen lines, each with a label at the left in 24 places, a
+/// number at the right in 10, and LF. Takes memory for the text.
 pub fn report(alloc: Global, counts: &Counts) -> Result<String, AllocError>
     ensures { IfOk result (λ text. string_bytes text ≡ spec.report_of counts.now) }
 {

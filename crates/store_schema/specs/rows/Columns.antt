@@ -1,4 +1,4 @@
--- What a row of a STRICT table has in its columns (SQLite, "STRICT Tables").
+-- The columns of a row of a STRICT table (SQLite, "STRICT Tables").
 use Rattle.std.specs.Prelude.{◌≡◌, ℕ, Bool, true, false, ◌&&◌, List, [], ◌∷◌, Option, Some, None}
 use Rattle.std.specs.List.{AllByRecursion}
 use Rattle.sqlite.specs.Kind.{Kind}
@@ -22,7 +22,7 @@ are_of [] [] = true
 are_of (c ∷ cs) (v ∷ vs) = is_of c.kind v && are_of cs vs
 are_of columns row = false
 
--- the same of a row that begins with its row id, which stands for the first column
+-- the same for a row that begins with its row id, which is the first column's value
 abbrev pub has_columns : Option ℕ → List Column → Row → Bool
 has_columns None columns row = are_of columns row
 has_columns (Some key) columns (id ∷ Null ∷ row) = are_of columns (id ∷ row)

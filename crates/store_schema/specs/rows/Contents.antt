@@ -1,4 +1,4 @@
--- What the fifteen tables hold as rows of SQL, in the order in which the tables are made.
+-- The contents of the fifteen tables as rows of SQL, in the order in which the tables are made.
 use Rattle.std.specs.Prelude.{List, [], ◌∷◌, map, flat_map}
 use Rattle.store_sql.specs.Contents.{Contents}
 use Rattle.desk_history.specs.Items.{item_rows}

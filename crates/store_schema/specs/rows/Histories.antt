@@ -1,4 +1,4 @@
--- Histories whose tables a store holds.
+-- Histories held in a store's tables.
 use Rattle.std.specs.Prelude.{◌≡◌, ℕ, List, take, true}
 use Rattle.std.specs.List.{list_all}
 use Rattle.desk_texts.specs.declared.command.Call.{Call}
@@ -28,7 +28,7 @@ ShowsHistory s owner cs = Shows desk_schema s (rows_of owner cs)
 abbrev pub LeavesHistory : State → List ℕ → History → Type 0
 LeavesHistory s owner cs = Leaves s (λ db. HoldsHistory db owner cs)
 
--- they hold the history before the call or the one after it
+-- the trees hold the history before the call or the one after it
 abbrev pub HoldsLeft : Trees → List ℕ → History → Call → Type 0
 HoldsLeft db owner cs c = (later : History) × IsLeft cs c later × HoldsHistory db owner later
 

@@ -1,5 +1,5 @@
--- A row of each table as SQL holds it. Where the first column is the row id, the row begins with it, and NULL stands in the
--- column's own place (SQLite, "Rowid Tables").
+-- A row of each table as SQL holds it. If the first column is the row id, the row begins with it,
+-- and NULL is in the column's own place (SQLite, "Rowid Tables").
 use Rattle.std.specs.Prelude.{ℕ, pos, List, [], ◌∷◌, unwrap_or}
 use Rattle.sqlite.specs.declared.types.Value.TheVariants.{Null, Int, Text, Blob}
 use Rattle.sqlite.specs.Order.{Row}
@@ -70,7 +70,7 @@ digest_values d = Blob d ∷ []
 abbrev pub component_values : Component → Row
 component_values x = Text x.name ∷ Int (pos x.generation) ∷ []
 
--- own: a proposal: number, officer, kind, the stamp or 0, how many entries an import passed over, state
+-- own: a proposal: number, officer, kind, the stamp or 0, how many entries an import skipped, state
 abbrev pub proposal_values : ProposalRow → Row
 proposal_values p =
     Int (pos p.number) ∷ Null ∷ Text p.officer ∷ Text (proposal_kind_text p.kind) ∷ Int (pos (unwrap_or p.named.stamp 0))

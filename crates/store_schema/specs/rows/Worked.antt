@@ -1,4 +1,4 @@
--- A worked day of a desk, with the rows of its fifteen tables written down by hand.
+-- A worked day of a desk, with the rows of its fifteen tables written by hand.
 use Rattle.std.specs.Prelude.{◌≡◌, ℕ, zero, suc, pos, List, [], ◌∷◌, ◌++◌, codes}
 use Rattle.sqlite.specs.declared.types.Value.TheVariants.{Null, Int, Text, Blob}
 use Rattle.sqlite.specs.Order.{Row}
@@ -36,7 +36,7 @@ history =
     ∷ item (by (codes "ann") (codes "ann-1") (submit (image 0x0a 0x0b 0x0c (digest 0x14 ∷ []) (grub 3 ∷ []))))
     ∷ officers_added
 
--- the text, so many times
+-- the text repeated this many times
 abbrev repeated : ℕ → List ℕ → List ℕ
 repeated zero text = []
 repeated (suc n) text = text ++ repeated n text
@@ -126,7 +126,7 @@ proposals =
     ∷ (Int (pos 1) ∷ Null ∷ Text (codes "olga") ∷ Text (codes "digest") ∷ Int (pos 0) ∷ Int (pos 0) ∷ Text (codes "confirmed") ∷ [])
     ∷ []
 
--- what they name
+-- the items of the proposals
 abbrev proposal_items : List Row
 proposal_items =
     (Int (pos 3) ∷ Int (pos 0) ∷ Text (codes "component") ∷ Blob [] ∷ Text (codes "grub") ∷ Int (pos 4) ∷ [])

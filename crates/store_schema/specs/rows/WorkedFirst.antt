@@ -1,5 +1,5 @@
--- A worked day of a desk of one officer, with the rows of version 1 written down by hand, and those of version 2 of the same
--- history.
+-- A worked day of a desk with one officer, with its rows of version 1 and of version 2 written by
+-- hand.
 use Rattle.std.specs.Prelude.{◌≡◌, ℕ, pos, true, List, [], ◌∷◌, ◌++◌, codes}
 use Rattle.sqlite.specs.declared.types.Value.TheVariants.{Null, Int, Text, Blob}
 use Rattle.sqlite.specs.Order.{Row}
@@ -26,7 +26,7 @@ history =
 abbrev desk : ℕ → List Row
 desk version = (Int (pos 1) ∷ Null ∷ Text (codes "boot-desk") ∷ Int (pos version) ∷ Blob owner ∷ Int (pos 2024010100) ∷ []) ∷ []
 
--- the other eleven tables of version 1: people, calls, and what is revoked, with the level
+-- the other eleven tables of version 1: people, calls, revoked entries, and the level
 abbrev others : Contents
 others =
     ((Text (codes "olga") ∷ Text (codes "officer") ∷ Blob (digest 6) ∷ []) ∷ [])

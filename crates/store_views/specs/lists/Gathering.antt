@@ -1,4 +1,4 @@
--- How the rows of keys are gathered, key by key: no reader has to believe these words.
+-- The gathering of rows by keys, key by key. Auditors needn't believe these words.
 use Rattle.std.specs.Prelude.{◌≡◌, ℕ, List, ◌++◌, map, filter, flat_map, bytes_eq, All, IsTrue}
 use Rattle.std.specs.List.{list_any}
 use Rattle.sbat.specs.declared.component.Component.{Component}
@@ -16,11 +16,11 @@ use Rattle.desk_rules.specs.Views as views
 use Rattle.desk_rules.specs.Views.{EntryKeys, Keys, is_listing, keys_for, revoked_rows}
 use Rattle.store_views.specs.declared.lists.keys.Digests.{Digests}
 
--- digests that are asked for, as keys
+-- requested digests, as keys
 abbrev pub entry_keys : Digests → EntryKeys
 entry_keys d = record { digests = d.images.now; certificates = d.certificates.now }
 
--- the keys that are asked for: of what is listed, of what is revoked, and the names of components
+-- the requested keys: of listed entries, of revoked entries, and the names of components
 abbrev pub keys_of : Digests → Digests → List Component → Keys
 keys_of listed revoked components = record {
   listed = entry_keys listed;
@@ -29,15 +29,16 @@ keys_of listed revoked components = record {
       (λ x. x.name) components;
 }
 
--- the key of this kind in what is listed, and no other key
+-- the key of this kind among the listed entries, and no other key
 abbrev pub listed_keys : ListedKind → List ℕ → Keys
 listed_keys kind digest = record no_keys { listed = one_key kind digest }
 
--- the key of this kind in what is revoked, and no other key
+-- the key of this kind among the revoked entries, and no other key
 abbrev pub revoked_keys : ListedKind → List ℕ → Keys
 revoked_keys kind digest = record no_keys { revoked = one_key kind digest }
 
--- these keys in what is revoked, the names of these components in the level, and no other key
+-- these keys among the revoked entries, the names of these components in the level, and no other
+-- key
 abbrev pub barring_keys : EntryKeys → List Component → Keys
 barring_keys revoked components = record no_keys {
   revoked = revoked;
@@ -49,7 +50,7 @@ barring_keys revoked components = record no_keys {
 abbrev pub import_keys : Imported → Keys
 import_keys i = barring_keys (record { digests = i.digests; certificates = i.certificates }) i.components
 
--- all that these facts name, but for what is listed
+-- all that these facts name, except listed entries
 abbrev pub submission_keys : Facts → Keys
 submission_keys x = barring_keys (views.revoked_keys x) x.components
 
@@ -65,17 +66,17 @@ revocations_of kind t digest = filter (bytes_eq digest) (revoked_rows t kind)
 abbrev pub levels_of : Tables → Component → List Component
 levels_of t named = filter (is_named named.name) t.components
 
--- what the tables have of each of these keys was put after the rows that stood there
+-- the rows that the tables have of each of these keys were appended to the old ones
 abbrev pub Gathers : {K X : Type 0} → (Tables → K → List X) → List K → List X → List X → Tables → Type 0
 Gathers rows_of keys old new t = new ≡ old ++ flat_map (rows_of t) keys
 
--- what was put after the rows that stood there has this
+-- all of the appended rows have this property
 pub record PutsOnly {X : Type 0} (P : X → Type 0) (old new : List X) : Type 0 where
   pub more : List X
   pub is : new ≡ old ++ more
   pub all : All P more
 
--- for each of these keys the rows tell whether the tables list it
+-- for each of these keys the rows show whether the tables list it
 abbrev pub ShowsListed : List Listing → EntryKeys → Tables → Type 0
 ShowsListed rows k t = (kind : ListedKind) (digest : List ℕ) → IsTrue (is_among (keys_for k kind) digest)
     → list_any (is_listing kind digest) rows ≡ has_entry kind digest t.listed

@@ -1,4 +1,4 @@
--- Sizes of tables that are known, and when they are right.
+-- Known sizes of tables, and when they are right.
 use Rattle.std.specs.Prelude.{◌≡◌, ℕ, not, List, ◌∷◌, length, Option, Some, None, is_some, IsTrue}
 use Rattle.desk_texts.specs.declared.command.Call.{Call}
 use Rattle.desk_texts.specs.declared.command.Command.{Command}
@@ -13,7 +13,7 @@ use Rattle.desk_rules.specs.declared.view.Sizes.{Sizes}
 use Rattle.desk_rules.specs.Shown.{is_table, may_put, rows_in, size_in}
 use Rattle.store_views.specs.declared.sizes.kept.KeptSizes.{KeptSizes}
 
--- how many rows the table has, where that is known
+-- how many rows the table has, if that is known
 abbrev pub known : KeptSizes → LimitedTable → Option ℕ
 known k counted.People = k.people
 known k counted.Requests = k.requests
@@ -33,11 +33,11 @@ pub record IsUnknown (k : KeptSizes) : Type 0 where
   pub calls : k.calls ≡ None
   pub sizes : (table : LimitedTable) → known k table ≡ None
 
--- the sizes are the same but for how many calls there are
+-- the sizes are the same, except for how many calls there are
 abbrev pub HaveSameRows : KeptSizes → KeptSizes → Type 0
 HaveSameRows a b = (table : LimitedTable) → known a table ≡ known b table
 
--- the sizes are the same but for that of this table
+-- the sizes are the same, except for that of this table
 pub record HaveSameOthers (table : LimitedTable) (a b : KeptSizes) : Type 0 where
   pub calls : a.calls ≡ b.calls
   pub others : (other : LimitedTable) → IsTrue (not (is_table table other)) → known a other ≡ known b other
@@ -47,8 +47,8 @@ pub record KnowsNoLess (before after : KeptSizes) : Type 0 where
   pub calls : IsTrue (is_some before.calls) → IsTrue (is_some after.calls)
   pub sizes : (table : LimitedTable) → IsTrue (is_some (known before table)) → IsTrue (is_some (known after table))
 
--- Sizes that are right of the tables before an accepted call are carried to those after it, whatever writes of its command
--- make these tables: they are right there, and none is lost.
+-- If the sizes are right for the tables before an accepted call, those after are right for the
+-- tables that any writes of its command make, and none is lost.
 abbrev pub Follows : KeptSizes → Command → List Write → KeptSizes → Type 0
 Follows before command ws after =
     (owner : List ℕ) (cs : History) (c : Call) → IsTrue (is_legal (item c ∷ cs)) → c.command ≡ command
@@ -60,11 +60,12 @@ pub record AreEnough (k : KeptSizes) (command : Command) : Type 0 where
   pub calls : IsTrue (is_some k.calls)
   pub sizes : (table : LimitedTable) → IsTrue (may_put command table) → IsTrue (is_some (known k table))
 
--- the sizes tell a command what it needs of the tables
+-- the sizes give a command those of the tables that it needs
 pub record Tell (s : Sizes) (t : Tables) (command : Command) : Type 0 where
   pub calls : s.calls ≡ length t.calls
   pub sizes : (table : LimitedTable) → IsTrue (may_put command table) → size_in s table ≡ rows_in t table
 
--- the sizes that are known, right of some tables and enough for a command, tell it what it needs
+-- the known sizes, if they are right for some tables and enough for a command, give it those that
+-- it needs
 abbrev pub TellWhatIsKnown : KeptSizes → Sizes → Type 0
 TellWhatIsKnown k s = (t : Tables) (command : Command) → AreRight k t → AreEnough k command → Tell s t command

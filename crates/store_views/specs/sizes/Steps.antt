@@ -1,4 +1,4 @@
--- What the sizes are after a command, step by step: no reader has to believe these words.
+-- The sizes after a command, step by step. Auditors needn't believe these words.
 use Rattle.std.specs.Prelude.{ℕ, ◌+◌, ◌-◌, nat_lt, if◌then◌else◌, List, Option, Some, None, count_by}
 use Rattle.desk_texts.specs.declared.command.Command.{Command}
 use Rattle.desk_texts.specs.declared.command.Command.TheVariants as command
@@ -7,7 +7,7 @@ use Rattle.desk_rules.specs.declared.view.LimitedTable.TheVariants as counted
 use Rattle.desk_rules.specs.Room.{puts}
 use Rattle.store_views.specs.declared.sizes.kept.KeptSizes.{KeptSizes}
 
--- so many rows more, where the sum is a u64
+-- `count` more rows, if the sum is a u64
 abbrev pub more : Option ℕ → ℕ → Option ℕ
 more None count = None
 more (Some n) count = if nat_lt (n + count) 18446744073709551616 then Some (n + count) else None

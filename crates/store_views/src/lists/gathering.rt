@@ -14,7 +14,7 @@ use sqlite::{Alter, Transaction};
 use std::alloc::Global;
 use store_reads::ReadFault;
 
-/// Puts the keys of the listed entries of this kind and these digests after the others.
+/// Appends the keys of the listed entries of this kind and these digests.
 pub(crate) fn gather_listed<S: Alter>(
     alloc: Global,
     tx: &mut Transaction<'_, S>,
@@ -38,7 +38,7 @@ pub(crate) fn gather_listed<S: Alter>(
     Ok(())
 }
 
-/// Puts those of these digests of this kind that are revoked after the others.
+/// Appends those of these digests of this kind that are revoked.
 pub(crate) fn gather_revoked<S: Alter>(
     alloc: Global,
     tx: &mut Transaction<'_, S>,
@@ -61,7 +61,7 @@ pub(crate) fn gather_revoked<S: Alter>(
     Ok(())
 }
 
-/// Puts the level's components of the names of these components after the others.
+/// Appends the level's components with the names of these components.
 pub(crate) fn gather_components<S: Alter>(
     alloc: Global,
     tx: &mut Transaction<'_, S>,

@@ -1,4 +1,4 @@
-//! Keys that are asked for, borrowed.
+//! Requested keys, borrowed.
 ghost use Rattle.std.specs.Prelude.{◌≡◌};
 ghost use Rattle.store_views.specs.lists.Gathering.{entry_keys};
 ghost use Rattle.desk_rules.specs.Keys.{one_key};
@@ -8,7 +8,7 @@ use desk_bytes::Digest;
 use desk_texts::ListedKind;
 use std::slice;
 
-/// Digests of images and of certificates that are asked for.
+/// Requested digests of images and of certificates.
 #[derive(Clone, Copy)]
 pub(crate) struct Digests<'a> {
     pub(crate) images: &'a [Digest],

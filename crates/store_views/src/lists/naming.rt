@@ -18,7 +18,7 @@ use sqlite::{Alter, Transaction};
 use std::alloc::Global;
 use store_reads::ReadFault;
 
-/// The row of this kind and digest in what is listed.
+/// The listed row of this kind and digest.
 pub(crate) fn listed_view<S: Alter>(
     alloc: Global,
     tx: &mut Transaction<'_, S>,
@@ -37,7 +37,7 @@ pub(crate) fn listed_view<S: Alter>(
     rows_of(alloc, tx, listed, Digests::none(), &[])
 }
 
-/// The row of this kind and digest in what is revoked.
+/// The revoked row of this kind and digest.
 pub(crate) fn revoked_view<S: Alter>(
     alloc: Global,
     tx: &mut Transaction<'_, S>,
@@ -56,7 +56,8 @@ pub(crate) fn revoked_view<S: Alter>(
     rows_of(alloc, tx, Digests::none(), revoked, &[])
 }
 
-/// The rows of what bars an image: those of these keys in what is revoked, and those of these components' names in the level.
+/// The rows that may bar an image: the revoked rows of these keys, and the level's rows of these
+/// components' names.
 fn barring_view<S: Alter>(
     alloc: Global,
     tx: &mut Transaction<'_, S>,
@@ -75,8 +76,8 @@ fn barring_view<S: Alter>(
     rows_of(alloc, tx, Digests::none(), revoked, named)
 }
 
-/// The digests, ascending, each once: what stands side by side in a table is then looked up one after another. Takes memory for
-/// them.
+/// The digests, ascending, each once, so that neighbours in a table are looked up one after
+/// another. Takes memory for them.
 fn in_order(alloc: Global, digests: &[Digest]) -> Result<Vec<Digest>, ReadFault>
     ensures arranged { IfOk result (λ ordered. IsArranged digests.now ordered.items) }
     ensures named { IfErr result (λ fault. fault ≡ ReadFault.NoMemory) }
@@ -88,7 +89,7 @@ fn in_order(alloc: Global, digests: &[Digest]) -> Result<Vec<Digest>, ReadFault>
     Ok(ordered)
 }
 
-/// The rows of what an import names. A digest that it names twice is looked up once.
+/// The rows that an import names. A digest that it names twice is looked up once.
 pub(crate) fn import_view<S: Alter>(
     alloc: Global,
     tx: &mut Transaction<'_, S>,
@@ -112,7 +113,7 @@ pub(crate) fn import_view<S: Alter>(
     Ok(view)
 }
 
-/// The rows of what a submission of these facts names: of what is revoked and of the level.
+/// The rows that a submission of these facts names: revoked entries and components of the level.
 pub(crate) fn submission_view<S: Alter>(
     alloc: Global,
     tx: &mut Transaction<'_, S>,

@@ -42,8 +42,8 @@ fn listings<S: Alter>(
     Ok(rows)
 }
 
-/// The rows of the lists that have these keys. It reads the desk's row first, so that only an open store gives Ok, also
-/// where no key is asked for.
+/// The rows of the lists that have these keys. It reads the desk's row first, so that only an open
+/// store gives Ok, even if there is no key.
 pub(crate) fn rows_of<S: Alter>(
     alloc: Global,
     tx: &mut Transaction<'_, S>,

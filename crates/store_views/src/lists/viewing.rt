@@ -46,8 +46,8 @@ pub fn list_view<S: Alter>(
     rows_of(alloc, tx, listed, revoked, facts.components.as_slice())
 }
 
-/// The rows of the lists that the command names, or for a Confirm those that its proposal names, of which this is the row.
-/// Takes memory for them. Costs one keyed statement for each key.
+/// The rows of the lists that the command names, or, for a Confirm, those that its proposal, of
+/// this row, names. Takes memory for them. Costs one keyed statement for each key.
 pub fn lists_asked<S: Alter>(
     alloc: Global,
     tx: &mut Transaction<'_, S>,

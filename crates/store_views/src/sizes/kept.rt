@@ -1,4 +1,4 @@
-//! The sizes of the counted tables, as far as they are known.
+//! The sizes of the counted tables, if they are known.
 ghost use Rattle.std.specs.Prelude.{◌≡◌, Some};
 ghost use Rattle.store_views.specs.sizes.Sizes as spec;
 ghost use Rattle.store_views.specs.sizes.Steps as steps;
@@ -7,7 +7,7 @@ use desk_history::Write;
 use desk_rules::{LimitedTable, Sizes, count};
 use desk_texts::Command;
 
-/// How many rows each table has that a limit of the desk counts, or nothing where that isn't known.
+/// How many rows each table has that a limit of the desk counts, or `None` if that isn't known.
 #[derive(Clone, Copy, Debug, PartialEq, Eq)]
 pub struct KeptSizes {
     people: Option<u64>,
@@ -20,14 +20,14 @@ pub struct KeptSizes {
     proposals: Option<u64>,
 }
 
-/// A size and so many rows more; nothing where the size isn't known.
+/// A size plus `count` rows; `None` if the size isn't known.
 fn more(size: Option<u64>, count: usize) -> Option<u64>
     ensures { result ≡ steps.more size count }
 {
     size?.checked_add(count as u64)
 }
 
-/// A size and one row less; nothing where the size isn't known.
+/// A size less one row; `None` if the size isn't known.
 fn one_less(size: Option<u64>) -> Option<u64>
     ensures { result ≡ steps.one_less size }
 {
@@ -72,14 +72,14 @@ impl KeptSizes {
         }
     }
 
-    /// How many calls there are, where that is known.
+    /// How many calls there are, if that is known.
     pub fn calls(&self) -> Option<u64>
         ensures { result ≡ self.now.calls }
     {
         self.calls
     }
 
-    /// How many rows the table has, where that is known.
+    /// How many rows the table has, if that is known.
     pub fn size(&self, table: LimitedTable) -> Option<u64>
         ensures { result ≡ spec.known self.now table }
     {
@@ -94,7 +94,7 @@ impl KeptSizes {
         }
     }
 
-    /// These sizes, where there are so many calls.
+    /// These sizes, with `size` calls.
     pub fn with_calls(self, size: u64) -> KeptSizes
         ensures told { result.calls ≡ Some size }
         ensures kept { spec.HaveSameRows self result }
@@ -105,7 +105,7 @@ impl KeptSizes {
         }
     }
 
-    /// These sizes, where the table has so many rows.
+    /// These sizes, with `size` rows in the table.
     pub fn with_size(self, table: LimitedTable, size: u64) -> KeptSizes
         ensures told { spec.known result table ≡ Some size }
         ensures kept { spec.HaveSameOthers table self result }
@@ -143,7 +143,7 @@ impl KeptSizes {
         }
     }
 
-    /// The sizes that are known, and 0 for each other.
+    /// The known sizes, and 0 for each of the others.
     pub fn sizes(&self) -> Sizes
         ensures { spec.TellWhatIsKnown self.now result }
     {
@@ -159,7 +159,7 @@ impl KeptSizes {
         }
     }
 
-    /// The sizes after an accepted command, from those before it and what the command wrote.
+    /// The sizes after an accepted command, from those before it and the command's writes.
     fn next(&self, command: &Command, writes: &[Write]) -> KeptSizes
         ensures { result ≡ steps.sizes_after self.now command.now writes.now }
     {
@@ -181,8 +181,8 @@ impl KeptSizes {
         }
     }
 
-    /// The sizes after an accepted command, from those before it and what the command wrote: right where these were, and
-    /// none is lost. It counts writes, never rows.
+    /// The sizes after an accepted command, from those before it and the command's writes: right if
+    /// those were, and none is lost. It counts writes, never rows.
     pub fn after(&self, command: &Command, writes: &[Write]) -> KeptSizes
         ensures { spec.Follows self.now command.now writes.now result }
     {

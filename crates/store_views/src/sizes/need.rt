@@ -5,7 +5,7 @@ ghost use Rattle.desk_rules.specs.Shown as spec;
 use desk_rules::LimitedTable;
 use desk_texts::Command;
 
-/// Whether the command may put rows into the table, so that its size is needed.
+/// Whether the command may insert rows into the table, so that its size is needed.
 pub fn may_put(command: &Command, table: LimitedTable) -> bool
     ensures { result ≡ spec.may_put command.now table }
 {
