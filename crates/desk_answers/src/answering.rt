@@ -1,4 +1,4 @@
-//! A desk in a store is one that answers.
+//! A desk in a store, as one that answers.
 ghost use Rattle.std.specs.Prelude.{◌≡◌, ◌≢◌, Err, IfErr, IfOk, IsErrOf, true};
 ghost use Rattle.sqlite.specs.Held.{state};
 ghost use Rattle.sqlite.specs.State.{HasCleanDisk};
@@ -19,7 +19,7 @@ use http_responses::RequestsText;
 use sqlite::Alter;
 use std::alloc::Global;
 
-/// What an export into memory failed for: a vector takes each byte that it finds memory for.
+/// The refusal of an export into memory: a vector takes each byte unless memory is refused.
 fn into_memory(refusal: Refusal) -> Refusal
     ensures write { refusal ≡ Refusal.Write → result ≡ Refusal.NoMemory }
     ensures other { refusal ≢ Refusal.Write → result ≡ refusal }

@@ -11,14 +11,14 @@ pub struct OpenDesk<S: Alter> {
 }
 
 impl<S: Alter + Drop> OpenDesk<S> {
-    /// Has the desk answer calls.
+    /// The desk, as one that answers calls.
     pub fn new(desk: Desk<S>) -> OpenDesk<S>
         ensures { result.desk ≡ desk }
     {
         OpenDesk { desk }
     }
 
-    /// Gives the desk back, as to be closed.
+    /// Returns the desk, for closing.
     pub fn into_desk(self) -> Desk<S>
         ensures { result ≡ self.desk }
     {

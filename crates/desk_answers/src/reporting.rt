@@ -13,10 +13,10 @@ use sqlite::Alter;
 use std::alloc::Global;
 use store_counts::report_is_the_history;
 
-/// The report of what the desk counts, fourteen lines of text. Nothing is changed. Takes memory.
+/// The report of the desk's counts, fourteen lines of text. Nothing changes. Takes memory.
 ///
-/// `NoMemory`: memory was refused. `Store`: the store failed, or isn't as a desk left it. `Reopen`: it had failed in a
-/// call before.
+/// `NoMemory`: memory was refused. `Store`: the store failed, or isn't as a desk left it. `Reopen`:
+/// an earlier call failed.
 pub fn report<S: Alter + Drop>(alloc: Global, desk: &mut Desk<S>) -> Result<String, Refusal>
     ensures shown { HasCleanDisk (state S.Store desk.new.conn) → IfOk result (λ text.
         Views S.Store desk.old desk.new (λ _ cs. string_bytes text ≡ exports.report cs)) }

@@ -1,4 +1,4 @@
--- What a desk that shows a history answers to a call, and the history after it.
+-- The answer of a desk that shows a history to a call, and the history after it.
 use Rattle.std.specs.Prelude.{◌≡◌, ◌⊎◌, ℕ, List, map, if◌then◌else◌, None, Result, Ok, Err}
 use Rattle.desk_bytes.specs.declared.refusal.Refusal.{Refusal}
 use Rattle.desk_texts.specs.declared.caller.Caller.TheVariants as callers
@@ -35,7 +35,7 @@ use Rattle.desk_calls.specs.declared.call.Call.{Call}
 use Rattle.desk_calls.specs.declared.call.Task.{Task}
 use Rattle.desk_calls.specs.declared.call.Task.TheVariants as task
 
--- a refusal that the desk gives, which has no place
+-- a refusal by the desk, which has no place
 pub record IsRefusal (row : Refusal) (a : Answer) : Type 0 where
   pub refused : Refused
   pub told : RefusesAs row None refused
@@ -47,56 +47,56 @@ pub record IsRefusal (row : Refusal) (a : Answer) : Type 0 where
 abbrev pub call_of : List ℕ → List ℕ → Command → Ruled
 call_of name key command = called (callers.Person name) key command
 
--- what the desk's rules say of a call is told
+-- the answer is that of the desk's rules
 abbrev pub IsRuled : ruling.Answer → Answer → Type 0
 IsRuled (ruled.Accepted reply) a = a ≡ answer.Reply reply
 IsRuled (ruled.Repeated reply) a = a ≡ answer.Reply reply
 IsRuled (ruled.Refused refusal) a = IsRefusal refusal a
 
--- own: a body that is refused is answered before the desk's rules are asked, and its key stays free
+-- own: the refusal of a body comes before the desk's rules, and its key stays free
 abbrev pub IsTaken : History → List ℕ → List ℕ → Result Command Refused → Answer → History → Type 0
 IsTaken cs name key (Err refused) a later = (a ≡ answer.Refused refused) × (later ≡ cs)
 IsTaken cs name key (Ok command) a later =
     IsRuled (runs.answer cs (call_of name key command)) a × (later ≡ runs.next cs (call_of name key command))
 
--- the same of a body that is read so
+-- the same for a body that is read in this way
 abbrev pub IsReadAndTaken : History → List ℕ → List ℕ → (Result Command Refused → Type 0) → Answer → History → Type 0
 IsReadAndTaken cs name key reads a later = (read : Result Command Refused) × reads read × IsTaken cs name key read a later
 
--- ---- what is read of a desk
+-- ---- reads of a desk
 
 -- the answer is one that is due, and nothing changes
 abbrev pub IsRead : History → (Answer → Type 0) → Answer → History → Type 0
 IsRead cs due a later = due a × (later ≡ cs)
 
--- a request is shown, or the refusal that is due
+-- a request is shown, or the due refusal is given
 abbrev pub ShowsRequest : Result Whole Refusal → Answer → Type 0
 ShowsRequest (Ok w) a = (shown : ShownRequest) × IsShown w shown × (a ≡ answer.Request shown)
 ShowsRequest (Err refusal) a = IsRefusal refusal a
 
--- requests are shown, or the refusal that is due
+-- requests are shown, or the due refusal is given
 abbrev pub ShowsRequests : Result (List Whole) Refusal → Answer → Type 0
 ShowsRequests (Ok ws) a = (shown : List ShownRequest) × AreShown ws shown × (a ≡ answer.Requests shown)
 ShowsRequests (Err refusal) a = IsRefusal refusal a
 
--- proposals are shown, or the refusal that is due
+-- proposals are shown, or the due refusal is given
 abbrev pub ShowsProposals : History → Result (List Proposal) Refusal → Answer → Type 0
 ShowsProposals cs (Ok ps) a = a ≡ answer.Proposals (map (shown_proposal cs) ps)
 ShowsProposals cs (Err refusal) a = IsRefusal refusal a
 
--- the verdict on an image, or what the image is refused for. own: it needs neither role nor key
+-- the verdict on an image, or the refusal of the image. own: it needs neither role nor key
 abbrev pub Judges : History → List ℕ → Answer → Type 0
 Judges cs image a =
     ((x : Facts) × IsFactsOf image x × (a ≡ answer.Verdict (verdict cs x) x))
     ⊎ ((refused : Refused) × RefusesImage image refused × (a ≡ answer.Refused refused))
 
--- own: the report is told to officers alone
+-- own: only officers get the report
 abbrev pub report_to : Role → History → Answer
 report_to role cs = if is_officer role then answer.Report (report cs) else answer.Refused refused.NotYourRole
 
 -- ---- every task
 
--- a person is shown what is asked for
+-- a person gets the answer to a read
 abbrev pub ShowsAsked : List ℕ → History → Person → ReadAsked → Answer → Type 0
 ShowsAsked owner cs p read.Requests a = ShowsRequests (requests_for cs (callers.Person p.name)) a
 ShowsAsked owner cs p (read.Request number) a = ShowsRequest (request_for cs (callers.Person p.name) number) a
@@ -106,8 +106,8 @@ ShowsAsked owner cs p read.Db a = a ≡ answer.Db (exports.db owner cs)
 ShowsAsked owner cs p read.Level a = a ≡ answer.Level (exports.level cs)
 ShowsAsked owner cs p read.Report a = a ≡ report_to p.role cs
 
--- The desk that shows the history answers so what the person of this name asks for with an image, and shows `later`
--- afterwards.
+-- The desk that shows the history gives this answer to a request with an image by the person of
+-- this name, and then shows `later`.
 abbrev pub AnswersImage : History → List ℕ → ImageAsked → List ℕ → Answer → History → Type 0
 AnswersImage cs name (asked.Submit key title) image =
     IsReadAndTaken cs name key (ReadsImage (λ x. command.Submit (record { title = title; facts = x })) image)
@@ -115,19 +115,19 @@ AnswersImage cs name (asked.Return key number) image =
     IsReadAndTaken cs name key (ReadsImage (λ x. command.Return (record { request = number; facts = x })) image)
 AnswersImage cs name asked.Verdict image = IsRead cs (Judges cs image)
 
--- The desk that shows the history answers a person's task so, and shows `later` afterwards. Of what is read of a desk
--- nothing changes.
+-- The desk that shows the history gives this answer to a person's task, and then shows `later`. A
+-- read changes nothing.
 abbrev pub AnswersTask : List ℕ → History → Person → Task → Answer → History → Type 0
 AnswersTask owner cs p (task.Read reading) = IsRead cs (ShowsAsked owner cs p reading)
 AnswersTask owner cs p (task.Image with image) = AnswersImage cs p.name with image
 AnswersTask owner cs p (task.Command key command) = IsTaken cs p.name key (Ok command)
 AnswersTask owner cs p (task.Bytes key format bytes) = IsReadAndTaken cs p.name key (ReadsBytes format bytes)
 
--- the same of a call
+-- the same for a call
 abbrev pub AnswersCall : List ℕ → History → Call → Answer → History → Type 0
 AnswersCall owner cs call = AnswersTask owner cs call.person call.task
 
--- ---- what may fail
+-- ---- failures
 
 -- memory was refused
 abbrev pub no_memory : Answer
@@ -141,15 +141,16 @@ store_failed = answer.Refused (refused.Unavailable outage.Store)
 abbrev pub reopened : Answer
 reopened = answer.Refused (refused.Unavailable outage.Reopen)
 
--- The answer is one that is due, and the desk shows the history after it; or memory was refused, and it shows the one
--- before; or the store failed, and so has the desk.
+-- The answer is one that is due, and the desk shows the history after it; or memory was refused,
+-- and it shows the one before; or the store failed, and so has the desk.
 abbrev pub Serves : (History → Type 0) → Type 0 → History → (Answer → History → Type 0) → Answer → Type 0
 Serves shows failed cs due a =
     ((later : History) × due a later × shows later)
     ⊎ (((a ≡ no_memory) × shows cs) ⊎ ((a ≡ store_failed) × failed))
 
--- What a desk that has failed answers, where `due` is what is due at each owner and history: that it has to be opened
--- again, unless memory was refused, or this is due whatever the desk's history is, as where the body is wrong.
+-- The answer of a desk that has failed, where `due` is the due answer at each owner and history:
+-- that it must be opened again, unless memory was refused, or the answer is due at any history, for
+-- example because the body is wrong.
 abbrev pub IsClosed : (List ℕ → History → Answer → History → Type 0) → Answer → Type 0
 IsClosed due a =
     (a ≡ reopened) ⊎ ((a ≡ no_memory) ⊎ ((owner : List ℕ) (cs : History) → due owner cs a cs))

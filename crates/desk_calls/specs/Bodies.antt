@@ -1,4 +1,4 @@
--- What the bodies of commands are read as, and what they are refused for.
+-- The commands that bodies are read as, and the refusals of bodies.
 use Rattle.std.specs.Prelude.{◌≡◌, ◌≢◌, ◌⊎◌, ℕ, List, length, nat_lt, if◌then◌else◌, Option, Some, None, Result, Ok, Err}
 use Rattle.sha2.specs.Sha256.{sha256}
 use Rattle.desk_bytes.specs.declared.refusal.Refusal.{Refusal}
@@ -20,19 +20,19 @@ use Rattle.desk_service.specs.imports.FromLevel.{IsLevelImport, RefusesLevelImpo
 use Rattle.desk_service.specs.imports.FromLists.{IsDbxImport, RefusesDbx, tbs_of}
 use Rattle.desk_service.specs.declared.imports.fault.ImportFault.{ImportFault}
 
--- a request is refused so for this row of the table of refusals, with this place or none
+-- a request is refused for this row of the table of refusals, with this place or none
 pub record RefusesAs (row : Refusal) (place : Option ℕ) (refused : Refused) : Type 0 where
   pub of : told.refusal_of refused ≡ row
   pub at : told.place_of refused ≡ place
 
--- a body is refused so for the first fault in it; want of memory is no fault of a body
+-- a body is refused for its first fault; NoMemory isn't a fault of the body
 pub record TellsFault {F : Type 0} (is_first : F → Type 0) (row : F → Refusal) (place : F → Option ℕ) (refused : Refused) : Type 0 where
   pub fault : F
   pub first : is_first fault
   pub told : RefusesAs (row fault) (place fault) refused
   pub own : row fault ≢ refusals.NoMemory
 
--- an image in memory, of which no read fails, is refused for this
+-- an image in memory, no read of which fails, is refused for this
 abbrev pub RefusesImage : List ℕ → Refused → Type 0
 RefusesImage image = TellsFault (IsFirstFault image 0 0) facts.refusal_of facts.place_of
 
@@ -51,11 +51,11 @@ abbrev pub with_tbs : List ℕ → Option (List ℕ) → Result Command Refused
 with_tbs body None = Err refused.Der
 with_tbs body (Some tbs) = Ok (command.ListCertificate (record { body = body; tbs = sha256 tbs }))
 
--- own: a certificate of more than 65,536 bytes is too long, whatever they are
+-- own: a certificate of more than 65,536 bytes is too long, whatever its bytes
 abbrev pub listing_of : List ℕ → Result Command Refused
 listing_of body = if nat_lt 65536 (length body) then Err refused.TooLong else with_tbs body (tbs_of body)
 
--- an import is the command that its definition makes of it, or is refused for the first fault in it
+-- an import is the command that its definition gives, or is refused for its first fault
 abbrev pub ReadsImport : (Command → Type 0) → (ImportFault → Type 0) → Result Command Refused → Type 0
 ReadsImport is first (Ok command) = is command
 ReadsImport is first (Err refused) = TellsFault first imports.refusal_of imports.place_of refused
@@ -64,7 +64,7 @@ ReadsImport is first (Err refused) = TellsFault first imports.refusal_of imports
 abbrev pub ReadsDbx : List ℕ → Result Command Refused → Type 0
 ReadsDbx bytes = ReadsImport (IsDbxImport bytes) (RefusesDbx bytes)
 
--- a CSV file, with the stamp that came beside it or none
+-- a CSV file, with the request's stamp or none
 abbrev pub ReadsCsv : List ℕ → Option ℕ → Result Command Refused → Type 0
 ReadsCsv text stamp = ReadsImport (IsCsvImport text stamp) (RefusesCsv text)
 
@@ -72,13 +72,13 @@ ReadsCsv text stamp = ReadsImport (IsCsvImport text stamp) (RefusesCsv text)
 abbrev pub ReadsLevel : List ℕ → Result Command Refused → Type 0
 ReadsLevel text = ReadsImport (IsLevelImport text) (RefusesLevelImport text)
 
--- the command that bytes are, in the format that is asked for
+-- the command of the bytes, in the requested format
 abbrev pub ReadsBytes : BytesAsked → List ℕ → Result Command Refused → Type 0
 ReadsBytes asked.ListCertificate body read = read ≡ listing_of body
 ReadsBytes asked.ImportDbx body read = ReadsDbx body read
 ReadsBytes (asked.ImportCsv stamp) body read = ReadsCsv body stamp read
 ReadsBytes asked.ImportLevel body read = ReadsLevel body read
 
--- the code gives this, or tells that memory was refused
+-- the code returns this, or that memory was refused
 abbrev pub Gives : {A : Type 0} → (Result A Refused → Type 0) → Result A Refused → Type 0
 Gives reads read = reads read ⊎ (read ≡ Err (refused.Unavailable outage.NoMemory))

@@ -1,4 +1,4 @@
--- What a desk answers for, whatever it is made of.
+-- The histories that a desk shows, and refusals, for any kind of desk.
 use Rattle.std.specs.Prelude.{◌≡◌, ◌⊎◌, ℕ, List, Option, find}
 use Rattle.desk_bytes.specs.declared.refusal.Refusal.{Refusal}
 use Rattle.desk_bytes.specs.declared.refusal.Refusal.TheVariants as refusals
@@ -13,7 +13,7 @@ use Rattle.desk_history.specs.People.{has_token, people}
 abbrev pub ForEachShown : (List ℕ → History → Type 0) → (List ℕ → History → Type 0) → Type 0
 ForEachShown shows told = (owner : List ℕ) (cs : History) → shows owner cs → told owner cs
 
--- what was shown is shown still
+-- all that was shown is still shown
 abbrev pub StillShows : (List ℕ → History → Type 0) → (List ℕ → History → Type 0) → Type 0
 StillShows before after = (owner : List ℕ) (cs : History) → before owner cs → after owner cs
 
@@ -25,11 +25,11 @@ person_with token cs = find (has_token token) (people cs)
 abbrev pub called : Caller → List ℕ → Command → Call
 called caller key command = record { caller = caller; key = key; command = command }
 
--- own: the desk can answer nothing
+-- own: the desk can't answer
 abbrev pub IsOutage : Refusal → Type 0
 IsOutage refusal = (refusal ≡ refusals.NoMemory) ⊎ ((refusal ≡ refusals.Store) ⊎ (refusal ≡ refusals.Reopen))
 
--- own: what people may be refused who ask for requests or proposals
+-- own: the refusals of a read of requests or proposals
 abbrev pub IsReadingRefusal : Refusal → Type 0
 IsReadingRefusal refusal =
     (refusal ≡ refusals.NotYourRole) ⊎ ((refusal ≡ refusals.UnknownCaller) ⊎ ((refusal ≡ refusals.NoSuchRequest) ⊎ IsOutage refusal))

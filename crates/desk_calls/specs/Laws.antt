@@ -12,21 +12,23 @@ use Rattle.desk_calls.specs.declared.answers.Answer.TheVariants as answer
 use Rattle.desk_calls.specs.declared.call.Call.{Call}
 use Rattle.desk_calls.specs.declared.call.Task.TheVariants as task
 
--- a call that is refused changes nothing, whether its body, the desk's rules or the person's role is why
+-- a refused call changes nothing, whether the body, the desk's rules or the person's role is the
+-- reason
 abbrev pub RefusalsChangeNothing : Type 0
 RefusalsChangeNothing =
     (owner : List ℕ) (cs : History) (call : Call) (refused : Refused) (later : History)
     → AnswersCall owner cs call (answer.Refused refused) later → later ≡ cs
 
--- who asks desks of these histories for requests is answered by the second as by the first, whatever else they hold
+-- desks of these two histories answer the person's reads of requests alike, whatever else the
+-- histories hold
 pub record AnswersAlike (one other : History) (p : Person) : Type 0 where
   pub each : (first second : List ℕ) (k : ℕ) (a : Answer) (later : History)
       → AnswersTask first one p (task.Read (read.Request k)) a later → AnswersTask second other p (task.Read (read.Request k)) a other
   pub all : (first second : List ℕ) (a : Answer) (later : History)
       → AnswersTask first one p (task.Read read.Requests) a later → AnswersTask second other p (task.Read read.Requests) a other
 
--- What a submitter is answered who asks for requests comes of own requests alone: it is the same of all histories that have
--- the same ones.
+-- A submitter's answers depend only on the submitter's own requests: they are the same for all
+-- histories that have the same ones.
 abbrev pub SubmittersAreAnsweredByOwn : Type 0
 SubmittersAreAnsweredByOwn =
     (one other : History) (p : Person) → role_of one p.name ≡ Some roles.Submitter → role_of other p.name ≡ Some roles.Submitter

@@ -1,4 +1,4 @@
-//! The bodies of calls, read.
+//! The reading of calls' bodies.
 ghost use Rattle.std.specs.Prelude.{◌≡◌, ◌≢◌, Err};
 ghost use Rattle.desk_texts.specs.declared.command.Command.TheVariants as command;
 ghost use Rattle.desk_calls.specs.Bodies as spec;
@@ -35,7 +35,7 @@ pub(crate) fn read_facts(alloc: Global, image: Pieces) -> Result<Facts, Refused>
     }
 }
 
-/// The command of a request of this title to sign the image.
+/// The command that requests a signature of the image, with this title.
 pub(crate) fn submission(alloc: Global, title: Title, image: Pieces) -> Result<Command, Refused>
     ensures reads { spec.Gives (spec.ReadsImage
         (λ x. command.Submit (record { title = title; facts = x })) image) result }
@@ -83,7 +83,7 @@ fn listing(body: Octets) -> Result<Command, Refused>
     }
 }
 
-/// The command that signature lists are.
+/// The command of signature lists.
 fn from_dbx(alloc: Global, body: &Octets) -> Result<Command, Refused>
     ensures reads { spec.Gives (spec.ReadsDbx body.now) result }
     ensures no_store { result ≢ Err (Refused.Unavailable Outage.Store) }
@@ -99,7 +99,7 @@ fn from_dbx(alloc: Global, body: &Octets) -> Result<Command, Refused>
     }
 }
 
-/// The command that a CSV file is.
+/// The command of a CSV file.
 fn from_csv(alloc: Global, body: &Octets, stamp: Option<Stamp>) -> Result<Command, Refused>
     ensures reads { spec.Gives (spec.ReadsCsv body.now stamp) result }
     ensures no_store { result ≢ Err (Refused.Unavailable Outage.Store) }
@@ -115,7 +115,7 @@ fn from_csv(alloc: Global, body: &Octets, stamp: Option<Stamp>) -> Result<Comman
     }
 }
 
-/// The command that the text of an SBAT level is.
+/// The command of the text of an SBAT level.
 fn from_level(alloc: Global, body: &Octets) -> Result<Command, Refused>
     ensures reads { spec.Gives (spec.ReadsLevel body.now) result }
     ensures no_store { result ≢ Err (Refused.Unavailable Outage.Store) }
@@ -131,7 +131,7 @@ fn from_level(alloc: Global, body: &Octets) -> Result<Command, Refused>
     }
 }
 
-/// The command that bytes are, in the format that is asked for.
+/// The command of the bytes, in the requested format.
 pub(crate) fn command_of(alloc: Global, asked: BytesAsked, body: Octets) -> Result<Command, Refused>
     ensures reads { spec.Gives (spec.ReadsBytes asked body) result }
     ensures no_store { result ≢ Err (Refused.Unavailable Outage.Store) }

@@ -4,22 +4,22 @@ use desk_texts::{Command, Key, Person};
 use http_requests::{BytesAsked, ImageAsked, ReadAsked};
 use pe_image::Pieces;
 
-/// A call of the desk: who calls, and for what.
+/// A call of the desk: the caller, and the task.
 #[derive(Drop)]
 pub struct Call {
     pub person: Person,
     pub task: Task,
 }
 
-/// What a person calls the desk for. A command has the key under which the person gives it.
+/// The task of a person's call. A command has the key under which the person gives it.
 #[derive(Drop)]
 pub enum Task {
-    /// To be shown this.
+    /// Reads this.
     Read(ReadAsked),
-    /// What is asked for with this image.
+    /// The request, with its image.
     Image(ImageAsked, Pieces),
     /// A command whose parts are all known.
     Command(Key, Command),
-    /// The command that these bytes are, in a format of its own.
+    /// The command of these bytes, in a format of its own.
     Bytes(Key, BytesAsked, Octets),
 }

@@ -1,12 +1,13 @@
-//! Laws of answers: the clause of each function is one.
+//! Laws of answers, one clause for each function.
 ghost use Rattle.desk_calls.specs.Laws as law;
 
-/// A call that is refused changes nothing.
+/// A refused call changes nothing.
 pub fn refusals_change_nothing()
     ensures { law.RefusalsChangeNothing }
 {}
 
-/// What a submitter is answered who asks for requests is the same of all histories that have the same own ones.
+/// A submitter's answer about requests is the same for all histories with the same requests of that
+/// submitter.
 pub fn submitters_are_answered_by_own()
     ensures { law.SubmittersAreAnsweredByOwn }
 {}

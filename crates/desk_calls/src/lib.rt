@@ -1,4 +1,4 @@
-//! Calls of the desk and their answers: what people call it for, and what any desk that shows a history answers.
+//! Calls of the desk, and the answers to them of any desk that shows a history.
 #![tactic(auto)]
 
 mod answering;

@@ -30,7 +30,7 @@ impl Octets {
         &self.bytes
     }
 
-    /// Gives the bytes back.
+    /// Returns the bytes as a vector.
     pub fn into_vec(self) -> Vec<u8>
         ensures { result.items ≡ self }
     {

@@ -1,4 +1,4 @@
-//! Reading calls of a desk.
+//! Calls that read a desk.
 ghost use Rattle.std.specs.Prelude.{◌≡◌, ℕ, List};
 ghost use Rattle.desk_exports.specs.Exports as exports;
 ghost use Rattle.desk_history.specs.Calls.{History};
@@ -65,7 +65,7 @@ fn proposals<D: Answering>(desk: &mut D, name: PersonName) -> Answer
     }
 }
 
-/// What the desk says of the image.
+/// The desk's verdict on the image.
 pub(crate) fn judge<D: Answering>(alloc: Global, desk: &mut D, image: Pieces) -> Answer
     ensures served { D.clean desk.new → (owner : List ℕ) (cs : History)
         → D.shows desk.old owner cs
@@ -157,7 +157,7 @@ fn report<D: Answering>(alloc: Global, desk: &mut D, role: Role) -> Answer
     }
 }
 
-/// What the person is shown.
+/// The answer to a person's read.
 pub(crate) fn show<D: Answering>(
     alloc: Global,
     desk: &mut D,

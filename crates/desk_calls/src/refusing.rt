@@ -1,4 +1,4 @@
-//! Faults of bodies, and refusals of a desk, as a request is told them.
+//! Faults of bodies and refusals of a desk, as refusals of a request.
 ghost use Rattle.std.specs.Prelude.{◌≡◌, ◌≢◌, IsSome, None, Some};
 ghost use Rattle.authenticode.specs.Faults as carried;
 ghost use Rattle.pe_image.specs.Faults as layout;
@@ -18,7 +18,7 @@ use pe_image::LayoutFault;
 use sbat::SbatFault;
 use siglist::ListsFault;
 
-/// Want of memory.
+/// Memory was refused.
 pub(crate) const NO_MEMORY: Refused = Refused::Unavailable(Outage::NoMemory);
 
 /// A refusal without a place.
@@ -35,7 +35,7 @@ pub(crate) fn without_place(refusal: Refusal) -> Refused
     }
 }
 
-/// Why the desk can answer nothing.
+/// Why the desk can't answer.
 pub(crate) fn outage(refusal: Refusal) -> Outage
     requires { IsOutage refusal }
     ensures refusal { outage_refusal result ≡ refusal }
@@ -51,7 +51,7 @@ pub(crate) fn outage(refusal: Refusal) -> Outage
     Outage::Reopen
 }
 
-/// What an image without a layout is refused for, of which every read succeeded.
+/// The refusal of an image without a layout, all of whose reads succeeded.
 fn of_layout(fault: LayoutFault) -> Refused
     requires { layout.refusal_of fault ≢ Refusal.Read }
     ensures tells { RefusesAs (layout.refusal_of fault) None result }
@@ -73,7 +73,7 @@ fn of_layout(fault: LayoutFault) -> Refused
     }
 }
 
-/// What an image's certificates are refused for.
+/// The refusal for an image's certificates.
 fn of_carried(fault: CarriedFault) -> Refused
     ensures tells { RefusesAs (carried.refusal_of fault) None result }
     ensures no_store { result ≢ Refused.Unavailable Outage.Store }
@@ -86,7 +86,7 @@ fn of_carried(fault: CarriedFault) -> Refused
     }
 }
 
-/// What SBAT text is refused for, with the number of its line.
+/// The refusal for SBAT text, with the number of its line.
 fn of_sbat(fault: SbatFault) -> Refused
     ensures tells { RefusesAs (sbat_faults.refusal_of fault) (sbat_faults.place_of fault) result }
     ensures no_store { result ≢ Refused.Unavailable Outage.Store }
@@ -98,7 +98,7 @@ fn of_sbat(fault: SbatFault) -> Refused
     }
 }
 
-/// What signature lists are refused for, with the offset of the list.
+/// The refusal for signature lists, with the offset of the list.
 fn of_lists(fault: ListsFault) -> Refused
     ensures tells { RefusesAs (lists.refusal_of fault) (Some (lists.place_of fault)) result }
     ensures no_store { result ≢ Refused.Unavailable Outage.Store }
@@ -109,7 +109,7 @@ fn of_lists(fault: ListsFault) -> Refused
     }
 }
 
-/// What an image is refused for, of which every read succeeded.
+/// The refusal of an image, all of whose reads succeeded.
 pub(crate) fn of_facts(fault: FactsFault) -> Refused
     requires { facts.refusal_of fault ≢ Refusal.Read }
     ensures tells { RefusesAs (facts.refusal_of fault) (facts.place_of fault) result }
@@ -124,7 +124,7 @@ pub(crate) fn of_facts(fault: FactsFault) -> Refused
     }
 }
 
-/// What an import is refused for.
+/// The refusal of an import.
 pub(crate) fn of_import(fault: ImportFault) -> Refused
     ensures tells { RefusesAs (imports.refusal_of fault) (imports.place_of fault) result }
     ensures no_store { result ≢ Refused.Unavailable Outage.Store }

@@ -21,8 +21,8 @@ use std::alloc::Global;
 
 /// The person whose token this is, if there is one. Takes memory.
 ///
-/// `NoMemory`: memory was refused, and nothing was changed. `Store`: the store failed. `Reopen`: it had failed in a
-/// call before, and the desk does nothing more.
+/// `NoMemory`: memory was refused, and nothing changed. `Store`: the store failed. `Reopen`: an
+/// earlier call failed, and the desk does nothing more.
 pub fn caller<D: Answering>(desk: &mut D, token: &[u8]) -> Result<Option<Person>, Outage>
     ensures given { D.clean desk.new → IfOk result (λ person. ForEachShown (D.shows desk.old)
         (λ _ cs. person ≡ person_with (sha256 token.now) cs)) }
@@ -40,7 +40,7 @@ pub fn caller<D: Answering>(desk: &mut D, token: &[u8]) -> Result<Option<Person>
     }
 }
 
-/// Answers what the person of this name asks for with an image.
+/// Answers a request with an image by the person of this name.
 fn answer_image<D: Answering>(
     alloc: Global,
     desk: &mut D,
@@ -65,12 +65,11 @@ fn answer_image<D: Answering>(
     }
 }
 
-/// Answers a call. A body is read before the desk is asked, and what is wrong with it is answered first. Takes
-/// memory.
+/// Answers a call. A body is read before the desk is asked, so its faults come first. Takes memory.
 ///
-/// An answer of status 503 tells that the desk couldn't answer: `NoMemory`, and nothing was changed; `Store`, where
-/// the store failed; `Reopen` from then on, where nothing is wrong with the body or the role. Every other refusal
-/// changes nothing either.
+/// An answer of status 503 says that the desk couldn't answer. `NoMemory`: nothing changed.
+/// `Store`: the store failed. `Reopen`: from then on, unless the body or the role is wrong. Every
+/// other refusal changes nothing either.
 pub fn answer<D: Answering>(alloc: Global, desk: &mut D, call: Call) -> Answer
     ensures served { D.clean desk.new → (owner : List ℕ) (cs : History)
         → D.shows desk.old owner cs

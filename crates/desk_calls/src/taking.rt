@@ -1,4 +1,4 @@
-//! Commands, taken by a desk.
+//! Commands given to a desk.
 ghost use Rattle.std.specs.Prelude.{◌≡◌, ◌≢◌, ℕ, List, Err};
 ghost use Rattle.desk_history.specs.Calls.{History};
 ghost use Rattle.desk_calls.specs.Answers.{IsClosed, IsTaken, Serves, store_failed};
@@ -9,7 +9,7 @@ use crate::refusing::without_place;
 use desk_texts::{Caller, Command, Key, PersonName};
 use http_responses::{Outage, Refused};
 
-/// Answers a command of the person of this name, under a key, or tells what its body is refused for.
+/// Answers a command of the person of this name, under a key, or returns the refusal of its body.
 pub(crate) fn take<D: Answering>(
     desk: &mut D,
     name: PersonName,

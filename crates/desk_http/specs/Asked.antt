@@ -1,4 +1,4 @@
--- own: what an input asks for: a call, or the refusal of the first check that fails.
+-- own: the request of an input: a call, or the refusal of the first check that fails.
 use Rattle.std.specs.Prelude.{◌≡◌, ◌≢◌, ◌⊎◌, ◌≤◌, ℕ, List, [], length, IfOk, IfSome, Option, Some, None, Result, Ok, Err}
 use Rattle.httparse.specs.Grammar.{RequestHead}
 use Rattle.sha2.specs.Sha256.{sha256}
@@ -39,12 +39,12 @@ caller_of cs (Some token) = person_with (sha256 token) cs
 abbrev pub call_for : Person → Task → Due
 call_for p task = Ok (record { person = p; task = task })
 
--- the call of a person for what is read, where the field says this
+-- a person's read, by the request's fields
 abbrev pub of_read : Person → Result ReadAsked AskedFault → Due
 of_read p (Err fault) = Err (refused_by_fields fault)
 of_read p (Ok asked) = call_for p (task.Read asked)
 
--- what a person asks for with an image, where the fields say this
+-- a person's request with an image, by its fields
 abbrev pub of_image : Person → List ℕ → Result ImageAsked AskedFault → Due
 of_image p image (Err fault) = Err (refused_by_fields fault)
 of_image p image (Ok asked) = call_for p (task.Image asked image)
@@ -54,12 +54,12 @@ abbrev pub with_image : Person → Result ImageAsked AskedFault → Option (List
 with_image p asked None = Err refused.BadHead
 with_image p asked (Some image) = of_image p image asked
 
--- the call of a person for a task; BadBody where the body says none
+-- the call of a person for a task; BadBody if the body has none
 abbrev pub called_by : Person → Option Task → Due
 called_by p None = Err refused.BadBody
 called_by p (Some task) = call_for p task
 
--- the command that a person gives with a body, where the fields say this
+-- a person's command with a body, by the request's fields
 abbrev pub of_command : Person → List ℕ → Result KeyedAsked AskedFault → Due
 of_command p body (Err fault) = Err (refused_by_fields fault)
 of_command p body (Ok keyed) = called_by p (task_of keyed.key keyed.asked body)
@@ -69,24 +69,24 @@ abbrev pub with_body : Person → Result KeyedAsked AskedFault → Option (List 
 with_body p asked None = Err refused.BadHead
 with_body p asked (Some body) = of_command p body asked
 
--- what a person asks for at a route; rest follows the head
+-- a person's request at a route; `rest` follows the head
 abbrev pub of_route : Person → Want → List ℕ → Route → Due
 of_route p w rest (Get r) = of_read p (read_at r w)
 of_route p w rest (Post (Image r)) = with_image p (image_at r w) (body_in w.size rest)
 of_route p w rest (Post (Command r)) = with_body p (keyed_at r w) (body_in w.size rest)
 
--- what a caller asks for, whom nobody may know
+-- the request of a caller, who may be unknown
 abbrev pub of_caller : Want → List ℕ → Option Person → Due
 of_caller w rest None = Err refused.UnknownCaller
 of_caller w rest (Some p) = of_route p w rest w.route
 
--- what is asked for where the head wants this
+-- the request of a head, by its own checks
 abbrev pub of_head : History → List ℕ → Result Want WantedFault → Due
 of_head cs rest (Err fault) = Err (refused_by_head fault)
 of_head cs rest (Ok w) = of_caller w rest (caller_of cs w.token)
 
--- what a head asks for, with what follows it: the head's own checks, then who calls, then the length of the
--- body, then the fields, then what the body says
+-- the request of a head and the bytes after it: the head's own checks come first, then the caller,
+-- the length of the body, the fields, and the body
 abbrev pub due_of : History → RequestHead → List ℕ → Due
 due_of cs h rest = of_head cs rest (wanted_of (parts_of h))
 
@@ -94,16 +94,16 @@ due_of cs h rest = of_head cs rest (wanted_of (parts_of h))
 abbrev pub IsOfNobody : History → RequestHead → Type 0
 IsOfNobody cs h = IfOk (wanted_of (parts_of h)) (λ w. caller_of cs w.token ≡ None)
 
--- of an input whose head is nobody's, what follows the head is left
+-- if the head of the input is nobody's, the bytes after it are left unread
 abbrev pub LeavesBody : (shows : List ℕ → History → Type 0) → (input left : Option (List ℕ)) → Type 0
 LeavesBody shows input left = IfSome input (λ b. ForEachShown shows (λ _ cs. (h : RequestHead) (rest : List ℕ)
     → HasHead b h rest → IsOfNobody cs h → left ≡ Some rest))
 
--- of the input at least a byte is known
+-- at least one byte of the input is known
 abbrev pub HasByte : Option (List ℕ) → Type 0
 HasByte input = IfSome input (λ b. b ≢ [])
 
--- what the input b asks for: what the head says that begins it, or BadHead where no head does
+-- the request of the input b: that of the head at its front, or BadHead if there is none
 abbrev pub Asks : History → List ℕ → Due → Type 0
 Asks cs b due =
     ((h : RequestHead) × (rest : List ℕ) × HasHead b h rest × (due ≡ due_of cs h rest))

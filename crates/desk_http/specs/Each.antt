@@ -1,4 +1,4 @@
--- own: what inputs are answered that come one after another.
+-- own: the responses to inputs that come one after another.
 use Rattle.std.specs.Prelude.{◌≡◌, ◌⊎◌, ℕ, Bool, true, false, List, [], ◌∷◌, ◌++◌, Option, Some}
 use Rattle.std.specs.Io.KnownBytes.{Appends}
 use Rattle.desk_history.specs.Calls.{History}
@@ -10,32 +10,33 @@ use Rattle.desk_calls.specs.declared.answers.Answer.{Answer}
 use Rattle.desk_http.specs.Responses.{response_of}
 use Rattle.desk_http.specs.Serving.{AnswersInput}
 
--- the response to an input at this history, and the history after it; no byte is no request
+-- the response to an input at this history, and the history after it; an input without bytes isn't
+-- a request
 abbrev pub RespondsTo : List ℕ → History → List ℕ → List ℕ → History → Type 0
 RespondsTo owner cs b text later =
     ((b ≡ []) × (text ≡ []) × (later ≡ cs))
     ⊎ ((a : Answer) × AnswersInput owner cs b a later × (text ≡ response_of a))
 
--- the responses to inputs, one behind another, each at the history that the ones before it left
+-- the responses to inputs, one after another, each at the history that those before it left
 abbrev pub RespondsToEach : List ℕ → History → List (List ℕ) → List ℕ → History → Type 0
 RespondsToEach owner cs [] text last = (text ≡ []) × (last ≡ cs)
 RespondsToEach owner cs (b ∷ bs) text last =
     (one : List ℕ) × (rest : List ℕ) × (later : History)
     × RespondsTo owner cs b one later × (text ≡ one ++ rest) × RespondsToEach owner later bs rest last
 
--- what a request is refused for is that memory or the store failed
+-- the request is refused because memory or the store failed
 abbrev pub has_failed : Option Refused → Bool
 has_failed (Some (refused.Unavailable outage.NoMemory)) = true
 has_failed (Some (refused.Unavailable outage.Store)) = true
 has_failed _ = false
 
--- the desk answered inputs one after another, and their responses went out
+-- the desk answered inputs one after another, and their responses were written
 abbrev pub ServesEach : (old new : List ℕ → History → Type 0) → (before after : Option (List ℕ)) → List (List ℕ) → Type 0
 ServesEach old new before after inputs = ForEachShown old (λ owner cs.
     (text : List ℕ) × (last : History)
     × RespondsToEach owner cs inputs text last × Appends before after text × new owner last)
 
--- the same of one input
+-- the same for one input
 abbrev pub ServesNext : (old new : List ℕ → History → Type 0) → (before after : Option (List ℕ)) → List ℕ → Type 0
 ServesNext old new before after b = ForEachShown old (λ owner cs.
     (text : List ℕ) × (later : History)

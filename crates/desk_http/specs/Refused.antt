@@ -1,4 +1,4 @@
--- own: what a request is refused for by the checks on it.
+-- own: the refusals of a request by the checks on it.
 use Rattle.http_requests.specs.declared.fault.AskedFault.{AskedFault}
 use Rattle.http_requests.specs.declared.fault.AskedFault.TheVariants as asked
 use Rattle.http_requests.specs.declared.fault.WantedFault.{WantedFault}
@@ -18,7 +18,7 @@ refused_by_head wanted.LengthNeeded = refused.LengthNeeded
 refused_by_head wanted.TooLarge = refused.TooLarge
 refused_by_head wanted.NoMemory = refused.Unavailable outage.NoMemory
 
--- for a fault of what the fields say
+-- for a fault of the fields
 abbrev pub refused_by_fields : AskedFault → Refused
 refused_by_fields asked.BadField = refused.BadField
 refused_by_fields asked.NoSuchRequest = refused.NoSuchRequest

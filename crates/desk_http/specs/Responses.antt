@@ -18,7 +18,7 @@ use Rattle.desk_calls.specs.declared.answers.Answer.{Answer}
 use Rattle.desk_calls.specs.declared.answers.Answer.TheVariants.{Reply, Request, Requests, Proposals, Verdict, Dbx, Db, Level, Report, Refused}
 use Rattle.desk_http.specs.declared.served.Answered.{Answered}
 
--- its status: 200 for what is no refusal (RFC 9110, section 15.3.1)
+-- its status: 200 unless it is a refusal (RFC 9110, section 15.3.1)
 abbrev pub status_of : Answer → Status
 status_of (Reply reply) = status.Ok
 status_of (Request shown) = status.Ok
@@ -31,7 +31,7 @@ status_of (Level text) = status.Ok
 status_of (Report text) = status.Ok
 status_of (Refused refused) = refusals.status_of refused
 
--- what its body is
+-- the content of its body
 abbrev pub content_of : Answer → Content
 content_of (Reply reply) = content.Json
 content_of (Request shown) = content.Json
@@ -49,13 +49,13 @@ abbrev pub text_or_none : Option Data → List ℕ
 text_or_none None = []
 text_or_none (Some value) = compact_text value
 
--- the bytes that the code's text holds, if there is one
+-- the bytes of the code's text, if there is one
 abbrev pub items_or_none : Option (Vec ℕ Global) → List ℕ
 items_or_none None = []
 items_or_none (Some text) = text.items
 
--- its body. A reply of the console's and a verdict on another image have no JSON; no call of a person's is
--- answered with one, and its body would be empty
+-- its body. A reply to the console and a verdict on another image have no JSON; no call of a
+-- person's is answered with either, and the body would be empty
 abbrev pub body_of : Answer → List ℕ
 body_of (Reply reply) = text_or_none (reply_data reply)
 body_of (Request shown) = compact_text (request_data shown)
@@ -72,7 +72,7 @@ body_of (Refused refused) = compact_text (refusals.refused_data refused)
 abbrev pub response_of : Answer → List ℕ
 response_of a = response_text (status_of a) (content_of a) (body_of a)
 
--- what the request is refused for, if it is
+-- the refusal of the request, if it is refused
 abbrev pub refused_of : Answer → Option Refusal
 refused_of (Reply reply) = None
 refused_of (Request shown) = None
@@ -85,6 +85,6 @@ refused_of (Level text) = None
 refused_of (Report text) = None
 refused_of (Refused refused) = Some refused
 
--- what its response says: its status, and what the request is refused for
+-- the outcome in its response: the status, and the refusal of the request
 abbrev pub answered_of : Answer → Answered
 answered_of a = record { status = status_of a; refused = refused_of a }

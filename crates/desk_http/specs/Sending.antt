@@ -1,4 +1,4 @@
--- own: what sending the response to an answer does to a writer.
+-- own: the effect of sending an answer's response on a writer.
 use Rattle.std.specs.Prelude.{◌≡◌, ◌⊎◌, ℕ, List, Bool, true, false, Option, Result, Ok, Err}
 use Rattle.desk_bytes.specs.Output.{AppendsBeginning}
 use Rattle.http_responses.specs.declared.refused.Refused.TheVariants as refused
@@ -12,7 +12,7 @@ use Rattle.desk_http.specs.declared.served.HttpFault.TheVariants.{Read, Write, N
 use Rattle.desk_http.specs.declared.served.Served.{Served}
 use Rattle.desk_http.specs.declared.served.Served.TheVariants.{Answered, Nothing}
 
--- the response to this answer went out, or a beginning of it
+-- the response to this answer was written, or a prefix of it
 abbrev pub Sends : Option (List ℕ) → Option (List ℕ) → Answer → Result Served HttpFault → Type 0
 Sends old new told (Ok (Answered answered)) = Responds old new told answered
 Sends old new told (Ok Nothing) = ⊥
@@ -25,6 +25,6 @@ abbrev pub is_outage : Answer → Bool
 is_outage (answer.Refused (refused.Unavailable outage)) = true
 is_outage _ = false
 
--- an answer is told, or in its place, unless it is an outage itself, the want of memory
+-- the answer itself is sent, or, unless it is an outage, NoMemory instead
 abbrev pub Replaces : Answer → Answer → Type 0
 Replaces a told = (told ≡ a) ⊎ ((told ≡ no_memory) × (is_outage a ≡ false))

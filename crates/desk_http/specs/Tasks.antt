@@ -1,4 +1,4 @@
--- own: what a command with a body calls the desk for.
+-- own: the tasks of commands with a body.
 use Rattle.std.specs.Prelude.{ℕ, List, Option, Some, option_map}
 use Rattle.desk_texts.specs.declared.command.Command.{Command}
 use Rattle.desk_texts.specs.declared.command.Command.TheVariants as command
@@ -10,7 +10,7 @@ use Rattle.http_requests.specs.declared.ask.JsonAsked.TheVariants as json
 use Rattle.desk_calls.specs.declared.call.Task.{Task}
 use Rattle.desk_calls.specs.declared.call.Task.TheVariants as task
 
--- the command that a JSON body says, if it says one
+-- the command in a JSON body, if it has one
 abbrev pub command_in : JsonAsked → List ℕ → Option Command
 command_in (json.Review request) body = option_map (λ review. command.Review review) (review_of request body)
 command_in json.ListDigest body = option_map (λ digest. command.ListDigest digest) (named_digest body)
@@ -19,7 +19,8 @@ command_in json.RevokeDigest body = option_map (λ digest. command.RevokeDigest 
 command_in json.RevokeCertificate body = option_map (λ digest. command.RevokeCertificate digest) (named_digest body)
 command_in json.RaiseLevel body = option_map (λ raise. command.RaiseLevel raise) (level_of body)
 
--- the task that the body makes of a command; none where a JSON body doesn't say it. Bytes are taken as they came
+-- the task of a command and its body; none if a JSON body doesn't have one. Bytes are taken
+-- unchanged
 abbrev pub task_of : List ℕ → CommandAsked → List ℕ → Option Task
 task_of key (Whole whole) body = Some (task.Command key whole)
 task_of key (Json asked) body = option_map (λ said. task.Command key said) (command_in asked body)

@@ -1,4 +1,4 @@
--- Why nothing is known of what a request asks for.
+-- Reasons why a request isn't known.
 use Rattle.std.specs.Prelude.{◌≡◌, ⊤, ℕ, List, Option, Some, None, Result, Ok, Err, IfSome, IsErr}
 use Rattle.desk_bytes.specs.Watches.{HasFailed}
 use Rattle.desk_bytes.specs.declared.watch.Watch.{Watch}
@@ -8,7 +8,7 @@ use Rattle.desk_http.specs.Asked.{Asks, Due}
 use Rattle.desk_http.specs.declared.served.Unread.{Unread}
 use Rattle.desk_http.specs.declared.served.Unread.TheVariants as unread
 
--- it can come of a desk that shows a history: such a desk is open, and is one
+-- a desk that shows a history can give it: such a desk is open, and is a desk
 abbrev pub CanCome : Unread → Type 0
 CanCome unread.Read = ⊤
 CanCome unread.NoMemory = ⊤
@@ -17,7 +17,7 @@ CanCome (unread.Outage outage.Store) = ⊤
 CanCome (unread.Outage outage.Reopen) = ⊥
 CanCome (unread.Outage outage.NotADesk) = ⊥
 
--- it comes without a desk
+-- it comes from no desk
 abbrev pub IsOwn : Unread → Type 0
 IsOwn unread.Read = ⊤
 IsOwn unread.NoMemory = ⊤
@@ -26,19 +26,19 @@ IsOwn (unread.Outage outage.Store) = ⊥
 IsOwn (unread.Outage outage.Reopen) = ⊥
 IsOwn (unread.Outage outage.NotADesk) = ⊥
 
--- the reader failed, or memory was refused for what it gave
+-- the reader failed, or memory for its bytes was refused
 abbrev pub IsOfInput : Unread → Type 0
 IsOfInput unread.Read = ⊤
 IsOfInput unread.NoMemory = ⊤
 IsOfInput (unread.Outage _) = ⊥
 
--- that the reader failed is told only where a read failed
+-- the fault Read comes only if a read failed
 abbrev pub HasCause : Watch → Unread → Type 0
 HasCause watch unread.Read = HasFailed watch
 HasCause watch unread.NoMemory = ⊤
 HasCause watch (unread.Outage _) = ⊤
 
--- it can come of a desk that has failed: no call of it fails once more
+-- a desk that has failed can give it: no call of it fails again
 abbrev pub IsOfClosed : Unread → Type 0
 IsOfClosed unread.Read = ⊤
 IsOfClosed unread.NoMemory = ⊤
@@ -47,14 +47,13 @@ IsOfClosed (unread.Outage outage.Store) = ⊥
 IsOfClosed (unread.Outage outage.Reopen) = ⊤
 IsOfClosed (unread.Outage outage.NotADesk) = ⊥
 
--- what is known of the request that an input makes, at a desk that has failed: a refusal at most, which is due
--- whatever the desk's history is
+-- the request of an input, at a desk that has failed: at most a refusal that is due at any history
 abbrev pub IsKnownOfClosed : Option (List ℕ) → Result (Option Due) Unread → Type 0
 IsKnownOfClosed input (Ok None) = ⊤
 IsKnownOfClosed input (Ok (Some due)) = IsErr due × IfSome input (λ b. (cs : History) → Asks cs b due)
 IsKnownOfClosed input (Err unread) = IsOfClosed unread
 
--- where what the input asks for was found, or the desk couldn't answer
+-- if the request of the input was found, or the desk couldn't answer
 abbrev pub WhenAsked : Result (Option Due) Unread → Type 0 → Type 0
 WhenAsked (Ok None) holds = ⊤
 WhenAsked (Ok (Some due)) holds = holds

@@ -1,4 +1,4 @@
--- What a call does to the tables: inside its transaction, and by it as a whole.
+-- The effect of a call on the tables: inside its transaction, and as a whole.
 use Rattle.std.specs.Prelude.{◌≡◌, true, IsTrue}
 use Rattle.sqlite.specs.State.{State}
 use Rattle.sqlite.specs.Tree.{Trees}
@@ -16,12 +16,13 @@ use Rattle.store_schema.specs.rows.Histories.{HoldsHistory, ShowsHistory}
 use Rattle.desk_store.specs.Pasts.{Past, after, before}
 use Rattle.desk_store.specs.declared.acting.Acted.{Acted}
 
--- the answer is that to the call after this history, and the sizes are right of the next one's tables
+-- the answer is that to the call after this history, and the sizes are right for the next history's
+-- tables
 pub record AnswersWithSizes {sizes : KeptSizes} (c : Call) (acted : Acted) (p : Past sizes) : Type 0 where
   pub exact : answer p.calls c ≡ acted.answer
   pub right : AreRight acted.sizes (tables p.owner (next p.calls c))
 
--- inside a transaction the tables are turned into those of the next history, and the call is answered
+-- inside a transaction the tables turn into those of the next history, and the call is answered
 pub record Acts (sizes : KeptSizes) (c : Call) (acted : Acted) (old new : State) : Type 0 where
   pub turned : Turns desk_schema (before sizes) (after sizes c) old new
   pub answered : (p : Past sizes) → Sees desk_schema old (before sizes p) → AnswersWithSizes c acted p
@@ -32,7 +33,7 @@ pub record Runs (sizes : KeptSizes) (c : Call) (acted : Acted) (old new : State)
   pub answered : (p : Past sizes) → ShowsHistory old p.owner p.calls → AnswersWithSizes c acted p
   pub shown : (p : Past sizes) → ShowsHistory old p.owner p.calls → ShowsHistory new p.owner (next p.calls c)
 
--- only an accepted call leaves anything else, which is the next history's tables
+-- only an accepted call leaves anything else: the next history's tables
 abbrev pub LeavesNext : State → KeptSizes → Call → Trees → Type 0
 LeavesNext old sizes c db =
     (p : Past sizes) → ShowsHistory old p.owner p.calls

@@ -1,4 +1,4 @@
--- What the two files of a closed desk hold.
+-- The two files of a closed desk.
 use Rattle.std.specs.Prelude.{ℕ, List}
 use Rattle.sqlite.specs.Closing.{HoldsAlone}
 use Rattle.sqlite.specs.Files.{Finds, file_state, image_of}

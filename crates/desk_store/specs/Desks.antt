@@ -1,4 +1,4 @@
--- What a desk shows, and what a stop leaves of it.
+-- The history that a desk shows, and that a stop leaves of it.
 use Rattle.std.specs.Prelude.{◌≡◌, ◌≢◌, ◌⊎◌, ℕ, List, Some, false, IsTrue}
 use Rattle.sqlite.specs.Store.{Ghosts}
 use Rattle.sqlite.specs.Held.{state}
@@ -17,8 +17,8 @@ use Rattle.store_sql.specs.States.{Leaves, Spares}
 use Rattle.desk_store.specs.declared.desk.Desk.{Desk}
 use Rattle.store_schema.specs.rows.Histories.{HoldsLeft, LeavesHistory, ShowsHistory}
 
--- The desk answers for a history: it is one that a desk may have, the connection shows its tables, what the
--- desk keeps of their sizes is right, and a stop leaves them.
+-- The desk answers for a history: a desk may have it, the connection shows its tables, the sizes
+-- that the desk keeps are right, and a stop leaves these tables.
 pub record ShowsDesk {S : Type 0} (g : Ghosts S) (desk : Desk S) (owner : List ℕ) (cs : History) : Type 0 where
   pub usable : desk.needs_reopening ≡ false
   pub history : IsHistory cs
@@ -33,7 +33,8 @@ module _ {S : Type 0} (g : Ghosts S) (old new : Desk S) where
       (owner : List ℕ) (cs : History) → ShowsDesk g old owner cs
       → (reply_in (answer cs c) ≡ Some reply) × ShowsDesk g new owner (next cs c)
 
-  -- A refusal but `Store`: the desk shows the same history, and but for `NoMemory` the call's answer is this refusal.
+  -- After any refusal except `Store` the desk shows the same history. Except for `NoMemory`, the
+  -- refusal is the answer to the call.
   abbrev pub Refuses : Call → Refusal → Type 0
   Refuses c refusal =
       refusal ≢ refusals.Store → (owner : List ℕ) (cs : History) → ShowsDesk g old owner cs
@@ -47,7 +48,8 @@ module _ {S : Type 0} (g : Ghosts S) (old new : Desk S) where
   abbrev pub Views : (List ℕ → History → Type 0) → Type 0
   Views shown = (owner : List ℕ) (cs : History) → ShowsDesk g old owner cs → shown owner cs
 
-  -- A stop after the call, whatever it gave, leaves the history before the call or the one after it.
+  -- A stop after the call, whatever its result, leaves the history before the call or the one after
+  -- it.
   abbrev pub MayStop : Call → Type 0
   MayStop c =
       (owner : List ℕ) (cs : History) → ShowsDesk g old owner cs
@@ -59,6 +61,6 @@ module _ {S : Type 0} (g : Ghosts S) (old new : Desk S) where
       (owner : List ℕ) (cs : History) → ShowsDesk g old owner cs → is_accepted (answer cs c) ≡ false
       → Spares g old.conn new.conn
 
--- the refusals that a call may be given: those of a decision, `NoMemory` among them, and the store's
+-- the refusals that a call may get: those of a decision, `NoMemory` among them, and the store's
 abbrev pub IsCallRefusal : Refusal → Type 0
 IsCallRefusal refusal = IsTrue (may_answer refusal) ⊎ (refusal ≡ refusals.Store)

@@ -1,4 +1,4 @@
--- What an export of a desk writes.
+-- The bytes of a desk's export.
 use Rattle.std.specs.Prelude.{ℕ, List, Option}
 use Rattle.std.specs.Io.KnownBytes.{Appends}
 use Rattle.sqlite.specs.Store.{Ghosts}
@@ -12,10 +12,10 @@ use Rattle.desk_store.specs.declared.desk.Desk.{Desk}
 abbrev pub Writes : Option (List ℕ) → Option (List ℕ) → (List ℕ → History → List ℕ) → List ℕ → History → Type 0
 Writes before after bytes owner cs = Appends before after (bytes owner cs)
 
--- a beginning of them is
+-- a prefix of them is written
 abbrev pub WritesBeginning : Option (List ℕ) → Option (List ℕ) → (List ℕ → History → List ℕ) → List ℕ → History → Type 0
 WritesBeginning before after bytes owner cs = AppendsBeginning before after (bytes owner cs)
 
--- where the desk shows a history, a stop leaves what it left before
+-- if the desk shows a history, a stop leaves only what it could have left before
 abbrev pub SparesDesk : {S : Type 0} → Ghosts S → Desk S → Desk S → Type 0
 SparesDesk g old new = (owner : List ℕ) (cs : History) → ShowsDesk g old owner cs → Spares g old.conn new.conn

@@ -1,18 +1,21 @@
--- The headline. While nobody else writes the file and the disk keeps its promise (sqlite's `HasCleanDisk`): a desk that is
--- opened after any number of lives, each stopped before or within any write, has the history of a prefix of the accepted
--- calls that holds every acknowledged one; answers, verdicts and exports are those of that history; and it refuses each
--- image that an acknowledged revocation barred. It is the clause `lives` of `Desk::open` (src/desk.rt), by `Recovers` below.
+-- The headline. While nobody else writes the file and the disk keeps its promise (sqlite's
+-- `HasCleanDisk`), a desk that is opened after any number of lives, each stopped before or within
+-- any write, has the history of a prefix of the accepted calls that holds every acknowledged one.
+-- Its answers, verdicts and exports are those of that history, and it refuses each image that an
+-- acknowledged revocation barred. This is the clause `lives` of `Desk::open` (src/desk.rt), by
+-- `Recovers` below.
 --
 -- To read it from the ground up, in this order, each file of specs/:
---   desk_texts    Commands, Forms          the commands, and the forms of what they hold
---   desk_history  Calls, Refusals, Runs    histories, and the answer and the next history of each call
---   desk_history  Forces, Level, Verdicts  what is in force, the SBAT level, and the verdict on an image
---   desk_history  Lives, FormLaws          what became of calls in a life, and what a stop may leave
---   desk_history  Tables                   the rows of a history
---   store_schema  rows/Values, rows/Contents, rows/Histories    these rows in SQL
---   store_sql     States                   what a connection shows, and what a stop leaves of it
---   desk_store    Desks                    what a desk shows (its exports: desk_exports, all of specs/)
---   desk_store    Headline                 this file
+--   desk_texts    Commands, Forms                   the commands, and the forms of their values
+--   desk_history  Calls, Refusals, Runs             histories, and the answer and the next history of a call
+--   desk_history  Forces, Level, Verdicts           the entries in force, the SBAT level, verdicts
+--   desk_history  Lives, FormLaws                   the fates of calls, and the histories that a stop may leave
+--   desk_history  Tables                            the rows of a history
+--   store_schema  rows/Values, Contents, Histories  these rows in SQL
+--   store_sql     States                            the contents that a connection shows, or a stop leaves
+--   desk_store    Desks                             the history that a desk shows
+--   desk_exports  all                               its exports
+--   desk_store    Headline                          this file
 use Rattle.std.specs.Prelude.{◌≡◌, ◌≢◌, ◌⊎◌, ℕ, Bool, not, All, List, [], IsTrue}
 use Rattle.std.specs.List.{list_all}
 use Rattle.sqlite.specs.Store.{Ghosts}
@@ -31,12 +34,12 @@ use Rattle.store_schema.specs.rows.Histories.{HoldsFirst, HoldsHistory}
 use Rattle.desk_store.specs.Desks.{ShowsDesk}
 use Rattle.desk_store.specs.declared.desk.Desk.{Desk}
 
--- A history that the desk showed, and what became of the calls since, in any number of lives.
+-- A history that the desk showed, and the events since, in any number of lives.
 pub record Seen : Type 0 where
   pub at : History
   pub since : List Event
 
--- what the desk shows now
+-- the history that the desk shows now
 abbrev pub now : History → Seen
 now cs = record { at = cs; since = [] }
 
@@ -57,11 +60,12 @@ none_by_second lives = list_all (λ life. not (is_opened_by_second life)) lives
 abbrev pub HoldsEither : Trees → List ℕ → List Life → History → Type 0
 HoldsEither db owner lives cs = HoldsHistory db owner cs ⊎ (IsTrue (none_by_second lives) × HoldsFirst db owner cs)
 
--- the trees hold the tables of a history that these lives may leave, after what was seen
+-- the trees hold the tables of a history that these lives may leave, and that follows the seen one
 abbrev pub HoldsLives : Trees → List ℕ → List Life → Seen → Type 0
 HoldsLives db owner lives seen = (cs : History) × Ends lives cs × IsSince seen cs × HoldsEither db owner lives cs
 
--- Whatever a stop leaves of the store holds such tables. `∥ .. ∥₁` says that there is one, and not which.
+-- Whatever a stop leaves of the store holds such tables. `∥ .. ∥₁` says that there is one history,
+-- but not which.
 abbrev pub LeavesLives : State → List ℕ → List Life → Seen → Type 0
 LeavesLives s owner lives seen = ∥ Leaves s (λ db. HoldsLives db owner lives seen) ∥₁
 
@@ -69,28 +73,28 @@ LeavesLives s owner lives seen = ∥ Leaves s (λ db. HoldsLives db owner lives 
 abbrev pub FindsLives : State → List ℕ → List Life → Seen → Type 0
 FindsLives s owner lives seen = HasCleanDisk s → IsTrue s.is_open → ∥ HoldsLives s.committed.trees owner lives seen ∥₁
 
--- what holds of a desk that was opened after these lives, with this history
+-- a desk that was opened after these lives, with this history
 pub record IsRecovered {S : Type 0} (g : Ghosts S) (desk : Desk S) (owner : List ℕ) (lives : List Life) (seen : Seen) (cs : History) : Type 0 where
   -- the lives' calls leave this history one after another; of each life at most the call that was stopped may be missing
   pub ends : Ends lives cs
   -- the calls since the seen history leave it too
   pub since : IsSince seen cs
-  -- so it goes on from that very history
+  -- so it extends that very history
   pub goes_on : GoesOnFrom seen.at cs
   -- each image that was barred then is barred now
   pub bars : (x : Facts) → IsTrue (is_barred seen.at x) → IsTrue (is_barred cs x)
   -- an image that is barred isn't allowed
   pub refuses : (x : Facts) → IsTrue (is_barred cs x) → verdict cs x ≢ Allowed
-  -- answers, verdicts and exports of the desk are those of this history
+  -- the desk's answers, verdicts and exports are those of this history
   pub shows : ShowsDesk g desk owner cs
   -- no key of a caller occurs in it twice
   pub once : IsTrue (are_apart is_same_item cs)
-  -- Each acknowledged call is in it with its reply. It goes on from the history at which the call was answered, and each image
-  -- that was barred then is barred and not allowed.
+  -- Each acknowledged call is in it with its reply. It extends the history at which the call was
+  -- answered, and each image that was barred then is barred and not allowed.
   pub answered : KeepsAnswered (events_of lives) cs
 
--- Over whatever any number of lives may have left, with all the stops that these met, the opened desk has such a history.
--- `∥ .. ∥₁` says that there is one, and not which.
+-- Whatever any number of lives left, with all the stops that they met, the opened desk has such a
+-- history. `∥ .. ∥₁` says that there is one, but not which.
 abbrev pub Recovers : {S : Type 0} → Ghosts S → Held S → Desk S → Type 0
 Recovers g conn desk =
     (owner : List ℕ) (lives : List Life) (seen : Seen) → All (λ e. IsItem e.item) (events_of lives)

@@ -14,11 +14,11 @@ use Rattle.desk_store.specs.Desks.{MayStop, Refuses, Replies, ShowsDesk}
 use Rattle.desk_store.specs.Headline.{IsSince, IsRecovered, LeavesLives, Seen}
 use Rattle.desk_store.specs.declared.desk.Desk.{Desk}
 
--- these lives, and the one of a desk that was opened after them and was called so
+-- these lives, and that of a desk that was opened after them and had these events
 abbrev pub and_now : List Life → List Event → List Life
 and_now before events = before ++ record { rules = Second; opening = Opened; events = events } ∷ []
 
--- these lives, and one that wasn't opened: its opening was refused, or was stopped
+-- these lives, and one that wasn't opened: its opening was refused or stopped
 abbrev pub and_refused : List Life → List Life
 and_refused before = before ++ record { rules = Second; opening = NotOpened; events = [] } ∷ []
 
@@ -30,11 +30,12 @@ and_then events c fate = events ++ record { item = item c; fate = fate } ∷ []
 abbrev pub is_told : Event → Bool
 is_told e = elim e.fate [ Answered reply ↦ true | Refused ↦ true | Stopped ↦ false ]
 
--- what was seen, and then this call, which was stopped
+-- the seen history and events, and then this call, which was stopped
 abbrev pub and_stopped : Seen → Call → Seen
 and_stopped seen c = record { at = seen.at; since = and_then seen.since c Stopped }
 
--- The desk answers for this history, which these lives may leave, the last of them its own, which met no stop yet.
+-- The desk answers for this history, which these lives may leave. The last life is its own, and has
+-- met no stop yet.
 pub record LivesOn {S : Type 0} (g : Ghosts S) (desk : Desk S) (owner : List ℕ) (before : List Life) (events : List Event) (cs : History) : Type 0 where
   pub told : IsTrue (list_all is_told events)
   pub ends : Ends (and_now before events) cs
@@ -51,21 +52,23 @@ module _ {S : Type 0} (g : Ghosts S) (desk : Desk S) where
       (owner : List ℕ) (lives : List Life) (seen : Seen) (cs : History) → IsRecovered g desk owner lives seen cs
       → LivesOn g desk owner lives [] cs
 
-  -- Whenever no call is under way, a stop leaves what the lives may leave, after all that was seen: `now cs` is.
+  -- Whenever no call is running, a stop leaves a history that the lives may leave and that follows
+  -- the seen one.
   abbrev pub MayStopLiving : Type 0
   MayStopLiving =
       (owner : List ℕ) (before : List Life) (events : List Event) (seen : Seen) (cs : History) → LivesOn g desk owner before events cs
       → IsSince seen cs → LeavesLives (state g desk.conn) owner (and_now before events) seen
 
 module _ {S : Type 0} (g : Ghosts S) (old new : Desk S) where
-  -- a call that is answered Ok, or refused, is one more of the desk's life
+  -- a call that is answered Ok or refused adds an event to the desk's life
   abbrev pub GoesOnLiving : Type 0
   GoesOnLiving =
       (owner : List ℕ) (before : List Life) (events : List Event) (cs : History) (c : Call) → LivesOn g old owner before events cs
       → ((reply : Reply) → Replies g old new c reply → LivesOn g new owner before (and_then events c (Answered reply)) (next cs c))
       × ((refusal : Refusal) → refusal ≢ refusals.Store → Refuses g old new c refusal → LivesOn g new owner before (and_then events c Refused) cs)
 
-  -- Whatever becomes of it, a stop leaves what the lives may leave where it was stopped, after all that was seen.
+  -- Whatever the call's outcome, a stop leaves a history that the lives may leave in which the call
+  -- was stopped, and that follows the seen one.
   abbrev pub MayEndLiving : Type 0
   MayEndLiving =
       (owner : List ℕ) (before : List Life) (events : List Event) (seen : Seen) (cs : History) (c : Call) → LivesOn g old owner before events cs

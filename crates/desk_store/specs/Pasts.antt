@@ -1,4 +1,4 @@
--- Histories that a call may meet, with what a desk keeps of their tables' sizes.
+-- Histories before a call, with the sizes of their tables that a desk keeps.
 use Rattle.std.specs.Prelude.{ℕ, List}
 use Rattle.desk_texts.specs.declared.command.Call.{Call}
 use Rattle.desk_history.specs.Calls.{History}
@@ -10,8 +10,8 @@ use Rattle.store_views.specs.sizes.Sizes.{AreRight}
 use Rattle.store_views.specs.declared.sizes.kept.KeptSizes.{KeptSizes}
 use Rattle.store_sql.specs.Contents.{Contents}
 
--- A history that the tables may stand for, with the desk's owner: a desk may have it, and what is known of its tables'
--- sizes is right.
+-- A history that the tables may represent, with the desk's owner: a desk may have it, and the known
+-- sizes of its tables are right.
 pub record Past (sizes : KeptSizes) : Type 0 where
   pub owner : List ℕ
   pub calls : History

@@ -1,4 +1,4 @@
--- What answers a question about a desk's history.
+-- Answers to questions about a desk's history.
 use Rattle.std.specs.Prelude.{ℕ, List}
 use Rattle.sqlite.specs.State.{State}
 use Rattle.store_schema.specs.rows.Contents.{contents}
@@ -8,7 +8,8 @@ use Rattle.desk_history.specs.Formed.{IsHistory}
 use Rattle.store_sql.specs.States.{Changes, Sees}
 use Rattle.store_schema.specs.Tables.{desk_schema}
 
--- Nothing changes, and this is told of each history that a desk may have and whose tables the store holds, with the owner.
+-- Nothing changes, and this holds of each history that a desk may have and whose tables the store
+-- holds, with the owner.
 pub record AnswersQuestion (told : List ℕ → History → Type 0) (old new : State) : Type 0 where
   pub kept : Changes desk_schema contents old new (λ t. t)
   pub tells : (owner : List ℕ) (cs : History) → IsHistory cs → Sees desk_schema old (rows_of owner cs) → told owner cs

@@ -1,4 +1,4 @@
--- What an opening finds of the files that earlier lives left.
+-- The files of earlier lives, as an opening finds them.
 use Rattle.std.specs.Prelude.{◌≡◌, ◌≢◌, ℕ, length, All, List}
 use Rattle.sqlite.specs.Files.{Finds, file_state}
 use Rattle.sqlite.specs.Store.{Ghosts}
@@ -24,7 +24,8 @@ FoundAgain g old new =
     (owner : List ℕ) (lives : List Life) (seen : Seen) → (HasCleanDisk (file_state old) → LeavesLives (file_state old) owner lives seen)
     → FilesHold g new owner lives seen
 
--- the refusal of an opening isn't that the store has no desk, nor one of another version, where it was opened over such tables
+-- an opening over such tables isn't refused because the store has no desk, or one of another
+-- version
 abbrev pub FindsADesk : {S : Type 0} → Ghosts S → Held S → Refusal → Type 0
 FindsADesk g conn refusal =
     (owner : List ℕ) (lives : List Life) (seen : Seen) → length owner ≡ 16 → All (λ e. IsItem e.item) (events_of lives)

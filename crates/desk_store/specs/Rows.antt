@@ -20,10 +20,10 @@ IsGuid value = (guid : List ℕ) × (value ≡ Blob guid) × (length guid ≡ 16
 abbrev pub ReadsAs : List Row → ℕ → Type 0
 ReadsAs answer version = (owner : List ℕ) × (stamp : ℕ) × (length owner ≡ 16) × (is_stamp stamp ≡ true) × (answer ≡ desk_columns owner version stamp ∷ [])
 
--- what a SELECT of whole rows shows of these rows of the table `desk` reads as a desk of this version
+-- a SELECT of whole rows shows these rows of the table `desk` as those of a desk of this version
 abbrev pub AreOf : List Row → ℕ → Type 0
 AreOf rows version = (answer : List Row) × IsSelected desk [] (by_first 1 desk) (columns_after 1 desk) [] rows answer × ReadsAs answer version
 
--- what it shows reads as a desk of no version
+-- it shows them as those of no desk
 abbrev pub AreOfNone : List Row → Type 0
 AreOfNone rows = (version : ℕ) → AreOf rows version → ⊥

@@ -1,4 +1,4 @@
--- What the steps of a transaction promise, of a connection before and after them.
+-- The steps of a transaction, from the connection before and after them.
 use Rattle.std.specs.Prelude.{◌≡◌, ◌≢◌, ◌⊎◌, ℕ, List, [], slice_get, Some, false, IfErr, IfOk, IsTrue, Result, MatchResult}
 use Rattle.sqlite.specs.Effect.{IsDatabase}
 use Rattle.sqlite.specs.Order.{Row}
@@ -19,14 +19,15 @@ use Rattle.store_migration.specs.Migrations.{Migrates}
 use Rattle.store_migration.specs.Names.{takes_a_name}
 use Rattle.desk_store.specs.Rows.{AreOf, AreOfNone}
 
--- in a sound store without tables the desk's are made, with the rows of a desk without calls; nothing is committed
+-- in a sound store without tables the desk's tables are made, with the rows of a desk without
+-- calls; nothing is committed
 pub record Founds (old new : State) (owner : List ℕ) : Type 0 where
   pub is_open : IsTrue old.is_open → IsTrue new.is_open
   pub inside : IsTrue new.in_transaction
   pub kept : KeepsCommit old new
   pub value : IsDatabase old.now → old.now.schema ≡ no_schema → Sees desk_schema new (rows_of owner [])
 
--- the error is that of a text
+-- the error is a compile error of the text
 abbrev pub RefusesText : Error → Type 0
 RefusesText e = (fault : CompileError) × (e ≡ SqlInputError fault)
 
@@ -34,7 +35,7 @@ RefusesText e = (fault : CompileError) × (e ≡ SqlInputError fault)
 abbrev pub IsDeskSchema : Schema → Type 0
 IsDeskSchema schema = (schema ≡ first_schema) ⊎ (schema ≡ desk_schema)
 
--- a device failed, or the open store hasn't the tables of a desk
+-- a device failed, or the open store doesn't have the tables of a desk
 abbrev pub RefusesColumns : State → Refusal → Type 0
 RefusesColumns s refusal = IsFailure refusal ⊎ ((refusal ≡ refusals.NotADesk) × IsTrue s.is_open × (IsDeskSchema s.now.schema → ⊥))
 
@@ -42,24 +43,25 @@ RefusesColumns s refusal = IsFailure refusal ⊎ ((refusal ≡ refusals.NotADesk
 abbrev pub IsReadRefusal : Refusal → Type 0
 IsReadRefusal refusal = (refusal ≡ refusals.NotADesk) ⊎ IsFailure refusal
 
--- the store is open where a version was read, and where there is no desk
+-- the store is open if a version was read, or if there is no desk
 abbrev pub TellsOpen : State → Result ℕ Refusal → Type 0
 TellsOpen s result = MatchResult result (λ _. IsTrue s.is_open) (λ refusal. refusal ≡ refusals.NotADesk → IsTrue s.is_open)
 
--- inside a transaction: this holds of the rows of the table `desk`, whichever version the tables are of
+-- inside a transaction: this holds of the rows of the table `desk`, whichever version the tables
+-- have
 abbrev pub SeesRows : State → (List Row → Type 0) → Type 0
 SeesRows s told =
     (schema : Schema) (c : Contents) (rows : List Row) → IsDeskSchema schema → Sees schema s c → slice_get c 0 ≡ Some rows → told rows
 
--- the version is that which they read as
+-- the rows read as those of a desk of this version
 abbrev pub ReadsInside : State → Result ℕ Refusal → Type 0
 ReadsInside s result = IfOk result (λ version. SeesRows s (λ rows. AreOf rows version))
 
--- where there is no desk, they read as those of none
+-- if there is no desk, the rows read as those of none
 abbrev pub UnreadInside : State → Result ℕ Refusal → Type 0
 UnreadInside s result = IfErr result (λ refusal. refusal ≡ refusals.NotADesk → SeesRows s AreOfNone)
 
--- outside: this holds of the tables and of the rows of `desk`, whichever version the tables are of
+-- outside: this holds of the tables and of the rows of `desk`, whichever version the tables have
 abbrev pub ShowsRows : State → (Schema → List Row → Type 0) → Type 0
 ShowsRows s told =
     (schema : Schema) (c : Contents) (rows : List Row) → IsDeskSchema schema → Shows schema s c → slice_get c 0 ≡ Some rows → told schema rows
@@ -80,7 +82,7 @@ AreShownFree s = ShowsRows s (λ schema rows. AreOf rows 1 × (takes_a_name sche
 abbrev pub AreShownTaken : State → Type 0
 AreShownTaken s = ShowsRows s (λ schema rows. AreOf rows 1 × IsTrue (takes_a_name schema))
 
--- ---- what an opening finds, of the connection before it
+-- ---- the desk that an opening finds, by the connection before it
 
 -- a desk of version 2, or one of version 1 with the names free
 abbrev pub FindsKnown : State → Type 0
@@ -94,7 +96,7 @@ FindsOther s = (version : ℕ) × (version ≢ 1) × (version ≢ 2) × AreShown
 abbrev pub FindsNone : State → Type 0
 FindsNone s = AreShownAsNone s ⊎ AreShownTaken s
 
--- what an opening may commit, and that only where it finds version 1: the tables of version 2, of each history that the
--- connection showed in version 1
+-- the result of an opening that may commit, which only version 1 allows: the tables of version 2,
+-- of each history that the connection showed in version 1
 abbrev pub Brings : State → Trees → Type 0
 Brings s db = AreShownAs s 1 × Migrates s db

@@ -19,8 +19,7 @@ use std::alloc::Global;
 use store_views::{KeptSizes, view};
 use store_writes::{failed_commit, write_all};
 
-/// What became of a call: its answer, and how many rows the tables have after it, as far as that
-/// is known.
+/// The outcome of a call: its answer, and the sizes of the tables after it, if they are known.
 #[derive(Drop)]
 pub(crate) struct Acted {
     pub(crate) answer: Answer,
@@ -50,8 +49,8 @@ pub(crate) fn result_of(answer: Answer) -> Result<Reply, Refusal>
     }
 }
 
-/// What the call does inside its transaction: it is answered by the rows that it needs, and an
-/// accepted call's rows are written, its own with them.
+/// The call inside its transaction: it is answered from the rows that it needs, and an accepted
+/// call's rows are written, including its own.
 fn act<S: Alter>(
     alloc: Global,
     tx: &mut Transaction<'_, S>,
@@ -101,9 +100,9 @@ fn act<S: Alter>(
     }
 }
 
-/// Does the call in one transaction. Only an accepted call is committed, as the last step.
+/// Runs the call in one transaction. Only an accepted call is committed, as the last step.
 ///
-/// `NoMemory`: nothing was committed. `Store`: nothing was, or all of the call.
+/// `NoMemory`: nothing was committed. `Store`: nothing was, or the whole call.
 pub(crate) fn run<S: Alter>(
     alloc: Global,
     conn: &mut Connection<S>,

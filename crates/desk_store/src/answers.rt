@@ -40,7 +40,8 @@ impl<S: Alter + Drop> Desk<S> {
         self.answer_question(&WhoHas { token })
     }
 
-    /// What the desk says of the image. It reads the rows that the facts name, and no other. Takes memory for them.
+    /// The desk's verdict on the image. It reads only the rows that the facts name. Takes memory
+    /// for them.
     ///
     /// `NoMemory`: memory was refused. `Store`: the store failed, or isn't as a desk left it.
     pub fn verdict(&mut self, facts: &Facts) -> Result<Verdict, Refusal>
@@ -63,7 +64,8 @@ impl<S: Alter + Drop> Desk<S> {
         }
     }
 
-    /// What the desk counts. It visits every row of the counted tables. Takes memory for the desk's own row.
+    /// The counts of the desk. They visit every row of the counted tables. Takes memory for the
+    /// desk's own row.
     ///
     /// `NoMemory`: memory was refused. `Store`: the store failed, or isn't as a desk left it.
     pub fn counts(&mut self) -> Result<Counts, Refusal>

@@ -17,16 +17,16 @@ use std::alloc::Global;
 
 /// A question about the history that a desk shows.
 pub(crate) trait Question {
-    /// What answers it.
+    /// The type of its answer.
     type Answer;
 
-    /// What an answer tells of a history, with the desk's owner.
+    /// The meaning of an answer for a history, with the desk's owner.
     ghost tells: { Self → Self.Answer → List ℕ → History → Type 0 };
 
-    /// What holds of an answer on any store.
+    /// The property of an answer on any store.
     ghost bounds: { Self → Self.Answer → Type 0 };
 
-    /// Reads the answer. It changes nothing.
+    /// Reads the answer. Nothing changes.
     fn read<S: Alter>(
         &self,
         alloc: Global,
@@ -71,7 +71,7 @@ pub(crate) fn ask<S: Alter, Q: Question>(
 }
 
 impl<S: Alter + Drop> Desk<S> {
-    /// The answer to the question. Nothing is changed.
+    /// The answer to the question. Nothing changes.
     pub(crate) fn answer_question<Q: Question>(
         &mut self,
         question: &Q,

@@ -1,4 +1,4 @@
-//! Closing a desk over files.
+//! The closing of a desk over files.
 ghost use Rattle.std.specs.Prelude.{◌≡◌, ◌⊎◌, ℕ, List, false, true};
 ghost use Rattle.std.specs.Prelude.{IfErr, IfOk, IsTrue, MatchResult};
 ghost use Rattle.sqlite.specs.Files.{file_state, over_files};
@@ -20,7 +20,7 @@ use sqlite::{Error, FileStore, Files};
 use sqlite_disk::Disk;
 use store_sql::StoreFault;
 
-/// What a failed close is refused.
+/// The refusal for a close that failed.
 fn refusal_of_error(error: Error) -> Refusal
     ensures { result ≡ refusal_of (fault_of error) }
 {
@@ -28,12 +28,12 @@ fn refusal_of_error(error: Error) -> Refusal
 }
 
 impl<D: Disk + Drop> Desk<FileStore<D>> {
-    /// Closes the desk: what its log holds is copied into the database file, and both files are
-    /// given back. A refusal gives the store back in place of a desk, with no transaction open; its
-    /// files (`FileStore::close`) can be opened again. Takes memory.
+    /// Closes the desk: its log is copied into the database file, and both files are returned. A
+    /// refusal returns the store instead, with no transaction open; its files (`FileStore::close`)
+    /// can be opened again. Takes memory.
     ///
     /// `Reopen`: an earlier call answered `Store`; nothing was copied. `NoMemory`: memory was
-    /// refused. `Store`: the store failed. None of them loses a call that was accepted.
+    /// refused. `Store`: the store failed. None of these loses an accepted call.
     pub fn close(self) -> Result<Files<D>, (Refusal, FileStore<D>)>
         ensures copied { IfOk result (λ files. AreClean D.Disk files.log files.db
             → (owner : List ℕ) (cs : History) → ShowsDesk over_files self owner cs

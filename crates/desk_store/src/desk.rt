@@ -1,4 +1,4 @@
-//! Desks: made, opened, and given back.
+//! Desks: made, opened, and released.
 ghost use Rattle.std.specs.Prelude.{◌≡◌, ◌≢◌, ◌⊎◌, ℕ, List, [], length, Err, false, true};
 ghost use Rattle.std.specs.Prelude.{IfErr, IfOk, IsErrOf, OnOk};
 ghost use Rattle.sqlite.specs.Held.{state};
@@ -35,8 +35,7 @@ use std::alloc::Global;
 use store_sql::stop_leaves_what_is_shown;
 use store_views::KeptSizes;
 
-/// A desk in a store. It keeps the connection, and how many rows its tables have, as far as it
-/// has counted them.
+/// A desk in a store. It has the connection, and the sizes of its tables that it has counted.
 #[derive(Drop)]
 pub struct Desk<S: Alter> {
     pub(crate) alloc: Global,
@@ -47,11 +46,11 @@ pub struct Desk<S: Alter> {
 
 impl<S: Alter + Drop> Desk<S> {
     /// Makes a desk without calls, in one transaction: its fifteen tables, and its own row with the
-    /// owner of every entry that it exports. The connection has to be in no transaction
-    /// (`is_autocommit`); a refusal hands it back. Takes memory.
+    /// owner of each entry that it exports. The connection must be outside a transaction
+    /// (`is_autocommit`); a refusal returns it. Takes memory.
     ///
     /// `Exists`: the store has a table, an index or a view already. `NoMemory`: memory was refused,
-    /// and nothing was committed. `Store`: the store failed, and committed nothing or all of it.
+    /// and nothing was committed. `Store`: the store failed, and committed nothing or everything.
     pub fn create(
         alloc: Global,
         mut conn: Connection<S>,
@@ -89,18 +88,20 @@ impl<S: Alter + Drop> Desk<S> {
         }
     }
 
-    /// Opens the desk that the store holds, by the desk's own row. A desk of version 1 is made one of
-    /// version 2, of the same calls and rows, by one commit as the last call; one of version 2 is left
-    /// as it is. Whatever stops the desk's lives before it met, over what they may have left, in either
-    /// version, the desk answers for a history that they may leave: it holds each call that was
-    /// answered Ok, with its reply, and bars each image that was barred when a call was answered. The
-    /// connection has to be in no transaction (`is_autocommit`); a refusal hands it back. Takes memory.
+    /// Opens the desk that the store holds, by the desk's own row. A desk of version 1 becomes one
+    /// of version 2 with the same calls and rows, by one commit, the last call; one of version 2
+    /// doesn't change. Whatever stops the desk's earlier lives met, and whichever version they
+    /// left, the desk answers for a history that they may leave: it holds each call that was
+    /// answered Ok, with its reply, and bars each image that was barred when a call was answered.
+    /// The connection must be outside a transaction (`is_autocommit`); a refusal returns it. Takes
+    /// memory.
     ///
-    /// `NotADesk`: the store has no row that reads as a desk's, with an owner of 16 bytes and a stamp of
-    /// ten digits; or it has one of version 1, and a table, an index or a view with one of the three
-    /// names that version 2 adds. `Version`: it has one of a version that this program doesn't know.
-    /// `NoMemory`: memory was refused. After these nothing was committed. `Store`: the store failed; of
-    /// a desk of version 1 it committed nothing, or all of version 2.
+    /// `NotADesk`: the store has no row that reads as a desk's, with an owner of 16 bytes and a
+    /// stamp of ten digits; or its desk is of version 1, and a table, an index or a view has one of
+    /// the three names that version 2 adds. `Version`: its desk is of a version that this program
+    /// doesn't know. `NoMemory`: memory was refused. After any of these nothing was committed.
+    /// `Store`: the store failed; it committed nothing, or, for a desk of version 1, all of version
+    /// 2.
     pub fn open(alloc: Global, mut conn: Connection<S>) -> Result<Desk<S>, (Refusal, Connection<S>)>
         requires outside { conn.in_transaction ≡ false }
         ensures ok { IfOk result (λ desk. HasCleanDisk (state S.Store desk.conn)
@@ -161,13 +162,13 @@ impl<S: Alter + Drop> Desk<S> {
         }
     }
 
-    /// Answers the call, in one transaction whose commit is the last step: an accepted call's
-    /// rows and its minute with the reply are kept before it answers. A repeated key gives the
-    /// reply that it was given before. Takes memory.
+    /// Answers the call, in one transaction whose commit is the last step: an accepted call's rows,
+    /// and its minute with the reply, are stored before it is answered. A repeated key gets its
+    /// earlier reply again. Takes memory.
     ///
     /// A refusal by the rules changes nothing. `NoMemory`: memory was refused, and nothing was
-    /// kept. `Store`: the store failed, or isn't as a desk left it; the call was kept or it wasn't,
-    /// and each later call answers `Reopen` and does nothing.
+    /// stored. `Store`: the store failed, or isn't as a desk left it; the call was stored or it
+    /// wasn't, and each later call answers `Reopen` and does nothing.
     pub fn apply(&mut self, caller: &Caller, key: &Key, command: &Command) -> Result<Reply, Refusal>
         ensures ok { HasCleanDisk (state S.Store self.new.conn) → IfOk result
             (Replies S.Store self.old self.new (called caller.now key.now command.now)) }
@@ -206,7 +207,7 @@ impl<S: Alter + Drop> Desk<S> {
         }
     }
 
-    /// The rows that a decision on the call needs, and no other. Nothing is changed. Takes memory.
+    /// The rows for a decision on the call, and no others. Nothing changes. Takes memory.
     ///
     /// `NoMemory`: memory was refused. `Store`: the store failed, or isn't as a desk left it.
     pub fn view(&mut self, caller: &Caller, key: &Key, command: &Command) -> Result<View, Refusal>
@@ -240,7 +241,7 @@ impl<S: Alter + Drop> Desk<S> {
         }
     }
 
-    /// The rows that a verdict on the image needs, and no other. Nothing is changed. Takes memory.
+    /// The rows for a verdict on the image, and no others. Nothing changes. Takes memory.
     ///
     /// `NoMemory`: memory was refused. `Store`: the store failed, or isn't as a desk left it.
     pub fn list_view(&mut self, facts: &Facts) -> Result<ListView, Refusal>
@@ -261,7 +262,7 @@ impl<S: Alter + Drop> Desk<S> {
         self.answer_question(&ListsFor { facts })
     }
 
-    /// Gives the connection back, in whatever state it is.
+    /// Returns the connection, in whatever state it is.
     pub fn release(self) -> Connection<S>
         ensures { result ≡ self.conn }
     {

@@ -19,9 +19,10 @@ impl<S: Alter + Drop> Desk<S> {
     /// Writes an export. Each row is written as the store gives it. Takes memory for the desk's own row and for one row of
     /// the export.
     ///
-    /// `Write`: the writer failed. `NoMemory`: memory was refused. `Store`: the store failed, or isn't as a
-    /// desk left it. Each leaves a beginning of the export in the writer, which may be empty. After `Store` each
-    /// later call answers `Reopen`; after the others the desk is as it was.
+    /// `Write`: the writer failed. `NoMemory`: memory was refused. `Store`: the store failed, or
+    /// isn't as a desk left it. After each the writer holds a prefix of the export, which may be
+    /// empty. After `Store` each later call answers `Reopen`; after the others the desk is
+    /// unchanged.
     pub fn export<W: Write>(&mut self, what: Export, writer: &mut W) -> Result<(), Refusal>
         ensures ok { HasCleanDisk (state S.Store self.new.conn)
             → OnOk result (Views S.Store self.old self.new

@@ -1,4 +1,4 @@
-//! Making a desk: its fifteen tables and its own rows, in one transaction.
+//! The founding of a desk: its fifteen tables and its own rows, in one transaction.
 ghost use Rattle.std.specs.Prelude.{◌≡◌, ◌≢◌, [], false, IfErr, IsTrue, OnOk};
 ghost use Rattle.sqlite.specs.Held.{state};
 ghost use Rattle.sqlite.specs.State.{HasCleanDisk, Survives};
@@ -23,7 +23,7 @@ pub(crate) fn has_no_tables<S: Alter>(conn: &Connection<S>) -> bool
     schema.tables.is_empty() && schema.indexes.is_empty() && schema.views.is_empty()
 }
 
-/// Makes the tables, and puts in the rows of a desk without calls.
+/// Makes the tables, and inserts the rows of a desk without calls.
 fn found<S: Alter>(tx: &mut Transaction<'_, S>, owner: &Guid) -> Result<(), StoreFault>
     ensures same_reference { tx.new.conn.ghost_name ≡ tx.old.conn.ghost_name }
     ensures value { HasCleanDisk (state S.Store tx.new.conn.now)
@@ -40,7 +40,7 @@ fn found<S: Alter>(tx: &mut Transaction<'_, S>, owner: &Guid) -> Result<(), Stor
 }
 
 /// Makes the desk in one transaction, whose commit is the last call. `NoMemory`: nothing was
-/// committed. `Store`: nothing was, or all of it.
+/// committed. `Store`: nothing was, or everything.
 pub(crate) fn found_at_once<S: Alter>(conn: &mut Connection<S>, owner: &Guid) -> Result<(), Refusal>
     requires outside { conn.old.in_transaction ≡ false }
     ensures outside { conn.new.in_transaction ≡ false }

@@ -1,4 +1,5 @@
-//! A desk in a store of SQLite, and what any number of its lives leave to the next opening.
+//! A desk in a store of SQLite, and the state that any number of its lives leave to the next
+//! opening.
 #![tactic(auto)]
 
 mod acting;

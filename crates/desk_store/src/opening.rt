@@ -1,4 +1,4 @@
-//! The row of the table `desk`, read as the desk is opened.
+//! The row of the table `desk`, read when the desk is opened.
 ghost use Rattle.std.specs.Prelude.{◌≡◌, ◌≢◌, ◌<◌, ◌⊎◌, ℕ, List, [], false, codes, length, pos};
 ghost use Rattle.std.specs.Prelude.{Some, IfErr, IfOk, IfSome, IsTrue, OnOk};
 ghost use Rattle.sqlite.specs.Held.{state};
@@ -23,7 +23,7 @@ use store_schema::SELECT_DESK;
 use store_sql::{StoreFault, catalog_lists_one_schema, select};
 use store_writes::{MARK, VERSION};
 
-/// The version of the files that desks of one officer had.
+/// The version of the files of desks with one officer.
 const FIRST_VERSION: u64 = 1;
 
 /// The natural number in a column.
@@ -88,7 +88,7 @@ fn version_in(rows: &[Row]) -> Option<u64>
     }
 }
 
-/// Whether the store's tables don't have what a text names.
+/// Whether the store's tables lack a table or a column that a text names.
 fn refuses_text(error: &Error) -> bool
     ensures { IsTrue result → RefusesText error.now }
 {
@@ -98,8 +98,8 @@ fn refuses_text(error: &Error) -> bool
     }
 }
 
-/// Whether the desk's row can be asked for. `NotADesk`: the store hasn't its table with these
-/// columns.
+/// Checks that the desk's row can be selected. `NotADesk`: the store doesn't have its table with
+/// these columns.
 fn ask_columns<S: Alter>(tx: &mut Transaction<'_, S>) -> Result<(), Refusal>
     ensures same_reference { tx.new.conn.ghost_name ≡ tx.old.conn.ghost_name }
     ensures same { HasCleanDisk (state S.Store tx.new.conn.now)
@@ -121,7 +121,7 @@ fn ask_columns<S: Alter>(tx: &mut Transaction<'_, S>) -> Result<(), Refusal>
     Err(StoreFault::from(error).refusal())
 }
 
-/// The version of the desk, by its row. `NotADesk`: no such row reads as a desk's.
+/// The version of the desk, from its row. `NotADesk`: no such row reads as a desk's.
 fn version_of<S: Alter>(tx: &mut Transaction<'_, S>) -> Result<u64, Refusal>
     ensures same_reference { tx.new.conn.ghost_name ≡ tx.old.conn.ghost_name }
     ensures open { HasCleanDisk (state S.Store tx.new.conn.now)
@@ -170,10 +170,11 @@ fn read_version<S: Alter>(conn: &mut Connection<S>) -> Result<u64, Refusal>
     read
 }
 
-/// Finds a desk of version 2, or makes one of a desk of version 1, by one commit as the last call.
+/// Finds a desk of version 2, or migrates one of version 1, by one commit, the last call.
 ///
-/// `NotADesk`: no row reads as a desk's, or a name that version 2 adds is taken. `Version`: the desk
-/// is of another version. `NoMemory`: nothing was committed. `Store`: nothing was, or all of it.
+/// `NotADesk`: no row reads as a desk's, or a name that version 2 adds is taken. `Version`: the
+/// desk is of another version. `NoMemory`: nothing was committed. `Store`: nothing was, or
+/// everything.
 pub(crate) fn bring_up<S: Alter>(conn: &mut Connection<S>) -> Result<(), Refusal>
     requires outside { conn.old.in_transaction ≡ false }
     ensures outside { conn.new.in_transaction ≡ false }
@@ -219,9 +220,8 @@ pub(crate) fn bring_up<S: Alter>(conn: &mut Connection<S>) -> Result<(), Refusal
     }
 }
 
-/// A connection outside a transaction shows the history whose tables it has as its last commit, of
-/// either version: the catalog among these lists the desk's tables, and no other schema has that
-/// catalog.
+/// A connection outside a transaction shows the history whose tables, of either version, are its
+/// last commit: the catalog in them lists the desk's tables, and no other schema has that catalog.
 pub(crate) fn found_is_shown<S: Alter>(conn: &Connection<S>)
     requires outside { conn.now.in_transaction ≡ false }
     ensures second { (owner : List ℕ) (cs : History)

@@ -18,7 +18,7 @@ use sqlite_disk::{Crash, Disk};
 use std::alloc::Global;
 use store_sql::stop_leaves_what_is_shown;
 
-/// The files of a desk's store at which the machine stops: of each stands there what its disk leaves.
+/// The files of a desk's store after the machine stops: each has the contents that its disk leaves.
 fn crashed<D: Crash + Drop>(conn: Connection<FileStore<D>>) -> Files<D>
     ensures log { IsTrue (D.Disk.is_usable result.log) }
     ensures db { IsTrue (D.Disk.is_usable result.db) }
@@ -30,12 +30,12 @@ fn crashed<D: Crash + Drop>(conn: Connection<FileStore<D>>) -> Files<D>
     files
 }
 
-/// Opens the desk that these files hold. A desk that is opened keeps all that was answered Ok in any of
-/// the lives before. Where the opening of the desk is refused, the machine stops: the files that are
-/// given back are what the disks leave then, and hold what the files before held, after one more life,
-/// which wasn't opened. Takes memory.
+/// Opens the desk in these files. An opened desk keeps all that was answered Ok in any of the lives
+/// before. If the opening is refused, the machine stops: the files that are returned are what the
+/// disks leave then. They hold what the files held before, after one more life, which wasn't
+/// opened. Takes memory.
 ///
-/// A refusal: of `Desk::open`; or `Store` with no files, where these didn't open.
+/// A refusal is that of `Desk::open`, or `Store` without files if these didn't open.
 pub fn reopen<D: Crash + Drop>(
     alloc: Global,
     files: Files<D>,
@@ -71,13 +71,13 @@ pub fn reopen<D: Crash + Drop>(
     }
 }
 
-/// The machine stops here, at whatever point of its life the desk is, and its files are opened
-/// again: of each file stands there what its disk leaves. The desk that is then opened keeps all that
-/// was answered Ok in any of the lives before. A stop within a call is one at its end on a disk
-/// that failed from some write on, since what such a call does then changes nothing. Programs
-/// have no such disk; it is there for theorems and tests. Takes memory.
+/// The machine stops here, at any point of the desk's life, and the desk's files are opened again,
+/// each with the contents that its disk leaves. The desk that is then opened keeps all that was
+/// answered Ok in any of the lives before. A stop within a call is one at its end on a disk that
+/// failed from some write on, since after that write such a call changes nothing. Programs have no
+/// such disk; it is for theorems and tests. Takes memory.
 ///
-/// A refusal is that of `reopen`, and gives files back as it does.
+/// A refusal is that of `reopen`, and returns files as it does.
 pub fn restart<D: Crash + Drop>(
     alloc: Global,
     desk: Desk<FileStore<D>>,

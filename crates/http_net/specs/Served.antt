@@ -1,4 +1,4 @@
--- What a served connection comes to.
+-- Outcomes of a served connection.
 use Rattle.std.specs.Prelude.{Option, None, Some, Result, Ok, Err}
 use Rattle.desk_bytes.specs.declared.refusal.Refusal.{Refusal}
 use Rattle.desk_bytes.specs.declared.refusal.Refusal.TheVariants as refusals
@@ -10,13 +10,13 @@ use Rattle.desk_http.specs.declared.served.HttpFault.TheVariants as fault
 use Rattle.desk_http.specs.declared.served.Served.{Served}
 use Rattle.desk_http.specs.declared.served.Served.TheVariants.{Answered, Nothing}
 
--- own: after a response that says so the desk has to be opened again
+-- own: after a response with one of these refusals the desk must be opened again
 abbrev pub lasting : Option Refused → Option Refusal
 lasting (Some (refused.Unavailable outage.Store)) = Some refusals.Store
 lasting (Some (refused.Unavailable outage.Reopen)) = Some refusals.Reopen
 lasting _ = None
 
--- own: what ends the program that serves: a connection's own fault doesn't
+-- own: the refusal that ends a serving program; a connection's own fault doesn't end it
 abbrev pub ending_of : Result Served HttpFault → Option Refusal
 ending_of (Ok Nothing) = None
 ending_of (Ok (Answered answered)) = lasting answered.refused
@@ -27,7 +27,7 @@ abbrev pub done_unless : Option Refusal → Result Unit Refusal
 done_unless None = Ok tt
 done_unless (Some refusal) = Err refusal
 
--- own: the outcome of a program that serves one request: what stopped the request too
+-- own: the outcome of a program that serves one request, whose own faults count too
 abbrev pub outcome_of : Result Served HttpFault → Result Unit Refusal
 outcome_of (Ok Nothing) = Ok tt
 outcome_of (Ok (Answered answered)) = done_unless (lasting answered.refused)

@@ -1,4 +1,4 @@
--- Connections that are served one after another, whatever serves each.
+-- Connections served one after another, whatever serves each.
 use Rattle.std.specs.Prelude.{◌≡◌, ◌⊎◌, ◌<◌, ℕ, List, [], ◌∷◌, All, length, None, Some, Result, Ok, Err}
 use Rattle.desk_bytes.specs.declared.refusal.Refusal.{Refusal}
 use Rattle.desk_bytes.specs.declared.refusal.Refusal.TheVariants as refusals
@@ -10,10 +10,10 @@ use Rattle.http_net.specs.Served.{ending_of}
 abbrev pub GoesOn : Result Served HttpFault → Type 0
 GoesOn served = ending_of served ≡ None
 
--- In what follows `serves old new served` says that a desk, which was old, served one connection, was new then, and
--- that the connection came to this.
+-- In the following, `serves old new served` says that a desk served one connection with the outcome
+-- `served`, and that it was `old` before and `new` after.
 module _ {D : Type 0} (serves : D → D → Result Served HttpFault → Type 0) where
-  -- the connections that came to these were served one after another
+  -- connections with these outcomes were served one after another
   abbrev pub AreServed : List (Result Served HttpFault) → D → D → Type 0
   AreServed [] old new = new ≡ old
   AreServed (served ∷ more) old new = (mid : D) × serves old mid served × AreServed more mid new
@@ -24,8 +24,8 @@ module _ {D : Type 0} (serves : D → D → Result Served HttpFault → Type 0) 
       ((last : Result Served HttpFault) × serves old new last × (ending_of last ≡ Some refusal))
       ⊎ ((refusal ≡ refusals.Read) × (new ≡ old))
 
-  -- so many connections were served, each by the desk as the one before left it; or fewer, up to one that ended the
-  -- program. After no other did it end
+  -- this many connections were served, each by the desk as the one before left it; or fewer, and
+  -- then one that ended the program, or none could be accepted
   abbrev pub ServesInTurn : ℕ → D → D → Result Unit Refusal → Type 0
   ServesInTurn count old new (Ok done) =
       (all : List (Result Served HttpFault)) × (length all ≡ count) × All GoesOn all × AreServed all old new

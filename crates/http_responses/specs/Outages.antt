@@ -9,7 +9,7 @@ unavailable_text size body =
     codes "HTTP/1.1 503 Service Unavailable\r\nContent-Type: application/json\r\nContent-Length: "
     ++ size ++ codes "\r\nConnection: close\r\n\r\n" ++ body
 
--- the response of an outage, written out
+-- the response of an outage, in full
 unfoldable pub outage_text : Outage → List ℕ
 outage_text NoMemory =
     unavailable_text (codes "32") (codes "{\"name\":\"NoMemory\",\"refused\":40}")

@@ -1,4 +1,5 @@
--- own: what a request is refused for: its row in the table of refusals, its place and its status.
+-- own: the refusals of a request: the row in the table of refusals, the place and the status of
+-- each.
 use Rattle.std.specs.Prelude.{ℕ, List, Option, Some, None, codes}
 use Rattle.serde_json.specs.Data.{Data, member, no_members, number, object, string, unsigned}
 use Rattle.desk_bytes.specs.Refusals.{name_of, number_of}
@@ -66,8 +67,8 @@ refusal_of refused.TooLarge = refusal.TooLarge
 refusal_of refused.NotSupported = refusal.NotSupported
 refusal_of (refused.Unavailable outage) = outage_refusal outage
 
--- what a request is refused for by a row alone; none where no request is answered it, or where it
--- comes with a place or with methods
+-- the refusal of a request for a row alone; none if no request is refused for it, or if it needs a
+-- place or methods
 abbrev pub refused_of : Refusal → Option Refused
 refused_of refusal.Short = Some refused.Short
 refused_of refusal.NoMz = Some refused.NoMz
@@ -124,7 +125,7 @@ refused_of refusal.LengthNeeded = Some refused.LengthNeeded
 refused_of refusal.TooLarge = Some refused.TooLarge
 refused_of refusal.NotSupported = Some refused.NotSupported
 
--- the line, the record or the offset in bytes that was refused
+-- the refused line, record or offset in bytes
 abbrev pub place_of : Refused → Option ℕ
 place_of (refused.SbatRow line) = Some line
 place_of (refused.List offset) = Some offset
@@ -192,6 +193,6 @@ refusal_data name n (Some place) =
     member (codes "name") (string name) (
     member (codes "refused") (number (unsigned n)) no_members)))
 
--- what a request is refused for, in JSON
+-- the refusal of a request, in JSON
 abbrev pub refused_data : Refused → Data
 refused_data r = refusal_data (name_of (refusal_of r)) (number_of (refusal_of r)) (place_of r)

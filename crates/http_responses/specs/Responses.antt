@@ -43,7 +43,7 @@ field_line name value = name ++ codes ": " ++ value ++ codes "\r\n"
 unfoldable pub status_line : List ℕ → List ℕ → List ℕ
 status_line code phrase = codes "HTTP/1.1 " ++ code ++ codes " " ++ phrase ++ codes "\r\n"
 
--- the line that only this status has: on 401 which tokens are asked for (RFC 9110, section 11.6.1),
+-- the line that only this status has: on 401 the scheme of the tokens (RFC 9110, section 11.6.1),
 -- on 405 the path's methods (section 10.2.1)
 abbrev pub own_line : Status → List ℕ
 own_line status.Unauthorized = field_line (codes "WWW-Authenticate") (codes "Desk")

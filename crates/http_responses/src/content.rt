@@ -2,7 +2,7 @@
 ghost use Rattle.std.specs.Prelude.{◌≡◌};
 ghost use Rattle.http_responses.specs.Responses as spec;
 
-/// What the body of a response is, for the field `Content-Type` (RFC 9110, section 8.3).
+/// The kind of a response's body, for the field `Content-Type` (RFC 9110, section 8.3).
 #[derive(Clone, Copy, Debug, PartialEq, Eq)]
 pub enum Content {
     /// Replies, requests, verdicts and refusals.

@@ -1,4 +1,4 @@
-//! Reasons why the desk can answer no request, and their responses.
+//! Reasons why the desk can't answer any request, and their responses.
 ghost use Rattle.std.specs.Prelude.{◌≡◌};
 ghost use Rattle.http_responses.specs.Outages.{outage_text as text_of};
 ghost use Rattle.http_responses.specs.Refusals as spec;
@@ -7,14 +7,14 @@ ghost use Rattle.http_responses.specs.declared.refused.Refused.TheVariants.{Unav
 
 use desk_bytes::Refusal;
 
-/// Why the desk can answer no request: the refusals of status 503.
+/// Why the desk can't answer any request: the refusals of status 503.
 #[derive(Clone, Copy, Debug, PartialEq, Eq)]
 pub enum Outage {
     /// Memory was refused.
     NoMemory,
     /// The database failed.
     Store,
-    /// The desk failed before, and has to be opened again.
+    /// The desk failed before, and must be opened again.
     Reopen,
     /// The database holds no desk.
     NotADesk,
@@ -34,7 +34,7 @@ impl Outage {
     }
 }
 
-/// The response of an outage, written out.
+/// The response of an outage, in full.
 #[tactic(auto, unfolding(crate::specs::Outages::outage_text))]
 fn outage_text(outage: Outage) -> &'static str
     ensures { result.now ≡ text_of outage }
@@ -75,7 +75,7 @@ Connection: close\r\n\
     }
 }
 
-/// The whole response where the desk can answer no request.
+/// The whole response when the desk can't answer.
 #[tactic(auto, using(crate::proofs::OutageLemmas::outage_text_is))]
 pub fn outage_response(outage: Outage) -> &'static [u8]
     ensures { result.now ≡ refused_text (Unavailable outage) }

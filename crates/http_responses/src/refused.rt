@@ -7,16 +7,15 @@ use crate::status::Status;
 use desk_bytes::Refusal;
 use http_requests::Methods;
 
-/// What a request is refused for: a row of the table of refusals, with what its response says beside
-/// it. The rows that no request is answered have no variant: Read, Write, Line, Version, File and
-/// Exists.
+/// Why a request is refused: a row of the table of refusals, with what its response adds. Rows for
+/// which no request is refused have no variant: Read, Write, Line, Version, File and Exists.
 #[derive(Clone, Copy, Debug, PartialEq, Eq)]
 pub enum Refused {
     /// The file ends before a header that it needs.
     Short,
     /// The file doesn't begin with `MZ`.
     NoMz,
-    /// No `PE`, 0, 0 stands where the u32 at 0x3C points.
+    /// The u32 at 0x3C doesn't lead to `PE`, 0, 0.
     NoPe,
     /// The optional header is neither PE32 (0x10B) nor PE32+ (0x20B).
     Magic,
@@ -31,7 +30,7 @@ pub enum Refused {
     /// The certificate table isn't the end of the file or begins before the sections' end, or an entry
     /// of it isn't whole.
     Table,
-    /// No DER element, SignedData or certificate stands where one is needed.
+    /// A DER element, SignedData or certificate is missing where one is needed.
     Der,
     /// Two sections are named `.sbat`.
     TwoSbat,
@@ -39,7 +38,7 @@ pub enum Refused {
     SbatRow(u64),
     /// The input passes a stated limit of size or count.
     TooLong,
-    /// No signature list stands there. The place is its offset in bytes.
+    /// There is no signature list at that place: its offset in bytes.
     List(u64),
     /// A signature list's entries can't have the size that it gives. The place is its offset in
     /// bytes.
@@ -68,9 +67,9 @@ pub enum Refused {
     NotListed,
     /// It is revoked already.
     AlreadyRevoked,
-    /// The generation isn't above the present one, or can't be raised.
+    /// The generation isn't above the current one, or can't be raised.
     NotHigher,
-    /// The stamp isn't above the present one.
+    /// The stamp isn't above the current one.
     StampNotLater,
     /// It is listed already.
     AlreadyListed,
@@ -88,7 +87,7 @@ pub enum Refused {
     ProposalClosed,
     /// The head of an HTTP request is wrong, too long or cut short.
     BadHead,
-    /// A field of an HTTP request is wrong, or stands twice.
+    /// A field of an HTTP request is wrong or repeated.
     BadField,
     /// The JSON body of an HTTP request is wrong.
     BadBody,
@@ -102,13 +101,14 @@ pub enum Refused {
     TooLarge,
     /// The HTTP request has a Transfer-Encoding.
     NotSupported,
-    /// The desk can answer no request.
+    /// The desk can't answer any request.
     Unavailable(Outage),
 }
 
 impl Refused {
-    /// What a request is refused for by this row alone, or `None` where no request is answered it, or
-    /// more has to be told: the place of SbatRow, List, EntrySize and CsvRow, the methods of BadMethod.
+    /// The refusal of a request for this row alone, or `None` if no request is refused for it, or
+    /// if it needs more: the place of SbatRow, List, EntrySize and CsvRow, the methods of
+    /// BadMethod.
     pub fn of(refusal: Refusal) -> Option<Refused>
         ensures value { result ≡ spec.refused_of refusal }
         ensures row { IfSome result (λ refused. spec.refusal_of refused ≡ refusal) }
@@ -225,7 +225,7 @@ impl Refused {
         }
     }
 
-    /// The number of the line or of the record, or the offset in bytes, that was refused.
+    /// The refused line, record or offset in bytes, as a number.
     pub fn place(self) -> Option<u64>
         ensures { result ≡ spec.place_of self }
     {

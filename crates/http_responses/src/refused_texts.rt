@@ -23,7 +23,7 @@ fn refusal_value(
     }
 }
 
-/// What a request is refused for.
+/// The refusal of a request.
 fn refused_value(alloc: Global, refused: Refused) -> Result<Value, AllocError>
     ensures { IfOk result (λ v. view v ≡ refused_data refused) }
 {
@@ -31,7 +31,7 @@ fn refused_value(alloc: Global, refused: Refused) -> Result<Value, AllocError>
     refusal_value(alloc, refusal.name(), refusal.number(), refused.place())
 }
 
-/// What a request is refused for, as a JSON object. Takes memory.
+/// The refusal of a request, as a JSON object. Takes memory.
 pub fn refused_json(alloc: Global, refused: Refused) -> Result<Vec<u8>, AllocError>
     ensures { IfOk result (λ text. text.items ≡ compact_text (refused_data refused)) }
 {

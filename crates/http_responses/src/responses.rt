@@ -11,7 +11,7 @@ use std::alloc::{AllocError, Global};
 
 /// A whole response: the status line; the fields `Content-Type`, `Content-Length` in bytes,
 /// `WWW-Authenticate` with 401, `Allow` with 405, and `Connection`; an empty line; the body. Takes
-/// memory for what stands before the body alone, which is moved up and never held twice.
+/// memory only for the bytes before the body; the body is moved up, and never held twice.
 pub fn response(
     alloc: Global,
     status: Status,

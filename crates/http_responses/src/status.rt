@@ -5,7 +5,7 @@ ghost use Rattle.http_responses.specs.Responses as spec;
 use http::StatusCode;
 use http_requests::Methods;
 
-/// The statuses that the desk answers (RFC 9110, section 15).
+/// The statuses of the desk's responses (RFC 9110, section 15).
 #[derive(Clone, Copy, Debug, PartialEq, Eq)]
 pub enum Status {
     /// 200, for accepted commands, repeats and reads.

@@ -1,4 +1,4 @@
--- The members of a request, put into an object one after another.
+-- The members of a request, added to an object one after another.
 use Rattle.std.specs.Prelude.{codes}
 use Rattle.serde_json.specs.Data.{Members, put, string}
 use Rattle.desk_texts.specs.Words.{state_text}
@@ -7,7 +7,7 @@ use Rattle.desk_texts.specs.declared.shown.ShownRequest.{ShownRequest}
 use Rattle.http_responses.specs.json.Values.{whole, digest_data, digests_data, components_data}
 use Rattle.http_responses.specs.json.Requests.{returned_data, votes_data}
 
--- those of an image
+-- the members of an image
 unfoldable pub with_facts : Facts → Members → Members
 with_facts x ms =
     put (codes "signing") (digest_data x.signing) (
@@ -18,7 +18,7 @@ with_facts x ms =
     put (codes "components") (components_data x.components) (
     put (codes "carried") (digests_data x.carried) ms))))))
 
--- those of what became of it
+-- the members of a request's outcome
 unfoldable pub with_state : ShownRequest → Members → Members
 with_state r ms =
     put (codes "votes") (votes_data r.votes) (

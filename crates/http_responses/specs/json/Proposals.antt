@@ -6,7 +6,7 @@ use Rattle.desk_texts.specs.Words.{proposal_state_text}
 use Rattle.desk_texts.specs.declared.proposal.Proposal.{Proposal}
 use Rattle.http_responses.specs.json.Values.{object_from, whole}
 
--- a proposal: how many entries of each kind it names, who proposed it and where it stands
+-- a proposal: how many entries of each kind it names, its officer and its state
 abbrev pub proposal_data : Proposal → Data
 proposal_data p = object_from (
     (codes "certificates", whole p.certificates)

@@ -20,7 +20,7 @@ numbered_data word request = object_from (
     ∷ (codes "request", whole request)
     ∷ [])
 
--- where a request stands after a review
+-- the state of a request after a review
 abbrev pub reviewed_data : Outcome → Data
 reviewed_data outcome = object_from (
     (codes "reply", string (codes "reviewed"))
@@ -28,7 +28,7 @@ reviewed_data outcome = object_from (
     ∷ (codes "state", string (state_text outcome.state))
     ∷ [])
 
--- what an import changed, and how many entries it passed over
+-- the changes of an import, and how many entries it skipped
 abbrev pub imported_data : Counts → Data
 imported_data counts = object_from (
     (codes "certificates", whole counts.certificates)
@@ -45,7 +45,7 @@ about_proposal word proposal = object_from (
     ∷ (codes "reply", string word)
     ∷ [])
 
--- what a proposal changed when it was confirmed, and how many entries of its import were passed over
+-- the changes of a confirmed proposal, and how many entries of its import were skipped
 abbrev pub confirmed_data : Confirmation → Data
 confirmed_data confirmation = object_from (
     (codes "certificates", whole confirmation.counts.certificates)
@@ -56,7 +56,7 @@ confirmed_data confirmation = object_from (
     ∷ (codes "reply", string (codes "confirmed"))
     ∷ [])
 
--- a reply; people are added from the console alone, so that reply has no JSON
+-- a reply; only the console adds people, so that reply has no JSON
 abbrev pub reply_data : Reply → Option Data
 reply_data (Added name) = None
 reply_data (Submitted request) = Some (numbered_data (codes "submitted") request)

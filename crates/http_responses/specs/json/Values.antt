@@ -1,4 +1,4 @@
--- JSON values (RFC 8259). own: how digests and components stand in JSON.
+-- JSON values (RFC 8259). own: the forms of digests and components in JSON.
 use Rattle.std.specs.Prelude.{ℕ, List, [], ◌∷◌, map}
 use Rattle.hex.specs.Hex.{encode_lower}
 use Rattle.sbat.specs.declared.component.Component.{Component}

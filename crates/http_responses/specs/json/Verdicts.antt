@@ -12,7 +12,7 @@ use Rattle.http_responses.specs.json.Values.{object_from, whole}
 abbrev pub said : List ℕ → Data
 said word = object_from ((codes "verdict", string word) ∷ [])
 
--- a component below the level, and the generation that the level asks of it
+-- a component below the level, and the generation that the level requires of it
 abbrev pub below_data : ℕ → Component → Data
 below_data level c = object_from (
     (codes "component", string c.name)
@@ -30,7 +30,7 @@ verdict_data components (Sbat below) =
     option_map (below_data below.needs) (slice_get components below.place)
 verdict_data components Allowed = Some (said (codes "allowed"))
 
--- no verdict on an image names a place without a component, whatever stands
+-- no verdict on an image names a place without a component, whatever the lists and the level
 abbrev pub EachVerdictIsSaid : Type 0
 EachVerdictIsSaid =
     (s : Standing) (x : Facts) → is_some (verdict_data x.components (verdict_on s x)) ≡ true
