@@ -1,4 +1,4 @@
--- How a subcommand over a desk's file ends, and what is told of it on standard error.
+-- The end of a subcommand over a desk's file, and its lines on standard error.
 use Rattle.std.specs.Prelude.{ℕ, List, [], Option, None, Some, Result, Ok, Err}
 use Rattle.desk_bytes.specs.Output.{AppendsBeginning}
 use Rattle.desk_bytes.specs.declared.refusal.Refusal.{Refusal}
@@ -10,7 +10,7 @@ use Rattle.cli_commands.specs.declared.ending.Ending.{Ending}
 use Rattle.cli_commands.specs.declared.ending.Outcome.{Outcome}
 use Rattle.cli_commands.specs.declared.ending.Outcome.TheVariants.{Done, Refused}
 
--- own: where no desk is opened, its refusal is the end, and nothing is closed
+-- own: if no desk is opened, that refusal is the end, and nothing is closed
 abbrev pub unopened : Refusal → Ending
 unopened refusal = record { work = Err (row_of refusal); closing = None }
 
@@ -20,7 +20,7 @@ status_of_work (Ok Done) = 0
 status_of_work (Ok Refused) = 1
 status_of_work (Err fault) = status_of fault.refusal
 
--- own: a desk that couldn't be closed gives the status, whatever the work came to
+-- own: a desk that couldn't be closed decides the status, whatever the outcome of the work
 abbrev pub status_after : ℕ → Option Fault → ℕ
 status_after status None = status
 status_after status (Some fault) = status_of fault.refusal
@@ -29,7 +29,7 @@ status_after status (Some fault) = status_of fault.refusal
 abbrev pub status_of_ending : Ending → ℕ
 status_of_ending ending = status_after (status_of_work ending.work) ending.closing
 
--- the line of what stopped the work
+-- the line of the fault that stopped the work
 abbrev pub work_line : Result Outcome Fault → List ℕ
 work_line (Ok outcome) = []
 work_line (Err fault) = fault_line fault.refusal fault.place
@@ -39,11 +39,11 @@ abbrev pub closing_line : Option Fault → List ℕ
 closing_line None = []
 closing_line (Some fault) = fault_line fault.refusal fault.place
 
--- one line is written, or a beginning of it, and then the other
+-- one line is written, or a prefix of it, and then the other
 abbrev pub WritesInTurn : Option (List ℕ) → Option (List ℕ) → List ℕ → List ℕ → Type 0
 WritesInTurn old new first second =
     (between : Option (List ℕ)) × AppendsBeginning old between first × AppendsBeginning between new second
 
--- own: the line of what stopped the work, and then the line of the close that failed
+-- own: the line of the fault that stopped the work, and then the line of a failed close
 abbrev pub TellsEnding : Option (List ℕ) → Option (List ℕ) → Ending → Type 0
 TellsEnding old new ending = WritesInTurn old new (work_line ending.work) (closing_line ending.closing)

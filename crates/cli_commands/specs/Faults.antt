@@ -1,4 +1,4 @@
--- Which faults a subcommand meets at an open desk.
+-- The faults of a subcommand on an open desk.
 use Rattle.std.specs.Prelude.{◌≡◌, ◌⊎◌, None}
 use Rattle.desk_bytes.specs.declared.refusal.Refusal.{Refusal}
 use Rattle.desk_bytes.specs.declared.refusal.Refusal.TheVariants as refusals
@@ -11,14 +11,14 @@ use Rattle.store_exports.specs.Faults.{IsExportFailure}
 abbrev pub IsRow : (Refusal → Type 0) → Fault → Type 0
 IsRow P fault = (fault.place ≡ None) × P fault.refusal
 
--- what a close that fails is told as: a device
+-- the refusals for a close that fails: a device's
 abbrev pub IsClosingRefusal : Refusal → Type 0
 IsClosingRefusal refusal = IsFailure refusal ⊎ (refusal ≡ refusals.Reopen)
 
--- what stops a call of the console, or its line
+-- the refusals that stop a call of the console, or its line
 abbrev pub IsAddingRefusal : Refusal → Type 0
 IsAddingRefusal refusal = (refusal ≡ refusals.Reopen) ⊎ (IsCallRefusal refusal ⊎ (refusal ≡ refusals.Write))
 
--- what stops an export
+-- the refusals that stop an export
 abbrev pub IsWritingRefusal : Refusal → Type 0
 IsWritingRefusal refusal = (refusal ≡ refusals.Reopen) ⊎ IsExportFailure refusal

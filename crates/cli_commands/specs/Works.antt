@@ -1,4 +1,4 @@
--- What a subcommand over a desk's file writes, and what its work comes to.
+-- The lines of a subcommand over a desk's file, and the outcomes of its work.
 use Rattle.std.specs.Prelude.{ℕ, List, [], ◌++◌, Option, None, Some, codes}
 use Rattle.desk_history.specs.Calls.{History}
 use Rattle.desk_history.specs.Runs.{answer, reply_in}
@@ -18,16 +18,17 @@ line_of text = text ++ codes "\n"
 abbrev pub reply_line : Reply → List ℕ
 reply_line reply = line_of (reply_text_of reply)
 
--- the line of a reply, where there is one
+-- the line of a reply, if there is one
 abbrev pub line_in : Option Reply → List ℕ
 line_in None = []
 line_in (Some reply) = reply_line reply
 
--- own: what a desk of this history writes of a call: the line of the reply that it answers with, nothing of a refusal
+-- own: the line that a desk of this history writes for a call: that of its reply, or none for a
+-- refusal
 abbrev pub answer_line : Call → List ℕ → History → List ℕ
 answer_line c owner cs = line_in (reply_in (answer cs c))
 
--- own: a verdict but `allowed` refuses the image
+-- own: every verdict except `allowed` refuses the image
 abbrev pub outcome_of : Verdict → Outcome
 outcome_of Allowed = Done
 outcome_of DbxDigest = Refused

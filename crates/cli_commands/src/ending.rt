@@ -5,7 +5,7 @@ ghost use Rattle.cli_commands.specs.Endings.{unopened};
 use cli_lines::Fault;
 use desk_bytes::Refusal;
 
-/// What a subcommand's work came to.
+/// The outcome of a subcommand's work.
 #[derive(Clone, Copy, Debug, PartialEq, Eq)]
 pub enum Outcome {
     /// It is done.
@@ -17,9 +17,9 @@ pub enum Outcome {
 /// How a subcommand over a desk's file ended.
 #[derive(Clone, Copy, Debug, PartialEq, Eq)]
 pub struct Ending {
-    /// What its work came to, or what stopped it.
+    /// The outcome of its work, or the fault that stopped it.
     pub work: Result<Outcome, Fault>,
-    /// What failed when the desk was closed behind it.
+    /// The fault of closing the desk afterwards.
     pub closing: Option<Fault>,
 }
 

@@ -1,4 +1,4 @@
-//! Laws of how a subcommand ends.
+//! A law of how a subcommand ends.
 ghost use Rattle.std.specs.Prelude.{◌≡◌, Some};
 ghost use Rattle.cli_commands.specs.Endings.{status_of_ending};
 ghost use Rattle.cli_commands.specs.Faults.{IsClosingRefusal, IsRow};
@@ -6,7 +6,8 @@ ghost use Rattle.cli_commands.specs.Faults.{IsClosingRefusal, IsRow};
 use crate::ending::Ending;
 use cli_lines::Fault;
 
-/// A desk that couldn't be closed ends its subcommand with status 3, whatever the work came to.
+/// A desk that couldn't be closed ends its subcommand with status 3, whatever the outcome of its
+/// work.
 pub fn a_failed_close_is_a_device()
     ensures { (ending : Ending) (fault : Fault) → ending.closing ≡ Some fault
         → IsRow IsClosingRefusal fault → status_of_ending ending ≡ 3 }

@@ -1,4 +1,4 @@
-//! The work of each subcommand at an open desk, and its exit status.
+//! The work of each subcommand on an open desk, and its exit status.
 #![tactic(auto)]
 
 mod ending;

@@ -1,4 +1,4 @@
-//! The lines that subcommands write, whole before anything else is done.
+//! The lines that subcommands write, each whole before anything else happens.
 ghost use Rattle.std.specs.Prelude.{◌≡◌, ◌≢◌, ◌⊎◌, IfErr, IfOk, OnErr, OnOk};
 ghost use Rattle.std.specs.Io.KnownBytes.{Appends, Keeps};
 ghost use Rattle.desk_bytes.specs.Output.{AppendsBeginning};
@@ -14,7 +14,7 @@ use desk_texts::{Facts, Reply, reply_text};
 use std::alloc::Global;
 use std::io::Write;
 
-/// Writes out what is buffered.
+/// Flushes the writer.
 pub(crate) fn flush<W: Write>(writer: &mut W) -> Result<(), WriteFailed>
     ensures { Keeps (W.contents writer.old) (W.contents writer.new) }
 {
@@ -40,7 +40,7 @@ pub(crate) fn say_reply<W: Write>(alloc: Global, reply: &Reply, writer: &mut W) 
     Ok(())
 }
 
-/// What a verdict is to a subcommand.
+/// The outcome of a subcommand for a verdict.
 fn outcome(said: &Verdict) -> Outcome
     ensures { result ≡ outcome_of said.now }
 {

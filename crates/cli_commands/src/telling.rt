@@ -11,7 +11,8 @@ use std::io::Write;
 /// The status of an image that a desk doesn't allow.
 const REFUSED: u8 = 1;
 
-/// Writes the line of what stopped the work, and gives the work's status.
+/// Writes the line of the fault that stopped the work, if there is one, and returns the work's
+/// status.
 fn print_work<W: Write>(work: Result<Outcome, Fault>, writer: &mut W) -> u8
     ensures status { result ≡ status_of_work work }
     ensures out { AppendsBeginning (W.contents writer.old) (W.contents writer.new)
@@ -24,7 +25,7 @@ fn print_work<W: Write>(work: Result<Outcome, Fault>, writer: &mut W) -> u8
     }
 }
 
-/// Writes the line of a close that failed, and gives the status after it.
+/// Writes the line of a failed close, and returns the status after it.
 fn print_closing<W: Write>(status: u8, closing: Option<Fault>, writer: &mut W) -> u8
     ensures status { result ≡ status_after status closing }
     ensures out { AppendsBeginning (W.contents writer.old) (W.contents writer.new)
@@ -36,8 +37,8 @@ fn print_closing<W: Write>(status: u8, closing: Option<Fault>, writer: &mut W) -
     }
 }
 
-/// Writes the line of what stopped a subcommand, and then the line of a close that failed, and gives the exit
-/// status, also where a write fails.
+/// Writes the line of the fault that stopped a subcommand, then the line of a failed close, and
+/// returns the exit status even if a write fails.
 pub fn print_ending<W: Write>(ending: Ending, writer: &mut W) -> u8
     ensures status { result ≡ status_of_ending ending }
     ensures out { TellsEnding (W.contents writer.old) (W.contents writer.new) ending }

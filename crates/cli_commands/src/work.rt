@@ -1,4 +1,4 @@
-//! Subcommands at an open desk, over any store.
+//! Subcommands on an open desk, over any store.
 ghost use Rattle.std.specs.Prelude.{◌≡◌, ◌≢◌, Err, IfErr, IfOk, IsErrOf, OnErr, OnOk, true};
 ghost use Rattle.std.specs.Io.KnownBytes.{Appends};
 ghost use Rattle.sqlite.specs.Held.{state};
@@ -27,9 +27,9 @@ use sqlite::Alter;
 use std::alloc::Global;
 use std::io::Write;
 
-/// Has the console add the person, and writes the reply's text and LF. `Write` leaves a beginning of this line in
-/// the writer; any other fault leaves the writer as it was. After `Write`, `NoMemory` and `Store` the person may
-/// have been added.
+/// Adds the person by a call of the console, and writes the reply's text and LF. After `Write` the
+/// writer holds a prefix of this line; after any other fault it is unchanged. After `Write`,
+/// `NoMemory` and `Store` the person may have been added.
 pub fn add<S: Alter + Drop, W: Write>(
     alloc: Global,
     desk: &mut Desk<S>,
@@ -67,8 +67,8 @@ pub fn add<S: Alter + Drop, W: Write>(
     }
 }
 
-/// Writes the line of the desk's verdict on the image of these facts. `Write` leaves a beginning of the line in the
-/// writer; any other fault leaves the writer as it was. Nothing is changed.
+/// Writes the line of the desk's verdict on the image of these facts. After `Write` the writer
+/// holds a prefix of the line; after any other fault it is unchanged. The desk doesn't change.
 pub fn judge<S: Alter + Drop, W: Write>(
     desk: &mut Desk<S>,
     found: &Facts,
@@ -101,8 +101,8 @@ pub fn judge<S: Alter + Drop, W: Write>(
     say_verdict(&said, found, writer)
 }
 
-/// Writes an export of the desk, and writes out what is buffered. A fault leaves a beginning of the export in the
-/// writer, which may be empty. Nothing is changed.
+/// Writes an export of the desk, and flushes the writer. After a fault the writer holds a prefix of
+/// the export, which may be empty. The desk doesn't change.
 pub fn write_export<S: Alter + Drop, W: Write>(
     desk: &mut Desk<S>,
     what: Export,

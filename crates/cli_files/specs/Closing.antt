@@ -1,4 +1,4 @@
--- How a subcommand at a desk over files ends: the desk is closed.
+-- The closing of a desk over files at the end of a subcommand.
 use Rattle.std.specs.Prelude.{◌≡◌, ℕ, List, None, Result, IfErr, MatchResult}
 use Rattle.sqlite.specs.Files.{over_files}
 use Rattle.sqlite_disk.specs.declared.Disk.{Ghosts}
@@ -14,11 +14,11 @@ use Rattle.cli_files.specs.Faults.{IsLasting}
 use Rattle.cli_commands.specs.declared.ending.Ending.{Ending}
 use Rattle.cli_commands.specs.declared.ending.Outcome.{Outcome}
 
--- own: the work ended with a fault after which the desk has to be opened again
+-- own: the work ended with a fault after which the desk must be opened again
 abbrev pub FailsForGood : Result Outcome Fault → Type 0
 FailsForGood work = MatchResult work (λ _. ⊥) (λ fault. IsLasting fault.refusal)
 
--- own: it didn't
+-- own: it didn't end so
 abbrev pub LeavesUsable : Result Outcome Fault → Type 0
 LeavesUsable work = IfErr work (λ fault. IsLasting fault.refusal → ⊥)
 
@@ -29,10 +29,10 @@ module _ {D : Type 0} (g : Ghosts D) (desk : Desk (FileStore D g)) where
     pub copied : AreClean g files.log files.db → (owner : List ℕ) (cs : History) → ShowsDesk over_files desk owner cs → AreClosed g files owner cs
     pub found : (owner : List ℕ) (cs : History) → ShowsDesk over_files desk owner cs → OpenAgain g files owner cs
 
-  -- the desk was closed: its files are such
+  -- the desk was closed, and these are its files
   abbrev pub IsClosed : Type 0
   IsClosed = (files : Files D) × AreOfClosed files
 
-  -- own: the desk is closed behind its work, unless that failed for good or a fault of the close is told
+  -- own: the desk is closed after its work, unless that failed for good or the close has a fault
   abbrev pub Ends : Ending → Type 0
   Ends ending = LeavesUsable ending.work → ending.closing ≡ None → IsClosed

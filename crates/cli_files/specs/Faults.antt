@@ -1,4 +1,4 @@
--- Which faults a subcommand meets at a desk's file, and where.
+-- The faults of a subcommand over a desk's file.
 use Rattle.std.specs.Prelude.{◌≡◌, ◌⊎◌}
 use Rattle.desk_bytes.specs.declared.refusal.Refusal.{Refusal}
 use Rattle.desk_bytes.specs.declared.refusal.Refusal.TheVariants as refusals
@@ -9,15 +9,15 @@ use Rattle.desk_store.specs.Steps.{IsReadRefusal}
 abbrev pub IsFileRefusal : Refusal → Type 0
 IsFileRefusal refusal = (refusal ≡ refusals.NoMemory) ⊎ (refusal ≡ refusals.File)
 
--- own: no desk is made: the file, tables that are there already, or a device
+-- own: no desk is made: the file fails, it has tables already, or a device fails
 abbrev pub IsMakingRefusal : Refusal → Type 0
 IsMakingRefusal refusal = IsFileRefusal refusal ⊎ ((refusal ≡ refusals.Exists) ⊎ IsFailure refusal)
 
--- own: no desk is opened: the file, what it holds, or a device
+-- own: no desk is opened: the file fails, it holds no known desk, or a device fails
 abbrev pub IsOpeningRefusal : Refusal → Type 0
 IsOpeningRefusal refusal = IsFileRefusal refusal ⊎ ((refusal ≡ refusals.Version) ⊎ IsReadRefusal refusal)
 
--- own: after these the desk has to be opened again
+-- own: after these the desk must be opened again
 abbrev pub IsLasting : Refusal → Type 0
 IsLasting refusal = (refusal ≡ refusals.Store) ⊎ (refusal ≡ refusals.Reopen)
 

@@ -1,4 +1,4 @@
--- Which desk a connection leads to.
+-- The desk of a connection.
 use Rattle.std.specs.Prelude.{◌≡◌, ℕ, List, []}
 use Rattle.sqlite.specs.Files.{over_files}
 use Rattle.sqlite.specs.Held.{Held, state}
@@ -21,8 +21,9 @@ module _ {S : Type 0} (g : Ghosts S) (conn : Held S) where
     pub free : (state g conn).now.schema ≡ no_schema
     pub shows : HasCleanDisk (state g desk.conn) → ShowsDesk g desk owner []
 
-  -- The desk that was opened shows the history that the connection shows, in tables of either version, and of whatever lives
-  -- may have left the store a history that they may leave. Of a desk of version 2 nothing was committed.
+  -- The opened desk shows the history that the connection shows, in tables of either version, and
+  -- whatever lives may have left the store, a history that they may leave. For a desk of version 2
+  -- nothing was committed.
   pub record Opens (desk : Desk S) : Type 0 where
     pub shows : HasCleanDisk (state g desk.conn) → (owner : List ℕ) (cs : History) → IsHistory cs
         → ShowsHistory (state g conn) owner cs → LeavesHistory (state g conn) owner cs → ShowsDesk g desk owner cs
@@ -32,10 +33,10 @@ module _ {S : Type 0} (g : Ghosts S) (conn : Held S) where
     pub spares : (owner : List ℕ) (cs : History) → ShowsHistory (state g conn) owner cs → Spares g conn desk.conn
 
 module _ {D : Type 0} (g : disk.Ghosts D) where
-  -- the desk was made by a connection to files
+  -- the desk was made over a connection to files
   abbrev pub IsMade : List ℕ → Desk (FileStore D g) → Type 0
   IsMade owner desk = (conn : Held (FileStore D g)) × Makes over_files conn owner desk
 
-  -- the desk was opened by a connection to files
+  -- the desk was opened over a connection to files
   abbrev pub IsOpened : Desk (FileStore D g) → Type 0
   IsOpened desk = (conn : Held (FileStore D g)) × Opens over_files conn desk

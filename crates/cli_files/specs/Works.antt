@@ -1,4 +1,4 @@
--- What each subcommand does at a desk over files, and how it ends.
+-- The work of each subcommand on a desk over files, and its end.
 use Rattle.std.specs.Prelude.{◌≡◌, ◌≢◌, ◌⊎◌, ℕ, List, Option, Result, Ok, Err, IfOk, OnErr, OnOk, true}
 use Rattle.std.specs.Io.KnownBytes.{Appends}
 use Rattle.sqlite.specs.Files.{file_state, over_files}
@@ -44,7 +44,7 @@ use Rattle.cli_commands.specs.declared.ending.Ending.{Ending}
 use Rattle.cli_commands.specs.declared.ending.Outcome.{Outcome}
 use Rattle.cli_commands.specs.declared.ending.Outcome.TheVariants.{Done}
 
--- own: no desk was opened, and the refusal is told
+-- own: no desk was opened, and this is the refusal
 abbrev pub IsUnopened : Ending → Type 0
 IsUnopened ending = (refusal : Refusal) × IsOpeningRefusal refusal × (ending ≡ unopened refusal)
 
@@ -52,7 +52,8 @@ IsUnopened ending = (refusal : Refusal) × IsOpeningRefusal refusal × (ending �
 abbrev pub adding : List ℕ → Person → Call
 adding key person = called Console key (AddPerson person)
 
--- the line of the verdict that the desk's history gives on an image, by what the desk keeps of it, and the outcome of that
+-- the line of the desk's verdict on an image, from its history and the image's facts, and the
+-- outcome of that verdict
 pub record JudgesImage {S : Type 0} (g : store.Ghosts S) (old new : Desk S) (before after : Option (List ℕ)) (outcome : Outcome) : Type 0 where
   pub image : List ℕ
   pub found : Facts
@@ -62,13 +63,13 @@ pub record JudgesImage {S : Type 0} (g : store.Ghosts S) (old new : Desk S) (bef
   pub line : Appends before after (verdict_line said found)
   pub told : outcome ≡ outcome_of said
 
--- own: what a program that serves connections tells, as a subcommand's work
+-- own: the result of a program that serves connections, as a subcommand's work
 abbrev pub work_of : Result Unit Refusal → Result Outcome Fault
 work_of (Ok served) = Ok Done
 work_of (Err refusal) = Err (row_of refusal)
 
--- one request of an input was answered, as `answer_connection` of http_net promises it: what was asked for, at which
--- history, and what is written of it
+-- one request of an input was answered, as the clauses of http_net's `answer_connection` say: the
+-- request, the history, and the bytes written
 pub record AnswersOne {D : Type 0} (shows : D → List ℕ → History → Type 0) (clean failed : D → Type 0) (input before after : Option (List ℕ)) (old new : D) (came : Result Served HttpFault) : Type 0 where
   pub answered : clean new → IsAnswered (shows old) (shows new) (failed new) input before after came
   pub nothing : clean new → IsPassedOver (shows old) (shows new) input before after came
@@ -79,7 +80,8 @@ pub record AnswersOne {D : Type 0} (shows : D → List ℕ → History → Type 
 abbrev pub WorksOnce : {D : Type 0} → (D → D → Result Served HttpFault → Type 0) → D → D → Result Outcome Fault → Type 0
 WorksOnce answers old new work = (came : Result Served HttpFault) × (work ≡ work_of (served.outcome_of came)) × answers old new came
 
--- so many connections were served in turn, as `ServesInTurn` has it; or the port couldn't be had, and the desk is as it was
+-- this many connections were served in turn, as `ServesInTurn` says; or the port couldn't be
+-- opened, and the desk didn't change
 abbrev pub ServesPort : {D : Type 0} → (D → D → Result Served HttpFault → Type 0) → ℕ → D → D → Result Unit Refusal → Type 0
 ServesPort serves count old new told = ((told ≡ Err refusals.Read) × (new ≡ old)) ⊎ ServesInTurn serves count old new told
 
@@ -97,8 +99,8 @@ AnswersRequest g = AnswersOne (λ kept owner cs. ShowsDesk over_files kept.desk 
     (λ kept. HasCleanDisk (file_state kept.desk.conn)) (λ kept. kept.desk.needs_reopening ≡ true)
 
 module _ {D : Type 0} (g : Ghosts D) where
-  -- A subcommand that reads: the desk as its work left it shows each history that it showed, and a stop leaves what it left
-  -- before. The desk is closed then.
+  -- A subcommand that reads: after its work the desk shows each history that it showed, and a stop
+  -- leaves only what it could have left before. Then the desk is closed.
   pub record Reads (desk : Desk (FileStore D g)) (ending : Ending) (told : Desk (FileStore D g) → Type 0) : Type 0 where
     pub left : Desk (FileStore D g)
     pub same : HasCleanDisk (file_state left.conn) → ending.work ≢ Err (row_of refusals.Store) → KeepsDesk over_files desk left
@@ -106,17 +108,18 @@ module _ {D : Type 0} (g : Ghosts D) where
     pub done : told left
     pub ended : Ends g left ending
 
-  -- the bytes of this export went out, of each history that the desk shows, or a beginning of them
+  -- the bytes of this export, for each history that the desk shows, were written, or a prefix of
+  -- them
   abbrev pub Exports : Export → Option (List ℕ) → Option (List ℕ) → Ending → Desk (FileStore D g) → Type 0
   Exports what before after ending desk = Reads desk ending (λ left. HasCleanDisk (file_state left.conn)
       → OnOk ending.work (Views over_files desk left (Writes before after (exported what)))
       × OnErr ending.work (Views over_files desk left (WritesBeginning before after (exported what))))
 
-  -- the line of the verdict on an image went out, and the work came to what the verdict says
+  -- the line of the verdict on an image was written, and the outcome is that of the verdict
   abbrev pub Judges : Option (List ℕ) → Option (List ℕ) → Ending → Desk (FileStore D g) → Type 0
   Judges before after ending desk = Reads desk ending (λ left. IfOk ending.work (JudgesImage over_files desk left before after))
 
-  -- so many connections were served by the desk, one after another, and it is closed
+  -- this many connections were served by the desk, one after another, and it is closed
   pub record Serves (count : ℕ) (ending : Ending) (desk : Desk (FileStore D g)) : Type 0 where
     pub opened : OpenDesk (FileStore D g)
     pub left : OpenDesk (FileStore D g)
@@ -132,8 +135,8 @@ module _ {D : Type 0} (g : Ghosts D) where
     pub served : WorksOnce (AnswersRequest g input before after) opened left ending.work
     pub ended : Ends g left.desk ending
 
-  -- the console had the desk answer a call: the line of its reply went out, a stop leaves the history before it or the one after
-  -- it, and the desk is closed
+  -- the desk answered a call of the console: the line of its reply was written, a stop leaves the
+  -- history before the call or the one after it, and the desk is closed
   pub record Calls (c : Call) (before after : Option (List ℕ)) (ending : Ending) (desk : Desk (FileStore D g)) : Type 0 where
     pub left : Desk (FileStore D g)
     pub told : HasCleanDisk (file_state left.conn) → OnOk ending.work ((reply : Reply)

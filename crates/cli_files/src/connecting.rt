@@ -12,11 +12,11 @@ use sqlite_std_file::OpenError;
 use std::hash::{BuildHasher, RandomState};
 use std::io::ErrorKind;
 
-/// How many pages of 4,096 bytes the store keeps in memory: 32 MiB of a file, which has room for some 130,000 accepted calls. It
-/// takes the memory at once.
+/// How many pages of 4,096 bytes the store keeps in memory: 32 MiB of a file, which has room for
+/// some 130,000 accepted calls. The store takes this memory at once.
 const KEPT_PAGES: usize = 8_192;
 
-/// A random number for the salts of the log, and the sizes that the store keeps to.
+/// A random number for the salts of the log, and the sizes for the store.
 fn options(rt: &HostRuntime) -> Result<Options, Refusal>
     ensures { IfErr result (λ refusal. refusal ≡ Refusal.File) }
 {
@@ -28,7 +28,7 @@ fn options(rt: &HostRuntime) -> Result<Options, Refusal>
     Ok(options)
 }
 
-/// The file at a path and its log, made where they aren't there.
+/// The file at a path and its log, created if they don't exist.
 fn files_at<S: Start>(rt: &HostRuntime, path: &str, start: S) -> Result<Files<FileFrom<S>>, Refusal>
     ensures log { IfOk result (λ files. IsTrue (file_is_usable S.Start files.log)) }
     ensures db { IfOk result (λ files. IsTrue (file_is_usable S.Start files.db)) }
@@ -56,10 +56,12 @@ fn refusal_of(error: &Error) -> Refusal
     }
 }
 
-/// Opens the database in the file at `path`, or makes it; its log is copied into it first. `start` says what is known of what
-/// the file holds (`Unknown`: nothing). It reads and checks the whole file, and takes memory for pages as it reads them.
+/// Opens the database in the file at `path`, or creates it; its log is copied into it first.
+/// `start` says what is known of the file's contents (`Unknown`: nothing). It reads and checks the
+/// whole file, and takes memory for pages as it reads them.
 ///
-/// `File`: the file can't be opened or made, is no database, or is in use. `NoMemory`: memory was refused.
+/// `File`: the file can't be opened or created, isn't a database, or is in use. `NoMemory`: memory
+/// was refused.
 pub fn connect<S: Start>(
     rt: &HostRuntime,
     path: &str,

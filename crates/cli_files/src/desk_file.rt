@@ -19,7 +19,7 @@ use std::{fs, io};
 /// A desk in a file.
 pub(crate) type FileDesk = Desk<FileStore<File>>;
 
-/// Lets a connection go without closing it: nothing is written.
+/// Drops a connection without closing it: nothing is written.
 fn let_go<S: Alter + Drop>(conn: Connection<S>) {
     let _ = conn;
 }
@@ -35,7 +35,7 @@ fn is_there(rt: &HostRuntime, path: &str) -> Result<bool, Refusal>
     }
 }
 
-/// Makes a desk over a connection, which is let go where none is made.
+/// Makes a desk over a connection, which is dropped if no desk is made.
 fn make_over<S: Alter + Drop>(
     alloc: Global,
     conn: Connection<S>,
@@ -54,7 +54,7 @@ fn make_over<S: Alter + Drop>(
     }
 }
 
-/// Makes a desk in a file, which is made where it isn't there.
+/// Makes a desk in a file, which is created if it doesn't exist.
 pub(crate) fn make(rt: &HostRuntime, path: &str, owner: &Guid) -> Result<FileDesk, Refusal>
     ensures made { IfOk result (IsMade ⟦<File as Disk>⟧ owner.now) }
     ensures named { IfErr result IsMakingRefusal }
@@ -65,7 +65,7 @@ pub(crate) fn make(rt: &HostRuntime, path: &str, owner: &Guid) -> Result<FileDes
     }
 }
 
-/// Opens the desk that a connection leads to. The connection is let go where there is none.
+/// Opens the desk of a connection, which is dropped if there is no desk.
 fn open_over<S: Alter + Drop>(alloc: Global, conn: Connection<S>) -> Result<Desk<S>, Refusal>
     requires { conn.in_transaction ≡ false }
     ensures opened { IfOk result (Opens S.Store conn) }
@@ -80,7 +80,7 @@ fn open_over<S: Alter + Drop>(alloc: Global, conn: Connection<S>) -> Result<Desk
     }
 }
 
-/// Opens a file that is there, and the desk in it.
+/// Opens an existing file, and the desk in it.
 fn open_there(rt: &HostRuntime, path: &str) -> Result<FileDesk, Refusal>
     ensures opened { IfOk result (IsOpened ⟦<File as Disk>⟧) }
     ensures named { IfErr result IsOpeningRefusal }
@@ -91,7 +91,7 @@ fn open_there(rt: &HostRuntime, path: &str) -> Result<FileDesk, Refusal>
     }
 }
 
-/// Opens the desk in a file. File: it isn't there; it isn't made then.
+/// Opens the desk in a file. File: it doesn't exist, and isn't created.
 pub(crate) fn open(rt: &HostRuntime, path: &str) -> Result<FileDesk, Refusal>
     ensures opened { IfOk result (IsOpened ⟦<File as Disk>⟧) }
     ensures named { IfErr result IsOpeningRefusal }
@@ -103,8 +103,8 @@ pub(crate) fn open(rt: &HostRuntime, path: &str) -> Result<FileDesk, Refusal>
     }
 }
 
-/// Closes a desk's file: what stands in its log is copied into it. A failure leaves both together as
-/// the desk.
+/// Closes a desk's file: the contents of its log are copied into it. After a failure both files
+/// together are the desk.
 fn close<D: Disk + Drop>(desk: Desk<FileStore<D>>) -> Result<(), Refusal>
     ensures closed { OnOk result (IsClosed D.Disk desk) }
     ensures named { IfErr result IsClosingRefusal }
@@ -118,7 +118,7 @@ fn close<D: Disk + Drop>(desk: Desk<FileStore<D>>) -> Result<(), Refusal>
     }
 }
 
-/// Whether a desk that answered this has to be opened again.
+/// Whether a desk that answered this must be opened again.
 fn is_lasting(refusal: Refusal) -> bool
     ensures lasting { IsLasting refusal → result ≡ true }
     ensures only { result ≡ true → IsLasting refusal }
@@ -126,7 +126,7 @@ fn is_lasting(refusal: Refusal) -> bool
     matches!(refusal, Refusal::Store | Refusal::Reopen)
 }
 
-/// Whether the desk has to be opened again after this work, so that it can't be closed.
+/// Whether the desk must be opened again after this work, so that it can't be closed.
 fn needs_reopening(work: &Result<Outcome, Fault>) -> bool
     ensures lasting { IfErr work.now (λ fault. IsLasting fault.refusal → result ≡ true) }
     ensures only { result ≡ true → FailsForGood work.now }
@@ -137,8 +137,8 @@ fn needs_reopening(work: &Result<Outcome, Fault>) -> bool
     }
 }
 
-/// Closes the desk behind the work that was done on it. A desk that failed is let go: its next opening
-/// finds what it kept.
+/// Closes the desk after its work. A desk that failed is dropped: its next opening finds what it
+/// stored.
 pub(crate) fn ended<D: Disk + Drop>(
     desk: Desk<FileStore<D>>,
     work: Result<Outcome, Fault>,

@@ -1,4 +1,4 @@
-//! Files that are read to their end.
+//! Files read to their end.
 ghost use Rattle.std.specs.Prelude.{◌+◌, ◌≤◌, length, IfOk};
 
 use cli_lines::{Fault, MOST_BYTES};
@@ -26,8 +26,8 @@ pub fn read_file<R: Files + AllocGlobal>(rt: &R, path: &str) -> Result<Vec<u8>, 
     Ok(read_all(rt.alloc(), &mut file, MOST_BYTES)?)
 }
 
-/// An image's file, in pieces. Of a file that is too long for an image one byte more than
-/// `LONGEST_IMAGE` is taken: its layout is refused for its length.
+/// An image's file, in pieces. Of a file that is too long for an image, `LONGEST_IMAGE` bytes and
+/// one more are read; its layout is then refused for its length.
 pub fn read_image<R: Files + AllocGlobal>(rt: &R, path: &str) -> Result<Pieces, Fault>
     ensures bound { IfOk result (λ bytes. length bytes ≤ LONGEST_IMAGE + 1) }
 {

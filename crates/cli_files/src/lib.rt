@@ -1,4 +1,4 @@
-//! Desks in files: what each subcommand over a desk's file does.
+//! Desks in files: the work of each subcommand over a desk's file.
 #![tactic(auto)]
 
 mod connecting;

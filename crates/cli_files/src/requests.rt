@@ -58,12 +58,12 @@ fn answer_at<D: Disk + Drop, R: Read + Drop, W: Write>(
     ended(desk.into_desk(), work)
 }
 
-/// Answers one request of the reader, for the desk in a file; where the reader has no byte, nothing is written.
-/// Whatever the response is, the work is done, unless the desk has to be opened again after it: then Store or
-/// Reopen is given.
+/// Answers one request of the reader, for the desk in a file; if the reader has no byte, nothing is
+/// written. The work is done, whatever the response, unless the desk must be opened again after it:
+/// then the fault is Store or Reopen.
 ///
-/// First the faults of the desk's file, as `add_person` has them. Read, NoMemory: the request wasn't read. Write:
-/// a beginning of the response was written, and what it answered stays.
+/// The faults of the desk's file come first, as for `add_person`. Read, NoMemory: the request
+/// wasn't read. Write: a prefix of the response was written, and the answer's changes stay.
 pub fn answer_from<R: Read + Drop, W: Write>(
     rt: &HostRuntime,
     path: &str,
@@ -87,7 +87,7 @@ pub fn answer_from<R: Read + Drop, W: Write>(
     }
 }
 
-/// Takes so many connections at this port of 127.0.0.1, for a desk.
+/// Serves `count` connections at this port of 127.0.0.1, for a desk.
 fn serve_desk<D: Answering>(
     rt: &HostRuntime,
     desk: &mut D,
@@ -121,7 +121,8 @@ fn serve_all<D: Answering>(
     }
 }
 
-/// Takes so many connections at this port of 127.0.0.1, for an open desk over files, and closes it.
+/// Serves `count` connections at this port of 127.0.0.1, for an open desk over files, and closes
+/// it.
 fn serve_at<D: Disk + Drop>(
     rt: &HostRuntime,
     desk: Desk<FileStore<D>>,
@@ -139,11 +140,12 @@ fn serve_at<D: Disk + Drop>(
     ended(desk.into_desk(), work)
 }
 
-/// Takes so many connections at this port of 127.0.0.1, one request each, one after another, for the desk in a
-/// file. What stops one connection ends that connection alone.
+/// Serves `count` connections at this port of 127.0.0.1, one request each, one after another, for
+/// the desk in a file. A fault of one connection ends only that connection.
 ///
-/// First the faults of the desk's file, as `add_person` has them. Read: the port can't be had, or no connection
-/// could be accepted. Store, Reopen: that response was written, and the desk has to be opened again.
+/// The faults of the desk's file come first, as for `add_person`. Read: the port couldn't be
+/// opened, or no connection could be accepted. Store, Reopen: that response was written, and the
+/// desk must be opened again.
 pub fn serve_from(rt: &HostRuntime, path: &str, port: u16, count: u32) -> Ending
     ensures served { IsUnopened result ⊎ AtADesk (Serves ⟦<File as Disk>⟧ count result) }
     ensures done { IfOk result.work (λ outcome. outcome ≡ Outcome.Done) }

@@ -30,9 +30,9 @@ use std::alloc::Global;
 use std::io::Write;
 use std::rt::Files;
 
-/// Makes a desk with this owner and without calls in a file, which is made where it isn't there.
+/// Makes a desk with this owner and without calls in a file, which is created if it doesn't exist.
 ///
-/// Exists: the file has tables already. File: it can't be opened or made, or is no database.
+/// Exists: the file has tables already. File: it can't be opened or created, or isn't a database.
 pub fn make_desk(rt: &HostRuntime, path: &str, owner: &Guid) -> Ending
     ensures done { IfOk result.work (λ outcome. outcome ≡ Outcome.Done) }
     ensures named { IfErr result.work (IsRow IsMakingRefusal) }
@@ -65,12 +65,12 @@ fn add_at<D: Disk + Drop, W: Write>(
     ended(desk, work)
 }
 
-/// Adds a person to the desk in a file, as the console's call under this key, and writes the reply's
-/// text and LF. A call that was accepted stays so where its reply isn't written: the same call under
-/// the same key is replied to again.
+/// Adds a person to the desk in a file, as the console's call under this key, and writes the
+/// reply's text and LF. An accepted call stays accepted even if its reply isn't written: the same
+/// call under the same key gets the reply again.
 ///
-/// File: no file is there, or it can't be opened. NotADesk, Version: it holds no desk that this program
-/// knows. Otherwise what the desk answers.
+/// File: the file doesn't exist, or can't be opened. NotADesk, Version: it holds no desk that this
+/// program knows. Otherwise the desk's refusal.
 pub fn add_person<W: Write>(
     rt: &HostRuntime,
     path: &str,
@@ -95,7 +95,7 @@ pub fn add_person<W: Write>(
     }
 }
 
-/// What the desk keeps of the image in a file.
+/// The facts of the image in a file that the desk keeps.
 fn facts_in<R: Files + AllocGlobal>(rt: &R, file: &str) -> Result<Facts, Fault>
     ensures { IfOk result (λ found. (image : List ℕ) × IsFactsOf image found) }
 {
@@ -122,7 +122,7 @@ fn judge_file<S: Alter + Drop, W: Write>(
     }
 }
 
-/// Writes what an open desk over files says of the image in a file, and closes it.
+/// Writes the verdict of an open desk over files on the image in a file, and closes the desk.
 fn judge_at<D: Disk + Drop, W: Write>(
     rt: &HostRuntime,
     mut desk: Desk<FileStore<D>>,
@@ -137,10 +137,10 @@ fn judge_at<D: Disk + Drop, W: Write>(
     ended(desk, work)
 }
 
-/// Writes what the desk in a file says of the image in another, `allowed` or `refused` and why, and LF.
-/// The desk stays as it is.
+/// Writes the verdict of the desk in a file on the image in another: `allowed`, or `refused` and
+/// why, and LF. The desk doesn't change.
 ///
-/// First the faults of the desk's file, as `add_person` has them; then what the image is refused for.
+/// The faults of the desk's file come first, as for `add_person`; then the refusal of the image.
 pub fn judge_image<W: Write>(rt: &HostRuntime, path: &str, file: &str, writer: &mut W) -> Ending
     ensures judged { (IsUnopened result × Keeps (W.contents writer.old) (W.contents writer.new))
         ⊎ AtADesk (Judges ⟦<File as Disk>⟧
@@ -171,8 +171,8 @@ fn export_at<D: Disk + Drop, W: Write>(
     ended(desk, work)
 }
 
-/// Writes an export of the desk in a file, whose faults are told as `add_person` tells them. What stops
-/// it may leave a beginning of the export in the writer. The desk stays as it is.
+/// Writes an export of the desk in a file. The faults of the desk's file are those of `add_person`.
+/// After a fault the writer may hold a prefix of the export. The desk doesn't change.
 pub fn export_from<W: Write>(rt: &HostRuntime, path: &str, what: Export, writer: &mut W) -> Ending
     ensures exported { (IsUnopened result × Keeps (W.contents writer.old) (W.contents writer.new))
         ⊎ AtADesk (Exports ⟦<File as Disk>⟧ what

@@ -12,11 +12,11 @@ ids = codes "first" ∷ codes "second" ∷ codes "third" ∷ codes "fourth" ∷ 
 abbrev pub id_of : ℕ → Text
 id_of place = slice_index_or ids place []
 
--- a word that has to be given, and has a name of its own in help
+-- a required word, which has a name of its own in help
 abbrev pub word_rule : Text → Rule
 word_rule id = record (new_rule id) { required = true; value_names = 1 }
 
--- a subcommand of that name and so many words
+-- a subcommand of that name and this many words
 abbrev pub subcommand_shape : Text → ℕ → Shape
 subcommand_shape name count = record (new_shape name) { rules = map word_rule (take count ids) }
 
@@ -44,7 +44,7 @@ with_requests app =
     (subcommand_shape (codes "serve") 3))
     (subcommand_shape (codes "answer") 1)
 
--- with the subcommands that look at an image
+-- with the subcommands for an image
 abbrev pub with_images : App → App
 with_images app =
     with_subcommand (with_subcommand (with_subcommand app
@@ -52,7 +52,7 @@ with_images app =
     (subcommand_shape (codes "ranges") 1))
     (subcommand_shape (codes "verdict") 2)
 
--- with the subcommands that publish what a desk decided
+-- with the subcommands that publish a desk's decisions
 abbrev pub with_exports : App → App
 with_exports app =
     with_subcommand (with_subcommand (with_subcommand app

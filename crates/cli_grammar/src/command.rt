@@ -1,4 +1,4 @@
-//! The command line as `clap` is told of it.
+//! The command line, as `clap` gets it.
 ghost use Rattle.std.specs.Prelude.{◌≡◌, ◌<◌, ◌≤◌, IfOk, codes, false, length};
 ghost use Rattle.clap.specs.Words.{app_of, rule_of, shape_of, with_subcommand};
 ghost use Rattle.clap.specs.declared.builder.command.Command.TheViews.{out-Command};
@@ -9,14 +9,14 @@ use crate::help;
 use clap::{Arg, Command};
 use std::alloc::{AllocError, Global};
 
-/// What help shows of a word.
+/// A word, as help shows it.
 #[derive(Clone, Copy)]
 struct Shown<'a> {
     name: &'a str,
     help: &'a str,
 }
 
-/// The id of the word at this place of a subcommand. What help calls the word is said apart.
+/// The id of the word at this place of a subcommand. Its name in help is separate.
 pub fn id_at<'a>(place: usize) -> &'a str
     requires { place < length ids }
     ensures { result.now ≡ id_of place }
@@ -29,7 +29,7 @@ pub fn id_at<'a>(place: usize) -> &'a str
     }
 }
 
-/// A word that has to be given.
+/// A required word.
 fn word<'a>(alloc: Global, id: &'a str, shown: &Shown<'a>) -> Arg<'a>
     ensures rule { rule_of result ≡ word_rule id.now }
     ensures local { result.global ≡ false }
@@ -211,7 +211,7 @@ fn with_verdict<'a>(alloc: Global, command: Command<'a>) -> Result<Command<'a>, 
     )
 }
 
-/// The command with the subcommands that look at an image.
+/// The command with the subcommands for an image.
 fn with_images<'a>(alloc: Global, command: Command<'a>) -> Result<Command<'a>, AllocError>
     ensures { IfOk result (λ c. app_of c ≡ spec.with_images (app_of command.entry)) }
 {
@@ -234,7 +234,7 @@ fn with_images<'a>(alloc: Global, command: Command<'a>) -> Result<Command<'a>, A
     with_verdict(alloc, command)
 }
 
-/// The command with the subcommands that publish what a desk decided.
+/// The command with the subcommands that publish a desk's decisions.
 fn with_exports<'a>(alloc: Global, command: Command<'a>) -> Result<Command<'a>, AllocError>
     ensures { IfOk result (λ c. app_of c ≡ spec.with_exports (app_of command.entry)) }
 {

@@ -1,11 +1,12 @@
-//! The texts of help and of the version: of the program, its subcommands by what they are for, and after the arguments of
-//! each subcommand what it reads and writes, an example and its exit statuses. A refusal has its number and name of
-//! docs/REFUSALS.md. checks/help.sh runs the examples and compares these texts with that table.
+//! The texts of help and of the version. The program's help groups the subcommands by purpose; each
+//! subcommand's help has, after its arguments, its input and output, an example and its exit
+//! statuses. A refusal has its number and name of docs/REFUSALS.md. checks/help.sh runs the
+//! examples and compares these texts with that table.
 
 /// The program's version, and the kit that proves it: the line of `rt version`, which checks/help.sh compares.
 pub const VERSION: &str = "0.1.0 (rattle-kit-13f logic dac8208d650f15bf)";
 
-/// Each row is what the subcommand's own help begins with.
+/// Each row begins the subcommand's own help.
 pub const DESK: &str = "\
 The Secure Boot signing and revocation desk
 

@@ -19,26 +19,26 @@ use Rattle.siglist.specs.declared.fault.PackFault.{PackFault}
 abbrev pub row_of : Refusal → Fault
 row_of refusal = record { refusal = refusal; place = None }
 
--- own: what a text that isn't packed is told as
+-- own: the row for a text that isn't packed
 abbrev pub of_pack : PackFault → Fault
 of_pack fault = record { refusal = pack.refusal_of fault; place = pack.place_of fault }
 
--- own: what bytes that are no lists are told as
+-- own: the row for bytes that aren't lists
 abbrev pub of_lists : ListsFault → Fault
 of_lists fault = record { refusal = lists.refusal_of fault; place = Some (lists.place_of fault) }
 
--- own: what an image without a layout is told as
+-- own: the row for an image without a layout
 abbrev pub of_layout : LayoutFault → Fault
 of_layout fault = row_of (layout.refusal_of fault)
 
--- own: what an image without facts is told as
+-- own: the row for an image without facts
 abbrev pub of_facts : FactsFault → Fault
 of_facts fault = record { refusal = facts.refusal_of fault; place = facts.place_of fault }
 
--- own: what an input that isn't read is told as
+-- own: the row for an input that isn't read
 abbrev pub of_input : InputFault → Fault
 of_input fault = row_of (input.refusal_of fault)
 
--- what an input that isn't read into pieces is told as
+-- the row for an input that isn't read into pieces
 abbrev pub of_pieces : PiecesFault → Fault
 of_pieces fault = row_of (pieces.refusal_of fault)

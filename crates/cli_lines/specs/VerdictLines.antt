@@ -6,7 +6,8 @@ use Rattle.desk_history.specs.declared.finding.Below.{Below}
 use Rattle.desk_history.specs.declared.finding.Verdict.{Verdict}
 use Rattle.desk_history.specs.declared.finding.Verdict.TheVariants.{Allowed, DbxCertificate, DbxDigest, NotListed, Sbat}
 
--- the name and the generation of the component below the level, where there is one, and the generation that the level asks of it
+-- the name and the generation of the component below the level, if there is one, and the generation
+-- that the level requires of it
 abbrev pub below_words : Option Component → ℕ → List ℕ
 below_words None needs = codes "refused sbat " ++ decimal needs
 below_words (Some component) needs =

@@ -8,7 +8,7 @@ use desk_service::FactsFault;
 use pe_image::{LayoutFault, PiecesFault};
 use siglist::{ListsFault, PackFault};
 
-/// A row of the table of refusals, with its place where it has one.
+/// A row of the table of refusals, with its place if it has one.
 #[derive(Clone, Copy, Debug, PartialEq, Eq)]
 pub struct Fault {
     pub refusal: Refusal,

@@ -10,8 +10,8 @@ use std::io::Write;
 /// The most bytes of an image's file, and of a file of signature lists.
 pub const MOST_BYTES: usize = LONGEST_IMAGE as usize;
 
-/// Writes a line `FROM-TO` for each range of the image that Authenticode hashes, half-open, in their order,
-/// and then `gap N`. Nothing is written of an image that is refused.
+/// Writes a line `FROM-TO` for each range of the image that Authenticode hashes, half-open, in
+/// order, and then `gap N`. Nothing is written for an image that is refused.
 pub fn print_ranges<S: Source, W: Write>(source: &mut S, writer: &mut W) -> Result<(), Fault> {
     let places = layout(source)?;
     for span in ranges(&places) {
@@ -21,9 +21,9 @@ pub fn print_ranges<S: Source, W: Write>(source: &mut S, writer: &mut W) -> Resu
     Ok(())
 }
 
-/// Writes what the desk keeps of an image, a line each: `length N`, `file HEX`, `digest HEX`, `signing HEX` and
-/// `gap N`, then `certificate HEX` for each certificate, ascending, and `component NAME GENERATION` for each
-/// component, in the image's order.
+/// Writes the facts of an image that the desk keeps, one a line: `length N`, `file HEX`, `digest
+/// HEX`, `signing HEX` and `gap N`, then `certificate HEX` for each certificate, ascending, and
+/// `component NAME GENERATION` for each component, in the image's order.
 pub fn print_facts<W: Write>(facts: &Facts, writer: &mut W) -> Result<(), WriteFailed> {
     let extent = facts.extent;
     writeln!(writer, "length {}", extent.length()).map_err(|_| WriteFailed)?;
@@ -56,9 +56,9 @@ fn print_kind<W: Write>(alloc: Global, kind: Kind, writer: &mut W) -> Result<(),
     Ok(written.map_err(|_| WriteFailed)?)
 }
 
-/// Writes a line `OFFSET KIND COUNT` for each signature list, in their order: where it begins in the bytes,
-/// its kind and how many entries it has. Nothing is written of bytes that aren't lists. Takes memory for the
-/// text of a GUID.
+/// Writes a line `OFFSET KIND COUNT` for each signature list, in order: where it begins in the
+/// bytes, its kind and how many entries it has. Nothing is written for bytes that aren't lists.
+/// Takes memory for the text of a GUID.
 pub fn print_list<W: Write>(alloc: Global, bytes: &[u8], writer: &mut W) -> Result<(), Fault> {
     if bytes.len() > MOST_BYTES {
         return Err(Fault::from(Refusal::TooLong));

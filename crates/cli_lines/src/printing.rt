@@ -9,7 +9,7 @@ use desk_bytes::{Refusal, WriteFailed, put_each};
 use itoa::Buffer;
 use std::io::Write;
 
-/// The first word, with the space behind it.
+/// The first word, with a space after it.
 fn word(refusal: Refusal) -> &'static [u8]
     ensures { result.now ≡ word_of refusal }
 {
@@ -20,8 +20,8 @@ fn word(refusal: Refusal) -> &'static [u8]
     }
 }
 
-/// Writes the line of a fault, `refused NUMBER NAME` or `device NUMBER NAME`, with ` at PLACE` where there is a
-/// place.
+/// Writes the line of a fault, `refused NUMBER NAME` or `device NUMBER NAME`, with ` at PLACE` if
+/// there is a place.
 pub fn put_fault<W: Write>(
     refusal: Refusal,
     place: Option<u64>,
@@ -46,8 +46,8 @@ pub fn put_fault<W: Write>(
     }
 }
 
-/// Writes the line of a fault as `put_fault` does, and gives the exit status, also where that write fails. Takes
-/// no memory.
+/// Writes the line of a fault as `put_fault` does, and returns the exit status even if that write
+/// fails. Takes no memory.
 pub fn print_fault<W: Write>(refusal: Refusal, place: Option<u64>, writer: &mut W) -> u8
     ensures status { result ≡ status_of refusal }
     ensures out { AppendsBeginning (W.contents writer.old) (W.contents writer.new)

@@ -11,7 +11,7 @@ use itoa::Buffer;
 use sbat::Component;
 use std::io::Write;
 
-/// Writes the line of a verdict by a component that is below the level.
+/// Writes the line of a verdict for a component that is below the level.
 fn put_below<W: Write>(
     components: &[Component],
     below: Below,
@@ -38,9 +38,9 @@ fn put_below<W: Write>(
     }
 }
 
-/// Writes the line of a verdict on the image of these facts: `allowed`, or `refused` and `dbx-digest`,
-/// `dbx-certificate`, `not-listed`, or `sbat NAME HAS NEEDS`: the first component below the level, its
-/// generation and the one that the level asks of it.
+/// Writes the line of a verdict on the image of these facts: `allowed`, or `refused` and
+/// `dbx-digest`, `dbx-certificate`, `not-listed`, or `sbat NAME HAS NEEDS`: the first component
+/// below the level, its generation and the one that the level requires of it.
 pub fn print_verdict<W: Write>(
     verdict: &Verdict,
     facts: &Facts,

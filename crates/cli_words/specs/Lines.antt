@@ -1,4 +1,4 @@
--- What the program's words say.
+-- The meanings of the program's words.
 use Rattle.std.specs.Prelude.{◌≡◌, ◌≢◌, ℕ, codes, List, [], ◌∷◌, Option, None, Result, Ok, Err}
 use Rattle.std.specs.Prelude.{⊤, Some, if◌then◌else◌, option_and_then}
 use Rattle.std.specs.List.{All}
@@ -50,7 +50,7 @@ subcommand_name line = (words_of line).0
 abbrev pub words_after : Line → List Text
 words_after line = (words_of line).1
 
--- what the program takes the line for
+-- the line of the program's value
 abbrev pub line_of : Words → Line
 line_of (said.Init path owner) = init path.now owner.now
 line_of (said.Person words) = person words.db.now words.name.now words.role.now words.key.now
@@ -66,26 +66,26 @@ line_of (said.Level path) = level path.now
 line_of (said.List file) = list file.now
 line_of (said.Pack owner) = pack owner.now
 
--- what follows from the word at a place, where the rows that `clap` found have it
+-- the line from the word at a place, if the rows that `clap` found have it
 abbrev pub with_word : List Row → ℕ → (Text → Option Line) → Option Line
 with_word rows place next = option_and_then next (first_of (id_of place) rows)
 
--- what a subcommand of two words says by its rows
+-- the line of a subcommand of two words, from its rows
 abbrev pub two_in : (Text → Text → Line) → List Row → Option Line
 two_in line rows = with_word rows 0 (λ word. with_word rows 1 (λ other. Some (line word other)))
 
--- what `serve` says
+-- the line of `serve`
 abbrev pub serve_in : List Row → Option Line
 serve_in rows =
     with_word rows 0 (λ path. with_word rows 1 (λ port. with_word rows 2 (λ count. Some (serve path port count))))
 
--- what `person` says
+-- the line of `person`
 abbrev pub person_in : List Row → Option Line
 person_in rows =
     with_word rows 0 (λ path. with_word rows 1 (λ name. with_word rows 2 (λ role. with_word rows 3 (λ key.
     Some (person path name role key)))))
 
--- what the subcommand of that name says by its word, where it has one word
+-- the line of the subcommand of that name with its word, if it has one word
 abbrev pub of_one_word : Text → Text → Option Line
 of_one_word name word =
     if bytes_eq name (codes "minutes") then Some (minutes word)
@@ -99,7 +99,7 @@ of_one_word name word =
     else if bytes_eq name (codes "pack") then Some (pack word)
     else None
 
--- what a subcommand of that name says by its rows
+-- the line of a subcommand of that name, from its rows
 abbrev pub line_in : Text × List Row → Option Line
 line_in (name, rows) =
     if bytes_eq name (codes "init") then two_in init rows
@@ -108,12 +108,12 @@ line_in (name, rows) =
     else if bytes_eq name (codes "verdict") then two_in verdict rows
     else with_word rows 0 (of_one_word name)
 
--- a word that stands for itself: it isn't empty and doesn't begin with a hyphen (45)
+-- a plain word, not an option: it isn't empty and doesn't begin with a hyphen (45)
 abbrev pub IsPlainWord : Text → Type 0
 IsPlainWord [] = ⊥
 IsPlainWord (b ∷ bs) = b ≢ 45
 
--- the words are the line's, and none of those after the subcommand could be an option
+-- the words are the line's, and none after the subcommand could be an option
 pub record Spells (words : List Text) (line : Line) : Type 0 where
   pub same : words ≡ subcommand_name line ∷ words_after line
   pub plain : All IsPlainWord (words_after line)
@@ -122,7 +122,7 @@ pub record Spells (words : List Text) (line : Line) : Type 0 where
 abbrev pub line_found : List Text → Option Line
 line_found words = option_and_then line_in (subcommand_of desk_app words)
 
--- where `clap` finds no fault, the line that it finds, and else a fault that it finds
+-- if `clap` finds no fault, the line that it finds, and otherwise a fault that it finds
 abbrev pub ReadsWords : List Text → Result Words WordsFault → Type 0
 ReadsWords words (Ok said) =
     (fault_of desk_app words ≡ []) × (line_found words ≡ Some (line_of said))
@@ -130,7 +130,7 @@ ReadsWords words (Err (Refused error)) = IsAmong (kind_of error) (fault_of desk_
 ReadsWords words (Err Missing) = (fault_of desk_app words ≡ []) × (line_found words ≡ None)
 ReadsWords words (Err NoMemory) = ⊤
 
--- taken as just that line, want of memory aside
+-- parsed as just that line, unless memory was refused
 abbrev pub Takes : Line → Result Words WordsFault → Type 0
 Takes line (Ok words) = line_of words ≡ line
 Takes line (Err fault) = fault ≡ NoMemory

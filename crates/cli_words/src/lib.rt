@@ -1,4 +1,4 @@
-//! The words of the program's command line, and what they say.
+//! The words of the program's command line, and their values.
 #![tactic(auto)]
 
 mod line;

@@ -34,11 +34,11 @@ pub enum Words<'a> {
     Serve(ServeWords<'a>),
     /// Answers the request on standard input, for the desk in this file.
     Answer { db: &'a str },
-    /// Prints what the desk keeps of this image's file.
+    /// Prints the facts of this image's file that the desk keeps.
     Facts { file: &'a str },
     /// Prints the ranges of this image's file that Authenticode hashes.
     Ranges { file: &'a str },
-    /// Prints what the desk in this file says of an image's file.
+    /// Prints the verdict of the desk in this file on an image's file.
     Verdict { db: &'a str, file: &'a str },
     /// Writes the list of allowed images of the desk in this file.
     Db { db: &'a str },
@@ -72,14 +72,14 @@ impl<'a> Words<'a> {
     }
 }
 
-/// Why no subcommand was taken.
+/// Why no subcommand was returned.
 #[derive(Debug, Drop)]
 pub enum WordsFault {
     /// Memory was refused.
     NoMemory,
-    /// The answer is a text: a mistake in the words, or the help or the version that they ask for.
+    /// The answer is a text: a mistake in the words, or the help or the version that they request.
     Refused(Error),
-    /// `clap` found no mistake, and yet no subcommand with its words. No words are known that give
-    /// this, but `clap`'s contract doesn't rule it out.
+    /// `clap` found no mistake, but no subcommand with its words either. No such words are known,
+    /// but `clap`'s contract doesn't rule them out.
     Missing,
 }

@@ -1,4 +1,4 @@
-//! From the program's words to what they say.
+//! The reading of the program's words.
 ghost use Rattle.std.specs.Prelude.{◌≡◌, ◌<◌, length, map, option_and_then, option_map, string_bytes};
 ghost use Rattle.clap.specs.Words.{first_of, found_of, rows_of, subcommand_rows_of};
 ghost use Rattle.cli_grammar.specs.Commands.{id_of, ids};
@@ -77,7 +77,7 @@ fn line_at<'a>(name: &'a str, matches: &ArgMatches<'a>) -> Option<Words<'a>>
     }
 }
 
-/// What `clap` found, as a subcommand with its words.
+/// The result of `clap`, as a subcommand with its words.
 fn met<'a>(matches: &ArgMatches<'a>) -> Option<Words<'a>>
     ensures { option_map line_of result ≡ option_and_then line_in (subcommand_rows_of matches.now) }
 {

@@ -11,7 +11,7 @@ use std::process::ExitCode;
 use std::rt::Env;
 use std::{env, io};
 
-/// The words after the program's name. Fails also where a word is no UTF-8.
+/// The words after the program's name. Fails also if a word isn't UTF-8.
 fn given_words(rt: &(impl Env + AllocGlobal)) -> io::Result<Vec<String>> {
     let mut given = Vec::new(rt.alloc());
     for word in env::args(rt)?.skip(1) {

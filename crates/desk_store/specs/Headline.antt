@@ -7,12 +7,12 @@
 --
 -- To read it from the ground up, in this order, each file of specs/:
 --   desk_texts    Commands, Forms                   the commands, and the forms of their values
---   desk_history  Calls, Refusals, Runs             histories, and the answer and the next history of a call
+--   desk_history  Calls, Refusals, Runs             histories, and the answers to calls after them
 --   desk_history  Forces, Level, Verdicts           the entries in force, the SBAT level, verdicts
---   desk_history  Lives, FormLaws                   the fates of calls, and the histories that a stop may leave
+--   desk_history  Lives, FormLaws                   lives, and the histories that stops may leave
 --   desk_history  Tables                            the rows of a history
 --   store_schema  rows/Values, Contents, Histories  these rows in SQL
---   store_sql     States                            the contents that a connection shows, or a stop leaves
+--   store_sql     States                            what a connection shows, and a stop leaves
 --   desk_store    Desks                             the history that a desk shows
 --   desk_exports  all                               its exports
 --   desk_store    Headline                          this file

@@ -1,4 +1,4 @@
--- own: what a request asks for, but for its content, or the first of the checks on its fields that fails.
+-- own: a request without its content, or the first of the checks on its fields that fails.
 use Rattle.std.specs.Prelude.{◌≡◌, ◌≢◌, ℕ, List, Option, Some, None, option_map, Result, Ok, Err, if◌then◌else◌}
 use Rattle.sbat.specs.Fields.{decimal_of, stamp_of}
 use Rattle.desk_texts.specs.Forms.{is_key, is_title, is_decimal}
@@ -29,7 +29,7 @@ abbrev pub key_of : Option (List ℕ) → Option (List ℕ)
 key_of None = None
 key_of (Some value) = if is_key value then Some value else None
 
--- that of a request
+-- the key of a request
 abbrev pub key_in : Want → Option (List ℕ)
 key_in w = key_of w.key
 
@@ -38,44 +38,44 @@ abbrev pub title_of : Option (List ℕ) → Option (List ℕ)
 title_of None = None
 title_of (Some value) = if is_title value then Some value else None
 
--- that of a request
+-- the title of a request
 abbrev pub title_in : Want → Option (List ℕ)
 title_in w = title_of w.title
 
--- the stamp that a field gives, which may be missing; none where it is out of its form
+-- the stamp that a field gives, which may be missing; none if it isn't in its form
 abbrev pub stamp_given : Option (List ℕ) → Option (Option ℕ)
 stamp_given None = Some None
 stamp_given (Some value) = option_map (λ stamp. Some stamp) (stamp_of value)
 
--- that of a request
+-- the stamp of a request
 abbrev pub stamp_in : Want → Option (Option ℕ)
 stamp_in w = stamp_given w.stamp
 
--- the number that stands for {no}: 1 to 6 digits without a leading zero
+-- the number in the place of {no}: 1 to 6 digits without a leading zero
 abbrev pub number_in : Want → Option ℕ
 number_in w = if is_decimal w.number then Some (decimal_of w.number) else None
 
--- what is asked for with a title
+-- the request with a title
 abbrev pub titled : Option (List ℕ) → (List ℕ → ImageAsked) → Result ImageAsked AskedFault
 titled None ask = Err BadField
 titled (Some title) ask = Ok (ask title)
 
--- what is asked for with a stamp or none
+-- the command with a stamp or none
 abbrev pub stamped : Option (Option ℕ) → (Option ℕ → CommandAsked) → Result CommandAsked AskedFault
 stamped None ask = Err BadField
 stamped (Some stamp) ask = Ok (ask stamp)
 
--- what is asked for of a request
+-- the request with a request's number
 abbrev pub numbered : {A : Type 0} → Option ℕ → (ℕ → A) → Result A AskedFault
 numbered None ask = Err NoSuchRequest
 numbered (Some number) ask = Ok (ask number)
 
--- what is asked for of a proposal
+-- the command with a proposal's number
 abbrev pub of_proposal : Option ℕ → (ℕ → CommandAsked) → Result CommandAsked AskedFault
 of_proposal None ask = Err NoSuchProposal
 of_proposal (Some number) ask = Ok (ask number)
 
--- what GET asks for
+-- the request of a GET
 abbrev pub read_at : GetRoute → Want → Result ReadAsked AskedFault
 read_at get.Requests w = Ok read.Requests
 read_at get.Request w = numbered (number_in w) (λ number. read.Request number)
@@ -85,18 +85,18 @@ read_at get.Db w = Ok read.Db
 read_at get.Level w = Ok read.Level
 read_at get.Report w = Ok read.Report
 
--- what is asked for with an image under a key
+-- the request with an image under a key
 abbrev pub with_image : Option (List ℕ) → (List ℕ → Result ImageAsked AskedFault) → Result ImageAsked AskedFault
 with_image None ask = Err BadField
 with_image (Some key) ask = ask key
 
--- what is asked for with an image
+-- the request with an image
 abbrev pub image_at : ImageRoute → Want → Result ImageAsked AskedFault
 image_at posted.Submit w = with_image (key_in w) (λ key. titled (title_in w) (λ title. image.Submit key title))
 image_at posted.Return w = with_image (key_in w) (λ key. numbered (number_in w) (λ number. image.Return key number))
 image_at posted.Verdict w = Ok image.Verdict
 
--- the command of a route, as far as the target and the fields say it
+-- the command of a route, in the parts that the target and the fields give
 abbrev pub command_at : CommandRoute → Want → Result CommandAsked AskedFault
 command_at route.Review w = numbered (number_in w) (λ number. Json (json.Review number))
 command_at route.Withdraw w = numbered (number_in w) (λ number. Whole (command.Withdraw number))
@@ -122,21 +122,21 @@ abbrev pub keyed : Option (List ℕ) → Result CommandAsked AskedFault → Resu
 keyed None asked = Err BadField
 keyed (Some key) asked = under key asked
 
--- the command of a route with its key: first the key is looked at
+-- the command of a route with its key, which is checked first
 abbrev pub keyed_at : CommandRoute → Want → Result KeyedAsked AskedFault
 keyed_at r w = keyed (key_in w) (command_at r w)
 
--- the fault of a text that wasn't taken
+-- the fault for a text that wasn't accepted
 abbrev pub of_text : TextFault → AskedFault
 of_text text.Form = BadField
 of_text text.NoMemory = NoMemory
 
--- the code gives this value, tells this fault where there is none, or tells that memory was refused
+-- the code returns this value, or this fault if there is none, or that memory was refused
 abbrev pub GivesOr : {A : Type 0} → AskedFault → Option A → Result A AskedFault → Type 0
 GivesOr fault value (Ok given) = value ≡ Some given
 GivesOr fault value (Err other) = other ≢ NoMemory → (value ≡ None) × (other ≡ fault)
 
--- the code gives this, or tells that memory was refused
+-- the code returns this, or that memory was refused
 abbrev pub Gives : {A : Type 0} → Result A AskedFault → Result A AskedFault → Type 0
 Gives ask (Ok given) = ask ≡ Ok given
 Gives ask (Err fault) = fault ≢ NoMemory → ask ≡ Err fault

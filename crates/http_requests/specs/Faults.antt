@@ -1,4 +1,4 @@
--- The rows of the table of refusals that requests meet.
+-- The refusals of requests.
 use Rattle.http_requests.specs.declared.fault.WantedFault.{WantedFault}
 use Rattle.http_requests.specs.declared.fault.WantedFault.TheVariants as wanted
 use Rattle.http_requests.specs.declared.fault.AskedFault.{AskedFault}
@@ -17,7 +17,7 @@ wanted_refusal wanted.LengthNeeded = refusal.LengthNeeded
 wanted_refusal wanted.TooLarge = refusal.TooLarge
 wanted_refusal wanted.NoMemory = refusal.NoMemory
 
--- the row of a fault of what the fields say
+-- the row of a fault of the fields
 abbrev pub asked_refusal : AskedFault → Refusal
 asked_refusal asked.BadField = refusal.BadField
 asked_refusal asked.NoSuchRequest = refusal.NoSuchRequest

@@ -1,4 +1,5 @@
--- own: the fields that count: each comes once at most, Content-Length in its form, and Transfer-Encoding never.
+-- own: the fields that the desk knows: each is given at most once, Content-Length in its form, and
+-- Transfer-Encoding never.
 use Rattle.std.specs.Prelude.{◌≡◌, ℕ, List, Option, Some, None, option_map, Result, Ok, Err}
 use Rattle.std.specs.Borrow.{Bor}
 use Rattle.http_requests.specs.heads.Fields.{Occurrence, missing, once, repeated, Parts}
@@ -15,13 +16,13 @@ pub record Values : Type 0 where
   pub title : Option (List ℕ)
   pub stamp : Option (List ℕ)
 
--- the value of a field, which may be missing; none where it comes twice
+-- the value of a field, which may be missing; none if it is repeated
 abbrev pub value_of : Occurrence → Option (Option (List ℕ))
 value_of missing = Some None
 value_of (once value) = Some (Some value)
 value_of repeated = None
 
--- all of them, where none is wrong
+-- all of them, if none is wrong
 abbrev pub all_of : Option (Option ℕ) → (token key title stamp : Option (Option (List ℕ)))
     → Result Values WantedFault
 all_of (Some length) (Some token) (Some key) (Some title) (Some stamp) =
@@ -40,7 +41,7 @@ fields_of p = unless_encoded p.transfer_encoding
     (all_of (length_in p.content_length) (value_of p.desk_token) (value_of p.desk_key)
     (value_of p.desk_title) (value_of p.desk_stamp))
 
--- the bytes that a borrowed value of the code holds
+-- the bytes of a borrowed value of the code
 abbrev pub bytes_of : Option (Bor (List ℕ)) → Option (List ℕ)
 bytes_of value = option_map (λ v. v.now) value
 
@@ -54,7 +55,7 @@ values_shown f = record {
   stamp = bytes_of f.stamp;
 }
 
--- the code gives this value, or refuses where there is none
+-- the code returns this value, or refuses if there is none
 abbrev pub GivesValue : Option (Option (List ℕ)) → Result (Option (Bor (List ℕ))) WantedFault → Type 0
 GivesValue value (Ok given) = value ≡ Some (bytes_of given)
 GivesValue value (Err fault) = (value ≡ None) × (fault ≡ BadField)

@@ -12,7 +12,7 @@ length_of text =
     then Some (decimal_of text)
     else None
 
--- the length that the field gives, which may be missing; none where the field is wrong
+-- the length that the field gives, which may be missing; none if the field is wrong
 abbrev pub length_in : Occurrence → Option (Option ℕ)
 length_in missing = Some None
 length_in (once text) = option_map (λ n. Some n) (length_of text)

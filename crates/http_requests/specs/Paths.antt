@@ -16,15 +16,15 @@ use Rattle.http_requests.specs.declared.route.ImageRoute.TheVariants as image
 use Rattle.http_requests.specs.declared.route.CommandRoute.{CommandRoute}
 use Rattle.http_requests.specs.declared.route.CommandRoute.TheVariants as command
 
--- what stands at a path that has GET alone
+-- a resource with GET only
 abbrev pub get : GetRoute → Resource
 get r = Get r
 
--- what stands at a path that has POST alone, with an image
+-- a resource with POST only, with an image
 abbrev pub post_image : ImageRoute → Resource
 post_image r = Post (Image r)
 
--- what stands at a path that has POST alone, of a command
+-- a resource with POST only, of a command
 abbrev pub post_command : CommandRoute → Resource
 post_command r = Post (Command r)
 
@@ -32,16 +32,16 @@ post_command r = Post (Command r)
 abbrev pub Table : Type 0
 Table = RowsOf (RouteOf Resource)
 
--- the rows with a path more, where its text reads as one
+-- the rows and one path more, if its text reads as one
 abbrev pub with_read : Result Scan InsertError → Resource → Table → Table
 with_read (Ok scan) resource rows = placed (scan.pattern, route_from scan resource) rows
 with_read (Err fault) resource rows = rows
 
--- the rows with the path of this text more
+-- the rows and the path of this text
 unfoldable pub added : List ℕ → Resource → Table → Table
 added path resource rows = with_read (parse_route path) resource rows
 
--- the rows with the paths of requests
+-- the rows and the paths of requests
 unfoldable pub with_requests : Table → Table
 with_requests rows =
     added (codes "/verdict") (post_image image.Verdict)
@@ -51,14 +51,14 @@ with_requests rows =
     (added (codes "/requests/{no}") (get read.Request)
     (added (codes "/requests") (GetAndPost read.Requests (Image image.Submit)) rows)))))
 
--- the rows with the paths of proposals
+-- the rows and the paths of proposals
 unfoldable pub with_proposals : Table → Table
 with_proposals rows =
     added (codes "/proposals/{no}/drop") (post_command command.Drop)
     (added (codes "/proposals/{no}/confirm") (post_command command.Confirm)
     (added (codes "/proposals") (get read.Proposals) rows))
 
--- the rows with the paths of what is listed and revoked
+-- the rows and the paths of the lists
 unfoldable pub with_lists : Table → Table
 with_lists rows =
     added (codes "/dbx/digests") (post_command command.RevokeDigest)
@@ -68,7 +68,7 @@ with_lists rows =
     (added (codes "/db/certificates") (post_command command.ListCertificate)
     (added (codes "/db") (get read.Db) rows)))))
 
--- the rows with all other paths
+-- the rows and all other paths
 unfoldable pub with_rest : Table → Table
 with_rest rows =
     added (codes "/report") (get read.Report)
@@ -82,6 +82,6 @@ with_rest rows =
 unfoldable pub table : Table
 table = with_rest (with_lists (with_proposals (with_requests [])))
 
--- what stands at a request's target, by the definition of `matchit`
+-- the resource at a request's target, by the definition of `matchit`
 unfoldable pub resource_of : List ℕ → Option Resource
 resource_of target = option_map (λ route. route.value) (first table target)

@@ -1,4 +1,4 @@
--- own: what each method of a path is for.
+-- own: the route of each method of a path.
 use Rattle.std.specs.Prelude.{ℕ, List, codes, bytes_eq, if◌then◌else◌, Option, Some, None}
 use Rattle.desk_bytes.specs.Limits.{longest_image}
 use Rattle.http_requests.specs.declared.resource.Resource.{Resource}
@@ -10,19 +10,19 @@ use Rattle.http_requests.specs.declared.route.Route.TheVariants as route
 use Rattle.http_requests.specs.declared.route.PostRoute.{PostRoute}
 use Rattle.http_requests.specs.declared.route.PostRoute.TheVariants as posts
 
--- what GET is for
+-- the route of GET
 abbrev pub got : Resource → Option Route
 got (resource.Get r) = Some (route.Get r)
 got (resource.Post r) = None
 got (resource.GetAndPost r s) = Some (route.Get r)
 
--- what POST is for
+-- the route of POST
 abbrev pub posted : Resource → Option Route
 posted (resource.Get r) = None
 posted (resource.Post r) = Some (route.Post r)
 posted (resource.GetAndPost r s) = Some (route.Post s)
 
--- what a method is for; methods are compared with their case (RFC 9110, section 9.1)
+-- the route of a method; methods are case-sensitive (RFC 9110, section 9.1)
 abbrev pub route_of : Resource → List ℕ → Option Route
 route_of r method =
     if bytes_eq method (codes "GET") then got r
@@ -40,7 +40,7 @@ methods_text methods.Get = codes "GET"
 methods_text methods.Post = codes "POST"
 methods_text methods.GetAndPost = codes "GET, POST"
 
--- own: the most bytes of a body; more where it is an image
+-- own: the most bytes of a body; an image's has more
 abbrev pub limit_of : PostRoute → ℕ
 limit_of (posts.Image r) = longest_image
 limit_of (posts.Command r) = 4194304

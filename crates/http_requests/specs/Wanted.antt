@@ -1,4 +1,4 @@
--- own: what a head asks for, or the first of the checks on it that fails.
+-- own: the request of a head, or the first of the checks on it that fails.
 use Rattle.std.specs.Prelude.{◌≡◌, ◌≢◌, ℕ, List, Bool, Option, Some, None, Result, Ok, Err, nat_le, ◌==◌, if◌then◌else◌}
 use Rattle.std.specs.List.{before_first, after_first}
 use Rattle.http_requests.specs.heads.Fields.{Parts}
@@ -20,7 +20,7 @@ is_slash b = b == 47
 abbrev pub number_part : List ℕ → List ℕ
 number_part target = before_first is_slash (after_first is_slash (after_first is_slash target))
 
--- what is asked for: a route, the length of the body, and the fields as they stand
+-- the request of a head: a route, the length of the body, and the fields unchanged
 pub record Want : Type 0 where
   pub route : Route
   pub size : ℕ
@@ -30,14 +30,15 @@ pub record Want : Type 0 where
   pub title : Option (List ℕ)
   pub stamp : Option (List ℕ)
 
--- the length of a route's body, where this one is announced: GET has none, POST announces it within the limit
+-- the length of a route's body, for the announced one: GET has none, POST must announce one within
+-- the limit
 abbrev pub size_of : Route → Option ℕ → Result ℕ WantedFault
 size_of (Get r) None = Ok 0
 size_of (Get r) (Some n) = if n == 0 then Ok 0 else Err BadField
 size_of (Post r) None = Err LengthNeeded
 size_of (Post r) (Some n) = if nat_le n (limit_of r) then Ok n else Err TooLarge
 
--- what is asked for at a route with a body of that length
+-- the request at a route with a body of that length
 abbrev pub of_size : Parts → Values → Route → Result ℕ WantedFault → Result Want WantedFault
 of_size p values route (Err fault) = Err fault
 of_size p values route (Ok size) = Ok (record {
@@ -50,26 +51,26 @@ of_size p values route (Ok size) = Ok (record {
   stamp = values.stamp;
 })
 
--- what is asked for of a resource, where its method has this route
+-- the request to a resource, if its method has this route
 abbrev pub of_route : Parts → Values → Resource → Option Route → Result Want WantedFault
 of_route p values resource None = Err (BadMethod (methods_of resource))
 of_route p values resource (Some route) = of_size p values route (size_of route values.length)
 
--- what is asked for, where this stands at the target
+-- the request to the resource at the target, if there is one
 abbrev pub of_resource : Parts → Values → Option Resource → Result Want WantedFault
 of_resource p values None = Err NoRoute
 of_resource p values (Some resource) = of_route p values resource (route_of resource p.method)
 
--- what is asked for, where these are the fields
+-- the request, if these are the fields
 abbrev pub of_fields : Parts → Result Values WantedFault → Result Want WantedFault
 of_fields p (Err fault) = Err fault
 of_fields p (Ok values) = of_resource p values (resource_of p.target)
 
--- what a head asks for: first its fields are looked at, then path, method and length
+-- the request of a head: its fields are checked first, then path, method and length
 abbrev pub wanted_of : Parts → Result Want WantedFault
 wanted_of p = of_fields p (fields_of p)
 
--- what a value of the code asks for
+-- the request of a checked head in the code
 abbrev pub shown : Wanted → Want
 shown w = record {
   route = w.route;
@@ -81,7 +82,7 @@ shown w = record {
   stamp = bytes_of w.stamp;
 }
 
--- the code gives this, or tells that memory was refused
+-- the code returns this, or that memory was refused
 abbrev pub Gives : Result Want WantedFault → Result Wanted WantedFault → Type 0
 Gives want (Ok given) = want ≡ Ok (shown given)
 Gives want (Err fault) = fault ≢ NoMemory → want ≡ Err fault

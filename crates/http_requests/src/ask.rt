@@ -3,12 +3,12 @@
 use desk_texts::{Command, Key, ProposalNumber, RequestNumber, Title};
 use sbat::Stamp;
 
-/// What GET asks for.
+/// A GET.
 #[derive(Clone, Copy, Debug, PartialEq, Eq)]
 pub enum ReadAsked {
     /// The requests that the caller is shown.
     Requests,
-    /// One of them.
+    /// One of the requests.
     Request(RequestNumber),
     /// The proposals of officers.
     Proposals,
@@ -18,14 +18,14 @@ pub enum ReadAsked {
     Report,
 }
 
-/// What is asked for with an image. A command has the key under which the caller gives it.
+/// A request with an image. A command has the key under which the caller gives it.
 #[derive(Debug, Drop)]
 pub enum ImageAsked {
-    /// A request of this title to sign the image.
+    /// A new request, with this title, to sign the image.
     Submit(Key, Title),
-    /// To take the image as the signed one of this request.
+    /// The image, returned as the signed one of this request.
     Return(Key, RequestNumber),
-    /// What the desk says of the image.
+    /// The desk's verdict on the image.
     Verdict,
 }
 
@@ -36,10 +36,10 @@ pub struct KeyedAsked {
     pub asked: CommandAsked,
 }
 
-/// A command, as far as the target and the fields say it.
+/// A command, in the parts that the target and the fields give.
 #[derive(Debug, Drop)]
 pub enum CommandAsked {
-    /// They say all of it, and the content has no effect.
+    /// They give all of it, and the content has no effect.
     Whole(Command),
     /// The content is JSON.
     Json(JsonAsked),

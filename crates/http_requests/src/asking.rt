@@ -12,7 +12,7 @@ use desk_texts::{Command, GREATEST_NUMBER, Key, ProposalNumber, RequestNumber, T
 use sbat::Stamp;
 use std::alloc::Global;
 
-/// The fault of a text that wasn't taken.
+/// The fault for a text that wasn't accepted.
 fn of_text(fault: TextFault) -> AskedFault
     ensures { result ≡ spec.of_text fault }
 {
@@ -61,7 +61,7 @@ fn stamp(wanted: &Wanted<'_>) -> Result<Option<Stamp>, AskedFault>
     }
 }
 
-/// The number of a request that stands for `{no}`.
+/// The request's number in the place of `{no}`.
 fn number(wanted: &Wanted<'_>) -> Result<RequestNumber, AskedFault>
     ensures { spec.GivesOr NoSuchRequest (spec.number_in (want.shown wanted.now)) result }
 {
@@ -72,7 +72,7 @@ fn number(wanted: &Wanted<'_>) -> Result<RequestNumber, AskedFault>
     Ok(number)
 }
 
-/// The number of a proposal that stands for `{no}`.
+/// The proposal's number in the place of `{no}`.
 fn proposal(wanted: &Wanted<'_>) -> Result<ProposalNumber, AskedFault>
     ensures { spec.GivesOr NoSuchProposal (spec.number_in (want.shown wanted.now)) result }
 {
@@ -83,8 +83,8 @@ fn proposal(wanted: &Wanted<'_>) -> Result<ProposalNumber, AskedFault>
     Ok(number)
 }
 
-/// What GET asks for, or NoSuchRequest where `{no}` isn't 1 to 6 digits without a leading zero. To be called
-/// once the caller is known.
+/// The request of a GET, or NoSuchRequest if `{no}` isn't 1 to 6 digits without a leading zero. To
+/// be called once the caller is known.
 pub fn read_asked(route: GetRoute, wanted: &Wanted<'_>) -> Result<ReadAsked, AskedFault>
     ensures { spec.Gives (spec.read_at route (want.shown wanted.now)) result }
 {
@@ -99,9 +99,10 @@ pub fn read_asked(route: GetRoute, wanted: &Wanted<'_>) -> Result<ReadAsked, Ask
     }
 }
 
-/// What is asked for with an image, or the first check that fails: a command has a Desk-Key in its form, a new
-/// request a Desk-Title (else BadField); `{no}` is 1 to 6 digits without a leading zero (else NoSuchRequest).
-/// To be called once the caller and the whole image are known. Takes memory for texts.
+/// The request with an image, or the first check that fails: a command needs a Desk-Key in its
+/// form, a new request a Desk-Title (otherwise BadField); `{no}` must be 1 to 6 digits without a
+/// leading zero (otherwise NoSuchRequest). To be called once the caller and the whole image are
+/// known. Takes memory for texts.
 pub fn image_asked(
     alloc: Global,
     route: ImageRoute,
@@ -122,7 +123,7 @@ pub fn image_asked(
     }
 }
 
-/// The command of a route, as far as the target and the fields say it.
+/// The command of a route, in the parts that the target and the fields give.
 fn command(route: CommandRoute, wanted: &Wanted<'_>) -> Result<CommandAsked, AskedFault>
     ensures { spec.Gives (spec.command_at route (want.shown wanted.now)) result }
 {
@@ -143,10 +144,10 @@ fn command(route: CommandRoute, wanted: &Wanted<'_>) -> Result<CommandAsked, Ask
     })
 }
 
-/// The command of a route with its key, or the first check that fails: there is a Desk-Key in its form, and a
-/// Desk-Stamp of `/imports/csv` is in its form (else BadField); `{no}` is 1 to 6 digits without a leading zero
-/// (else NoSuchRequest, or NoSuchProposal at a path of proposals). To be called once the caller and the whole
-/// body are known. Takes memory for the key.
+/// The command of a route with its key, or the first check that fails: it needs a Desk-Key in its
+/// form, and any Desk-Stamp of `/imports/csv` must be in its form (otherwise BadField); `{no}` must
+/// be 1 to 6 digits without a leading zero (otherwise NoSuchRequest, or NoSuchProposal at a path of
+/// proposals). To be called once the caller and the whole body are known. Takes memory for the key.
 pub fn command_asked(
     alloc: Global,
     route: CommandRoute,

@@ -5,18 +5,18 @@ ghost use Rattle.http_requests.specs.Faults as spec;
 use crate::Methods;
 use desk_bytes::Refusal;
 
-/// Why a head asks for nothing that the desk could do, before the caller is looked for.
+/// Why a head is refused before the caller is looked up.
 #[derive(Clone, Copy, Debug, PartialEq, Eq)]
 pub enum WantedFault {
     /// No head of at most 64 fields begins the bytes.
     BadHead,
     /// There is a field Transfer-Encoding.
     NotSupported,
-    /// A field that counts comes twice, Content-Length isn't 1 to 10 digits, or GET announces a body.
+    /// A known field is repeated, Content-Length isn't 1 to 10 digits, or GET announces a body.
     BadField,
-    /// The target is no path of the table.
+    /// The target isn't a path of the table.
     NoRoute,
-    /// The path has these methods, and not the request's.
+    /// The path has these methods, and the request's isn't one of them.
     BadMethod(Methods),
     /// POST without Content-Length.
     LengthNeeded,
@@ -26,14 +26,14 @@ pub enum WantedFault {
     NoMemory,
 }
 
-/// Why the fields of a request don't say what its route needs.
+/// Why a request's fields or target don't suit its route.
 #[derive(Clone, Copy, Debug, PartialEq, Eq)]
 pub enum AskedFault {
-    /// Desk-Key, Desk-Title or Desk-Stamp is missing where it is needed, or out of its form.
+    /// Desk-Key, Desk-Title or Desk-Stamp is missing where it is needed, or isn't in its form.
     BadField,
-    /// What stands for `{no}` is no request's number.
+    /// The part in the place of `{no}` isn't a request's number.
     NoSuchRequest,
-    /// What stands for `{no}` is no proposal's number.
+    /// The part in the place of `{no}` isn't a proposal's number.
     NoSuchProposal,
     /// Memory was refused.
     NoMemory,

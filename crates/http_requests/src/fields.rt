@@ -1,4 +1,4 @@
-//! The fields that count.
+//! The fields that the desk knows.
 ghost use Rattle.std.specs.Prelude.{◌≡◌};
 ghost use Rattle.http_requests.specs.heads.Fields.{occurrence, shown};
 ghost use Rattle.http_requests.specs.Lengths.{length_in, length_of};
@@ -7,7 +7,7 @@ ghost use Rattle.http_requests.specs.Fields.{GivesFields, GivesLength, GivesValu
 use crate::{Given, Head, WantedFault};
 use sbat::{are_digits, decimal};
 
-/// The values of the fields that count, each there once at most.
+/// The values of the fields that the desk knows, each given at most once.
 #[derive(Clone, Copy)]
 pub(crate) struct Fields<'b> {
     pub(crate) length: Option<u64>,
@@ -17,7 +17,7 @@ pub(crate) struct Fields<'b> {
     pub(crate) stamp: Option<&'b [u8]>,
 }
 
-/// The number that 1 to 10 decimal digits spell, zeros leading or not.
+/// The number that 1 to 10 decimal digits spell. Leading zeros are allowed.
 fn length(text: &[u8]) -> Option<u64>
     ensures { result ≡ length_of text.now }
 {
@@ -27,7 +27,7 @@ fn length(text: &[u8]) -> Option<u64>
     Some(decimal(text))
 }
 
-/// The value of a field that may come once.
+/// The value of a field that may be given once.
 fn value<'b>(given: Given<'b>) -> Result<Option<&'b [u8]>, WantedFault>
     ensures { GivesValue (value_of (occurrence given.entry)) result }
 {

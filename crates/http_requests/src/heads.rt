@@ -1,4 +1,4 @@
-//! HTTP/1.x requests as far as their bytes go: the head, its parts, and a body of a known length.
+//! The bytes of HTTP/1.x requests: the head, its parts, and a body of a known length.
 
 mod begun;
 mod body_reading;

@@ -7,7 +7,7 @@ ghost use Rattle.http_requests.specs.declared.route.PostRoute.TheVariants.{Comma
 ghost use Rattle.http_requests.specs.declared.route.ImageRoute.TheVariants as image;
 ghost use Rattle.http_requests.specs.declared.route.CommandRoute.TheVariants as command;
 
-/// The paths of requests are found, also with a part that is no request's number.
+/// The paths of requests are found, even if a part isn't a request's number.
 pub fn paths_of_requests_are_found()
     ensures requests { resource_of (codes "/requests")
         ≡ Some (GetAndPost read.Requests (Image image.Submit)) }
@@ -21,7 +21,7 @@ pub fn paths_of_requests_are_found()
         ≡ Some (post_command command.Review) }
 {}
 
-/// The paths of proposals are found, also with a part that is no proposal's number.
+/// The paths of proposals are found, even if a part isn't a proposal's number.
 pub fn paths_of_proposals_are_found()
     ensures proposals { resource_of (codes "/proposals") ≡ Some (get read.Proposals) }
     ensures confirm { resource_of (codes "/proposals/12/confirm")
@@ -31,7 +31,7 @@ pub fn paths_of_proposals_are_found()
         ≡ Some (post_command command.Confirm) }
 {}
 
-/// The paths of what is listed and revoked are found.
+/// The paths of the lists are found.
 pub fn paths_of_lists_are_found()
     ensures db { resource_of (codes "/db") ≡ Some (get read.Db) }
     ensures db_certificates { resource_of (codes "/db/certificates")
@@ -60,8 +60,8 @@ pub fn other_paths_are_found()
     ensures report { resource_of (codes "/report") ≡ Some (get read.Report) }
 {}
 
-/// A path isn't found with a query, with a slash at its end, or with nothing for its part, and a proposal
-/// alone has none.
+/// A path isn't found with a query, with a slash at its end, or with an empty part, and a single
+/// proposal has no path.
 pub fn no_other_path_is_found()
     ensures query { resource_of (codes "/level?x") ≡ None }
     ensures end { resource_of (codes "/level/") ≡ None }

@@ -1,10 +1,10 @@
-//! What the desk answers at a path.
+//! The resource at a path.
 ghost use Rattle.std.specs.Prelude.{◌≡◌};
 ghost use Rattle.http_requests.specs.Routes as spec;
 
 use crate::{GetRoute, PostRoute, Route};
 
-/// What stands at a path of the table: its methods, and what each is for.
+/// The resource at a path of the table: its methods, and the route of each.
 #[derive(Clone, Copy, Debug, PartialEq, Eq)]
 pub enum Resource {
     Get(GetRoute),
@@ -34,7 +34,7 @@ impl Methods {
 }
 
 impl Resource {
-    /// The methods that it has.
+    /// The methods of the resource.
     pub(crate) fn methods(self) -> Methods
         ensures { result ≡ spec.methods_of self }
     {
@@ -45,7 +45,7 @@ impl Resource {
         }
     }
 
-    /// What GET is for, if it has that.
+    /// The route of GET, if it has one.
     fn got(self) -> Option<Route>
         ensures { result ≡ spec.got self }
     {
@@ -55,7 +55,7 @@ impl Resource {
         }
     }
 
-    /// What POST is for, if it has that.
+    /// The route of POST, if it has one.
     fn posted(self) -> Option<Route>
         ensures { result ≡ spec.posted self }
     {
@@ -65,7 +65,7 @@ impl Resource {
         }
     }
 
-    /// What the method is for, if the resource has it. Methods are compared with their case (RFC 9110,
+    /// The route of the method, if the resource has it. Methods are case-sensitive (RFC 9110,
     /// section 9.1).
     pub(crate) fn route(self, method: &[u8]) -> Option<Route>
         ensures { result ≡ spec.route_of self method.now }

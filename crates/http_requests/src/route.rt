@@ -4,17 +4,17 @@ ghost use Rattle.http_requests.specs.Routes as spec;
 
 use desk_bytes::LONGEST_IMAGE;
 
-/// The most bytes of a body that is no image: 4 MiB.
+/// The most bytes of a body that isn't an image: 4 MiB.
 const LONGEST_BODY: u64 = 4_194_304;
 
-/// What a request is for: a path with one of its methods.
+/// The route of a request: a path with one of its methods.
 #[derive(Clone, Copy, Debug, PartialEq, Eq)]
 pub enum Route {
     Get(GetRoute),
     Post(PostRoute),
 }
 
-/// What GET of a path reads. `{no}` stands for a request's number.
+/// A route of GET. `{no}` stands for a request's number.
 #[derive(Clone, Copy, Debug, PartialEq, Eq)]
 pub enum GetRoute {
     /// `/requests`
@@ -33,14 +33,14 @@ pub enum GetRoute {
     Report,
 }
 
-/// What POST to a path is for, by the content that it takes.
+/// A route of POST, by the content that it takes.
 #[derive(Clone, Copy, Debug, PartialEq, Eq)]
 pub enum PostRoute {
     Image(ImageRoute),
     Command(CommandRoute),
 }
 
-/// What an image is posted for. `{no}` stands for a request's number.
+/// A route for an image. `{no}` stands for a request's number.
 #[derive(Clone, Copy, Debug, PartialEq, Eq)]
 pub enum ImageRoute {
     /// `/requests`: a new request, for this image.
@@ -51,7 +51,8 @@ pub enum ImageRoute {
     Verdict,
 }
 
-/// A command whose content is no image. `{no}` stands for a request's number, or a proposal's.
+/// A route for a command whose content isn't an image. `{no}` stands for the number of a request or
+/// of a proposal.
 #[derive(Clone, Copy, Debug, PartialEq, Eq)]
 pub enum CommandRoute {
     /// `/requests/{no}/review`, with a vote and a note.
@@ -83,7 +84,7 @@ pub enum CommandRoute {
 }
 
 impl PostRoute {
-    /// The most bytes of a body: `LONGEST_IMAGE` where it is an image, else `LONGEST_BODY`.
+    /// The most bytes of a body: `LONGEST_IMAGE` for an image, otherwise `LONGEST_BODY`.
     pub(crate) fn limit(self) -> u64
         ensures { result ≡ spec.limit_of self }
     {

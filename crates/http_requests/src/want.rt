@@ -2,7 +2,7 @@
 
 use crate::Route;
 
-/// What a head asks for, with the values of its fields as they stand.
+/// The route and the body's length of a checked head, with the values of its fields unchanged.
 #[derive(Clone, Copy, Debug)]
 pub struct Wanted<'b> {
     pub route: Route,

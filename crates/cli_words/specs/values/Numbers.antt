@@ -8,8 +8,8 @@ use Rattle.cli_words.specs.declared.values.stop.Stop.{Stop}
 use Rattle.cli_words.specs.declared.values.stop.Stop.TheVariants as stops
 use Rattle.cli_words.specs.declared.values.stop.Word.TheVariants as word
 
--- own: the number that decimal digits spell, one or more of them, zeros leading or not, where it is no less than
--- the first and no more than the second
+-- own: the number that one or more decimal digits spell, with leading zeros allowed, if it is at
+-- least the first and at most the second
 abbrev pub number_between : ℕ → ℕ → List ℕ → Option ℕ
 number_between low high text =
     if nat_le 1 (length text) && list_all is_ascii_digit text
@@ -25,16 +25,16 @@ port_of text = number_between 1 65535 text
 abbrev pub count_of : List ℕ → Option ℕ
 count_of text = number_between 1 1000000 text
 
--- the place of a port, where the count has one too
+-- the place of a port, if the count is right too
 abbrev pub place_with : ℕ → Option ℕ → Result Place Stop
 place_with port None = Err (stops.Word word.Count)
 place_with port (Some count) = Ok (record { port = port; count = count })
 
--- the place of a port that was read, and of the word of the count
+-- the place of the port and the count, if both are right
 abbrev pub place_at : Option ℕ → Option ℕ → Result Place Stop
 place_at None count = Err (stops.Word word.Port)
 place_at (Some port) count = place_with port count
 
--- own: the port is looked at before the count
+-- own: the port is checked before the count
 abbrev pub place_of : List ℕ → List ℕ → Result Place Stop
 place_of port_word count_word = place_at (port_of port_word) (count_of count_word)

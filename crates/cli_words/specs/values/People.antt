@@ -21,7 +21,7 @@ module _ (name role key : List ℕ) where
   abbrev pub AreRight : Type 0
   AreRight = (is_person_name name ≡ true) × IsRole role × (is_key key ≡ true)
 
-  -- own: the words are looked at in their order, and then the token, which is the first line that the input gives
+  -- own: the words are checked in order, and then the token, which is the first line of the input
   abbrev pub IsFirstWrong : Option (List ℕ) → Word → Type 0
   IsFirstWrong given word.Owner = ⊥
   IsFirstWrong given word.Name = is_person_name name ≡ false
@@ -31,13 +31,13 @@ module _ (name role key : List ℕ) where
   IsFirstWrong given word.Port = ⊥
   IsFirstWrong given word.Count = ⊥
 
-  -- own: the first word that is out of its form stops the subcommand, or want of memory, or a read that fails
-  -- behind right words
+  -- own: the first word that isn't in its form stops the subcommand, or refused memory, or a failed
+  -- read after right words
   abbrev pub StopsFirst : Option (List ℕ) → Stop → Type 0
   StopsFirst given (stops.Word w) = IsFirstWrong given w
   StopsFirst given (stops.Fault fault) = (fault ≡ row_of refusals.NoMemory) ⊎ ((fault ≡ row_of refusals.Read) × AreRight)
 
-  -- the words' key and person, with what is kept of the token that the input gives
+  -- the words' key and person, with the SHA-256 of the input's token
   pub record Reads (given : Option (List ℕ)) (kept : List ℕ) (person : Person) : Type 0 where
     pub right : AreRight
     pub key_as_given : kept ≡ key

@@ -9,7 +9,7 @@ use Rattle.cli_words.specs.declared.values.stop.Stop.TheVariants as stops
 use Rattle.cli_words.specs.declared.values.stop.Word.{Word}
 use Rattle.cli_words.specs.declared.values.stop.Word.TheVariants as word
 
--- own: the name that help gives it, as `bad NAME` tells it
+-- own: its name in help, as `bad NAME` gives it
 abbrev pub name_of : Word → List ℕ
 name_of word.Owner = codes "OWNER"
 name_of word.Name = codes "NAME"
@@ -23,11 +23,11 @@ name_of word.Count = codes "COUNT"
 abbrev pub of_fault : Fault → Stop
 of_fault fault = stops.Fault fault
 
--- a word stops the subcommand for what is wrong with it, or memory was refused
+-- a word stops the subcommand because it is wrong, or memory was refused
 abbrev pub StopsBy : Word → Type 0 → Stop → Type 0
 StopsBy w wrong why = ((why ≡ stops.Word w) × wrong) ⊎ (why ≡ stops.Fault (row_of refusals.NoMemory))
 
--- the token stops it, where the first line of the input is none, or the input
+-- the token stops it, if the first line of the input isn't one, or the input does
 abbrev pub StopsByToken : Option (List ℕ) → Stop → Type 0
 StopsByToken given why =
     ((why ≡ stops.Word word.Token) × IfSome given HasNoToken)

@@ -13,7 +13,7 @@ const MOST_PORT: u32 = 65_535;
 /// The most connections that are served.
 const MOST_COUNT: u32 = 1_000_000;
 
-/// The number that decimal digits spell, or `most` where that is less.
+/// The number that decimal digits spell, at most `most`.
 fn decimal_up_to(digits: &[u8], most: u32) -> u32
     requires { list_all is_ascii_digit digits.now ≡ true }
     ensures { result ≡ min most (decimal_of digits.now) }
@@ -26,7 +26,7 @@ fn decimal_up_to(digits: &[u8], most: u32) -> u32
     number as u32
 }
 
-/// The number that the text spells, where it is no less than `low` and no more than `high`.
+/// The number that the text spells, if it is at least `low` and at most `high`.
 fn number_between(low: u32, high: u32, text: &str) -> Option<u32>
     requires { high < 2 ^ 32 - 1 }
     ensures { result ≡ spec.number_between low high text.now }
@@ -43,8 +43,8 @@ fn number_between(low: u32, high: u32, text: &str) -> Option<u32>
     }
 }
 
-/// The port that a word spells, 1 to 65,535, in decimal digits without a sign; zeros may lead them. Takes no
-/// memory.
+/// The port that a word spells, 1 to 65,535, in decimal digits without a sign. Leading zeros are
+/// allowed. Takes no memory.
 pub(crate) fn port(text: &str) -> Option<u16>
     ensures { result ≡ spec.port_of text.now }
 {

@@ -50,7 +50,7 @@ fn key_from(alloc: Global, text: &str) -> Result<Key, Stop>
     }
 }
 
-/// What is kept of the token, the first line of the reader.
+/// The SHA-256 of the token, the first line of the reader.
 fn token_from<R: Read>(alloc: Global, reader: &mut R) -> Result<Digest, Stop>
     ensures ok { IfOk result (λ token. IfSome (R.remaining reader.old)
         (λ given. Some token ≡ token_in given)) }
@@ -65,8 +65,9 @@ fn token_from<R: Read>(alloc: Global, reader: &mut R) -> Result<Digest, Stop>
     }
 }
 
-/// The key and the person of the words, with the token that the reader gives. The first word that is out of
-/// its form is told, and the token after all words; no token is read before. Takes memory for the texts.
+/// The key and the person of the words, with the token from the reader. The first word that isn't
+/// in its form is the fault; the token comes after all words, and isn't read before they are right.
+/// Takes memory for the texts.
 pub fn person_from<R: Read>(
     alloc: Global,
     name: &str,

@@ -5,7 +5,7 @@ ghost use Rattle.cli_words.specs.values.Numbers.{place_of};
 use crate::values::numbers::{count, port};
 use crate::values::stop::{Stop, Word};
 
-/// Where connections are taken, and how many.
+/// The port where connections are accepted, and how many.
 #[derive(Clone, Copy, Debug, PartialEq, Eq)]
 pub struct Place {
     /// The port, 1 to 65,535.
@@ -14,8 +14,8 @@ pub struct Place {
     pub count: u32,
 }
 
-/// The place that the words spell, in decimal digits without a sign; zeros may lead them. The port is looked at
-/// first.
+/// The place that the words spell, in decimal digits without a sign. Leading zeros are allowed. The
+/// port is checked first.
 pub fn place_from(port_word: &str, count_word: &str) -> Result<Place, Stop>
     ensures { result ≡ place_of port_word.now count_word.now }
 {

@@ -17,7 +17,7 @@ pub enum Word {
 }
 
 impl Word {
-    /// The name that help gives it.
+    /// Its name in help.
     pub fn name(self) -> &'static str
         ensures { result.now ≡ name_of self }
     {
@@ -33,7 +33,7 @@ impl Word {
     }
 }
 
-/// What stops a subcommand: a word that is out of its form, or a fault.
+/// Why a subcommand stops: a word that isn't in its form, or a fault.
 #[derive(Clone, Copy, Debug, PartialEq, Eq)]
 pub enum Stop {
     Word(Word),

@@ -1,4 +1,4 @@
--- own: what the JSON bodies of requests say.
+-- own: the values in the JSON bodies of requests.
 use Rattle.std.specs.Prelude.{◌≡◌, ℕ, ⊤, List, codes, if◌then◌else◌, Option, Some, None, option_and_then}
 use Rattle.std.specs.Str.{is_utf8}
 use Rattle.serde_json.specs.Data.{Data}
@@ -24,7 +24,7 @@ abbrev pub review_by : ℕ → Option (List ℕ) → Option Vote → Option Ball
 review_by request (Some note) (Some vote) = Some (record { request = request; vote = vote; note = note })
 review_by request _ _ = None
 
--- the review that two values are
+-- the review in two values
 abbrev pub review_from : ℕ → Option (Data × Data) → Option Ballot
 review_from request None = None
 review_from request (Some values) = review_by request (note_in values.0) (vote_in values.1)
@@ -37,12 +37,12 @@ review_in request d = review_from request (two_of (codes "note") (codes "vote") 
 abbrev pub digest_object : Data → Option (List ℕ)
 digest_object d = option_and_then digest_in (one_of (codes "digest") d)
 
--- what is taken off the list, of these parts
+-- the entry, of these parts, that is to be taken off the list
 abbrev pub unlist_by : Option (List ℕ) → Option ListedKind → Option Listing
 unlist_by (Some digest) (Some kind) = Some (record { kind = kind; digest = digest })
 unlist_by _ _ = None
 
--- that of two values
+-- the entry in two values
 abbrev pub unlist_from : Option (Data × Data) → Option Listing
 unlist_from None = None
 unlist_from (Some values) = unlist_by (digest_in values.0) (kind_in values.1)
@@ -51,13 +51,13 @@ unlist_from (Some values) = unlist_by (digest_in values.0) (kind_in values.1)
 abbrev pub unlist_in : Data → Option Listing
 unlist_in d = unlist_from (two_of (codes "digest") (codes "kind") d)
 
--- what the level is raised by, of these parts
+-- the raise of the level, of these parts
 abbrev pub level_by : Option (List ℕ) → Option ℕ → Option ℕ → Option Raise
 level_by (Some component) (Some generation) (Some stamp) =
     Some (record { component = record { name = component; generation = generation }; stamp = stamp })
 level_by _ _ _ = None
 
--- that of three values
+-- the raise in three values
 abbrev pub level_from : Option (Data × Data × Data) → Option Raise
 level_from None = None
 level_from (Some values) = level_by (name_in values.0) (generation_in values.1) (stamp_in values.2)
@@ -66,19 +66,19 @@ level_from (Some values) = level_by (name_in values.0) (generation_in values.1) 
 abbrev pub level_in : Data → Option Raise
 level_in d = level_from (three_of (codes "component") (codes "generation") (codes "stamp") d)
 
--- the review of a request that a body is
+-- the review of a request in a body
 abbrev pub review_of : ℕ → List ℕ → Option Ballot
 review_of request body = option_and_then (review_in request) (data_of body)
 
--- the digest that a body is
+-- the digest in a body
 abbrev pub named_digest : List ℕ → Option (List ℕ)
 named_digest body = option_and_then digest_object (data_of body)
 
--- what a body says is taken off the list
+-- the entry, in a body, that is to be taken off the list
 abbrev pub unlist_of : List ℕ → Option Listing
 unlist_of body = option_and_then unlist_in (data_of body)
 
--- what a body says the level is raised by
+-- the raise of the level in a body
 abbrev pub level_of : List ℕ → Option Raise
 level_of body = option_and_then level_in (data_of body)
 
@@ -87,7 +87,7 @@ abbrev pub refusal_of : BodyFault → Refusal
 refusal_of BadBody = refusal.BadBody
 refusal_of NoMemory = refusal.NoMemory
 
--- BadBody comes only where there is no value; NoMemory may come at any time
+-- BadBody comes only if there is no value; NoMemory may come at any time
 abbrev pub Refuses : {A : Type 0} → Option A → BodyFault → Type 0
 Refuses value BadBody = value ≡ None
 Refuses value NoMemory = ⊤

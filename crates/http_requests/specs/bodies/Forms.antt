@@ -1,4 +1,4 @@
--- own: what the values of JSON members say, in their forms.
+-- own: the values of JSON members, in their forms.
 use Rattle.std.specs.Prelude.{ℕ, List, bytes_eq, if◌then◌else◌, Option, Some, None, option_and_then}
 use Rattle.serde_json.specs.Data.{Data}
 use Rattle.serde_json.specs.Find.{as_number, as_str, as_u64}
@@ -15,23 +15,23 @@ use Rattle.desk_texts.specs.declared.kind.ListedKind.TheVariants as kind
 abbrev pub digest_in : Data → Option (List ℕ)
 digest_in d = option_and_then digest_of (as_str d)
 
--- the vote whose word a text is
+-- the vote of a word
 abbrev pub vote_of : List ℕ → Option Vote
 vote_of text =
     if bytes_eq text (vote_text vote.Yes) then Some vote.Yes
     else (if bytes_eq text (vote_text vote.No) then Some vote.No else None)
 
--- that of a value
+-- the vote in a value
 abbrev pub vote_in : Data → Option Vote
 vote_in d = option_and_then vote_of (as_str d)
 
--- the kind whose word a text is
+-- the kind of a word
 abbrev pub kind_of : List ℕ → Option ListedKind
 kind_of text =
     if bytes_eq text (kind_text kind.Digest) then Some kind.Digest
     else (if bytes_eq text (kind_text kind.Certificate) then Some kind.Certificate else None)
 
--- that of a value
+-- the kind in a value
 abbrev pub kind_in : Data → Option ListedKind
 kind_in d = option_and_then kind_of (as_str d)
 
@@ -39,7 +39,7 @@ kind_in d = option_and_then kind_of (as_str d)
 abbrev pub note_of : List ℕ → Option (List ℕ)
 note_of text = if is_note text then Some text else None
 
--- that of a value
+-- the note in a value
 abbrev pub note_in : Data → Option (List ℕ)
 note_in d = option_and_then note_of (as_str d)
 
@@ -47,18 +47,18 @@ note_in d = option_and_then note_of (as_str d)
 abbrev pub name_of : List ℕ → Option (List ℕ)
 name_of text = if is_name text then Some text else None
 
--- that of a value
+-- the name in a value
 abbrev pub name_in : Data → Option (List ℕ)
 name_in d = option_and_then name_of (as_str d)
 
--- a whole number, written as an integer alone: no fraction, no exponent, no sign
+-- a whole number, written only as an integer: no fraction, no exponent, no sign
 abbrev pub whole_in : Data → Option ℕ
 whole_in d = option_and_then as_u64 (as_number d)
 
--- the generation that a value is
+-- the generation in a value
 abbrev pub generation_in : Data → Option ℕ
 generation_in d = option_and_then (λ n. if is_generation n then Some n else None) (whole_in d)
 
--- the stamp that a value is
+-- the stamp in a value
 abbrev pub stamp_in : Data → Option ℕ
 stamp_in d = option_and_then (λ n. if is_stamp n then Some n else None) (whole_in d)

@@ -1,5 +1,5 @@
--- Objects with exactly these keys. serde_json keeps an object's members in ascending order of their keys, each
--- key once, so one pattern says which keys there are.
+-- Objects with exactly these keys. serde_json keeps an object's members in ascending order of their
+-- keys, each key once, so one pattern fixes the keys.
 use Rattle.std.specs.Prelude.{ℕ, List, bytes_eq, ◌&&◌, if◌then◌else◌, Option, Some, None}
 use Rattle.serde_json.specs.Data.{Data, object, no_members, member}
 

@@ -1,4 +1,4 @@
--- What a head says: method, target, and the fields that count (RFC 9110, section 5).
+-- The parts of a head: method, target, and the fields that the desk knows (RFC 9110, section 5).
 use Rattle.std.specs.Prelude.{ℕ, List, [], ◌∷◌, map, filter, codes}
 use Rattle.std.specs.Str.{str_eq_ignore_ascii_case}
 use Rattle.httparse.specs.Grammar.{RequestHead}
@@ -7,13 +7,13 @@ use Rattle.http_requests.specs.declared.heads.head.Given.{Given}
 use Rattle.http_requests.specs.declared.heads.head.Given.TheVariants.{Missing, Once, Repeated}
 use Rattle.http_requests.specs.declared.heads.head.Head.{Head}
 
--- how often a name stands among the fields, and its value where it stands once
+-- how often a name is among the fields, and its value if it is there once
 pub data Occurrence : Type 0 where
   missing : Occurrence
   once : List ℕ → Occurrence
   repeated : Occurrence
 
--- what the values of the fields of one name amount to
+-- the occurrence of a name whose fields have these values
 abbrev pub occurrence_of : List (List ℕ) → Occurrence
 occurrence_of [] = missing
 occurrence_of (value ∷ []) = once value
@@ -25,15 +25,16 @@ with_another missing value = once value
 with_another (once first) value = repeated
 with_another repeated value = repeated
 
--- the values under a name, which is compared without regard to case (RFC 9110, section 5.1)
+-- the values under a name, which is case-insensitive (RFC 9110, section 5.1)
 abbrev pub values_named : List ℕ → List (List ℕ × List ℕ) → List (List ℕ)
 values_named name fields = map (λ f. f.1) (filter (λ f. str_eq_ignore_ascii_case f.0 name) fields)
 
--- what the head gives under a name; values are without the white space round them (RFC 9110, section 5.5)
+-- the occurrence of a name in a head; values are without the white space around them (RFC 9110,
+-- section 5.5)
 abbrev pub field_of : RequestHead → List ℕ → Occurrence
 field_of h name = occurrence_of (values_named name (map name_and_value h.fields))
 
--- the parts of a head that count
+-- the parts of a head that the desk reads
 pub record Parts : Type 0 where
   pub method : List ℕ
   pub target : List ℕ
@@ -44,7 +45,7 @@ pub record Parts : Type 0 where
   pub desk_title : Occurrence
   pub desk_stamp : Occurrence
 
--- those of a head
+-- the parts of a head
 abbrev pub parts_of : RequestHead → Parts
 parts_of h = record {
   method = h.method;
@@ -57,13 +58,13 @@ parts_of h = record {
   desk_stamp = field_of h (codes "Desk-Stamp");
 }
 
--- what a value of the code says
+-- the occurrence in a value of the code
 abbrev pub occurrence : Given → Occurrence
 occurrence Missing = missing
 occurrence (Once value) = once value.now
 occurrence Repeated = repeated
 
--- the parts that a value of the code holds
+-- the parts in a value of the code
 abbrev pub shown : Head → Parts
 shown head = record {
   method = head.method.now;

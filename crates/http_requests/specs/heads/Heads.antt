@@ -1,4 +1,4 @@
--- Which beginning of an input is the head of a request (RFC 9112, section 2.1).
+-- The head of a request at the front of an input (RFC 9112, section 2.1).
 use Rattle.std.specs.Prelude.{◌≡◌, ◌≢◌, ℕ, ◌≤◌, ◌==◌, ◌||◌, Bool, false, nat_eq, if◌then◌else◌, List, [], ◌∷◌, length, Option, Some, None, ⊤}
 use Rattle.std.specs.List.{ends_with}
 use Rattle.httparse.specs.Grammar.{RequestHead, print_request, ReadsRequest, HasNoRequest}
@@ -9,7 +9,7 @@ use Rattle.http_requests.specs.declared.heads.head_reading.Look.TheVariants.{Who
 use Rattle.http_requests.specs.declared.heads.begun.Begun.{Begun}
 use Rattle.http_requests.specs.declared.heads.begun.Begun.TheVariants.{Nothing, Head, NoHead}
 
--- own: the most bytes of a head, with the empty lines before it
+-- own: the most bytes of a head, including the empty lines before it
 abbrev pub most_bytes : ℕ
 most_bytes = 16384
 
@@ -21,7 +21,8 @@ most_fields = 64
 abbrev pub HasFewFields : RequestHead → Type 0
 HasFewFields h = length h.fields ≤ most_fields
 
--- b begins with the head h of httparse's default grammar, within the limits, and goes on with rest
+-- b begins with the head h of httparse's default grammar, within the limits, and continues with
+-- rest
 pub record HasHead (b : List ℕ) (h : RequestHead) (rest : List ℕ) : Type 0 where
   pub reads : ReadsRequest b h rest
   pub short : length (print_request h) ≤ most_bytes
@@ -31,7 +32,8 @@ pub record HasHead (b : List ℕ) (h : RequestHead) (rest : List ℕ) : Type 0 w
 abbrev pub HasNoHead : List ℕ → Type 0
 HasNoHead b = (h : RequestHead) (rest : List ℕ) → ¬ (HasHead b h rest)
 
--- what the input b begins with: nothing at all; a head, after which `left` is to be read; or no head
+-- the front of the input b: nothing at all; a head, after which `left` remains to be read; or no
+-- head
 abbrev pub Finds : List ℕ → Option (List ℕ) → Begun → Type 0
 Finds b left Nothing = b ≡ []
 Finds b left (Head taken) =
@@ -64,12 +66,12 @@ is_line_break b = (b == 13) || (b == 10)
 abbrev pub ends_empty_line : List ℕ → Bool
 ends_empty_line bytes = ends_with nat_eq bytes (10 ∷ 10 ∷ []) || ends_with nat_eq bytes (10 ∷ 13 ∷ 10 ∷ [])
 
--- whether the bytes are looked at for a head: not where they are empty lines alone, else at the end of the first line that
--- isn't, and then at each empty line
+-- whether the bytes are checked for a head: not while they are only empty lines, then at the end of
+-- the first line that isn't empty, and then at each empty line
 abbrev pub may_end_head : (blank begun : Bool) → List ℕ → Bool
 may_end_head blank begun bytes =
     if blank then false else (if begun then ends_empty_line bytes else ends_with nat_eq bytes (10 ∷ []))
 
--- no head ends where the bytes do
+-- no head ends exactly at the end of the bytes
 abbrev pub EndsNoHead : List ℕ → Type 0
 EndsNoHead bytes = (h : RequestHead) → print_request h ≢ bytes

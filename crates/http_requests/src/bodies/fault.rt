@@ -1,4 +1,4 @@
-//! Why a JSON body isn't read.
+//! Reasons why a JSON body isn't read.
 ghost use Rattle.std.specs.Prelude.{◌≡◌};
 ghost use Rattle.http_requests.specs.bodies.Bodies.{refusal_of};
 
@@ -7,7 +7,7 @@ use desk_bytes::Refusal;
 /// Why a body wasn't read.
 #[derive(Clone, Copy, Debug, PartialEq, Eq)]
 pub enum BodyFault {
-    /// The bytes aren't the JSON object that is asked for.
+    /// The bytes aren't the required JSON object.
     BadBody,
     /// Memory was refused.
     NoMemory,

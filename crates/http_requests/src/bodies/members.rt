@@ -5,7 +5,7 @@ ghost use Rattle.http_requests.specs.bodies.Members as spec;
 
 use serde_json::Value;
 
-/// The value of an object whose one key this is.
+/// The value of an object with this one key.
 pub(crate) fn one<'v>(value: &'v Value, key: &str) -> Option<&'v Value>
     ensures { option_map (λ v. view v.now) result ≡ spec.one_of key.now (view value.now) }
 {
@@ -20,7 +20,7 @@ pub(crate) fn one<'v>(value: &'v Value, key: &str) -> Option<&'v Value>
     Some(value)
 }
 
-/// The values of an object whose two keys these are, in ascending order.
+/// The values of an object with these two keys, in ascending order.
 pub(crate) fn two<'v>(value: &'v Value, keys: (&str, &str)) -> Option<(&'v Value, &'v Value)>
     ensures { option_map (λ v. (view v.0.now, view v.1.now)) result
         ≡ spec.two_of keys.entry.0.now keys.entry.1.now (view value.now) }
@@ -37,7 +37,7 @@ pub(crate) fn two<'v>(value: &'v Value, keys: (&str, &str)) -> Option<(&'v Value
     Some((one, two))
 }
 
-/// The values of an object whose three keys these are, in ascending order.
+/// The values of an object with these three keys, in ascending order.
 pub(crate) fn three<'v>(
     value: &'v Value,
     keys: (&str, &str, &str),

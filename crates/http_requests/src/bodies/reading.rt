@@ -12,7 +12,7 @@ use sbat::Component;
 use serde_json::Value;
 use std::alloc::Global;
 
-/// The review of a request that a value is.
+/// The review of a request in a value.
 fn review_in(alloc: Global, request: RequestNumber, value: &Value) -> Result<Ballot, BodyFault>
     ensures ok { IfOk result (λ ballot. spec.review_in request (view value.now) ≡ Some ballot) }
     ensures err { IfErr result (spec.Refuses (spec.review_in request (view value.now))) }
@@ -31,7 +31,7 @@ fn review_in(alloc: Global, request: RequestNumber, value: &Value) -> Result<Bal
     })
 }
 
-/// The digest of an object of one.
+/// The digest in an object of one.
 fn digest_in(value: &Value) -> Result<Digest, BodyFault>
     ensures ok { IfOk result (λ body. spec.digest_object (view value.now) ≡ Some body) }
     ensures err { IfErr result (spec.Refuses (spec.digest_object (view value.now))) }
@@ -42,7 +42,7 @@ fn digest_in(value: &Value) -> Result<Digest, BodyFault>
     digest(text).ok_or(BodyFault::BadBody)
 }
 
-/// What a value says is taken off the list.
+/// The entry, in a value, that is to be taken off the list.
 fn unlist_in(value: &Value) -> Result<Listing, BodyFault>
     ensures ok { IfOk result (λ entry. spec.unlist_in (view value.now) ≡ Some entry) }
     ensures err { IfErr result (spec.Refuses (spec.unlist_in (view value.now))) }
@@ -56,7 +56,7 @@ fn unlist_in(value: &Value) -> Result<Listing, BodyFault>
     Ok(Listing { kind, digest })
 }
 
-/// What a value says the level is raised by.
+/// The raise of the level in a value.
 fn level_in(alloc: Global, value: &Value) -> Result<Raise, BodyFault>
     ensures ok { IfOk result (λ raise. spec.level_in (view value.now) ≡ Some raise) }
     ensures err { IfErr result (spec.Refuses (spec.level_in (view value.now))) }

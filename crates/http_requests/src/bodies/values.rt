@@ -43,7 +43,7 @@ pub(crate) fn digest(value: &Value) -> Option<Digest>
     }
 }
 
-/// The vote whose word the value is.
+/// The vote of the word in a value.
 pub(crate) fn vote(value: &Value) -> Option<Vote>
     ensures { result ≡ form.vote_in (view value.now) }
 {
@@ -57,7 +57,7 @@ pub(crate) fn vote(value: &Value) -> Option<Vote>
     }
 }
 
-/// The kind whose word the value is.
+/// The kind of the word in a value.
 pub(crate) fn kind(value: &Value) -> Option<ListedKind>
     ensures { result ≡ form.kind_in (view value.now) }
 {
@@ -71,7 +71,7 @@ pub(crate) fn kind(value: &Value) -> Option<ListedKind>
     }
 }
 
-/// The generation whose number the value is.
+/// The generation of the number in a value.
 pub(crate) fn generation(value: &Value) -> Option<Generation>
     ensures { result ≡ form.generation_in (view value.now) }
 {
@@ -82,14 +82,14 @@ pub(crate) fn generation(value: &Value) -> Option<Generation>
     }
 }
 
-/// The stamp whose number the value is.
+/// The stamp of the number in a value.
 pub(crate) fn stamp(value: &Value) -> Option<Stamp>
     ensures { result ≡ form.stamp_in (view value.now) }
 {
     Stamp::new(value.as_u64()?)
 }
 
-/// The note that the value is.
+/// The note in a value.
 pub(crate) fn note(alloc: Global, value: &Value) -> Result<Note, BodyFault>
     ensures ok { IfOk result (λ note. form.note_in (view value.now) ≡ Some note) }
     ensures err { IfErr result (Refuses (form.note_in (view value.now))) }
@@ -104,7 +104,7 @@ pub(crate) fn note(alloc: Global, value: &Value) -> Result<Note, BodyFault>
     }
 }
 
-/// The component's name that the value is.
+/// The component's name in a value.
 pub(crate) fn component(alloc: Global, value: &Value) -> Result<ComponentName, BodyFault>
     ensures ok { IfOk result (λ name. form.name_in (view value.now) ≡ Some name) }
     ensures err { IfErr result (Refuses (form.name_in (view value.now))) }
