@@ -1,4 +1,4 @@
-//! From what the words say to the work.
+//! The work of each line of words.
 use cli_commands::{Ending, print_ending};
 use cli_files::{
     add_person, answer_from, export_from, judge_image, make_desk, read_file, read_image, serve_from,
@@ -16,12 +16,12 @@ use std::process::ExitCode;
 /// The status of words that aren't understood.
 pub const MISUSED: u8 = 2;
 
-/// Lends a buffered writer.
+/// Puts a buffer before a writer.
 fn buffered<W: Write + Drop>(alloc: Global, writer: W) -> Result<BufWriter<W>, Fault> {
     BufWriter::new(alloc, writer).map_err(|_| Fault::from(Refusal::NoMemory))
 }
 
-/// Writes out what is buffered.
+/// Flushes the writer.
 fn flush<W: Write>(writer: &mut W) -> Result<(), Fault> {
     writer.flush().map_err(|_| Fault::from(WriteFailed))
 }
@@ -54,7 +54,7 @@ fn run_ranges(rt: &HostRuntime, file: &str) -> Result<(), Stop> {
     Ok(())
 }
 
-/// Prints what the desk keeps of an image's file.
+/// Prints the facts of an image's file that the desk keeps.
 fn run_facts(rt: &HostRuntime, file: &str) -> Result<(), Stop> {
     let mut image = read_image(rt, file)?;
     let found = facts(rt.alloc(), &mut image).map_err(Fault::from)?;
@@ -121,7 +121,7 @@ fn tell(rt: &HostRuntime, fault: Fault) -> ExitCode {
     ExitCode::from(print_fault(fault.refusal, fault.place, &mut rt.stderr()))
 }
 
-/// Prints what stopped the program on standard error, and returns the status for it.
+/// Prints on standard error why the program stopped, and returns the status for that.
 pub fn stop(rt: &HostRuntime, why: Stop) -> ExitCode {
     match why {
         Stop::Word(word) => {
@@ -141,7 +141,7 @@ fn status_of(rt: &HostRuntime, done: Result<(), Stop>) -> ExitCode {
     }
 }
 
-/// The status of a subcommand over a desk's file: a desk that couldn't be closed is reported last.
+/// The status of a subcommand over a desk's file. The line of a failed close comes last.
 fn status_of_ending(rt: &HostRuntime, ended: Result<Ending, Stop>) -> ExitCode {
     match ended {
         Ok(ending) => ExitCode::from(print_ending(ending, &mut rt.stderr())),
