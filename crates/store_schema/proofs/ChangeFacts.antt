@@ -1,32 +1,32 @@
 -- What each text means, told by computing: UPDATE and DELETE.
-use Rattle.std.proofs.Common.{[], ◌∷◌, refl}
+use Rattle.std.proofs.Common.{[], ◌∷◌, codes, refl}
 use Rattle.sqlite.specs.Listing.{understood}
 use Rattle.sqlite_tied.specs.Compute.{everything}
 use Rattle.store_sql.specs.Meanings.{UpdatesRows, DeletesRows}
-use Rattle.store_schema.specs.Columns.{equals, set_to}
+use Rattle.store_schema.specs.Named.{equals, set_to}
 use Rattle.store_schema.specs.Tables.{desk_schema, desk, requests, listed, components, proposals}
 use Rattle.store_schema.specs.declared.changing.TheConstants.{UPDATE_STAMP, UPDATE_STATE, UPDATE_GENERATION, UPDATE_PROPOSAL_STATE, UPDATE_VERSION, DELETE_LISTED}
 
-pub update_stamp : UpdatesRows desk_schema 0 desk UPDATE_STAMP.now [] (set_to desk 4 0)
+pub update_stamp : UpdatesRows desk_schema 0 desk UPDATE_STAMP.now [] (set_to desk (codes "stamp") 0)
 unfolding understood everything
 update_stamp = record { stands = record { place = refl; apart = refl; quiet = λ _ _. refl }; means = refl; plain = (refl, refl); overlooks = λ _. tt; passes_over = λ _. tt }
 
-pub update_state : UpdatesRows desk_schema 3 requests UPDATE_STATE.now (equals requests 0 0 ∷ []) (set_to requests 8 1)
+pub update_state : UpdatesRows desk_schema 3 requests UPDATE_STATE.now (equals requests (codes "no") 0 ∷ []) (set_to requests (codes "state") 1)
 unfolding understood everything
 update_state = record { stands = record { place = refl; apart = refl; quiet = λ _ _. refl }; means = refl; plain = (refl, refl); overlooks = λ _. tt; passes_over = λ _. tt }
 
-pub update_generation : UpdatesRows desk_schema 11 components UPDATE_GENERATION.now (equals components 0 0 ∷ []) (set_to components 1 1)
+pub update_generation : UpdatesRows desk_schema 11 components UPDATE_GENERATION.now (equals components (codes "name") 0 ∷ []) (set_to components (codes "generation") 1)
 unfolding understood everything
 update_generation = record { stands = record { place = refl; apart = refl; quiet = λ _ _. refl }; means = refl; plain = (refl, refl); overlooks = λ _ _ _. refl; passes_over = λ _ _ _. refl }
 
-pub delete_listed : DeletesRows desk_schema 8 listed DELETE_LISTED.now (equals listed 0 0 ∷ equals listed 1 1 ∷ [])
+pub delete_listed : DeletesRows desk_schema 8 listed DELETE_LISTED.now (equals listed (codes "kind") 0 ∷ equals listed (codes "digest") 1 ∷ [])
 unfolding understood everything
 delete_listed = record { stands = record { place = refl; apart = refl; quiet = λ _ _. refl }; means = refl; plain = (refl, refl); overlooks = λ _ _ _. refl }
 
-pub update_proposal_state : UpdatesRows desk_schema 12 proposals UPDATE_PROPOSAL_STATE.now (equals proposals 0 0 ∷ []) (set_to proposals 5 1)
+pub update_proposal_state : UpdatesRows desk_schema 12 proposals UPDATE_PROPOSAL_STATE.now (equals proposals (codes "no") 0 ∷ []) (set_to proposals (codes "state") 1)
 unfolding understood everything
 update_proposal_state = record { stands = record { place = refl; apart = refl; quiet = λ _ _. refl }; means = refl; plain = (refl, refl); overlooks = λ _. tt; passes_over = λ _. tt }
 
-pub update_version : UpdatesRows desk_schema 0 desk UPDATE_VERSION.now [] (set_to desk 2 0)
+pub update_version : UpdatesRows desk_schema 0 desk UPDATE_VERSION.now [] (set_to desk (codes "version") 0)
 unfolding understood everything
 update_version = record { stands = record { place = refl; apart = refl; quiet = λ _ _. refl }; means = refl; plain = (refl, refl); overlooks = λ _. tt; passes_over = λ _. tt }

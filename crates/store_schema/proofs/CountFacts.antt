@@ -3,7 +3,7 @@ use Rattle.std.proofs.Common.{[], ◌∷◌, codes, refl}
 use Rattle.sqlite.specs.Listing.{understood}
 use Rattle.sqlite_tied.specs.Compute.{everything}
 use Rattle.store_sql.specs.Meanings.{CountsRows}
-use Rattle.store_schema.specs.Columns.{equals}
+use Rattle.store_schema.specs.Named.{equals}
 use Rattle.store_schema.specs.Tables.{desk_schema, people, calls, requests, listed, revoked_digests, revoked_certificates, components, proposals}
 use Rattle.store_schema.specs.declared.counting.TheConstants.{COUNT_PEOPLE, COUNT_CALLS, COUNT_REQUESTS, COUNT_REQUESTS_IN, COUNT_LISTED, COUNT_LISTED_OF, COUNT_REVOKED_DIGESTS, COUNT_REVOKED_CERTIFICATES, COUNT_COMPONENTS, COUNT_PROPOSALS}
 
@@ -19,7 +19,7 @@ pub count_requests : CountsRows desk_schema 3 requests COUNT_REQUESTS.now [] (co
 unfolding understood everything
 count_requests = record { place = refl; means = refl; unlisted = refl; plain = (refl, refl); overlooks = λ _. tt }
 
-pub count_requests_in : CountsRows desk_schema 3 requests COUNT_REQUESTS_IN.now (equals requests 8 0 ∷ []) (codes "count(*)" ∷ [])
+pub count_requests_in : CountsRows desk_schema 3 requests COUNT_REQUESTS_IN.now (equals requests (codes "state") 0 ∷ []) (codes "count(*)" ∷ [])
 unfolding understood everything
 count_requests_in = record { place = refl; means = refl; unlisted = refl; plain = (refl, refl); overlooks = λ _. tt }
 
@@ -27,7 +27,7 @@ pub count_listed : CountsRows desk_schema 8 listed COUNT_LISTED.now [] (codes "c
 unfolding understood everything
 count_listed = record { place = refl; means = refl; unlisted = refl; plain = (refl, refl); overlooks = λ _ _ _. refl }
 
-pub count_listed_of : CountsRows desk_schema 8 listed COUNT_LISTED_OF.now (equals listed 0 0 ∷ []) (codes "count(*)" ∷ [])
+pub count_listed_of : CountsRows desk_schema 8 listed COUNT_LISTED_OF.now (equals listed (codes "kind") 0 ∷ []) (codes "count(*)" ∷ [])
 unfolding understood everything
 count_listed_of = record { place = refl; means = refl; unlisted = refl; plain = (refl, refl); overlooks = λ _ _ _. refl }
 

@@ -1,11 +1,12 @@
 -- What each text means, told by computing: SELECT.
-use Rattle.std.proofs.Common.{[], ◌∷◌, refl}
+use Rattle.std.proofs.Common.{[], ◌∷◌, codes, refl}
 use Rattle.sqlite.specs.Listing.{understood}
 use Rattle.sqlite_tied.specs.Compute.{everything}
 use Rattle.store_sql.specs.Meanings.{SelectsRows}
-use Rattle.store_schema.specs.Columns.{by_first, columns_after, columns_of, equals, names_of}
+use Rattle.store_schema.specs.Columns.{by_first, columns_after, columns_of, names_of}
+use Rattle.store_schema.specs.Named.{equals}
 use Rattle.store_schema.specs.Tables.{desk_schema, first_schema, desk, people, calls, requests, request_certificates, request_components, votes, returns, listed, revoked_digests, revoked_certificates, components, proposals, proposal_items}
-use Rattle.store_schema.specs.declared.selecting.TheConstants.{SELECT_DESK, SELECT_PERSON, SELECT_PERSON_OF_TOKEN, SELECT_PEOPLE, SELECT_CALL, SELECT_CALLS, SELECT_REQUEST, SELECT_REQUESTS, SELECT_REQUESTS_OF, SELECT_REQUEST_CERTIFICATES, SELECT_REQUEST_COMPONENTS, SELECT_VOTES, SELECT_RETURN, SELECT_LISTED, SELECT_LISTED_OF, SELECT_REVOKED_DIGEST, SELECT_REVOKED_DIGESTS, SELECT_REVOKED_CERTIFICATE, SELECT_REVOKED_CERTIFICATES, SELECT_COMPONENT, SELECT_COMPONENTS, SELECT_PROPOSAL, SELECT_PROPOSALS, SELECT_PROPOSAL_ITEMS}
+use Rattle.store_schema.specs.declared.selecting.TheConstants.{SELECT_DESK, SELECT_PERSON, SELECT_PERSON_OF_TOKEN, SELECT_CALL, SELECT_CALLS, SELECT_REQUEST, SELECT_REQUESTS, SELECT_REQUESTS_OF, SELECT_REQUEST_CERTIFICATES, SELECT_REQUEST_COMPONENTS, SELECT_VOTES, SELECT_RETURN, SELECT_LISTED, SELECT_LISTED_OF, SELECT_REVOKED_DIGEST, SELECT_REVOKED_DIGESTS, SELECT_REVOKED_CERTIFICATE, SELECT_REVOKED_CERTIFICATES, SELECT_COMPONENT, SELECT_COMPONENTS, SELECT_PROPOSAL, SELECT_PROPOSALS, SELECT_PROPOSAL_ITEMS}
 
 pub select_desk : SelectsRows desk_schema 0 desk SELECT_DESK.now [] (by_first 1 desk) (columns_after 1 desk) (names_of desk)
 unfolding understood everything
@@ -16,19 +17,15 @@ pub select_first_desk : SelectsRows first_schema 0 desk SELECT_DESK.now [] (by_f
 unfolding understood everything
 select_first_desk = record { place = refl; means = refl; unlisted = refl; plain = (refl, refl); overlooks = λ _. tt; passes_over = λ _. tt }
 
-pub select_person : SelectsRows desk_schema 1 people SELECT_PERSON.now (equals people 0 0 ∷ []) [] (columns_of people) (names_of people)
+pub select_person : SelectsRows desk_schema 1 people SELECT_PERSON.now (equals people (codes "name") 0 ∷ []) [] (columns_of people) (names_of people)
 unfolding understood everything
 select_person = record { place = refl; means = refl; unlisted = refl; plain = (refl, refl); overlooks = λ _ _ _. refl; passes_over = λ _ _ _. refl }
 
-pub select_person_of_token : SelectsRows desk_schema 1 people SELECT_PERSON_OF_TOKEN.now (equals people 2 0 ∷ []) [] (columns_of people) (names_of people)
+pub select_person_of_token : SelectsRows desk_schema 1 people SELECT_PERSON_OF_TOKEN.now (equals people (codes "token") 0 ∷ []) [] (columns_of people) (names_of people)
 unfolding understood everything
 select_person_of_token = record { place = refl; means = refl; unlisted = refl; plain = (refl, refl); overlooks = λ _ _ _. refl; passes_over = λ _ _ _. refl }
 
-pub select_people : SelectsRows desk_schema 1 people SELECT_PEOPLE.now [] (by_first 1 people) (columns_after 1 people) (names_of people)
-unfolding understood everything
-select_people = record { place = refl; means = refl; unlisted = refl; plain = (refl, refl); overlooks = λ _ _ _. refl; passes_over = λ _ _ _. refl }
-
-pub select_call : SelectsRows desk_schema 2 calls SELECT_CALL.now (equals calls 1 0 ∷ equals calls 2 1 ∷ []) [] (columns_of calls) (names_of calls)
+pub select_call : SelectsRows desk_schema 2 calls SELECT_CALL.now (equals calls (codes "caller") 0 ∷ equals calls (codes "key") 1 ∷ []) [] (columns_of calls) (names_of calls)
 unfolding understood everything
 select_call = record { place = refl; means = refl; unlisted = refl; plain = (refl, refl); overlooks = λ _. tt; passes_over = λ _. tt }
 
@@ -36,7 +33,7 @@ pub select_calls : SelectsRows desk_schema 2 calls SELECT_CALLS.now [] (by_first
 unfolding understood everything
 select_calls = record { place = refl; means = refl; unlisted = refl; plain = (refl, refl); overlooks = λ _. tt; passes_over = λ _. tt }
 
-pub select_request : SelectsRows desk_schema 3 requests SELECT_REQUEST.now (equals requests 0 0 ∷ []) [] (columns_of requests) (names_of requests)
+pub select_request : SelectsRows desk_schema 3 requests SELECT_REQUEST.now (equals requests (codes "no") 0 ∷ []) [] (columns_of requests) (names_of requests)
 unfolding understood everything
 select_request = record { place = refl; means = refl; unlisted = refl; plain = (refl, refl); overlooks = λ _. tt; passes_over = λ _. tt }
 
@@ -44,35 +41,35 @@ pub select_requests : SelectsRows desk_schema 3 requests SELECT_REQUESTS.now [] 
 unfolding understood everything
 select_requests = record { place = refl; means = refl; unlisted = refl; plain = (refl, refl); overlooks = λ _. tt; passes_over = λ _. tt }
 
-pub select_requests_of : SelectsRows desk_schema 3 requests SELECT_REQUESTS_OF.now (equals requests 1 0 ∷ []) (by_first 1 requests) (columns_after 1 requests) (names_of requests)
+pub select_requests_of : SelectsRows desk_schema 3 requests SELECT_REQUESTS_OF.now (equals requests (codes "submitter") 0 ∷ []) (by_first 1 requests) (columns_after 1 requests) (names_of requests)
 unfolding understood everything
 select_requests_of = record { place = refl; means = refl; unlisted = refl; plain = (refl, refl); overlooks = λ _. tt; passes_over = λ _. tt }
 
-pub select_request_certificates : SelectsRows desk_schema 4 request_certificates SELECT_REQUEST_CERTIFICATES.now (equals request_certificates 0 0 ∷ []) (by_first 2 request_certificates) (columns_after 2 request_certificates) (names_of request_certificates)
+pub select_request_certificates : SelectsRows desk_schema 4 request_certificates SELECT_REQUEST_CERTIFICATES.now (equals request_certificates (codes "request") 0 ∷ []) (by_first 2 request_certificates) (columns_after 2 request_certificates) (names_of request_certificates)
 unfolding understood everything
 select_request_certificates = record { place = refl; means = refl; unlisted = refl; plain = (refl, refl); overlooks = λ _ _ _. refl; passes_over = λ _ _ _. refl }
 
-pub select_request_components : SelectsRows desk_schema 5 request_components SELECT_REQUEST_COMPONENTS.now (equals request_components 0 0 ∷ []) (by_first 2 request_components) (columns_after 2 request_components) (names_of request_components)
+pub select_request_components : SelectsRows desk_schema 5 request_components SELECT_REQUEST_COMPONENTS.now (equals request_components (codes "request") 0 ∷ []) (by_first 2 request_components) (columns_after 2 request_components) (names_of request_components)
 unfolding understood everything
 select_request_components = record { place = refl; means = refl; unlisted = refl; plain = (refl, refl); overlooks = λ _ _ _. refl; passes_over = λ _ _ _. refl }
 
-pub select_votes : SelectsRows desk_schema 6 votes SELECT_VOTES.now (equals votes 0 0 ∷ []) (by_first 2 votes) (columns_after 2 votes) (names_of votes)
+pub select_votes : SelectsRows desk_schema 6 votes SELECT_VOTES.now (equals votes (codes "request") 0 ∷ []) (by_first 2 votes) (columns_after 2 votes) (names_of votes)
 unfolding understood everything
 select_votes = record { place = refl; means = refl; unlisted = refl; plain = (refl, refl); overlooks = λ _ _ _. refl; passes_over = λ _ _ _. refl }
 
-pub select_return : SelectsRows desk_schema 7 returns SELECT_RETURN.now (equals returns 0 0 ∷ []) [] (columns_of returns) (names_of returns)
+pub select_return : SelectsRows desk_schema 7 returns SELECT_RETURN.now (equals returns (codes "request") 0 ∷ []) [] (columns_of returns) (names_of returns)
 unfolding understood everything
 select_return = record { place = refl; means = refl; unlisted = refl; plain = (refl, refl); overlooks = λ _. tt; passes_over = λ _. tt }
 
-pub select_listed : SelectsRows desk_schema 8 listed SELECT_LISTED.now (equals listed 0 0 ∷ equals listed 1 1 ∷ []) [] (columns_of listed) (names_of listed)
+pub select_listed : SelectsRows desk_schema 8 listed SELECT_LISTED.now (equals listed (codes "kind") 0 ∷ equals listed (codes "digest") 1 ∷ []) [] (columns_of listed) (names_of listed)
 unfolding understood everything
 select_listed = record { place = refl; means = refl; unlisted = refl; plain = (refl, refl); overlooks = λ _ _ _. refl; passes_over = λ _ _ _. refl }
 
-pub select_listed_of : SelectsRows desk_schema 8 listed SELECT_LISTED_OF.now (equals listed 0 0 ∷ []) (by_first 2 listed) (columns_after 2 listed) (names_of listed)
+pub select_listed_of : SelectsRows desk_schema 8 listed SELECT_LISTED_OF.now (equals listed (codes "kind") 0 ∷ []) (by_first 2 listed) (columns_after 2 listed) (names_of listed)
 unfolding understood everything
 select_listed_of = record { place = refl; means = refl; unlisted = refl; plain = (refl, refl); overlooks = λ _ _ _. refl; passes_over = λ _ _ _. refl }
 
-pub select_revoked_digest : SelectsRows desk_schema 9 revoked_digests SELECT_REVOKED_DIGEST.now (equals revoked_digests 0 0 ∷ []) [] (columns_of revoked_digests) (names_of revoked_digests)
+pub select_revoked_digest : SelectsRows desk_schema 9 revoked_digests SELECT_REVOKED_DIGEST.now (equals revoked_digests (codes "digest") 0 ∷ []) [] (columns_of revoked_digests) (names_of revoked_digests)
 unfolding understood everything
 select_revoked_digest = record { place = refl; means = refl; unlisted = refl; plain = (refl, refl); overlooks = λ _ _ _. refl; passes_over = λ _ _ _. refl }
 
@@ -80,7 +77,7 @@ pub select_revoked_digests : SelectsRows desk_schema 9 revoked_digests SELECT_RE
 unfolding understood everything
 select_revoked_digests = record { place = refl; means = refl; unlisted = refl; plain = (refl, refl); overlooks = λ _ _ _. refl; passes_over = λ _ _ _. refl }
 
-pub select_revoked_certificate : SelectsRows desk_schema 10 revoked_certificates SELECT_REVOKED_CERTIFICATE.now (equals revoked_certificates 0 0 ∷ []) [] (columns_of revoked_certificates) (names_of revoked_certificates)
+pub select_revoked_certificate : SelectsRows desk_schema 10 revoked_certificates SELECT_REVOKED_CERTIFICATE.now (equals revoked_certificates (codes "digest") 0 ∷ []) [] (columns_of revoked_certificates) (names_of revoked_certificates)
 unfolding understood everything
 select_revoked_certificate = record { place = refl; means = refl; unlisted = refl; plain = (refl, refl); overlooks = λ _ _ _. refl; passes_over = λ _ _ _. refl }
 
@@ -88,7 +85,7 @@ pub select_revoked_certificates : SelectsRows desk_schema 10 revoked_certificate
 unfolding understood everything
 select_revoked_certificates = record { place = refl; means = refl; unlisted = refl; plain = (refl, refl); overlooks = λ _ _ _. refl; passes_over = λ _ _ _. refl }
 
-pub select_component : SelectsRows desk_schema 11 components SELECT_COMPONENT.now (equals components 0 0 ∷ []) [] (columns_of components) (names_of components)
+pub select_component : SelectsRows desk_schema 11 components SELECT_COMPONENT.now (equals components (codes "name") 0 ∷ []) [] (columns_of components) (names_of components)
 unfolding understood everything
 select_component = record { place = refl; means = refl; unlisted = refl; plain = (refl, refl); overlooks = λ _ _ _. refl; passes_over = λ _ _ _. refl }
 
@@ -96,7 +93,7 @@ pub select_components : SelectsRows desk_schema 11 components SELECT_COMPONENTS.
 unfolding understood everything
 select_components = record { place = refl; means = refl; unlisted = refl; plain = (refl, refl); overlooks = λ _ _ _. refl; passes_over = λ _ _ _. refl }
 
-pub select_proposal : SelectsRows desk_schema 12 proposals SELECT_PROPOSAL.now (equals proposals 0 0 ∷ []) [] (columns_of proposals) (names_of proposals)
+pub select_proposal : SelectsRows desk_schema 12 proposals SELECT_PROPOSAL.now (equals proposals (codes "no") 0 ∷ []) [] (columns_of proposals) (names_of proposals)
 unfolding understood everything
 select_proposal = record { place = refl; means = refl; unlisted = refl; plain = (refl, refl); overlooks = λ _. tt; passes_over = λ _. tt }
 
@@ -104,6 +101,6 @@ pub select_proposals : SelectsRows desk_schema 12 proposals SELECT_PROPOSALS.now
 unfolding understood everything
 select_proposals = record { place = refl; means = refl; unlisted = refl; plain = (refl, refl); overlooks = λ _. tt; passes_over = λ _. tt }
 
-pub select_proposal_items : SelectsRows desk_schema 13 proposal_items SELECT_PROPOSAL_ITEMS.now (equals proposal_items 0 0 ∷ []) (by_first 2 proposal_items) (columns_after 2 proposal_items) (names_of proposal_items)
+pub select_proposal_items : SelectsRows desk_schema 13 proposal_items SELECT_PROPOSAL_ITEMS.now (equals proposal_items (codes "proposal") 0 ∷ []) (by_first 2 proposal_items) (columns_after 2 proposal_items) (names_of proposal_items)
 unfolding understood everything
 select_proposal_items = record { place = refl; means = refl; unlisted = refl; plain = (refl, refl); overlooks = λ _ _ _. refl; passes_over = λ _ _ _. refl }

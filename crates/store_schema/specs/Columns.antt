@@ -30,7 +30,7 @@ columns_of table = columns_from table.key 0 table.columns
 abbrev pub names_of : Table → List (List ℕ)
 names_of table = map (λ (c : Column). c.name) table.columns
 
--- WHERE column = ?parameter
+-- WHERE column = ?parameter, by the column's place (by its name: Named.antt)
 abbrev pub equals : Table → ℕ → ℕ → Term
 equals table at parameter = op2 (Compare Eq Binary) (column_at table.key at) (col 0 parameter)
 
@@ -69,6 +69,6 @@ with_row_id None values = col 1 0 ∷ values
 with_row_id (Some _) [] = []
 with_row_id (Some _) (key ∷ values) = key ∷ lit Null ∷ values
 
--- SET column = ?parameter: the row id and every column of the row that an UPDATE writes
+-- SET column = ?parameter, by the column's place: the row id and every column of the row that an UPDATE writes
 abbrev pub set_to : Table → ℕ → ℕ → List Term
 set_to table at parameter = with_row_id table.key (set_from table.key at parameter 0 table.columns)

@@ -1,3 +1,4 @@
 pub mod Tables
 pub mod Columns
+pub mod Named
 pub mod rows

@@ -1,6 +1,6 @@
-use Rattle.std.proofs.Common.{refl, [], ◌∷◌, ◌==◌}
+use Rattle.std.proofs.Common.{refl, [], ◌∷◌, codes, ◌==◌}
 use Rattle.sqlite.specs.Held.{state}
-use Rattle.store_schema.specs.Columns.{equals, set_to}
+use Rattle.store_schema.specs.Named.{equals, set_to}
 use Rattle.store_schema.specs.Tables.{proposals}
 use Rattle.store_schema.specs.declared.changing.TheConstants.{UPDATE_PROPOSAL_STATE}
 use Rattle.store_schema.proofs.ChangeFacts.{update_proposal_state}
@@ -16,7 +16,7 @@ use Rattle.store_writes.proofs.setting.set_proposal_state.Goals as goal
 pub returns-clause-value : goal.returns-clause-value
 returns-clause-value g c clean inside =
     let o = c.args.outcome.now in
-    sets 12 proposals UPDATE_PROPOSAL_STATE.now (equals proposals 0 0 ∷ []) (proposal_state_params o) proposal_values (λ (t : Tables). t.proposals) (λ t. refl)
+    sets 12 proposals UPDATE_PROPOSAL_STATE.now (equals proposals (codes "no") 0 ∷ []) (proposal_state_params o) proposal_values (λ (t : Tables). t.proposals) (λ t. refl)
     (λ x. o.proposal == x.number) (has_proposal_number o) (written (writes.ProposalState o)) (state g.S.Store c.args.tx.now.conn.now) (state g.S.Store c.update.new.tx.conn.now)
-    (set_to proposals 5 1) (λ x. record x { state = o.state }) update_proposal_state (gets_proposal_state o) (state_set o)
+    (set_to proposals (codes "state") 1) (λ x. record x { state = o.state }) update_proposal_state (gets_proposal_state o) (state_set o)
     (rw (c.params-to_sql.ensures, c.params-to_sql-2.ensures, c.in_ok-number.ensures.value, c.value.ensures.value, c.text.ensures) at (c.in_ok-update.ensures.value clean inside))
