@@ -1,17 +1,18 @@
 #!/bin/sh
-# bench/desk.sh [SIZE ..]: what a desk in a file costs, in one run, against sqlite3's shell on the same files. With the word
-# `instructions` before the sizes: how many instructions a view takes, by valgrind's callgrind, which neither other work nor the
-# processor's cache changes. With the word `views`: the views alone, in thirty rounds in place of six. Not part of the gate.
-# For desks of 1,000, 10,000 and 100,000 accepted calls, or those given:
+# bench/desk.sh [SIZE ..]: the cost of a desk in a file, in one run, against sqlite3's shell on the
+# same files. With the word `instructions` before the sizes: the instructions of a view, by
+# valgrind's callgrind, which neither other work nor the processor's cache changes. With the word
+# `views`: only the views, in thirty rounds instead of six. Not part of the gate. For desks of
+# 1,000, 10,000 and 100,000 accepted calls, or those given:
 #   views    each command's view and a verdict's: microseconds a call, and the ratio to the first size
 #   apply    a RevokeDigest of one officer and the Confirm of another, each committed; and 1,000 of both on a new desk beside the
 #            shell, which commits the same rows one call at a time under WAL and synchronous=FULL
 #   open     beside the shell's PRAGMA integrity_check of the same file
 #   memory   the most that the process had
-# and at the end the shell holds each file sound, with the rows that were applied.
-# The program is built in a room of its own ($DESK_BENCH_ROOM, kept between runs) out of copies of the crates, with what was
-# built of them; the program alone took 21 processor minutes. The desks stand in $DESK_BENCH_DISK, a folder on the disk that
-# is to be measured (TMPDIR or /tmp). A folder $DESK_BENCH_KEPT keeps the filled desks for the next run.
+# The program is built in a room of its own ($DESK_BENCH_ROOM, kept between runs) from copies of the
+# crates and their build outputs; the program alone took 21 processor minutes. The desks are in
+# $DESK_BENCH_DISK, a folder on the disk to be measured (TMPDIR or /tmp). A folder $DESK_BENCH_KEPT
+# keeps the filled desks for the next run.
 set -eu
 root=$(CDPATH='' cd -- "$(dirname -- "$(readlink -f -- "$0")")/.." && pwd -P)
 room=${DESK_BENCH_ROOM:-${TMPDIR:-/tmp}/desk_bench}
@@ -19,7 +20,7 @@ disk=${DESK_BENCH_DISK:-${TMPDIR:-/tmp}}
 command -v sqlite3 > /dev/null || { echo 'bench/desk.sh: sqlite3 is needed' >&2; exit 1; }
 mkdir -p "$room/crates/desk_bench/src"
 : > "$room/crates.txt"
-# The crates that these two stand on, at whatever depth.
+# The crates that these two depend on, at any depth.
 below() {
     awk '
         function take(name,    count, words, i) {
@@ -46,7 +47,8 @@ echo 'desk_bench: cli_files desk_store desk_rules desk_texts sbat desk_bytes sql
 (cd "$room/crates/desk_bench" && rt run > "$room/build.log" 2>&1) || true
 program="$room/crates/desk_bench/out/desk_bench"
 test -x "$program" || { tail -20 "$room/build.log" >&2; exit 1; }
-# As ./desk runs the program, but where the variable is set: with `glibc.malloc.hugetlb=0` it is without large pages.
+# As ./desk runs the program, unless the variable is set: with `glibc.malloc.hugetlb=0` it is
+# without large pages.
 GLIBC_TUNABLES=${GLIBC_TUNABLES:-glibc.malloc.hugetlb=1}
 export GLIBC_TUNABLES
 measure=measure

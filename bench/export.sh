@@ -1,11 +1,13 @@
 #!/bin/sh
-# bench/export.sh [PROGRAM] [DIGESTS] [ROUNDS]: what an export of dbx costs, of 100,000 digests or as many as are given, in one run
-# beside sqlite3's shell on the same file, `SELECT .. ORDER BY digest` into `xxd -r -p`, which writes the same entries:
+# bench/export.sh [PROGRAM] [DIGESTS] [ROUNDS]: the cost of an export of dbx, of 100,000 digests or
+# the given number, in one run with sqlite3's shell on the same file, `SELECT .. ORDER BY digest`
+# into `xxd -r -p`, which writes the same entries:
 #   time     median seconds of processor and clock over the rounds, in turn; whole, and less what opening takes (`desk level`, and a
 #            SELECT of the desk's row)
 #   memory   the most that malloc had given while dbx was written, beyond what it had given when the level's first byte was
-# Fails where the two write other bytes, or where that is over 1 MiB. sqlite3 puts the digests into the desk's file.
-# Not part of the gate: it needs sqlite3, xxd, python3 and a C compiler, for a malloc that counts.
+# Fails if the two write different bytes, or if that is over 1 MiB. sqlite3 inserts the digests into
+# the desk's file. Not part of the gate: it needs sqlite3, xxd, python3 and a C compiler, for a
+# malloc that counts.
 set -eu
 root=$(CDPATH='' cd -- "$(dirname -- "$(readlink -f -- "$0")")/.." && pwd -P)
 if [ $# -gt 0 ]; then

@@ -1,10 +1,11 @@
 #!/bin/sh
-# bench/facts.sh [PROGRAM]: measures `desk facts` on a PE32+ image of 120 MiB with three sections, against openssl, sha256sum
-# and (where installed) pesign on the same file: the least processor time of 7 rounds each, the ratio of `facts` to it, its
-# own ratio to two runs of openssl, which is the least that two hashes cost here, and its peak memory. `facts` reads the file
-# once and makes two hashes of it, one of the whole and one as Authenticode does. Where PROGRAM is given, another build of
-# `desk`, its `facts` is measured in the same rounds. Fails where `facts` takes more memory than the file and 8 MiB. Not part
-# of the gate.
+# bench/facts.sh [PROGRAM]: measures `desk facts` on a PE32+ image of 120 MiB with three sections,
+# against openssl, sha256sum and (if installed) pesign on the same file: the least processor time of
+# 7 rounds each, the ratio of `facts` to it, its own ratio to two runs of openssl, which is the
+# least that two hashes cost here, and its peak memory. `facts` reads the file once and makes two
+# hashes of it, one of the whole and one as Authenticode does. If PROGRAM is given, another build of
+# `desk`, its `facts` is measured in the same rounds. Fails if `facts` takes more memory than the
+# file and 8 MiB. Not part of the gate.
 set -eu
 other=${1:-}
 root=$(CDPATH='' cd -- "$(dirname -- "$(readlink -f -- "$0")")/.." && pwd -P)
@@ -41,7 +42,8 @@ for number, size in enumerate(sizes):
 with open(sys.argv[1], "wb") as file:
     file.write(image)
 PYTHON
-# A process of its own: the memory that is told of a child holds that of the process that began it.
+# A process of its own: the memory that is reported for a child includes that of the process that
+# began it.
 python3 - "$program" "$room/image.efi" "$other" << 'PYTHON'
 import os
 import shutil

@@ -1,10 +1,13 @@
 #!/bin/sh
-# bench/growth.sh [REQUESTS]: what requests make grow, in one run, on a desk that is filled over HTTP with 10,000 requests of a plain image, or as
-# many as are given, and on one with as many requests of 256 components as give a file of about 22 MB. For each desk: the file's bytes a
-# request; the time and the memory that an opening takes (`desk level`), beside sqlite3's `PRAGMA integrity_check` of the same file; and of
-# GET /requests its length, its time, and the most memory that the server took beyond that of an idle one, as a ratio to the length. The last
-# does the same of GET /proposals, of a tenth as many proposals. Times are of the clock, medians of five. The program is ./desk's, or the one that
-# $DESK_BENCH_PROGRAM names. Not part of the gate: it needs python3 and sqlite3, and takes two minutes.
+# bench/growth.sh [REQUESTS]: what requests make grow, in one run, on a desk that is filled over
+# HTTP with 10,000 requests of a plain image, or the given number, and on one with as many requests
+# of 256 components as give a file of about 22 MB. For each desk: the file's bytes for each request;
+# the time and the memory of an opening (`desk level`), and the time of sqlite3's `PRAGMA
+# integrity_check` on the same file; and for GET /requests its length, its time, and the most memory
+# that the server took above an idle one, as a ratio to the length. The last part does the same for
+# GET /proposals, with a tenth as many proposals. Times are of the clock, medians of five. The
+# program is ./desk's, or the one that $DESK_BENCH_PROGRAM names. Not part of the gate: it needs
+# python3 and sqlite3, and takes two minutes.
 set -eu
 root=$(CDPATH='' cd -- "$(dirname -- "$(readlink -f -- "$0")")/.." && pwd -P)
 if [ -n "${DESK_BENCH_PROGRAM:-}" ]; then

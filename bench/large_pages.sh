@@ -1,8 +1,10 @@
 #!/bin/sh
-# bench/large_pages.sh [PROGRAM] [DIGESTS] [ROUNDS]: what a subcommand takes with its memory in large pages, as ./desk runs the program,
-# and without: `desk level` on a new desk and on one of 100,000 revoked digests, or as many as are given, each with and without in turn,
-# 100 rounds. For each the least and the median of processor time, of the clock and of the most memory (getrusage).
-# A kernel that gives large pages always, or never, shows no difference. Not part of the gate: it needs sqlite3 and python3.
+# bench/large_pages.sh [PROGRAM] [DIGESTS] [ROUNDS]: the cost of a subcommand with its memory in
+# large pages, as ./desk runs the program, and without: `desk level` on a new desk and on one of
+# 100,000 revoked digests, or the given number, with and without in turn, 100 rounds. For each the
+# least and the median of processor time, of the clock and of the most memory (getrusage). A kernel
+# that always or never gives large pages shows no difference. Not part of the gate: it needs sqlite3
+# and python3.
 set -eu
 root=$(CDPATH='' cd -- "$(dirname -- "$(readlink -f -- "$0")")/.." && pwd -P)
 if [ $# -gt 0 ]; then

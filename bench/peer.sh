@@ -1,11 +1,13 @@
 #!/bin/sh
-# bench/peer.sh [SIZE ..]: what the keyed SELECTs of a desk's views cost SQLite's own library, on tables of as many calls, for the
-# ratios in bench/desk.sh. For files of 1,000, 10,000 and 100,000 calls, or those given, a RevokeDigest and its Confirm in turn: the view of
-# a new key and one digest, of a new key and ten digests, and of a key given before and its digest, keys and digests out of all
-# calls; microseconds of processor time a view and the ratio to the first size. Nine rounds take the sizes in turn; of each the
-# median of 54 batches of 100 counts, and of the rounds the least. Statements are prepared once, each view is one transaction that is
-# rolled back, and all pages are in memory. Not part of the gate: it needs a C compiler and SQLite's library with its header (Debian:
-# libsqlite3-dev).
+# bench/peer.sh [SIZE ..]: the cost of the keyed SELECTs of a desk's views in SQLite's own library,
+# on tables of as many calls, for the ratios in bench/desk.sh. For files of 1,000, 10,000 and
+# 100,000 calls, or those given, a RevokeDigest and its Confirm in turn: the view of a new key and
+# one digest, of a new key and ten digests, and of a key given before and its digest, with keys and
+# digests from all calls; microseconds of processor time for each view and the ratio to the first
+# size. Nine rounds take the sizes in turn; each round is the median of 54 batches of 100, and the
+# least round counts. Statements are prepared once, each view is one transaction that is rolled
+# back, and all pages are in memory. Not part of the gate: it needs a C compiler and SQLite's
+# library with its header (Debian: libsqlite3-dev).
 set -eu
 root=$(CDPATH='' cd -- "$(dirname -- "$(readlink -f -- "$0")")/.." && pwd -P)
 [ $# -gt 0 ] || set -- 1000 10000 100000

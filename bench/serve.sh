@@ -1,18 +1,20 @@
 #!/bin/sh
-# bench/serve.sh [PROGRAM] [REQUESTS] [ROUNDS]: what requests over HTTP cost, 2,000 of a kind or as many as are given, an even number, in one run.
-# One client on loopback makes one after another, a connection each. A line tells what, the desk's figure, its peer's and the
-# ratio of the two, by medians over the rounds (9), in which the processes take turns:
+# bench/serve.sh [PROGRAM] [REQUESTS] [ROUNDS]: the cost of requests over HTTP, 2,000 of a kind or
+# the given (even) number, in one run. One client on loopback makes one after another, with a
+# connection each. A line has the subject, the desk's figure, its peer's and the ratio of the two,
+# by medians over the rounds (9), in which the processes take turns:
 #   GET /level          beside python3's own http.server, which answers the same client with the same bytes
 #   POST a revocation   of one officer to /dbx/digests, a new digest each, and of another officer its Confirm, in turn, a key and a
 #                       commit each, beside sqlite3's shell, which puts the same rows as text into a file of the same tables, one
 #                       transaction a call, with WAL and synchronous=FULL
 #   memory              the most that a server had (VmHWM) after 1,000 GET /level, beside http.server's; and what an image of
 #                       128 MiB by POST /verdict then adds, beside the image's length
-# Times are those of whole processes, and then the same less an idle one of the same round: a server whose one connection has
-# no request, a shell that counts one table. The processor's time is without the client's; the clock has the client's too.
-# Fails where a response isn't the one that it has to be, or where the desk and the shell hold other rows. The desks stand in
-# TMPDIR or /tmp, whose disk is measured. It takes ports from 20000 on, and ends after half an hour at most.
-# Not part of the gate: it needs python3, sqlite3 and xxd.
+# Times are those of whole processes, and then the same less an idle one of the same round: a server
+# whose one connection has no request, a shell that counts one table. Processor time doesn't include
+# the client's; the clock does. Fails if a response isn't the expected one, or if the desk and the
+# shell hold different rows. The desks are in TMPDIR or /tmp, whose disk is measured. It takes ports
+# from 20000 on, and ends after half an hour at most. Not part of the gate: it needs python3,
+# sqlite3 and xxd.
 set -eu
 root=$(CDPATH='' cd -- "$(dirname -- "$(readlink -f -- "$0")")/.." && pwd -P)
 if [ $# -gt 0 ]; then
@@ -25,7 +27,7 @@ for tool in python3 sqlite3 xxd; do
     command -v "$tool" > /dev/null || { echo "bench/serve.sh: $tool is needed" >&2; exit 1; }
 done
 room=$(mktemp -d)
-# The process that is being timed is ended with this script.
+# The process that is being timed ends with this script.
 leave() {
     if [ -s "$room/live" ]; then kill "$(cat "$room/live")" 2> /dev/null || :; fi
     rm -rf "$room"
@@ -201,7 +203,7 @@ DIGESTS = [hashlib.sha256(b"%d" % n).hexdigest() for n in range(COUNT // 2)]
 REVOCATIONS = [each for number, digest in enumerate(DIGESTS, 1) for each in revocation(number, digest)]
 VERDICT = ok("application/json", b'{"verdict":"not-listed"}')
 
-# ---- what is timed
+# ---- the processes that are timed
 
 
 def fresh(name):
@@ -278,7 +280,7 @@ def same_rows():
     return ours == theirs and ours.startswith(b"ok\n") and ours.count(b"'confirmed ") == len(DIGESTS)
 
 
-# ---- what is told
+# ---- the results
 
 
 def tell(what, ours, theirs, places=3):

@@ -1,7 +1,8 @@
 #!/bin/sh
-# Times each statement of the desk on files of 1,000, 10,000 and 100,000 rows a table, in one run, and the same statements
-# by sqlite3's shell on a copy of the file. Prints microseconds a statement, and the ratio to 1,000 rows.
-# The program is built in a room of its own ($STORE_BENCH_ROOM, kept between runs), so the gate doesn't build it.
+# Times each statement of the desk on files with 1,000, 10,000 and 100,000 rows in each table, in
+# one run, and the same statements in sqlite3's shell on a copy of the file. Prints microseconds for
+# each statement, and the ratio to 1,000 rows. The program is built in a room of its own
+# ($STORE_BENCH_ROOM, kept between runs), so the gate doesn't build it.
 set -eu
 root=$(CDPATH='' cd -- "$(dirname -- "$(readlink -f -- "$0")")/.." && pwd -P)
 room=${STORE_BENCH_ROOM:-${TMPDIR:-/tmp}/desk_store_bench}

@@ -1,11 +1,14 @@
 #!/usr/bin/env bash
-# Runs each check of the built program, or of the one that is named, that takes under five minutes: all.sh [PROGRAM [CHECK..]]. CHECK: the
-# names of those that are to run, in place of all. As many run side by side as there are processors. Each gives one line when it ends: whether
-# it passed, its name, its seconds and what it says of itself; what a check that failed wrote goes to standard error. The last line is
-# `N passed, M failed`, and the status is 1 where one failed. Ten minutes after the start none is begun and those that run are ended, as failed.
+# Runs each check of the built program, or of the named one, that takes under five minutes: all.sh
+# [PROGRAM [CHECK..]]. CHECK: the names of the checks to run, instead of all. As many run at a time
+# as there are processors. Each prints one line when it ends: whether it passed, its name, its
+# seconds and its own summary; the output of a failed check goes to standard error. The last line is
+# `N passed, M failed`, and the status is 1 if one failed. After ten minutes none is started and
+# those still running are ended, as failed.
 #
-# They need bash, cc, curl, gzip, openssl, python3, sqlite3 and xxd. efitools, where it is installed, reads what the desk exports. tables.sh is
-# run by its name: it builds a program of the libraries that ./prove left.
+# They need bash, cc, curl, gzip, openssl, python3, sqlite3 and xxd. efitools, if it is installed,
+# reads what the desk exports. tables.sh runs only by name: it builds a program from the libraries
+# that ./prove left.
 set -u
 root=$(CDPATH='' cd -- "$(dirname -- "$(readlink -f -- "$0")")/.." && pwd -P) || exit 1
 if [ $# -gt 0 ]; then
@@ -24,7 +27,7 @@ room=$(mktemp -d) || exit 1
 trap 'rm -rf "$room"' EXIT
 trap 'kill $(jobs -p) 2> /dev/null; wait; exit 1' HUP INT TERM
 
-# run CHECK: runs it, and gives its line.
+# run CHECK: runs it, and prints its line.
 run() {
     local begun=$SECONDS words=("$program") left=$((until - SECONDS)) how=failed
     case $1 in prove.sh | proved.sh | tables.sh) words=() ;; esac

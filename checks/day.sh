@@ -1,9 +1,11 @@
 #!/bin/sh
-# A day of a desk at the command line, with the built program or the one that is named: day.sh [PROGRAM]. A desk is made, seven
-# people are added, an image is judged, and all is exported; each output, error line and status is compared with what has to be
-# there. Then each fault of each subcommand in its order, two terminals at one file, and a writer that is full. Then two officers
-# list, propose, confirm and drop by `answer`, one request each, and after each change what is exported and judged is compared.
-# At the end sqlite3 reads the file; without sqlite3 that part is left out. Not part of `rt ci`: it needs xxd.
+# A day of a desk on the command line, with the built program or the named one: day.sh [PROGRAM]. A
+# desk is made, seven people are added, an image is judged, and everything is exported; each output,
+# error line and status is compared with the expected one. Then each fault of each subcommand in
+# order, two terminals at one file, and a writer that is full. Then two officers list, propose,
+# confirm and drop by `answer`, one request each, and after each change the exports and verdicts are
+# compared. At the end sqlite3 reads the file, if it is installed. Not part of `rt ci`: it needs
+# xxd.
 set -eu
 root=$(CDPATH='' cd -- "$(dirname -- "$(readlink -f -- "$0")")/.." && pwd -P)
 if [ $# -gt 0 ]; then
@@ -36,7 +38,7 @@ run() {
     runs=$((runs + 1))
 }
 
-# exported FILE EXPORT DB: the export of the desk has to be this file.
+# exported FILE EXPORT DB: the export of the desk must be this file.
 exported() {
     case " $exports " in *" $2 "*) run 0 "$1" '' nothing "$2" "$3" ;; esac
 }
@@ -44,10 +46,10 @@ exported() {
 # says TEXT FILE: the file has this text.
 says() { printf '%s\n' "$1" > "$2"; }
 
-# token NAME: what the desk keeps of this person's token.
+# token NAME: the SHA-256 that the desk keeps of this person's token.
 token() { tr -d '\n' < "$1" | sha256sum | cut -d' ' -f1; }
 
-# kept CALLER KEY TEXT REPLY: the minutes have this call more.
+# kept CALLER KEY TEXT REPLY: the minutes have one more call, this one.
 kept() {
     number=$((number + 1))
     printf '%s\t' "$number" "$1" "$2" "$3" > line
@@ -76,7 +78,7 @@ exported level level desk.db
 exported minutes minutes desk.db
 run 1 not_listed '' nothing verdict desk.db "$signed"
 
-# A key again: the same call is answered again, another is refused; CR and LF end a token too.
+# A repeated key: the same call is answered again, another is refused; CR and LF end a token too.
 says 'added ann' added
 printf 'ann-token-000001\r\nmore\n' > ended
 run 0 added '' ann person desk.db ann submitter k1
@@ -91,12 +93,12 @@ exported minutes minutes desk.db
 # The file alone, without its log, is the desk: each run closed it.
 cp desk.db alone.db
 exported minutes minutes alone.db
-# As a desk of seven people was, for a later look.
+# The desk of seven people, kept for later comparison.
 cp alone.db first.db
 cp minutes first.minutes
 cp level first.level
 
-# ---- faults, in the order words, token, the desk's file, what it holds, the other file, the command
+# ---- faults, in the order words, token, the desk's file, its contents, the other file, the command
 
 echo 'no database' > text
 says 'olga token 000001' bad
@@ -144,7 +146,8 @@ run 3 nothing 'device 14 Read' nothing verdict desk.db folder
 run 1 nothing 'refused 1 Short' nothing verdict desk.db text
 exported minutes minutes desk.db
 
-# A writer that is full: /dev/full takes no byte. A person that was added stays so, and is answered again.
+# A writer that is full: /dev/full accepts no byte. A person who was added stays, and the call is
+# answered again.
 full() {
     got=0
     "$program" "$@" > /dev/full 2> err || got=$?
@@ -161,7 +164,8 @@ full verdict desk.db "$signed"
 full person empty.db ann submitter k1 < ann
 run 0 added '' ann person empty.db ann submitter k1
 
-# ---- two terminals: one waits for its image and has the desk open, the other is told so
+# ---- two terminals: one waits for its image and has the desk open, the other gets the fault of
+# that
 
 mkfifo image
 "$program" verdict desk.db image > judged 2> err_judged &
@@ -188,15 +192,16 @@ run 0 added '' uwe person desk.db uwe signer k8
 kept console k8 "add-person uwe signer $(token uwe)" 'added uwe'
 exported minutes minutes desk.db
 
-# ---- officers: what is listed at once, what is revoked by two of them
+# ---- officers: lists change at once, revocations take two officers
 
-# asked STATUS JSON: the file `request` is answered so.
+# asked STATUS JSON: the response to the file `request` has this status and JSON.
 asked() {
     printf 'HTTP/1.1 %s\r\nContent-Type: application/json\r\nContent-Length: %s\r\nConnection: close\r\n\r\n%s' \
         "$1" "${#2}" "$2" > response
     run 0 response '' request answer desk.db
 }
-# posts STATUS JSON NAME KEY PATH BODY [FIELD..]: this person's request, with the file BODY, is answered so.
+# posts STATUS JSON NAME KEY PATH BODY [FIELD..]: the response to this person's request, with the
+# file BODY.
 posts() {
     answer=$1 json=$2 name=$3 key=$4 path=$5 body=$6
     shift 6
@@ -231,7 +236,8 @@ proposes() {
     posts '200 OK' "{\"proposal\":$proposal,\"reply\":\"proposed\"}" "$proposer" "$under" "$@"
     kept "$proposer" "$under" "$text" "proposed $proposal"
 }
-# confirms PROPOSAL NAME KEY DIGESTS CERTIFICATES COMPONENTS: this person confirms it, with so many of each that are new.
+# confirms PROPOSAL NAME KEY DIGESTS CERTIFICATES COMPONENTS: this person confirms it, with these
+# counts of new entries.
 confirms() {
     counts="{\"certificates\":$5,\"components\":$6,\"digests\":$4,\"passed\":0,\"proposal\":$1,\"reply\":\"confirmed\"}"
     posts '200 OK' "$counts" "$2" "$3" "/proposals/$1/confirm" nothing
@@ -262,7 +268,7 @@ says allowed allowed
 run 0 allowed '' nothing verdict desk.db "$signed"
 run 1 not_listed '' nothing verdict desk.db "$root/examples/tiny.efi"
 
-# What is proposed changes nothing, until another officer confirms it.
+# A proposal changes nothing until another officer confirms it.
 printf 'kind,value,generation\nsbat,shim,2\nsbat,grub,4\n' > csv
 proposes 1 olga k2 'import 2024010100 0 - - 2:shim,4:grub' /imports/csv csv 'Desk-Stamp: 2024010100'
 exported level level desk.db
@@ -280,7 +286,7 @@ exported level level desk.db
 says 'refused sbat grub 3 4' refused
 run 1 refused '' nothing verdict desk.db "$signed"
 
-# What is dropped is closed.
+# A dropped proposal is closed.
 says '{"component":"grub","generation":4,"stamp":2024010101}' raise
 refused '409 Conflict' 31 NotHigher olga k0 /level raise
 says '{"component":"grub","generation":5,"stamp":2024010101}' raise
@@ -308,7 +314,8 @@ exported dbx dbx desk.db
 says 'refused dbx-certificate' refused
 run 1 refused '' nothing verdict desk.db "$signed"
 
-# Each officer proposes, and the other one confirms; two proposals of one digest may be open, and one of them is confirmed.
+# Each officer proposes, and the other confirms; two proposals of one digest may be open, and one of
+# them is confirmed.
 proposes 4 olga k9 "revoke-digest $digest" /dbx/digests named_digest
 proposes 5 otto k3 "revoke-digest $(of cc)" /dbx/digests named_cc
 proposes 6 otto k4 "revoke-digest $digest" /dbx/digests named_digest
@@ -349,7 +356,7 @@ if ! command -v sqlite3 > /dev/null; then
     exit 0
 fi
 [ "$(sqlite3 desk.db 'PRAGMA integrity_check')" = ok ] || { echo 'sqlite3 finds a fault' >&2; exit 1; }
-# finds FILE TEXT: sqlite3 answers the text by the file.
+# finds FILE TEXT: sqlite3's answer to the text is the file.
 finds() {
     sqlite3 desk.db "$2" > found
     cmp -s found "$1" || { echo "sqlite3, of $2:" >&2; cat found >&2; exit 1; }
@@ -377,7 +384,7 @@ finds rows 'SELECT version, migrated.id, calls FROM desk, migrated'
 sqlite3 other.db 'CREATE TABLE note (id INTEGER PRIMARY KEY)'
 run 1 nothing 'refused 43 NotADesk' nothing verdict other.db missing.efi
 run 1 nothing 'refused 46 Exists' nothing init other.db "$owner"
-# A row of version 1 beside a table that version 2 adds is no desk's; a version that isn't known is Version.
+# A row of version 1 with a table that version 2 adds isn't a desk's; an unknown version is Version.
 for refused in '1 43 NotADesk' '3 44 Version'; do
     sqlite3 desk.db "UPDATE desk SET version = ${refused%% *}"
     for export in $exports; do
@@ -386,8 +393,9 @@ for refused in '1 43 NotADesk' '3 44 Version'; do
     run 1 nothing "refused ${refused#* }" nothing verdict desk.db missing.efi
 done
 
-# A file of version 1 becomes one of version 2 at its first opening, whatever opens it: the calls stay, and the next opening writes
-# nothing. Where a name that version 2 adds is taken, whatever its case, the file is no desk and stays as it is.
+# A file of version 1 becomes one of version 2 at its first opening, whatever opens it: the calls
+# stay, and the next opening writes nothing. If a name that version 2 adds is taken, in any case,
+# the file isn't a desk and doesn't change.
 sqlite3 first.db 'DROP TABLE proposals; DROP TABLE proposal_items; DROP TABLE migrated; UPDATE desk SET version = 1; VACUUM'
 cp first.db taken.db
 run 1 not_listed '' nothing verdict first.db "$signed"

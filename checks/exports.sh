@@ -1,10 +1,11 @@
 #!/bin/sh
-# What other programs read of a desk's exports: exports.sh [PROGRAM]. A desk lists three digests and two certificates; one officer
-# proposes a CSV file of 300 revoked digests and two revoked certificates, in no order, and another one confirms it; dbx and db are
-# exported. `desk list` has to find their lists. sig-list-to-certs of efitools has to find each entry in order, with its owner and
-# body. dbxtool has to list as many entries. And `desk list` reads what hash-to-efi-sig-list writes for an image of efitools, which
-# has to hold the digest that `desk facts` gives. Each tool is left out where it isn't installed, and named at the end. Not part of
-# `rt ci`: it needs openssl and xxd.
+# A desk's exports, as other programs read them: exports.sh [PROGRAM]. A desk lists three digests
+# and two certificates; one officer proposes a CSV file of 300 revoked digests and two revoked
+# certificates, in no order, and another confirms it; dbx and db are exported. `desk list` must find
+# their lists. sig-list-to-certs of efitools must find each entry in order, with its owner and body.
+# dbxtool must list as many entries. And `desk list` reads what hash-to-efi-sig-list writes for an
+# image of efitools, which must hold the digest that `desk facts` prints. A tool that isn't
+# installed is skipped, and named at the end. Not part of `rt ci`: it needs openssl and xxd.
 set -eu
 root=$(CDPATH='' cd -- "$(dirname -- "$(readlink -f -- "$0")")/.." && pwd -P)
 if [ $# -gt 0 ]; then
@@ -22,14 +23,15 @@ trap 'rm -rf "$room"' EXIT
 cd "$room"
 read_by='desk list'
 
-# same WANTED FOUND WHAT: two files have to be the same.
+# same WANTED FOUND WHAT: the two files must be the same.
 same() {
     cmp -s "$1" "$2" || { echo "exports.sh: $3" >&2; diff "$1" "$2" | head -10 >&2; exit 1; }
 }
 
 # ---- the desk
 
-# posts JSON NAME PATH BODY: the officer posts the file BODY under a new key, and is answered so.
+# posts JSON NAME PATH BODY: the officer posts the file BODY under a new key, and gets this
+# response.
 keys=0
 posts() {
     keys=$((keys + 1))
@@ -47,7 +49,7 @@ for name in olga otto; do
 done
 for number in 1 2; do
     openssl req -x509 -newkey rsa:2048 -nodes -keyout key -subj "/CN=listed $number" -days 3650 -outform DER -out "$number.der" 2> log
-    # What is signed of a certificate (RFC 5280, section 4.1) is its first inner element.
+    # The signed part of a certificate (RFC 5280, section 4.1) is its first inner element.
     openssl asn1parse -inform DER -in "$number.der" -strparse 4 -noout -out tbs
     echo "$(sha256sum < tbs | cut -d' ' -f1) $number.der" >> certificates
     posts '{"reply":"listed"}' olga /db/certificates "$number.der"

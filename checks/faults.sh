@@ -1,11 +1,13 @@
 #!/bin/sh
-# Reads and writes that fail within a request, with the built program or the one that is named: faults.sh [PROGRAM]. A request that is only
-# read, a submission with its image, a Confirm, and a review that is refused, each by `desk answer` and over `desk serve`, whose reads and
-# writes take a few bytes each: the first read fails, in another run the second, and so on up to the first that isn't made; and so each
-# write. After a read that fails there is no response, and the desk's file is as it was. After a write that fails a beginning of the
-# response went out, and an accepted command stays: its key has the whole response, and changes nothing more. A fault of a connection
-# ends that connection alone; an accept that fails ends the server. Not part of `rt ci`: it needs python3, and a C compiler for reads and
-# writes that fail (fail.c).
+# Reads and writes that fail within a request, with the built program or the named one: faults.sh
+# [PROGRAM]. A request that only reads, a submission with its image, a Confirm, and a review that is
+# refused, each by `desk answer` and over `desk serve`, whose reads and writes take a few bytes
+# each: the first read fails, in another run the second, and so on up to the first that isn't made;
+# and likewise each write. After a failed read there is no response, and the desk's file is
+# unchanged. After a failed write a prefix of the response was sent, and an accepted command stays:
+# its key gets the whole response, and changes nothing more. A fault of a connection ends only that
+# connection; a failed accept ends the server. Not part of `rt ci`: it needs python3, and a C
+# compiler for reads and writes that fail (fail.c).
 set -eu
 root=$(CDPATH='' cd -- "$(dirname -- "$(readlink -f -- "$0")")/.." && pwd -P)
 if [ $# -gt 0 ]; then

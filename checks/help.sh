@@ -1,10 +1,13 @@
 #!/bin/sh
-# The help and the version of the built program, or of the one that is named: help.sh [PROGRAM]. Help has the subcommands of
-# crates/cli_grammar/specs/Commands.antt in their order, each with the line that its own help begins with. That one shows an example and
-# the exit statuses 0 to 3; a refusal in it is a row of docs/REFUSALS.md that ends the program with the status beside it. Each example is
-# run on a desk that is made on the spot, then on inputs that are refused, without arguments, and on files that can't be opened: the status is
-# the one that help says, and a line on standard error names a refusal that stands beside it. The version is the newest of CHANGELOG.md, and the
-# kit in it that of README.md and of `rt version`, where rt is on the PATH. It needs python3 and a port from 20000 to 32000.
+# The help and the version of the built program, or of the named one: help.sh [PROGRAM]. Help has
+# the subcommands of crates/cli_grammar/specs/Commands.antt in order, each with the line that begins
+# its own help. That one shows an example and the exit statuses 0 to 3; a refusal in it is a row of
+# docs/REFUSALS.md that ends the program with the status next to it. Each example is run on a desk
+# that is made on the spot, then on inputs that are refused, without arguments, and on files that
+# can't be opened: the status is the one that help says, and a line on standard error names a
+# refusal that help has for it. The version is the newest in CHANGELOG.md, and its kit that of
+# README.md and of `rt version`, if rt is on the PATH. It needs python3 and a port from 20000 to
+# 32000.
 set -eu
 root=$(CDPATH='' cd -- "$(dirname -- "$(readlink -f -- "$0")")/.." && pwd -P)
 if [ $# -gt 0 ]; then
@@ -15,7 +18,7 @@ else
 fi
 room=$(mktemp -d)
 server=
-# The server that this script started is ended with it, by a signal too.
+# The server that this script started is ended with it, even by a signal.
 leave() {
     if [ -n "$server" ]; then
         kill "$server" 2> /dev/null || :
@@ -63,10 +66,10 @@ for folder in good refused broken; do cp token.txt request.txt "$folder"; done
 cp "$signed" good/shimx64.efi
 cp "$root/examples/digests.txt" good
 : > refused/desk.db
-# What can't be opened or read: folders, and files that are missing.
+# Things that can't be opened or read: folders, and missing files.
 mkdir broken/desk.db broken/digests.txt
 
-# says STATUS: what help says of the status.
+# says STATUS: the text of the status in help.
 says() {
     awk -v status="$1" '
         /^Exit status:$/ { below = 1; next }

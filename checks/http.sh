@@ -1,10 +1,12 @@
 #!/bin/sh
-# curl against `desk serve`, with the built program or the one that is named: http.sh [PROGRAM]. A desk of seven people, two of them
-# officers, takes a day of requests over every route, and each status, field and body of a response is compared with what has to be
-# there; the same requests with the same keys a second time are answered the same and leave the same minutes. Then what HTTP itself is
-# refused for, a body that is cut short, `Expect`, an image of 64 MiB, three clients at once, the faults of `serve` and `answer`,
-# a connection that ends without a request, a head that comes a byte a second, a large export with bytes behind its request, and that
-# 127.0.0.1 alone is listened at. Each run of the program, of curl and of the raw client ends after a stated time, so the script ends by
+# curl against `desk serve`, with the built program or the named one: http.sh [PROGRAM]. A desk of
+# seven people, two of them officers, takes a day of requests over every route, and each status,
+# field and body of a response is compared with the expected one; the same requests with the same
+# keys get the same answers a second time and leave the same minutes. Then the refusals of HTTP
+# itself, a truncated body, `Expect`, an image of 64 MiB, three clients at once, the faults of
+# `serve` and `answer`, a connection that ends without a request, a head that comes a byte a second,
+# a large export with bytes after its request, and that the server listens only on 127.0.0.1. Each
+# run of the program, of curl and of the raw client ends after a stated time, so the script ends by
 # itself. It takes ports from 20000 to 32000. Not part of `rt ci`: it needs curl, python3 and xxd.
 set -eu
 root=$(CDPATH='' cd -- "$(dirname -- "$(readlink -f -- "$0")")/.." && pwd -P)
@@ -21,7 +23,7 @@ owner=00112233-4455-6677-8899-aabbccddeeff
 stored=33221100554477668899aabbccddeeff
 room=$(mktemp -d)
 server=
-# The server that this script started is ended with it, by a signal too.
+# The server that this script started is ended with it, even by a signal.
 leave() {
     if [ -n "$server" ]; then
         kill "$server" 2> /dev/null || :
@@ -32,7 +34,7 @@ leave() {
 trap leave EXIT
 trap 'exit 1' HUP INT TERM
 cd "$room"
-# Twenty ports for each script that runs, below those that the system gives to clients.
+# Twenty ports for each running script, below those that the system gives to clients.
 port=$((20000 + $$ % 600 * 20))
 requests=0
 
@@ -45,8 +47,8 @@ desk() { timeout -k 5 300 "$program" "$@"; }
 
 # ---- the server
 
-# serve COUNT [ZEROS]: serves so many connections of the desk in the background, for five minutes at most; zeros may lead
-# the port.
+# serve COUNT [ZEROS]: serves COUNT connections of the desk in the background, for five minutes at
+# most; the port may have leading zeros.
 serve() {
     port=$((port + 1))
     timeout -k 5 300 "$program" serve desk.db "${2-}$port" "$1" > served 2> served.err &
@@ -89,7 +91,7 @@ ask() {
         exit 1
     fi
 }
-# says TEXT: what follows is asked to have this body.
+# says TEXT: the next response must have this body.
 says() { printf '%s' "$1" > said; }
 # json STATUS BODY CURL-WORD..: the same, of JSON.
 json() {
@@ -187,15 +189,16 @@ people() {
 }
 people
 
-# proposes PROPOSAL: what was put is proposal so-and-so.
+# proposes PROPOSAL: the prepared request is this proposal.
 proposes() { with json '200 OK' "{\"proposal\":$1,\"reply\":\"proposed\"}"; }
-# confirms PROPOSAL KEY CERTIFICATES COMPONENTS DIGESTS PASSED: otto confirms it, with so many of each.
+# confirms PROPOSAL KEY CERTIFICATES COMPONENTS DIGESTS PASSED: otto confirms it, with these counts.
 confirms() {
     post otto "$2" "/proposals/$1/confirm" nothing
     with json '200 OK' "{\"certificates\":$3,\"components\":$4,\"digests\":$5,\"passed\":$6,\"proposal\":$1,\"reply\":\"confirmed\"}"
 }
 
-# The commands of the day, on every route that has one. A second time with the same keys they are answered the same.
+# The commands of the day, on every route that has one. A second time with the same keys they get
+# the same answers.
 commands=30
 day() {
     post ann k1 /requests "$plain" 'Desk-Title: A'
@@ -262,7 +265,7 @@ served 0
 desk minutes desk.db > again
 cmp -s minutes again || fail 'the minutes of the same day, twice'
 
-# ---- what is read
+# ---- reads
 
 length=1024 zeros=$plain
 request() {
@@ -356,7 +359,7 @@ served 0
 desk minutes desk.db > minutes
 [ "$(wc -l < minutes)" -eq $((7 + commands + 2)) ] || fail "minutes: $(cat minutes)"
 
-# ---- what HTTP is refused for
+# ---- refusals of HTTP
 
 head -c 5000000 /dev/zero > long
 head -c 20000 /dev/zero | tr '\0' a > wide
@@ -416,7 +419,7 @@ get ann /level
 with refused '400 Bad Request' 50 BadHead -H "X: $(cat wide)"
 served 0
 
-# ---- a body that is cut short, and a connection without a request
+# ---- a truncated body, and a connection without a request
 
 cat > raw.py << 'end'
 import select, socket, sys, time
@@ -461,13 +464,14 @@ with peer, open(name, 'rb') as given, open('body', 'wb') as body:
         if way != 'drips':
             raise
 end
-# raw FILE WAY: sends the file's bytes, and `ends` its side or `waits` for a second; or `drips` them, one a second, until the other side
-# ends, which has to be after half a minute. Keeps in `body` what comes until then.
+# raw FILE WAY: sends the file's bytes, and `ends` its side or `waits` for a second; or `drips`
+# them, one a second, until the other side ends, which must be after half a minute. Keeps in `body`
+# what comes until then.
 raw() {
     timeout -k 5 80 python3 raw.py "$port" "$1" "$2" 2> raw.err || fail "a connection of $1: $(cat raw.err served.err)"
     requests=$((requests + 1))
 }
-# Three inputs, and the response that is due to each.
+# Three inputs, and the response due to each.
 : > nothing_due
 {
     printf 'POST /requests HTTP/1.1\r\nDesk-Token: ann-token-000001\r\nDesk-Key: k30\r\n'
@@ -492,7 +496,8 @@ for input in nothing cut_short whole; do
     raw "$input" ends
     cmp -s body "${input}_due" || fail "a connection of $input: $(cat body)"
 done
-# A peer whose head takes longer than 30 seconds is let go without a response, though it never pauses for long.
+# A peer whose head takes longer than 30 seconds is disconnected without a response, although it
+# never pauses for long.
 raw whole drips
 [ ! -s body ] || fail "a head a byte a second: $(cat body)"
 get ann /level
@@ -529,7 +534,7 @@ served 0
 for name in ann rita olga; do cmp -s "level_$name" level || fail "three clients: $(cat "level_$name")"; done
 requests=$((requests + 3))
 
-# ---- a large export, with bytes behind its request
+# ---- a large export, with bytes after its request
 
 python3 - > many << 'end'
 import sys
@@ -559,7 +564,7 @@ cmp -s body behind_due || fail "an export with bytes behind its request: $(wc -c
 
 # ---- the faults of `serve` and `answer`
 
-# told STATUS LINE INPUT WORD..: the program ends so.
+# told STATUS LINE INPUT WORD..: the program ends with this status and line.
 told() {
     status=$1 line=$2 input=$3
     shift 3
@@ -578,13 +583,13 @@ told 3 'device 45 File' whole answer missing.db
 [ ! -e missing.db ] || fail 'a file that was missing was made'
 : > empty.db
 told 1 'refused 43 NotADesk' whole answer empty.db
-# The port is taken: another desk's server can't have it, and its desk is closed as it was. The first of the two requests is
-# answered once the server has its desk and the port.
+# The port is taken: another desk's server can't open it, and its desk is closed unchanged. The
+# first of the two requests is answered once the server has its desk and the port.
 cp desk.db other.db
 serve 002 000
 get ann /level
 with ask '200 OK' text/plain level
-# It listens at 127.0.0.1 alone: another address of the loopback range finds nobody.
+# It listens only on 127.0.0.1: another address of the loopback range finds nobody.
 got=0
 curl -sS --max-time 10 -o body "http://127.0.0.2:$port/level" 2> curl.err || got=$?
 [ "$got" -eq 7 ] || fail "127.0.0.2: status $got, $(cat curl.err)"

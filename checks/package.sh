@@ -1,11 +1,13 @@
 #!/bin/sh
-# The package of the built program, or of the one that is named: package.sh [PROGRAM]. packaging/deb.sh makes it twice, at other
-# times and with another umask, zone and folder, and the bytes have to be the same. It is unpacked into an empty root. The program
-# from there is the one that was named, does all of checks/runs.sh and checks/day.sh, and runs with that root as its own, where
-# beside the package stand only the files of the libraries that its Depends name. The manual is read: no warning, each
-# subcommand, route and refusal is there. The completions are those of the help. The service's user is made; the service is verified,
-# and has an exposure of 2.0 at most. lintian finds no error. What isn't installed (lintian, mandoc, systemd) is left out, and named at the end; so is the
-# root where chroot isn't allowed. Not part of the gate: it needs bash, dpkg-dev, git, groff, man, python3 and xxd.
+# The package of the built program, or of the named one: package.sh [PROGRAM]. packaging/deb.sh
+# makes it twice, at other times and with another umask, zone and folder, and the bytes must be the
+# same. It is unpacked into an empty root. The program in it is the named one, passes checks/runs.sh
+# and checks/day.sh, and runs with that root as its own, which apart from the package has only the
+# files of the libraries that its Depends name. The manual is read: no warning, each subcommand,
+# route and refusal is there. The completions are those of the help. The service's user is made; the
+# service is verified, and has an exposure of 2.0 at most. lintian finds no error. What isn't
+# installed (lintian, mandoc, systemd) is skipped, and named at the end; so is the root if chroot
+# isn't allowed. Not part of the gate: it needs bash, dpkg-dev, git, groff, man, python3 and xxd.
 set -eu
 root=$(CDPATH='' cd -- "$(dirname -- "$(readlink -f -- "$0")")/.." && pwd -P)
 if [ $# -gt 0 ]; then
@@ -36,12 +38,12 @@ holds() {
     "$@" > said 2>&1 || fail "$what: $(cat said)"
     found=$((found + 1))
 }
-# silent WHAT COMMAND WORD..: it succeeds, and says nothing.
+# silent WHAT COMMAND WORD..: it succeeds, and prints nothing.
 silent() {
     holds "$@"
     [ ! -s said ] || fail "$what: $(cat said)"
 }
-# has TOOL: whether it is installed; where it isn't, that is named at the end.
+# has TOOL: whether it is installed; a missing one is named at the end.
 has() {
     command -v "$1" > /dev/null && return 0
     left_out="$left_out $1"
@@ -98,14 +100,14 @@ fi
 subcommands=$("$desk" help | sed -n 's/^  \([a-z][a-z]*\)  .*/\1/p' | grep -v '^help$' | tr '\n' ' ')
 for page in man1/desk.1 man7/desk-http.7; do
     gzip -dc "unpacked/usr/share/man/$page.gz" > "${page#*/}"
-    # What groff warns of stands on standard error.
+    # groff's warnings go to standard error.
     warns() { groff -t -man -Tutf8 -ww "$1" > page; }
     silent "groff of $page" warns "${page#*/}"
     if has mandoc; then silent "mandoc of $page" mandoc -Tlint "${page#*/}"; fi
     holds "man of $page" env MANWIDTH=100 man -l "${page#*/}"
     cp said "${page#*/}.txt"
 done
-# tells PAGE TEXT: a line of the page begins so, behind spaces.
+# tells PAGE TEXT: a line of the page begins so, after spaces.
 tells() { grep -q "^ *$2\( \|\$\)" "$1.txt" || fail "$1 lacks $2"; }
 for subcommand in $subcommands; do
     tells desk.1 "desk $subcommand"
@@ -124,7 +126,7 @@ found=$((found + $(cat routes refusals | wc -l)))
 
 mkdir shelf
 : > shelf/shim.efi
-# completes WANTED WORD..: what the words are completed by; the last of them has been begun.
+# completes WANTED WORD..: the completions of the words; the last of them is incomplete.
 completes() {
     wanted=$1
     shift

@@ -5,8 +5,9 @@
 # backticks; an empty second cell stands for a clause without a name. The row claims every one of these clauses of every one of these
 # calls. In docs/PROVED.md a call has its crate in front (`desk_store::Desk::open`); in crates/CRATE/README.md it is a call of CRATE.
 #
-# Fails where a row names a call that CRATE doesn't offer, or a clause that the call doesn't have, and where a clause of a public call
-# of the crates in FULL (each that has a library) isn't claimed in its README, or is claimed there twice. The last line is `N rows, M missing`.
+# Fails if a row names a call that CRATE doesn't offer, or a clause that the call doesn't have, and
+# if a clause of a public call of the crates in FULL (each that has a library) isn't claimed in its
+# README, or is claimed there twice. The last line is `N rows, M missing`.
 set -u
 cd "$(dirname "$0")/.." || exit 1
 exec python3 - <<'END'

@@ -1,13 +1,16 @@
 #!/bin/sh
-# nginx in front of `desk serve`, with the built program or the one that is named: proxy.sh [PROGRAM]. packaging/nginx.conf is taken as it
-# is, but for its ports and its certificate, which is made here; nginx is that of the system, or else of the distribution's package,
-# unpacked in the room. curl does a day at the desk through it, over TLS, and each status and body is compared with what has to be
-# there. Then one peer sends an image slowly, one takes a long dbx slowly, and thirty more ask at once, from addresses of their own:
-# all of them are answered while both slow ones are still under way, and then these get what is theirs. Without the proxy each
-# slow peer holds the next one up; that is shown first. Then what nginx refuses: a body that is too long, a flood from one address,
-# a call while the desk is stopped, which is repeated with its key once it serves again. Each run of the program, of curl and of
-# nginx ends after a stated time. It takes ports from 20000 to 32000. Not part of the gate: it needs curl, openssl and python3, and nginx or
-# the network to get it.
+# nginx in front of `desk serve`, with the built program or the named one: proxy.sh [PROGRAM].
+# packaging/nginx.conf is used unchanged, except for its ports and its certificate, which is made
+# here; nginx is that of the system, or else of the distribution's package, unpacked in the room.
+# curl does a day at the desk through it, over TLS, and each status and body is compared with the
+# expected one. Then one peer sends an image slowly, one takes a long dbx slowly, and thirty more
+# send requests at once, from addresses of their own: all of them are answered while both slow ones
+# are still running, and then these get their responses. Without the proxy each slow peer holds the
+# next one up; that is shown first. Then the refusals of nginx: a body that is too long, a flood
+# from one address, a call while the desk is stopped, which is repeated with its key once it serves
+# again. Each run of the program, of curl and of nginx ends after a stated time. It takes ports from
+# 20000 to 32000. Not part of the gate: it needs curl, openssl and python3, and nginx or the network
+# to get it.
 set -eu
 root=$(CDPATH='' cd -- "$(dirname -- "$(readlink -f -- "$0")")/.." && pwd -P)
 if [ $# -gt 0 ]; then
@@ -21,7 +24,7 @@ for tool in curl openssl python3; do
 done
 room=$(mktemp -d)
 server='' proxy='' slow='' taker=''
-# What this script started ends with it, by a signal too.
+# What this script started ends with it, even by a signal.
 leave() {
     for one in $slow $taker $server $proxy; do kill "$one" 2> /dev/null || :; done
     wait || :
@@ -53,9 +56,9 @@ within() {
 }
 # desk WORD..: the program, ended after five minutes.
 desk() { timeout -k 5 300 "$program" "$@"; }
-# listens PORT: whether somebody does; to connect would count.
+# listens PORT: whether somebody does; connecting would count.
 listens() { grep -q ":$(printf '%04X' "$1") 00000000:0000 0A" /proc/net/tcp; }
-# serve COUNT: serves so many connections of the desk in the background.
+# serve COUNT: serves COUNT connections of the desk in the background.
 serve() {
     timeout -k 5 300 "$program" serve desk.db "$port" "$1" > served 2>&1 &
     server=$!
@@ -105,7 +108,7 @@ timeout -k 5 400 "$nginx" -p "$room/" -e "$room/error.log" -c nginx.conf &
 proxy=$!
 within 20 listens "$tls"
 
-# ---- the desk, and what is sent
+# ---- the desk, and the inputs
 
 token_of() { echo "$1-token-for-the-desk"; }
 desk init desk.db 00112233-4455-6677-8899-aabbccddeeff
@@ -120,26 +123,28 @@ echo '{"note":"read it","vote":"yes"}' > yes
 echo "{\"digest\":\"$hex\"}" > digest
 echo '{"component":"grub","generation":3,"stamp":2024010100}' > raise
 
-# https NAME CURL-WORD..: curl as this person, by TLS; the certificate has to be that of the site.
+# https NAME CURL-WORD..: curl as this person, over TLS; the certificate must be that of the site.
 https() {
     token=$(token_of "$1")
     shift
     curl -sS --no-progress-meter --max-time 120 --cacert site.pem --resolve "$site:$tls:127.0.0.1" -H "Desk-Token: $token" "$@"
 }
-# ask NAME PATH [CURL-WORD..]: this person asks through the proxy; `body` is what came, and `said` its status.
+# ask NAME PATH [CURL-WORD..]: this person's request through the proxy; `body` is the response, and
+# `said` its status.
 ask() {
     who=$1 path=$2
     shift 2
     https "$who" -o body -w '%{http_code}' "$@" "$base$path" > said 2> curl.err || fail "$path: $(cat curl.err)"
     requests=$((requests + 1))
 }
-# is STATUS BODY: so it was answered.
+# is STATUS BODY: this was the response.
 is() {
     if [ "$(cat said)" != "$1" ] || [ "$(cat body)" != "$2" ]; then
         fail "$who at $path: $(cat said) $(head -c 300 body) in place of $1 $2"
     fi
 }
-# post STATUS BODY NAME KEY PATH FILE [CURL-WORD..]: this person posts the file under this key, and is answered so.
+# post STATUS BODY NAME KEY PATH FILE [CURL-WORD..]: this person posts the file under this key, and
+# gets this response.
 post() {
     status=$1 wanted=$2 name=$3 key=$4 at=$5 file=$6
     shift 6
@@ -225,15 +230,15 @@ end
     cat "$plain"
 } > sends
 printf 'GET /dbx HTTP/1.1\r\nHost: %s\r\nDesk-Token: %s\r\nConnection: close\r\n\r\n' "$site" "$(token_of rita)" > takes
-# begins HOW PORT SITE: a slow peer begins in the background, whose number is `peer`; it is done once the file go.HOW is there. Site: of
-# TLS, or none.
+# begins HOW PORT SITE: a slow peer begins in the background; its number is `peer`, and it ends once
+# the file go.HOW is there. SITE: that of TLS, or none.
 begins() {
     rm -f "go.$1" "begun.$1" "came.$1"
     timeout -k 5 80 python3 slow.py "$2" "$3" "$1" "$1" "go.$1" "came.$1" > "begun.$1" 2> "slow.$1" &
     peer=$!
     within 10 test -s "begun.$1"
 }
-# got HOW: what the slow peer was answered, which is due to it: of a head, its first line and the body.
+# got HOW: the slow peer's response, which must be its own: of a head, its first line and the body.
 got() {
     [ "$(head -n 1 "came.$1" | tr -d '\r')" = 'HTTP/1.1 200 OK' ] || fail "the one that $1: $(head -c 300 "came.$1" "slow.$1")"
     case $1 in
@@ -260,7 +265,7 @@ for how in sends takes; do
     served
 done
 
-# ---- thirty clients at once, beside one that sends slowly and one that takes slowly
+# ---- thirty clients at once, with one that sends slowly and one that takes slowly
 
 clients=30
 serve $((2 * clients + 2))
@@ -268,7 +273,7 @@ begins sends "$tls" "$site"
 slow=$peer
 begins takes "$tls" "$site"
 taker=$peer
-# one NUMBER: a client at an address of its own asks for the level, and for a verdict.
+# one NUMBER: a client at an address of its own requests the level, and a verdict.
 one() {
     address=127.0.0.$(($1 + 1))
     https ann --interface "$address" -o "level.$1" -w '%{http_code} %{time_total}\n' "$base/level"
@@ -301,7 +306,7 @@ got takes
 served
 requests=$((requests + 2 * clients))
 
-# ---- what nginx refuses
+# ---- refusals of nginx
 
 serve 1000
 truncate -s 4194305 long
@@ -312,7 +317,7 @@ ask ann /requests -H 'Desk-Key: k6' -H 'Desk-Title: long' --data-binary @longer
 [ "$(cat said)" = 413 ] || fail "a long image: $(cat said)"
 truncate -s 134217728 longer
 post 422 '{"name":"NoMz","refused":2}' ann k6 /requests longer -H 'Desk-Title: as long as may be'
-# 150 requests of one address: 60 wait for their turn at most, and the last of them are refused.
+# 150 requests from one address: at most 60 wait for their turn, and the last of them are refused.
 waiting=''
 for client in $(seq 15); do
     https ann --interface 127.0.0.99 -Z --parallel-max 10 -o /dev/null -w '%{http_code}\n' "$base/level?[1-10]" > "flood.$client" &
@@ -325,7 +330,7 @@ grep -q ' 429$' flood || fail "nobody of the flood was refused: $(cat flood)"
 ask olga /level
 is 200 'sbat,1,2021030218'
 
-# ---- the desk is stopped at any moment, and what was acknowledged stays
+# ---- the desk is stopped at any moment, and acknowledged commands stay
 
 post 200 '{"proposal":12,"reply":"proposed"}' olga k7 /level raise
 kill "$server"

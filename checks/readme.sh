@@ -1,7 +1,8 @@
 #!/bin/sh
-# The day at the desk in README.md, run as it is printed, with the built program or the one that is named: readme.sh [PROGRAM].
-# What each command writes to standard output is compared with the lines below it. Where port 8080 is taken, another one stands in
-# the commands, and the last line says so. Not part of `rt ci`: it needs bash, curl and python3.
+# The day at the desk in README.md, run as it is printed, with the built program or the named one:
+# readme.sh [PROGRAM]. The standard output of each command is compared with the lines below it. If
+# port 8080 is taken, the commands use another one, and the last line says so. Not part of `rt ci`:
+# it needs bash, curl and python3.
 set -eu
 root=$(CDPATH='' cd -- "$(dirname -- "$(readlink -f -- "$0")")/.." && pwd -P)
 if [ $# -gt 0 ]; then

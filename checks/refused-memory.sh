@@ -1,16 +1,19 @@
 #!/bin/sh
-# Refuses allocations of the built program, or of the one that is named, one a run: refused-memory.sh [PROGRAM [STRIDE]]. On `pack`
-# with the lines in crates/desk/stdin; on `facts` with examples/signed.efi, an image with a certificate and two SBAT components; on
-# `list` with a list of another type than the three, whose GUID is printed; and on `init`, `person`, `verdict` (of an image that is
-# listed too), `level`, `dbx`, `db`, `minutes` and `answer` over a desk's file; on `dbx` over a file of version 1 (examples/version-1) too,
-# of which the opening makes one of version 2. Each such run has to end with status 3, the line `device 40 NoMemory` and no more than a
-# beginning written (`answer` may write the response of NoMemory, with status 0), or to do all without the memory. The same words on the
-# files that a refused run left have to end as they do on the files that it found.
+# Refuses allocations of the built program, or of the named one, one in each run: refused-memory.sh
+# [PROGRAM [STRIDE]]. On `pack` with the lines in crates/desk/stdin; on `facts` with
+# examples/signed.efi, an image with a certificate and two SBAT components; on `list` with a list of
+# another type than the three, whose GUID is printed; on `init`, `person`, `verdict` (of an image
+# that is listed too), `level`, `dbx`, `db`, `minutes` and `answer` over a desk's file; and on `dbx`
+# over a file of version 1 (examples/version-1), which the opening makes one of version 2. Each such
+# run must end with status 3, the line `device 40 NoMemory` and no more than a prefix written
+# (`answer` may write the response of NoMemory, with status 0), or succeed without the memory. The
+# same words on the files that a refused run left must end as they do on the files that it found.
 #
-# The first and the last hundred allocations of each are refused, and between them one in STRIDE: 100 where none is given, which takes a
-# minute or two. 1 refuses each, but one in a hundred of a long row of one size: of the 13,000 of a run that opens a desk 8,000 are the
-# store's pages, taken at once. 0 refuses each whatever it is. Requests over HTTP are refused-requests.sh's. Not part of `rt ci`: it needs
-# python3, and a C compiler for a malloc that refuses (refuse.c).
+# The first and the last hundred allocations of each are refused, and between them one in STRIDE:
+# 100 by default, which takes a minute or two. 1 refuses each, but only one in a hundred of a long
+# row of one size: of the 13,000 of a run that opens a desk 8,000 are the store's pages, taken at
+# once. 0 refuses each, without exception. Requests over HTTP are in refused-requests.sh. Not part
+# of `rt ci`: it needs python3, and a C compiler for a malloc that refuses (refuse.c).
 set -eu
 root=$(CDPATH='' cd -- "$(dirname -- "$(readlink -f -- "$0")")/.." && pwd -P)
 if [ $# -gt 0 ]; then

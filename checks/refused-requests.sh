@@ -1,11 +1,13 @@
 #!/bin/sh
-# Refuses allocations of `desk serve`, with the built program or the one that is named, on a desk that stays open:
-# refused-requests.sh [PROGRAM [DAY..]]. Each request of each day in checks/requests/days.py, but of that of the largest inputs, is asked
-# with its first allocation refused, then with its second, and so on, each once, until it made none more. A refused one is answered by
-# the 503 of NoMemory, or its connection ends without a response, or it does without the memory. After each the desk's report is as it
-# was; where it isn't, the command was accepted and its response found no memory: then the same request has the reply that is kept, and
-# changes nothing more. With ample memory the request has the response that is due, on the same open desk. At the end of a day all exports
-# and all tables are those of a day on which no memory was refused.
+# Refuses allocations of `desk serve`, with the built program or the named one, on a desk that stays
+# open: refused-requests.sh [PROGRAM [DAY..]]. Each request of each day in checks/requests/days.py,
+# except that of the largest inputs, is sent with its first allocation refused, then with its
+# second, and so on, each once, until it makes no more. A refused one gets the 503 of NoMemory, or
+# its connection ends without a response, or it succeeds without the memory. After each the desk's
+# report is unchanged; if it isn't, the command was accepted and its response found no memory: then
+# the same request gets the stored reply, and changes nothing more. With ample memory the request
+# gets its due response, on the same open desk. At the end of a day all exports and all tables are
+# those of a day on which no memory was refused.
 #
 # Not part of `rt ci`: it needs python3, sqlite3, and a C compiler for a malloc that refuses (refuse.c).
 set -eu

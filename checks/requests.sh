@@ -1,10 +1,11 @@
 #!/bin/sh
-# Days of requests over HTTP, with the built program or the one that is named: requests.sh [PROGRAM]. Each day of checks/requests/days.py
-# begins on a desk of seven people, two of them officers. It is asked of one `desk serve`, which keeps the desk open, and once more by a
-# run of `desk answer` for each request, which opens the file and closes it. Every byte of each response is compared: who may review and
-# when, what may be returned, verdicts, the level, keys, imports, two officers, and the largest inputs at their limits. Both leave the
-# same tables; each accepted command once more under its key has the same reply and changes nothing. Not part of `rt ci`: it needs
-# python3 and sqlite3.
+# Days of requests over HTTP, with the built program or the named one: requests.sh [PROGRAM]. Each
+# day of checks/requests/days.py begins on a desk of seven people, two of them officers. Its
+# requests go to one `desk serve`, which keeps the desk open, and again to a run of `desk answer`
+# each, which opens and closes the file. Every byte of each response is compared: who may review and
+# when, what may be returned, verdicts, the level, keys, imports, two officers, and the largest
+# inputs at their limits. Both leave the same tables; each accepted command given again under its
+# key gets the same reply and changes nothing. Not part of `rt ci`: it needs python3 and sqlite3.
 set -eu
 root=$(CDPATH='' cd -- "$(dirname -- "$(readlink -f -- "$0")")/.." && pwd -P)
 if [ $# -gt 0 ]; then

@@ -1,6 +1,7 @@
 #!/bin/sh
-# Runs each subcommand of the built program, or of the one that is named, on the examples and on words and files that are wrong,
-# and compares every byte of both outputs and the status: runs.sh [PROGRAM]. Not part of `rt ci`.
+# Runs each subcommand of the built program, or of the named one, on the examples and on wrong words
+# and files, and compares every byte of both outputs and the status: runs.sh [PROGRAM]. Not part of
+# `rt ci`.
 set -eu
 root=$(CDPATH='' cd -- "$(dirname -- "$(readlink -f -- "$0")")/.." && pwd -P)
 if [ $# -gt 0 ]; then
@@ -78,7 +79,7 @@ for subcommand in ranges facts list; do
 done
 run 2 nothing 'error: a word is no UTF-8' nothing list "$(printf '\377')"
 
-# Files past 134,217,728 bytes are refused, at that length they are read.
+# Files past 134,217,728 bytes are refused; at that length they are read.
 truncate -s 134217729 long
 run 1 nothing 'refused 13 TooLong' nothing ranges long
 run 1 nothing 'refused 13 TooLong' nothing facts long
@@ -88,8 +89,8 @@ run 1 nothing 'refused 15 List at 0' nothing list long
 truncate -s 8388609 text
 run 1 nothing 'refused 13 TooLong' text pack "$owner"
 
-# A desk stands in the file at its path and in that file's log, and no other file is made. One that isn't there is made by `init`
-# alone.
+# A desk is in the file at its path and in that file's log, and no other file is made. Only `init`
+# creates a file that doesn't exist.
 there() { find . -type f | LC_ALL=C sort; }
 mkdir desks
 echo ann-token-000001 > token
@@ -112,7 +113,7 @@ run 0 nothing '' nothing minutes desks/bea.db
 rm -f desks/ann.db desks/ann.db-wal desks/bea.db desks/bea.db-wal
 [ "$(there)" = "$before" ] || { echo "other files were made: $(there)" >&2; exit 1; }
 
-# A writer that is full: /dev/full takes no byte.
+# A writer that is full: /dev/full accepts no byte.
 got=0
 "$program" list list > /dev/full 2> err || got=$?
 [ "$got" -eq 3 ] && [ "$(cat err)" = 'device 17 Write' ] || {

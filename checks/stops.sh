@@ -1,21 +1,28 @@
 #!/bin/sh
-# Stops of the program at each write to a real file: stops.sh [PROGRAM]. The program runs under strace, which kills it at the
-# k-th system call that writes, cuts or syncs, or lets that one and every later one fail. strace counts each kind of call by
-# itself; so a run without a stop is listed first, and the k-th of the list is met by its kind and its number in its kind. An
-# answer is written by such a call too. It fails only where it is the k-th: else it goes out, whatever of the files fails.
+# Stops of the program at each write to a real file: stops.sh [PROGRAM]. The program runs under
+# strace, which kills it at the k-th system call that writes, truncates or syncs, or makes that one
+# and every later one fail. strace counts each kind of call separately; so a run without a stop is
+# listed first, and the k-th of the list is found by its kind and its number in its kind. An answer
+# is written by such a call too. It fails only if it is the k-th: otherwise it is written, whichever
+# file fails.
 #
-# First `init`, after which there is an empty desk and `init` is Exists, or none and `init` makes it; and a person on a new desk. Then each of the fourteen commands on a desk that is ready for it: a person by
-# the command line, all others by `answer`; a Confirm of a digest, of a level and of an import. Each is stopped at k = 1, 2, .. up to
-# the last call of its run; in a run of a hundred calls or more, behind k = 20 a stride passes over some, so that some hundred stops
-# are left. The Confirm of an import of 300 digests into an empty dbx is stopped at every one: dbx then has none of them, or all, in
-# 14,428 bytes. After each stop the desk opens, and its minutes, dbx, db, level, proposals and tables are those of the desk without the
-# call, or of the desk with it; where the answer went out, of the desk with it. The same call with the same key has the same answer
-# again, and the tables are those of one acceptance.
+# First `init`, after which there is an empty desk and `init` is Exists, or none and `init` makes
+# it; and a person on a new desk. Then each of the fourteen commands on a desk that is ready for it:
+# a person on the command line, all others by `answer`; a Confirm of a digest, of a level and of an
+# import. Each is stopped at k = 1, 2, .. up to the last call of its run; in a run of a hundred
+# calls or more, a stride skips some after k = 20, so that some hundred stops are left. The Confirm
+# of an import of 300 digests into an empty dbx is stopped at every one: dbx then has none of them,
+# or all, in 14,428 bytes. After each stop the desk opens, and its minutes, dbx, db, level,
+# proposals and tables are those of the desk without the call, or of the desk with it; with it if
+# the answer was written. The same call with the same key gets the same answer again, and the tables
+# are those of one acceptance.
 #
-# Then ten lives of one desk, each with a person whose call is stopped; and ten lives of a desk where a second officer confirmed the
-# revocation of an image's digest: other commands are stopped, and of one command in each life the response meets a full device; dbx
-# keeps the digest, the image stays refused, and the minutes have each key once, in order. The files stand in TMPDIR or /tmp; the 1,656
-# stops took 18 minutes in memory, beside other work. Not part of `rt ci`, nor of all.sh: it needs strace and sqlite3.
+# Then ten lives of one desk, each with a person whose call is stopped; and ten lives of a desk
+# where a second officer confirmed the revocation of an image's digest: other commands are stopped,
+# and the response of one command in each life meets a full device; dbx keeps the digest, the image
+# stays refused, and the minutes have each key once, in order. The files are in TMPDIR or /tmp; the
+# 1,656 stops took 18 minutes in memory, with other work running. Not part of `rt ci`, nor of
+# all.sh: it needs strace and sqlite3.
 set -eu
 root=$(CDPATH='' cd -- "$(dirname -- "$(readlink -f -- "$0")")/.." && pwd -P)
 if [ $# -gt 0 ]; then
@@ -44,7 +51,8 @@ fail() { echo "checks/stops.sh: $*" >&2; cat out err >&2; exit 1; }
 
 # ---- calls of the desk
 
-# given DB [WORD..]: runs the call that is set on this desk, behind these words; its status. It reads `input`.
+# given DB [WORD..]: runs the prepared call on this desk, after these words; its status. It reads
+# `input`.
 given() {
     desk=$1
     shift
@@ -58,13 +66,13 @@ given() {
     return "$got"
 }
 
-# adds NAME KEY: sets the call that adds a person at the command line.
+# adds NAME KEY: prepares the call that adds a person on the command line.
 adds() {
     call=person name=$1 key=$2
     token_of "$name" > input
 }
 
-# request NAME KEY PATH BODY-FILE [FIELD..]: sets the call of this person over HTTP.
+# request NAME KEY PATH BODY-FILE [FIELD..]: prepares the call of this person over HTTP.
 request() {
     call=answer caller=$1 key=$2 path=$3 body=$4
     shift 4
@@ -78,7 +86,7 @@ request() {
 
 token_of() { echo "$1-token-for-the-stops"; }
 
-# takes DB [WORD..]: the desk takes the call that is set, behind these words, and answers it.
+# takes DB [WORD..]: the desk accepts the prepared call, after these words, and answers it.
 takes() {
     given "$@" || fail "$call with key $key, not stopped: status $got"
     case $call in
@@ -89,7 +97,8 @@ takes() {
 
 # ---- stops
 
-# lists DB: the call without a stop. `order` has the kinds of its system calls in their order, `answer` what it answers.
+# lists DB: the call without a stop. `order` has the kinds of its system calls in order, `answer`
+# its answer.
 lists() {
     takes "$1" strace -f -o trace -e "trace=$traced"
     cp out answer
@@ -119,13 +128,13 @@ stopped() {
     [ "$got" -gt 128 ] || grep -q '(INJECTED)' trace
 }
 
-# next K: the place of the next stop. With `every` none is passed over.
+# next K: the place of the next stop. With `every` none is skipped.
 every=no
 next() {
     if [ "$1" -lt 20 ] || [ "$every" = yes ]; then echo $(($1 + 1)); else echo $(($1 + 1 + length / 100)); fi
 }
 
-# ---- what a desk has
+# ---- the contents of a desk
 
 # copy FROM TO: the files of one desk are those of another.
 copy() {
@@ -133,10 +142,11 @@ copy() {
     for file in "$1".db*; do cp "$file" "$2${file#"$1"}"; done
 }
 
-# tables DB: every row of every table of a desk that was closed, so that its file alone has them.
+# tables DB: every row of every table of a closed desk, so that its file alone has them.
 tables() { sqlite3 "file:$1?immutable=1" .dump; }
 
-# exported DB FOLDER: the folder has what the desk exports, what it answers an officer who asks for the proposals, and its tables.
+# exported DB FOLDER: the folder has the desk's exports, its answer to an officer about the
+# proposals, and its tables.
 exported() {
     for export in $exports; do "$program" "$export" "$1" > "$2/$export" 2> err || return 1; done
     "$program" answer "$1" < asking > "$2/proposals" 2> err || return 1
@@ -154,7 +164,8 @@ keys() {
     cut -f3 minutes | tr '\n' ' '
 }
 
-# compares DESK: `before` has what this desk exports without the call, `after` what it exports with it: one minute more.
+# compares DESK: `before` has the exports of this desk without the call, `after` those with it: one
+# minute more.
 compares() {
     exported "$1.db" before || fail "$1: no exports"
     copy "$1" two
@@ -167,7 +178,8 @@ compares() {
     [ "$(tail -n 1 after/minutes | cut -f3)" = "$key" ] || fail "$call with key $key: a minute of another key"
 }
 
-# kept DB WHEN: the desk opens, and is that without the call or that with it; that with it where the answer went out.
+# kept DB WHEN: the desk opens, and is that without the call or that with it; that with it if the
+# answer was written.
 kept() {
     answered=no
     if cmp -s out answer; then answered=yes; fi
@@ -177,7 +189,8 @@ kept() {
     [ "$answered" = no ] || fail "$2: an answered call isn't there"
 }
 
-# again DB WHEN: the same call with the same key has the same answer, and all tables are those of one acceptance.
+# again DB WHEN: the same call with the same key gets the same answer, and all tables are those of
+# one acceptance.
 again() {
     given "$1" || fail "$2: status $got for its key"
     cmp -s out answer || fail "$2: another answer to its key"
@@ -185,7 +198,7 @@ again() {
     cmp -s tables after/tables || fail "$2: other tables after its key"
 }
 
-# meets WHAT DESK: the call that is set meets each stop, on copies of this desk.
+# meets WHAT DESK: the prepared call meets each stop, on copies of this desk.
 meets() {
     compares "$2"
     for how in kill fail; do
@@ -201,7 +214,8 @@ meets() {
     done
 }
 
-# lives DESK LIFE HOW: the call that is set is stopped on this desk itself, later in each life; in the tenth it isn't.
+# lives DESK LIFE HOW: the prepared call is stopped on this desk itself, later in each life; in the
+# tenth it isn't.
 lives() {
     compares "$1"
     k=$(($2 * length / 9))
@@ -333,7 +347,8 @@ request otto k9 /proposals/1/confirm nothing
 meets 'a confirmed digest' ready
 request otto k9 /proposals/2/confirm nothing
 meets 'a confirmed level' ready
-# The import of 300 digests: before it dbx has no byte, after it one list of 28 bytes and 48 a digest.
+# The import of 300 digests: before it dbx has no byte, after it one list of 28 bytes and 48 for
+# each digest.
 request otto k9 /proposals/3/confirm nothing
 every=yes
 meets 'a confirmed import' ready
@@ -378,7 +393,7 @@ bars() {
     judged "$1" 1 'refused dbx-digest' "$2"
 }
 
-# gives LIFE: sets the call of this life.
+# gives LIFE: prepares the call of this life.
 gives() {
     case $1 in
         1) request olga life-1 /db/digests digest_bb ;;
@@ -394,7 +409,8 @@ gives() {
     esac
 }
 
-# loses DB LIFE: a submission is accepted though its response meets a full device; its key has the reply.
+# loses DB LIFE: a submission is accepted although its response meets a full device; its key gets
+# the reply.
 loses() {
     request ann "lost-$2" /requests "$signed" 'Desk-Title: lost'
     got=0

@@ -1,8 +1,9 @@
 #!/bin/sh
-# Writes a day of a desk into a file by store_writes, and lets sqlite3's own shell read it: its integrity check, the columns
-# and keys of each table, and every row. A name that is taken and a number past SQL's integers have to be refused. Not part of `rt
-# ci`: it needs sqlite3. The program runs unproved over the proved libraries, in a room of its own; where $TABLES_ROOM names a folder
-# that is the room, and it is kept for the next run.
+# Writes a day of a desk into a file with store_writes, and has sqlite3's own shell read it: its
+# integrity check, the columns and keys of each table, and every row. A taken name and a number past
+# SQL's integers must be refused. Not part of `rt ci`: it needs sqlite3. The program runs unproved
+# over the proved libraries, in a room of its own; if $TABLES_ROOM names a folder, that is the room,
+# and it is kept for the next run.
 set -eu
 root=$(CDPATH='' cd -- "$(dirname -- "$(readlink -f -- "$0")")/.." && pwd -P)
 for tool in rt sqlite3; do
@@ -22,7 +23,7 @@ for crate in $below; do
     rm -rf "$room/crates/$crate"
     mkdir -p "$room/crates/$crate/out"
     (cd "$root/crates/$crate" && tar -cf - --exclude=out --exclude=must-fail .) | (cd "$room/crates/$crate" && tar -xf -)
-    # (by links where the room is on the same disk)
+    # (by links if the room is on the same disk)
     cp -al "$root/crates/$crate/out/rlib" "$room/crates/$crate/out/" 2> /dev/null || cp -a "$root/crates/$crate/out/rlib" "$room/crates/$crate/out/"
     grep "^$crate:" "$root/crates.txt" >> "$room/crates.txt"
 done

@@ -1,7 +1,8 @@
 #!/usr/bin/env bash
-# checks/version1.sh [PROGRAM]: that each subcommand opens a real file of version 1 (examples/version-1), which keeps its calls and
-# exports and becomes one of version 2; that the next opening writes nothing; and that keys and revocations of before still count.
-# PROGRAM: another program than ./desk. It needs gzip, and a port from 20000 to 32000.
+# checks/version1.sh [PROGRAM]: that each subcommand opens a real file of version 1
+# (examples/version-1), which keeps its calls and exports and becomes one of version 2; that the
+# next opening writes nothing; and that earlier keys and revocations still count. PROGRAM: another
+# program than ./desk. It needs gzip, and a port from 20000 to 32000.
 set -eu
 root=$(CDPATH='' cd -- "$(dirname -- "$(readlink -f -- "$0")")/.." && pwd -P)
 if [ $# -gt 0 ]; then
@@ -13,7 +14,7 @@ fi
 kept=$root/examples/version-1
 room=$(mktemp -d)
 server=
-# The server that this script started is ended with it, by a signal too.
+# The server that this script started is ended with it, even by a signal.
 leave() {
     if [ -n "$server" ]; then
         kill "$server" 2> /dev/null || :
@@ -49,7 +50,7 @@ opened() {
     openings=$((openings + 1))
 }
 
-# serve DB: the desk's server answers one connection, which asks for the level, and ends.
+# serve DB: the desk's server answers one connection, which requests the level, and ends.
 serve() {
     port=$((20000 + $$ % 600 * 20 + openings))
     timeout -k 5 60 "$program" serve "$1" "$port" 1 &

@@ -1,7 +1,9 @@
 #!/usr/bin/env bash
-# checks/wrong_bodies.sh [CRATE ..]: that the prover refuses each wrong body of these crates, or of all: those of the gate
-# (crates/CRATE/must-fail/) and those of the second tier (checks/wrong_bodies/CRATE/). It works on a copy of the checkout and begins
-# with what rt kept there. The last line is `N refused, M not`; status 1 where one isn't refused or can't be applied.
+# checks/wrong_bodies.sh [CRATE ..]: that the prover refuses each wrong body of these crates, or of
+# all: those of the gate (crates/CRATE/must-fail/) and those of the second tier
+# (checks/wrong_bodies/CRATE/). It works on a copy of the checkout and begins with what rt kept
+# there. The last line is `N refused, M not`; the status is 1 if one isn't refused or can't be
+# applied.
 set -u
 top=$(cd "$(dirname "$0")/.." && pwd)
 crates=$(sed -n 's/^\([a-z_0-9]*\)[^#:]*:.*/\1/p' "$top/crates.txt")

@@ -1,8 +1,9 @@
 #!/bin/sh
-# Makes the package kovelamiru-desk_VERSION_amd64.deb of a built program, in the working folder or the one that is named, and prints
-# its path: deb.sh PROGRAM [OUT]. The program goes in as it is. Its own version is the package's, and has to be the newest of
-# CHANGELOG.md. The same program, tree and SOURCE_DATE_EPOCH (by itself the commit's date) give the same bytes. It needs dpkg-dev,
-# git, gzip and python3.
+# Makes the package kovelamiru-desk_VERSION_amd64.deb of a built program, in the working folder or
+# the named one, and prints its path: deb.sh PROGRAM [OUT]. The program goes in unchanged. Its own
+# version is the package's, and must be the newest in CHANGELOG.md. The same program, tree and
+# SOURCE_DATE_EPOCH (by default the commit's date) give the same bytes. It needs dpkg-dev, git, gzip
+# and python3.
 set -eu
 umask 022
 export LC_ALL=C TZ=UTC
@@ -72,7 +73,7 @@ for text in CHANGELOG.md changelog; do
     place 644 "$room/$text.gz" "usr/share/doc/$name/$text.gz"
 done
 
-# What the repository says of copyright: a licence, or that there is none.
+# The copyright according to the repository: a licence, or that there is none.
 {
     printf 'Kovelamiru, a Secure Boot signing and revocation desk. Copyright: its owner, %s.\n\n' \
         "$(date -d "@$SOURCE_DATE_EPOCH" +%Y)"
@@ -96,7 +97,7 @@ place 644 "$room/README.Debian" "usr/share/doc/$name/README.Debian"
 
 # ---- the package
 
-# What the program needs, by the libraries that it names and the versions of their symbols.
+# The program's dependencies, by the libraries that it names and the versions of their symbols.
 mkdir "$room/debian" "$tree/DEBIAN"
 printf 'Source: %s\n\nPackage: %s\nArchitecture: amd64\n' "$name" "$name" > "$room/debian/control"
 needs=$(cd "$room" && dpkg-shlibdeps -O -e"$tree/usr/bin/desk" 2> needs.err | sed -n 's/^shlibs:Depends=//p') || fail "$(cat "$room/needs.err")"
