@@ -44,9 +44,6 @@ person_has_token token x = only _ _ (blob_is x.token token)
 pub is_request : (k : ℕ) (x : RequestRow) → passes tables.requests (equals tables.requests 0 0 ∷ []) (Int (pos k) ∷ []) (values.request_values x) ≡ (k == x.number)
 is_request k x = only _ _ (int_is x.number k)
 
-pub is_submitted_by : (name : List ℕ) (x : RequestRow) → passes tables.requests (equals tables.requests 1 0 ∷ []) (Text name ∷ []) (values.request_values x) ≡ bytes_eq name x.submitter
-is_submitted_by name x = only _ _ (text_is x.submitter name)
-
 pub is_certificate : (k : ℕ) (x : RequestCertificateRow)
     → passes tables.request_certificates (equals tables.request_certificates 0 0 ∷ []) (Int (pos k) ∷ []) (values.request_certificate_values x) ≡ (k == x.request)
 is_certificate k x = only _ _ (int_is x.request k)

@@ -1,7 +1,7 @@
 -- Proposals by their numbers, and items by their columns.
-use Rattle.std.proofs.Common.{◌≡◌, ◌==◌, ℕ, pos, List, [], ◌∷◌, map, filter, length, codes, Option, Some, true, refl, sym, ap, ap₂, ◌∙◌, arith}
+use Rattle.std.proofs.Common.{◌≡◌, ◌==◌, ℕ, pos, List, [], ◌∷◌, map, filter, length, Option, Some, true, refl, sym, ap, ap₂, ◌∙◌, arith}
 use Rattle.std.specs.Prelude.{flat_map}
-use Rattle.sqlite.specs.declared.types.Value.TheVariants.{Null, Int, Text, Blob}
+use Rattle.sqlite.specs.declared.types.Value.TheVariants.{Null, Int, Text}
 use Rattle.sqlite.specs.Order.{Row}
 use Rattle.sqlite.specs.State.{State}
 use Rattle.sqlite_trees.proofs.ListLemmas.{filter-map, map-map}
@@ -15,10 +15,9 @@ use Rattle.desk_texts.specs.Words.{item_kind_text, proposal_kind_text, proposal_
 use Rattle.desk_history.specs.declared.rows.ProposalItem.{ProposalItem}
 use Rattle.desk_history.specs.declared.rows.ProposalItem.TheVariants as items
 use Rattle.desk_history.specs.declared.rows.ProposalItemRow.{ProposalItemRow}
-use Rattle.desk_history.specs.declared.rows.ProposalRow.{ProposalRow}
 use Rattle.desk_history.specs.Items.{item_rows}
 use Rattle.desk_history.specs.Tables.{Tables}
-use Rattle.store_schema.specs.rows.Values.{item_digest, item_generation, item_kind, item_name, item_values, proposal_values}
+use Rattle.store_schema.specs.rows.Values.{item_digest, item_generation, item_kind, item_name, item_values}
 use Rattle.store_reads.specs.ProposalColumns.{head_columns, head_of}
 use Rattle.store_reads.specs.Reads.{AreFound, Finds, ReadsTables, listed}
 use Rattle.store_reads.specs.declared.proposal_head.ProposalHead.{ProposalHead}

@@ -30,7 +30,4 @@ pub use own::own_row;
 pub use people::{person_named, person_of_token};
 pub use proposal_head::ProposalHead;
 pub use proposals::{head_numbered, heads_all, items_of};
-pub use requests::{
-    certificates_of, components_of, request_numbered, requests_all, requests_by, return_of,
-    votes_of,
-};
+pub use requests::{certificates_of, components_of, request_numbered, return_of, votes_of};

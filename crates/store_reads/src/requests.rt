@@ -1,7 +1,6 @@
 //! Requests by their numbers, and their certificates, components, votes and files.
-ghost use Rattle.std.specs.Prelude.{◌≡◌, ◌==◌, bytes_eq, filter, true};
+ghost use Rattle.std.specs.Prelude.{◌≡◌, ◌==◌, filter};
 ghost use Rattle.store_schema.specs.rows.Values.{request_certificate_values, request_component_values, vote_values};
-ghost use Rattle.store_reads.specs.Answers.{request_columns};
 ghost use Rattle.store_reads.specs.Reads.{AreFound, ReadsTables, listed};
 ghost use Rattle.store_sql.specs.States.{DoesInside, CommitsNothing, Spares, StaysInside};
 ghost use Rattle.store_schema.specs.Tables as tables;
@@ -10,12 +9,12 @@ use crate::ReadFault;
 use crate::columns::key_of;
 use crate::reading::{row_of, rows_of};
 use desk_history::{RequestCertificateRow, RequestComponentRow, RequestRow, ReturnRow, VoteRow};
-use desk_texts::{PersonName, RequestNumber};
+use desk_texts::RequestNumber;
 use sqlite::{Alter, Transaction, params};
 use std::alloc::Global;
 use store_schema::{
-    SELECT_REQUEST, SELECT_REQUEST_CERTIFICATES, SELECT_REQUEST_COMPONENTS, SELECT_REQUESTS,
-    SELECT_REQUESTS_OF, SELECT_RETURN, SELECT_VOTES,
+    SELECT_REQUEST, SELECT_REQUEST_CERTIFICATES, SELECT_REQUEST_COMPONENTS, SELECT_RETURN,
+    SELECT_VOTES,
 };
 
 /// The request of a number, if there is one. Takes memory for the row.
@@ -34,42 +33,6 @@ pub fn request_numbered<S: Alter>(
     let no = key_of(request);
     let row = row_of(alloc, tx, SELECT_REQUEST, params![&no])?;
     Ok(row)
-}
-
-/// All requests, by number. Takes memory for the rows.
-pub fn requests_all<S: Alter>(
-    alloc: Global,
-    tx: &mut Transaction<'_, S>,
-) -> Result<Vec<RequestRow>, ReadFault>
-    ensures same_reference { tx.new.conn.ghost_name ≡ tx.old.conn.ghost_name }
-    ensures value { DoesInside S.Store tx.old.conn.now tx.new.conn.now result
-        (λ rows. ReadsTables (λ t. AreFound request_columns tables.requests 1
-        (λ r. true) t.requests rows.items)) }
-    ensures inside { StaysInside S.Store tx.old.conn.now tx.new.conn.now result }
-    ensures kept { CommitsNothing S.Store tx.old.conn.now tx.new.conn.now }
-    ensures survives { Spares S.Store tx.old.conn.now tx.new.conn.now }
-{
-    let rows = rows_of(alloc, tx, SELECT_REQUESTS, &[])?;
-    Ok(rows)
-}
-
-/// The requests of a submitter, by number. Takes memory for the rows.
-pub fn requests_by<S: Alter>(
-    alloc: Global,
-    tx: &mut Transaction<'_, S>,
-    submitter: &PersonName,
-) -> Result<Vec<RequestRow>, ReadFault>
-    ensures same_reference { tx.new.conn.ghost_name ≡ tx.old.conn.ghost_name }
-    ensures value { DoesInside S.Store tx.old.conn.now tx.new.conn.now result
-        (λ rows. ReadsTables (λ t. AreFound request_columns tables.requests 1
-        (λ r. bytes_eq submitter.now r.submitter) t.requests rows.items)) }
-    ensures inside { StaysInside S.Store tx.old.conn.now tx.new.conn.now result }
-    ensures kept { CommitsNothing S.Store tx.old.conn.now tx.new.conn.now }
-    ensures survives { Spares S.Store tx.old.conn.now tx.new.conn.now }
-{
-    let name = submitter.as_str();
-    let rows = rows_of(alloc, tx, SELECT_REQUESTS_OF, params![name])?;
-    Ok(rows)
 }
 
 /// The certificates of a request's image, by digest. Takes memory for the rows.
