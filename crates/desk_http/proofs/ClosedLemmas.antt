@@ -1,27 +1,25 @@
 -- What a desk that has failed lets be known of a request, and tells of it.
-use Rattle.std.proofs.Common.{◌≡◌, ◌≢◌, ◌∙◌, ◌⊎◌, inl, inr, ℕ, List, [], refl, sym, subst, Option, Some, None, Result, Ok, Err, IfOk, IfSome, MatchResult, Vec}
+use Rattle.std.proofs.Common.{◌≡◌, ◌≢◌, ◌∙◌, inl, inr, ℕ, List, [], refl, sym, subst, Option, Some, None, Result, Ok, Err, IfSome, MatchResult, Vec}
 use Rattle.std.specs.Prelude.{IfErr, IsErr}
 use Rattle.std.specs.declared.alloc.Global.{Global}
 use Rattle.httparse.specs.Grammar.{ReadsRequest, RequestHead}
-use Rattle.desk_bytes.specs.Output.{AppendsBeginning}
 use Rattle.desk_history.specs.Calls.{History}
 use Rattle.http_requests.specs.heads.Fields.{parts_of}
 use Rattle.http_requests.specs.heads.Heads.{FindsOf, HasFewFields}
 use Rattle.http_requests.specs.declared.heads.begun.Begun.TheVariants.{Head, NoHead}
 use Rattle.http_requests.specs.Wanted.{Want, wanted_of}
 use Rattle.http_requests.specs.declared.fault.WantedFault.{WantedFault}
-use Rattle.http_requests.specs.declared.fault.WantedFault.TheVariants as faults
 use Rattle.http_responses.specs.declared.outage.Outage.{Outage}
 use Rattle.http_responses.specs.declared.outage.Outage.TheVariants as outage
+use Rattle.http_responses.specs.declared.refused.Refused.{Refused as Refusing}
 use Rattle.http_responses.specs.declared.refused.Refused.TheVariants as refused
-use Rattle.desk_calls.specs.Answers.{IsClosed, no_memory}
+use Rattle.desk_calls.specs.Answers.{IsClosed}
 use Rattle.desk_calls.specs.declared.answers.Answer.{Answer}
 use Rattle.desk_calls.specs.declared.answers.Answer.TheVariants.{Refused}
-use Rattle.desk_http.specs.Asked.{Asks, Due, due_of, of_head}
+use Rattle.desk_http.specs.Asked.{Asks, Due, due_of}
 use Rattle.desk_http.specs.Refused.{refused_by_head}
-use Rattle.desk_http.specs.Responses.{response_of}
-use Rattle.desk_http.specs.Sending.{Replaces, Sends}
-use Rattle.desk_http.specs.Serving.{AnswersInput, Responds, RespondsClosed, TellsClosed, WhenAnswered, WhenUnwritten}
+use Rattle.desk_http.specs.Sending.{Replaces}
+use Rattle.desk_http.specs.Serving.{AnswersInput, RespondsClosed, TellsClosed}
 use Rattle.desk_http.specs.Unread.{CanCome, IsOfClosed, IsOwn}
 use Rattle.desk_http.specs.declared.served.HttpFault.{HttpFault}
 use Rattle.desk_http.specs.declared.served.HttpFault.TheVariants as http
@@ -57,9 +55,8 @@ own_result_can_come (Err u) h = own_can_come u h
 pub own_no_store : (r : Result Due Unread) → IfErr r IsOwn → r ≡ Err (unread.Outage outage.Store) → ⊥
 own_no_store r h e = subst (λ x. IfErr x IsOwn) e h
 
-pub outage_of_closed : (u : Unread) → (u ≡ unread.Outage outage.Reopen) ⊎ (u ≡ unread.Outage outage.NoMemory) → IsOfClosed u
-outage_of_closed u (inl e) = subst IsOfClosed (sym e) tt
-outage_of_closed u (inr e) = subst IsOfClosed (sym e) tt
+pub outage_of_closed : (u : Unread) → u ≡ unread.Outage outage.Reopen → IsOfClosed u
+outage_of_closed u e = subst IsOfClosed (sym e) tt
 
 -- ---- by the head
 
@@ -72,22 +69,17 @@ IsDueOfAll head due =
 pub closed_ask : (head : List ℕ) (v : Want) (r : Result Due Unread)
     → ((h : RequestHead) (q : List ℕ) → ReadsRequest head h q → HasFewFields h → wanted_of (parts_of h) ≡ Ok v)
     → MatchResult r (λ due. (due ≡ Err refused.UnknownCaller) × (v.token ≡ None)) (λ u. u ≡ unread.Outage outage.Reopen)
-    → MatchResult r (IsDueOfAll head) (λ u. (u ≡ unread.Outage outage.Reopen) ⊎ (u ≡ unread.Outage outage.NoMemory))
-closed_ask head v (Err u) found is = inl is
+    → MatchResult r (IsDueOfAll head) (λ u. u ≡ unread.Outage outage.Reopen)
+closed_ask head v (Err u) found is = is
 closed_ask head v (Ok due) found is =
     let P : Due → Type 0 = IsErr in
     (subst P (sym is.0) refl, λ h q reads few cs rest. is.0 ∙ rw (found h q reads few, is.1) refl)
 
 -- a head with a fault
-pub closed_refuse : (head : List ℕ) (f : WantedFault) (r : Result Due Unread)
-    → ((h : RequestHead) (q : List ℕ) → ReadsRequest head h q → HasFewFields h → f ≢ faults.NoMemory → wanted_of (parts_of h) ≡ Err f)
-    → MatchResult r (λ due. (f ≢ faults.NoMemory) × (due ≡ Err (refused_by_head f)))
-    (λ u. (f ≡ faults.NoMemory) × (u ≡ unread.Outage outage.NoMemory))
-    → MatchResult r (IsDueOfAll head) (λ u. (u ≡ unread.Outage outage.Reopen) ⊎ (u ≡ unread.Outage outage.NoMemory))
-closed_refuse head f (Err u) found is = inr is.1
-closed_refuse head f (Ok due) found is =
-    let P : Due → Type 0 = IsErr in
-    (subst P (sym is.1) refl, λ h q reads few cs rest. is.1 ∙ rw (found h q reads few is.0) refl)
+pub closed_refuse : (head : List ℕ) (f : WantedFault) (x : Refusing) → x ≡ refused_by_head f
+    → ((h : RequestHead) (q : List ℕ) → ReadsRequest head h q → HasFewFields h → wanted_of (parts_of h) ≡ Err f)
+    → IsDueOfAll head (Err x)
+closed_refuse head f x is found = (refl, λ h q reads few cs rest. rw (is, found h q reads few) refl)
 
 -- ---- by the input
 

@@ -1,5 +1,5 @@
 -- What is asked for by an input, and by what follows it.
-use Rattle.std.proofs.Common.{◌≡◌, ◌∙◌, ℕ, ◌≤◌, List, [], ◌++◌, length, refl, sym, ap, inl, inr, Option, Some, None, Result, Ok, Err, IfOk, IfSome, ◌≢◌, MatchResult, Vec}
+use Rattle.std.proofs.Common.{◌≡◌, ◌∙◌, ℕ, ◌≤◌, List, [], ◌++◌, length, refl, sym, ap, inl, inr, Option, Some, None, Result, Ok, Err, IfOk, IfSome, Vec}
 use Rattle.std.specs.declared.alloc.Global.{Global}
 use Rattle.httparse.specs.Grammar.{ReadsRequest, RequestHead}
 use Rattle.httparse.proofs.GrammarLemmas.{ReadsRequest-append, request_unique}
@@ -13,14 +13,12 @@ use Rattle.http_requests.specs.declared.route.PostRoute.TheVariants.{Image, Comm
 use Rattle.http_requests.specs.declared.route.Route.{Route}
 use Rattle.http_requests.specs.declared.route.Route.TheVariants.{Get, Post}
 use Rattle.http_requests.specs.declared.fault.WantedFault.{WantedFault}
-use Rattle.http_requests.specs.declared.fault.WantedFault.TheVariants.{NoMemory}
-use Rattle.http_responses.specs.declared.outage.Outage.TheVariants as outage
+use Rattle.http_responses.specs.declared.refused.Refused.{Refused}
 use Rattle.desk_calls.specs.Desks.{ForEachShown}
 use Rattle.desk_texts.specs.declared.command.Person.{Person}
 use Rattle.desk_http.specs.Asked.{Asks, Due, HasRequest, caller_of, due_of, of_caller, of_head, of_route, with_body, with_image}
 use Rattle.desk_http.specs.Refused.{refused_by_head}
 use Rattle.desk_http.specs.declared.served.Unread.{Unread}
-use Rattle.desk_http.specs.declared.served.Unread.TheVariants.{Outage}
 use Rattle.desk_http.proofs.AskLemmas.{head_reads_itself}
 use Rattle.desk_http.proofs.BodyLemmas.{body_followed}
 
@@ -80,14 +78,11 @@ pub wanted_is_due : (w : Result Want WantedFault) (v : Want) (r : Result Due Unr
 wanted_is_due w v r known shows e found = rw e found
 
 -- the head has a fault
-pub refused_is_due : (w : Result Want WantedFault) (f : WantedFault) (r : Result Due Unread) (known : Option (List ℕ)) (shows : List ℕ → History → Type 0)
-    → (f ≢ NoMemory → w ≡ Err f)
-    → MatchResult r (λ due. (f ≢ NoMemory) × (due ≡ Err (refused_by_head f)))
-    (λ unread. (f ≡ NoMemory) × (unread ≡ Outage outage.NoMemory))
-    → IfOk r (λ due. IfSome known (λ rest. ForEachShown shows (λ _ cs. due ≡ of_head cs rest w)))
-refused_is_due w f (Err u) known shows given found = tt
-refused_is_due w f (Ok due) None shows given found = tt
-refused_is_due w f (Ok due) (Some rest) shows given found = λ owner cs shown. rw (given found.0) found.1
+pub refused_is_due : (w : Result Want WantedFault) (f : WantedFault) (x : Refused) (known : Option (List ℕ)) (shows : List ℕ → History → Type 0)
+    → w ≡ Err f → x ≡ refused_by_head f
+    → IfSome known (λ rest. ForEachShown shows (λ _ cs. Err x ≡ of_head cs rest w))
+refused_is_due w f x None shows given is = tt
+refused_is_due w f x (Some rest) shows given is = λ owner cs shown. rw (given, is) refl
 
 -- a head was read
 pub head_is_asked : (old mid : Option (List ℕ)) (taken : Vec ℕ Global) (due : Due) (shows : List ℕ → History → Type 0)

@@ -16,7 +16,6 @@ refused_by_head wanted.NoRoute = refused.NoRoute
 refused_by_head (wanted.BadMethod methods) = refused.BadMethod methods
 refused_by_head wanted.LengthNeeded = refused.LengthNeeded
 refused_by_head wanted.TooLarge = refused.TooLarge
-refused_by_head wanted.NoMemory = refused.Unavailable outage.NoMemory
 
 -- for a fault of the fields
 abbrev pub refused_by_fields : AskedFault → Refused

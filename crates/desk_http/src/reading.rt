@@ -1,5 +1,5 @@
 //! The request of a connection, read.
-ghost use Rattle.std.specs.Prelude.{◌≡◌, ◌≢◌, ◌⊎◌, ℕ, List, [], Err, None, Ok, Some, IfErr, IfOk, IfSome};
+ghost use Rattle.std.specs.Prelude.{◌≡◌, ◌≢◌, ℕ, List, [], Err, None, Ok, Some, IfErr, IfOk, IfSome};
 ghost use Rattle.std.specs.Prelude.{IsErr, MatchOption, MatchResult};
 ghost use Rattle.httparse.specs.Grammar.{ReadsRequest, RequestHead};
 ghost use Rattle.desk_bytes.specs.declared.watch.Watch.{Watch as Watching};
@@ -19,27 +19,24 @@ use crate::served::{Due, Unread};
 use desk_bytes::Watch;
 use desk_calls::{Answering, caller};
 use desk_texts::Person;
-use http_requests::{Begun, Wanted, WantedFault, read_head, wanted};
+use http_requests::{Begun, Routes, Wanted, WantedFault, read_head, wanted};
 use http_responses::{Outage, Refused};
 use std::alloc::Global;
 use std::io::Read;
 
-/// What is due where the head has this fault.
-fn refuse(fault: WantedFault) -> Result<Due, Unread>
-    ensures refused { MatchResult result (λ due. (fault ≢ WantedFault.NoMemory)
-        × (due ≡ Err (refused_by_head fault))) (λ unread. (fault ≡ WantedFault.NoMemory)
-        × (unread ≡ Unread.Outage Outage.NoMemory)) }
-    ensures no_store { result ≢ Ok (Err (Refused.Unavailable Outage.Store)) }
+/// The refusal of a head that has this fault.
+fn refused(fault: WantedFault) -> Refused
+    ensures refused { result ≡ refused_by_head fault }
+    ensures no_store { result ≢ Refused.Unavailable Outage.Store }
 {
     match fault {
-        WantedFault::BadHead => Ok(Err(Refused::BadHead)),
-        WantedFault::NotSupported => Ok(Err(Refused::NotSupported)),
-        WantedFault::BadField => Ok(Err(Refused::BadField)),
-        WantedFault::NoRoute => Ok(Err(Refused::NoRoute)),
-        WantedFault::BadMethod(methods) => Ok(Err(Refused::BadMethod(methods))),
-        WantedFault::LengthNeeded => Ok(Err(Refused::LengthNeeded)),
-        WantedFault::TooLarge => Ok(Err(Refused::TooLarge)),
-        WantedFault::NoMemory => Err(Unread::Outage(Outage::NoMemory)),
+        WantedFault::BadHead => Refused::BadHead,
+        WantedFault::NotSupported => Refused::NotSupported,
+        WantedFault::BadField => Refused::BadField,
+        WantedFault::NoRoute => Refused::NoRoute,
+        WantedFault::BadMethod(methods) => Refused::BadMethod(methods),
+        WantedFault::LengthNeeded => Refused::LengthNeeded,
+        WantedFault::TooLarge => Refused::TooLarge,
     }
 }
 
@@ -101,6 +98,7 @@ fn ask_as<D: Answering, R: Read>(
 /// What a head asks for, with what follows it.
 fn ask_by_head<D: Answering, R: Read>(
     alloc: Global,
+    routes: &Routes,
     desk: &mut D,
     head: &[u8],
     reader: &mut R,
@@ -119,22 +117,22 @@ fn ask_by_head<D: Answering, R: Read>(
         (λ due. IsErr due × ((h : RequestHead) (q : List ℕ)
         → ReadsRequest head.now h q → HasFewFields h
         → (cs : History) (rest : List ℕ) → due ≡ spec.due_of cs h rest))
-        (λ unread. (unread ≡ Unread.Outage Outage.Reopen)
-        ⊎ (unread ≡ Unread.Outage Outage.NoMemory)) }
+        (λ unread. unread ≡ Unread.Outage Outage.Reopen) }
     ensures stranger { (h : RequestHead) (q : List ℕ) → ReadsRequest head.now h q → HasFewFields h
         → D.clean desk.new → ForEachShown (D.shows desk.old) (λ _ cs. spec.IsOfNobody cs h
         → R.remaining reader.new ≡ R.remaining reader.old) }
     ensures device { IfErr result (HasCause watch.new) }
 {
-    match wanted(alloc, head) {
+    match wanted(routes, head) {
         Ok(wanted) => ask_as(alloc, desk, &wanted, reader, watch),
-        Err(fault) => refuse(fault),
+        Err(fault) => Ok(Err(refused(fault))),
     }
 }
 
 /// Reads what the input asks for, or gives `None` where it has no byte. Takes memory.
 pub(crate) fn read_due<D: Answering, R: Read>(
     alloc: Global,
+    routes: &Routes,
     desk: &mut D,
     reader: &mut R,
     watch: &mut Watch,
@@ -160,7 +158,7 @@ pub(crate) fn read_due<D: Answering, R: Read>(
         Ok(Begun::NoHead) => return Ok(Some(Err(Refused::BadHead))),
         Err(fault) => return Err(unread(fault)),
     };
-    let due = ask_by_head(alloc, desk, &head, reader, watch);
+    let due = ask_by_head(alloc, routes, desk, &head, reader, watch);
     drop(head);
     match due {
         Ok(due) => Ok(Some(due)),

@@ -13,6 +13,7 @@ use crate::served::{Due, Unread};
 use crate::{HttpFault, Served};
 use desk_bytes::Watch;
 use desk_calls::{Answer, Answering, answer};
+use http_requests::Routes;
 use http_responses::{Outage, Refused};
 use std::alloc::Global;
 use std::io::{Read, Write};
@@ -37,6 +38,7 @@ fn answer_due<D: Answering>(alloc: Global, desk: &mut D, due: Due) -> Answer
 /// The answer to what the input asks for, or `None` where it has no byte.
 fn answer_input<D: Answering, R: Read>(
     alloc: Global,
+    routes: &Routes,
     desk: &mut D,
     reader: &mut R,
     watch: &mut Watch,
@@ -57,7 +59,7 @@ fn answer_input<D: Answering, R: Read>(
     ensures some { IfOk result (λ found. IfSome found (λ _. HasByte (R.remaining reader.old))) }
     ensures device { IfErr result (spec.HasCause watch.new) }
 {
-    match read_due(alloc, desk, reader, watch) {
+    match read_due(alloc, routes, desk, reader, watch) {
         Ok(Some(due)) => Ok(Some(answer_due(alloc, desk, due))),
         Ok(None) => Ok(None),
         Err(Unread::Read) => Err(HttpFault::Read),
@@ -74,6 +76,7 @@ fn answer_input<D: Answering, R: Read>(
 /// stays accepted; where the store fails, it says Store, and where it failed before, Reopen: each with status 503.
 pub fn serve_one<D: Answering, R: Read, W: Write>(
     alloc: Global,
+    routes: &Routes,
     desk: &mut D,
     reader: &mut R,
     writer: &mut W,
@@ -98,7 +101,7 @@ pub fn serve_one<D: Answering, R: Read, W: Write>(
     ensures before { D.clean desk.new → D.clean desk.old }
 {
     let mut watch = Watch::new();
-    match answer_input(alloc, desk, reader, &mut watch) {
+    match answer_input(alloc, routes, desk, reader, &mut watch) {
         Ok(Some(answer)) => send_answer(alloc, answer, writer),
         Ok(None) => Ok(Served::Nothing),
         Err(fault) => Err(fault),

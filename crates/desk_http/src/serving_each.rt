@@ -5,6 +5,7 @@ ghost use Rattle.desk_http.specs.Each.{ServesEach, ServesNext, has_failed};
 use crate::serving::serve_one;
 use crate::{Answered, Served};
 use desk_calls::{Answering, Octets};
+use http_requests::Routes;
 use http_responses::{Outage, Refused};
 use std::alloc::Global;
 use std::io::Write;
@@ -25,6 +26,7 @@ fn is_failure(answered: Answered) -> bool
 /// Serves an input as a connection of its own, and tells whether the desk answered it.
 fn serve_next<D: Answering, W: Write>(
     alloc: Global,
+    routes: &Routes,
     desk: &mut D,
     input: &[u8],
     writer: &mut W,
@@ -35,7 +37,7 @@ fn serve_next<D: Answering, W: Write>(
     ensures closed { D.failed desk.old → desk.new ≡ desk.old }
 {
     let mut reader = input;
-    match serve_one(alloc, desk, &mut reader, writer) {
+    match serve_one(alloc, routes, desk, &mut reader, writer) {
         Ok(Served::Answered(answered)) => !is_failure(answered),
         Ok(Served::Nothing) => true,
         Err(_) => false,
@@ -47,6 +49,7 @@ fn serve_next<D: Answering, W: Write>(
 /// says that memory or the store failed. Takes memory.
 pub fn serve_each<D: Answering, W: Write>(
     alloc: Global,
+    routes: &Routes,
     desk: &mut D,
     inputs: &[Octets],
     writer: &mut W,
@@ -59,7 +62,7 @@ pub fn serve_each<D: Answering, W: Write>(
 {
     let mut served = 0;
     for input in inputs {
-        if !serve_next(alloc, desk, input.as_slice(), writer) {
+        if !serve_next(alloc, routes, desk, input.as_slice(), writer) {
             return served;
         }
         served += 1;

@@ -15,7 +15,6 @@ wanted_refusal wanted.NoRoute = refusal.NoRoute
 wanted_refusal (wanted.BadMethod methods) = refusal.BadMethod
 wanted_refusal wanted.LengthNeeded = refusal.LengthNeeded
 wanted_refusal wanted.TooLarge = refusal.TooLarge
-wanted_refusal wanted.NoMemory = refusal.NoMemory
 
 -- the row of a fault of the fields
 abbrev pub asked_refusal : AskedFault → Refusal

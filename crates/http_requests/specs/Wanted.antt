@@ -1,5 +1,5 @@
 -- own: the request of a head, or the first of the checks on it that fails.
-use Rattle.std.specs.Prelude.{◌≡◌, ◌≢◌, ℕ, List, Bool, Option, Some, None, Result, Ok, Err, nat_le, ◌==◌, if◌then◌else◌}
+use Rattle.std.specs.Prelude.{◌≡◌, ℕ, List, Bool, Option, Some, None, Result, Ok, Err, nat_le, ◌==◌, if◌then◌else◌}
 use Rattle.std.specs.List.{before_first, after_first}
 use Rattle.http_requests.specs.heads.Fields.{Parts}
 use Rattle.http_requests.specs.Fields.{Values, fields_of, bytes_of}
@@ -10,7 +10,7 @@ use Rattle.http_requests.specs.declared.route.Route.{Route}
 use Rattle.http_requests.specs.declared.route.Route.TheVariants.{Get, Post}
 use Rattle.http_requests.specs.declared.want.Wanted.{Wanted}
 use Rattle.http_requests.specs.declared.fault.WantedFault.{WantedFault}
-use Rattle.http_requests.specs.declared.fault.WantedFault.TheVariants.{BadField, NoRoute, BadMethod, LengthNeeded, TooLarge, NoMemory}
+use Rattle.http_requests.specs.declared.fault.WantedFault.TheVariants.{BadField, NoRoute, BadMethod, LengthNeeded, TooLarge}
 
 -- whether a byte is a slash (47)
 abbrev pub is_slash : ℕ → Bool
@@ -82,7 +82,7 @@ shown w = record {
   stamp = bytes_of w.stamp;
 }
 
--- the code returns this, or that memory was refused
+-- the code returns this
 abbrev pub Gives : Result Want WantedFault → Result Wanted WantedFault → Type 0
 Gives want (Ok given) = want ≡ Ok (shown given)
-Gives want (Err fault) = fault ≢ NoMemory → want ≡ Err fault
+Gives want (Err fault) = want ≡ Err fault

@@ -22,8 +22,6 @@ pub enum WantedFault {
     LengthNeeded,
     /// The body is longer than the route's limit.
     TooLarge,
-    /// Memory was refused.
-    NoMemory,
 }
 
 /// Why a request's fields or target don't suit its route.
@@ -52,7 +50,6 @@ impl WantedFault {
             WantedFault::BadMethod(_) => Refusal::BadMethod,
             WantedFault::LengthNeeded => Refusal::LengthNeeded,
             WantedFault::TooLarge => Refusal::TooLarge,
-            WantedFault::NoMemory => Refusal::NoMemory,
         }
     }
 }

@@ -27,5 +27,6 @@ pub use laws::{
 };
 pub use resource::{Methods, Resource};
 pub use route::{CommandRoute, GetRoute, ImageRoute, PostRoute, Route};
+pub use routing::Routes;
 pub use want::Wanted;
 pub use wanting::wanted;

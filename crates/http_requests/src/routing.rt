@@ -5,19 +5,43 @@ ghost use Rattle.http_requests.specs.Paths.{table, with_lists, with_proposals, w
 
 use crate::{CommandRoute, GetRoute, ImageRoute, PostRoute, Resource};
 use matchit::{InsertError, Router};
-use std::alloc::Global;
+use std::alloc::{AllocError, Global};
+use std::marker::Model;
 
-/// What stands at a request's target, if it is a path of the table: `matchit` matches it as it stands, a
-/// query and percent signs included. Takes memory for the table, and fails where memory is refused.
-#[tactic(auto, unfolding(crate::specs::Paths::resource_of))]
-pub(crate) fn resource_of(alloc: Global, target: &str) -> Result<Option<Resource>, InsertError>
-    ensures { IfOk result (λ resource. resource ≡ resource_of target.now) }
-{
-    let router = router(alloc)?;
-    Ok(match router.at(target) {
-        Ok(found) => Some(*found.value),
-        Err(_) => None,
-    })
+/// The table of paths, made once for all requests.
+#[derive(Drop)]
+pub struct Routes {
+    router: Router<Resource>,
+}
+
+impl Model for Routes {
+    ghost Value = { Unit {0} };
+
+    ghost view = { λ _. tt };
+
+    ghost invariant = { λ routes. routes.router ≡ table };
+}
+
+impl Routes {
+    /// Makes the table. Takes memory, and fails only where it is refused.
+    pub fn new(alloc: Global) -> Result<Routes, AllocError> {
+        match router(alloc) {
+            Ok(router) => Ok(Routes { router }),
+            Err(_) => Err(AllocError),
+        }
+    }
+
+    /// What stands at a request's target, if it is a path of the table: `matchit` matches it as it stands, a
+    /// query and percent signs included.
+    #[tactic(auto, unfolding(crate::specs::Paths::resource_of))]
+    pub(crate) fn resource_of(&self, target: &str) -> Option<Resource>
+        ensures { result ≡ resource_of target.now }
+    {
+        match self.router.at(target) {
+            Ok(found) => Some(*found.value),
+            Err(_) => None,
+        }
+    }
 }
 
 /// The whole table.

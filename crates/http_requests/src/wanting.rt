@@ -1,5 +1,5 @@
 //! Checks of a head, in their order.
-ghost use Rattle.std.specs.Prelude.{◌≡◌, ◌≢◌, ℕ, List, Err, position};
+ghost use Rattle.std.specs.Prelude.{◌≡◌, ℕ, List, Err, position};
 ghost use Rattle.std.specs.List.{after_first, before_first};
 ghost use Rattle.httparse.specs.Grammar.{ReadsRequest, RequestHead};
 ghost use Rattle.http_requests.specs.heads.Fields.{parts_of};
@@ -9,9 +9,7 @@ ghost use Rattle.http_requests.specs.Wanted as spec;
 ghost use Rattle.http_requests.specs.declared.fault.WantedFault.TheVariants.{BadHead};
 
 use crate::fields::checked_fields;
-use crate::routing::resource_of;
-use crate::{Head, Route, Wanted, WantedFault, parse_head};
-use std::alloc::Global;
+use crate::{Head, Route, Routes, Wanted, WantedFault, parse_head};
 
 /// The place of the first slash.
 fn slash(text: &[u8]) -> Option<usize>
@@ -61,14 +59,11 @@ fn size(route: Route, length: Option<u64>) -> Result<usize, WantedFault>
 }
 
 /// What the parts of a head ask for.
-fn wanted_by<'b>(alloc: Global, head: &Head<'b>) -> Result<Wanted<'b>, WantedFault>
+fn wanted_by<'b>(routes: &Routes, head: &Head<'b>) -> Result<Wanted<'b>, WantedFault>
     ensures { spec.Gives (spec.wanted_of (parts.shown head.now)) result }
 {
     let fields = checked_fields(head)?;
-    let Ok(resource) = resource_of(alloc, head.target) else {
-        return Err(WantedFault::NoMemory);
-    };
-    let Some(resource) = resource else {
+    let Some(resource) = routes.resource_of(head.target) else {
         return Err(WantedFault::NoRoute);
     };
     let Some(route) = resource.route(head.method) else {
@@ -89,8 +84,8 @@ fn wanted_by<'b>(alloc: Global, head: &Head<'b>) -> Result<Wanted<'b>, WantedFau
 /// What the head that begins the bytes asks for, or the first check that fails, in this order: there is a head
 /// of at most 64 fields; no Transfer-Encoding; each field that counts comes once at most and Content-Length
 /// has 1 to 10 digits; the target is a path of the table; the path has the method; POST has a Content-Length
-/// and GET has none above 0; the length is within the route's limit. Who calls isn't looked at. Takes memory.
-pub fn wanted(alloc: Global, head: &[u8]) -> Result<Wanted<'_>, WantedFault>
+/// and GET has none above 0; the length is within the route's limit. Who calls isn't looked at.
+pub fn wanted<'b>(routes: &Routes, head: &'b [u8]) -> Result<Wanted<'b>, WantedFault>
     ensures found { (h : RequestHead) (rest : List ℕ) → ReadsRequest head.now h rest
         → HasFewFields h → spec.Gives (spec.wanted_of (parts_of h)) result }
     ensures no_head { ((h : RequestHead) (rest : List ℕ) → ReadsRequest head.now h rest
@@ -99,5 +94,5 @@ pub fn wanted(alloc: Global, head: &[u8]) -> Result<Wanted<'_>, WantedFault>
     let Some(head) = parse_head(head) else {
         return Err(WantedFault::BadHead);
     };
-    wanted_by(alloc, &head)
+    wanted_by(routes, &head)
 }

@@ -1,6 +1,7 @@
+use Rattle.std.proofs.Common.{refl}
 use Rattle.http_requests.specs.heads.Fields.{parts_of}
 use Rattle.http_requests.specs.Wanted.{shown, wanted_of}
-use Rattle.desk_http.proofs.ClosedLemmas.{closed_ask}
+use Rattle.desk_http.proofs.ClosedLemmas.{closed_ask, closed_refuse}
 use Rattle.desk_http.proofs.InputLemmas.{refused_is_due, wanted_is_due}
 use Rattle.desk_http.proofs.reading.ask_by_head.Goals as goal
 
@@ -11,10 +12,14 @@ returns-in-Ok-clause-asked g c = λ h q reads few clean.
 
 pub returns-in-Err-clause-asked : goal.returns-in-Err-clause-asked
 returns-in-Err-clause-asked g c = λ h q reads few clean.
-    refused_is_due (wanted_of (parts_of h)) c.in-Err.fault c.refuse.result (g.R.Read.remaining c.args.reader.now) (g.D.Answering.shows c.args.desk.now)
-    (c.in-Err.ensures.found h q reads few) c.refuse.ensures.refused
+    refused_is_due (wanted_of (parts_of h)) c.in-Err.fault c.refused.result (g.R.Read.remaining c.args.reader.now) (g.D.Answering.shows c.args.desk.now)
+    (c.in-Err.ensures.found h q reads few) c.refused.ensures.refused
 
 pub returns-in-Ok-clause-closed : goal.returns-in-Ok-clause-closed
 returns-in-Ok-clause-closed g c was =
     let shut = c.ask_as.ensures.closed was in
     (shut.0, closed_ask c.args.head.now (shown c.in-Ok.wanted) c.ask_as.result c.in-Ok.ensures.found shut.1)
+
+pub returns-in-Err-clause-closed : goal.returns-in-Err-clause-closed
+returns-in-Err-clause-closed g c was =
+    (refl, closed_refuse c.args.head.now c.in-Err.fault c.refused.result c.refused.ensures.refused c.in-Err.ensures.found)
