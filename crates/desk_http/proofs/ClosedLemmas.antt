@@ -1,11 +1,11 @@
 -- What a desk that has failed lets be known of a request, and tells of it.
-use Rattle.std.proofs.Common.{◌≡◌, ◌≢◌, ◌∙◌, inl, inr, ℕ, List, [], refl, sym, subst, Option, Some, None, Result, Ok, Err, IfSome, MatchResult, Vec}
+use Rattle.std.proofs.Common.{◌≡◌, ◌≢◌, ◌∙◌, inl, inr, ℕ, List, [], refl, sym, subst, Option, Some, None, Result, Ok, Err, IfSome, MatchResult}
 use Rattle.std.specs.Prelude.{IfErr, IsErr}
-use Rattle.std.specs.declared.alloc.Global.{Global}
 use Rattle.httparse.specs.Grammar.{ReadsRequest, RequestHead}
 use Rattle.desk_history.specs.Calls.{History}
 use Rattle.http_requests.specs.heads.Fields.{parts_of}
-use Rattle.http_requests.specs.heads.Heads.{FindsOf, HasFewFields}
+use Rattle.http_requests.specs.heads.Heads.{FindsOf}
+use Rattle.http_requests.specs.heads.Limits.{HasFewFields}
 use Rattle.http_requests.specs.declared.heads.begun.Begun.TheVariants.{Head, NoHead}
 use Rattle.http_requests.specs.Wanted.{Want, wanted_of}
 use Rattle.http_requests.specs.declared.fault.WantedFault.{WantedFault}
@@ -67,27 +67,27 @@ IsDueOfAll head due =
 
 -- a head without a token
 pub closed_ask : (head : List ℕ) (v : Want) (r : Result Due Unread)
-    → ((h : RequestHead) (q : List ℕ) → ReadsRequest head h q → HasFewFields h → wanted_of (parts_of h) ≡ Ok v)
+    → ((h : RequestHead) (q : List ℕ) → ReadsRequest head h q → wanted_of (parts_of h) ≡ Ok v)
     → MatchResult r (λ due. (due ≡ Err refused.UnknownCaller) × (v.token ≡ None)) (λ u. u ≡ unread.Outage outage.Reopen)
     → MatchResult r (IsDueOfAll head) (λ u. u ≡ unread.Outage outage.Reopen)
 closed_ask head v (Err u) found is = is
 closed_ask head v (Ok due) found is =
     let P : Due → Type 0 = IsErr in
-    (subst P (sym is.0) refl, λ h q reads few cs rest. is.0 ∙ rw (found h q reads few, is.1) refl)
+    (subst P (sym is.0) refl, λ h q reads few cs rest. is.0 ∙ rw (found h q reads, is.1) refl)
 
 -- a head with a fault
 pub closed_refuse : (head : List ℕ) (f : WantedFault) (x : Refusing) → x ≡ refused_by_head f
-    → ((h : RequestHead) (q : List ℕ) → ReadsRequest head h q → HasFewFields h → wanted_of (parts_of h) ≡ Err f)
+    → ((h : RequestHead) (q : List ℕ) → ReadsRequest head h q → wanted_of (parts_of h) ≡ Err f)
     → IsDueOfAll head (Err x)
-closed_refuse head f x is found = (refl, λ h q reads few cs rest. rw (is, found h q reads few) refl)
+closed_refuse head f x is found = (refl, λ h q reads few cs rest. rw (is, found h q reads) refl)
 
 -- ---- by the input
 
-pub closed_head : (old mid : Option (List ℕ)) (taken : Vec ℕ Global) (due : Due)
-    → FindsOf old mid (Head taken) → IsDueOfAll taken.items due → IfSome old (λ b. (cs : History) → Asks cs b due)
+pub closed_head : (old mid : Option (List ℕ)) (taken : List ℕ) (due : Due)
+    → FindsOf old mid (Head taken) → IsDueOfAll taken due → IfSome old (λ b. (cs : History) → Asks cs b due)
 closed_head None mid taken due found all = tt
 closed_head (Some b) mid taken due found all =
-    let reads : ReadsRequest taken.items found.0 [] = rw found.3 (head_reads_itself b found.0 found.1 found.2) in
+    let reads : ReadsRequest taken found.0 [] = rw found.3 (head_reads_itself b found.0 found.1 found.2) in
     λ cs. inl (found.0, found.1, found.2, all.1 found.0 [] reads found.2.few cs found.1)
 
 pub closed_none : (old mid : Option (List ℕ)) → FindsOf old mid NoHead → IfSome old (λ b. (cs : History) → Asks cs b (Err refused.BadHead))

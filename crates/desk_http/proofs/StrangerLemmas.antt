@@ -1,11 +1,11 @@
 -- What is left of an input whose head is nobody's.
-use Rattle.std.proofs.Common.{◌≡◌, ◌≢◌, ◌∙◌, ℕ, List, [], refl, sym, ap, subst, Option, Some, None, Result, Ok, Err, IfOk, Vec}
-use Rattle.std.specs.declared.alloc.Global.{Global}
+use Rattle.std.proofs.Common.{◌≡◌, ◌≢◌, ◌∙◌, ℕ, List, [], refl, sym, ap, subst, Option, Some, None, Result, Ok, Err, IfOk}
 use Rattle.httparse.specs.Grammar.{ReadsRequest, RequestHead}
 use Rattle.httparse.proofs.GrammarLemmas.{request_unique}
 use Rattle.desk_history.specs.Calls.{History}
 use Rattle.http_requests.specs.heads.Fields.{parts_of}
-use Rattle.http_requests.specs.heads.Heads.{FindsOf, HasFewFields}
+use Rattle.http_requests.specs.heads.Heads.{FindsOf}
+use Rattle.http_requests.specs.heads.Limits.{HasFewFields}
 use Rattle.http_requests.specs.declared.heads.begun.Begun.TheVariants.{Head, NoHead}
 use Rattle.http_requests.proofs.HeadLemmas.{no_request_in_nothing}
 use Rattle.http_requests.specs.Wanted.{Want, wanted_of}
@@ -28,13 +28,13 @@ nobody_wants cs h v is nobody =
     let P : Result Want WantedFault → Type 0 = λ r. IfOk r (λ w. caller_of cs w.token ≡ None) in subst P is nobody
 
 -- a head was read, and nothing behind it
-pub leaves_head : (old mid new : Option (List ℕ)) (taken : Vec ℕ Global) (shows : List ℕ → History → Type 0)
+pub leaves_head : (old mid new : Option (List ℕ)) (taken : List ℕ) (shows : List ℕ → History → Type 0)
     → FindsOf old mid (Head taken)
-    → ((h : RequestHead) (q : List ℕ) → ReadsRequest taken.items h q → HasFewFields h → ForEachShown shows (λ _ cs. IsOfNobody cs h → new ≡ mid))
+    → ((h : RequestHead) (q : List ℕ) → ReadsRequest taken h q → HasFewFields h → ForEachShown shows (λ _ cs. IsOfNobody cs h → new ≡ mid))
     → LeavesBody shows old new
 leaves_head None mid new taken shows found stays = tt
 leaves_head (Some b) mid new taken shows found stays = λ owner cs shown h rest has nobody.
-    let reads : ReadsRequest taken.items found.0 [] = rw found.3 (head_reads_itself b found.0 found.1 found.2) in
+    let reads : ReadsRequest taken found.0 [] = rw found.3 (head_reads_itself b found.0 found.1 found.2) in
     let same = request_unique b h found.0 rest found.1 has.reads found.2.reads in
     let left : new ≡ mid = stays found.0 [] reads found.2.few owner cs shown (subst (IsOfNobody cs) same.0 nobody) in
     left ∙ (found.4 ∙ ap (λ (x : List ℕ). Some x) (sym same.1))
@@ -45,7 +45,7 @@ leaves_none None mid new shows found = tt
 leaves_none (Some b) mid new shows found = λ owner cs shown h rest has nobody. absurd (found.1 h rest has)
 
 -- an input that begins with a head has a byte
-pub head_has_byte : (old mid : Option (List ℕ)) (taken : Vec ℕ Global) → FindsOf old mid (Head taken) → HasByte old
+pub head_has_byte : (old mid : Option (List ℕ)) (taken : List ℕ) → FindsOf old mid (Head taken) → HasByte old
 head_has_byte None mid taken found = tt
 head_has_byte (Some b) mid taken found = λ nil.
     let P : List ℕ → Type 0 = λ l. ReadsRequest l found.0 found.1 in no_request_in_nothing found.0 found.1 (subst P nil found.2.reads)

@@ -9,7 +9,6 @@ use Rattle.http_responses.specs.declared.refused.Refused.TheVariants as refused
 
 -- for a fault of the head
 abbrev pub refused_by_head : WantedFault → Refused
-refused_by_head wanted.BadHead = refused.BadHead
 refused_by_head wanted.NotSupported = refused.NotSupported
 refused_by_head wanted.BadField = refused.BadField
 refused_by_head wanted.NoRoute = refused.NoRoute

@@ -4,7 +4,7 @@ ghost use Rattle.std.specs.Prelude.{IsErr, MatchOption, MatchResult};
 ghost use Rattle.httparse.specs.Grammar.{ReadsRequest, RequestHead};
 ghost use Rattle.desk_bytes.specs.declared.watch.Watch.{Watch as Watching};
 ghost use Rattle.http_requests.specs.heads.Fields.{parts_of};
-ghost use Rattle.http_requests.specs.heads.Heads.{HasFewFields};
+ghost use Rattle.http_requests.specs.heads.Limits.{HasFewFields};
 ghost use Rattle.http_requests.specs.Fields.{bytes_of};
 ghost use Rattle.http_requests.specs.Wanted as wants;
 ghost use Rattle.desk_calls.specs.Desks.{StillShows, ForEachShown};
@@ -19,7 +19,7 @@ use crate::served::{Due, Unread};
 use desk_bytes::Watch;
 use desk_calls::{Answering, caller};
 use desk_texts::Person;
-use http_requests::{Begun, Routes, Wanted, WantedFault, read_head, wanted};
+use http_requests::{Begun, ParsedHead, Routes, Wanted, WantedFault, read_head, wanted};
 use http_responses::{Outage, Refused};
 use std::alloc::Global;
 use std::io::Read;
@@ -30,7 +30,6 @@ fn refused(fault: WantedFault) -> Refused
     ensures no_store { result ≢ Refused.Unavailable Outage.Store }
 {
     match fault {
-        WantedFault::BadHead => Refused::BadHead,
         WantedFault::NotSupported => Refused::NotSupported,
         WantedFault::BadField => Refused::BadField,
         WantedFault::NoRoute => Refused::NoRoute,
@@ -100,7 +99,7 @@ fn ask_by_head<D: Answering, R: Read>(
     alloc: Global,
     routes: &Routes,
     desk: &mut D,
-    head: &[u8],
+    head: &ParsedHead,
     reader: &mut R,
     watch: &mut Watch,
 ) -> Result<Due, Unread>

@@ -1,5 +1,5 @@
 -- How a head that is read byte by byte stands to the heads of the whole input.
-use Rattle.std.proofs.Common.{◌≡◌, ◌≢◌, ◌∙◌, ℕ, ◌<◌, ◌≤◌, List, [], ◌∷◌, ◌++◌, length, refl, sym, ap, arith, append_assoc, length-append, Option, Some, None, inl, inr, ◌⊎◌}
+use Rattle.std.proofs.Common.{◌≡◌, ◌≢◌, ◌∙◌, ℕ, ◌<◌, ◌≤◌, List, [], ◌∷◌, ◌++◌, length, drop, refl, sym, ap, arith, append_assoc, length-append, Option, Some, None, inl, inr, ◌⊎◌}
 use Rattle.std.proofs.lemmas.Bool.{cases_lt}
 use Rattle.std.proofs.lemmas.List.{append-nil}
 use Rattle.std.specs.List.{flat_map}
@@ -7,10 +7,10 @@ use Rattle.std.specs.Io.KnownBytes.{Consumes, IsAtEnd}
 use Rattle.httparse.specs.Grammar.{LineEnd, crlf, lf, print_end, print_blank, print_version, print_field, RequestHead, print_request, ReadsRequest, HasNoRequest}
 use Rattle.httparse.specs.Spans.{RequestOverflows}
 use Rattle.httparse.proofs.GrammarLemmas.{ReadsRequest-append}
-use Rattle.std.specs.Prelude.{Vec}
-use Rattle.std.specs.declared.alloc.Global.{Global}
-use Rattle.http_requests.specs.heads.Heads.{Looks, FindsOf, most_bytes, most_fields}
-use Rattle.http_requests.specs.declared.heads.head_reading.Look.TheVariants.{Whole}
+use Rattle.http_requests.specs.heads.Heads.{FindsOf}
+use Rattle.http_requests.specs.heads.Limits.{most_bytes, most_fields}
+use Rattle.http_requests.specs.heads.Parsed.{IsParsed}
+use Rattle.http_requests.specs.declared.heads.head_spans.HeadSpans.{HeadSpans}
 use Rattle.http_requests.specs.declared.heads.begun.Begun.TheVariants.{Nothing, Head, NoHead}
 
 -- of two ways to cut one list, the longer front holds the shorter one
@@ -73,18 +73,23 @@ consumed_more (Some os) (Some ms) None xs ys a b = absurd b
 consumed_more (Some os) (Some ms) (Some ns) xs ys a b = rw (a, b) (sym (append_assoc xs ys ns))
 
 -- the byte that came last ends a head
-pub finds_head : (o n : Option (List ℕ)) (taken : Vec ℕ Global) (t : List ℕ) (x : ℕ) → taken.items ≡ t ++ x ∷ []
+pub finds_head : (o n : Option (List ℕ)) (taken t : List ℕ) (x : ℕ) (spans : HeadSpans) → taken ≡ t ++ x ∷ []
     → HasNoRequest t → length (t ++ x ∷ []) ≤ most_bytes
-    → Consumes o n (t ++ x ∷ []) → Looks (t ++ x ∷ []) Whole → FindsOf o n (Head taken)
-finds_head None n taken t x is none short took look = tt
-finds_head (Some b) None taken t x is none short took look = absurd took
-finds_head (Some b) (Some left) taken t x is none short took look = elim (whole_or_before t x look.0 look.1 look.2) [
-  | inl whole ↦
-      let all = ReadsRequest-append (t ++ x ∷ []) look.0 look.1 left look.2 in
-      let read : ReadsRequest b look.0 left = rw took (rw whole.0 at all) in
-      (look.0, left, record { reads = read; short = rw whole.1 short; few = look.3 }, is ∙ sym whole.1, refl)
-  | inr before ↦ absurd (none look.0 before.0 before.1)
-]
+    → Consumes o n (t ++ x ∷ []) → IsParsed (t ++ x ∷ []) spans → FindsOf o n (Head taken)
+finds_head None n taken t x spans is none short took parsed = tt
+finds_head (Some b) None taken t x spans is none short took parsed = absurd took
+finds_head (Some b) (Some left) taken t x spans is none short took parsed =
+    let h = parsed.head.0 in
+    let reads = parsed.head.1.reads in
+    let few = parsed.head.2 in
+    let after = drop spans.request.len (t ++ x ∷ []) in
+    elim (whole_or_before t x h after reads) [
+      | inl whole ↦
+          let all = ReadsRequest-append (t ++ x ∷ []) h after left reads in
+          let read : ReadsRequest b h left = rw took (rw whole.0 at all) in
+          (h, left, record { reads = read; short = rw whole.1 short; few = few }, is ∙ sym whole.1, refl)
+      | inr before ↦ absurd (none h before.0 before.1)
+    ]
 
 -- a list with an item at its end is not empty
 not_nil : (b t n : List ℕ) → b ≡ t ++ n → 0 < length t → b ≢ []

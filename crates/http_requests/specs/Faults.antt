@@ -8,7 +8,6 @@ use Rattle.desk_bytes.specs.declared.refusal.Refusal.TheVariants as refusal
 
 -- the row of a fault of the head
 abbrev pub wanted_refusal : WantedFault → Refusal
-wanted_refusal wanted.BadHead = refusal.BadHead
 wanted_refusal wanted.NotSupported = refusal.NotSupported
 wanted_refusal wanted.BadField = refusal.BadField
 wanted_refusal wanted.NoRoute = refusal.NoRoute

@@ -1,3 +1,5 @@
 pub mod Heads
 pub mod Bodies
 pub mod Fields
+pub mod Limits
+pub mod Parsed

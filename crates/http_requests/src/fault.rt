@@ -8,8 +8,6 @@ use desk_bytes::Refusal;
 /// Why a head is refused before the caller is looked up.
 #[derive(Clone, Copy, Debug, PartialEq, Eq)]
 pub enum WantedFault {
-    /// No head of at most 64 fields begins the bytes.
-    BadHead,
     /// There is a field Transfer-Encoding.
     NotSupported,
     /// A known field is repeated, Content-Length isn't 1 to 10 digits, or GET announces a body.
@@ -43,7 +41,6 @@ impl WantedFault {
         ensures { result ≡ spec.wanted_refusal self }
     {
         match self {
-            WantedFault::BadHead => Refusal::BadHead,
             WantedFault::NotSupported => Refusal::NotSupported,
             WantedFault::BadField => Refusal::BadField,
             WantedFault::NoRoute => Refusal::NoRoute,

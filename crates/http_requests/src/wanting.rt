@@ -1,15 +1,13 @@
 //! Checks of a head, in their order.
-ghost use Rattle.std.specs.Prelude.{◌≡◌, ℕ, List, Err, position};
+ghost use Rattle.std.specs.Prelude.{◌≡◌, ℕ, List, position};
 ghost use Rattle.std.specs.List.{after_first, before_first};
 ghost use Rattle.httparse.specs.Grammar.{ReadsRequest, RequestHead};
 ghost use Rattle.http_requests.specs.heads.Fields.{parts_of};
 ghost use Rattle.http_requests.specs.heads.Fields as parts;
-ghost use Rattle.http_requests.specs.heads.Heads.{HasFewFields};
 ghost use Rattle.http_requests.specs.Wanted as spec;
-ghost use Rattle.http_requests.specs.declared.fault.WantedFault.TheVariants.{BadHead};
 
 use crate::fields::checked_fields;
-use crate::{Head, Route, Routes, Wanted, WantedFault, parse_head};
+use crate::{Head, ParsedHead, Route, Routes, Wanted, WantedFault};
 
 /// The place of the first slash.
 fn slash(text: &[u8]) -> Option<usize>
@@ -81,18 +79,13 @@ fn wanted_by<'b>(routes: &Routes, head: &Head<'b>) -> Result<Wanted<'b>, WantedF
     })
 }
 
-/// What the head that begins the bytes asks for, or the first check that fails, in this order: there is a head
-/// of at most 64 fields; no Transfer-Encoding; each field that counts comes once at most and Content-Length
-/// has 1 to 10 digits; the target is a path of the table; the path has the method; POST has a Content-Length
-/// and GET has none above 0; the length is within the route's limit. Who calls isn't looked at.
-pub fn wanted<'b>(routes: &Routes, head: &'b [u8]) -> Result<Wanted<'b>, WantedFault>
-    ensures found { (h : RequestHead) (rest : List ℕ) → ReadsRequest head.now h rest
-        → HasFewFields h → spec.Gives (spec.wanted_of (parts_of h)) result }
-    ensures no_head { ((h : RequestHead) (rest : List ℕ) → ReadsRequest head.now h rest
-        → HasFewFields h → ⊥) → result ≡ Err BadHead }
+/// What a head asks for, or the first check that fails, in this order: no Transfer-Encoding; each field that counts
+/// comes once at most and Content-Length has 1 to 10 digits; the target is a path of the table; the path has the
+/// method; POST has a Content-Length and GET has none above 0; the length is within the route's limit. Who calls
+/// isn't looked at.
+pub fn wanted<'b>(routes: &Routes, head: &'b ParsedHead) -> Result<Wanted<'b>, WantedFault>
+    ensures { (h : RequestHead) (rest : List ℕ) → ReadsRequest head.now h rest
+        → spec.Gives (spec.wanted_of (parts_of h)) result }
 {
-    let Some(head) = parse_head(head) else {
-        return Err(WantedFault::BadHead);
-    };
-    wanted_by(routes, &head)
+    wanted_by(routes, &head.parts())
 }

@@ -4,22 +4,12 @@ use Rattle.std.specs.List.{ends_with}
 use Rattle.httparse.specs.Grammar.{RequestHead, print_request, ReadsRequest, HasNoRequest}
 use Rattle.httparse.specs.Spans.{RequestOverflows}
 use Rattle.std.specs.Io.KnownBytes.{Consumes, IsAtEnd}
+use Rattle.http_requests.specs.heads.Limits.{HasFewFields, most_bytes, most_fields}
+use Rattle.http_requests.specs.heads.Parsed.{IsParsed}
 use Rattle.http_requests.specs.declared.heads.head_reading.Look.{Look}
 use Rattle.http_requests.specs.declared.heads.head_reading.Look.TheVariants.{Whole, Open, Never}
 use Rattle.http_requests.specs.declared.heads.begun.Begun.{Begun}
 use Rattle.http_requests.specs.declared.heads.begun.Begun.TheVariants.{Nothing, Head, NoHead}
-
--- own: the most bytes of a head, including the empty lines before it
-abbrev pub most_bytes : ℕ
-most_bytes = 16384
-
--- own: the most fields of a head
-abbrev pub most_fields : ℕ
-most_fields = 64
-
--- the head has no more fields than that
-abbrev pub HasFewFields : RequestHead → Type 0
-HasFewFields h = length h.fields ≤ most_fields
 
 -- b begins with the head h of httparse's default grammar, within the limits, and continues with
 -- rest
@@ -38,7 +28,7 @@ abbrev pub Finds : List ℕ → Option (List ℕ) → Begun → Type 0
 Finds b left Nothing = b ≡ []
 Finds b left (Head taken) =
     (h : RequestHead) × (rest : List ℕ)
-    × HasHead b h rest × (taken.items ≡ print_request h) × (left ≡ Some rest)
+    × HasHead b h rest × (taken ≡ print_request h) × (left ≡ Some rest)
 Finds b left NoHead = (b ≢ []) × HasNoHead b
 
 -- the same, where the reader's bytes are known
@@ -51,10 +41,10 @@ abbrev pub TakesByte : Option (List ℕ) → Option (List ℕ) → Option ℕ �
 TakesByte old new None = IsAtEnd old
 TakesByte old new (Some x) = Consumes old new (x ∷ [])
 
--- the bytes begin with a head of few fields, with no head, or with no head of few fields whatever follows
+-- the bytes begin with a head of few fields whose spans are these, with no head, or with no head of few fields whatever
+-- follows
 abbrev pub Looks : List ℕ → Look → Type 0
-Looks bytes Whole =
-    (h : RequestHead) × (rest : List ℕ) × ReadsRequest bytes h rest × HasFewFields h
+Looks bytes (Whole spans) = IsParsed bytes spans
 Looks bytes Open = HasNoRequest bytes
 Looks bytes Never = RequestOverflows most_fields bytes
 

@@ -4,7 +4,8 @@ ghost use Rattle.desk_bytes.specs.Watches.{HasCause};
 ghost use Rattle.http_requests.specs.heads.Heads as spec;
 ghost use Rattle.http_requests.specs.heads.Heads.{FindsOf, Looks, TakesByte};
 
-use crate::Begun;
+use crate::heads::head_spans::HeadSpans;
+use crate::{Begun, ParsedHead};
 use desk_bytes::{InputFault, ReadFailed, Watch};
 use httparse::Status;
 use httparse::spans::{EMPTY_HEADER_SPAN, parse_request};
@@ -19,8 +20,8 @@ pub(crate) const MOST_FIELDS: usize = 64;
 
 /// How the bytes so far stand to a head.
 enum Look {
-    /// They begin with one.
-    Whole,
+    /// They begin with one, whose parts stand here.
+    Whole(HeadSpans),
     /// They don't begin with one.
     Open,
     /// They don't, whatever follows, or with one of too many fields.
@@ -46,7 +47,7 @@ fn examine(bytes: &[u8]) -> Look
 {
     let mut fields = [EMPTY_HEADER_SPAN; MOST_FIELDS];
     match parse_request(bytes, &mut fields) {
-        Ok(Status::Complete(_)) => Look::Whole,
+        Ok(Status::Complete(request)) => Look::Whole(HeadSpans { request, fields }),
         Ok(Status::Partial) => Look::Open,
         Err(_) => Look::Never,
     }
@@ -111,7 +112,7 @@ pub fn read_head<R: Read>(
         if may_end_head(taken.as_slice(), blank, begun) {
             begun = true;
             match examine(taken.as_slice()) {
-                Look::Whole => return Ok(Begun::Head(taken)),
+                Look::Whole(spans) => return Ok(Begun::Head(ParsedHead::new(taken, spans))),
                 Look::Open => {}
                 Look::Never => return Ok(Begun::NoHead),
             }

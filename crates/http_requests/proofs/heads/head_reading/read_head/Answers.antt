@@ -21,8 +21,8 @@ returns-in-Whole-clause-found g c =
     let pushed : c.push.new.self.items ≡ c.loop-reader.taken.items ++ c.in-Some.byte ∷ [] = search rules in
     let more = length-append c.loop-reader.taken.items (c.in-Some.byte ∷ []) in
     let took : TakesByte (g.R.Read.remaining c.loop-reader.reader) (g.R.Read.remaining c.read_byte.new.reader) (Some c.in-Some.byte) = rw c.in-Some.is at c.in_ok-byte.ensures.taken in
-    let looks = rw (c.as_slice-then-may_end_head.ensures.value, pushed) at c.in-Whole.ensures in
-    finds_head _ _ _ _ _ pushed kept.none (omega arith) (consumed_more _ _ _ _ _ kept.consumed took) looks
+    let parsed = rw (c.as_slice-then-may_end_head.ensures.value, pushed) at c.in-Whole.ensures in
+    finds_head _ _ _ _ _ c.in-Whole.spans (c.new.ensures ∙ pushed) kept.none (omega arith) (consumed_more _ _ _ _ _ kept.consumed took) parsed
 
 pub loop-reader-preserved : goal.loop-reader-preserved
 loop-reader-preserved g c =

@@ -2,7 +2,8 @@ use Rattle.std.proofs.Common.{◌≡◌, ◌≤◌, length, ◌-◌}
 use Rattle.std.specs.Io.KnownBytes.{Consumes}
 use Rattle.std.specs.List.{list_all}
 use Rattle.httparse.specs.Grammar.{HasNoRequest}
-use Rattle.http_requests.specs.heads.Heads.{is_line_break, most_bytes}
+use Rattle.http_requests.specs.heads.Heads.{is_line_break}
+use Rattle.http_requests.specs.heads.Limits.{most_bytes}
 use Rattle.http_requests.proofs.heads.head_reading.read_head.Given as goal
 
 abbrev pub invariant-loop-reader : goal.invariant-loop-reader

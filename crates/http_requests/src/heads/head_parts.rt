@@ -1,15 +1,14 @@
 //! The parts of a head.
-ghost use Rattle.std.specs.Prelude.{◌≡◌, ℕ, List, All, IsSome, IsSomeAnd, length, map};
+ghost use Rattle.std.specs.Prelude.{◌≡◌, All, IsUtf8, length, map};
 ghost use Rattle.std.specs.Str.{str_eq_ignore_ascii_case};
-ghost use Rattle.httparse.specs.Grammar.{ReadsRequest, RequestHead};
-ghost use Rattle.httparse.specs.Spans.{IsHeaderWithin, header_bytes};
+ghost use Rattle.httparse.specs.Grammar.{RequestHead};
+ghost use Rattle.httparse.specs.Spans.{IsHeaderWithin, IsRequestAt, IsWithin, header_bytes, span_bytes};
 ghost use Rattle.http_requests.specs.heads.Fields.{occurrence, occurrence_of, parts_of, shown, values_named, with_another};
-ghost use Rattle.http_requests.specs.heads.Heads.{HasFewFields};
+ghost use Rattle.http_requests.specs.heads.Parsed.{IsParsed};
 
-use crate::heads::head_reading::MOST_FIELDS;
+use crate::heads::head_spans::HeadSpans;
 use crate::{Given, Head};
-use httparse::Status;
-use httparse::spans::{EMPTY_HEADER_SPAN, HeaderSpan, parse_request};
+use httparse::spans::{HeaderSpan, Span};
 use std::str;
 
 /// Whether a field's name is this one, without regard to case (RFC 9110, section 5.1).
@@ -44,30 +43,33 @@ fn given<'b>(bytes: &'b [u8], spans: &[HeaderSpan], name: &str) -> Given<'b>
     given
 }
 
-/// The parts of the head that begins the bytes, or `None` where no head of at most 64 fields begins them
-/// (RFC 9112, sections 2 to 5, as `httparse` takes it).
-pub fn parse_head(bytes: &[u8]) -> Option<Head<'_>>
-    ensures found { (h : RequestHead) (rest : List ℕ) → ReadsRequest bytes.now h rest
-        → HasFewFields h → IsSomeAnd result (λ head. shown head ≡ parts_of h) }
-    ensures only { IsSome result
-        → (h : RequestHead) × (rest : List ℕ) × ReadsRequest bytes.now h rest × HasFewFields h }
+/// The text of these bytes.
+fn text_at(bytes: &[u8], span: Span) -> &str
+    requires within { IsWithin (length bytes.now) span }
+    requires text { IsUtf8 (span_bytes bytes.now span) }
+    ensures { result.now ≡ span_bytes bytes.now span }
 {
-    let mut spans = [EMPTY_HEADER_SPAN; MOST_FIELDS];
-    let Ok(Status::Complete(head)) = parse_request(bytes, &mut spans) else {
-        return None;
-    };
-    let Ok(target) = str::from_utf8(head.path.of(bytes)) else {
-        return None;
-    };
-    let fields = &spans[..head.headers];
-    Some(Head {
-        method: head.method.of(bytes),
-        target,
+    match str::from_utf8(span.of(bytes)) {
+        Ok(text) => text,
+        Err(_) => unreachable!(),
+    }
+}
+
+/// The parts of a head of these bytes, where they stand there.
+pub(crate) fn parts_at<'b>(bytes: &'b [u8], spans: &HeadSpans) -> Head<'b>
+    requires { IsParsed bytes.now spans.now }
+    ensures { (h : RequestHead) → IsRequestAt bytes.now spans.now.fields spans.now.request h
+        → shown result ≡ parts_of h }
+{
+    let fields = &spans.fields[..spans.request.headers];
+    Head {
+        method: spans.request.method.of(bytes),
+        target: text_at(bytes, spans.request.path),
         transfer_encoding: given(bytes, fields, "Transfer-Encoding"),
         content_length: given(bytes, fields, "Content-Length"),
         desk_token: given(bytes, fields, "Desk-Token"),
         desk_key: given(bytes, fields, "Desk-Key"),
         desk_title: given(bytes, fields, "Desk-Title"),
         desk_stamp: given(bytes, fields, "Desk-Stamp"),
-    })
+    }
 }
