@@ -5,6 +5,7 @@ ghost use Rattle.desk_http.specs.Serving as spec;
 use crate::{Timed, read_off};
 use desk_calls::Answering;
 use desk_http::{HttpFault, Served, serve_one};
+use http_requests::Routes;
 use std::alloc::Global;
 use std::io::{BufReader, Read, Write};
 use std::net::{Shutdown, TcpStream};
@@ -32,6 +33,7 @@ fn end_response<C: Clock>(clock: &C, stream: &TcpStream) {
 /// Takes memory for a piece of the input; NoMemory where there is none, before anything is read.
 pub fn answer_connection<D: Answering, R: Read + Drop, W: Write>(
     alloc: Global,
+    routes: &Routes,
     desk: &mut D,
     reader: R,
     writer: &mut W,
@@ -53,7 +55,7 @@ pub fn answer_connection<D: Answering, R: Read + Drop, W: Write>(
     let Ok(mut reader) = BufReader::new(alloc, reader) else {
         return Err(HttpFault::NoMemory);
     };
-    serve_one(alloc, desk, &mut reader, writer)
+    serve_one(alloc, routes, desk, &mut reader, writer)
 }
 
 /// Serves one request of a connection. Where there is no memory for the reader, or the peer takes longer than it may,
@@ -61,6 +63,7 @@ pub fn answer_connection<D: Answering, R: Read + Drop, W: Write>(
 pub(crate) fn serve_stream<C: Clock, D: Answering>(
     alloc: Global,
     clock: &C,
+    routes: &Routes,
     desk: &mut D,
     stream: &TcpStream,
 ) -> Result<Served, HttpFault>
@@ -70,7 +73,7 @@ pub(crate) fn serve_stream<C: Clock, D: Answering>(
 {
     let reader = Timed::new(clock, stream);
     let mut writer = Timed::new(clock, stream);
-    let served = answer_connection(alloc, desk, reader, &mut writer);
+    let served = answer_connection(alloc, routes, desk, reader, &mut writer);
     if was_answered(&served) {
         end_response(clock, stream);
     }

@@ -12,6 +12,7 @@ use crate::served::ending;
 use desk_bytes::Refusal;
 use desk_calls::Answering;
 use desk_http::{HttpFault, Served};
+use http_requests::Routes;
 use std::alloc::Global;
 use std::net::{Ipv4Addr, Net, SocketAddr, SocketAddrV4, TcpListener, TcpStream};
 use std::time::Clock;
@@ -35,6 +36,7 @@ pub fn listen<N: Net<Listener = TcpListener, Stream = TcpStream>>(
 struct Callers<'l, C> {
     listener: &'l TcpListener,
     clock: &'l C,
+    routes: &'l Routes,
 }
 
 impl<'l, C: Clock, D: Answering> Peers<D> for Callers<'l, C> {
@@ -42,7 +44,7 @@ impl<'l, C: Clock, D: Answering> Peers<D> for Callers<'l, C> {
 
     fn serve_next(&self, alloc: Global, desk: &mut D) -> Option<Result<Served, HttpFault>> {
         match self.listener.accept() {
-            Ok((stream, _)) => Some(serve_stream(alloc, self.clock, desk, &stream)),
+            Ok((stream, _)) => Some(serve_stream(alloc, self.clock, self.routes, desk, &stream)),
             Err(_) => None,
         }
     }
@@ -82,6 +84,7 @@ fn serve_peers<D: Answering, P: Peers<D>>(
 pub fn serve<C: Clock, D: Answering>(
     alloc: Global,
     clock: &C,
+    routes: &Routes,
     desk: &mut D,
     listener: &TcpListener,
     count: u32,
@@ -92,5 +95,10 @@ pub fn serve<C: Clock, D: Answering>(
     ensures poisons { IsErrOf result Refusal.Store → D.failed desk.new }
     ensures closed { D.failed desk.old → desk.new ≡ desk.old }
 {
-    serve_peers(alloc, desk, &Callers { listener, clock }, count)
+    let callers = Callers {
+        listener,
+        clock,
+        routes,
+    };
+    serve_peers(alloc, desk, &callers, count)
 }
