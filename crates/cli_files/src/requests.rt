@@ -16,6 +16,7 @@ use desk_bytes::Refusal;
 use desk_calls::Answering;
 use desk_store::Desk;
 use http_net::{answer_connection, listen, serve};
+use http_requests::Routes;
 use sqlite::{File, FileStore};
 use sqlite_disk::Disk;
 use std::alloc::Global;
@@ -24,6 +25,7 @@ use std::io::{Read, Write};
 /// Answers one request of the reader, as a subcommand's work.
 fn answer_one<D: Answering, R: Read + Drop, W: Write>(
     alloc: Global,
+    routes: &Routes,
     desk: &mut D,
     reader: R,
     writer: &mut W,
@@ -33,7 +35,7 @@ fn answer_one<D: Answering, R: Read + Drop, W: Write>(
     ensures done { IfOk result (λ outcome. outcome ≡ Outcome.Done) }
     ensures named { IfErr result (IsRow IsAnsweringRefusal) }
 {
-    match http_net::outcome(answer_connection(alloc, desk, reader, writer)) {
+    match http_net::outcome(answer_connection(alloc, routes, desk, reader, writer)) {
         Ok(()) => Ok(Outcome::Done),
         Err(refusal) => Err(Fault::from(refusal)),
     }
@@ -42,6 +44,7 @@ fn answer_one<D: Answering, R: Read + Drop, W: Write>(
 /// Answers one request of the reader, for an open desk over files, and closes it.
 fn answer_at<D: Disk + Drop, R: Read + Drop, W: Write>(
     alloc: Global,
+    routes: &Routes,
     desk: Desk<FileStore<D>>,
     reader: R,
     writer: &mut W,
@@ -54,7 +57,7 @@ fn answer_at<D: Disk + Drop, R: Read + Drop, W: Write>(
     ensures let_go { IfErr result.work (λ fault. IsLasting fault.refusal → result.closing ≡ None) }
 {
     let mut desk = OpenDesk::new(desk);
-    let work = answer_one(alloc, &mut desk, reader, writer);
+    let work = answer_one(alloc, routes, &mut desk, reader, writer);
     ended(desk.into_desk(), work)
 }
 
@@ -81,8 +84,11 @@ pub fn answer_from<R: Read + Drop, W: Write>(
     ensures closing { IfSome result.closing (IsRow IsClosingRefusal) }
     ensures let_go { IfErr result.work (λ fault. IsLasting fault.refusal → result.closing ≡ None) }
 {
+    let Ok(routes) = Routes::new(rt.alloc()) else {
+        return Ending::without_desk(Refusal::NoMemory);
+    };
     match open(rt, path) {
-        Ok(desk) => answer_at(rt.alloc(), desk, reader, writer),
+        Ok(desk) => answer_at(rt.alloc(), &routes, desk, reader, writer),
         Err(refusal) => Ending::without_desk(refusal),
     }
 }
@@ -90,6 +96,7 @@ pub fn answer_from<R: Read + Drop, W: Write>(
 /// Serves `count` connections at this port of 127.0.0.1, for a desk.
 fn serve_desk<D: Answering>(
     rt: &HostRuntime,
+    routes: &Routes,
     desk: &mut D,
     port: u16,
     count: u32,
@@ -101,12 +108,13 @@ fn serve_desk<D: Answering>(
         Ok(listener) => listener,
         Err(refusal) => return Err(refusal),
     };
-    serve(rt.alloc(), rt, desk, &listener, count)
+    serve(rt.alloc(), rt, routes, desk, &listener, count)
 }
 
 /// The same, as a subcommand's work.
 fn serve_all<D: Answering>(
     rt: &HostRuntime,
+    routes: &Routes,
     desk: &mut D,
     port: u16,
     count: u32,
@@ -115,7 +123,7 @@ fn serve_all<D: Answering>(
     ensures done { IfOk result (λ outcome. outcome ≡ Outcome.Done) }
     ensures named { IfErr result (IsRow IsServingRefusal) }
 {
-    match serve_desk(rt, desk, port, count) {
+    match serve_desk(rt, routes, desk, port, count) {
         Ok(()) => Ok(Outcome::Done),
         Err(refusal) => Err(Fault::from(refusal)),
     }
@@ -125,6 +133,7 @@ fn serve_all<D: Answering>(
 /// it.
 fn serve_at<D: Disk + Drop>(
     rt: &HostRuntime,
+    routes: &Routes,
     desk: Desk<FileStore<D>>,
     port: u16,
     count: u32,
@@ -136,7 +145,7 @@ fn serve_at<D: Disk + Drop>(
     ensures let_go { IfErr result.work (λ fault. IsLasting fault.refusal → result.closing ≡ None) }
 {
     let mut desk = OpenDesk::new(desk);
-    let work = serve_all(rt, &mut desk, port, count);
+    let work = serve_all(rt, routes, &mut desk, port, count);
     ended(desk.into_desk(), work)
 }
 
@@ -155,8 +164,11 @@ pub fn serve_from(rt: &HostRuntime, path: &str, port: u16, count: u32) -> Ending
     ensures closing { IfSome result.closing (IsRow IsClosingRefusal) }
     ensures let_go { IfErr result.work (λ fault. IsLasting fault.refusal → result.closing ≡ None) }
 {
+    let Ok(routes) = Routes::new(rt.alloc()) else {
+        return Ending::without_desk(Refusal::NoMemory);
+    };
     match open(rt, path) {
-        Ok(desk) => serve_at(rt, desk, port, count),
+        Ok(desk) => serve_at(rt, &routes, desk, port, count),
         Err(refusal) => Ending::without_desk(refusal),
     }
 }

@@ -1,8 +1,10 @@
 //! Requests by their heads.
+use desk_bytes::{Refusal, Watch};
 use desk_texts::{Command, ProposalNumber, RequestNumber};
 use http_requests::{
-    AskedFault, BytesAsked, CommandAsked, ImageAsked, JsonAsked, KeyedAsked, PostRoute, ReadAsked,
-    Route, Wanted, command_asked, image_asked, read_asked, wanted,
+    AskedFault, Begun, BytesAsked, CommandAsked, ImageAsked, JsonAsked, KeyedAsked, ParsedHead,
+    PostRoute, ReadAsked, Route, Routes, Wanted, command_asked, image_asked, read_asked, read_head,
+    wanted,
 };
 use sbat::Stamp;
 use std::alloc::Global;
@@ -175,9 +177,20 @@ fn ask(alloc: Global, wanted: &Wanted<'_>) -> Result<Asked, AskedFault> {
     }
 }
 
+/// The head that begins the bytes.
+fn parsed(alloc: Global, mut bytes: &[u8]) -> Option<ParsedHead> {
+    match read_head(alloc, &mut bytes, &mut Watch::new()) {
+        Ok(Begun::Head(head)) => Some(head),
+        Ok(Begun::Nothing | Begun::NoHead) | Err(_) => None,
+    }
+}
+
 /// The name of the first check that fails, or of the route.
-fn outcome(alloc: Global, head: &[u8]) -> &'static str {
-    let wanted = match wanted(alloc, head) {
+fn outcome(alloc: Global, routes: &Routes, bytes: &[u8]) -> &'static str {
+    let Some(head) = parsed(alloc, bytes) else {
+        return Refusal::BadHead.name();
+    };
+    let wanted = match wanted(routes, &head) {
         Ok(wanted) => wanted,
         Err(fault) => return fault.refusal().name(),
     };
@@ -249,16 +262,17 @@ fn name_of_command(asked: &CommandAsked) -> &'static str {
 }
 
 /// Whether the line's head gives what its first word names.
-fn is_told(alloc: Global, line: &str) -> Result<bool, Fail> {
+fn is_told(alloc: Global, routes: &Routes, line: &str) -> Result<bool, Fail> {
     let (name, head) = line.split_once(' ').ok_or("a name and a head")?;
     let bytes = bytes_of(alloc, head)?;
-    Ok(outcome(alloc, bytes.as_slice()) == name)
+    Ok(outcome(alloc, routes, bytes.as_slice()) == name)
 }
 
 #[test]
 fn tells_the_first_check_that_fails(rt: HostRuntime) -> Result<(), Fail> {
+    let routes = Routes::new(rt.alloc())?;
     for line in HEADS.lines() {
-        assert!(rt; is_told(rt.alloc(), line)?, "{line}");
+        assert!(rt; is_told(rt.alloc(), &routes, line)?, "{line}");
     }
     Ok(())
 }
@@ -269,8 +283,10 @@ Desk-Stamp: 2024010100||rest";
 
 #[test]
 fn gives_the_values_of_fields(rt: HostRuntime) -> Result<(), Fail> {
-    let head = bytes_of(rt.alloc(), CSV)?;
-    let wanted = wanted(rt.alloc(), head.as_slice()).ok().ok_or("a head")?;
+    let routes = Routes::new(rt.alloc())?;
+    let bytes = bytes_of(rt.alloc(), CSV)?;
+    let head = parsed(rt.alloc(), bytes.as_slice()).ok_or("a head")?;
+    let wanted = wanted(&routes, &head).ok().ok_or("what it asks for")?;
     assert!(rt; wanted.size == 42, "the length");
     assert!(rt; wanted.token == Some(b"a b".as_slice()), "the token");
     assert!(rt; wanted.title.is_none(), "no title");
@@ -279,8 +295,10 @@ fn gives_the_values_of_fields(rt: HostRuntime) -> Result<(), Fail> {
 
 /// What a head asks for.
 fn asked_by(alloc: Global, head: &str) -> Option<Asked> {
-    let head = bytes_of(alloc, head).ok()?;
-    let wanted = wanted(alloc, head.as_slice()).ok()?;
+    let routes = Routes::new(alloc).ok()?;
+    let bytes = bytes_of(alloc, head).ok()?;
+    let head = parsed(alloc, bytes.as_slice())?;
+    let wanted = wanted(&routes, &head).ok()?;
     ask(alloc, &wanted).ok()
 }
 

@@ -45,7 +45,7 @@ const ALL: &str = "|POST /level HTTP/1.1|Desk-Key: k|Content-Length: 4||body";
 /// Whether these bytes are the head that was read.
 fn is_head(answer: &Result<Begun, InputFault>, head: &[u8]) -> bool {
     match answer {
-        Ok(Begun::Head(bytes)) => bytes.as_slice() == head,
+        Ok(Begun::Head(found)) => found.as_bytes() == head,
         _ => false,
     }
 }

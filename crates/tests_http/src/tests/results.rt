@@ -1,5 +1,6 @@
 //! Results of `serve_one`.
 use desk_http::{Answered, HttpFault, Served, serve_one};
+use http_requests::Routes;
 use http_responses::{Outage, Refused, Status};
 use std::alloc::Global;
 use std::io::ErrorKind;
@@ -20,25 +21,26 @@ fn answered(status: Status, refused: Option<Refused>) -> Result<Served, HttpFaul
 }
 
 /// What is served of an input.
-fn served(alloc: Global, input: &[u8]) -> Result<Served, HttpFault> {
+fn served(alloc: Global, routes: &Routes, input: &[u8]) -> Result<Served, HttpFault> {
     let mut desk = StandIn::new(alloc);
     let mut reader = input;
     let mut writer = Vec::new(alloc);
-    serve_one(alloc, &mut desk, &mut reader, &mut writer)
+    serve_one(alloc, routes, &mut desk, &mut reader, &mut writer)
 }
 
 #[test]
 fn tells_what_was_served(rt: HostRuntime) -> Result<(), Fail> {
     let alloc = rt.alloc();
+    let routes = Routes::new(alloc)?;
     let input = bytes_of(alloc, LEVEL)?;
-    let level = served(alloc, input.as_slice());
+    let level = served(alloc, &routes, input.as_slice());
     assert!(rt; level == answered(Status::Ok, None), "a level");
-    let cut = served(alloc, b"GET".as_slice());
+    let cut = served(alloc, &routes, b"GET".as_slice());
     assert!(rt;
         cut == answered(Status::BadRequest, Some(Refused::BadHead)),
         "a head that is cut short"
     );
-    let nothing = served(alloc, b"".as_slice());
+    let nothing = served(alloc, &routes, b"".as_slice());
     assert!(rt; nothing == Ok(Served::Nothing), "no byte");
     Ok(())
 }
@@ -46,6 +48,7 @@ fn tells_what_was_served(rt: HostRuntime) -> Result<(), Fail> {
 #[test]
 fn tells_that_a_read_fails(rt: HostRuntime) -> Result<(), Fail> {
     let alloc = rt.alloc();
+    let routes = Routes::new(alloc)?;
     let input = bytes_of(alloc, LEVEL)?;
     let mut desk = StandIn::new(alloc);
     let mut reader = Slow {
@@ -55,7 +58,7 @@ fn tells_that_a_read_fails(rt: HostRuntime) -> Result<(), Fail> {
         fails_at: 7,
     };
     let mut writer = Vec::new(alloc);
-    let served = serve_one(alloc, &mut desk, &mut reader, &mut writer);
+    let served = serve_one(alloc, &routes, &mut desk, &mut reader, &mut writer);
     assert!(rt; served == Err(HttpFault::Read), "a read");
     assert!(rt; writer.is_empty(), "nothing went out");
     Ok(())
@@ -64,6 +67,7 @@ fn tells_that_a_read_fails(rt: HostRuntime) -> Result<(), Fail> {
 #[test]
 fn tells_that_a_write_fails(rt: HostRuntime) -> Result<(), Fail> {
     let alloc = rt.alloc();
+    let routes = Routes::new(alloc)?;
     let input = bytes_of(alloc, LEVEL)?;
     let mut desk = StandIn::new(alloc);
     let mut reader = input.as_slice();
@@ -74,7 +78,7 @@ fn tells_that_a_write_fails(rt: HostRuntime) -> Result<(), Fail> {
         fails_at: 3,
         kind: ErrorKind::Interrupted,
     };
-    let served = serve_one(alloc, &mut desk, &mut reader, &mut writer);
+    let served = serve_one(alloc, &routes, &mut desk, &mut reader, &mut writer);
     assert!(rt; served == Err(HttpFault::Write), "a write");
     let begun = b"HTTP/1.1 200 OK\r\nContent-Type: t".as_slice();
     assert!(rt; writer.taken.as_slice() == begun, "a beginning went out");
@@ -84,6 +88,7 @@ fn tells_that_a_write_fails(rt: HostRuntime) -> Result<(), Fail> {
 #[test]
 fn tells_that_the_desk_failed_before(rt: HostRuntime) -> Result<(), Fail> {
     let alloc = rt.alloc();
+    let routes = Routes::new(alloc)?;
     let store = bytes_of(alloc, STORE)?;
     let level = bytes_of(alloc, LEVEL)?;
     let mut desk = StandIn::new(alloc);
@@ -94,7 +99,7 @@ fn tells_that_the_desk_failed_before(rt: HostRuntime) -> Result<(), Fail> {
     ] {
         let mut reader = input.as_slice();
         let mut writer = Vec::new(alloc);
-        let served = serve_one(alloc, &mut desk, &mut reader, &mut writer);
+        let served = serve_one(alloc, &routes, &mut desk, &mut reader, &mut writer);
         let says = answered(
             Status::ServiceUnavailable,
             Some(Refused::Unavailable(outage)),

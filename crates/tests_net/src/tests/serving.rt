@@ -2,6 +2,7 @@
 use super::clients::{client, connected, got};
 use desk_bytes::Refusal;
 use http_net::{listen, serve};
+use http_requests::Routes;
 use std::io::ErrorKind;
 use std::net::{Ipv4Addr, SocketAddr, SocketAddrV4, TcpListener, TcpStream};
 use std::test::Fail;
@@ -69,8 +70,9 @@ fn serves_three_clients_in_their_order(rt: HostRuntime) -> Result<(), Fail> {
     let mut one = client(&rt, &listener, LEVEL)?;
     let mut two = client(&rt, &listener, DBX)?;
     let mut three = client(&rt, &listener, REPORT)?;
+    let routes = Routes::new(rt.alloc())?;
     let mut desk = StandIn::new(rt.alloc());
-    let served = serve(rt.alloc(), &rt, &mut desk, &listener, 3);
+    let served = serve(rt.alloc(), &rt, &routes, &mut desk, &listener, 3);
     assert!(rt; served == Ok(()), "three connections");
     assert!(rt; desk.asked.as_str() == "level dbx report", "the order");
     assert!(rt; got(&rt, &mut one, LEVEL_DUE)?, "the first");
@@ -99,8 +101,9 @@ fn acts_on_one_request_of_a_connection(rt: HostRuntime) -> Result<(), Fail> {
     let listener = anywhere(&rt)?;
     let mut one = client(&rt, &listener, TWO)?;
     let mut two = client(&rt, &listener, LEVEL)?;
+    let routes = Routes::new(rt.alloc())?;
     let mut desk = StandIn::new(rt.alloc());
-    let served = serve(rt.alloc(), &rt, &mut desk, &listener, 2);
+    let served = serve(rt.alloc(), &rt, &routes, &mut desk, &listener, 2);
     assert!(rt; served == Ok(()), "two connections");
     assert!(rt;
         desk.asked.as_str() == "olga k1 withdraw 7 level",
@@ -117,8 +120,9 @@ fn goes_on_after_a_connections_own_fault(rt: HostRuntime) -> Result<(), Fail> {
     drop(connected(&rt, &listener)?);
     let mut broken = client(&rt, &listener, CUT)?;
     let mut whole = client(&rt, &listener, LEVEL)?;
+    let routes = Routes::new(rt.alloc())?;
     let mut desk = StandIn::new(rt.alloc());
-    let served = serve(rt.alloc(), &rt, &mut desk, &listener, 3);
+    let served = serve(rt.alloc(), &rt, &routes, &mut desk, &listener, 3);
     assert!(rt; served == Ok(()), "three connections");
     assert!(rt; desk.asked.as_str() == "level", "one request");
     assert!(rt; got(&rt, &mut broken, CUT_DUE)?, "no head");
@@ -131,11 +135,12 @@ fn ends_where_the_desk_has_failed(rt: HostRuntime) -> Result<(), Fail> {
     let listener = anywhere(&rt)?;
     let mut one = client(&rt, &listener, STORE)?;
     let mut two = client(&rt, &listener, LEVEL)?;
+    let routes = Routes::new(rt.alloc())?;
     let mut desk = StandIn::new(rt.alloc());
-    let failed = serve(rt.alloc(), &rt, &mut desk, &listener, 3);
+    let failed = serve(rt.alloc(), &rt, &routes, &mut desk, &listener, 3);
     assert!(rt; failed == Err(Refusal::Store), "the store fails");
     assert!(rt; got(&rt, &mut one, STORE_DUE)?, "it is told");
-    let closed = serve(rt.alloc(), &rt, &mut desk, &listener, 3);
+    let closed = serve(rt.alloc(), &rt, &routes, &mut desk, &listener, 3);
     assert!(rt; closed == Err(Refusal::Reopen), "the desk has failed");
     assert!(rt; got(&rt, &mut two, REOPEN_DUE)?, "the next connection");
     Ok(())

@@ -3,6 +3,7 @@ ghost use Rattle.std.specs.Prelude.{◌≤◌, IfOk};
 
 use desk_http::HttpFault;
 use http_net::{Timed, Waits, answer_connection, read_off};
+use http_requests::Routes;
 use std::cell::Cell;
 use std::io;
 use std::io::{ErrorKind, Read, Write};
@@ -233,17 +234,24 @@ const LEVEL: &str = "GET /level HTTP/1.1|Desk-Token: olga-token-000001||";
 fn asks_a_desk_nothing_for_a_slow_peer(rt: HostRuntime) -> Result<(), Fail> {
     let request = bytes_of(rt.alloc(), LEVEL)?;
     let clock = MadeUp::new();
+    let routes = Routes::new(rt.alloc())?;
     let mut desk = StandIn::new(rt.alloc());
     let slow = Timed::new(&clock, Peer::new(&clock, request.as_slice(), 1, 1000));
     let mut written = Vec::new(rt.alloc());
-    let served = answer_connection(rt.alloc(), &mut desk, slow, &mut written);
+    let served = answer_connection(rt.alloc(), &routes, &mut desk, slow, &mut written);
     assert!(rt; served == Err(HttpFault::Read), "a slow sender");
     assert!(rt;
         desk.asked.is_empty() && written.is_empty(),
         "nothing is asked"
     );
     let mut slow = Timed::new(&clock, Peer::new(&clock, &[], 1, 1000));
-    let served = answer_connection(rt.alloc(), &mut desk, request.as_slice(), &mut slow);
+    let served = answer_connection(
+        rt.alloc(),
+        &routes,
+        &mut desk,
+        request.as_slice(),
+        &mut slow,
+    );
     assert!(rt; served == Err(HttpFault::Write), "a slow taker");
     assert!(rt; clock.went() == 60_000, "a minute for both");
     Ok(())

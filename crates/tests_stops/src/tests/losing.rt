@@ -6,6 +6,7 @@ use desk_calls::Answering;
 use desk_http::{HttpFault, serve_one};
 use desk_service::token_digest;
 use desk_texts::{Caller, Command, Key, Person, PersonName, Role};
+use http_requests::Routes;
 use std::io;
 use std::io::{ErrorKind, Write};
 use testing::bytes_of;
@@ -29,10 +30,11 @@ impl Write for Losing {
 
 /// Whether the request's call is accepted, and the response is lost.
 fn loses<D: Answering>(alloc: Global, desk: &mut D, request: &str) -> Option<bool> {
+    let routes = Routes::new(alloc).ok()?;
     let input = bytes_of(alloc, request).ok()?;
     let mut reader = input.as_slice();
     let mut writer = Losing { is_accepted: false };
-    let served = serve_one(alloc, desk, &mut reader, &mut writer);
+    let served = serve_one(alloc, &routes, desk, &mut reader, &mut writer);
     Some(served == Err(HttpFault::Write) && writer.is_accepted)
 }
 

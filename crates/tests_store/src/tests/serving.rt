@@ -6,7 +6,7 @@ use desk_calls::{Answer, Answering, Call as Asked, Octets, Task};
 use desk_http::{serve_each, serve_one};
 use desk_service::token_digest;
 use desk_texts::{Caller, Command, Key, PersonName, Role};
-use http_requests::ReadAsked;
+use http_requests::{ReadAsked, Routes};
 use testing::bytes_of;
 
 type Served = OpenDesk<MemStore>;
@@ -98,9 +98,10 @@ fn founded(alloc: Global) -> Option<Served> {
 
 /// The response to an input.
 fn served<D: Answering>(alloc: Global, desk: &mut D, input: &[u8]) -> Option<Vec<u8>> {
+    let routes = Routes::new(alloc).ok()?;
     let mut reader = input;
     let mut writer = Vec::new(alloc);
-    serve_one(alloc, desk, &mut reader, &mut writer).ok()?;
+    serve_one(alloc, &routes, desk, &mut reader, &mut writer).ok()?;
     Some(writer)
 }
 
@@ -147,8 +148,9 @@ fn replies(alloc: Global) -> Result<Vec<u8>, AllocError> {
 
 /// What the requests are answered that come one after another, where each is served.
 fn served_each<D: Answering>(alloc: Global, desk: &mut D, inputs: &[Octets]) -> Option<Vec<u8>> {
+    let routes = Routes::new(alloc).ok()?;
     let mut writer = Vec::new(alloc);
-    if serve_each(alloc, desk, inputs, &mut writer) < inputs.len() {
+    if serve_each(alloc, &routes, desk, inputs, &mut writer) < inputs.len() {
         return None;
     }
     Some(writer)
