@@ -23,7 +23,7 @@ fn put_headers(image: &mut Vec<u8>) -> Result<(), AllocError> {
     put_at(image, 349, b"\x02")
 }
 
-/// Writes an image of 1,024 bytes, of which the section takes 512.
+/// Writes an image of 1,024 bytes; its section takes 512 of them.
 fn put_image(bytes: &mut Vec<u8>, alloc: Global) -> Result<(), AllocError> {
     let mut image = Vec::new(alloc);
     put_headers(&mut image)?;
@@ -31,8 +31,8 @@ fn put_image(bytes: &mut Vec<u8>, alloc: Global) -> Result<(), AllocError> {
     bytes.extend_from_slice(&image)
 }
 
-/// The bytes of a line of a table: `|` stands for CR LF, `~` for LF alone, `^` for the certificate 30053003020101, `@` for
-/// an image of 1,024 bytes.
+/// The bytes of a line of a table: `|` means CR LF, `~` only LF, `^` the certificate
+/// 30053003020101, `@` an image of 1,024 bytes.
 pub fn bytes_of(alloc: Global, line: &str) -> Result<Vec<u8>, AllocError> {
     let mut bytes = Vec::new(alloc);
     for byte in line.as_bytes() {

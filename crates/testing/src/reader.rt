@@ -2,7 +2,7 @@
 use std::io;
 use std::io::Read;
 
-/// Gives its bytes so many a call, and fails once, at the given call, counted from 1.
+/// Gives this many of its bytes in each call, and fails once, at the given call, counted from 1.
 #[derive(Drop)]
 pub struct Slow<'a> {
     pub rest: &'a [u8],

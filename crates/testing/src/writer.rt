@@ -2,7 +2,8 @@
 use std::io;
 use std::io::{ErrorKind, Write};
 
-/// Takes so many bytes a call, and fails once, with an error of this kind, at the given call, counted from 1.
+/// Takes this many bytes in each call, and fails once, with an error of this kind, at the given
+/// call, counted from 1.
 #[derive(Drop)]
 pub struct Narrow {
     pub taken: Vec<u8>,

@@ -1,4 +1,4 @@
-//! A desk that stands in for one, in the tests of what asks a desk.
+//! A substitute for a desk, for tests of its callers.
 #![tactic(auto)]
 
 mod stand_in;

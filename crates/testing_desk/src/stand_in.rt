@@ -1,4 +1,4 @@
-//! A desk that tells what it is asked, and answers everybody the same.
+//! A substitute for a desk, which records its calls and answers everybody the same.
 ghost use Rattle.std.specs.Prelude.{◌≡◌, ◌⊎◌, ⊤, IfSome, IsTrue, true};
 ghost use Rattle.desk_calls.specs.Desks.{IsOutage};
 ghost use Rattle.desk_history.specs.DecisionRefusals.{may_answer};
@@ -15,18 +15,18 @@ use desk_texts::{
 use http_responses::RequestsText;
 use std::alloc::{AllocError, Global};
 
-/// A desk that shows no history. It knows one token, and fails where a command's key is `store`.
+/// A desk that shows no history. It knows one token, and fails if a command's key is `store`.
 #[derive(Drop)]
 pub struct StandIn {
     alloc: Global,
-    /// What was asked of it.
+    /// The calls that it got.
     pub asked: String,
     /// It answered a call with `Store`.
     has_failed: bool,
 }
 
 impl StandIn {
-    /// A desk of which nothing was asked.
+    /// A desk that has had no call.
     pub fn new(alloc: Global) -> StandIn {
         StandIn {
             alloc,
@@ -36,7 +36,7 @@ impl StandIn {
     }
 }
 
-/// Tells the words of what is asked.
+/// Records the words of a call.
 fn tell(asked: &mut String, words: &[&str]) -> Result<(), AllocError> {
     for word in words {
         if !asked.is_empty() {
@@ -47,7 +47,7 @@ fn tell(asked: &mut String, words: &[&str]) -> Result<(), AllocError> {
     Ok(())
 }
 
-/// Tells what is asked, and gives these bytes.
+/// Records a call, and returns these bytes.
 fn exported(
     alloc: Global,
     asked: &mut String,
@@ -70,7 +70,7 @@ fn told_of(what: Export) -> (&'static str, &'static [u8]) {
     }
 }
 
-/// What is refused under the key, which names it.
+/// The refusal that the key names.
 fn refusal(key: &str) -> Option<Refusal>
     ensures { IfSome result (λ refusal. IsTrue (may_answer refusal) ⊎ IsOutage refusal) }
 {
@@ -86,7 +86,7 @@ fn refusal(key: &str) -> Option<Refusal>
     }
 }
 
-/// What a command is answered.
+/// The reply to a command.
 fn reply(command: &Command) -> Option<Reply> {
     match command {
         Command::AddPerson(_) => None,

@@ -1,4 +1,4 @@
-//! Requests, from their bytes to what is answered.
+//! Requests, from their bytes to the answer.
 mod bodies;
 mod checks;
 mod heads;

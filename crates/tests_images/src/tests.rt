@@ -26,22 +26,22 @@ enum Call {
     Words,
 }
 
-/// The headers of an EFI application: its optional header stands at 88, SizeOfHeaders is 512.
+/// The headers of an EFI application: its optional header is at 88, SizeOfHeaders is 512.
 const HEADERS: &str = "0:4d5a 60:40000000 64:50450000 68:6486 70:0100 148:00020000 156:0a00";
 
 /// An optional header of PE32+ with 16 directories, and one section of 512 bytes at 512.
 const PE32_PLUS: &str = "84:f000 88:0b02 196:10000000 328:2e74657874 344:0002000000020000";
 
-/// The same of PE32.
+/// The same for PE32.
 const PE32: &str = "84:e000 88:0b01 180:10000000 312:2e74657874 328:0002000000020000";
 
-/// The headers of PE32+ moved up by 65,382, so that CheckSum, of 11223344, stands from 65534 to 65538.
+/// The headers of PE32+ moved up by 65,382, so that CheckSum, 11223344, is at 65534 to 65538.
 const MOVED: &str = "60:a6ff0000 64:00000000 68:0000 70:0000 84:0000 88:0000 148:00000000 156:0000 \
     196:00000000 328:0000000000 344:0000000000000000 65446:50450000 65450:6486 65452:0100 65466:f000 \
     65470:0b02 65530:00020100 65534:11223344 65538:0a00 65578:10000000 65710:2e74657874 \
     65726:0002000000020100";
 
-/// Bytes that stand in an image that tools sign.
+/// Bytes of an image that tools sign.
 const SIGNABLE: &str = "86:2e02 92:00020000 104:00100000 120:0010000000020000 144:00200000 \
     152:11223344 336:00020000 340:00100000 364:20000060";
 
@@ -68,8 +68,8 @@ fn change(alloc: Global, image: &mut [u8], words: &str) -> Result<(), Fail> {
     Ok(())
 }
 
-/// Writes over zeros what a form has: `+` PE32+, `-` PE32, `*` PE32+ that tools sign, whose bytes from 512 on count up to 250
-/// again and again, `^` PE32+ whose headers stand further up.
+/// Writes the bytes of a form over zeros: `+` PE32+, `-` PE32, `*` PE32+ that tools sign, whose
+/// bytes from 512 on count up to 250 again and again, `^` PE32+ whose headers are further up.
 fn form(alloc: Global, bytes: &mut [u8], form: &str) -> Result<(), Fail> {
     if form == "*" {
         for at in 512..bytes.len() {
@@ -96,7 +96,7 @@ fn image(alloc: Global, words: &str) -> Result<Vec<u8>, Fail> {
     Ok(bytes)
 }
 
-/// Tells the lines that were written, each ended by a semicolon.
+/// Appends the lines that were written, each ended by a semicolon.
 fn tell_lines(told: &mut String, out: &mut [u8]) -> Result<(), Fail> {
     for byte in out.iter_mut() {
         if *byte == b'\n' {
@@ -107,13 +107,13 @@ fn tell_lines(told: &mut String, out: &mut [u8]) -> Result<(), Fail> {
     Ok(())
 }
 
-/// Tells bytes in hexadecimal.
+/// Appends bytes in hexadecimal.
 fn tell_hex(alloc: Global, told: &mut String, bytes: &[u8]) -> Result<(), Fail> {
     told.push_str(hex::encode(alloc, bytes)?.as_str())?;
     Ok(())
 }
 
-/// Tells what a call answers to an input.
+/// Appends the answer of a call to an input.
 fn answer(alloc: Global, told: &mut String, call: Call, input: &str) -> Result<(), Fail> {
     match call {
         Call::Carried => certificates::of_carried(alloc, told, input),
@@ -127,7 +127,7 @@ fn answer(alloc: Global, told: &mut String, call: Call, input: &str) -> Result<(
     }
 }
 
-/// Tells the line with what the call answers in place of the answer.
+/// Appends the line with the call's answer instead of the expected one.
 fn answer_line(alloc: Global, told: &mut String, call: Call, line: &str) -> Result<(), Fail> {
     let (input, _) = line.split_once(" = ").ok_or("a line without an answer")?;
     told.push_str(input)?;

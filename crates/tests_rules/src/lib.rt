@@ -1,4 +1,4 @@
-//! What readers of texts and lists answer, and what a desk decides. Tests alone.
+//! Tests of readers of texts and lists, and of a desk's decisions.
 #![tactic(auto)]
 
 #[cfg(test)]

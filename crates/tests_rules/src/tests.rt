@@ -38,7 +38,7 @@ enum Call {
     Tbs,
 }
 
-/// Tells a refusal with its place.
+/// Appends a refusal with its place.
 fn refuse(told: &mut String, refusal: Refusal, place: Option<u64>) -> Result<(), Fail> {
     told.push_str(refusal.name())?;
     if let Some(place) = place {
@@ -47,13 +47,13 @@ fn refuse(told: &mut String, refusal: Refusal, place: Option<u64>) -> Result<(),
     Ok(())
 }
 
-/// Tells bytes in hexadecimal.
+/// Appends bytes in hexadecimal.
 fn tell_hex(alloc: Global, told: &mut String, bytes: &[u8]) -> Result<(), Fail> {
     told.push_str(hex::encode(alloc, bytes)?.as_str())?;
     Ok(())
 }
 
-/// Tells what a call answers to an input.
+/// Appends the answer of a call to an input.
 fn answer(alloc: Global, told: &mut String, call: Call, input: &str) -> Result<(), Fail> {
     match call {
         Call::Components => components::of_components(alloc, told, input),
@@ -74,7 +74,7 @@ fn answer(alloc: Global, told: &mut String, call: Call, input: &str) -> Result<(
     }
 }
 
-/// Tells the line with what the call answers in place of the answer.
+/// Appends the line with the call's answer instead of the expected one.
 fn answer_line(alloc: Global, told: &mut String, call: Call, line: &str) -> Result<(), Fail> {
     let (input, _) = line.split_once(" = ").ok_or("a line without an answer")?;
     told.push_str(input)?;
@@ -98,7 +98,7 @@ fn check(rt: &impl Abort, alloc: Global, call: Call, script: &str) -> Result<(),
     Ok(())
 }
 
-/// A writer that takes so many bytes a call and fails at this call.
+/// A writer that takes this many bytes in each call and fails at this call.
 fn narrow(alloc: Global, most: usize, fails_at: u64) -> Narrow {
     Narrow {
         taken: Vec::new(alloc),

@@ -1,4 +1,4 @@
-//! Tests of desks of which a file stops at each of its calls.
+//! Tests of desks with a file that stops at each of its calls.
 #![tactic(auto)]
 
 #[cfg(test)]

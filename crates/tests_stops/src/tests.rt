@@ -1,4 +1,5 @@
-//! Desks over two files in memory, of which one stops after so many of its calls, and is opened again.
+//! Desks over two files in memory, one of which stops after a number of its calls, and is opened
+//! again.
 use desk_bytes::{Guid, Refusal};
 use desk_exports::Export;
 use desk_history::Verdict;

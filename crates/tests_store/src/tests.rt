@@ -1,4 +1,4 @@
-//! Desks over stores in memory, asked by the lines of scripts.
+//! Desks over stores in memory, played by the lines of scripts.
 use desk_bytes::{Digest, Guid, Refusal};
 use desk_exports::Export;
 use desk_history::{ProposalRow, Verdict};

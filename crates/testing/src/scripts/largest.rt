@@ -1,4 +1,4 @@
-//! The largest commands that a desk takes.
+//! The largest commands that a desk accepts.
 use desk_bytes::Digest;
 use desk_texts::{
     Carried, Certificate, Command, Components, Digests, Extent, Facts, Import, ImportedComponents,
@@ -7,7 +7,7 @@ use desk_texts::{
 use sbat::{Component, ComponentName, Generation};
 use std::alloc::Global;
 
-/// Different digests, so many: the number's two bytes, the low one first, and 30 zero bytes.
+/// This many different digests: the number's two bytes, little-endian, and 30 zero bytes.
 fn digests(alloc: Global, count: u16) -> Option<Vec<Digest>> {
     let mut digests = Vec::new(alloc);
     for number in 0..count {
@@ -31,7 +31,7 @@ fn components(alloc: Global) -> Option<Components> {
     Components::new(components)
 }
 
-/// An import of so many different digests of images.
+/// An import of this many different digests of images.
 pub(crate) fn import(alloc: Global, count: u16) -> Option<Command> {
     let images = Digests::new(digests(alloc, count)?)?;
     let certificates = Digests::new(Vec::new(alloc))?;

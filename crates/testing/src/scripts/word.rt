@@ -1,4 +1,4 @@
-//! The words of a line, and what they name.
+//! The words of a line, and their values.
 use crate::scripts::largest;
 use desk_bytes::Digest;
 use desk_texts::{
@@ -15,8 +15,8 @@ fn filled(byte: u8) -> Digest {
     Digest::from([byte; 32])
 }
 
-/// The words of a line that are left. Each reading takes the words that it needs from their front, and gives nothing where
-/// they don't read or memory is refused.
+/// The remaining words of a line. Each read takes the words that it needs from the front, and
+/// returns `None` if they can't be read or memory is refused.
 #[derive(Drop)]
 pub struct Words<'a> {
     words: SplitWhitespace<'a>,
@@ -57,7 +57,7 @@ impl<'a> Words<'a> {
         ProposalNumber::new(self.number()?)
     }
 
-    /// Who calls: a person's name, or `console`.
+    /// The caller: a person's name, or `console`.
     pub fn caller(&mut self) -> Option<Caller> {
         Caller::parse(self.alloc, self.text()?.as_bytes()).ok()
     }
@@ -69,7 +69,7 @@ impl<'a> Words<'a> {
         Some(Component { name, generation })
     }
 
-    /// So many digests: their count, and each.
+    /// Digests: their count, and each.
     fn digests(&mut self) -> Option<Vec<Digest>> {
         let mut digests = Vec::new(self.alloc);
         for _ in 0..self.number()? {
@@ -78,7 +78,7 @@ impl<'a> Words<'a> {
         Some(digests)
     }
 
-    /// So many components: their count, and each.
+    /// Components: their count, and each.
     fn components(&mut self) -> Option<Vec<Component>> {
         let mut components = Vec::new(self.alloc);
         for _ in 0..self.number()? {
@@ -150,7 +150,7 @@ impl<'a> Words<'a> {
         Some(Command::RaiseLevel(Raise { component, stamp }))
     }
 
-    /// A stamp or 0 for none, how many entries were passed, and the three lists.
+    /// A stamp or 0 for none, how many entries were skipped, and the three lists.
     fn import(&mut self) -> Option<Command> {
         let stamp = Stamp::new(self.number()?);
         let passed = self.number()?;
@@ -192,7 +192,7 @@ impl<'a> Words<'a> {
         }
     }
 
-    /// A call: who calls, the key, the verb and its words.
+    /// A call: the caller, the key, the verb and its words.
     pub fn call(&mut self) -> Option<Call> {
         let caller = self.caller()?;
         let key = Key::parse(self.alloc, self.text()?.as_bytes()).ok()?;

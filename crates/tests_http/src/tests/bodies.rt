@@ -4,7 +4,7 @@ use desk_texts::{Ballot, ListedKind, RequestNumber, Vote};
 use http_requests::{BodyFault, read_digest, read_level, read_review, read_unlist};
 use std::alloc::{AllocError, Global};
 
-/// Bodies, each behind the reader's name and what it answers.
+/// Bodies, each after its reader's name and the outcome.
 const BODIES: &str = r#"review Ok {"note":"","vote":"yes"}
 review Ok {"vote":"no","note":"no \"b\" \u0041"}
 review Ok { "note" : "a" , "vote" : "no" }
@@ -54,12 +54,12 @@ level BadBody {"component":"grub","generation":3}
 level BadBody {"component":"grub","generation":3,"stamp":2024010100,"why":""}
 "#;
 
-/// What a review of the first request is read as.
+/// The review of the first request in a body.
 fn review(alloc: Global, body: &[u8]) -> Option<Result<Ballot, BodyFault>> {
     Some(read_review(alloc, RequestNumber::new(1)?, body))
 }
 
-/// What the reader of this name answers: the name of the refusal, or `Ok`.
+/// The outcome of the reader of this name: the name of the refusal, or `Ok`.
 fn outcome(alloc: Global, reader: &str, body: &[u8]) -> &'static str {
     let fault = match reader {
         "review" => match review(alloc, body) {
@@ -76,7 +76,7 @@ fn outcome(alloc: Global, reader: &str, body: &[u8]) -> &'static str {
     }
 }
 
-/// Whether the line's body gives what the line names.
+/// Whether the line's body has the outcome that the line names.
 fn is_told(alloc: Global, line: &str) -> Option<bool> {
     let (reader, case) = line.split_once(' ')?;
     let (name, body) = case.split_once(' ')?;
@@ -118,7 +118,7 @@ fn gives_an_entry(alloc: Global) -> Option<bool> {
     Some(unlist.kind == ListedKind::Certificate && unlist.digest == Digest::from(digest))
 }
 
-/// Whether the digest of an entry is read alone.
+/// Whether the digest of an entry is read by itself.
 fn gives_a_digest(alloc: Global) -> Option<bool> {
     let text = br#"{"digest":"aaaaaaaaaaaaaaaaaaaaaaaaaaaaaaaaaaaaaaaaaaaaaaaaaaaaaaaaaaaaaaaa"}"#;
     Some(read_digest(alloc, text).ok()? == Digest::from([0xaa; 32]))
@@ -133,7 +133,7 @@ fn gives_a_level(alloc: Global) -> Option<bool> {
     Some(is_component && raise.stamp.value() == 2_024_010_100)
 }
 
-/// What a body for a component of this name of so many bytes is refused for, or `Ok`.
+/// The refusal of a body for a component whose name has this many bytes, or `Ok`.
 fn outcome_of_name(alloc: Global, length: usize) -> Result<&'static str, AllocError> {
     let mut body = Vec::new(alloc);
     body.extend_from_slice(br#"{"component":""#)?;

@@ -1,8 +1,8 @@
-//! Requests that are refused before the desk is asked.
+//! Requests that are refused before the desk is called.
 use super::serving::answers;
 use std::test::Fail;
 
-/// Requests and the responses, in the order of the checks. What fails one fails a later one too.
+/// Requests and the responses, in the order of the checks. Each fails a later check too.
 const CHECKS: &str =
     r#"GET /level HTTP/1.1|Transfer-Encoding: chunked =>  => HTTP/1.1 400 Bad Request|Content-Type: application/json|Content-Length: 31|Connection: close||{"name":"BadHead","refused":50}
 GET /level|Transfer-Encoding: chunked|| =>  => HTTP/1.1 400 Bad Request|Content-Type: application/json|Content-Length: 31|Connection: close||{"name":"BadHead","refused":50}

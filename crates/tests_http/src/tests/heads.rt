@@ -11,7 +11,8 @@ use std::alloc::Global;
 use std::test::Fail;
 use testing::bytes_of;
 
-/// Heads, each behind the name of the first check that fails, or of the route. Of two faults the earlier is told.
+/// Heads, each after the name of the first check that fails, or of the route. Of two faults the
+/// earlier is named.
 const HEADS: &str = "\
 BadHead POST /nowhere HTTP/1.1|Transfer-Encoding: chunked|No Field: x||
 BadHead GET /level HTTP/1.1|Desk-Token: a|Desk-Token: a|No Field: x||
@@ -156,7 +157,7 @@ Level ~|~GET /level HTTP/1.1~Host: desk~~
 RaiseLevel POST /level HTTP/1.1|CONTENT-LENGTH:\t 7 \t|desk-key:k||
 ";
 
-/// What a head asks for.
+/// The request of a head.
 #[derive(Drop)]
 enum Asked {
     Read(ReadAsked),
@@ -164,7 +165,7 @@ enum Asked {
     Command(KeyedAsked),
 }
 
-/// What a head asks for, by its route.
+/// The request of a head, by its route.
 fn ask(alloc: Global, wanted: &Wanted<'_>) -> Result<Asked, AskedFault> {
     match wanted.route {
         Route::Get(route) => Ok(Asked::Read(read_asked(route, wanted)?)),
@@ -202,7 +203,7 @@ fn outcome(alloc: Global, routes: &Routes, bytes: &[u8]) -> &'static str {
     }
 }
 
-/// The name of what is read.
+/// The name of a GET.
 fn name_of_read(asked: ReadAsked) -> &'static str {
     match asked {
         ReadAsked::Requests => "Requests",
@@ -215,7 +216,7 @@ fn name_of_read(asked: ReadAsked) -> &'static str {
     }
 }
 
-/// The name of what an image is for.
+/// The name of a request with an image.
 fn name_of_image(asked: &ImageAsked) -> &'static str {
     match asked {
         ImageAsked::Submit(..) => "Submit",
@@ -261,7 +262,7 @@ fn name_of_command(asked: &CommandAsked) -> &'static str {
     }
 }
 
-/// Whether the line's head gives what its first word names.
+/// Whether the line's head has the outcome that its first word names.
 fn is_told(alloc: Global, routes: &Routes, line: &str) -> Result<bool, Fail> {
     let (name, head) = line.split_once(' ').ok_or("a name and a head")?;
     let bytes = bytes_of(alloc, head)?;
@@ -277,7 +278,7 @@ fn tells_the_first_check_that_fails(rt: HostRuntime) -> Result<(), Fail> {
     Ok(())
 }
 
-/// A head with each field but the title.
+/// A head with each field except the title.
 const CSV: &str = "POST /imports/csv HTTP/1.1|desk-KEY: k1\t|Content-Length: 0042|Desk-Token:  a b|\
 Desk-Stamp: 2024010100||rest";
 
@@ -293,7 +294,7 @@ fn gives_the_values_of_fields(rt: HostRuntime) -> Result<(), Fail> {
     Ok(())
 }
 
-/// What a head asks for.
+/// The request of a head.
 fn asked_by(alloc: Global, head: &str) -> Option<Asked> {
     let routes = Routes::new(alloc).ok()?;
     let bytes = bytes_of(alloc, head).ok()?;
@@ -302,7 +303,7 @@ fn asked_by(alloc: Global, head: &str) -> Option<Asked> {
     ask(alloc, &wanted).ok()
 }
 
-/// Whether an import of CSV with this stamp is asked for.
+/// Whether the command is an import of CSV with this stamp.
 fn is_csv(asked: &CommandAsked, stamp: Option<Stamp>) -> bool {
     match asked {
         CommandAsked::Bytes(BytesAsked::ImportCsv(found)) => *found == stamp,
@@ -310,7 +311,7 @@ fn is_csv(asked: &CommandAsked, stamp: Option<Stamp>) -> bool {
     }
 }
 
-/// Whether this head asks for an import of CSV with its key and stamp.
+/// Whether this head requests an import of CSV with its key and stamp.
 fn asks_for_csv(alloc: Global) -> bool {
     match asked_by(alloc, CSV) {
         Some(Asked::Command(keyed)) => {
@@ -323,7 +324,7 @@ fn asks_for_csv(alloc: Global) -> bool {
 /// A head with a title.
 const TITLE: &str = "POST /requests HTTP/1.1|Desk-Key: k|Desk-Title: shim 15.8|Content-Length: 1||";
 
-/// Whether this head asks for a request with its title.
+/// Whether this head requests a signature with its title.
 fn asks_for_title(alloc: Global) -> bool {
     match asked_by(alloc, TITLE) {
         Some(Asked::Image(ImageAsked::Submit(_, title))) => title.as_str() == "shim 15.8",
@@ -331,7 +332,7 @@ fn asks_for_title(alloc: Global) -> bool {
     }
 }
 
-/// Whether the request of this number is asked for.
+/// Whether the GET is of the request of this number.
 fn is_request(asked: &ReadAsked, number: u64) -> bool {
     match asked {
         ReadAsked::Request(found) => Some(*found) == RequestNumber::new(number),
@@ -344,7 +345,7 @@ fn is_request(asked: &ReadAsked, number: u64) -> bool {
     }
 }
 
-/// Whether a head with a number asks for the request of that number.
+/// Whether a head with a number requests the request of that number.
 fn asks_for_number(alloc: Global) -> bool {
     let found = asked_by(alloc, "GET /requests/120 HTTP/1.1||");
     match &found {
@@ -353,7 +354,7 @@ fn asks_for_number(alloc: Global) -> bool {
     }
 }
 
-/// Whether to confirm the proposal of this number is asked for.
+/// Whether the command confirms the proposal of this number.
 fn is_confirmation(asked: &CommandAsked, number: u64) -> bool {
     match asked {
         CommandAsked::Whole(Command::Confirm(found)) => {
@@ -363,7 +364,7 @@ fn is_confirmation(asked: &CommandAsked, number: u64) -> bool {
     }
 }
 
-/// Whether a head with a number asks to confirm the proposal of that number.
+/// Whether a head with a number confirms the proposal of that number.
 fn asks_for_proposal(alloc: Global) -> bool {
     let head = "POST /proposals/120/confirm HTTP/1.1|Desk-Key: k1|Content-Length: 0||";
     match asked_by(alloc, head) {

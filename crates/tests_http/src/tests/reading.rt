@@ -5,7 +5,7 @@ use std::alloc::{AllocError, Global};
 use std::test::Fail;
 use testing::{Slow, bytes_of};
 
-/// A reader that gives one byte at a time, and fails once it has given so many.
+/// A reader that gives one byte at a time, and fails once it has given this many.
 fn slow(rest: &[u8], given: u64) -> Slow<'_> {
     Slow {
         rest,
@@ -15,7 +15,7 @@ fn slow(rest: &[u8], given: u64) -> Slow<'_> {
     }
 }
 
-/// What was read of a head.
+/// The outcome of reading a head.
 #[derive(Clone, Copy, PartialEq, Eq)]
 enum Read {
     Nothing,
@@ -25,7 +25,7 @@ enum Read {
     Other,
 }
 
-/// What was read.
+/// The outcome.
 fn told(answer: &Result<Begun, InputFault>) -> Read {
     match answer {
         Ok(Begun::Nothing) => Read::Nothing,
@@ -63,7 +63,7 @@ fn reads_a_head_alone(rt: HostRuntime) -> Result<(), Fail> {
     Ok(())
 }
 
-/// What is read of these bytes, whole and by a reader that fails at their end.
+/// The outcomes for these bytes: read whole, and by a reader that fails at their end.
 fn read_cut(alloc: Global, mut bytes: &[u8]) -> (Read, Read) {
     let mut failing = slow(bytes, bytes.len() as u64);
     let failed = told(&read_head(alloc, &mut failing, &mut Watch::new()));
@@ -84,7 +84,7 @@ fn reads_no_head_where_one_is_cut(rt: HostRuntime) -> Result<(), Fail> {
     Ok(())
 }
 
-/// A head of so many bytes and fields, the first of them as long as need be.
+/// A head of this many bytes and fields, the first of them as long as needed.
 fn head_of(alloc: Global, size: usize, fields: usize) -> Result<Vec<u8>, AllocError> {
     let mut bytes = Vec::new(alloc);
     bytes.extend_from_slice(b"GET /level HTTP/1.1\r\n")?;
@@ -99,7 +99,7 @@ fn head_of(alloc: Global, size: usize, fields: usize) -> Result<Vec<u8>, AllocEr
     Ok(bytes)
 }
 
-/// What is read of a head of so many bytes and fields.
+/// The outcome for a head of this many bytes and fields.
 fn read_long(alloc: Global, size: usize, fields: usize) -> Result<Read, AllocError> {
     let bytes = head_of(alloc, size, fields)?;
     if bytes.len() != size {
@@ -116,7 +116,7 @@ fn keeps_the_limits_of_heads(rt: HostRuntime) {
     assert!(rt; read_long(rt.alloc(), 16_385, 1) == Ok(Read::NoHead));
 }
 
-/// A body and what follows it.
+/// A body and the bytes after it.
 const BODY: &[u8] = b"body and more";
 
 /// Whether the body of this size is these bytes, read one at a time.
@@ -127,7 +127,7 @@ fn is_body(alloc: Global, size: usize, body: &[u8]) -> bool {
     }
 }
 
-/// Whether a read of 14 bytes that fails behind so many is told of.
+/// Whether a read of 14 bytes that fails after this many is reported.
 fn tells_a_fault(alloc: Global, given: u64) -> bool {
     let mut watch = Watch::new();
     let answer = read_body(alloc, &mut slow(BODY, given), &mut watch, 14);

@@ -6,7 +6,7 @@ use std::alloc::Global;
 use std::test::Fail;
 use testing::bytes_of;
 
-/// Responses, each behind the name of what the request is refused for, or the methods of its path.
+/// Responses, each after the name of the refusal, or the methods of its path.
 const REFUSALS: &str =
     r#"BadHead HTTP/1.1 400 Bad Request|Content-Type: application/json|Content-Length: 31|Connection: close||{"name":"BadHead","refused":50}
 UnknownCaller HTTP/1.1 401 Unauthorized|Content-Type: application/json|Content-Length: 37|WWW-Authenticate: Desk|Connection: close||{"name":"UnknownCaller","refused":20}
@@ -33,7 +33,7 @@ Reopen HTTP/1.1 503 Service Unavailable|Content-Type: application/json|Content-L
 NotADesk HTTP/1.1 503 Service Unavailable|Content-Type: application/json|Content-Length: 32|Connection: close||{"name":"NotADesk","refused":43}
 "#;
 
-/// What is refused under the name.
+/// The refusal of this name.
 fn refused(name: &str) -> Option<Refused> {
     match name {
         "BadHead" => Refused::of(Refusal::BadHead),
@@ -62,7 +62,7 @@ fn refused(name: &str) -> Option<Refused> {
     }
 }
 
-/// The response that takes no memory, where there is one.
+/// The response that takes no memory, if there is one.
 fn written(refused: Refused) -> Option<&'static [u8]> {
     match refused {
         Refused::Unavailable(outage) => Some(outage_response(outage)),
@@ -70,7 +70,7 @@ fn written(refused: Refused) -> Option<&'static [u8]> {
     }
 }
 
-/// Whether the line's response is what its first word is answered, also without memory.
+/// Whether the line's response is that of its first word, also without memory.
 fn is_answered(alloc: Global, line: &str) -> Result<bool, Fail> {
     let (name, text) = line.split_once(' ').ok_or("a name and a response")?;
     let refused = refused(name).ok_or("what is refused")?;

@@ -15,12 +15,12 @@ const LEVEL: &str = "GET /level HTTP/1.1|Desk-Token: olga-token-000001||";
 const STORE: &str =
     "POST /requests/1/withdraw HTTP/1.1|Desk-Token: olga-token-000001|Desk-Key: store|Content-Length: 0||";
 
-/// A response that says this went out.
+/// The result for a response of this status and refusal.
 fn answered(status: Status, refused: Option<Refused>) -> Result<Served, HttpFault> {
     Ok(Served::Answered(Answered { status, refused }))
 }
 
-/// What is served of an input.
+/// The result for an input.
 fn served(alloc: Global, routes: &Routes, input: &[u8]) -> Result<Served, HttpFault> {
     let mut desk = StandIn::new(alloc);
     let mut reader = input;

@@ -2,8 +2,8 @@
 use super::serving::answers;
 use std::test::Fail;
 
-/// Requests, what the desk is asked, and the responses: each route; what may differ in a request; what the desk
-/// refuses.
+/// Requests, the desk's calls, and the responses: each route; variations of a request; refusals of
+/// the desk.
 const ROUTES: &str =
     r#"POST /requests HTTP/1.1|Desk-Token: olga-token-000001|Desk-Key: k1|Desk-Title: Boot loader|Content-Length: 1024||@ => olga k1 submit 1024 0 e4c220d8dab039abb3652b6fa6a553ed2263ecd9bc8c21da0d6b8015b6e0d14c a035ceb75d7d18f5784a0da16d4cbfcc277a24990091c0827616a97541c6178b a035ceb75d7d18f5784a0da16d4cbfcc277a24990091c0827616a97541c6178b - - Boot loader => HTTP/1.1 200 OK|Content-Type: application/json|Content-Length: 33|Connection: close||{"reply":"submitted","request":1}
 GET /requests HTTP/1.1|Desk-Token: olga-token-000001|| => requests olga => HTTP/1.1 200 OK|Content-Type: application/json|Content-Length: 2|Connection: close||[]

@@ -1,4 +1,4 @@
-//! Serving a row.
+//! The service of a row.
 use desk_http::serve_one;
 use http_requests::Routes;
 use std::alloc::Global;
@@ -6,7 +6,7 @@ use std::test::Fail;
 use testing::bytes_of;
 use testing_desk::StandIn;
 
-/// Whether the row's request is answered so, and the desk asked so.
+/// Whether the row's request gets its response, and the desk its call.
 pub(super) fn answers(alloc: Global, row: &str) -> Result<bool, Fail> {
     let (request, rest) = row.split_once(" => ").ok_or("a request")?;
     let (asked, response) = rest.split_once(" => ").ok_or("a response")?;

@@ -57,7 +57,7 @@ fn vote(alloc: Global, reviewer: &str, vote: Vote, note: &str) -> Result<ShownVo
     })
 }
 
-/// A request with these votes, of which this was returned.
+/// A request with these votes and this returned file.
 fn request(
     alloc: Global,
     number: RequestNumber,
@@ -79,7 +79,7 @@ fn request(
     })
 }
 
-/// A request with two votes, handed in as rita's and raul's.
+/// A request with two votes, given as rita's and raul's.
 const OPEN: &str =
     r#"{"carried":["0101010101010101010101010101010101010101010101010101010101010101","0202020202020202020202020202020202020202020202020202020202020202"],"components":[["sbat",1],["shim",4]],"digest":"aaaaaaaaaaaaaaaaaaaaaaaaaaaaaaaaaaaaaaaaaaaaaaaaaaaaaaaaaaaaaaaa","file":"ffffffffffffffffffffffffffffffffffffffffffffffffffffffffffffffff","gap":0,"length":1024,"number":999999,"returned":null,"signing":"bbbbbbbbbbbbbbbbbbbbbbbbbbbbbbbbbbbbbbbbbbbbbbbbbbbbbbbbbbbbbbbb","state":"open","submitter":"ann","title":" a \"b\" \\ ~","votes":[{"note":"no \"x\" \\ ~ ","reviewer":"raul","vote":"no"},{"note":"","reviewer":"rita","vote":"yes"}]}"#;
 
@@ -146,7 +146,7 @@ fn writes_lists_of_requests(rt: HostRuntime) -> Result<(), Fail> {
     Ok(())
 }
 
-/// The array of so many requests whose signed files were returned.
+/// The array of this many requests whose signed files were returned.
 fn many(alloc: Global, count: usize) -> Result<String, Fail> {
     let mut text = String::new(alloc);
     for index in 0..count {
@@ -198,7 +198,7 @@ fn writes_lists_of_proposals(rt: HostRuntime) -> Result<(), Fail> {
     Ok(())
 }
 
-/// Replies, each behind its name.
+/// Replies, each after its name.
 const REPLIES: &str = r#"submitted {"reply":"submitted","request":7}
 reviewed {"reply":"reviewed","request":7,"state":"approved"}
 withdrawn {"reply":"withdrawn","request":7}
@@ -260,7 +260,7 @@ fn writes_replies(rt: HostRuntime) -> Result<(), Fail> {
     Ok(())
 }
 
-/// Verdicts, each behind its name.
+/// Verdicts, each after its name.
 const VERDICTS: &str = r#"digest {"verdict":"dbx-digest"}
 certificate {"verdict":"dbx-certificate"}
 listed {"verdict":"not-listed"}

@@ -6,8 +6,9 @@ use sha2::{Digest as _, Sha256};
 use std::alloc::{AllocError, Global};
 use std::test::Fail;
 
-/// Tables in hexadecimal, `T` for the one of one certificate, and the first four bytes of what they carry: the
-/// SHA-256 of 3003020101 and of 3003020102, as sha256sum gives them. What is said before each names it.
+/// Tables in hexadecimal, `T` for the one of one certificate, and the first four bytes of the
+/// digests that they carry: the SHA-256 of 3003020101 and of 3003020102, as sha256sum gives them.
+/// The words before each name it.
 const CARRIED: &str = "\
 no table:  = none
 zeros alone: 000000000000000000 = none
@@ -41,7 +42,7 @@ a broken body before a broken header: 0900000000020200050000000000000001 = Der
 a broken header before a broken body: 070000000000000009000000000202000500000000000000 = Table
 ";
 
-/// Tells the first four bytes of each digest.
+/// Appends the first four bytes of each digest.
 fn tell_digests(alloc: Global, told: &mut String, digests: &[Digest]) -> Result<(), Fail> {
     let mut before = "";
     for digest in digests {
@@ -52,7 +53,7 @@ fn tell_digests(alloc: Global, told: &mut String, digests: &[Digest]) -> Result<
     Ok(())
 }
 
-/// Tells what a table carries.
+/// Appends the digests that a table carries.
 fn tell_carried(alloc: Global, told: &mut String, table: &[u8]) -> Result<(), Fail> {
     let found = match carried(alloc, table) {
         Ok(found) => found,
@@ -64,7 +65,7 @@ fn tell_carried(alloc: Global, told: &mut String, table: &[u8]) -> Result<(), Fa
     tell_digests(alloc, told, &found)
 }
 
-/// Tells what a table carries; what stands before the colon is its name.
+/// Appends the digests that a table carries; the text before the colon is its name.
 pub fn of_carried(alloc: Global, told: &mut String, input: &str) -> Result<(), Fail> {
     let (_, words) = input.split_once(':').ok_or("no name")?;
     let mut table = Vec::new(alloc);
@@ -111,7 +112,7 @@ fn wrapped(alloc: Global, tag: u8, front: &[u8], rest: &[u8]) -> Result<Vec<u8>,
     Ok(element)
 }
 
-/// The body of an entry that carries so many certificates, no two of them alike.
+/// The body of an entry that carries this many certificates, no two of them alike.
 fn body_of(alloc: Global, count: u8) -> Result<Vec<u8>, AllocError> {
     let mut row = Vec::new(alloc);
     for number in 0..count {
@@ -123,7 +124,7 @@ fn body_of(alloc: Global, count: u8) -> Result<Vec<u8>, AllocError> {
     wrapped(alloc, 0x30, b"\x06\x00", &content)
 }
 
-/// A table whose one entry carries so many certificates, with some bytes behind.
+/// A table whose one entry carries this many certificates, with some bytes after it.
 fn table_of(alloc: Global, count: u8, behind: &[u8]) -> Result<Vec<u8>, AllocError> {
     let body = body_of(alloc, count)?;
     let size = body.len().min(0xff_ffff) + 8;
@@ -136,7 +137,7 @@ fn table_of(alloc: Global, count: u8, behind: &[u8]) -> Result<Vec<u8>, AllocErr
     Ok(table)
 }
 
-/// What sha256sum gives for the 64 digests, sorted and joined.
+/// The SHA-256 of the 64 digests, sorted and joined, by sha256sum.
 const JOINED: &str = "460f51759b16601ed216fbb877b089bc74c198d35a1fd4498284005b4697fc82";
 
 /// The digest of digests, joined.

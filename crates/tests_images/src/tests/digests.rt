@@ -9,10 +9,10 @@ use std::fmt::Write;
 use std::test::Fail;
 use testing::Slow;
 
-/// Images, their digests and those that a signature holds. The digests are those that pesign 0.112 computes;
-/// with the second section first what osslsigncode 2.9 does, and with four directories what Python's hashlib
-/// gives for the ranges. The others are what a signature by osslsigncode 2.9 holds; with four directories,
-/// with a table that isn't padded and with a gap what hashlib gives for the ranges.
+/// Images, their digests and those that a signature holds. The digests are those that pesign 0.112
+/// computes; with the second section first, osslsigncode 2.9; and with four directories, Python's
+/// hashlib for the ranges. The others are those in a signature by osslsigncode 2.9; with four
+/// directories, with a table that isn't padded and with a gap, hashlib's for the ranges.
 const DIGESTS: &str = "\
 1024 * = \
 aca69e4a6a15817340b124c38fb7d691e63c6e9819cd08c8246acec4c0c2e7db aca69e4a6a15817340b124c38fb7d691e63c6e9819cd08c8246acec4c0c2e7db
@@ -50,8 +50,8 @@ fn digest_joined(alloc: Global, bytes: &[u8], spans: Ranges) -> Result<Digest, F
     Ok(Digest::from(Sha256::digest(&joined)))
 }
 
-/// Tells the digest of an image in pieces and that to be signed, where the calls agree with one another
-/// and with hashes of whole lists.
+/// Appends the digest of an image in pieces and that to be signed, if the calls agree with one
+/// another and with hashes of whole lists.
 pub fn of_digests(alloc: Global, told: &mut String, input: &str) -> Result<(), Fail> {
     let bytes = image(alloc, input)?;
     let mut reader = Slow {

@@ -11,7 +11,7 @@ use pe_image::{Bytes, LayoutFault, ReadFailed, Source, layout};
 use std::alloc::Global;
 use std::test::Fail;
 
-/// A source that fails once so many reads were made, and then always.
+/// A source that fails after this many reads, and from then on.
 #[derive(Drop)]
 struct Failing<'a> {
     bytes: &'a [u8],
@@ -51,7 +51,7 @@ const WHOLE: &str =
     "1584 + 70:0200 232:0006000030000000 368:2e73626174 376:0f000000 384:0002000000040000 \
     1024:677275622c332c612c622c312c750a 1536:T";
 
-/// What is told of an image whose reads fail once so many were made.
+/// The refusal of an image whose reads fail after this many.
 fn fault_after(alloc: Global, bytes: &[u8], left: u64) -> Option<Refusal> {
     let mut source = Failing {
         bytes,
@@ -66,7 +66,8 @@ fn fault_after(alloc: Global, bytes: &[u8], left: u64) -> Option<Refusal> {
     }
 }
 
-/// Every read that fails is told of, at that call: within the layout, the digests, the table and the text.
+/// Every failed read is reported by its own call: within the layout, the digests, the table and the
+/// text.
 #[test]
 fn tells_of_each_read_that_fails(rt: HostRuntime) -> Result<(), Fail> {
     let bytes = image(rt.alloc(), WHOLE)?;
@@ -84,7 +85,7 @@ fn tells_of_each_read_that_fails(rt: HostRuntime) -> Result<(), Fail> {
     Ok(())
 }
 
-/// Whether hashing an image takes so many reads, and one fewer isn't enough.
+/// Whether hashing an image takes this many reads, and one fewer isn't enough.
 fn takes_reads(alloc: Global, words: &str, reads: u64) -> Result<bool, Fail> {
     let bytes = image(alloc, words)?;
     let places = layout(&mut Bytes(&bytes))?;

@@ -6,9 +6,10 @@ use std::alloc::Global;
 use std::fmt::Write;
 use std::test::Fail;
 
-/// What is printed of an image's ranges: as it is, of EFI's last subsystem; PE32; its second section first;
-/// with four and five directories; followed by bytes; with a table, padded and not; with a gap; with a table
-/// that has an offset and no size; with CheckSum across a border of pieces. Then images that are refused.
+/// The printed ranges of images: unchanged, of EFI's last subsystem; PE32; its second section
+/// first; with four and five directories; followed by bytes; with a table, padded and not; with a
+/// gap; with a table that has an offset and no size; with CheckSum across a border of pieces. Then
+/// images that are refused.
 const RANGES: &str = "\
 1024 + = 0-152;156-232;240-512;512-1024;gap 0;
 1024 + 156:0d = 0-152;156-232;240-512;512-1024;gap 0;
@@ -45,7 +46,7 @@ const RANGES: &str = "\
 70000 + 328:2e73626174 344:01000100 = refused 13 TooLong;
 ";
 
-/// Tells what is printed of an image's ranges.
+/// Appends the printed ranges of an image.
 pub fn of_ranges(alloc: Global, told: &mut String, input: &str) -> Result<(), Fail> {
     let bytes = image(alloc, input)?;
     let mut out = Vec::new(alloc);
@@ -74,7 +75,7 @@ const PARTS: &str = "\
 70000 + 328:2e73626174 344:00000100 = no table, 512 to 66048
 ";
 
-/// Tells where the table and the text of `.sbat` stand.
+/// Appends the places of the table and of the text of `.sbat`.
 pub fn of_parts(alloc: Global, told: &mut String, input: &str) -> Result<(), Fail> {
     let bytes = image(alloc, input)?;
     let places = layout(&mut Bytes(&bytes))?;
@@ -83,7 +84,7 @@ pub fn of_parts(alloc: Global, told: &mut String, input: &str) -> Result<(), Fai
     tell_span(told, sbat_range(&places), "no text")
 }
 
-/// Tells a range, or the words where there is none.
+/// Appends a range, or the words for none.
 fn tell_span(told: &mut String, span: Option<Span>, none: &str) -> Result<(), Fail> {
     match span {
         Some(Span { from, to }) => write!(told, "{from} to {to}")?,
@@ -97,7 +98,7 @@ fn gives_the_table_and_the_text(rt: HostRuntime) -> Result<(), Fail> {
     check(&rt, rt.alloc(), Call::Parts, PARTS)
 }
 
-/// What the beginning of an image of this length is refused for.
+/// The refusal of the first bytes of an image, of this length.
 fn fault_of(size: usize) -> Option<LayoutFault> {
     match size {
         ..88 => Some(LayoutFault::Short),
@@ -126,7 +127,7 @@ fn put_section(image: &mut [u8], row: u8, count: u8) {
     put(image, place + 4, &at.to_le_bytes());
 }
 
-/// An image with so many sections.
+/// An image with this many sections.
 fn with_sections(alloc: Global, count: u8) -> Result<Vec<u8>, Fail> {
     let mut bytes = image(alloc, "8192 + 148:00140000")?;
     put(&mut bytes, 70, &[count, 0]);

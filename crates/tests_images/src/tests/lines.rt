@@ -1,4 +1,4 @@
-//! The lines that are printed of facts, of lists and of a fault.
+//! The printed lines of facts, of lists and of a fault.
 use super::{Call, check, image, tell_lines};
 use cli_lines::{Fault, MOST_BYTES, print_facts, print_fault, print_list, print_verdict};
 use desk_bytes::{Guid, Refusal, WriteFailed};
@@ -13,8 +13,8 @@ use std::io::ErrorKind;
 use std::test::Fail;
 use testing::Narrow;
 
-/// What is printed of an image's facts: PE32+, PE32 to be padded, with a certificate, with components too; and
-/// the first fault. The digests are those that Python's hashlib gives for the file and for the ranges.
+/// The printed facts of images: PE32+, PE32 to be padded, with a certificate, with components too;
+/// and the first fault. The digests are those of Python's hashlib for the file and for the ranges.
 const FACTS: &str = "\
 1024 + = \
 length 1024;file e4c220d8dab039abb3652b6fa6a553ed2263ecd9bc8c21da0d6b8015b6e0d14c;digest a035ceb75d7d18f5784a0da16d4cbfcc277a24990091c0827616a97541c6178b;signing a035ceb75d7d18f5784a0da16d4cbfcc277a24990091c0827616a97541c6178b;gap 0;
@@ -36,7 +36,7 @@ refused 12 SbatRow at 1;
 refused 12 SbatRow at 3;
 ";
 
-/// Tells what is printed of an image's facts.
+/// Appends the printed facts of an image.
 pub fn of_facts(alloc: Global, told: &mut String, input: &str) -> Result<(), Fail> {
     let bytes = image(alloc, input)?;
     let mut out = Vec::new(alloc);
@@ -121,7 +121,7 @@ e8070101000000000000000000000000\
 33221100554477668899aabbccddeeff1c000000000000000f000000 = refused 16 EntrySize at 0;
 ";
 
-/// Tells what is printed of lists.
+/// Appends the printed lines of lists.
 fn tell_list(alloc: Global, told: &mut String, bytes: &[u8]) -> Result<(), Fail> {
     let mut out = Vec::new(alloc);
     if let Err(fault) = print_list(alloc, bytes, &mut out) {
@@ -130,7 +130,7 @@ fn tell_list(alloc: Global, told: &mut String, bytes: &[u8]) -> Result<(), Fail>
     tell_lines(told, &mut out)
 }
 
-/// Tells what is printed of lists in hexadecimal.
+/// Appends the printed lines of lists in hexadecimal.
 pub fn of_list(alloc: Global, told: &mut String, input: &str) -> Result<(), Fail> {
     let bytes = hex::decode(alloc, input)?;
     tell_list(alloc, told, &bytes)
@@ -141,7 +141,7 @@ fn prints_the_lists_of_a_file(rt: HostRuntime) -> Result<(), Fail> {
     check(&rt, rt.alloc(), Call::List, LISTS)
 }
 
-/// Whether zeros, so many, are refused by this fault.
+/// Whether this many zeros are refused with this fault.
 fn is_refused(alloc: Global, size: usize, fault: Fault) -> Result<bool, Fail> {
     let bytes = vec![in alloc; 0u8; size]?;
     Ok(print_list(alloc, &bytes, &mut Vec::new(alloc)) == Err(fault))
@@ -211,7 +211,7 @@ fn prints_why_a_text_is_not_packed(rt: HostRuntime) -> Result<(), Fail> {
     Ok(())
 }
 
-/// What is printed of verdicts on an image of the components sbat 1 and grub 3.
+/// The printed verdicts on an image of the components sbat 1 and grub 3.
 const VERDICTS: &str = "\
 allowed
 refused dbx-digest

@@ -5,7 +5,8 @@ use std::alloc::Global;
 use std::test::Fail;
 use testing::Slow;
 
-/// What is read of 140,000 bytes: all of them, as many as three pieces have, the bytes of a border, and none.
+/// The sizes that are read of 140,000 bytes: all of them, as many as three pieces have, the bytes
+/// of a border, and none.
 const MOST: [u64; 5] = [u64::MAX, 140_000, 131_072, 65_537, 0];
 
 /// Whether as many bytes are taken, and no more of the reader.

@@ -7,8 +7,8 @@ use std::fmt::Write;
 use std::test::Fail;
 use testing::Slow;
 
-/// Inputs in hexadecimal, and what is kept of the token in them: the SHA-256 of its bytes, as Python's hashlib
-/// gives it. What is said before each names it.
+/// Inputs in hexadecimal, and the SHA-256 that is kept of the token in them, by Python's hashlib.
+/// The words before each name it.
 const TOKENS: &str = "\
 a line and more: 6f6c67612d746f6b656e2d3030303030310a6261640a = 6f1f158a7ab1c4fa1a119ba501e4f7131e1c4b6d96b8c75661ef487f20dc81f1
 CR and LF: 6f6c67612d746f6b656e2d3030303030310d0a = 6f1f158a7ab1c4fa1a119ba501e4f7131e1c4b6d96b8c75661ef487f20dc81f1
@@ -26,7 +26,7 @@ a space: 6f6c676120746f6b656e203030303030310a = none
 a byte above 0x7E: 6f6c67612d746f6b656e2d30303030307f0a = none
 ";
 
-/// Tells what is kept of the token in an input.
+/// Appends the SHA-256 that is kept of the token in an input.
 pub fn of_token(alloc: Global, told: &mut String, input: &str) -> Result<(), Fail> {
     let (_, digits) = input.split_once(": ").ok_or("no name")?;
     let bytes = hex::decode(alloc, digits)?;

@@ -74,7 +74,7 @@ minutes = mistake
 minutes a.db more = mistake
 ";
 
-/// Tells the line that begins with `Usage:`, or else the first.
+/// Appends the line that begins with `Usage:`, or else the first.
 fn tell_usage(told: &mut String, text: &str) -> Result<(), AllocError> {
     for line in text.lines() {
         if line.starts_with("Usage: ") {
@@ -84,7 +84,7 @@ fn tell_usage(told: &mut String, text: &str) -> Result<(), AllocError> {
     told.push_str(text.lines().next().unwrap_or(""))
 }
 
-/// Tells a subcommand with its words.
+/// Appends a subcommand with its words.
 fn tell_words(told: &mut String, line: Words<'_>) -> Result<(), AllocError> {
     match line {
         Words::Init { db, owner } => write!(told, "init of {db} for {owner}"),
@@ -103,7 +103,7 @@ fn tell_words(told: &mut String, line: Words<'_>) -> Result<(), AllocError> {
     }
 }
 
-/// Tells the words of `person`.
+/// Appends the words of `person`.
 fn tell_person(told: &mut String, words: PersonWords<'_>) -> Result<(), AllocError> {
     let PersonWords {
         db,
@@ -115,7 +115,7 @@ fn tell_person(told: &mut String, words: PersonWords<'_>) -> Result<(), AllocErr
     write!(told, "{name} {role} {key}")
 }
 
-/// Tells the words of `serve`.
+/// Appends the words of `serve`.
 fn tell_serve(told: &mut String, words: ServeWords<'_>) -> Result<(), AllocError> {
     let ServeWords { db, port, count } = words;
     write!(told, "serve of {db}: {port} {count}")
@@ -130,7 +130,7 @@ fn words_of(alloc: Global, input: &str) -> Result<Vec<String>, AllocError> {
     Ok(words)
 }
 
-/// Tells what the words say.
+/// Appends the meaning of the words.
 pub fn of_words(alloc: Global, told: &mut String, input: &str) -> Result<(), Fail> {
     let given = words_of(alloc, input)?;
     match words(alloc, given.as_slice()) {

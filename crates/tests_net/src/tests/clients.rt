@@ -1,12 +1,12 @@
-//! Clients of a listener, in the process that serves them. They connect and send all that they have before the first is
-//! served: the listener's backlog holds them.
+//! Clients of a listener, in the process that serves them. They connect and send all of their bytes
+//! before the first is served: the listener's backlog holds them.
 use std::io;
 use std::io::{Read, Write};
 use std::net::{Shutdown, TcpListener, TcpStream};
 use std::test::Fail;
 use testing::bytes_of;
 
-/// A client that sent nothing yet.
+/// A client that has sent nothing yet.
 pub(super) fn connected(rt: &HostRuntime, listener: &TcpListener) -> io::Result<TcpStream> {
     TcpStream::connect(rt, listener.local_addr()?)
 }

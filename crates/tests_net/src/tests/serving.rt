@@ -1,4 +1,4 @@
-//! What `serve` and `listen` do with clients.
+//! `serve` and `listen` with clients.
 use super::clients::{client, connected, got};
 use desk_bytes::Refusal;
 use http_net::{listen, serve};
@@ -11,36 +11,36 @@ use testing_desk::StandIn;
 /// A request for the level.
 const LEVEL: &str = "GET /level HTTP/1.1|Desk-Token: olga-token-000001||";
 
-/// What is due to it.
+/// The due response to it.
 const LEVEL_DUE: &str =
     "HTTP/1.1 200 OK|Content-Type: text/plain|Content-Length: 18|Connection: close||sbat,1,2021030218~";
 
 /// A request for dbx.
 const DBX: &str = "GET /dbx HTTP/1.1|Desk-Token: olga-token-000001||";
 
-/// What is due to it.
+/// The due response to it.
 const DBX_DUE: &str =
     "HTTP/1.1 200 OK|Content-Type: application/octet-stream|Content-Length: 4|Connection: close||~dbx";
 
 /// A request for the report.
 const REPORT: &str = "GET /report HTTP/1.1|Desk-Token: olga-token-000001||";
 
-/// What is due to it.
+/// The due response to it.
 const REPORT_DUE: &str =
     "HTTP/1.1 200 OK|Content-Type: text/plain|Content-Length: 9|Connection: close||people 1~";
 
-/// Two commands behind one another.
+/// Two commands, one after the other.
 const TWO: &str =
     "POST /requests/7/withdraw HTTP/1.1|Desk-Token: olga-token-000001|Desk-Key: k1|Content-Length: 0||POST /requests/8/withdraw HTTP/1.1|Desk-Token: olga-token-000001|Desk-Key: k2|Content-Length: 0||";
 
-/// What is due to the first.
+/// The due response to the first.
 const TWO_DUE: &str =
     r#"HTTP/1.1 200 OK|Content-Type: application/json|Content-Length: 33|Connection: close||{"reply":"withdrawn","request":7}"#;
 
 /// A head that is cut short.
 const CUT: &str = "GET /level";
 
-/// What is due to it.
+/// The due response to it.
 const CUT_DUE: &str =
     r#"HTTP/1.1 400 Bad Request|Content-Type: application/json|Content-Length: 31|Connection: close||{"name":"BadHead","refused":50}"#;
 
@@ -48,15 +48,15 @@ const CUT_DUE: &str =
 const STORE: &str =
     "POST /requests/1/withdraw HTTP/1.1|Desk-Token: olga-token-000001|Desk-Key: store|Content-Length: 0||";
 
-/// What is due to it.
+/// The due response to it.
 const STORE_DUE: &str =
     r#"HTTP/1.1 503 Service Unavailable|Content-Type: application/json|Content-Length: 29|Connection: close||{"name":"Store","refused":41}"#;
 
-/// What is due to each request of a desk that has failed.
+/// The due response to each request of a desk that has failed.
 const REOPEN_DUE: &str =
     r#"HTTP/1.1 503 Service Unavailable|Content-Type: application/json|Content-Length: 30|Connection: close||{"name":"Reopen","refused":42}"#;
 
-/// A listener at a port that is free.
+/// A listener at a free port.
 fn anywhere(rt: &HostRuntime) -> Result<TcpListener, Fail> {
     match listen(rt, 0) {
         Ok(listener) => Ok(listener),

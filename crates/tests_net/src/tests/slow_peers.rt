@@ -1,4 +1,4 @@
-//! Peers that are slow, by a clock that is made up.
+//! Slow peers, by a made-up clock.
 ghost use Rattle.std.specs.Prelude.{◌≤◌, IfOk};
 
 use desk_http::HttpFault;
@@ -18,7 +18,7 @@ struct MadeUp {
     now: Cell<u64>,
 }
 
-/// Where it begins.
+/// Its first time.
 const BEGUN: u64 = 7000;
 
 impl MadeUp {
@@ -28,7 +28,7 @@ impl MadeUp {
         }
     }
 
-    /// The milliseconds that went.
+    /// The milliseconds that have passed.
     fn went(&self) -> u64 {
         self.now.get().saturating_sub(BEGUN)
     }
@@ -44,7 +44,8 @@ impl Clock for MadeUp {
     }
 }
 
-/// A peer that sends these bytes, or takes any, so many a call, each after so many milliseconds.
+/// A peer that sends these bytes, or takes any, this many in each call, each after this many
+/// milliseconds.
 #[derive(Drop)]
 struct Peer<'c> {
     clock: &'c MadeUp,
@@ -66,7 +67,7 @@ impl<'c> Peer<'c> {
         }
     }
 
-    /// Waits for the peer, and says how many of so many bytes it moves.
+    /// Waits for the peer, and returns how many of `room` bytes it moves.
     fn moved(&self, room: usize) -> io::Result<usize>
         ensures { IfOk result (λ count. count ≤ room) }
     {
@@ -150,8 +151,8 @@ fn go<W: Write>(bytes: &[u8], writer: &mut W) -> usize {
     0
 }
 
-/// How many bytes there are, how many a peer sends a call, and after how many milliseconds; how many came, and how many
-/// milliseconds went.
+/// How many bytes there are, how many a peer sends in a call, and after how many milliseconds; how
+/// many came, and how many milliseconds passed.
 const SENT: [(usize, usize, u64, usize, u64); 8] = [
     (53, 1, 1000, 29, 30_000),
     (53, 1, 500, 53, 27_000),
@@ -163,7 +164,7 @@ const SENT: [(usize, usize, u64, usize, u64); 8] = [
     (4_194_304, 4096, 1000, 122_880, 31_000),
 ];
 
-/// The same of bytes that a peer takes.
+/// The same for bytes that a peer takes.
 const TAKEN: [(usize, usize, u64, usize, u64); 6] = [
     (53, 1, 1000, 29, 30_000),
     (100, 100, 29_999, 100, 29_999),
@@ -203,8 +204,8 @@ fn lets_a_slow_taker_go(rt: HostRuntime) -> Result<(), Fail> {
     Ok(())
 }
 
-/// How many bytes still come, how many a peer sends a call, and after how many milliseconds; how many are left, and how
-/// many milliseconds went.
+/// How many bytes still come, how many a peer sends in a call, and after how many milliseconds; how
+/// many are left, and how many milliseconds passed.
 const READ_OFF: [(usize, usize, u64, usize, u64); 4] = [
     (2_097_152, 8192, 0, 1_048_576, 0),
     (100_000, 8192, 0, 0, 0),

@@ -16,7 +16,7 @@ one\r||two\r\r|three\r = 1 one;3 two\r;4 three\r;
 a|\0b = 1 a;2 \0b;
 ";
 
-/// Tells the number and the bytes of each line.
+/// Appends the number and the bytes of each line.
 pub fn of_lines(alloc: Global, told: &mut String, input: &str) -> Result<(), Fail> {
     let bytes = unbarred(alloc, input)?;
     for line in parted(&bytes) {
@@ -25,7 +25,7 @@ pub fn of_lines(alloc: Global, told: &mut String, input: &str) -> Result<(), Fai
     Ok(())
 }
 
-/// Tells a line's number and bytes.
+/// Appends a line's number and bytes.
 fn tell_line(told: &mut String, number: u64, line: &[u8]) -> Result<(), Fail> {
     let text = str::from_utf8(line)?;
     write!(told, "{number} {text};")?;
@@ -47,7 +47,7 @@ c1c41626x504c-4092-aca9-41f936934328 = no GUID
 {c1c41626-504c-4092-aca9-41f93693432} = no GUID
 ";
 
-/// Tells the bytes and the text of a GUID.
+/// Appends the bytes and the text of a GUID.
 pub fn of_guid(alloc: Global, told: &mut String, input: &str) -> Result<(), Fail> {
     let Ok(guid) = Guid::parse(input) else {
         told.push_str("no GUID")?;
@@ -72,7 +72,7 @@ const DIGESTS: &str = "\
 00112233445566778899aabbccddeeff00112233445566778899aabbccddeefg = no digest
 ";
 
-/// Tells the text of a digest.
+/// Appends the text of a digest.
 pub fn of_digest(told: &mut String, input: &str) -> Result<(), Fail> {
     match Digest::parse(input.as_bytes()) {
         Ok(digest) => write!(told, "{digest}")?,
@@ -86,7 +86,8 @@ fn reads_and_writes_a_digest(rt: HostRuntime) -> Result<(), Fail> {
     check(&rt, rt.alloc(), Call::Digest, DIGESTS)
 }
 
-/// Bytes in hexadecimal, and of the element at their front the tag, all of it, its content, and what follows.
+/// Bytes in hexadecimal, and of the element at their front the tag, all of it, its content, and the
+/// bytes after it.
 const ELEMENTS: &str = "\
 0500 = 5 0500..
 3003020101 = 48 3003020101.020101.
@@ -116,7 +117,7 @@ ff00 = Der
 30ff = Der
 ";
 
-/// Tells the parts of the element at the front.
+/// Appends the parts of the element at the front.
 pub fn of_element(alloc: Global, told: &mut String, input: &str) -> Result<(), Fail> {
     let bytes = hex::decode(alloc, input)?;
     match element(&bytes) {
@@ -125,7 +126,7 @@ pub fn of_element(alloc: Global, told: &mut String, input: &str) -> Result<(), F
     }
 }
 
-/// Tells an element's tag, all of it, its content, and what follows.
+/// Appends an element's tag, all of it, its content, and the bytes after it.
 fn tell_element(
     alloc: Global,
     told: &mut String,
@@ -164,7 +165,7 @@ const CERTIFICATES: &str = "\
 30053103020101 = Der
 ";
 
-/// Tells the TBSCertificate.
+/// Appends the TBSCertificate.
 pub fn of_tbs(alloc: Global, told: &mut String, input: &str) -> Result<(), Fail> {
     let bytes = hex::decode(alloc, input)?;
     match tbs(&bytes) {
@@ -193,7 +194,7 @@ fn puts_a_beginning_before_a_fault(rt: HostRuntime) {
     assert!(rt; writer.taken.as_slice() == b"abcde".as_slice());
 }
 
-/// How many bytes are read of these, 9,999 a call, of which one may fail.
+/// How many of these bytes are read, 9,999 in each call, where one call may fail.
 fn count_read(alloc: Global, fails_at: u64, most: u32) -> Result<usize, InputFault> {
     let long = [7; 70_000];
     let mut reader = Slow {

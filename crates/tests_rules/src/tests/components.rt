@@ -22,13 +22,13 @@ const GENERATIONS: &str = "\
 0x1 = none
 ";
 
-/// Tells the number of a generation.
+/// Appends the number of a generation.
 pub fn of_generation(told: &mut String, input: &str) -> Result<(), Fail> {
     let number = Generation::parse(input.as_bytes()).map_or(0, |one| u64::from(one.value()));
     tell_number(told, number)
 }
 
-/// Tells a number, and `none` for 0.
+/// Appends a number, and `none` for 0.
 fn tell_number(told: &mut String, number: u64) -> Result<(), Fail> {
     match number {
         0 => told.push_str("none")?,
@@ -54,7 +54,7 @@ const STAMPS: &str = "\
  = none
 ";
 
-/// Tells the number of a stamp.
+/// Appends the number of a stamp.
 pub fn of_stamp(told: &mut String, input: &str) -> Result<(), Fail> {
     let number = Stamp::parse(input.as_bytes()).map_or(0, |stamp| stamp.value());
     tell_number(told, number)
@@ -79,7 +79,7 @@ a\r = Form
 \u{e9} = Form
 ";
 
-/// Tells a name, and whether it is `sbat`.
+/// Appends a name, and whether it is `sbat`.
 pub fn of_name(alloc: Global, told: &mut String, input: &str) -> Result<(), Fail> {
     match ComponentName::parse(alloc, input.as_bytes()) {
         Ok(name) => tell_name(told, &name),
@@ -90,7 +90,7 @@ pub fn of_name(alloc: Global, told: &mut String, input: &str) -> Result<(), Fail
     }
 }
 
-/// Tells a name, and whether it is `sbat`.
+/// Appends a name, and whether it is `sbat`.
 fn tell_name(told: &mut String, name: &ComponentName) -> Result<(), Fail> {
     told.push_str(name.as_str())?;
     if name.is_sbat() {
@@ -134,7 +134,7 @@ a,1,a,b,1,u|b,,a,b,1,u|c| = SbatRow at 2
 a,1,a,b,1,u|\r = SbatRow at 2
 ";
 
-/// Tells what a text names, as `name generation;` for each component.
+/// Appends the components that a text names, each as `name generation;`.
 pub fn of_components(alloc: Global, told: &mut String, input: &str) -> Result<(), Fail> {
     let text = unbarred(alloc, input)?;
     match components(alloc, &text) {
@@ -143,7 +143,7 @@ pub fn of_components(alloc: Global, told: &mut String, input: &str) -> Result<()
     }
 }
 
-/// Tells components.
+/// Appends components.
 fn tell_components(told: &mut String, components: &[Component]) -> Result<(), Fail> {
     for component in components {
         let name = component.name.as_str();
@@ -158,7 +158,7 @@ fn reads_the_components_of_an_image(rt: HostRuntime) -> Result<(), Fail> {
     check(&rt, rt.alloc(), Call::Components, TEXTS)
 }
 
-/// So many rows, and what follows them.
+/// This many rows, and the text after them.
 fn rows_of(alloc: Global, count: usize, behind: &str) -> Result<String, AllocError> {
     let mut text = String::new(alloc);
     for _ in 0..count {
@@ -168,7 +168,7 @@ fn rows_of(alloc: Global, count: usize, behind: &str) -> Result<String, AllocErr
     Ok(text)
 }
 
-/// How many components there are of so many rows, or the refusal.
+/// How many components this many rows have, or the refusal.
 fn count_of(alloc: Global, count: usize, behind: &str) -> Result<usize, SbatFault> {
     let Ok(text) = rows_of(alloc, count, behind) else {
         return Err(SbatFault::NoMemory);

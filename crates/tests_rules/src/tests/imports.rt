@@ -1,4 +1,4 @@
-//! What is imported of signature lists, CSV files and levels.
+//! Imports of signature lists, CSV files and levels.
 use super::inputs::{expanded, spelt, unbarred};
 use super::levels::put_names;
 use super::{Call, check, refuse, tell_hex};
@@ -11,7 +11,7 @@ use std::alloc::{AllocError, Global};
 use std::fmt::Write;
 use std::test::Fail;
 
-/// Tells the first four digits of each digest.
+/// Appends the first four digits of each digest.
 fn tell_digests(alloc: Global, told: &mut String, digests: &[Digest]) -> Result<(), Fail> {
     told.push_str(" [")?;
     for digest in digests {
@@ -22,7 +22,7 @@ fn tell_digests(alloc: Global, told: &mut String, digests: &[Digest]) -> Result<
     Ok(())
 }
 
-/// Tells the stamp of an import, the count of what it passes over, and all that it names.
+/// Appends the stamp of an import, the count of skipped entries, and all that it names.
 fn tell_import(alloc: Global, told: &mut String, import: &Import) -> Result<(), Fail> {
     let stamp = import.stamp().map_or(0, |stamp| stamp.value());
     let passed = import.passed();
@@ -37,7 +37,7 @@ fn tell_import(alloc: Global, told: &mut String, import: &Import) -> Result<(), 
     Ok(())
 }
 
-/// Tells what an import answered.
+/// Appends the result of an import.
 fn tell_answer(
     alloc: Global,
     told: &mut String,
@@ -50,12 +50,12 @@ fn tell_answer(
     }
 }
 
-/// Tells what is imported of a CSV file that has no stamp of its own.
+/// Appends the import of a CSV file without a stamp of its own.
 pub fn of_csv(alloc: Global, told: &mut String, input: &str) -> Result<(), Fail> {
     tell_csv(alloc, told, input, None)
 }
 
-/// Tells what is imported of a CSV file with this stamp.
+/// Appends the import of a CSV file with this stamp.
 fn tell_csv(
     alloc: Global,
     told: &mut String,
@@ -66,13 +66,13 @@ fn tell_csv(
     tell_answer(alloc, told, &import_csv(alloc, &text, stamp))
 }
 
-/// Tells what is imported of signature lists.
+/// Appends the import of signature lists.
 pub fn of_dbx(alloc: Global, told: &mut String, input: &str) -> Result<(), Fail> {
     let bytes = spelt(alloc, input)?;
     tell_answer(alloc, told, &import_dbx(alloc, &bytes))
 }
 
-/// Tells what is imported of a level.
+/// Appends the import of a level.
 pub fn of_level(alloc: Global, told: &mut String, input: &str) -> Result<(), Fail> {
     let text = unbarred(alloc, input)?;
     tell_answer(alloc, told, &import_level(alloc, &text))
@@ -139,7 +139,7 @@ fn keeps_the_stamp_of_a_file(rt: HostRuntime) -> Result<(), Fail> {
     Ok(())
 }
 
-/// How many digests and components an import names, and how many entries it passes over.
+/// How many digests and components an import names, and how many entries it skips.
 fn counts(answer: &Result<Command, ImportFault>) -> Result<(usize, usize, u64), ImportFault> {
     match answer {
         Ok(Command::ImportRevocations(import)) => Ok((
@@ -181,7 +181,7 @@ fn two_lists(alloc: Global, count: u16, others: u16) -> Result<Vec<u8>, AllocErr
     Ok(bytes)
 }
 
-/// What these lists import, without their last bytes.
+/// The counts of these lists' import, without their last bytes.
 fn counted_lists(
     alloc: Global,
     count: u16,
@@ -195,7 +195,7 @@ fn counted_lists(
     counts(&import_dbx(alloc, bytes.get(..kept).unwrap_or(&[])))
 }
 
-/// A CSV file of that many records, with others behind them.
+/// A CSV file of that many records, with others after them.
 fn records(alloc: Global, count: u32, behind: &str) -> Result<Vec<u8>, AllocError> {
     let mut text = expanded(alloc, "#|")?;
     let record = expanded(alloc, "sha256,A,|")?;
@@ -206,7 +206,7 @@ fn records(alloc: Global, count: u32, behind: &str) -> Result<Vec<u8>, AllocErro
     Ok(text)
 }
 
-/// What this file imports.
+/// The counts of this file's import.
 fn counted_records(
     alloc: Global,
     count: u32,
@@ -218,7 +218,7 @@ fn counted_records(
     counts(&import_csv(alloc, &text, None))
 }
 
-/// What a level of that many names imports.
+/// The counts of the import of a level of that many names.
 fn counted_names(alloc: Global, count: u32) -> Result<(usize, usize, u64), ImportFault> {
     let mut text = String::new(alloc);
     if put_names(&mut text, count, "").is_err() {
@@ -227,7 +227,7 @@ fn counted_names(alloc: Global, count: u32) -> Result<(usize, usize, u64), Impor
     counts(&import_level(alloc, text.as_bytes()))
 }
 
-/// The refusal of what is too much.
+/// The refusal of a too long input.
 const TOO_LONG: Result<(usize, usize, u64), ImportFault> = Err(ImportFault::TooLong);
 
 #[test]

@@ -1,9 +1,9 @@
-//! The bytes that an input of a script stands for.
+//! The bytes of an input of a script.
 use std::alloc::{AllocError, Global};
 use std::slice;
 use std::test::Fail;
 
-/// The bytes of a text in which `|` stands for a line feed.
+/// The bytes of a text in which `|` means a line feed.
 pub fn unbarred(alloc: Global, text: &str) -> Result<Vec<u8>, AllocError> {
     let mut bytes = Vec::from_slice(alloc, text.as_bytes())?;
     for byte in bytes.iter_mut() {
@@ -14,8 +14,9 @@ pub fn unbarred(alloc: Global, text: &str) -> Result<Vec<u8>, AllocError> {
     Ok(bytes)
 }
 
-/// What stands for a letter: `A`, `B` and `U` are digests, `U` that of `A` with digits of either case, `T` has a digit too
-/// few and `L` one too many; `#` is the header of a CSV file, `|` a line feed, `^` a carriage return, `~` the mark EF BB BF.
+/// The meaning of a letter: `A`, `B` and `U` are digests, `U` that of `A` with digits of either
+/// case, `T` has a digit too few and `L` one too many; `#` is the header of a CSV file, `|` a line
+/// feed, `^` a carriage return, `~` the byte order mark EF BB BF.
 fn meaning(letter: &u8) -> &[u8] {
     match *letter {
         b'A' => b"aaaaaaaaaaaaaaaaaaaaaaaaaaaaaaaaaaaaaaaaaaaaaaaaaaaaaaaaaaaaaaaa",
@@ -31,7 +32,7 @@ fn meaning(letter: &u8) -> &[u8] {
     }
 }
 
-/// The bytes that the letters of an input stand for.
+/// The bytes that the letters of an input mean.
 pub fn expanded(alloc: Global, input: &str) -> Result<Vec<u8>, AllocError> {
     let mut bytes = Vec::new(alloc);
     for letter in input.as_bytes() {
@@ -40,8 +41,8 @@ pub fn expanded(alloc: Global, input: &str) -> Result<Vec<u8>, AllocError> {
     Ok(bytes)
 }
 
-/// The digits that a word stands for: `G` for a type of no kind and for an owner, `S`, `X` and `D` for the types of SHA-256,
-/// X.509 and X.509 with SHA-256, `A` and `B` for digests.
+/// The digits that a word means: `G` a type of no kind and an owner, `S`, `X` and `D` the types of
+/// SHA-256, X.509 and X.509 with SHA-256, `A` and `B` digests.
 fn digits(word: &str) -> &str {
     match word.as_bytes() {
         b"G" => "33221100554477668899aabbccddeeff",

@@ -10,7 +10,7 @@ use std::fmt::Write;
 use std::str;
 use std::test::Fail;
 
-/// Texts, and what is written of the levels that they are.
+/// Texts, and the levels in them as they are written.
 const LEVELS: &str = "\
 sbat,1,2021030218| = sbat,1,2021030218;
 sbat,1,2024010100|grub,2|grub,03 = sbat,1,2024010100;grub,3;
@@ -35,7 +35,7 @@ sbat,1,2024010100|grub,2||shim,0| = SbatRow at 4
 sbat,1,2024010100|,2| = SbatRow at 2
 ";
 
-/// Tells what is written of a level, each line ended by `;`.
+/// Appends the text of a level, each line ended by `;`.
 fn tell_level(alloc: Global, told: &mut String, level: &Level) -> Result<(), Fail> {
     let mut text = Vec::new(alloc);
     write_level(level, &mut text)?;
@@ -48,7 +48,7 @@ fn tell_level(alloc: Global, told: &mut String, level: &Level) -> Result<(), Fai
     Ok(())
 }
 
-/// Tells what is written of the level that a text is.
+/// Appends the text of the level in a text.
 pub fn of_level(alloc: Global, told: &mut String, input: &str) -> Result<(), Fail> {
     let text = unbarred(alloc, input)?;
     match read_level(alloc, &text) {
@@ -62,7 +62,7 @@ fn reads_and_writes_levels(rt: HostRuntime) -> Result<(), Fail> {
     check(&rt, rt.alloc(), Call::Level, LEVELS)
 }
 
-/// Writes a level of so many names, and what follows it.
+/// Writes a level of this many names, and the text after it.
 pub fn put_names(text: &mut String, count: u32, behind: &str) -> Result<(), AllocError> {
     write!(text, "sbat,1,2024010100\n")?;
     for number in 0..count {
@@ -71,7 +71,7 @@ pub fn put_names(text: &mut String, count: u32, behind: &str) -> Result<(), Allo
     write!(text, "{behind}")
 }
 
-/// How many names a level of so many rows has, or the refusal.
+/// How many names a level of this many rows has, or the refusal.
 fn count_of(alloc: Global, count: u32, behind: &str) -> Result<usize, SbatFault> {
     let mut text = String::new(alloc);
     if put_names(&mut text, count, behind).is_err() {

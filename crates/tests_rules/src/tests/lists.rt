@@ -23,7 +23,7 @@ fn word(kind: Kind) -> &'static str {
     }
 }
 
-/// Tells the beginning of an entry's owner, and its body.
+/// Appends the beginning of an entry's owner, and its body.
 fn tell_entry(alloc: Global, told: &mut String, entry: &Entry<'_>) -> Result<(), Fail> {
     told.push('[')?;
     tell_hex(alloc, told, &entry.owner.as_bytes()[..3])?;
@@ -33,7 +33,7 @@ fn tell_entry(alloc: Global, told: &mut String, entry: &Entry<'_>) -> Result<(),
     Ok(())
 }
 
-/// Tells a list's offset, kind, count, header and entries.
+/// Appends a list's offset, kind, count, header and entries.
 fn tell_list(alloc: Global, told: &mut String, list: &SignatureList<'_>) -> Result<(), Fail> {
     let offset = list.offset();
     let kind = word(list.kind());
@@ -47,7 +47,7 @@ fn tell_list(alloc: Global, told: &mut String, list: &SignatureList<'_>) -> Resu
     Ok(())
 }
 
-/// Tells what the bytes are that the words spell.
+/// Appends the lists in the bytes that the words spell.
 pub fn of_lists(alloc: Global, told: &mut String, input: &str) -> Result<(), Fail> {
     let bytes = spelt(alloc, input)?;
     match lists(&bytes) {
@@ -61,7 +61,7 @@ pub fn of_lists(alloc: Global, told: &mut String, input: &str) -> Result<(), Fai
     }
 }
 
-/// Lists of the least sizes, and those that are none, each with the three sizes behind its type.
+/// Lists of the least sizes, and bytes that aren't lists, each with the three sizes after its type.
 const LISTS: &str = "\
 G 1c000000 00000000 10000000 = 0 other 0 ;
 G 1c000000 00000000 ffffffff = 0 other 0 ;
@@ -159,7 +159,8 @@ fn reads_no_beginning_of_a_list(rt: HostRuntime) -> Result<(), Fail> {
     Ok(())
 }
 
-/// What is written: two digests out of order, once plain and once with times of zeros, and a certificate.
+/// The lists as they are written: two digests out of order, once plain and once with times of
+/// zeros, and a certificate.
 const WRITTEN: &str = "\
 2616c4c14c509240aca941f9369343287c0000000000000030000000\
 33221100554477668899aabbccddeeff\

@@ -9,7 +9,7 @@ use std::fmt::Write;
 use std::test::Fail;
 use testing::{Narrow, Slow};
 
-/// Lines, and the count and the bytes after the owner's of what they pack into.
+/// Lines, and the count and the bytes after the owner's of the list that they pack into.
 const PACKED: &str = " = 0
 ||\r| = 0
 B|A|A| = 2 7c000000 aaaa bbbb
@@ -24,7 +24,7 @@ A|B| A|T = Line at 3
 A|Bg = Line at 2
 ";
 
-/// Tells the list's size, and the first two bytes of each digest.
+/// Appends the list's size, and the first two bytes of each digest.
 fn tell_packed(alloc: Global, told: &mut String, out: &[u8]) -> Result<(), Fail> {
     told.push(' ')?;
     tell_hex(alloc, told, out.get(16..20).unwrap_or(&[]))?;
@@ -35,7 +35,7 @@ fn tell_packed(alloc: Global, told: &mut String, out: &[u8]) -> Result<(), Fail>
     Ok(())
 }
 
-/// Tells how many entries the lines pack into, and the list.
+/// Appends how many entries the lines pack into, and the list.
 pub fn of_pack(alloc: Global, told: &mut String, input: &str) -> Result<(), Fail> {
     let text = expanded(alloc, input)?;
     let owner = Guid::parse(OWNER)?;
@@ -55,7 +55,7 @@ fn packs_lines_into_one_list(rt: HostRuntime) -> Result<(), Fail> {
     check(&rt, rt.alloc(), Call::Pack, PACKED)
 }
 
-/// The answer to so many of a byte.
+/// The answer to a byte repeated this many times.
 fn answer(alloc: Global, byte: u8, size: usize) -> Result<u64, PackFault> {
     let Ok(owner) = Guid::parse(OWNER) else {
         return Err(PackFault::NoMemory);

@@ -1,4 +1,4 @@
-//! What a desk decides.
+//! Decisions of a desk.
 mod days;
 mod limits;
 mod tables;

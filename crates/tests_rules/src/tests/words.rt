@@ -1,11 +1,11 @@
-//! Texts of one form each: what takes memory gets it, also at the longest.
+//! Texts in their forms: calls that take memory get it, even for the longest.
 use desk_texts::{
     Caller, Command, Key, Note, PersonName, Reply, RequestNumber, Title, command_text, reply_text,
 };
 use std::alloc::{AllocError, Global};
 use std::test::Fail;
 
-/// Whether a name is taken and copied, also as a caller's.
+/// Whether a name is accepted and copied, also as a caller's.
 fn is_name(alloc: Global, text: &[u8]) -> Result<bool, Fail> {
     let name = PersonName::parse(alloc, text)?.clone()?;
     let is_taken = name.as_str().as_bytes() == text;
@@ -13,19 +13,19 @@ fn is_name(alloc: Global, text: &[u8]) -> Result<bool, Fail> {
     Ok(is_taken && caller.to_person_name(alloc)?.as_str().as_bytes() == text)
 }
 
-/// Whether a key is taken and copied.
+/// Whether a key is accepted and copied.
 fn is_key(alloc: Global, text: &[u8]) -> Result<bool, Fail> {
     let key = Key::parse(alloc, text)?.clone()?;
     Ok(key.as_str().as_bytes() == text)
 }
 
-/// Whether a title is taken and copied.
+/// Whether a title is accepted and copied.
 fn is_title(alloc: Global, text: &[u8]) -> Result<bool, Fail> {
     let title = Title::parse(alloc, text)?.clone()?;
     Ok(title.as_str().as_bytes() == text)
 }
 
-/// Whether a note is taken and copied.
+/// Whether a note is accepted and copied.
 fn is_note(alloc: Global, text: &[u8]) -> Result<bool, Fail> {
     let note = Note::parse(alloc, text)?.clone()?;
     Ok(note.as_str().as_bytes() == text)

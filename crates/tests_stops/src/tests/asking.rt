@@ -1,4 +1,4 @@
-//! What a desk is asked here, over any store. A function makes one call of the desk.
+//! Calls to a desk, over any store. A function makes one call of the desk.
 use super::*;
 
 /// Gives the desk one call.
@@ -34,18 +34,18 @@ pub(super) fn answers<S: Alter + Drop>(
     Some(answered(alloc, desk, line)?.as_str() == wanted)
 }
 
-/// What stands before the mark, and after it.
+/// The texts before and after the mark.
 pub(super) fn parted<'a>(text: &'a str, mark: &str) -> (&'a str, &'a str) {
     text.split_once(mark).unwrap_or((text, ""))
 }
 
-/// Whether the desk gives a call the answer behind it.
+/// Whether the desk gives a call the answer after it.
 pub(super) fn does<S: Alter + Drop>(alloc: Global, desk: &mut Desk<S>, told: &str) -> Option<bool> {
     let (line, answer) = parted(told, " : ");
     answers(alloc, desk, line, answer)
 }
 
-/// Whether the desk has to be opened again.
+/// Whether the desk must be opened again.
 pub(super) fn is_closed<S: Alter + Drop>(desk: &mut Desk<S>) -> bool {
     match desk.counts() {
         Ok(_) => false,
@@ -53,7 +53,7 @@ pub(super) fn is_closed<S: Alter + Drop>(desk: &mut Desk<S>) -> bool {
     }
 }
 
-/// Whether the desk gives each call of a script the answer behind it.
+/// Whether the desk gives each call of a script the answer after it.
 pub(super) fn does_each<S: Alter + Drop>(
     alloc: Global,
     desk: &mut Desk<S>,
@@ -67,7 +67,7 @@ pub(super) fn does_each<S: Alter + Drop>(
     Some(true)
 }
 
-/// All that the desk exports, one behind another: its minutes, dbx, db and level.
+/// All exports of the desk, one after another: its minutes, dbx, db and level.
 pub(super) fn exports<S: Alter + Drop>(alloc: Global, desk: &mut Desk<S>) -> Option<Vec<u8>> {
     let mut bytes = Vec::new(alloc);
     for what in [Export::Minutes, Export::Dbx, Export::Db, Export::Level] {
@@ -76,7 +76,8 @@ pub(super) fn exports<S: Alter + Drop>(alloc: Global, desk: &mut Desk<S>) -> Opt
     Some(bytes)
 }
 
-/// Whether the desk refuses an image for what it revoked, its `digest` or a `certificate`: that word, and the image.
+/// Whether the desk refuses an image for a revocation, of its `digest` or a `certificate`: that
+/// word, and the image.
 pub(super) fn bars<S: Alter + Drop>(
     alloc: Global,
     desk: &mut Desk<S>,

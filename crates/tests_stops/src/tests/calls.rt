@@ -1,4 +1,4 @@
-//! One call of a desk, where a file stops at each of its calls in turn.
+//! One call of a desk, with a file that stops at each of its calls in turn.
 use super::asking::{answered, answers, exports, is_closed, parted};
 use super::disks::{
     Goal, NEVER, Stopping, Stops, Which, bytes_of, calls_to, files, new_desk, opened,
@@ -32,7 +32,7 @@ otto t2 confirm 3 : confirmed 3 0 0 1 0
 otto t3 drop 2 : dropped 2
 olga o8 unlist-certificate 204 : unlisted";
 
-/// What became of a call on files that stop.
+/// The outcome of a call on files that stop.
 #[derive(Drop)]
 enum Ended {
     /// The desk wasn't opened.
@@ -43,7 +43,8 @@ enum Ended {
     Answered,
 }
 
-/// A call, its answer, what the desk exports before and after it, and the rows of all tables after it, where no file stops.
+/// A call, its answer, the desk's exports before and after it, and the rows of all tables after it,
+/// if no file stops.
 #[derive(Drop)]
 struct Wanted<'a> {
     line: &'a str,
@@ -54,14 +55,14 @@ struct Wanted<'a> {
 }
 
 impl<'a> Wanted<'a> {
-    /// Whether this is exported after the call, or before it where it may be missing.
+    /// Whether these are the exports after the call, or before it if it may be missing.
     fn is_found(&self, exported: &[u8], may_miss: bool) -> bool {
         exported == self.after.as_slice() || may_miss && exported == self.before.as_slice()
     }
 }
 
-/// Whether the call was answered as without a stop; nothing where it was answered in another way, or where after Store the desk
-/// answers on.
+/// Whether the call was answered as without a stop; `None` if it was answered in another way, or if
+/// the desk still answers after Store.
 fn is_answered<S: Alter + Drop>(
     alloc: Global,
     desk: &mut Desk<S>,
@@ -77,8 +78,8 @@ fn is_answered<S: Alter + Drop>(
     None
 }
 
-/// Whether a desk that was opened again has the call, or not where it may be missing; and whether the call then has its answer,
-/// and the desk exports what it does with it.
+/// Whether a desk that was opened again has the call, or lacks it if it may be missing; and whether
+/// the call then gets its answer, and the desk exports the same as with it.
 fn goes_on<S: Alter + Drop>(
     alloc: Global,
     desk: &mut Desk<S>,
@@ -117,7 +118,8 @@ fn outlives<D: Crash + Drop>(
     }
 }
 
-/// What becomes of the call at this desk; nothing where the desk that is opened after a crash isn't as it has to be.
+/// The outcome of the call at this desk; `None` if the desk that is opened after a crash isn't as
+/// it should be.
 fn outcome<D: Crash + Drop>(
     alloc: Global,
     desk: Desk<FileStore<D>>,
@@ -143,8 +145,9 @@ fn tried<D: Crash + Drop>(alloc: Global, files: Files<D>, wanted: &Wanted) -> Op
     }
 }
 
-/// How often the call is stopped where the file stops after each number of its calls, from the first with which the desk opens
-/// to the sixty-fourth with which the call is answered: what follows its commit is stopped too.
+/// How often the call is stopped if the file stops after each number of its calls, from the first
+/// with which the desk opens to the sixty-fourth with which the call is answered: the file's calls
+/// after its commit are stopped too.
 fn stopped<D: Stopping>(alloc: Global, bytes: &[u8], wanted: &Wanted, which: Which) -> Option<u64> {
     let mut stopped = 0u64;
     let mut answered = 0u64;
@@ -162,7 +165,8 @@ fn stopped<D: Stopping>(alloc: Global, bytes: &[u8], wanted: &Wanted, which: Whi
     None
 }
 
-/// The call of a line at the desk, if its answer is the one behind it. The rows after it aren't there yet.
+/// The call of a line at the desk, if its answer is the one after it. The rows after it aren't
+/// there yet.
 fn given<'a, S: Alter + Drop>(
     alloc: Global,
     desk: &mut Desk<S>,

@@ -8,7 +8,8 @@ use super::first_version::first_file;
 use super::lives::{outlived, whole};
 use super::*;
 
-/// The lives of version 2, one a line: the call that is answered Ok, and the one that is stopped. Before each the openings are stopped.
+/// The lives of version 2, one in each line: the call that is answered Ok, and the one that is
+/// stopped. Before each the openings are stopped.
 const LIVES: &str = "\
 console a0 add otto officer 7 : added otto => olga b0 revoke 35 : proposed 1
 otto a1 confirm 1 : confirmed 1 1 0 0 0 => olga b1 list 52 : listed
@@ -18,7 +19,8 @@ ann a3 submit shim 160 160 0 0 : submitted 1 => olga b3 import-digests 301 : pro
 /// An image whose digest was imported in the life of version 1.
 const REVOKED: &str = "digest 0 160 0 0";
 
-/// The files after an opening of their desk that stops so, and whether it was stopped; nothing where it is refused for another cause.
+/// The files after an opening of their desk that stops so, and whether it was stopped; `None` if it
+/// is refused for another reason.
 fn after_opening<D: Stopping>(
     alloc: Global,
     left: Files<D>,
@@ -33,8 +35,9 @@ fn after_opening<D: Stopping>(
     }
 }
 
-/// The files after openings of the desk in this file, each of what the one before left, in which one of the two stops at one more of its
-/// calls each time, from the first with which the files are opened until the desk is.
+/// The files after openings of the desk in this file, each of the files that the one before left.
+/// One of the two files stops at one more of its calls each time, from the first with which the
+/// files are opened until the desk is.
 fn after_openings<D: Stopping>(alloc: Global, bytes: &[u8], which: Which) -> Option<Files<D>> {
     let mut left: Files<D> = files(alloc, bytes, NEVER)?;
     for calls in calls_to::<D>(alloc, bytes, which, Goal::Connection)?..100_000 {
@@ -57,7 +60,7 @@ fn opened_at_last<D: Stopping>(alloc: Global, bytes: &[u8], which: Which) -> Opt
     bytes_of(alloc, &desk.close().ok()?)
 }
 
-/// Lives all lives, and compares what is exported at their end.
+/// Lives all lives, and compares the exports at their end.
 fn cross<D: Stopping>(alloc: Global, first: &[u8], which: Which) -> Result<(), Fail> {
     let wanted = whole::<D>(alloc, first, LIVES).ok_or("a desk without a stop")?;
     let mut bytes = Vec::from_slice(alloc, first)?;
@@ -71,7 +74,7 @@ fn cross<D: Stopping>(alloc: Global, first: &[u8], which: Which) -> Result<(), F
     Ok(())
 }
 
-/// The same, where each of the two files stops the openings.
+/// The same, with each of the two files stopping the openings.
 fn cross_each<D: Stopping>(alloc: Global) -> Result<(), Fail> {
     let first = first_file::<D>(alloc).ok_or("a file of version 1")?;
     for which in [Which::Log, Which::Db] {

@@ -23,7 +23,7 @@ pub(super) const NEVER: Stops = Stops {
 };
 
 impl Stops {
-    /// This file stops after so many calls, the other never.
+    /// This file stops after this many calls, the other never.
     pub(super) fn at(which: Which, calls: u64) -> Stops {
         match which {
             Which::Log => Stops {
@@ -37,7 +37,7 @@ impl Stops {
 
 /// A file in memory that stops.
 pub(super) trait Stopping: Crash + Drop {
-    /// A file with these bytes, all synced, which stops after so many calls.
+    /// A file with these bytes, all synced, which stops after this many calls.
     fn with(alloc: Global, bytes: &[u8], calls: u64) -> Option<Self>;
 
     /// The bytes of the file.
@@ -69,7 +69,7 @@ pub(super) fn bytes_of<D: Stopping>(alloc: Global, files: &Files<D>) -> Option<V
     Vec::from_slice(alloc, files.db.bytes()).ok()
 }
 
-/// The same files, which stop so from here on: all that stands in them is synced.
+/// The same files, which stop so from here on: all of their bytes are synced.
 pub(super) fn with_stops<D: Stopping>(
     alloc: Global,
     files: &Files<D>,
@@ -80,7 +80,7 @@ pub(super) fn with_stops<D: Stopping>(
     Some(Files { log, db })
 }
 
-/// A connection to the files, or the files, where they don't open.
+/// A connection to the files, or the files if they don't open.
 pub(super) fn connected<D: Disk + Drop>(
     alloc: Global,
     files: Files<D>,
@@ -138,7 +138,8 @@ pub(super) fn opened<D: Disk + Drop>(
     }
 }
 
-/// The desk that the files hold; else what refused it, and the files as the disks leave them then, where they were opened.
+/// The desk in the files; otherwise the refusal, and the files as the disks then leave them, if
+/// they were opened.
 pub(super) fn reopened<D: Crash + Drop>(
     alloc: Global,
     files: Files<D>,
@@ -175,18 +176,19 @@ pub(super) fn new_desk<D: Stopping>(alloc: Global) -> Option<Vec<u8>> {
     bytes_of(alloc, &desk.close().ok()?)
 }
 
-/// What files reach that don't stop before.
+/// A goal for files that don't stop earlier.
 #[derive(Clone, Copy)]
 pub(super) enum Goal<'a> {
     /// They are opened.
     Connection,
     /// The desk in them is.
     Desk,
-    /// The desk then gives a call the answer behind it; where there is a request for the call, the response is lost.
+    /// The desk then gives a call the answer after it; if there is a request for the call, the
+    /// response is lost.
     Call { request: &'a str, told: &'a str },
 }
 
-/// Whether the desk in the files gives a call the answer behind it.
+/// Whether the desk in the files gives a call the answer after it.
 fn answers_in<D: Disk + Drop>(
     alloc: Global,
     files: Files<D>,

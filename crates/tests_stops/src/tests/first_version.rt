@@ -5,10 +5,12 @@ use super::selects::execute;
 use super::*;
 use std::alloc::AllocError;
 
-/// How many digests were imported. The digest of a number is its two bytes, the low one first, and 30 zero bytes.
+/// How many digests were imported. The digest of a number is its two bytes, little-endian, and 30
+/// zero bytes.
 const COUNT: u16 = 300;
 
-/// The twelve tables of version 1 and their rows. The 300 digests stand in place of `<` to `>`, parted by what stands between.
+/// The twelve tables of version 1 and their rows. The characters `<` to `>` are replaced by the 300
+/// digests, separated by the text between them.
 const FILE: &str = "\
 CREATE TABLE desk (id INTEGER PRIMARY KEY NOT NULL, mark TEXT NOT NULL, version INTEGER NOT NULL, owner BLOB NOT NULL, stamp INTEGER NOT NULL) STRICT
 CREATE TABLE people (name TEXT NOT NULL PRIMARY KEY, role TEXT NOT NULL, token BLOB NOT NULL UNIQUE) STRICT
@@ -38,7 +40,7 @@ INSERT INTO calls (no, caller, key, text, reply) VALUES (6, 'console', 'p6', 'ad
 INSERT INTO revoked_digests (digest) VALUES (x'<'), (x'>')
 INSERT INTO calls (no, caller, key, text, reply) VALUES (7, 'olga', 'o1', 'import 0 0 <,> - -', 'imported 300 0 0 0')";
 
-/// The minutes of that desk: a call a line, its parts parted by `|`.
+/// The minutes of that desk: a call in each line, its parts separated by `|`.
 const MINUTES: &str = "\
 1|console|p1|add-person ann submitter 0101010101010101010101010101010101010101010101010101010101010101|added ann
 2|console|p2|add-person rita reviewer 0202020202020202020202020202020202020202020202020202020202020202|added rita
@@ -75,7 +77,7 @@ fn put_digest(text: &mut String, number: u16) -> Result<(), AllocError> {
     Ok(())
 }
 
-/// Puts all digests, parted so.
+/// Puts all digests, with this text between them.
 fn put_digests(text: &mut String, between: &str) -> Result<(), AllocError> {
     for number in 0..COUNT {
         if number > 0 {
@@ -128,7 +130,7 @@ fn put_minute(text: &mut Vec<u8>, minute: &str) -> Result<(), AllocError> {
     Ok(())
 }
 
-/// The minutes that its desk has to export.
+/// The minutes that its desk must export.
 fn put_minutes(alloc: Global, text: &mut Vec<u8>) -> Result<(), AllocError> {
     for line in MINUTES.lines() {
         put_minute(text, whole(alloc, line)?.as_str())?;
@@ -144,7 +146,7 @@ fn put_entry(dbx: &mut Vec<u8>, low: u8, high: u8) -> Result<(), AllocError> {
     dbx.extend_from_slice(&[0; 30])
 }
 
-/// The dbx that its desk has to export: the entries ascend by their digests.
+/// The dbx that its desk must export: the entries ascend by their digests.
 fn put_dbx(dbx: &mut Vec<u8>) -> Result<(), AllocError> {
     dbx.extend_from_slice(DBX)?;
     for low in 0..=255u8 {
@@ -156,7 +158,8 @@ fn put_dbx(dbx: &mut Vec<u8>) -> Result<(), AllocError> {
     Ok(())
 }
 
-/// What its desk has to export: its minutes, its dbx, nothing for db, and the level of a new desk.
+/// The exports that its desk must have: its minutes, its dbx, nothing for db, and the level of a
+/// new desk.
 pub(super) fn first_exports(alloc: Global) -> Result<Vec<u8>, AllocError> {
     let mut bytes = Vec::new(alloc);
     put_minutes(alloc, &mut bytes)?;

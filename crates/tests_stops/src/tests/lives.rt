@@ -1,16 +1,16 @@
-//! Ten lives of a desk, in each of which one call is answered Ok and the next is stopped.
+//! Ten lives of a desk; in each one call is answered Ok and the next is stopped.
 use super::asking::{bars, does, does_each, exports, is_closed, parted};
 use super::disks::{Goal, NEVER, Stopping, Stops, Which, bytes_of, calls_to, files, made, opened};
 use super::losing::{add_officer, done};
 use super::*;
 
-/// What the desk was given before by two officers: the proposal to revoke the certificate of an image.
+/// Two officers' calls to the desk before: the proposal to revoke the certificate of an image.
 const BEFORE: &str = "\
 olga o1 list-certificate 204 : listed
 olga o2 revoke-certificate 204 : proposed 1";
 
-/// A life a line: the request whose response is lost, the call that it asks for, and the call that is stopped. In the first life the
-/// certificate is revoked.
+/// A life in each line: the request whose response is lost, its call, and the call that is stopped.
+/// In the first life the certificate is revoked.
 const LIVES: &str =
     r#"POST /proposals/1/confirm HTTP/1.1|Desk-Token: otto-token-000006|Desk-Key: a0|Content-Length: 0|| == otto a0 confirm 1 : confirmed 1 0 1 0 0 => olga b0 revoke 51 : proposed 2
 POST /level HTTP/1.1|Desk-Token: olga-token-000005|Desk-Key: a1|Content-Length: 54||{"component":"grub","generation":3,"stamp":2024010100} == olga a1 raise grub 3 2024010100 : proposed 3 => otto b1 confirm 2 : confirmed 2 1 0 0 0
@@ -23,8 +23,8 @@ POST /dbx/certificates HTTP/1.1|Desk-Token: olga-token-000005|Desk-Key: a7|Conte
 POST /db/unlist HTTP/1.1|Desk-Token: olga-token-000005|Desk-Key: a8|Content-Length: 93||{"digest":"3636363636363636363636363636363636363636363636363636363636363636","kind":"digest"} == olga a8 unlist 54 : unlisted => ann b8 submit shim 160 160 0 0 : submitted 1
 POST /proposals/7/confirm HTTP/1.1|Desk-Token: otto-token-000006|Desk-Key: a9|Content-Length: 0|| == otto a9 confirm 7 : confirmed 7 0 1 0 0 => rita b9 yes 1 : reviewed 1 open"#;
 
-/// A life: the request whose response is lost, if there is one; the call that is answered Ok, with its answer; and the call that is
-/// stopped, with the answer that it has to get.
+/// A life: the request whose response is lost, if there is one; the call that is answered Ok, with
+/// its answer; and the call that is stopped, with the answer that it must get.
 #[derive(Clone, Copy)]
 struct Life<'a> {
     request: &'a str,
@@ -48,7 +48,7 @@ impl<'a> Life<'a> {
 /// The image that carries the certificate.
 const REVOKED: &str = "certificate 160 160 1 204 0";
 
-/// Whether the desk takes the calls before the lives.
+/// Whether the desk accepts the calls before the lives.
 fn is_begun<S: Alter + Drop>(alloc: Global, desk: &mut Desk<S>) -> Option<bool> {
     add_officer(alloc, desk, "olga", "olga-token-000005")?;
     add_officer(alloc, desk, "otto", "otto-token-000006")?;
@@ -70,13 +70,13 @@ fn before_lives<D: Stopping>(alloc: Global) -> Option<Vec<u8>> {
     bytes_of(alloc, &begun(alloc, empty)?)
 }
 
-/// Whether the call is stopped, so that the desk has to be opened again.
+/// Whether the call is stopped, so that the desk must be opened again.
 fn is_stopped<S: Alter + Drop>(alloc: Global, desk: &mut Desk<S>, told: &str) -> Option<bool> {
     let is_done = does(alloc, desk, told)?;
     Some(!is_done && is_closed(desk))
 }
 
-/// The desk that is opened after a life, in which the first call is answered and the second stopped.
+/// The desk that is opened after a life, with its first call answered and the second stopped.
 fn lived<D: Crash + Drop>(
     alloc: Global,
     desk: Desk<FileStore<D>>,
@@ -128,8 +128,8 @@ fn holds<D: Stopping>(alloc: Global, bytes: &[u8], barred: &str) -> Option<bool>
     }
 }
 
-/// The database file after a life, in which one of the two files stops at its next call once the first call of the desk is
-/// answered. The desk that is opened in it bars the image.
+/// The database file after a life, in which one of the two files stops at its next call once the
+/// first call of the desk is answered. The desk that is opened in it bars the image.
 pub(super) fn outlived<D: Stopping>(
     alloc: Global,
     bytes: &[u8],
@@ -164,7 +164,7 @@ fn play<S: Alter + Drop>(alloc: Global, desk: &mut Desk<S>, lives: &str) -> Opti
     Some(true)
 }
 
-/// What the desk exports, once it was given the calls of all lives.
+/// The desk's exports after the calls of all lives.
 fn exports_after<S: Alter + Drop>(
     alloc: Global,
     desk: &mut Desk<S>,
@@ -177,7 +177,7 @@ fn exports_after<S: Alter + Drop>(
     }
 }
 
-/// What the desk in this file exports, once it was given the calls of all lives without a stop.
+/// The exports of the desk in this file after the calls of all lives without a stop.
 pub(super) fn whole<D: Stopping>(alloc: Global, bytes: &[u8], lives: &str) -> Option<Vec<u8>> {
     let all: Files<D> = files(alloc, bytes, NEVER)?;
     match opened(alloc, all) {
@@ -194,7 +194,8 @@ fn other(which: Which) -> Which {
     }
 }
 
-/// Lives all lives, in which the log and the database file stop in turn, and compares what is exported at their end.
+/// Lives all lives, in which the log and the database file stop in turn, and compares the exports at
+/// their end.
 fn live<D: Stopping>(alloc: Global) -> Result<(), Fail> {
     let mut bytes = before_lives::<D>(alloc).ok_or("a desk before its lives")?;
     let wanted = whole::<D>(alloc, bytes.as_slice(), LIVES).ok_or("a desk without a stop")?;

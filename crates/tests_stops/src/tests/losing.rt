@@ -1,4 +1,4 @@
-//! Calls over HTTP of which the response is lost.
+//! Calls over HTTP whose response is lost.
 use super::asking::does;
 use super::*;
 use desk_answers::OpenDesk;
@@ -11,7 +11,8 @@ use std::io;
 use std::io::{ErrorKind, Write};
 use testing::bytes_of;
 
-/// A writer that fails at its first byte, and whether the response that was to be written says that the call was accepted.
+/// A writer that fails at its first byte, and whether the response to be written says that the call
+/// was accepted.
 #[derive(Drop)]
 struct Losing {
     is_accepted: bool,
@@ -45,7 +46,8 @@ fn lost<S: Alter + Drop>(alloc: Global, desk: Desk<S>, request: &str) -> Option<
     Some((served.into_desk(), is_lost))
 }
 
-/// The desk after a call, and whether that has the answer behind it; where there is a request for the call, the response is lost.
+/// The desk after a call, and whether that has the answer after it; if there is a request for the
+/// call, the response is lost.
 pub(super) fn done<S: Alter + Drop>(
     alloc: Global,
     desk: Desk<S>,

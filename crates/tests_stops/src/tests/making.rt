@@ -1,9 +1,10 @@
-//! A desk that is made, where a file stops at each of its calls in turn.
+//! The making of a desk, with a file that stops at each of its calls in turn.
 use super::asking::exports;
 use super::disks::{Stopping, Stops, Which, crashed, files, made, opened};
 use super::*;
 
-/// The desk of the files of a machine that stopped while one was made: the one that they hold, or else a new one.
+/// The desk of the files of a machine that stopped while one was made: the one in them, or else a
+/// new one.
 fn at_last<D: Crash + Drop>(alloc: Global, files: Files<D>) -> Option<Desk<FileStore<D>>> {
     match opened(alloc, crashed(files)) {
         Ok(desk) => Some(desk),
@@ -11,8 +12,8 @@ fn at_last<D: Crash + Drop>(alloc: Global, files: Files<D>) -> Option<Desk<FileS
     }
 }
 
-/// Whether a desk is made in the files at once. After a crash it is there; else there is one or none, and then one is made. It exports
-/// the level of a new desk, and nothing else.
+/// Whether a desk is made in the files at once. After a crash it is there; otherwise there is one
+/// or none, and then one is made. It exports the level of a new desk, and nothing else.
 fn is_made<D: Crash + Drop>(alloc: Global, files: Files<D>) -> Option<bool> {
     let (is_whole, mut desk) = match made(alloc, files) {
         Ok(desk) => (true, restart(alloc, desk, OPTIONS).ok()?),
@@ -24,7 +25,8 @@ fn is_made<D: Crash + Drop>(alloc: Global, files: Files<D>) -> Option<bool> {
     Some(is_whole)
 }
 
-/// How often a desk wasn't made at once where the file stops after 0, 1, 2 .. calls, until it was made 64 times.
+/// How often a desk wasn't made at once if the file stops after 0, 1, 2 .. calls, until it was made
+/// 64 times.
 fn stopped<D: Stopping>(alloc: Global, which: Which) -> Option<u64> {
     let mut stopped = 0u64;
     let mut made = 0u64;
@@ -42,7 +44,7 @@ fn stopped<D: Stopping>(alloc: Global, which: Which) -> Option<u64> {
     None
 }
 
-/// Makes desks in files of which one stops, the log and then the database file.
+/// Makes desks in files one of which stops, the log and then the database file.
 fn make_each<D: Stopping>(alloc: Global) -> Result<(), Fail> {
     for which in [Which::Log, Which::Db] {
         if stopped::<D>(alloc, which).ok_or("a desk or none")? == 0 {

@@ -8,8 +8,8 @@ use super::first_version::{first_exports, first_file};
 use super::selects::{ADDED, TABLES, VERSION, execute, selected};
 use super::*;
 
-/// What its desk is asked, and answers: a key of before gives its reply, and what was revoked is revoked. A digest is filled with its
-/// number: 0 is the first of those that were imported.
+/// Calls to its desk, and the answers: an earlier key gets its reply, and revoked digests are
+/// revoked. A digest is its number, repeated: 0 is the first of those that were imported.
 const ASKED: &str = "\
 olga o1 import-digests 300 : imported 300 0 0 0
 console p6 add olga officer 6 : added olga
@@ -19,7 +19,7 @@ olga o2 revoke 35 : proposed 1
 olga o3 confirm 1 : OwnProposal
 olga o1 import-digests 300 : imported 300 0 0 0";
 
-/// Texts in SQL, each of which makes another file of this one, and what refuses that.
+/// Texts in SQL, each of which makes another file of this one, and the refusal of that file.
 const REFUSED: &str = "\
 UPDATE desk SET version = 3 : Version
 UPDATE desk SET version = 0 : Version
@@ -35,7 +35,7 @@ const AS_FIRST: &str = "1\n";
 /// The same after its migration, and the rows of the tables that it adds: seven calls were accepted before.
 const AS_SECOND: &str = "2\n\n\n1 7\n";
 
-/// The file, what its desk exports, and the rows of its tables.
+/// The file, its desk's exports, and the rows of its tables.
 #[derive(Drop)]
 struct Original {
     bytes: Vec<u8>,
@@ -50,7 +50,7 @@ fn rows_in<D: Disk + Drop>(alloc: Global, files: Files<D>) -> Option<String> {
 }
 
 impl Original {
-    /// The file, which has stood before any desk opened it.
+    /// The file, as it was before any desk opened it.
     fn new<D: Stopping>(alloc: Global) -> Option<Original> {
         let bytes = first_file::<D>(alloc)?;
         let whole: Files<D> = files(alloc, bytes.as_slice(), NEVER)?;
@@ -63,7 +63,7 @@ impl Original {
         })
     }
 
-    /// The version that these tables and their rows are of, 1 or 2, if they are those of the file.
+    /// The version of these tables and their rows, 1 or 2, if they are those of the file.
     fn version<S: Alter + Drop>(&self, alloc: Global, conn: &mut Connection<S>) -> Option<u64> {
         if selected(alloc, conn, TABLES)? != self.rows {
             return None;
@@ -95,7 +95,7 @@ fn found<D: Disk + Drop>(
     Some((version, files_of(conn)))
 }
 
-/// Whether the files open, and the desk in them exports what that of the file does.
+/// Whether the files open, and the desk in them has the exports of the file's.
 fn is_there<D: Crash + Drop>(alloc: Global, files: Files<D>, original: &Original) -> Option<bool> {
     let mut desk = reopened(alloc, files).ok()?;
     Some(exports(alloc, &mut desk)? == original.exports)
@@ -111,7 +111,7 @@ fn left<D: Crash + Drop>(alloc: Global, files: Files<D>, original: &Original) ->
     }
 }
 
-/// How the opening of a desk ends in files of which one stops.
+/// The end of an opening of a desk in files one of which stops.
 #[derive(Drop)]
 enum Ended {
     /// The desk wasn't opened, and a stop leaves this version.
@@ -120,7 +120,7 @@ enum Ended {
     Opened,
 }
 
-/// How the opening of the desk in these files ends; nothing where it doesn't end as it has to.
+/// How the opening of the desk in these files ends; `None` if it doesn't end as it should.
 fn ending<D: Crash + Drop>(alloc: Global, files: Files<D>, original: &Original) -> Option<Ended> {
     match reopened(alloc, files) {
         Ok(desk) => match left(alloc, crashed(files_of(desk.release())), original)? {
@@ -150,8 +150,8 @@ impl Counts {
     }
 }
 
-/// Opens the desk in the file, where this one of the two stops after each number of its calls, from the first with which the files are
-/// opened until the desk was 64 times.
+/// Opens the desk in the file, with one of the two stopping after each number of its calls, from
+/// the first with which the files are opened until the desk was opened 64 times.
 fn stopped<D: Stopping>(alloc: Global, original: &Original, which: Which) -> Option<Counts> {
     let mut counts = Counts {
         first: 0,
@@ -189,7 +189,7 @@ fn a_stopped_opening_leaves_version_1_or_2(rt: HostRuntime) -> Result<(), Fail> 
     stop_each::<Fuse<Memory>>(rt.alloc())
 }
 
-/// Whether the desk exports this, and answers what it is asked.
+/// Whether the desk exports this, and gives the answers of the calls.
 fn goes_on<S: Alter + Drop>(alloc: Global, desk: &mut Desk<S>, wanted: &[u8]) -> Option<bool> {
     Some(exports(alloc, desk)?.as_slice() == wanted && does_each(alloc, desk, ASKED)?)
 }
@@ -199,13 +199,13 @@ fn are_alike<D: Stopping>(these: &Files<D>, those: &Files<D>) -> bool {
     these.log.bytes() == those.log.bytes() && these.db.bytes() == those.db.bytes()
 }
 
-/// The files of this file, connected to and given back.
+/// The files of this file, connected to and released.
 fn touched<D: Stopping>(alloc: Global, bytes: &[u8]) -> Option<Files<D>> {
     let whole: Files<D> = files(alloc, bytes, NEVER)?;
     Some(files_of(connected(alloc, whole).ok()?))
 }
 
-/// The files of this file once its desk was opened, and given back without a call.
+/// The files of this file once its desk was opened, and released without a call.
 fn looked_at<D: Stopping>(alloc: Global, bytes: &[u8]) -> Option<Files<D>> {
     let whole: Files<D> = files(alloc, bytes, NEVER)?;
     Some(files_of(opened(alloc, whole).ok()?.release()))
@@ -265,7 +265,7 @@ fn altered<D: Stopping>(alloc: Global, bytes: &[u8], text: &str) -> Option<Vec<u
     bytes_of(alloc, &conn.close_files().ok()?)
 }
 
-/// What refuses to open the desk in this file, and the files after it; `a desk` where it is opened.
+/// The refusal of opening the desk in this file, and the files after it; `a desk` if it is opened.
 fn refusal_of<D: Stopping>(alloc: Global, bytes: &[u8]) -> Option<(&'static str, Files<D>)> {
     let whole: Files<D> = files(alloc, bytes, NEVER)?;
     let conn = connected(alloc, whole).ok()?;
@@ -278,7 +278,7 @@ fn refusal_of<D: Stopping>(alloc: Global, bytes: &[u8]) -> Option<(&'static str,
     }
 }
 
-/// Whether that is what refuses the file that the text makes, and nothing is written.
+/// Whether this is the refusal of the file that the text makes, and nothing is written.
 fn is_refused<D: Stopping>(alloc: Global, bytes: &[u8], text: &str, wanted: &str) -> Option<bool> {
     let other = altered::<D>(alloc, bytes, text)?;
     let (name, after) = refusal_of::<D>(alloc, other.as_slice())?;

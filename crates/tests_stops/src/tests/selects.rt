@@ -37,7 +37,7 @@ fn text_of<S: Alter + Drop>(conn: &mut Connection<S>, select: &str) -> Option<Op
     conn.query_row(select, &[]).ok()?.get(0).ok()
 }
 
-/// What each SELECT of a script gives, a line each.
+/// The result of each SELECT of a script, a line each.
 pub(super) fn selected<S: Alter + Drop>(
     alloc: Global,
     conn: &mut Connection<S>,

@@ -17,7 +17,7 @@ fn viewed<S: Alter + Drop>(desk: &mut Desk<S>, call: &Call) -> Result<View, Refu
     desk.view(&call.caller, &call.key, &call.command)
 }
 
-/// What is decided on a call by this view.
+/// The decision on a call by this view.
 fn decided_by(alloc: Global, view: &View, call: &Call) -> Result<Reply, Refusal> {
     match decide(alloc, view, &call.caller, &call.key, &call.command) {
         Ok(changes) => Ok(changes.reply),
@@ -25,7 +25,7 @@ fn decided_by(alloc: Global, view: &View, call: &Call) -> Result<Reply, Refusal>
     }
 }
 
-/// What is decided on a call by the desk's view for it.
+/// The decision on a call by the desk's view for it.
 fn decided<S: Alter + Drop>(
     alloc: Global,
     desk: &mut Desk<S>,
@@ -42,13 +42,13 @@ fn replied<S: Alter + Drop>(alloc: Global, desk: &mut Desk<S>, call: &Call) -> O
     told(alloc, &apply(desk, call)).ok()
 }
 
-/// What is decided on a call by the desk's view for it, in words.
+/// The decision on a call by the desk's view for it, in words.
 fn foretold<S: Alter + Drop>(alloc: Global, desk: &mut Desk<S>, call: &Call) -> Option<String> {
     told(alloc, &decided(alloc, desk, call)).ok()
 }
 
-/// The answer that was decided, if the desk has given it, and `Reopen` where the view had failed. Else another text, which ends with
-/// the desk's answer.
+/// The answer that was decided, if the desk has given it, and `Reopen` if the view had failed.
+/// Otherwise another text, which ends with the desk's answer.
 fn agreed(alloc: Global, expected: String, answer: &str) -> Option<String> {
     let wanted = if expected.as_str() == "Store" {
         "Reopen"
@@ -84,7 +84,7 @@ pub(super) fn answered<S: Alter + Drop>(
     replied(alloc, desk, &call)
 }
 
-/// The same, of a call that is decided first by the desk's view for it.
+/// The same for a call that is decided first by the desk's view for it.
 fn asked<S: Alter + Drop>(alloc: Global, desk: &mut Desk<S>, given: &str) -> Option<String> {
     let call = Words::new(alloc, given).call()?;
     both(alloc, desk, &call)
@@ -98,7 +98,7 @@ fn rows<S: Alter + Drop>(desk: &mut Desk<S>, words: &mut Words, line: &mut Line)
     }
 }
 
-/// What a verdict on the image is by the rows that the desk gives for it, and those rows.
+/// The verdict on the image by the rows that the desk gives for it, and those rows.
 fn seen<S: Alter + Drop>(desk: &mut Desk<S>, words: &mut Words, line: &mut Line) -> Option<()> {
     let facts = words.facts()?;
     match desk.list_view(&facts) {
@@ -110,7 +110,7 @@ fn seen<S: Alter + Drop>(desk: &mut Desk<S>, words: &mut Words, line: &mut Line)
     }
 }
 
-/// What the desk says of an image.
+/// The desk's verdict on an image.
 fn judged<S: Alter + Drop>(desk: &mut Desk<S>, words: &mut Words, line: &mut Line) -> Option<()> {
     let facts = words.facts()?;
     match desk.verdict(&facts) {
@@ -155,7 +155,7 @@ fn all_proposals<S: Alter + Drop>(
     }
 }
 
-/// Who has a token.
+/// The person who has a token.
 fn who<S: Alter + Drop>(desk: &mut Desk<S>, words: &mut Words, line: &mut Line) -> Option<()> {
     let token = words.digest()?;
     match desk.person_of(&token) {
@@ -195,8 +195,8 @@ fn proposed(alloc: Global, number: u64) -> Result<Line, AllocError> {
     Ok(line)
 }
 
-/// The answer to the last of so many calls of the caller, which are the first to propose anything, each a digest of its own; or
-/// the first other answer.
+/// The answer to the last of `count` calls of the caller, which are the first to propose anything,
+/// each a digest of its own; or the first other answer.
 fn proposed_to<S: Alter + Drop>(
     alloc: Global,
     desk: &mut Desk<S>,
@@ -215,7 +215,7 @@ fn proposed_to<S: Alter + Drop>(
     Some(last)
 }
 
-/// Puts what was told, if it was.
+/// Puts the text, if there is one.
 fn put_told(line: &mut Line, told: Option<String>) -> Option<()> {
     line.put(told?.as_str()).ok()
 }

@@ -1,4 +1,4 @@
-//! A desk over two files: closed, and opened again from what its close gave back.
+//! A desk over two files: closed, and opened again from the files that its close returned.
 use super::asking::answered;
 use super::founding::{make, open};
 use super::*;
@@ -58,7 +58,8 @@ fn answers<S: Alter + Drop>(alloc: Global, desk: &mut Desk<S>, given: &str, want
     }
 }
 
-/// Whether a desk in these files has the person whom it was given before its close, when it is opened with an empty log.
+/// Whether a desk in these files, opened with an empty log, has the person who was added before its
+/// close.
 fn goes_on<D: Disk + Drop>(alloc: Global, files: Files<D>, log: D) -> Option<bool> {
     let mut desk = new_desk(alloc, files)?;
     if !answers(

@@ -1,4 +1,4 @@
-//! Days of a desk in a store: lines of what it is asked, and what it has to answer.
+//! Days of a desk in a store: lines of calls to it, and its expected answers.
 use super::asking::answer;
 use super::founding::{make, open, run};
 use super::scripts::{
@@ -11,8 +11,8 @@ fn new_desk(alloc: Global) -> Option<Memory> {
     make(alloc, Connection::open_in_memory(alloc).ok()?).ok()
 }
 
-/// The desk, opened again; before that its store was given this text in SQL, if it isn't `reopen`. With it what the store
-/// answered.
+/// The desk, opened again, after this text in SQL was run on its store, unless the text is
+/// `reopen`; and the store's answer.
 fn again(alloc: Global, desk: Memory, text: &str) -> Option<(Memory, String)> {
     let mut conn = desk.release();
     let told = if text == "reopen" {
@@ -30,7 +30,7 @@ fn is_for_store(given: &str) -> bool {
     matches!(word, "reopen" | "SELECT" | "INSERT" | "UPDATE" | "DELETE")
 }
 
-/// The desk after a line, and what was told.
+/// The desk after a line, and its answer.
 fn turn(alloc: Global, desk: Memory, given: &str) -> Option<(Memory, String)> {
     if is_for_store(given) {
         return again(alloc, desk, given);

@@ -35,8 +35,8 @@ fn put_ends(line: &mut Line, bytes: &[u8]) -> Option<()> {
     line.bytes(bytes.get(bytes.len().checked_sub(48)?..)?).ok()
 }
 
-/// Writes dbx into a writer that fails at this call: nothing where it fails as it has to, leaving a beginning of dbx; else what
-/// became of it.
+/// Writes dbx into a writer that fails at this call: nothing if it fails as expected, leaving a
+/// prefix of dbx; otherwise its outcome.
 fn fault<S: Alter + Drop>(
     alloc: Global,
     desk: &mut Desk<S>,
@@ -81,8 +81,8 @@ fn put_export(line: &mut Line, what: &str, bytes: &[u8]) -> Option<()> {
     }
 }
 
-/// An export of the desk; `faults` for one of dbx into writers that fail. One that is refused tells how many bytes went out
-/// before.
+/// An export of the desk; `faults` for one of dbx into writers that fail. For a refused one, how
+/// many bytes were written before.
 pub(super) fn exported<S: Alter + Drop>(
     alloc: Global,
     desk: &mut Desk<S>,

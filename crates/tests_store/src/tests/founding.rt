@@ -1,7 +1,7 @@
-//! Desks made, given back and opened again, and stores that hold none.
+//! Desks made, released and opened again, and stores that hold none.
 use super::*;
 
-/// A desk without calls in the connection's store, or what refuses it and the connection.
+/// A desk without calls in the connection's store, or the refusal and the connection.
 pub(super) fn make<S: Alter + Drop>(
     alloc: Global,
     conn: Connection<S>,
@@ -12,7 +12,7 @@ pub(super) fn make<S: Alter + Drop>(
     Desk::create(alloc, conn, &Guid::from([7; 16]))
 }
 
-/// The desk that the connection's store holds, or what refuses it and the connection.
+/// The desk in the connection's store, or the refusal and the connection.
 pub(super) fn open<S: Alter + Drop>(
     alloc: Global,
     conn: Connection<S>,
@@ -43,7 +43,7 @@ fn outcome(
     }
 }
 
-/// What `make`, `open` or a text in SQL does to the store.
+/// The result of `make`, `open` or a text in SQL on the store.
 fn done(
     alloc: Global,
     conn: Connection<MemStore>,
@@ -60,8 +60,8 @@ fn done(
     }
 }
 
-/// An empty store holds no desk; one is made once. Its row has to be that of a desk of version 2, or of
-/// one of version 1 without the tables that version 2 adds, which is made one of version 2.
+/// An empty store holds no desk; one is made once. Its row must be that of a desk of version 2, or
+/// of one of version 1 without the tables that version 2 adds, which is migrated to version 2.
 const STORES: &str = "\
 open : NotADesk
 make : a desk

@@ -1,7 +1,7 @@
 //! Answers as lines of words.
 use super::*;
 
-/// Words, parted by one space each.
+/// Words, separated by one space each.
 #[derive(Drop)]
 pub(super) struct Line {
     pub(super) text: String,
@@ -14,7 +14,7 @@ impl Line {
         }
     }
 
-    /// A word, after a space where it isn't the first.
+    /// A word, after a space unless it is the first.
     pub(super) fn put(&mut self, word: &str) -> Result<(), AllocError> {
         if !self.text.is_empty() {
             self.text.push_str(" ")?;

@@ -1,4 +1,4 @@
-//! A thousand proposals to a desk over two files, beside a plain list of them.
+//! A thousand proposals to a desk over two files, and a plain list of them.
 use super::asking::{answered, revocation};
 use super::closing::{new_desk, opened_again};
 use super::line::Line;
@@ -28,7 +28,7 @@ impl Empty for MemoryFile {
     }
 }
 
-/// A proposal: the byte of its digest, and where it stands.
+/// A proposal: the byte of its digest, and its state.
 #[derive(Clone, Copy)]
 struct Item {
     byte: u8,
@@ -47,7 +47,7 @@ impl List {
         self.items.len() as u64
     }
 
-    /// What the second officer has to do with the last proposal, if anything.
+    /// What the second officer must do with the last proposal, if anything.
     fn due(&self) -> Option<ProposalState> {
         let item = self.items.last()?;
         if item.state != ProposalState::Open {
@@ -60,7 +60,7 @@ impl List {
         }
     }
 
-    /// Whether all proposals are there, and nothing is due.
+    /// Whether all proposals are made, and nothing is due.
     fn is_full(&self) -> bool {
         self.count() == MANY && self.due().is_none()
     }
@@ -101,7 +101,7 @@ impl List {
         Some(answer)
     }
 
-    /// The proposals as an officer is told of them.
+    /// The proposals as an officer is shown them.
     fn told(&self, alloc: Global) -> Result<Line, AllocError> {
         let mut line = Line::new(alloc);
         for place in 0..self.items.len() {
@@ -116,7 +116,7 @@ impl List {
     }
 }
 
-/// The call by which the second officer closes the last of so many proposals.
+/// The call by which the second officer closes the last of `count` proposals.
 fn closing(alloc: Global, count: u64, state: ProposalState) -> Result<Line, AllocError> {
     let mut line = Line::new(alloc);
     line.put("otto")?;
@@ -194,7 +194,7 @@ fn kept<D: Empty>(
     Some(desk)
 }
 
-/// The desk once it was asked for all proposals of the list, if it answers each call as the list does.
+/// The desk after all proposals of the list, if it answers each call as the list does.
 fn filled<D: Empty>(alloc: Global, list: &mut List) -> Option<Desk<FileStore<D>>> {
     let mut desk = founded::<D>(alloc)?;
     for turn in 1..u64::MAX {
@@ -209,7 +209,7 @@ fn filled<D: Empty>(alloc: Global, list: &mut List) -> Option<Desk<FileStore<D>>
     None
 }
 
-/// What the desk tells its second officer of the proposals.
+/// The proposals that the desk shows its second officer.
 fn told<S: Alter + Drop>(alloc: Global, desk: &mut Desk<S>) -> Option<Line> {
     let caller = Caller::parse(alloc, b"otto").ok()?;
     match desk.proposals(&caller) {
@@ -218,14 +218,14 @@ fn told<S: Alter + Drop>(alloc: Global, desk: &mut Desk<S>) -> Option<Line> {
     }
 }
 
-/// The proposals, as they are told.
+/// The proposals, as they are shown.
 fn proposals_told(alloc: Global, proposals: &[Proposal]) -> Result<Line, AllocError> {
     let mut line = Line::new(alloc);
     put_proposals(&mut line, proposals)?;
     Ok(line)
 }
 
-/// Fills a desk, and compares the proposals that it tells of at the end with those of the list.
+/// Fills a desk, and compares the proposals that it shows at the end with those of the list.
 fn fill<D: Empty>(alloc: Global) -> Result<(), Fail> {
     let mut list = List {
         items: Vec::new(alloc),

@@ -1,10 +1,11 @@
-//! The lines of days: `WHO KEY VERB .. : ANSWER` is a call that the desk's view for it decides first, `alone ..` one without a view,
-//! `rows ..` asks for the proposals and the rows of lists in that view, `anew` makes a new desk. A digest is told by its first byte,
-//! an export as bytes and how often they come, a text with `/` for LF and `|` for a tab. What is in capitals is SQL for the store
-//! under the desk, which is opened again.
+//! The lines of days: `WHO KEY VERB .. : ANSWER` is a call that the desk's view for it decides
+//! first, `alone ..` one without a view, `rows ..` shows the proposals and the rows of lists in
+//! that view, `anew` makes a new desk. A digest is shown by its first byte, an export as bytes and
+//! how often they come, a text with `/` for LF and `|` for a tab. A line in capitals is SQL for the
+//! store under the desk, which is opened again.
 
-/// Requests, reviews, returns and listings, and what people are shown of them. The certificate is 204, the image 160; 161
-/// is another.
+/// Requests, reviews, returns and listings, and the requests that people are shown. The certificate
+/// is 204, the image 160; 161 is another.
 pub(super) const REQUESTS: &str = "\
 console p1 add ann submitter 1 : added ann
 console p2 add rita reviewer 2 : added rita
@@ -86,7 +87,7 @@ level components                 0/\
 commands                        23/\
 stamp                   2021030218/";
 
-/// An approved request whose image is revoked stays as it is; keys are each caller's own.
+/// An approved request whose image is revoked stays approved; keys are each caller's own.
 pub(super) const BARRED: &str = "\
 console k1 add ann submitter 1 : added ann
 console k2 add rita reviewer 2 : added rita
@@ -139,7 +140,7 @@ olga v5 import 2024010101 0 1 171 0 2 grub 4 shim 2 : proposed 4
 otto w4 confirm 4 : confirmed 4 1 0 2 0
 olga v6 raise shim 3 2024010102 : proposed 5";
 
-/// What one officer proposes another confirms. Each desk has a submitter and two officers.
+/// One officer's proposals, confirmed by another. Each desk has a submitter and two officers.
 pub(super) const OFFICERS: &str = "\
 console p1 add ann submitter 1 : added ann
 console p2 add olga officer 2 : added olga
@@ -205,7 +206,7 @@ olga o2 import 0 0 1 170 0 2 grub 2 grub 3 : proposed 2
 otto t2 confirm 2 : confirmed 2 0 0 0 0
 proposals otto : 1 olga confirmed 1 0 2; 2 olga confirmed 1 0 2;";
 
-/// The rows of lists that an image and each command name, beside rows that they don't name.
+/// The rows of lists that an image and each command name, among rows that they don't name.
 pub(super) const ROWS: &str = "\
 console p1 add olga officer 1 : added olga
 console p2 add otto officer 2 : added otto
@@ -306,7 +307,8 @@ SELECT kind || ' ' || length(digest) || ' ' || name || ' ' || generation FROM pr
 SELECT group_concat(place) FROM proposal_items WHERE place > 2 : 3
 SELECT group_concat(id || ' ' || calls) FROM migrated : 1 0";
 
-/// Exports of an empty desk, of one with what is proposed alone, of one after nineteen calls, and of one with a row that no desk writes.
+/// Exports of an empty desk, of one with only proposals, of one after nineteen calls, and of one
+/// with a row that no desk writes.
 pub(super) const EXPORTS: &str = "\
 export dbx : nothing
 export db : nothing
@@ -363,7 +365,8 @@ UPDATE revoked_digests SET digest = x'bb' WHERE digest > x'bc'
 export dbx : 76 Store
 export minutes : 0 Reopen";
 
-/// Rows that no desk writes, put there in SQL: where a call needs one the store has failed, and nothing was changed.
+/// Rows that no desk writes, put there in SQL: if a call needs one the store has failed, and
+/// nothing has changed.
 pub(super) const SPOILT: &str = "\
 console p1 add ann officer 1 : added ann
 UPDATE people SET role = 'king'

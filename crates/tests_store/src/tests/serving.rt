@@ -11,7 +11,7 @@ use testing::bytes_of;
 
 type Served = OpenDesk<MemStore>;
 
-/// Who is added before the day, with tokens.
+/// The people who are added before the day, with tokens.
 const PEOPLE: &str = "\
 ann submitter ann-token-000001
 rita reviewer rita-token-000002
@@ -65,7 +65,7 @@ GET /level HTTP/1.1|Desk-Token: ann-token-000001|| => HTTP/1.1 200 OK|Content-Ty
 GET /report HTTP/1.1|Desk-Token: olga-token-000005|| => HTTP/1.1 200 OK|Content-Type: text/plain|Content-Length: 490|Connection: close||people                           6~requests                         2~open                             0~approved                         0~rejected                         1~withdrawn                        0~signed                           1~listed digests                   1~listed certificates              1~revoked digests                  2~revoked certificates             0~level components                 2~commands                        24~stamp                   2024010102~
 GET /report HTTP/1.1|Desk-Token: ann-token-000001|| => HTTP/1.1 403 Forbidden|Content-Type: application/json|Content-Length: 35|Connection: close||{"name":"NotYourRole","refused":21}"#;
 
-/// Whom a line names.
+/// The person of a line.
 fn person(alloc: Global, line: &str) -> Option<Person> {
     let (name, rest) = line.split_once(" ")?;
     let (role, token) = rest.split_once(" ")?;
@@ -135,7 +135,7 @@ fn commands(alloc: Global) -> Result<Vec<Octets>, AllocError> {
     Ok(inputs)
 }
 
-/// Their responses, one behind another.
+/// Their responses, one after another.
 fn replies(alloc: Global) -> Result<Vec<u8>, AllocError> {
     let mut all = Vec::new(alloc);
     for row in DAY.lines() {
@@ -146,7 +146,7 @@ fn replies(alloc: Global) -> Result<Vec<u8>, AllocError> {
     Ok(all)
 }
 
-/// What the requests are answered that come one after another, where each is served.
+/// The responses to the requests, one after another, if each is served.
 fn served_each<D: Answering>(alloc: Global, desk: &mut D, inputs: &[Octets]) -> Option<Vec<u8>> {
     let routes = Routes::new(alloc).ok()?;
     let mut writer = Vec::new(alloc);
@@ -173,7 +173,7 @@ fn with_minutes<S: Alter + Drop>(
     Some((OpenDesk::new(desk), text))
 }
 
-/// The level that a call of this line's person is answered.
+/// The level, as the answer to a call of this line's person.
 fn level<S: Alter + Drop>(alloc: Global, desk: &mut OpenDesk<S>, line: &str) -> Option<Octets> {
     let call = Asked {
         person: person(alloc, line)?,

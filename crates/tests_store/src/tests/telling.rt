@@ -1,4 +1,4 @@
-//! What a desk answers, in words.
+//! A desk's answers, in words.
 use super::line::Line;
 use super::*;
 
@@ -10,7 +10,8 @@ pub(super) fn told(alloc: Global, answer: &Result<Reply, Refusal>) -> Result<Str
     }
 }
 
-/// The word of a verdict, and for a component below the level its place and the generation that is asked of it.
+/// The word of a verdict, and for a component below the level its place and the generation that the
+/// level requires.
 pub(super) fn put_verdict(line: &mut Line, verdict: Verdict) -> Result<(), AllocError> {
     match verdict {
         Verdict::DbxDigest => line.put("dbx-digest"),
@@ -60,7 +61,7 @@ fn put_proposal_rows(line: &mut Line, rows: &[ProposalRow]) -> Result<(), AllocE
     Ok(())
 }
 
-/// `none`, where nothing was told.
+/// `none`, if nothing was put.
 fn put_none(line: &mut Line) -> Result<(), AllocError> {
     if line.text.is_empty() {
         return line.put("none");
@@ -104,7 +105,7 @@ fn put_facts(line: &mut Line, facts: &Facts) -> Result<(), AllocError> {
     Ok(())
 }
 
-/// The votes on a request, and what was returned for it.
+/// The votes on a request, and the returned file.
 fn put_outcome(line: &mut Line, request: &ShownRequest) -> Result<(), AllocError> {
     for shown in request.votes.as_slice() {
         line.put(shown.reviewer.as_str())?;
@@ -122,7 +123,8 @@ fn put_outcome(line: &mut Line, request: &ShownRequest) -> Result<(), AllocError
     Ok(())
 }
 
-/// A request as it is shown: number, submitter, title and state, its image, the votes, and what was returned.
+/// A request as it is shown: number, submitter, title and state, its image, the votes, and the
+/// returned file.
 pub(super) fn put_request(line: &mut Line, request: &ShownRequest) -> Result<(), AllocError> {
     line.number(request.number.value())?;
     line.put(request.submitter.as_str())?;

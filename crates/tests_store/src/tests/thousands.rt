@@ -1,4 +1,4 @@
-//! Two thousand calls to a desk over two files, beside a plain list of those that were accepted.
+//! Two thousand calls to a desk over two files, and a plain list of the accepted ones.
 use super::asking::answered;
 use super::closing::{new_desk, opened_again};
 use super::line::Line;
@@ -10,7 +10,7 @@ use sqlite_disk::Memory as MemoryFile;
 /// How often the round is played.
 const ROUNDS: u64 = 50;
 
-/// Who is there before.
+/// The people who are added first.
 const PEOPLE: &str = "\
 console p add ann submitter 1 : added ann
 console q add rita reviewer 2 : added rita
@@ -20,8 +20,8 @@ console t add sid signer 5 : added sid
 console u add olga officer 6 : added olga
 console v add otto officer 7 : added otto";
 
-/// Each command accepted, and each refusal of a call but Full, of memory and of the store. In round R `5%1` stands for 5 R + 1,
-/// and `a%` for `a` and R.
+/// Each command accepted, and each refusal of a call except Full and those of memory and of the
+/// store. In round R `5%1` means 5 R + 1, and `a%` means `a` and R.
 const ROUND: &str = "\
 console a% add u% submitter 1%8 : added u%
 console b% add u% reviewer 1%108 : NameTaken
@@ -106,7 +106,7 @@ fn said(alloc: Global, call: &str, answer: &str) -> Option<String> {
     Some(line.text)
 }
 
-/// The same of a line of the minutes, which has this number.
+/// The same for a line of the minutes, which has this number.
 fn minuted(alloc: Global, minute: &str, number: u64) -> Option<String> {
     let (no, rest) = minute.split_once("\t")?;
     if no.parse::<u64>().ok()? != number {
@@ -167,7 +167,7 @@ fn tells<S: Alter + Drop>(alloc: Global, desk: &mut Desk<S>, accepted: &Accepted
     accepted.are_minuted(alloc, str::from_utf8(minutes.as_slice()).ok()?)
 }
 
-/// Whether the desk gives a call the answer behind it.
+/// Whether the desk gives a call the answer after it.
 fn takes<S: Alter + Drop>(
     alloc: Global,
     desk: &mut Desk<S>,

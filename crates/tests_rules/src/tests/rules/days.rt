@@ -1,10 +1,11 @@
-//! Two days of a desk: who calls with which key and command, and the answer, or an image and what the desk says of it.
+//! Two days of a desk: calls with caller, key and command, and the answer, or an image and the
+//! desk's verdict on it.
 use super::tables::{new_tables, write_all};
 use super::*;
 use desk_texts::{Facts, Reply};
 use std::fmt::Write as _;
 
-/// Tells a reply's text, with `again` before one that writes nothing.
+/// Appends a reply's text, with `again` before one that writes nothing.
 fn tell_reply(alloc: Global, told: &mut String, is_new: bool, reply: &Reply) -> Result<(), Fail> {
     if !is_new {
         told.push_str("again ")?;
@@ -13,7 +14,7 @@ fn tell_reply(alloc: Global, told: &mut String, is_new: bool, reply: &Reply) -> 
     Ok(())
 }
 
-/// Tells a decision: its reply, or a refusal's name.
+/// Appends a decision: its reply, or a refusal's name.
 pub(super) fn tell_decision(
     alloc: Global,
     told: &mut String,
@@ -25,12 +26,12 @@ pub(super) fn tell_decision(
     }
 }
 
-/// Tells a refusal's name.
+/// Appends a refusal's name.
 fn tell_name(told: &mut String, refusal: Refusal) -> Result<(), Fail> {
     Ok(told.push_str(refusal.name())?)
 }
 
-/// Tells a decision, and writes what was decided.
+/// Appends a decision, and writes its rows.
 fn record(
     alloc: Global,
     tables: &mut View,
@@ -51,20 +52,21 @@ fn ask(alloc: Global, tables: &mut View, told: &mut String, given: &str) -> Resu
     record(alloc, tables, told, &decision)
 }
 
-/// Tells what the desk says of these facts.
+/// Appends the desk's verdict on these facts.
 fn tell_verdict(tables: &View, told: &mut String, facts: &Facts) -> Result<(), Fail> {
     let verdict = verdict(&tables.lists, facts);
     write!(told, "{verdict:?}")?;
     Ok(())
 }
 
-/// Tells what the desk says of an image.
+/// Appends the desk's verdict on an image.
 fn judge(alloc: Global, tables: &View, told: &mut String, given: &str) -> Result<(), Fail> {
     let facts = Words::new(alloc, given).facts().ok_or("facts")?;
     tell_verdict(tables, told, &facts)
 }
 
-/// Plays a line, `WHO KEY VERB .. : ANSWER` or `verdict IMAGE : VERDICT`, and tells it with what is answered.
+/// Plays a line, `WHO KEY VERB .. : ANSWER` or `verdict IMAGE : VERDICT`, and appends it with the
+/// actual answer.
 fn play_line(alloc: Global, tables: &mut View, told: &mut String, line: &str) -> Result<(), Fail> {
     let (given, _) = line.split_once(" : ").ok_or("an answer")?;
     told.push_str(given)?;

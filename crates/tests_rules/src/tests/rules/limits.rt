@@ -1,4 +1,5 @@
-//! What a desk may hold: the last call that fits, the first that doesn't, and that each other refusal comes before Full.
+//! The limits of a desk: the last call that fits, the first that doesn't, and that each other
+//! refusal comes before Full.
 use super::days::tell_decision;
 use super::tables::{NONE, new_tables, write_all};
 use super::*;
@@ -42,7 +43,7 @@ const CALLS: &str = "\
 2 components 10000 calls 1000000 olga k drop 5 : ProposalClosed
 ";
 
-/// What the officers did there before: otto proposed, and olga confirmed two of the proposals.
+/// The officers' calls before: otto proposed, and olga confirmed two of the proposals.
 const BEFORE: &str = "\
 otto q1 revoke 1
 otto q2 import 2024010100 0 0 1 1 1 grub 1
@@ -74,7 +75,7 @@ fn play(alloc: Global, tables: &mut View, line: &str) -> Result<(), Fail> {
     write_all(alloc, tables, &changes.writes)
 }
 
-/// A desk with two officers and a submitter, after what the officers did.
+/// A desk with two officers and a submitter, after the officers' calls.
 fn tables(alloc: Global) -> Result<View, Fail> {
     let mut tables = new_tables(alloc)?;
     tables.people.push(person(alloc, b"olga", Role::Officer)?)?;
@@ -111,7 +112,7 @@ fn sizes(words: &mut Words) -> Result<Sizes, Fail> {
     Ok(sizes)
 }
 
-/// Tells the answer to the call that the words say.
+/// Appends the answer to the call in the words.
 fn answer(
     alloc: Global,
     tables: &View,
@@ -123,7 +124,7 @@ fn answer(
     tell_decision(alloc, told, &decision)
 }
 
-/// Tells a line with what is answered on a desk of the line's sizes.
+/// Appends a line with the answer of a desk of the line's sizes.
 fn answer_line(
     alloc: Global,
     tables: &mut View,

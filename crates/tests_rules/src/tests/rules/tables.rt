@@ -85,7 +85,7 @@ fn revoke(lists: &mut ListView, listing: Listing) -> Result<(), Fail> {
     Ok(())
 }
 
-/// Takes the entry off.
+/// Takes the entry off the list.
 fn take_off(listed: &mut Vec<Listing>, listing: Listing) {
     if let Some(place) = listed.iter().position(|row| listing == *row) {
         listed.swap_remove(place);
@@ -152,7 +152,8 @@ fn proposal(row: &ProposalRow) -> Result<ProposalRow, Fail> {
     })
 }
 
-/// Puts one write into the tables. Certificates and components of requests, and returned files, are never read.
+/// Makes one write in the tables. Certificates and components of requests, and returned files, are
+/// never read.
 fn write(alloc: Global, tables: &mut View, write: &Write) -> Result<(), Fail> {
     match write {
         Write::Person(person) => tables.people.push(person.clone()?)?,
@@ -173,7 +174,7 @@ fn write(alloc: Global, tables: &mut View, write: &Write) -> Result<(), Fail> {
     Ok(())
 }
 
-/// Puts the writes into the tables.
+/// Makes the writes in the tables.
 pub(super) fn write_all(alloc: Global, tables: &mut View, writes: &[Write]) -> Result<(), Fail> {
     for row in writes {
         write(alloc, tables, row)?;
