@@ -106,7 +106,8 @@ slice-in f piece at end i j is low le high =
     ∙ ap (take (end - i)) (drop-drop skip at f ∙ ap (λ n. drop n f) place) in
     ap (λ n. take n (drop skip piece)) size ∙ ap (take (j - i)) rest ∙ take-take (j - i) (end - i) (drop i f) (omega arith)
 
--- the hasher holds what a piece has before the ranges that are left, of a message that ends with what it has of these
+-- the hasher holds what a piece has before the ranges that are left, of a message that ends with
+-- what it has of these
 pub record Meets (hasher : Sha256) (f : List ℕ) (from to : ℕ) (left : List Span) (message : List ℕ) : Type 0 where
   pub fed : List ℕ
   pub held : Holds256 hasher fed

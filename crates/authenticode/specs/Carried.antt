@@ -9,7 +9,8 @@ use Rattle.authenticode.specs.Table.{body_at, has_no_entry, is_end, next_at, sig
 use Rattle.authenticode.specs.declared.fault.CarriedFault.{CarriedFault}
 use Rattle.authenticode.specs.declared.fault.CarriedFault.TheVariants as fault
 
--- the TBSCertificates that the entry at the front carries. own: an entry of another type carries none
+-- the TBSCertificates that the entry at the front carries. own: an entry of another type carries
+-- none
 abbrev pub IsEntryOf : List ℕ → List (List ℕ) → Type 0
 IsEntryOf t own =
     ((type_at t ≡ signed_data) × IsBodyOf (body_at t) own) ⊎ ((type_at t ≢ signed_data) × (own ≡ []))

@@ -5,8 +5,8 @@ use Rattle.desk_bytes.specs.Parts.{Part, element_of}
 use Rattle.authenticode.specs.SignedData.{certificates_of}
 use Rattle.authenticode.specs.Walks.{Walks}
 
--- the TBSCertificate of a certificate, which is a SEQUENCE (RFC 5652, 10.2.2). own: an element with another tag
--- gives none
+-- the TBSCertificate of a certificate, which is a SEQUENCE (RFC 5652, 10.2.2). own: an element with
+-- another tag gives none
 abbrev pub IsTbsOf : Part → List (List ℕ) → Type 0
 IsTbsOf p own =
     ((p.tag ≡ sequence) × (tbs : List ℕ) × IsCertificate p.whole tbs × (own ≡ tbs ∷ []))
@@ -19,7 +19,8 @@ pub record GivesCertificate (b : List ℕ) (own : List (List ℕ)) (rest : List 
   pub gives : IsTbsOf part own
   pub rest_is : rest ≡ part.rest
 
--- the bytes are a row of elements and nothing more, and these are the TBSCertificates of its certificates
+-- the bytes are a row of elements and nothing more, and these are the TBSCertificates of its
+-- certificates
 abbrev pub IsRowOf : List ℕ → List (List ℕ) → Type 0
 IsRowOf b tbs = Walks GivesCertificate b tbs []
 

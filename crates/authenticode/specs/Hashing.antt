@@ -1,4 +1,5 @@
--- The digests of an image (Authenticode, "Calculating the PE Image Hash"; SHA-256 is that of FIPS 180-4).
+-- The digests of an image (Authenticode, "Calculating the PE Image Hash"; SHA-256 is that of FIPS
+-- 180-4).
 use Rattle.std.specs.Prelude.{ℕ, ◌-◌, ◌%◌, ◌++◌, if◌then◌else◌, List, length, max, min, replicate, slice_range}
 use Rattle.std.specs.List.{flat_map}
 use Rattle.sha2.specs.Sha256.{sha256}

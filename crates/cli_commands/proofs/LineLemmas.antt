@@ -20,7 +20,8 @@ whole_kept a b c xs written kept =
 pub none_written : (a : Option (List ℕ)) (xs : List ℕ) → AppendsBeginning a a xs
 none_written a xs = AppendsBeginning-none a a xs (Appends-nil a)
 
--- after a fault a beginning of a line was written: it is the line of each history that the desk shows
+-- after a fault a beginning of a line was written: it is the line of each history that the desk
+-- shows
 pub OnErr-of_each : {T E : Type 0} (r : Result T E) (a b : Option (List ℕ)) (xs : List ℕ) (shown : List ℕ → History → Type 0) (line : List ℕ → History → List ℕ)
     → ((owner : List ℕ) (cs : History) → shown owner cs → xs ≡ line owner cs) → OnErr r (AppendsBeginning a b xs)
     → OnErr r ((owner : List ℕ) (cs : History) → shown owner cs → AppendsBeginning a b (line owner cs))

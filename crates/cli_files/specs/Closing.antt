@@ -23,8 +23,8 @@ abbrev pub LeavesUsable : Result Outcome Fault → Type 0
 LeavesUsable work = IfErr work (λ fault. IsLasting fault.refusal → ⊥)
 
 module _ {D : Type 0} (g : Ghosts D) (desk : Desk (FileStore D g)) where
-  -- these files hold the tables of the history that the desk shows, and so does the database file without the log; a connection
-  -- that is opened over them finds these tables
+  -- these files hold the tables of the history that the desk shows, and so does the database file
+  -- without the log; a connection that is opened over them finds these tables
   pub record AreOfClosed (files : Files D) : Type 0 where
     pub copied : AreClean g files.log files.db → (owner : List ℕ) (cs : History) → ShowsDesk over_files desk owner cs → AreClosed g files owner cs
     pub found : (owner : List ℕ) (cs : History) → ShowsDesk over_files desk owner cs → OpenAgain g files owner cs

@@ -16,7 +16,8 @@ use Rattle.desk_store.specs.Headline.{Recovers}
 use Rattle.desk_store.specs.declared.desk.Desk.{Desk}
 
 module _ {S : Type 0} (g : Ghosts S) (conn : Held S) where
-  -- the connection's store had no tables, and the desk that was made in it has this owner and no calls
+  -- the connection's store had no tables, and the desk that was made in it has this owner and no
+  -- calls
   pub record Makes (owner : List ℕ) (desk : Desk S) : Type 0 where
     pub free : (state g conn).now.schema ≡ no_schema
     pub shows : HasCleanDisk (state g desk.conn) → ShowsDesk g desk owner []

@@ -1,5 +1,5 @@
-//! The work of each subcommand over a desk's file. Faults are found in one order: the file, the desk in
-//! it, another file, the command.
+//! The work of each subcommand over a desk's file. Faults are found in one order: the file, the
+//! desk in it, another file, the command.
 ghost use Rattle.std.specs.Prelude.{◌≡◌, ◌≢◌, ◌⊎◌, ℕ, List, None, Err};
 ghost use Rattle.std.specs.Prelude.{IfErr, IfOk, IfSome, OnErr, OnOk};
 ghost use Rattle.std.specs.Io.KnownBytes.{Keeps};
@@ -32,7 +32,8 @@ use std::rt::Files;
 
 /// Makes a desk with this owner and without calls in a file, which is created if it doesn't exist.
 ///
-/// Exists: the file has tables already. File: it can't be opened or created, or isn't a database.
+/// Exists: the file has a table, an index or a view already. File: it can't be opened or created,
+/// or isn't a database.
 pub fn make_desk(rt: &HostRuntime, path: &str, owner: &Guid) -> Ending
     ensures done { IfOk result.work (λ outcome. outcome ≡ Outcome.Done) }
     ensures named { IfErr result.work (IsRow IsMakingRefusal) }

@@ -3,7 +3,8 @@
 //! statuses. A refusal has its number and name of docs/REFUSALS.md. checks/help.sh runs the
 //! examples and compares these texts with that table.
 
-/// The program's version, and the kit that proves it: the line of `rt version`, which checks/help.sh compares.
+/// The program's version, and the kit that proves it: the line of `rt version`, which
+/// checks/help.sh compares.
 pub const VERSION: &str = "0.1.0 (rattle-kit-13f logic dac8208d650f15bf)";
 
 /// Each row begins the subcommand's own help.

@@ -88,7 +88,8 @@ takes_one name first plain = record {
   rows = rw (walked_plain (leaf name 1).rules (positional 0) nothing_held 1 first (plain 0 [] (omega arith)) refl) refl;
 }
 
--- what is held of the word at a place of a subcommand of so many words, with what was held before it
+-- what is held of the word at a place of a subcommand of so many words, with what was held before
+-- it
 abbrev held_with : ℕ → ℕ → Held → Text → Held
 held_with count place h word =
     (to_positional (leaf [] count).rules (Some (positional place)) word (at_position (place + 1) h) h).held

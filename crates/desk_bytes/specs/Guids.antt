@@ -16,7 +16,8 @@ swapped g = g
 abbrev pub group : List ℕ → ℕ → ℕ → List ℕ
 group g from to = slice_range (swapped g) from to
 
--- the text is that of the GUID g: five groups of digits with hyphens (45) between them. own: in either case
+-- the text is that of the GUID g: five groups of digits with hyphens (45) between them. own: in
+-- either case
 pub record IsGuidText (text g : List ℕ) : Type 0 where
   pub stored : length g ≡ 16
   pub size : length text ≡ 36

@@ -8,8 +8,8 @@ use crate::elements::element;
 /// The tag of a SEQUENCE.
 const SEQUENCE: u8 = 0x30;
 
-/// The TBSCertificate of a certificate, tag and length included. The bytes have to be one certificate and
-/// nothing more; all that follows its TBSCertificate is opaque.
+/// The TBSCertificate of a certificate, tag and length included. The bytes have to be one
+/// certificate and nothing more; all that follows its TBSCertificate is opaque.
 pub fn tbs(bytes: &[u8]) -> Result<&[u8], NotDer>
     ensures found { IfOk result (λ tbs. IsCertificate bytes.now tbs.now) }
 

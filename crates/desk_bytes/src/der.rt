@@ -4,8 +4,8 @@ ghost use Rattle.std.specs.Prelude.{◌≡◌};
 use crate::Refusal;
 use thiserror::Error;
 
-/// One element: its tag, all of its bytes, and its content. Both slices are those of the bytes that were
-/// read.
+/// One element: its tag, all of its bytes, and its content. Both slices are those of the bytes that
+/// were read.
 #[derive(Clone, Copy, Debug)]
 pub struct Element<'a> {
     pub tag: u8,

@@ -8,8 +8,8 @@ use std::marker::Model;
 use std::{fmt, str};
 use thiserror::Error;
 
-/// A SHA-256 value, ordered by its bytes and shown as 64 hexadecimal digits in lower case. A contract sees
-/// the list of its bytes.
+/// A SHA-256 value, ordered by its bytes and shown as 64 hexadecimal digits in lower case. A
+/// contract sees the list of its bytes.
 #[derive(Clone, Copy, Debug, PartialEq, Eq, PartialOrd, Ord)]
 pub struct Digest([u8; 32]);
 

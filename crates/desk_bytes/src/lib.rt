@@ -1,5 +1,5 @@
-//! Bytes that all crates share: the table of refusals, GUIDs, digests, DER elements, lines, numbers, limits,
-//! input and output.
+//! Bytes that all crates share: the table of refusals, GUIDs, digests, DER elements, lines,
+//! numbers, limits, input and output.
 #![tactic(auto)]
 
 mod certificate;

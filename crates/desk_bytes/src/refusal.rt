@@ -16,7 +16,7 @@ pub enum Refusal {
     Short,
     /// The file doesn't begin with `MZ`.
     NoMz,
-    /// The u32 at 0x3C doesn't lead to `PE`, 0, 0.
+    /// There is no `PE`, 0, 0 where the u32 at 0x3C points.
     NoPe,
     /// The optional header is neither PE32 (0x10B) nor PE32+ (0x20B).
     Magic,
@@ -28,10 +28,10 @@ pub enum Refusal {
     Sections,
     /// A section's raw data begins within the headers, or shares a byte with another's.
     Overlap,
-    /// The certificate table isn't the end of the file or begins before the sections' end, or an entry of it
-    /// isn't whole.
+    /// The certificate table isn't the end of the file or begins before the sections' end, or an
+    /// entry of it isn't whole.
     Table,
-    /// A DER element, SignedData or certificate is missing where one is needed.
+    /// There is no DER element, SignedData or certificate where one is needed.
     Der,
     /// Two sections are named `.sbat`.
     TwoSbat,
@@ -41,7 +41,7 @@ pub enum Refusal {
     TooLong,
     /// A device: a read failed or was interrupted.
     Read,
-    /// There is no signature list at that place: its offset in bytes.
+    /// There is no signature list there. The place is its offset in bytes.
     List,
     /// A signature list's entries can't have the size that it gives. The place is its offset in
     /// bytes.
@@ -74,9 +74,9 @@ pub enum Refusal {
     NotListed,
     /// It is revoked already.
     AlreadyRevoked,
-    /// The generation isn't above the present one, or can't be raised.
+    /// The generation isn't above the current one, or can't be raised.
     NotHigher,
-    /// The stamp isn't above the present one.
+    /// The stamp isn't above the current one.
     StampNotLater,
     /// It is listed already.
     AlreadyListed,
@@ -96,19 +96,20 @@ pub enum Refusal {
     NoMemory,
     /// A device: the database failed.
     Store,
-    /// A device: the desk failed before, and has to be opened again.
+    /// A device: the desk failed before, and must be opened again.
     Reopen,
-    /// The database holds no desk.
+    /// The database holds no desk; or it holds one of version 1, and a table, an index or a view
+    /// with a name that version 2 adds.
     NotADesk,
     /// The database holds a desk of a version that this program doesn't know.
     Version,
     /// A device: a file can't be opened.
     File,
-    /// The database has a table of the desk's already.
+    /// The database has a table, an index or a view already, so no desk is made in it.
     Exists,
     /// The head of an HTTP request is wrong, too long or cut short.
     BadHead,
-    /// A field of an HTTP request is wrong or repeated.
+    /// A field of an HTTP request is wrong, or is given twice.
     BadField,
     /// The JSON body of an HTTP request is wrong.
     BadBody,
@@ -257,7 +258,8 @@ impl Refusal {
         }
     }
 
-    /// Whether a device failed: a read, a write, memory or the desk's file. Otherwise the input was refused.
+    /// Whether a device failed: a read, a write, memory or the desk's file. Otherwise the input was
+    /// refused.
     pub fn is_device(self) -> bool
         ensures { result ≡ is_device self }
     {

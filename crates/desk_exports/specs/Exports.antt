@@ -25,7 +25,8 @@ use Rattle.desk_exports.specs.declared.export.Export.TheVariants as exports
 abbrev pub revoked : ListedKind → History → List (List ℕ)
 revoked kind cs = ascending (distinct (revocations kind cs))
 
--- own: one SHA256 list of the revoked digests of images, then one X509_SHA256 list of the revoked certificates
+-- own: one SHA256 list of the revoked digests of images, then one X509_SHA256 list of the revoked
+-- certificates
 abbrev pub dbx_lists : List ℕ → History → List SignatureList
 dbx_lists owner cs = sha256_row owner (revoked kinds.Digest cs) ++ x509_sha256_row owner (revoked kinds.Certificate cs)
 
@@ -37,7 +38,8 @@ dbx owner cs = spelling (dbx_lists owner cs)
 abbrev pub entries_of : ListedKind → History → List Entry
 entries_of kind cs = ascending_by (λ e. e.digest) (filter (λ e. is_same_kind kind e.kind) (listed cs))
 
--- own: one SHA256 list of the listed digests of images, then an X509 list for each listed certificate
+-- own: one SHA256 list of the listed digests of images, then an X509 list for each listed
+-- certificate
 abbrev pub db_lists : List ℕ → History → List SignatureList
 db_lists owner cs =
     sha256_row owner (map (λ e. e.digest) (entries_of kinds.Digest cs))

@@ -1,5 +1,5 @@
-//! The exports of a desk after a history of calls (the bytes of dbx and db, the level, the minutes, the report), as
-//! definitions, and worked examples of them.
+//! The exports of a desk after a history of calls (the bytes of dbx and db, the level, the minutes,
+//! the report), as definitions, and worked examples of them.
 #![tactic(auto)]
 
 mod export;

@@ -1,5 +1,5 @@
--- Entries that calls put into force: revocations, and generations that the level requires. The revoked entries and the level
--- are read from these alone.
+-- Entries that calls put into force: revocations, and generations that the level requires. The
+-- revoked entries and the level are read from these alone.
 use Rattle.std.specs.Prelude.{ℕ, List, [], reverse, Option, None, option_map}
 use Rattle.std.specs.Option.{option_map_or}
 use Rattle.sbat.specs.declared.component.Component.{Component}

@@ -6,7 +6,8 @@ use Rattle.desk_history.specs.declared.rows.ProposalItem.TheVariants as items
 use Rattle.desk_history.specs.declared.rows.ProposalItemRow.{ProposalItemRow}
 use Rattle.desk_history.specs.declared.rows.ProposalRow.{ProposalRow}
 
--- own: digests of images, then digests of certificates, then components, each in the command's order
+-- own: digests of images, then digests of certificates, then components, each in the command's
+-- order
 abbrev pub items_of : Imported → List ProposalItem
 items_of i = map items.Digest i.digests ++ (map items.Certificate i.certificates ++ map items.Component i.components)
 

@@ -1,4 +1,5 @@
--- The list of allowed images: the entries of db (UEFI 2.10, 32.4.1), image digests and certificates by their TBS digests.
+-- The list of allowed images: the entries of db (UEFI 2.10, 32.4.1), image digests and certificates
+-- by their TBS digests.
 use Rattle.std.specs.Prelude.{ℕ, Bool, true, false, not, ◌&&◌, List, [], ◌∷◌, filter, find, bytes_eq}
 use Rattle.std.specs.List.{list_any}
 use Rattle.std.specs.Option.{option_map_or}

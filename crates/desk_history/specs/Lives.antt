@@ -8,8 +8,8 @@ use Rattle.desk_history.specs.declared.rows.Minute.{Minute}
 use Rattle.desk_texts.specs.CommandTexts.{text_of}
 use Rattle.desk_history.specs.Runs.{earlier, next_item, reply_in, ruling}
 
--- The fate of a call: it was answered Ok with a reply, it was refused, or it was stopped. A call answered with the failure of
--- the store counts as stopped.
+-- The fate of a call: it was answered Ok with a reply, it was refused, or it was stopped. A call
+-- answered with the failure of the store counts as stopped.
 pub data Fate : Type 0 where
   Answered : Reply → Fate
   Refused : Fate
@@ -106,8 +106,8 @@ events_of lives = flat_map (λ life. life.events) lives
 abbrev pub Ends : List Life → History → Type 0
 Ends lives cs = IsTrue (list_all is_life lives) × IsTrue (are_in_order lives) × MayLeave [] (events_of lives) cs
 
--- In the events that led from a new desk to this history, the item's call was answered Ok with the reply, and the desk's
--- history was then `at`.
+-- In the events that led from a new desk to this history, the item's call was answered Ok with the
+-- reply, and the desk's history was then `at`.
 pub record WasAnswered (events : List Event) (cs : History) (i : Item) (reply : Reply) (at : History) : Type 0 where
   pub earlier : List Event
   pub later : List Event

@@ -16,8 +16,9 @@ use Rattle.desk_history.specs.Runs.{is_legal}
 abbrev pub Names : Item → Imported → Type 0
 Names i entries = option_map (λ n. n.entries) (named_by i.call.command) ≡ Some entries
 
--- Two officers put these entries into force: after the calls `earlier` one officer proposed them by a call that names them,
--- judged by the second rules, and another one, of another name, confirms that proposal now. The roles of both allow it.
+-- Two officers put these entries into force: after the calls `earlier` one officer proposed them by
+-- a call that names them, judged by the second rules, and another one, of another name, confirms
+-- that proposal now. The roles of both allow it.
 pub record TwoOfficers (cs : History) (i : Item) (entries : Imported) : Type 0 where
   pub proposing : Item
   pub between : History
@@ -43,7 +44,8 @@ FirstCloseNone =
     (cs : History) → IsTrue (is_legal cs)
     → IsTrue (list_all (λ i. not (is_first i && is_some (outcome_by i.call.command))) cs)
 
--- a proposal is closed once: it is never confirmed twice, dropped twice, or both confirmed and dropped
+-- a proposal is closed once: it is never confirmed twice, dropped twice, or both confirmed and
+-- dropped
 abbrev pub ClosedOnce : Type 0
 ClosedOnce =
     (cs : History) → IsTrue (is_legal cs) → IsTrue (are_apart (λ (a b : ProposalOutcome). a.proposal == b.proposal) (outcomes cs))

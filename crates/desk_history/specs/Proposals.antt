@@ -77,7 +77,8 @@ proposal cs k = find (is_proposal k) (proposals cs)
 
 -- ---- outcomes
 
--- the outcome that a command gives to a proposal: a Confirm confirms the one that it names, a Drop drops it
+-- the outcome that a command gives to a proposal: a Confirm confirms the one that it names, a Drop
+-- drops it
 abbrev pub outcome_by : Command → Option ProposalOutcome
 outcome_by (command.Confirm k) = Some (record { proposal = k; state = states.Confirmed })
 outcome_by (command.Drop k) = Some (record { proposal = k; state = states.Dropped })

@@ -155,7 +155,8 @@ pub record TellAlike (one other : History) (c : Caller) : Type 0 where
   pub each : (k : ℕ) → request_for one c k ≡ request_for other c k
   pub all : requests_for one c ≡ requests_for other c
 
--- A submitter's answer depends only on the submitter's own requests: it is the same for all histories that have the same ones.
+-- A submitter's answer depends only on the submitter's own requests: it is the same for all
+-- histories that have the same ones.
 abbrev pub SubmittersSeeOwn : Type 0
 SubmittersSeeOwn =
     (one other : History) (name : List ℕ) → role_of one name ≡ Some roles.Submitter → role_of other name ≡ Some roles.Submitter

@@ -14,7 +14,8 @@ use Rattle.desk_history.specs.declared.finding.Below.{Below}
 use Rattle.desk_history.specs.declared.finding.Verdict.{Verdict}
 use Rattle.desk_history.specs.declared.finding.Verdict.TheVariants.{Allowed, DbxCertificate, DbxDigest, NotListed, Sbat}
 
--- the revoked and the listed images and certificates, and the generation that the level requires under a name
+-- the revoked and the listed images and certificates, and the generation that the level requires
+-- under a name
 pub record Standing : Type 0 where
   pub revoked : ListedKind → List ℕ → Bool
   pub listed : ListedKind → List ℕ → Bool

@@ -106,8 +106,8 @@ with_officers steps = with_people (otto_added ∷ steps)
 abbrev pub officers_added : History
 officers_added = item otto ∷ people_added
 
--- the facts of an image of 1,024 bytes: the byte of its file's SHA-256, of its digest and of the digest that a
--- signature of it holds, the certificates that it carries, and its components
+-- the facts of an image of 1,024 bytes: the byte of its file's SHA-256, of its digest and of the
+-- digest that a signature of it holds, the certificates that it carries, and its components
 abbrev pub image : ℕ → ℕ → ℕ → List (List ℕ) → List Component → Facts
 image file plain signing carried components = record {
   extent = record { length = 1024; gap = 0 };

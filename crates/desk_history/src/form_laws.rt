@@ -6,12 +6,14 @@ pub fn callers_are_told()
     ensures { law.CallersAreTold }
 {}
 
-/// Each minute of a desk's history can be read back from the caller's name, the key and the reply's text.
+/// Each minute of a desk's history can be read back from the caller's name, the key and the reply's
+/// text.
 pub fn minutes_are_readable()
     ensures { law.MinutesAreReadable }
 {}
 
-/// Different callers of a desk's history have different names, and different replies different texts.
+/// Different callers of a desk's history have different names, and different replies different
+/// texts.
 pub fn minutes_differ()
     ensures { law.MinutesDiffer }
 {}

@@ -53,7 +53,8 @@ pub fn answers_are_kept()
     ensures { law.AnswersAreKept }
 {}
 
-/// A submitter's answer about requests is the same for all histories that have the same requests of that submitter.
+/// A submitter's answer about requests is the same for all histories that have the same requests of
+/// that submitter.
 pub fn submitters_see_own()
     ensures { SubmittersSeeOwn }
 {}

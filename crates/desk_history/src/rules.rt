@@ -119,7 +119,8 @@ pub fn withdraw_by(state: State, is_own: bool) -> Option<Refusal>
     }
 }
 
-/// The refusal of the image as the signed one of the image that has this digest and this digest to be signed.
+/// The refusal of the image as the signed one of the image that has this digest and this digest to
+/// be signed.
 pub fn image_refusal<S: Standing>(
     lists: &S,
     digest: Digest,

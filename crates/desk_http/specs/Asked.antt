@@ -109,7 +109,8 @@ Asks cs b due =
     ((h : RequestHead) × (rest : List ℕ) × HasHead b h rest × (due ≡ due_of cs h rest))
     ⊎ ((b ≢ []) × HasNoHead b × (due ≡ Err refused.BadHead))
 
--- b begins with a whole request: its head, and as much of rest as the head announces, if it announces a body
+-- b begins with a whole request: its head, and as much of rest as the head announces, if it
+-- announces a body
 pub record HasRequest (b : List ℕ) (h : RequestHead) (rest : List ℕ) : Type 0 where
   pub head : HasHead b h rest
   pub body : IfOk (wanted_of (parts_of h)) (λ w. w.size ≤ length rest)

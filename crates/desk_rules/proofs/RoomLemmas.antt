@@ -122,8 +122,9 @@ pub minutes_length : (cs : History) → length (minutes cs) ≡ length cs
 minutes_length [] = refl
 minutes_length (c ∷ cs) = ap suc (minutes_length cs)
 
--- a table whose rows don't become more by a command that may put none in has room for its writes exactly where it keeps
--- within the limit after the call; its size is right where the command may put rows in
+-- a table whose rows don't become more by a command that may put none in has room for its writes
+-- exactly where it keeps within the limit after the call; its size is right where the command may
+-- put rows in
 fits_is : (may : Bool) (count size old new most : ℕ) → count + old ≡ new → nat_le old most ≡ true → (may ≡ true → size ≡ old) → (may ≡ false → new ≤ old) → fits count size most ≡ nat_le new most
 fits_is true count size old new most grown within right fewer =
     let same : size ≡ old = right refl in grind (arith, nat_tests)

@@ -27,7 +27,8 @@ pub record Decides (changes : Changes) (owner : List ℕ) (cs : History) (c : Ca
 abbrev pub RefusesCall : Refusal → History → Call → Type 0
 RefusesCall refusal cs c = (answer cs c ≡ Refused refusal) ⊎ (refusal ≡ refusals.NoMemory)
 
--- on each legal history that the view shows for the call, the result is the answer to it, or memory ran out
+-- on each legal history that the view shows for the call, the result is the answer to it, or memory
+-- ran out
 abbrev pub DecidesCall : View → Call → Result Changes Refusal → Type 0
 DecidesCall v c result =
     (owner : List ℕ) (cs : History) → IsTrue (is_legal cs) → Shows v (tables owner cs) c

@@ -1,5 +1,5 @@
-//! Decisions of the desk over rows of its tables: the answer to a call with the rows that it writes, and the verdict on an
-//! image.
+//! Decisions of the desk over rows of its tables: the answer to a call with the rows that it
+//! writes, and the verdict on an image.
 #![tactic(auto)]
 
 mod deciding;

@@ -63,7 +63,8 @@ pub(crate) fn open_request(
     })
 }
 
-/// The row of a component of a request's image, with its place among them from 0. Takes memory for it.
+/// The row of a component of a request's image, with its place among them from 0. Takes memory for
+/// it.
 pub(crate) fn request_component(
     request: RequestNumber,
     place: u64,

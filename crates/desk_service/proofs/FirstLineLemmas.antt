@@ -58,7 +58,8 @@ length-onto : (b : ℕ) (lines : List (List ℕ)) → length (first_of (onto_fir
 length-onto b [] = refl
 length-onto b (line ∷ lines) = refl
 
--- two bytes that are no LF: the first of them belongs to the first line, as the second is no LF behind a CR
+-- two bytes that are no LF: the first of them belongs to the first line, as the second is no LF
+-- behind a CR
 lines_of-onto : (b c : ℕ) (text : List ℕ) → eqb b 10 ≡ false → eqb c 10 ≡ false → lines_of (b ∷ c ∷ text) ≡ onto_first b (lines_of (c ∷ text))
 lines_of-onto b c text first next = grind (arith, common_steps, first, next)
 

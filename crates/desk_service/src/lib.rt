@@ -1,4 +1,5 @@
-//! Inputs of the desk, read and checked: facts of images, tokens of people, imports of revocations (room `imports`).
+//! Inputs of the desk, read and checked: facts of images, tokens of people, imports of revocations
+//! (room `imports`).
 #![tactic(auto)]
 
 mod collecting;

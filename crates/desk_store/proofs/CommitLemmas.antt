@@ -1,4 +1,5 @@
--- From what a call does inside its transaction to what the connection shows after it, and what a stop leaves.
+-- From what a call does inside its transaction to what the connection shows after it, and what a
+-- stop leaves.
 use Rattle.std.proofs.Common.{◌≡◌, true, false, refl, sym, ap, subst, ◌∙◌, arith}
 use Rattle.sqlite.specs.Store as store
 use Rattle.sqlite.specs.Held.{Held, state}

@@ -1,4 +1,5 @@
--- From what the last commit of a connection holds to what the connection shows, and on to a desk that is opened over it.
+-- From what the last commit of a connection holds to what the connection shows, and on to a desk
+-- that is opened over it.
 use Rattle.std.proofs.Common.{◌≡◌, inl, inr, List, [], sym, subst, ◌∙◌, IsTrue, false}
 use Rattle.std.proofs.Math.Logic.{∥∥₁_elim}
 use Rattle.sqlite.specs.Effect.{Database}
@@ -15,7 +16,8 @@ use Rattle.store_sql.specs.Contents.{AreTablesOf, Contents}
 use Rattle.store_sql.specs.States.{Shows}
 use Rattle.store_sql.proofs.ContentLemmas.{catalog_of}
 
--- a connection shows the tables of its last commit: their catalog lists their schema, and so no other
+-- a connection shows the tables of its last commit: their catalog lists their schema, and so no
+-- other
 pub shown_by_catalog : (s : State) (schema : Schema) (c : Contents) → schema.views ≡ []
     → ((objects : List Row) (one other : Schema) → one.views ≡ [] → AreListed objects one → AreListed objects other → one ≡ other)
     → IsLive s → (IsTrue s.is_open → s.now ≡ s.committed) → s.in_transaction ≡ false → AreTablesOf schema s.committed.trees c → Shows schema s c

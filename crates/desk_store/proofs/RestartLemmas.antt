@@ -40,7 +40,8 @@ both_clean g given new log db clean =
     rw (one, two) refl
 
 module _ {D : Type 0} (g : Ghosts D) (old : Held (FileStore D g)) (it : FileStore D g) where
-  -- a connection over files that hold what the store's may leave finds what a stop left of the connection before
+  -- a connection over files that hold what the store's may leave finds what a stop left of the
+  -- connection before
   pub found_again : IsQuiet view faults recovers is_shielded old.store it → (IsClean (view it) → IsTrue (view it).is_numbered) → (IsClean (view it) → AreDatabases (recovers it))
       → (given new : Files D) → files it ≡ (given.log, given.db) → (AreClean g new.log new.db → AreClean g given.log given.db)
       → outcomes g given.log given.db (image_of g new) → FoundAgain g old new
@@ -65,7 +66,8 @@ given_back g old files found (Some left) h = λ owner lives seen leaves. h owner
 still_none : (lives : List Life) → none_by_second lives ≡ true → none_by_second (and_refused lives) ≡ true
 still_none lives none = list_all-append (λ (life : Life). not (is_opened_by_second life)) lives (record { rules = Second; opening = NotOpened; events = [] } ∷ []) ∙ (rw none refl)
 
--- the tables of the history that was found, of the same version, or of version 2 where it was version 1
+-- the tables of the history that was found, of the same version, or of version 2 where it was
+-- version 1
 pub refused_leaves : (s new : State) (owner : List ℕ) (lives : List Life) (cs : History) → Survives s new (Brings s) → HoldsEither s.committed.trees owner lives cs
     → (HoldsHistory s.committed.trees owner cs → ShowsHistory s owner cs) → (HoldsFirst s.committed.trees owner cs → ShowsFirst s owner cs)
     → ((schema : Schema) (c : Contents) → Shows schema s c → Leaves s (λ db. AreTablesOf schema db c))

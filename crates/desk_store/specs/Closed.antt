@@ -12,7 +12,8 @@ use Rattle.sqlite_wal.specs.Recovery.{Image}
 use Rattle.desk_history.specs.Calls.{History}
 use Rattle.store_schema.specs.rows.Histories.{HoldsHistory}
 
--- the log and the database file hold the tables of the history, and so does the database file without the log
+-- the log and the database file hold the tables of the history, and so does the database file
+-- without the log
 pub record HoldsClosed (image : Image) (owner : List ℕ) (cs : History) : Type 0 where
   pub db : Trees
   pub alone : HoldsAlone image db

@@ -55,8 +55,8 @@ IsSince seen cs = MayLeave seen.at seen.since cs
 abbrev pub none_by_second : List Life → Bool
 none_by_second lives = list_all (λ life. not (is_opened_by_second life)) lives
 
--- the trees hold the tables of this history, those of version 2, or, while no desk was opened by the second rules, those of
--- version 1
+-- the trees hold the tables of this history, those of version 2, or, while no desk was opened by
+-- the second rules, those of version 1
 abbrev pub HoldsEither : Trees → List ℕ → List Life → History → Type 0
 HoldsEither db owner lives cs = HoldsHistory db owner cs ⊎ (IsTrue (none_by_second lives) × HoldsFirst db owner cs)
 
@@ -75,7 +75,8 @@ FindsLives s owner lives seen = HasCleanDisk s → IsTrue s.is_open → ∥ Hold
 
 -- a desk that was opened after these lives, with this history
 pub record IsRecovered {S : Type 0} (g : Ghosts S) (desk : Desk S) (owner : List ℕ) (lives : List Life) (seen : Seen) (cs : History) : Type 0 where
-  -- the lives' calls leave this history one after another; of each life at most the call that was stopped may be missing
+  -- the lives' calls leave this history one after another; of each life at most the call that was
+  -- stopped may be missing
   pub ends : Ends lives cs
   -- the calls since the seen history leave it too
   pub since : IsSince seen cs

@@ -16,7 +16,8 @@ desk_columns owner version stamp = Int (pos 1) ∷ Text (codes "boot-desk") ∷ 
 abbrev pub IsGuid : Value → Type 0
 IsGuid value = (guid : List ℕ) × (value ≡ Blob guid) × (length guid ≡ 16)
 
--- own: the answer is one row, which reads as that of a desk of this version: the owner has 16 bytes, the stamp ten digits
+-- own: the answer is one row, which reads as that of a desk of this version: the owner has 16
+-- bytes, the stamp ten digits
 abbrev pub ReadsAs : List Row → ℕ → Type 0
 ReadsAs answer version = (owner : List ℕ) × (stamp : ℕ) × (length owner ≡ 16) × (is_stamp stamp ≡ true) × (answer ≡ desk_columns owner version stamp ∷ [])
 

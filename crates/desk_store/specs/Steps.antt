@@ -74,7 +74,8 @@ AreShownAs s version = ShowsRows s (λ _ rows. AreOf rows version)
 abbrev pub AreShownAsNone : State → Type 0
 AreShownAsNone s = ShowsRows s (λ _ rows. AreOfNone rows)
 
--- they read as those of a desk of version 1, and the names of the tables that version 2 adds are free
+-- they read as those of a desk of version 1, and the names of the tables that version 2 adds are
+-- free
 abbrev pub AreShownFree : State → Type 0
 AreShownFree s = ShowsRows s (λ schema rows. AreOf rows 1 × (takes_a_name schema ≡ false))
 

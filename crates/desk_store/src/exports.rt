@@ -16,8 +16,8 @@ use std::io::Write;
 use store_exports::export;
 
 impl<S: Alter + Drop> Desk<S> {
-    /// Writes an export. Each row is written as the store gives it. Takes memory for the desk's own row and for one row of
-    /// the export.
+    /// Writes an export. Each row is written as the store gives it. Takes memory for the desk's own
+    /// row and for one row of the export.
     ///
     /// `Write`: the writer failed. `NoMemory`: memory was refused. `Store`: the store failed, or
     /// isn't as a desk left it. After each the writer holds a prefix of the export, which may be

@@ -1,5 +1,5 @@
--- own: the canonical text of a command: its word and its parts, joined by one space. Numbers are decimal without
--- leading zeros, digests and certificates hexadecimal in lower case.
+-- own: the canonical text of a command: its word and its parts, joined by one space. Numbers are
+-- decimal without leading zeros, digests and certificates hexadecimal in lower case.
 use Rattle.std.specs.Prelude.{ℕ, List, [], ◌∷◌, codes, decimal}
 use Rattle.hex.specs.Hex.{encode_lower}
 use Rattle.desk_texts.specs.Words.{role_text, vote_text, kind_text}

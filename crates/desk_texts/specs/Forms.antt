@@ -1,4 +1,5 @@
--- The forms of the desk's texts: own: names, keys, titles and notes; and of the numbers of requests and proposals.
+-- The forms of the desk's texts: own: names, keys, titles and notes; and of the numbers of requests
+-- and proposals.
 use Rattle.std.specs.Prelude.{ℕ, Bool, ◌&&◌, ◌||◌, ◌==◌, nat_le, length, slice_index, not, List}
 use Rattle.std.specs.Char.{is_ascii_digit, is_ascii_lowercase}
 use Rattle.std.specs.List.{list_all}

@@ -1,4 +1,5 @@
--- Canonical texts, written down by hand and computed by the definitions. Digests have two bytes here, for short lines.
+-- Canonical texts, written down by hand and computed by the definitions. Digests have two bytes
+-- here, for short lines.
 use Rattle.std.specs.Prelude.{◌≡◌, ℕ, List, [], ◌∷◌, codes, Some, None}
 use Rattle.sbat.specs.declared.component.Component.{Component}
 use Rattle.desk_texts.specs.declared.command.Command.TheVariants as command

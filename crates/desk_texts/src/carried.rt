@@ -8,8 +8,8 @@ use desk_bytes::{Digest, MOST_CERTIFICATES, arrange};
 use std::alloc::AllocError;
 use std::marker::Model;
 
-/// The SHA-256 of each TBSCertificate that an image carries: ascending, each once, at most `MOST_CERTIFICATES`. A
-/// contract sees the list of them.
+/// The SHA-256 of each TBSCertificate that an image carries: ascending, each once, at most
+/// `MOST_CERTIFICATES`. A contract sees the list of them.
 #[derive(Debug, Drop)]
 pub struct Carried {
     digests: Vec<Digest>,

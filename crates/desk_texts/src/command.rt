@@ -39,7 +39,8 @@ pub struct ReturnedFile {
     pub facts: Facts,
 }
 
-/// An entry of the list of allowed images: an image's digest, or the SHA-256 of a certificate's TBSCertificate.
+/// An entry of the list of allowed images: an image's digest, or the SHA-256 of a certificate's
+/// TBSCertificate.
 #[derive(Clone, Copy, Debug, PartialEq, Eq)]
 pub struct Listing {
     pub kind: ListedKind,

@@ -78,8 +78,8 @@ fn import(alloc: Global, import: &Import) -> Result<String, AllocError>
     format!(in alloc; "import {stamp} {passed} {digests} {certificates} {components}")
 }
 
-/// The canonical text of a command: its word and its parts, joined by one space. Takes memory for the text; the
-/// time is linear in its length.
+/// The canonical text of a command: its word and its parts, joined by one space. Takes memory for
+/// the text; the time is linear in its length.
 pub fn command_text(alloc: Global, command: &Command) -> Result<String, AllocError>
     ensures { IfOk result (λ text. string_bytes text ≡ text_of command.now) }
 {

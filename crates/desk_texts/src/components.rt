@@ -8,8 +8,8 @@ use sbat::Component;
 use std::alloc::AllocError;
 use std::marker::Model;
 
-/// The SBAT components of an image, in the image's order, at most `MOST_COMPONENTS`; a name may come twice. A
-/// contract sees the list of them.
+/// The SBAT components of an image, in the image's order, at most `MOST_COMPONENTS`; a name may
+/// come twice. A contract sees the list of them.
 #[derive(Debug, Drop)]
 pub struct Components {
     items: Vec<Component>,

@@ -7,7 +7,8 @@ use desk_bytes::Digest;
 use std::alloc::AllocError;
 use std::marker::Model;
 
-/// Digests in the order of an import, repeats kept, at most `MOST_IMPORTED`. A contract sees the list of them.
+/// Digests in the order of an import, repeats kept, at most `MOST_IMPORTED`. A contract sees the
+/// list of them.
 #[derive(Debug, Drop)]
 pub struct Digests {
     digests: Vec<Digest>,

@@ -6,8 +6,8 @@ ghost use Rattle.desk_bytes.specs.Limits.{longest_image};
 use desk_bytes::LONGEST_IMAGE;
 use std::marker::Model;
 
-/// The length of an image's file in bytes, at most `LONGEST_IMAGE`, and of its gap: the bytes before the sections' end
-/// that are in no header and in no section.
+/// The length of an image's file in bytes, at most `LONGEST_IMAGE`, and of its gap: the bytes
+/// before the sections' end that are in no header and in no section.
 #[derive(Clone, Copy, Debug, PartialEq, Eq)]
 pub struct Extent {
     length: u64,

@@ -7,9 +7,9 @@ use crate::extent::Extent;
 use desk_bytes::Digest;
 use std::alloc::AllocError;
 
-/// The facts of an image that the desk keeps: the lengths of its file and of its gap, the SHA-256 of the file, its
-/// Authenticode digest and the digest that a signature of it holds, the certificates that it carries and its SBAT
-/// components.
+/// The facts of an image that the desk keeps: the lengths of its file and of its gap, the SHA-256
+/// of the file, its Authenticode digest and the digest that a signature of it holds, the
+/// certificates that it carries and its SBAT components.
 #[derive(Debug, Drop)]
 pub struct Facts {
     pub extent: Extent,

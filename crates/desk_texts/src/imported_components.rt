@@ -9,8 +9,8 @@ use sbat::Component;
 use std::alloc::AllocError;
 use std::marker::Model;
 
-/// Components in the order of an import, repeats kept, at most `MOST_IMPORTED`, none of them named `sbat`. A
-/// contract sees the list of them.
+/// Components in the order of an import, repeats kept, at most `MOST_IMPORTED`, none of them named
+/// `sbat`. A contract sees the list of them.
 #[derive(Debug, Drop)]
 pub struct ImportedComponents {
     components: Vec<Component>,

@@ -8,7 +8,8 @@ use crate::{TextFault, forms};
 use std::alloc::{AllocError, Global};
 use std::marker::Model;
 
-/// A caller's own name for a call: 1 to 64 bytes of 0x21 to 0x7E. A contract sees the list of its bytes.
+/// A caller's own name for a call: 1 to 64 bytes of 0x21 to 0x7E. A contract sees the list of its
+/// bytes.
 #[derive(Debug, Drop)]
 pub struct Key {
     text: String,

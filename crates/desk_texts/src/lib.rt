@@ -1,4 +1,5 @@
-//! Calls, commands and replies of the desk: their values in their forms and limits, and their canonical texts.
+//! Calls, commands and replies of the desk: their values in their forms and limits, and their
+//! canonical texts.
 #![tactic(auto)]
 
 mod caller;

@@ -8,7 +8,8 @@ use crate::{TextFault, forms};
 use std::alloc::{AllocError, Global};
 use std::marker::Model;
 
-/// A person's name: 1 to 32 of `a` to `z`, `0` to `9` and `-`, the first a letter. A contract sees the list of its bytes.
+/// A person's name: 1 to 32 of `a` to `z`, `0` to `9` and `-`, the first a letter. A contract sees
+/// the list of its bytes.
 #[derive(Debug, Drop)]
 pub struct PersonName {
     text: String,

@@ -43,8 +43,8 @@ pub struct ProposalOutcome {
     pub state: ProposalState,
 }
 
-/// A proposal as a reader sees it: who proposed it, its state, and how many digests of images, digests of certificates
-/// and components it names, repeats included.
+/// A proposal as a reader sees it: who proposed it, its state, and how many digests of images,
+/// digests of certificates and components it names, repeats included.
 #[derive(Debug, Drop)]
 pub struct Proposal {
     pub number: ProposalNumber,

@@ -47,7 +47,8 @@ fn numbered(alloc: Global, word: &str, number: u64) -> Result<String, AllocError
     format!(in alloc; "{word} {number}")
 }
 
-/// The canonical text of a reply: its word and its parts, joined by one space. Takes memory for the text.
+/// The canonical text of a reply: its word and its parts, joined by one space. Takes memory for the
+/// text.
 pub fn reply_text(alloc: Global, reply: &Reply) -> Result<String, AllocError>
     ensures { IfOk result (λ text. string_bytes text ≡ reply_text_of reply.now) }
 {

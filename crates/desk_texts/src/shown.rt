@@ -19,7 +19,8 @@ pub struct ShownVote {
     pub note: Note,
 }
 
-/// The votes on a request, ascending by the bytes of the reviewers' names. A contract sees the list of them.
+/// The votes on a request, ascending by the bytes of the reviewers' names. A contract sees the list
+/// of them.
 #[derive(Debug, Drop)]
 pub struct ShownVotes {
     votes: Vec<ShownVote>,
@@ -33,8 +34,8 @@ impl Model for ShownVotes {
     ghost invariant = { λ v. AreByReviewer v.votes.items };
 }
 
-/// The signed file that was returned for a request: how many bytes it has, the SHA-256 of the whole file, and
-/// the image's Authenticode digest.
+/// The signed file that was returned for a request: how many bytes it has, the SHA-256 of the whole
+/// file, and the image's Authenticode digest.
 #[derive(Clone, Copy, Debug, PartialEq, Eq)]
 pub struct ShownReturn {
     pub length: u64,

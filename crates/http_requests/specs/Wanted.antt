@@ -16,7 +16,8 @@ use Rattle.http_requests.specs.declared.fault.WantedFault.TheVariants.{BadField,
 abbrev pub is_slash : ℕ → Bool
 is_slash b = b == 47
 
--- the part of a target between its second slash and the third, or the end: {no} where its path has it
+-- the part of a target between its second slash and the third, or the end: {no} where its path has
+-- it
 abbrev pub number_part : List ℕ → List ℕ
 number_part target = before_first is_slash (after_first is_slash (after_first is_slash target))
 

@@ -1,5 +1,5 @@
-//! The JSON bodies of requests (RFC 8259, as `serde_json` reads it): exactly the named keys, each value in its
-//! form.
+//! The JSON bodies of requests (RFC 8259, as `serde_json` reads it): exactly the named keys, each
+//! value in its form.
 
 mod fault;
 mod members;

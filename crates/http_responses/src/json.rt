@@ -1,4 +1,5 @@
-//! Replies, requests, proposals and verdicts in JSON (RFC 8259): no space between tokens, keys in ascending order.
+//! Replies, requests, proposals and verdicts in JSON (RFC 8259): no space between tokens, keys in
+//! ascending order.
 
 mod arrays;
 mod in_json;

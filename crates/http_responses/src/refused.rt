@@ -15,7 +15,7 @@ pub enum Refused {
     Short,
     /// The file doesn't begin with `MZ`.
     NoMz,
-    /// The u32 at 0x3C doesn't lead to `PE`, 0, 0.
+    /// There is no `PE`, 0, 0 where the u32 at 0x3C points.
     NoPe,
     /// The optional header is neither PE32 (0x10B) nor PE32+ (0x20B).
     Magic,
@@ -27,10 +27,10 @@ pub enum Refused {
     Sections,
     /// A section's raw data begins within the headers, or shares a byte with another's.
     Overlap,
-    /// The certificate table isn't the end of the file or begins before the sections' end, or an entry
-    /// of it isn't whole.
+    /// The certificate table isn't the end of the file or begins before the sections' end, or an
+    /// entry of it isn't whole.
     Table,
-    /// A DER element, SignedData or certificate is missing where one is needed.
+    /// There is no DER element, SignedData or certificate where one is needed.
     Der,
     /// Two sections are named `.sbat`.
     TwoSbat,
@@ -38,7 +38,7 @@ pub enum Refused {
     SbatRow(u64),
     /// The input passes a stated limit of size or count.
     TooLong,
-    /// There is no signature list at that place: its offset in bytes.
+    /// There is no signature list there. The place is its offset in bytes.
     List(u64),
     /// A signature list's entries can't have the size that it gives. The place is its offset in
     /// bytes.
@@ -87,7 +87,7 @@ pub enum Refused {
     ProposalClosed,
     /// The head of an HTTP request is wrong, too long or cut short.
     BadHead,
-    /// A field of an HTTP request is wrong or repeated.
+    /// A field of an HTTP request is wrong, or is given twice.
     BadField,
     /// The JSON body of an HTTP request is wrong.
     BadBody,

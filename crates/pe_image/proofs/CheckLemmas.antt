@@ -95,7 +95,8 @@ sections-hold hs ss z n r q is test answer row holds =
     let apart = apart-are hs ss z q true is row holds in
     rw ends (rw apart refl)
 
--- sections that stand as they must end within the file, and their bytes are at most those up to there
+-- sections that stand as they must end within the file, and their bytes are at most those up to
+-- there
 pub sections-fit : (f : List ℕ) → first_of (section_checks (raw f) (size_of_headers f) (length f)) ≡ None → size_of_headers f ≤ length f → (sum_of_bytes_hashed f ≤ sections_end f) × (sections_end f ≤ length f)
 sections-fit f none low =
     let holds = hold-from-none (section_checks (raw f) (size_of_headers f) (length f)) none in

@@ -44,8 +44,8 @@ size_checks f =
     ∷ (not (has_certificate_directory f) || nat_le (fixed_size f + 40) (size_of_optional_header f), Headers)
     ∷ []
 
--- a subsystem of EFI ("Windows Subsystem"). own: at most 96 sections, and headers that have room for the
--- section table and lie within the file
+-- a subsystem of EFI ("Windows Subsystem"). own: at most 96 sections, and headers that have room
+-- for the section table and lie within the file
 abbrev pub header_checks : List ℕ → List (Bool × LayoutFault)
 header_checks f =
     (nat_le 10 (subsystem f) && nat_le (subsystem f) 13, NotEfi)

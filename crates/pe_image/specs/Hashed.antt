@@ -9,8 +9,8 @@ use Rattle.pe_image.specs.Spans.{bytes_at, without}
 abbrev pub hashed_bytes : List ℕ → List ℕ
 hashed_bytes f = bytes_at f (spans_of (places_of f))
 
--- f without the 4 bytes of CheckSum, the 8 bytes of the certificate table's entry (where there is one) and
--- the table
+-- f without the 4 bytes of CheckSum, the 8 bytes of the certificate table's entry (where there is
+-- one) and the table
 unfoldable pub plain : List ℕ → List ℕ
 plain f =
     if has_certificate_directory f

@@ -22,7 +22,8 @@ pe = 0x4550
 abbrev pub pe_signature_offset : List ℕ → ℕ
 pe_signature_offset f = u32_at f 0x3c
 
--- the offset of the optional header: the signature and the file header have 24 bytes ("COFF File Header")
+-- the offset of the optional header: the signature and the file header have 24 bytes ("COFF File
+-- Header")
 abbrev pub optional_header_offset : List ℕ → ℕ
 optional_header_offset f = pe_signature_offset f + 24
 

@@ -1,4 +1,5 @@
-//! Offsets of the fields that a layout needs (PE/COFF), from the signature unless a comment says otherwise.
+//! Offsets of the fields that a layout needs (PE/COFF), from the signature unless a comment says
+//! otherwise.
 
 /// The size of the MS-DOS header.
 pub(crate) const DOS_HEADER_SIZE: u64 = 64;

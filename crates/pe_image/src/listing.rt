@@ -37,8 +37,8 @@ fn push_sections(spans: &mut [Span], count: usize, sections: &[Span]) -> usize
     end
 }
 
-/// The spans of an image that Authenticode hashes, in that order. Spans that touch aren't joined. Takes no
-/// memory.
+/// The spans of an image that Authenticode hashes, in that order. Spans that touch aren't joined.
+/// Takes no memory.
 pub fn ranges(layout: &Layout) -> Ranges
     ensures exact { result ≡ spans_of layout.now }
     ensures few { length result ≤ 100 }

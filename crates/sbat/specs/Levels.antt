@@ -45,7 +45,8 @@ abbrev pub unless_sbat : Option Row → Option Row
 unless_sbat None = None
 unless_sbat (Some r) = if bytes_eq r.name sbat then None else Some r
 
--- own: a line of a level after the first: a name other than `sbat`, a generation, and perhaps more fields
+-- own: a line of a level after the first: a name other than `sbat`, a generation, and perhaps more
+-- fields
 abbrev pub level_row : List ℕ → Option Row
 level_row line = unless_sbat (row_in (fields_of line))
 

@@ -5,7 +5,8 @@ use crate::generation::Generation;
 use crate::name::ComponentName;
 use std::alloc::AllocError;
 
-/// A component: a name, and the generation that an image has of it. A contract sees the record of both.
+/// A component: a name, and the generation that an image has of it. A contract sees the record of
+/// both.
 #[derive(Debug, PartialEq, Eq, Drop)]
 pub struct Component {
     pub name: ComponentName,

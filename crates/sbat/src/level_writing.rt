@@ -50,8 +50,8 @@ pub fn level_row<W: Write>(
     put_row(name.as_str(), generation, writer)
 }
 
-/// Writes the text of a level: `sbat,1,` and the stamp, then each name, a comma and its generation without
-/// leading zeros, ascending by the names' bytes. LF ends each line.
+/// Writes the text of a level: `sbat,1,` and the stamp, then each name, a comma and its generation
+/// without leading zeros, ascending by the names' bytes. LF ends each line.
 pub fn write_level<W: Write>(level: &Level, writer: &mut W) -> Result<(), WriteFailed>
     ensures ok { OnOk result (Appends (W.contents writer.old) (W.contents writer.new)
         (level_text level.now)) }

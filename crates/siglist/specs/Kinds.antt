@@ -1,4 +1,5 @@
--- The kinds of signature lists that the desk knows (UEFI 2.10, section 32.4.1), as their GUIDs are stored.
+-- The kinds of signature lists that the desk knows (UEFI 2.10, section 32.4.1), as their GUIDs are
+-- stored.
 use Rattle.std.specs.Prelude.{ℕ, ◌==◌, nat_le, Bool, true, false, List, [], ◌∷◌, if◌then◌else◌}
 use Rattle.std.specs.Str.{bytes_eq}
 use Rattle.siglist.specs.declared.kind.Kind.{Kind}

@@ -21,8 +21,8 @@ pub record Stops (bytes : List ℕ) (offset : ℕ) : Type 0 where
   pub within : offset < length bytes
   pub none : HasNoList (drop offset bytes)
 
--- own: fewer than 28 bytes are left, the list's size is below 28 plus its header's, or beyond the end, or one
--- of the three kinds has a header
+-- own: fewer than 28 bytes are left, the list's size is below 28 plus its header's, or beyond the
+-- end, or one of the three kinds has a header
 abbrev pub LacksRoom : List ℕ → Type 0
 LacksRoom b = (length b < 28) ⊎ (size_at b < 28 + header_size_at b) ⊎ (length b < size_at b)
     ⊎ ((0 < header_size_at b) × (is_bare (kind_of (take 16 b)) ≡ true))

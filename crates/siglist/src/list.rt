@@ -10,8 +10,8 @@ use crate::kind::{Kind, kind_of};
 use desk_bytes::{Guid, u32_at};
 use std::marker::Model;
 
-/// A signature list (UEFI 2.10, section 32.4.1, EFI_SIGNATURE_LIST), borrowed from the bytes that were
-/// read. A contract sees the list and its offset.
+/// A signature list (UEFI 2.10, section 32.4.1, EFI_SIGNATURE_LIST), borrowed from the bytes that
+/// were read. A contract sees the list and its offset.
 #[derive(Debug, Drop)]
 pub struct SignatureList<'a> {
     offset: u64,

@@ -49,8 +49,8 @@ pub fn x509_sha256_head<W: Write>(count: u32, writer: &mut W) -> Result<(), Writ
     put_head(&X509_SHA256, X509_SHA256_SIZE, count, writer)
 }
 
-/// Writes an entry of an X509_SHA256 list: 64 bytes. The digest is the SHA-256 of a TBSCertificate, its
-/// TimeOfRevocation 16 zero bytes.
+/// Writes an entry of an X509_SHA256 list: 64 bytes. The digest is the SHA-256 of a TBSCertificate,
+/// its TimeOfRevocation 16 zero bytes.
 pub fn x509_sha256_entry<W: Write>(
     owner: &Guid,
     digest: &Digest,

@@ -22,7 +22,8 @@ pub(crate) trait RowForm {
 
     /// Writes the row.
     ///
-    /// `Read`: the row isn't the desk's, or memory was refused; nothing was written. `Write`: the writer failed.
+    /// `Read`: the row isn't the desk's, or memory was refused; nothing was written. `Write`: the
+    /// writer failed.
     fn put<W: Write>(&self, alloc: Global, row: &Row, writer: &mut W) -> Result<(), ExportFault>
         ensures ok { OnOk result (WritesRow (spells self.now row.now)
             (W.contents writer.old) (W.contents writer.new)) }

@@ -1,4 +1,5 @@
--- From what the migration does inside its transaction to what the connection shows after it, and what a stop leaves.
+-- From what the migration does inside its transaction to what the connection shows after it, and
+-- what a stop leaves.
 use Rattle.std.proofs.Common.{◌≡◌, ℕ, List, length, map, false, refl, sym, subst, ◌∙◌, arith, IsTrue}
 use Rattle.sqlite.specs.Store as store
 use Rattle.sqlite.specs.Held.{Held, state}

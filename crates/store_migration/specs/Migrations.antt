@@ -17,7 +17,8 @@ pub record TurnsFirst (old new : State) : Type 0 where
   pub kept : KeepsCommit old new
   pub value : (owner : List ℕ) (cs : History) → AreFirst cs → Sees first_schema old (first_rows_of owner cs) → Sees desk_schema new (rows_of owner cs)
 
--- the trees hold the tables of version 2, of each history that the connection showed in tables of version 1
+-- the trees hold the tables of version 2, of each history that the connection showed in tables of
+-- version 1
 abbrev pub Migrates : State → Trees → Type 0
 Migrates old db = (owner : List ℕ) (cs : History) → ShowsFirst old owner cs → HoldsHistory db owner cs
 

@@ -5,7 +5,8 @@ use Rattle.sqlite.specs.Schema.{Schema}
 use Rattle.sqlite_schema.specs.Names.{index_named, table_named, view_named}
 use Rattle.store_schema.specs.Tables.{added_tables}
 
--- a table, an index or a view has the name, whatever the case of ASCII letters (SQLite, "CREATE TABLE")
+-- a table, an index or a view has the name, whatever the case of ASCII letters (SQLite, "CREATE
+-- TABLE")
 abbrev pub is_taken : Schema → List ℕ → Bool
 is_taken schema name = is_some (table_named schema name) || is_some (index_named schema name) || is_some (view_named schema name)
 

@@ -23,7 +23,8 @@ desk_row d = record { id = d.id; mark = d.mark; version = d.version; owner = d.o
 abbrev pub read_row : DeskRow → ReadDeskRow
 read_row d = record { id = d.id; mark = d.mark; version = d.version; owner = d.owner; stamp = d.stamp }
 
--- own: the columns of a request: number, submitter, title, length, gap, file, digest, signing, state
+-- own: the columns of a request: number, submitter, title, length, gap, file, digest, signing,
+-- state
 abbrev pub request_columns : RequestRow → Row
 request_columns r =
     Int (pos r.number) ∷ Text r.submitter ∷ Text r.title ∷ Int (pos r.length) ∷ Int (pos r.gap) ∷ Blob r.file ∷ Blob r.digest

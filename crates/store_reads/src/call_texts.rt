@@ -33,7 +33,8 @@ impl ColumnText {
     }
 }
 
-/// The columns of a call: its number, the caller's name, the key, the text of the command and that of the reply.
+/// The columns of a call: its number, the caller's name, the key, the text of the command and that
+/// of the reply.
 #[derive(Debug, Drop)]
 pub(crate) struct CallTexts {
     pub(crate) number: u64,

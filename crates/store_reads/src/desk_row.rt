@@ -33,8 +33,8 @@ impl Mark {
     }
 }
 
-/// A desk's own row: the id of the row, the mark, the version of the tables, the owner of the lists that it
-/// exports, and the stamp of its level.
+/// A desk's own row: the id of the row, the mark, the version of the tables, the owner of the lists
+/// that it exports, and the stamp of its level.
 #[derive(Debug, Drop)]
 pub struct DeskRow {
     pub id: u64,

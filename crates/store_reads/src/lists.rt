@@ -51,7 +51,8 @@ fn revoked_text(kind: ListedKind) -> &'static str
     }
 }
 
-/// The digest of an image or of a certificate, by the kind, if it is revoked. Takes memory for the row.
+/// The digest of an image or of a certificate, by the kind, if it is revoked. Takes memory for the
+/// row.
 pub fn revoked_of<S: Alter>(
     alloc: Global,
     tx: &mut Transaction<'_, S>,

@@ -67,7 +67,8 @@ fn component_in(
     })
 }
 
-/// The components of the rows. `Row`: a row is another request's, or their places aren't those from 0 on.
+/// The components of the rows. `Row`: a row is another request's, or their places aren't those from
+/// 0 on.
 fn placed_in(
     alloc: Global,
     rows: Vec<RequestComponentRow>,

@@ -42,7 +42,8 @@ keyed_table name tree columns primary others = table_of name tree columns None p
 
 -- ---- the tables, each with its tree; each key that isn't the row id has one more tree after it
 
--- the desk itself, in one row: its mark, the version of the tables, the owner of its lists, and the stamp of the level
+-- the desk itself, in one row: its mark, the version of the tables, the owner of its lists, and the
+-- stamp of the level
 abbrev pub desk : Table
 desk = numbered_table (codes "desk") 0
     (column_of (codes "id") Integer ∷ column_of (codes "mark") Text ∷ column_of (codes "version") Integer ∷ column_of (codes "owner") Blob

@@ -7,8 +7,9 @@ ghost use Rattle.store_schema.specs.Tables.{added_tables, defined, desk_schema, 
 
 use sqlite::{Alter, Error, Transaction};
 use store_sql::create_tables;
-/// `CREATE TABLE` of each table of version 1, in the order of their making: desk, people, calls, requests, request_certificates,
-/// request_components, votes, returns, listed, revoked_digests, revoked_certificates, components.
+/// `CREATE TABLE` of each table of version 1, in the order of their making: desk, people, calls,
+/// requests, request_certificates, request_components, votes, returns, listed, revoked_digests,
+/// revoked_certificates, components.
 pub const CREATE_TABLES: [&str; 12] = [
     "CREATE TABLE desk (id INTEGER PRIMARY KEY NOT NULL, mark TEXT NOT NULL, version INTEGER NOT NULL, owner BLOB NOT NULL, stamp INTEGER NOT NULL) STRICT",
     "CREATE TABLE people (name TEXT NOT NULL PRIMARY KEY, role TEXT NOT NULL, token BLOB NOT NULL UNIQUE) STRICT",

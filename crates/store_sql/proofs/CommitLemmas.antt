@@ -81,7 +81,8 @@ module _ {S : Type 0} (g : store.Ghosts S) (old last end : Held S) where
   rolled_back e inside (inl fails) = fails.3
   rolled_back e inside (inr late) = absurd (let a = inside in let b = late.1 in cc)
 
-  -- a commit that failed committed nothing, where the connection is open still: a stop leaves the last commit alone
+  -- a commit that failed committed nothing, where the connection is open still: a stop leaves the
+  -- last commit alone
   pub open_spares : (P : Trees → Type 0) (new : State) → Survives (begun g old) (state g last) (λ _. ⊥) → (HasCleanDisk (state g last) → KeepsCommit (begun g old) (state g last))
       → Survives (state g last) (state g end) P → (HasCleanDisk (state g end) → IsRolledBack (state g last) (state g end))
       → Survives (state g end) new (λ _. ⊥) → (HasCleanDisk new → IsTrue (state g end).is_open)
@@ -107,7 +108,8 @@ module _ {S : Type 0} (g : store.Ghosts S) (old last end : Held S) where
             inl (subst (λ t. (state g old).may_leave t) (sym (settled db open_ there ∙ trees)) (stays ((kept late).was_open was))));
       }
 
--- ---- A transaction's end. `old` is the connection before the transaction, `first` inside it, and `last` before its end.
+-- ---- A transaction's end. `old` is the connection before the transaction, `first` inside it, and
+-- `last` before its end.
 
 -- what the steps inside did, and that they committed nothing
 pub record Worked {S : Type 0} (g : store.Ghosts S) (old last : Held S) (does : State → State → Type 0) : Type 0 where
@@ -116,7 +118,8 @@ pub record Worked {S : Type 0} (g : store.Ghosts S) (old last : Held S) (does : 
   pub kept : HasCleanDisk (state g last) → KeepsCommit (begun g old) (state g last)
   pub spares : Survives (begun g old) (state g last) (λ _. ⊥)
 
--- the clauses of the call that made the steps, told of the connection that the transaction began with
+-- the clauses of the call that made the steps, told of the connection that the transaction began
+-- with
 pub worked : {S : Type 0} (g : store.Ghosts S) (old first last : Held S) (does : State → State → Type 0) → first ≡ record old { in_transaction = true }
     → (HasCleanDisk (state g last) → IsTrue (state g first).in_transaction → does (state g first) (state g last))
     → (HasCleanDisk (state g last) → IsTrue (state g first).in_transaction → IsTrue (state g last).is_open × IsTrue (state g last).in_transaction)
@@ -137,8 +140,8 @@ leaves_made g old last end does P did stops made = survives_then (state g old) (
     (λ clean db is. subst P (sym is) (made (omega (arith, stops.clean, clean))))
     (survives_begin g old (state g last) (λ _. ⊥) did.spares) stops
 
--- The commit failed, and the connection was asked whether it is open still. `mid` is the connection after the commit, and `end`
--- the same as the caller has it.
+-- The commit failed, and the connection was asked whether it is open still. `mid` is the connection
+-- after the commit, and `end` the same as the caller has it.
 module _ {S : Type 0} (g : store.Ghosts S) (old last mid end new : Held S) (does : State → State → Type 0) (e : Error) (did : Worked g old last does) (same : mid ≡ end)
     (stops : Survives (state g last) (state g mid) (λ db. db ≡ (state g last).now.trees))
     (fails : HasCleanDisk (state g mid) → FailsToCommit (state g last) (state g mid) e) (asked : Spares g end new) where

@@ -1,4 +1,5 @@
--- The queries that the statements compile to: over one table, with conditions, an order, or a count.
+-- The queries that the statements compile to: over one table, with conditions, an order, or a
+-- count.
 use Rattle.std.specs.Prelude.{ℕ, pos, negsuc, List, [], ◌∷◌, map, take, length, Bool, false, Some, None}
 use Rattle.std.specs.List.{list_all}
 use Rattle.std.specs.declared.cmp.Ordering.{Ordering}

@@ -7,7 +7,8 @@ ghost use Rattle.store_sql.specs.States.{Leaves, Shows};
 
 use sqlite::{Alter, Connection};
 
-/// Outside a transaction a stop leaves exactly the tables that an open connection shows, with their rows.
+/// Outside a transaction a stop leaves exactly the tables that an open connection shows, with their
+/// rows.
 pub fn stop_leaves_what_is_shown<S: Alter>(conn: &Connection<S>)
     ensures { (schema : Schema) (c : Contents) → Shows schema (state S.Store conn.now) c
         → IsTrue (state S.Store conn.now).is_open

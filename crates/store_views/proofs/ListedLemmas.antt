@@ -16,7 +16,8 @@ use Rattle.desk_history.proofs.ListingLemmas.{listed_rows_are_listed, same_entry
 use Rattle.desk_history.proofs.RefusalLemmas.{unrefused}
 use Rattle.desk_history.proofs.RowLemmas.{rows_stand_once}
 
--- own: one more entry after a listing, one less after an unlisting, as many after every other command
+-- own: one more entry after a listing, one less after an unlisting, as many after every other
+-- command
 abbrev pub Changed : Command → ℕ → ℕ → Type 0
 Changed (command.ListCertificate _) before after = after ≡ before + 1
 Changed (command.ListDigest _) before after = after ≡ before + 1

@@ -18,10 +18,11 @@ is_named_person caller command p =
     has_name caller p || list_any (λ name. has_name name p) (people_named command)
     || list_any (λ token. has_token token p) (tokens_named command)
 
--- The view has no row beyond those that the call names: each person is the caller or has a name or a token that the command has,
--- each call has the caller and the key, each request is the one that the command names, each vote is on it, each proposal is the
--- one that the command names, and each row of the lists has a key that the command names, or for a Confirm one that its proposal
--- in the view names.
+-- The view has no row beyond those that the call names: each person is the caller or has a name or
+-- a token that the command has, each call has the caller and the key, each request is the one that
+-- the command names, each vote is on it, each proposal is the one that the command names, and each
+-- row of the lists has a key that the command names, or for a Confirm one that its proposal in the
+-- view names.
 pub record HoldsNoRowBeyond (v : View) (c : Call) : Type 0 where
   pub people : All (λ p. IsTrue (is_named_person (caller_name c.caller) c.command p)) v.people.items
   pub calls : All (λ m. IsTrue (has_key (caller_name c.caller) c.key m)) v.calls.items

@@ -7,7 +7,8 @@ fn put_at(image: &mut Vec<u8>, place: usize, bytes: &[u8]) -> Result<(), AllocEr
     image.extend_from_slice(bytes)
 }
 
-/// The headers of an EFI application for x86-64 with one section of 512 bytes, up to their last byte that isn't zero.
+/// The headers of an EFI application for x86-64 with one section of 512 bytes, up to their last
+/// byte that isn't zero.
 fn put_headers(image: &mut Vec<u8>) -> Result<(), AllocError> {
     put_at(image, 0, b"MZ")?;
     put_at(image, 60, b"\x40")?;

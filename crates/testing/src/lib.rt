@@ -1,4 +1,5 @@
-//! Helpers of the tests: readers and writers that fail at a call, bytes written as text, scripts of calls.
+//! Helpers of the tests: readers and writers that fail at a call, bytes written as text, scripts of
+//! calls.
 #![tactic(auto)]
 
 mod bytes;

@@ -22,7 +22,8 @@ mod making;
 mod migrating;
 mod selects;
 
-/// Two pages are kept in memory, so that each call reads the database file, and the log is copied into it as soon as it has eight.
+/// Two pages are kept in memory, so that each call reads the database file, and the log is copied
+/// into it as soon as it has eight.
 const OPTIONS: Options = Options {
     cache_pages: 2,
     spill_pages: 8,

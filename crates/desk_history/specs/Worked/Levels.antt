@@ -44,7 +44,8 @@ AnswersLevels = answers [] (calls_of steps) ≡ answers_of steps
 abbrev pub KeepsLevels : Type 0
 KeepsLevels = run [] (calls_of steps) ≡ history
 
--- before any call the stamp is that of shim's first level; generations are compared as numbers, not as texts
+-- before any call the stamp is that of shim's first level; generations are compared as numbers, not
+-- as texts
 abbrev pub SaysLevels : Type 0
 SaysLevels =
     (stamp people_added ≡ 2021030218)

@@ -83,7 +83,8 @@ one_shown = record {
   components = 0;
 }
 
--- nothing is revoked by the proposal, and the digest by its confirmation; officers are shown the proposal
+-- nothing is revoked by the proposal, and the digest by its confirmation; officers are shown the
+-- proposal
 abbrev pub ShowsOne : Type 0
 ShowsOne =
     ((tables (codes "owner") after_proposal).revoked_digests ≡ [])

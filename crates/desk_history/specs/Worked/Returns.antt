@@ -130,7 +130,8 @@ BarsReturns =
     (answers reviews.history (calls_of barred) ≡ answers_of barred)
     × (state (run reviews.history (calls_of barred)) 1 ≡ states.Approved)
 
--- an image whose length needs padding, so that a signature of it holds another digest: 17, and padded 18
+-- an image whose length needs padding, so that a signature of it holds another digest: 17, and
+-- padded 18
 abbrev pub unpadded : Facts
 unpadded = image 16 17 18 [] []
 

@@ -57,7 +57,8 @@ abbrev pub items_in : List Record → Result (List Item) ℕ
 items_in [] = Err 0
 items_in (r ∷ rs) = if is_header r then items_from 1 rs else Err 0
 
--- the file's records are all right, and the command names all of their entries, with this stamp or none
+-- the file's records are all right, and the command names all of their entries, with this stamp or
+-- none
 pub record IsCsvImport (text : List ℕ) (stamp : Option ℕ) (command : Command) : Type 0 where
   pub items : List Item
   pub read : items_in (records_of text) ≡ Ok items

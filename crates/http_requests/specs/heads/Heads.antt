@@ -41,8 +41,8 @@ abbrev pub TakesByte : Option (List ℕ) → Option (List ℕ) → Option ℕ �
 TakesByte old new None = IsAtEnd old
 TakesByte old new (Some x) = Consumes old new (x ∷ [])
 
--- the bytes begin with a head of few fields whose spans are these, with no head, or with no head of few fields whatever
--- follows
+-- the bytes begin with a head of few fields whose spans are these, with no head, or with no head of
+-- few fields whatever follows
 abbrev pub Looks : List ℕ → Look → Type 0
 Looks bytes (Whole spans) = IsParsed bytes spans
 Looks bytes Open = HasNoRequest bytes

@@ -18,8 +18,9 @@ owner = 0x33 ∷ 0x22 ∷ 0x11 ∷ 0x00 ∷ 0x55 ∷ 0x44 ∷ 0x77 ∷ 0x66 ∷ 
 abbrev pub certificate : List ℕ
 certificate = 0x30 ∷ 0x03 ∷ 0x02 ∷ 0x01 ∷ 0x01 ∷ []
 
--- after the people were added an image is submitted, approved and signed; an image and a certificate are listed; the first officer
--- proposes to revoke others and to raise the level, and the second confirms two proposals and drops one: the newest call first
+-- after the people were added an image is submitted, approved and signed; an image and a
+-- certificate are listed; the first officer proposes to revoke others and to raise the level, and
+-- the second confirms two proposals and drops one: the newest call first
 abbrev pub history : History
 history =
     item (by (codes "otto") (codes "otto-3") (command.Confirm 3))

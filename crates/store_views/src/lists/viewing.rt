@@ -17,9 +17,10 @@ use std::alloc::Global;
 use std::slice;
 use store_reads::ReadFault;
 
-/// The rows of the lists that an image's facts name: the listed entry of its digest and those of the certificates that
-/// it carries, the revocations of its two digests and of these certificates, and the level's components that it names.
-/// Takes memory for them. Costs one keyed statement for each.
+/// The rows of the lists that an image's facts name: the listed entry of its digest and those of
+/// the certificates that it carries, the revocations of its two digests and of these certificates,
+/// and the level's components that it names. Takes memory for them. Costs one keyed statement for
+/// each.
 pub fn list_view<S: Alter>(
     alloc: Global,
     tx: &mut Transaction<'_, S>,

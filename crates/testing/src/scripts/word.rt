@@ -87,7 +87,8 @@ impl<'a> Words<'a> {
         Some(components)
     }
 
-    /// An image's facts: its digest, the digest that a signature of it holds, its certificates and its components.
+    /// An image's facts: its digest, the digest that a signature of it holds, its certificates and
+    /// its components.
     pub fn facts(&mut self) -> Option<Facts> {
         let plain = self.digest()?;
         let signing = self.digest()?;

@@ -104,7 +104,8 @@ fn takes_reads(alloc: Global, words: &str, reads: u64) -> Result<bool, Fail> {
     Ok(is_hashed && is_refused && enough.left == 0 && enough.failures == 0 && fewer.failures == 1)
 }
 
-/// Two pieces; and three of a file whose last range is read again, from 41024 on, which are three more.
+/// Two pieces; and three of a file whose last range is read again, from 41024 on, which are three
+/// more.
 #[test]
 fn hashes_an_image_by_one_read_of_a_piece(rt: HostRuntime) -> Result<(), Fail> {
     assert!(rt; takes_reads(rt.alloc(), "66560 ^", 2)?);

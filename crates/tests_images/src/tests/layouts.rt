@@ -61,8 +61,8 @@ fn prints_the_ranges_of_an_image(rt: HostRuntime) -> Result<(), Fail> {
     check(&rt, rt.alloc(), Call::Ranges, RANGES)
 }
 
-/// The table and the text of `.sbat`: another name, with a VirtualSize, without one, with one past the
-/// section; both of the greatest size.
+/// The table and the text of `.sbat`: another name, with a VirtualSize, without one, with one past
+/// the section; both of the greatest size.
 const PARTS: &str = "\
 1024 + = no table, no text
 1024 + 232:00040000 = no table, no text

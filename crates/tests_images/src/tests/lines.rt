@@ -92,8 +92,8 @@ fn prints_a_beginning_of_the_facts_before_a_failed_write(rt: HostRuntime) -> Res
     Ok(())
 }
 
-/// An X509 list; a SHA256 list of one digest, an X509_SHA256 list of one certificate and a list of another type; the same
-/// without their last byte; and the last one so.
+/// An X509 list; a SHA256 list of one digest, an X509_SHA256 list of one certificate and a list of
+/// another type; the same without their last byte; and the last one so.
 const LISTS: &str = " = nothing
 a159c0a5e494a74a87b5ab155c2bf072310000000000000015000000\
 33221100554477668899aabbccddeeff0102030405 = 0 x509 1;

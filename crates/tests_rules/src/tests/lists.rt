@@ -101,7 +101,8 @@ fn reads_lists_by_their_sizes(rt: HostRuntime) -> Result<(), Fail> {
     check(&rt, rt.alloc(), Call::Lists, LISTS)
 }
 
-/// A SHA256 list of one digest, an X509_SHA256 list with a time, and a list of another type: 216 bytes.
+/// A SHA256 list of one digest, an X509_SHA256 list with a time, and a list of another type: 216
+/// bytes.
 const THREE: &str = "\
 2616c4c14c509240aca941f9369343284c0000000000000030000000\
 33221100554477668899aabbccddeeff\

@@ -53,7 +53,8 @@ fn submission(alloc: Global) -> Result<Command, Fail> {
     Ok(Command::Submit(Submission { title, facts }))
 }
 
-/// The length of its text: the word and two numbers, three digests, 64 digests, 256 components, the title.
+/// The length of its text: the word and two numbers, three digests, 64 digests, 256 components, the
+/// title.
 const LENGTH: usize = 14 + 3 * 65 + 64 * 65 + 256 * 131 + 120;
 
 /// The text of a copy of a command.

@@ -201,7 +201,8 @@ fn played<'a, D: Disk + Drop>(
     Some((wanted, conn.close_files().ok()?))
 }
 
-/// The database file after the call of a line, which is stopped at each call of the log and then at each of the database file.
+/// The database file after the call of a line, which is stopped at each call of the log and then at
+/// each of the database file.
 fn outlived<D: Stopping>(alloc: Global, bytes: &[u8], line: &str) -> Option<Vec<u8>> {
     let whole: Files<D> = files(alloc, bytes, NEVER)?;
     let (wanted, left) = played(alloc, whole, line)?;

@@ -1,4 +1,5 @@
-//! A series of lives of one desk that cross the change of version: openings of version 1 that are stopped, and lives of version 2.
+//! A series of lives of one desk that cross the change of version: openings of version 1 that are
+//! stopped, and lives of version 2.
 use super::asking::bars;
 use super::disks::{
     Goal, NEVER, Stopping, Stops, Which, bytes_of, calls_to, crashed, files, files_of, reopened,

@@ -213,8 +213,8 @@ fn reaches<D: Disk + Drop>(alloc: Global, files: Files<D>, goal: Goal<'_>) -> Op
     }
 }
 
-/// The least number of calls with which the database file with these bytes reaches the goal: of the 65,536 from 0 on by halves, since
-/// it is reached with more.
+/// The least number of calls with which the database file with these bytes reaches the goal: of the
+/// 65,536 from 0 on by halves, since it is reached with more.
 pub(super) fn calls_to<D: Stopping>(
     alloc: Global,
     bytes: &[u8],

@@ -1,4 +1,5 @@
-//! A file of version 1, of a desk of one officer, made in SQL: six people, and an import of 300 digests.
+//! A file of version 1, of a desk of one officer, made in SQL: six people, and an import of 300
+//! digests.
 use super::asking::parted;
 use super::disks::{NEVER, Stopping, bytes_of, connected, files};
 use super::selects::execute;
@@ -50,8 +51,8 @@ const MINUTES: &str = "\
 6|console|p6|add-person olga officer 0606060606060606060606060606060606060606060606060606060606060606|added olga
 7|olga|o1|import 0 0 <,> - -|imported 300 0 0 0";
 
-/// The dbx of that desk begins so: an SHA256 list of 14,428 bytes without a header, with entries of 48 bytes (UEFI 2.10, section
-/// 32.4.1).
+/// The dbx of that desk begins so: an SHA256 list of 14,428 bytes without a header, with entries of
+/// 48 bytes (UEFI 2.10, section 32.4.1).
 const DBX: &[u8] =
     b"\x26\x16\xc4\xc1\x4c\x50\x92\x40\xac\xa9\x41\xf9\x36\x93\x43\x28\x5c\x38\0\0\0\0\0\0\x30\0\0\0";
 

@@ -104,7 +104,8 @@ fn goes_on<S: Alter + Drop>(
     )
 }
 
-/// The files after a life over these files. The desk that is opened after it bars the image and gives both calls their answers.
+/// The files after a life over these files. The desk that is opened after it bars the image and
+/// gives both calls their answers.
 fn after<D: Crash + Drop>(
     alloc: Global,
     files: Files<D>,

@@ -39,7 +39,8 @@ fn loses<D: Answering>(alloc: Global, desk: &mut D, request: &str) -> Option<boo
     Some(served == Err(HttpFault::Write) && writer.is_accepted)
 }
 
-/// The desk once it was sent the request, and whether its call is accepted and the response is lost.
+/// The desk once it was sent the request, and whether its call is accepted and the response is
+/// lost.
 fn lost<S: Alter + Drop>(alloc: Global, desk: Desk<S>, request: &str) -> Option<(Desk<S>, bool)> {
     let mut served = OpenDesk::new(desk);
     let is_lost = loses(alloc, &mut served, request)?;

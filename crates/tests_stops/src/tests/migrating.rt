@@ -1,4 +1,5 @@
-//! The file of version 1, opened by a desk: its first opening and the next, files that are refused, and stops within the opening.
+//! The file of version 1, opened by a desk: its first opening and the next, files that are refused,
+//! and stops within the opening.
 use super::asking::{does_each, exports};
 use super::disks::{
     Goal, NEVER, Stopping, Stops, Which, bytes_of, calls_to, connected, crashed, files, files_of,
@@ -32,7 +33,8 @@ CREATE VIEW proposalS AS SELECT no FROM calls : NotADesk";
 /// The version of the file.
 const AS_FIRST: &str = "1\n";
 
-/// The same after its migration, and the rows of the tables that it adds: seven calls were accepted before.
+/// The same after its migration, and the rows of the tables that it adds: seven calls were accepted
+/// before.
 const AS_SECOND: &str = "2\n\n\n1 7\n";
 
 /// The file, its desk's exports, and the rows of its tables.

@@ -1,5 +1,5 @@
-//! Questions to a desk, read from lines, and its answers in words. Each function makes one call of the desk: a proof that carries
-//! the contracts of several takes minutes.
+//! Questions to a desk, read from lines, and its answers in words. Each function makes one call of
+//! the desk: a proof that carries the contracts of several takes minutes.
 use super::exporting::exported;
 use super::line::Line;
 use super::telling::{
@@ -172,7 +172,8 @@ fn counted<S: Alter + Drop>(alloc: Global, desk: &mut Desk<S>, line: &mut Line) 
     }
 }
 
-/// A call of this name with the key of this number, which proposes to revoke the digest of this byte.
+/// A call of this name with the key of this number, which proposes to revoke the digest of this
+/// byte.
 pub(super) fn revocation(
     alloc: Global,
     who: &str,

@@ -54,7 +54,8 @@ fn fault<S: Alter + Drop>(
     }
 }
 
-/// Writes dbx into writers that fail at each of their calls in turn, and into the first that doesn't.
+/// Writes dbx into writers that fail at each of their calls in turn, and into the first that
+/// doesn't.
 fn put_faults<S: Alter + Drop>(
     alloc: Global,
     desk: &mut Desk<S>,

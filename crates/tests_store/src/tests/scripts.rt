@@ -452,7 +452,8 @@ export ends : 14428 26 16 c4 c1 4c 50 92 40 ac a9 41 f9 36 93 43 28 5c 38 00*6 3
 export faults : whole after each fault
 olga o2 revoke 5 : proposed 2";
 
-/// 10,000 digests in one import, a certificate of 65,536 bytes, and an image with 64 certificates and 256 components.
+/// 10,000 digests in one import, a certificate of 65,536 bytes, and an image with 64 certificates
+/// and 256 components.
 pub(super) const LARGEST: &str = "\
 console p1 add olga officer 1 : added olga
 console p2 add otto officer 2 : added otto

@@ -1,4 +1,5 @@
-//! A day of requests over HTTP, on a desk in a store in memory. Each function makes one call of the desk.
+//! A day of requests over HTTP, on a desk in a store in memory. Each function makes one call of the
+//! desk.
 use super::founding::make;
 use super::*;
 use desk_answers::OpenDesk;

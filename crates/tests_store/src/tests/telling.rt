@@ -143,7 +143,8 @@ pub(super) fn put_requests(line: &mut Line, requests: &[ShownRequest]) -> Result
     Ok(())
 }
 
-/// A proposal as it is shown: number, officer and state, and how many digests, certificates and components it names.
+/// A proposal as it is shown: number, officer and state, and how many digests, certificates and
+/// components it names.
 fn put_proposal(line: &mut Line, proposal: &Proposal) -> Result<(), AllocError> {
     line.number(proposal.number.value())?;
     line.put(proposal.officer.as_str())?;

@@ -133,7 +133,8 @@ impl Accepted {
         false
     }
 
-    /// Puts a call with its answer, unless it was refused or is there. A refusal's name begins with a capital letter.
+    /// Puts a call with its answer, unless it was refused or is there. A refusal's name begins with
+    /// a capital letter.
     fn put(&mut self, alloc: Global, call: &str, answer: &str) -> Option<()> {
         if let Some(b'A'..=b'Z') = answer.as_bytes().first() {
             return Some(());
@@ -196,7 +197,8 @@ fn kept<D: Empty>(
     }
 }
 
-/// The desk after the call of this number, if it answers it. It is closed and opened again after each hundredth.
+/// The desk after the call of this number, if it answers it. It is closed and opened again after
+/// each hundredth.
 fn after<D: Empty>(
     alloc: Global,
     desk: Desk<FileStore<D>>,

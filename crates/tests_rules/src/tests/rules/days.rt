@@ -90,8 +90,9 @@ fn play(rt: &impl Abort, alloc: Global, script: &str) -> Result<(), Fail> {
     Ok(())
 }
 
-/// A desk with a submitter, three reviewers, a signer and two officers takes requests, reviews, returns, listings and
-/// revocations. The certificate is 204; 160 is an image whose length needs no padding, 162 one whose padded form is 163.
+/// A desk with a submitter, three reviewers, a signer and two officers takes requests, reviews,
+/// returns, listings and revocations. The certificate is 204; 160 is an image whose length needs no
+/// padding, 162 one whose padded form is 163.
 const REQUESTS: &str = "\
 console p1 add ann submitter 1 : added ann
 console p2 add rita reviewer 2 : added rita

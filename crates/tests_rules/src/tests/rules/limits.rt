@@ -4,8 +4,8 @@ use super::days::tell_decision;
 use super::tables::{NONE, new_tables, write_all};
 use super::*;
 
-/// Calls, each on a desk whose tables have these sizes: how many tables are named, the name and the size of each, and the
-/// call with its answer, as `WHO KEY VERB .. : ANSWER`.
+/// Calls, each on a desk whose tables have these sizes: how many tables are named, the name and the
+/// size of each, and the call with its answer, as `WHO KEY VERB .. : ANSWER`.
 const CALLS: &str = "\
 1 people 999 console k add a signer 2 : added a
 1 people 1000 console k add a signer 2 : Full
