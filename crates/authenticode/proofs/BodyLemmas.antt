@@ -51,7 +51,7 @@ set-each b row (inl (rest, h)) =
     rw (front, tagged-each first_own row rest b h) refl
 set-each b row (inr (none, is)) = rw (none, is) refl
 
--- what is read of a body stands in it
+-- a row that is found in a body is one that the body holds
 pub certificates-found : (body row : List ℕ) → certificates_of body ≡ Some row → HoldsCertificates body row
 unfolding certificates_of
 certificates-found body row h =
@@ -89,7 +89,7 @@ certificates-found body row h =
       };
     }
 
--- what stands in a body is read of it
+-- the row that a body holds is found in it
 pub certificates-each : (body row : List ℕ) → HoldsCertificates body row → certificates_of body ≡ Some row
 unfolding certificates_of
 certificates-each body row h =

@@ -34,7 +34,7 @@ block_fed file out block from at size read wide after fits =
 
 -- ---- ranges
 
--- the hasher holds what stands before the ranges that are left, of a message that ends with these
+-- the hasher holds the bytes before the ranges that are left, of a message that ends with these
 pub record Feeds (hasher : Sha256) (f : List ℕ) (left : List Span) (message : List ℕ) : Type 0 where
   pub fed : List ℕ
   pub held : Holds256 hasher fed
@@ -54,7 +54,7 @@ told : {X : Type 0} (b : Bool) (x : X) → is_some (cond b (Some x) None) ≡ b
 told true x = refl
 told false x = refl
 
--- a layout tells whether there is a table
+-- a layout has a table exactly if its file has one
 pub has_table-told : (f : List ℕ) (p : Places) (table : Option Span) (none : Bool) → p ≡ places_of f → table ≡ p.table
     → is_some table ≡ not none → has_table f ≡ not none
 unfolding places_of

@@ -42,7 +42,7 @@ Collects-more Step b left next old mid new c s = record {
 
 -- ---- where a walk ends
 
--- a step is told by the bytes where it begins
+-- the bytes where a step begins determine it
 pub record IsDetermined (Step : Stepping) : Type 0 where
   pub own : (b c d : List ℕ) (xs ys : List (List ℕ)) → Step b xs c → Step b ys d → xs ≡ ys
   pub next : (b c d : List ℕ) (xs ys : List (List ℕ)) → Step b xs c → Step b ys d → c ≡ d

@@ -1,4 +1,4 @@
--- What a pass over a file meets of spans that stand in order.
+-- The bytes that a pass over a file meets of spans in order.
 use Rattle.std.proofs.Common.{◌≡◌, ◌+◌, ◌-◌, ◌<◌, ◌≤◌, ◌++◌, ℕ, List, [], ◌∷◌, length, take, drop, max, min, slice_range, refl, sym, ap, ◌∙◌, append_assoc, append-nil, subst, inl, inr, arith}
 use Rattle.std.proofs.lemmas.Bool.{cases_lt}
 use Rattle.std.proofs.lemmas.List.{drop-drop, drop-take, take-take}
@@ -14,7 +14,7 @@ use Rattle.authenticode.specs.Hashing.{bytes_between}
 empty-slice : (f : List ℕ) (i j : ℕ) → j ≤ i → slice_range f i j ≡ []
 empty-slice f i j h = let none : j - i ≡ 0 = omega arith in ap (λ n. take n (drop i f)) none
 
--- nothing stands before a chain begins
+-- a chain has no bytes before its beginning
 pub between-before : (f : List ℕ) (z from to : ℕ) (ss : List Span) → IsChain z ss → to ≤ z → bytes_between f from to ss ≡ []
 between-before f z from to [] chain low = refl
 between-before f z from to (s ∷ ss) chain low =
@@ -33,7 +33,7 @@ between-from f z from to (s ∷ ss) chain low =
     ap (λ i. slice_range f i (min s.to to) ++ bytes_between f from to ss) same
     ∙ ap (λ l. slice_range f (max s.from 0) (min s.to to) ++ l) (between-from f s.to from to ss chain.2 (omega arith))
 
--- of a span that ends before a place all stands before it
+-- all bytes of a span that ends before a place are before that place
 span-before : (f : List ℕ) (s : Span) (at to : ℕ) → s.to ≤ at → at ≤ to
     → slice_range f (max s.from 0) (min s.to to) ≡ slice_range f (max s.from 0) (min s.to at) ++ slice_range f (max s.from at) (min s.to to)
 span-before f s at to low le =
@@ -41,7 +41,7 @@ span-before f s at to low le =
     let none = empty-slice f (max s.from at) (min s.to to) (omega arith) in
     ap (slice_range f (max s.from 0)) same ∙ sym (append-nil _) ∙ ap (λ l. slice_range f (max s.from 0) (min s.to at) ++ l) (sym none)
 
--- a span is what stands of it before a place, and after
+-- a span is its bytes before a place, and then those after it
 span-cut : (f : List ℕ) (s : Span) (at to : ℕ) → s.from < s.to → at < s.to → at ≤ to → to ≤ length f
     → slice_range f (max s.from 0) (min s.to to) ≡ slice_range f (max s.from 0) (min s.to at) ++ slice_range f (max s.from at) (min s.to to)
 span-cut f s at to wide high le fits = elim (cases_lt s.from at) [
@@ -59,7 +59,7 @@ span-cut f s at to wide high le fits = elim (cases_lt s.from at) [
       ap (λ i. slice_range f i (min s.to to)) (sym right) ∙ ap (λ l. l ++ slice_range f (max s.from at) (min s.to to)) (sym none)
 ]
 
--- what one more piece has of a chain stands after what was met before
+-- the bytes that one more piece has of a chain come after those that were met before
 pub between-next : (f : List ℕ) (z at to : ℕ) (ss : List Span) → IsChain z ss → at ≤ to → to ≤ length f
     → bytes_between f 0 to ss ≡ bytes_between f 0 at ss ++ bytes_between f at to ss
 between-next f z at to [] chain le fits = refl

@@ -1,4 +1,4 @@
--- A refusal of the desk and the fault that tells it: its row of the table, without a place.
+-- The fault for a refusal of the desk: its row of the table, without a place.
 use Rattle.std.proofs.Common.{◌≡◌, ◌∙◌, Result, Err, sym, ap}
 use Rattle.desk_bytes.specs.declared.refusal.Refusal.{Refusal}
 use Rattle.desk_bytes.specs.declared.refusal.Refusal.TheVariants as refusals
@@ -6,19 +6,19 @@ use Rattle.cli_lines.specs.Faults.{row_of}
 use Rattle.cli_lines.specs.declared.fault.Fault.{Fault}
 
 module _ {T U : Type 0} (fault : Fault) (refusal : Refusal) (is : fault ≡ row_of refusal) where
-  -- Reopen is told as Reopen
+  -- the fault for Reopen is that of Reopen
   pub reopen_told : ◌≡◌ {A = Result T Refusal} (Err refusal) (Err refusals.Reopen) → ◌≡◌ {A = Result U Fault} (Err fault) (Err (row_of refusals.Reopen))
   reopen_told given =
       let same : refusal ≡ refusals.Reopen = cc in
       ap Err (is ∙ ap row_of same)
 
-  -- Store is told of Store alone
+  -- only Store has the fault of Store
   pub store_given : ◌≡◌ {A = Result U Fault} (Err fault) (Err (row_of refusals.Store)) → ◌≡◌ {A = Result T Refusal} (Err refusal) (Err refusals.Store)
   store_given told =
       let row : fault ≡ row_of refusals.Store = cc in
       ap Err (ap (λ (f : Fault). f.refusal) (sym is ∙ row))
 
-  -- Store is told as Store
+  -- the fault for Store is that of Store
   pub store_told : ◌≡◌ {A = Result T Refusal} (Err refusal) (Err refusals.Store) → ◌≡◌ {A = Result U Fault} (Err fault) (Err (row_of refusals.Store))
   store_told given =
       let same : refusal ≡ refusals.Store = cc in

@@ -1,4 +1,4 @@
--- What a close that fails is told as, and when a desk is let go.
+-- The refusal for a close that fails, and when a desk is closed.
 use Rattle.std.proofs.Common.{◌≡◌, ◌∙◌, Bool, true, false, Option, None, Result, Ok, Err, refl, sym, inl, inr}
 use Rattle.std.specs.Prelude.{IfErr}
 use Rattle.desk_bytes.specs.declared.refusal.Refusal.{Refusal}
@@ -17,7 +17,7 @@ pub closing_refusal : (needs_reopening : Bool) (refusal : Refusal)
 closing_refusal true refusal closed named = inr (closed refl)
 closing_refusal false refusal closed named = inl (named refl)
 
--- nothing is told of a close
+-- no close, so no fault of one
 pub nothing_told : (work : Result Outcome Fault)
     → IfErr work (λ fault. IsLasting fault.refusal → ◌≡◌ {A = Option Fault} None None)
 nothing_told (Ok outcome) = tt

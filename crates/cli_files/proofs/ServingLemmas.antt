@@ -1,4 +1,4 @@
--- What stops a subcommand at an open desk isn't what its opening is refused for.
+-- Refusals that stop a subcommand at an open desk: none of them is an opening's.
 use Rattle.std.proofs.Common.{◌≡◌, ◌∙◌, ◌⊎◌, IsTrue, Result, Ok, Err, false, sym, subst, inl, inr}
 use Rattle.std.specs.Prelude.{IfErr}
 use Rattle.desk_bytes.specs.declared.refusal.Refusal.{Refusal}

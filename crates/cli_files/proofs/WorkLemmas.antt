@@ -1,4 +1,4 @@
--- What a subcommand came to, of the desk that its work left and was closed.
+-- The outcome of a subcommand, by the desk that its work left and that was closed.
 use Rattle.std.proofs.Common.{◌≡◌, ◌≢◌, Option, ℕ, List, Result, Ok, Err, subst, sym}
 use Rattle.std.specs.Prelude.{IfOk, OnErr, OnOk}
 use Rattle.std.specs.Io.KnownBytes.{Appends}
@@ -28,7 +28,7 @@ use Rattle.cli_commands.specs.Works.{outcome_of}
 use Rattle.cli_commands.specs.declared.ending.Ending.{Ending}
 use Rattle.cli_commands.specs.declared.ending.Outcome.{Outcome}
 
--- what is told of the verdict on these facts is told of the image that has them
+-- a verdict on these facts is one on the image that has them
 pub judged : {S : Type 0} (g : store.Ghosts S) (old new : Desk S) (before after : Option (List ℕ)) (work : Result Outcome Fault)
     (found : Facts) → ((image : List ℕ) × IsFactsOf image found)
     → IfOk work (λ outcome. (said : Verdict) × (outcome ≡ outcome_of said) × Appends before after (verdict_line said found)
@@ -38,7 +38,7 @@ judged g old new before after (Err fault) found of told = tt
 judged g old new before after (Ok outcome) found of told =
     record { image = of.0; found = found; facts = of.1; said = told.0; exact = told.3; line = told.2; told = told.1 }
 
--- a desk that was made is told where the work is done
+-- once the work is done, a desk was made
 pub made_desk : {D : Type 0} {g : Ghosts D} (owner : List ℕ) (ending : Ending) (desk : Desk (FileStore D g))
     → IsMade g owner desk → Ends g desk ending → OnOk ending.work (MakesDesk g owner ending)
 made_desk {D} {g} owner ending desk made ended = done ending.work
@@ -48,7 +48,7 @@ made_desk {D} {g} owner ending desk made ended = done ending.work
     done (Err fault) = tt
 
 module _ {D : Type 0} (g : Ghosts D) (desk left : Desk (FileStore D g)) (ending : Ending) (work : Result Outcome Fault) (is : ending.work ≡ work) where
-  -- what is told of the work is told of the end
+  -- the result of the work is that of the ending
   pub reads : (told : Result Outcome Fault → Desk (FileStore D g) → Type 0)
       → (HasCleanDisk (file_state left.conn) → work ≢ Err (row_of refusals.Store) → KeepsDesk over_files desk left)
       → SparesDesk over_files desk left → told work left → Ends g left ending → Reads g desk ending (told ending.work)

@@ -1,4 +1,4 @@
--- How a subcommand gains its words.
+-- The shape of a subcommand with one word more.
 use Rattle.std.proofs.Common.{◌≡◌, ◌∙◌, ℕ, ◌+◌, ◌<◌, zero, suc, List, [], ◌∷◌, ◌++◌, map, take, ap, arith}
 use Rattle.clap.specs.Words.{App, Rule, Shape, Text, with_rule}
 use Rattle.cli_grammar.specs.Commands.{id_of, ids, subcommand_shape, word_rule}
@@ -12,7 +12,7 @@ rules_more (suc (suc zero)) id lt is = ap (λ i. map word_rule (take 2 ids) ++ w
 rules_more (suc (suc (suc zero))) id lt is = ap (λ i. map word_rule (take 3 ids) ++ word_rule i ∷ []) is
 rules_more (suc (suc (suc (suc k)))) id lt is = absurd (omega arith)
 
--- a subcommand of so many words, with one word more
+-- a subcommand with `place` words, and with one word more
 pub shape_more : (old new : App) (name : Text) (place : ℕ) (id : Text) (rule : Rule) → place < 4
     → old.top ≡ subcommand_shape name place → id ≡ id_of place → rule ≡ word_rule id
     → new ≡ with_rule old rule → new.top ≡ subcommand_shape name (place + 1)

@@ -13,7 +13,7 @@ AppendsBeginning-either (Ok x) a b xs h k =
     record { count = length xs; written = subst (Appends a b) (sym (take_all (length xs) xs (omega arith))) h }
 AppendsBeginning-either (Err e) a b xs h k = k
 
--- the same of bytes that are equal
+-- equal bytes are appended alike
 pub Appends-same : (a b : Option (List ℕ)) (xs ys : List ℕ) → xs ≡ ys → Appends a b xs → Appends a b ys
 Appends-same a b xs ys e h = subst (Appends a b) e h
 

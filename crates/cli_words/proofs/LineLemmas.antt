@@ -1,4 +1,4 @@
--- What `words` finds in the lines of the program.
+-- The line that `words` finds in the program's words.
 use Rattle.std.proofs.Common.{◌≡◌, ◌∙◌, true, List, [], Option, Some, None, codes, length, refl, sym, subst, ap, ap₂, inl, inr}
 use Rattle.std.specs.Prelude.{option_and_then, option_map, unwrap_or, Result}
 use Rattle.std.specs.List.{All}
@@ -83,7 +83,7 @@ line_read line words spells =
     ∙ ap (λ (rows : List Row). Some (subcommand_name line, rows)) (takes_words line spells.plain).rows)
     ∙ reads_back line
 
--- what is found is what the matches say
+-- the line that is found is the one in the matches
 pub line_met : (app : App) (words : List Text) (m : ArgMatches) → app ≡ desk_app → HasMatchesOf app words m
     → option_and_then line_in (subcommand_rows_of m) ≡ line_found words
 line_met app words m is matches =
@@ -105,7 +105,7 @@ pub line_kept : (line : Line) (o : Option Words) (r : Result Words WordsFault) �
 line_kept line None r is said = cc
 line_kept line (Some w) r is said = rw is (ap (λ (o : Option Line). unwrap_or o line) said)
 
--- a fault other than want of memory is among those that are found
+-- a fault other than refused memory is among those that are found
 pub fault_among : (app : App) (words : List Text) (e : Error) → app ≡ desk_app → (kind_of e ≡ OutOfMemory → ⊥)
     → (is_simple_and_free app ≡ true → HasKind (fault_of app words) e) → IsAmong (kind_of e) (fault_of desk_app words)
 fault_among app words e is enough known = elim (known (ap is_simple_and_free is)) [

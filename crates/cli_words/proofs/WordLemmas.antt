@@ -1,4 +1,4 @@
--- What `clap` makes of the name of a subcommand and of plain words after it.
+-- The matches that `clap` gives for the name of a subcommand and plain words after it.
 use Rattle.std.proofs.Common.{◌≡◌, ◌≢◌, ◌∙◌, ℕ, Bool, true, false, ◌+◌, List, [], ◌∷◌, ◌++◌, Option, Some, None, length, fold, refl, sym, ap, arith}
 use Rattle.std.specs.Prelude.{◌&&◌, ◌==◌, is_some, find, option_map}
 use Rattle.std.specs.List.{All, list_all}
@@ -88,8 +88,7 @@ takes_one name first plain = record {
   rows = rw (walked_plain (leaf name 1).rules (positional 0) nothing_held 1 first (plain 0 [] (omega arith)) refl) refl;
 }
 
--- what is held of the word at a place of a subcommand of so many words, with what was held before
--- it
+-- the words held before the word at a place of a subcommand of `count` words, and this one
 abbrev held_with : ℕ → ℕ → Held → Text → Held
 held_with count place h word =
     (to_positional (leaf [] count).rules (Some (positional place)) word (at_position (place + 1) h) h).held

@@ -1,4 +1,4 @@
--- What a desk in a store gives, in the words of calls.
+-- The answers of a desk in a store, in the words of calls.
 use Rattle.std.proofs.Common.{◌≡◌, ◌≢◌, ◌⊎◌, ◌∙◌, inl, inr, ℕ, List, [], ◌∷◌, Bool, true, false, cond, filter, find, Option, Some, None, Result, Ok, Err, refl, sym, ap}
 use Rattle.std.specs.Prelude.{IfErr, IfOk}
 use Rattle.sqlite.specs.Store as store
@@ -20,7 +20,7 @@ use Rattle.desk_calls.specs.Desks.{IsOutage, IsReadingRefusal, person_with}
 
 -- ---- refusals
 
--- what is refused to those who ask for requests
+-- the refusals of a request to read requests
 reading : (r : Refusal) → showing.IsReadingRefusal r → IsReadingRefusal r
 reading r (inl role) = inl role
 reading r (inr (inl (inl caller))) = inr (inl caller)
@@ -28,18 +28,18 @@ reading r (inr (inl (inr request))) = inr (inr (inl request))
 reading r (inr (inr (inl memory))) = inr (inr (inr (inl memory)))
 reading r (inr (inr (inr failed))) = inr (inr (inr (inr (inl failed))))
 
--- the same of a desk that may need to be opened again
+-- the refusals by a desk that may need to be opened again
 pub reading_refused : (closed : Bool) (r : Refusal) → (closed ≡ false → showing.IsReadingRefusal r) → (closed ≡ true → r ≡ refusals.Reopen) → IsReadingRefusal r
 reading_refused true r named reopen = inr (inr (inr (inr (inr (reopen refl)))))
 reading_refused false r named reopen = reading r (named refl)
 
--- and of what it gave
+-- and in its result
 pub reading_named : {X : Type 0} (closed : Bool) (given : Result X Refusal)
     → (closed ≡ false → IfErr given showing.IsReadingRefusal) → (closed ≡ true → given ≡ Err refusals.Reopen) → IfErr given IsReadingRefusal
 reading_named closed (Ok x) named reopen = tt
 reading_named closed (Err r) named reopen = reading_refused closed r named (λ is. let h : Err r ≡ Err refusals.Reopen = reopen is in cc)
 
--- a failure of an export into memory, which `made` tells
+-- a failure of an export into memory, which `made` names
 module _ (r made : Refusal) (write : r ≡ refusals.Write → made ≡ refusals.NoMemory) (other : r ≢ refusals.Write → made ≡ r) where
   kept_as : (x : Refusal) → r ≡ x → x ≢ refusals.Write → made ≡ x
   kept_as x is differs = other (λ e. differs (sym is ∙ e)) ∙ is

@@ -1,4 +1,4 @@
--- What a digest's text is.
+-- The text of a digest.
 use Rattle.std.proofs.Common.{◌≡◌, ℕ, eqb, cond, Bool, true, false, List, length, Option, Some, None, refl, ap, arith}
 use Rattle.std.specs.Result.{result_ok}
 use Rattle.std.proofs.lemmas.Bool.Decides.{nat_tests}

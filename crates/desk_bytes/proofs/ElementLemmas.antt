@@ -116,7 +116,7 @@ cut_again : (tag k n : ℕ) (after c w x : List ℕ) → k + n ≤ length after 
 cut_again tag k n after c w x room content whole rest =
     let t : ltb (length after) (k + n) ≡ false = grind (arith, nat_tests, room) in rw (t, content, whole, rest) refl
 
--- an element that stands is read
+-- an element at the front is read
 pub element_of-again : (tag : ℕ) (c w x : List ℕ) → IsElement tag c w → element_of (w ++ x) ≡ Some (record { tag = tag; content = c; whole = w; rest = x })
 unfolding element_of
 element_of-again tag c w x h =
@@ -135,7 +135,7 @@ element_of-again tag c w x h =
     let at : element_of (tag ∷ after) ≡ Some (record { tag = tag; content = c; whole = tag ∷ (f ++ c); rest = x }) = rw (low, form, cut) refl in
     ap (λ v. element_of (v ++ x)) h.is ∙ at ∙ ap (λ v. Some (record { tag = tag; content = c; whole = v; rest = x })) (sym h.is)
 
--- no element stands where none is read
+-- there is no element where none is read
 pub element_of-none : (b : List ℕ) → element_of b ≡ None → (tag : ℕ) (c w x : List ℕ) → IsElement tag c w → b ≡ w ++ x → ⊥
 element_of-none b h tag c w x e is = let again = ap element_of is ∙ element_of-again tag c w x e in cc
 

@@ -1,4 +1,4 @@
--- What lines name, one after another.
+-- The digests that lines name, one after another.
 use Rattle.std.proofs.Common.{◌≡◌, ℕ, List, [], ◌∷◌, ◌++◌, Result, Ok, Err, refl, sym, ap, append_assoc}
 use Rattle.desk_bytes.specs.Lines.{put_first}
 

@@ -22,7 +22,7 @@ Contains-head x xs = (0, omega arith, refl)
 Contains-later : {X : Type 0} (x d : X) (xs : List X) → Contains xs d → Contains (x ∷ xs) d
 Contains-later x d xs h = let below = h.1 in (suc h.0, omega arith, h.2)
 
--- an element is the first, or stands after it
+-- an element is the first, or comes after it
 Contains-cases : {X : Type 0} (x d : X) (xs : List X) → Contains (x ∷ xs) d → (x ≡ d) ⊎ Contains xs d
 Contains-cases x d xs (zero, below, is) = inl is
 Contains-cases x d xs (suc k, below, is) = inr (k, omega arith, is)
@@ -53,7 +53,7 @@ first_same {R = R} o x y xs ys up above has_x has_y = elim (Contains-cases y x y
   ]
 ]
 
--- what stands after the first stands after it in the other list too
+-- an element after the first comes after it in the other list too
 later_too : {X : Type 0} {R : X → X → Ordering} → IsTotalOrder R → (x y d : X) (xs ys : List X) → x ≡ y
     → IsStrictlySortedBy R (x ∷ xs) → Contains (y ∷ ys) d → Contains xs d → Contains ys d
 unfolding IsStrictlySortedBy

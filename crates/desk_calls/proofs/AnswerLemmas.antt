@@ -1,4 +1,4 @@
--- From what a desk gives to what is answered.
+-- From the result of a desk to the answer.
 use Rattle.std.proofs.Common.{◌≡◌, ◌≢◌, ◌∙◌, inl, inr, ℕ, List, [], Some, None, Result, Ok, Err, refl, sym, ap, subst}
 use Rattle.desk_bytes.specs.declared.refusal.Refusal.{Refusal}
 use Rattle.desk_bytes.specs.declared.refusal.Refusal.TheVariants as refusals
@@ -27,7 +27,7 @@ told_memory r x is e = let h : Some (refused.Unavailable outage.NoMemory) ≡ So
 told_store : (r : Refusal) (x : Refused) → refused_of r ≡ Some x → r ≡ refusals.Store → x ≡ refused.Unavailable outage.Store
 told_store r x is e = let h : Some (refused.Unavailable outage.Store) ≡ Some x = subst (λ y. refused_of y ≡ Some x) e is in cc
 
--- an outage of a desk that was usable is want of memory or a failed store
+-- an outage of a desk that was usable is refused memory or a failed store
 pub no_third : (r : Refusal) → IsOutage r → r ≢ refusals.Reopen → r ≢ refusals.NoMemory → r ≢ refusals.Store → ⊥
 no_third r (inl e) no_reopen no_memory no_store = no_memory e
 no_third r (inr (inl e)) no_reopen no_memory no_store = no_store e
@@ -44,13 +44,13 @@ serves_refusal after failed cs due r x is same fails told = elim (apart r) [
   | inr (inr others) ↦ inl (cs, told others.0 others.1 (record { refused = x; told = placeless r x is; is = refl }), same others.1)
 ]
 
--- what the rules reply is told
+-- the reply of the rules is the answer
 pub ruled_reply : (said : ruling.Answer) (reply : Reply) → runs.reply_in said ≡ Some reply → IsRuled said (answer.Reply reply)
 ruled_reply (ruled.Accepted given) reply e = cc
 ruled_reply (ruled.Repeated given) reply e = cc
 ruled_reply (ruled.Refused refusal) reply e = let h : None ≡ Some reply = e in absurd (let no : ⊥ = cc in no)
 
--- what they refuse is told, and changes nothing
+-- a refusal of the rules is the answer, and changes nothing
 pub taken_refusal : (cs : History) (name key : List ℕ) (command : Command) (r : Refusal) (a : Answer)
     → runs.answer cs (call_of name key command) ≡ ruled.Refused r → IsRefusal r a → IsTaken cs name key (Ok command) a cs
 taken_refusal cs name key command r a is told =
@@ -79,7 +79,7 @@ pub serves_same : (after : History → Type 0) (failed : Type 0) (cs : History) 
     → x ≡ y → Serves after failed cs (IsTaken cs name key x) a → Serves after failed cs (IsTaken cs name key y) a
 serves_same after failed cs name key x y a e h = subst (λ read. Serves after failed cs (IsTaken cs name key read) a) e h
 
--- what is asked for is this
+-- the two requests are the same
 pub serves_as : {A : Type 0} → (after : History → Type 0) (failed : Type 0) (cs : History) (due : A → Answer → History → Type 0) (x y : A) (a : Answer)
     → x ≡ y → Serves after failed cs (due y) a → Serves after failed cs (due x) a
 serves_as after failed cs due x y a e h = subst (λ z. Serves after failed cs (due z) a) (sym e) h
@@ -96,7 +96,7 @@ closed_read name key reads read a (inr no_memory) (inr (inr each)) =
     let taken : IsTaken [] name key (Err (refused.Unavailable outage.NoMemory)) a [] = subst (λ r. IsTaken [] name key r a []) no_memory (each [] []) in
     inr (inl taken.0)
 
--- what is asked for is this
+-- the two requests are the same
 pub closed_as : {A : Type 0} → (due : A → List ℕ → History → Answer → History → Type 0) (x y : A) (a : Answer)
     → x ≡ y → IsClosed (due y) a → IsClosed (due x) a
 closed_as due x y a e h = subst (λ z. IsClosed (due z) a) (sym e) h

@@ -1,4 +1,4 @@
--- What bodies are read as.
+-- The readings of bodies.
 use Rattle.std.proofs.Common.{◌≡◌, ℕ, List, length, Option, Some, None, Err, refl, nat_lt, false}
 use Rattle.desk_bytes.specs.Elements.{IsCertificate}
 use Rattle.http_responses.specs.declared.refused.Refused.TheVariants as refused

@@ -1,4 +1,4 @@
--- Which refusals of the desk are told, and that none of these has a place.
+-- Refusals of the desk that have an answer, none of which has a place.
 use denote.Enum.Bare.{same_false, same_true, sameb}
 use Rattle.std.proofs.Common.{◌≡◌, ◌≢◌, ◌⊎◌, inl, inr, Bool, Some, None, IsSome, IsTrue, true, false, refl, sym, ap, subst}
 use Rattle.desk_bytes.specs.contracts.refusal.Refusal.{the_type}
@@ -17,7 +17,7 @@ same_or_not : (x y : Refusal) (flag : Bool) → sameb the_type x y ≡ flag → 
 same_or_not x y true e = inl (same_true the_type tt x y e)
 same_or_not x y false e = inr (same_false the_type x y e)
 
--- want of memory, a failed store, or neither
+-- refused memory, a failed store, or neither
 pub apart : (r : Refusal) → (r ≡ refusals.NoMemory) ⊎ ((r ≡ refusals.Store) ⊎ ((r ≢ refusals.NoMemory) × (r ≢ refusals.Store)))
 apart r = elim (same_or_not r refusals.NoMemory _ refl) [
   | inl memory ↦ inl memory
@@ -30,7 +30,7 @@ apart r = elim (same_or_not r refusals.NoMemory _ refl) [
 not_true : IsTrue false → ⊥
 not_true h = cc
 
--- the desk's rules refuse by what can be told
+-- each refusal of the desk's rules has an answer
 pub told_by_rules : (r : Refusal) → IsTrue (may_answer r) → IsSome (refused_of r)
 told_by_rules refusals.Short h = absurd (not_true h)
 told_by_rules refusals.NoMz h = absurd (not_true h)
@@ -87,13 +87,13 @@ told_by_rules refusals.LengthNeeded h = absurd (not_true h)
 told_by_rules refusals.TooLarge h = absurd (not_true h)
 told_by_rules refusals.NotSupported h = absurd (not_true h)
 
--- an outage is told
+-- an outage has an answer
 pub told_outage : (r : Refusal) → IsOutage r → IsSome (refused_of r)
 told_outage r (inl e) = subst (λ x. IsSome (refused_of x)) (sym e) refl
 told_outage r (inr (inl e)) = subst (λ x. IsSome (refused_of x)) (sym e) refl
 told_outage r (inr (inr e)) = subst (λ x. IsSome (refused_of x)) (sym e) refl
 
--- so is what is refused to those who ask for requests or proposals
+-- so has each refusal of a request to read requests or proposals
 pub told_reading : (r : Refusal) → IsReadingRefusal r → IsSome (refused_of r)
 told_reading r (inl e) = subst (λ x. IsSome (refused_of x)) (sym e) refl
 told_reading r (inr (inl e)) = subst (λ x. IsSome (refused_of x)) (sym e) refl
@@ -106,7 +106,7 @@ tells_same x y e = let same : x ≡ y = cc in record { of = ap refusal_of (sym s
 not_some : (y : Refused) → None ≡ Some y → ⊥
 not_some y e = cc
 
--- a refusal that is told by its row has no place
+-- a refusal that its row alone answers has no place
 pub placeless : (r : Refusal) (x : Refused) → refused_of r ≡ Some x → RefusesAs r None x
 placeless refusals.Short x e = tells_same refused.Short x e
 placeless refusals.NoMz x e = tells_same refused.NoMz x e

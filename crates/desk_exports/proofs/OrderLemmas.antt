@@ -1,4 +1,4 @@
--- What exports are sorted into: the same items, in the order of their keys.
+-- Exports in order: the same items, sorted by their keys.
 use Rattle.std.proofs.Common.{◌≡◌, ℕ, Bool, true, false, not, ◌&&◌, cond, List, [], ◌∷◌, length, map, filter, refl, sym, ◌∙◌, true≢false}
 use Rattle.std.specs.Prelude.{if◌then◌else◌, bytes_eq}
 use Rattle.std.specs.Cmp.Lexicographic.{nat_list_cmp_total, slice_cmp}

@@ -73,7 +73,7 @@ told_known ps (Named name) h k =
       | false ↦ λ e. refl
     ] refl
 
--- whoever is known to a legal history is told by the name
+-- a caller who is known to a legal history is known from all others by the name
 pub known_told : (cs : History) (caller : Caller) → is_legal cs ≡ true → is_known cs caller ≡ true → is_told_by_name caller ≡ true
 known_told cs caller h k = told_known (people cs) caller (nobody cs h) k
 
@@ -93,7 +93,7 @@ unequal : (b : Bool) → not b ≡ true → b ≡ true → {A : Type 0} → A
 unequal true h k = no_parts h
 unequal false h k = no_parts k
 
--- callers of one name who are told by it are one
+-- callers with one name, each known from all others by the name, are one
 pub same_caller : (a b : Caller) → is_told_by_name a ≡ true → is_told_by_name b ≡ true → caller_name a ≡ caller_name b → a ≡ b
 same_caller Console Console h k e = refl
 same_caller Console (Named n) h k e = unequal (bytes_eq n console) k (ap (bytes_eq n) e ∙ bytes_eq-refl n)

@@ -1,4 +1,4 @@
--- Which proposals are found, and what becomes of them.
+-- Proposals that are found, and their outcomes.
 use Rattle.std.proofs.Common.{◌≡◌, ◌⊎◌, ℕ, ◌+◌, ◌<◌, ◌≤◌, Bool, true, false, not, ◌&&◌, ◌||◌, List, [], ◌∷◌, ◌++◌, length, Option, Some, None, refl, sym, ◌∙◌, ap, subst, inl, inr, arith}
 use Rattle.std.specs.Prelude.{◌==◌, if◌then◌else◌, bytes_eq, find, is_some, option_map}
 use Rattle.std.specs.List.{cons_option, list_all, list_any}

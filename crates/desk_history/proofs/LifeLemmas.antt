@@ -55,7 +55,7 @@ left_legal cs (e ∷ events) end h by left =
     let follows = second_follows cs e.item.call e.item.rules parts.0 in
     left_legal left.0 events end (turned (λ h. is_legal h ≡ true) cs e.item e.fate left.0 h (next_legal cs e.item follows h) left.1) parts.1 left.2
 
--- calls by the first rules stand before those by the second
+-- calls by the first rules come before those by the second
 abbrev pub stand_in_order : List Event → Bool
 stand_in_order [] = true
 stand_in_order (e ∷ events) = (if are_rules Second e.item.rules then are_by Second events else true) && stand_in_order events
@@ -221,7 +221,7 @@ held_at cs i given h =
           record { minute = t.found_minute; found = t.is_found; text = t.has_text; same = t.has_reply })
     ] refl
 
--- a new call doesn't take a key that stands
+-- a new call doesn't take a key that is in use
 other_key : (cs : History) (c : Call) (new : Item) (m : Minute) → earlier cs c ≡ Some m → earlier cs new.call ≡ None → has_key (caller_name c.caller) c.key (minute_of cs new) ≡ false
 other_key cs c new m found fresh =
     elim (has_key (caller_name c.caller) c.key (minute_of cs new)) as (λ b. has_key (caller_name c.caller) c.key (minute_of cs new) ≡ b → b ≡ false) [

@@ -114,7 +114,7 @@ pub listed_rows_are_listed : ListsListed
 listed_rows_are_listed [] kind digest = refl
 listed_rows_are_listed (i ∷ cs) kind digest = one_call kind cs digest (listed_rows_are_listed cs kind digest) i i.call.command
 
--- no entry stands twice
+-- no entry is listed twice
 
 abbrev pub apart : List Entry → Bool
 apart rows = are_apart (λ (a b : Entry). is_entry a.kind a.digest b) rows

@@ -99,7 +99,7 @@ call_same a b c d e f h k l = cc
 same_call : (a b : Call) → a.caller ≡ b.caller → a.key ≡ b.key → a.command ≡ b.command → a ≡ b
 same_call a b h k l = call_same a.caller b.caller a.key b.key a.command b.command h k l
 
--- a call that is answered Ok stands in the history after it
+-- a call that is answered Ok is in the history after it
 stands_at : (cs : History) (i : Item) (given : Reply) → IsHistory cs → IsItem i → reply_in (ruling cs i) ≡ Some given → Stands (next_item cs i) i.call given
 stands_at cs i given h formed ok =
     let c = i.call in

@@ -1,4 +1,4 @@
--- What is due where the fields have a fault, and what the bytes of a head begin with.
+-- The answer that is due if the fields have a fault, and the bytes that a head begins with.
 use Rattle.std.proofs.Common.{◌≡◌, ◌≢◌, ℕ, List, [], sym, subst, Result, Ok, Err, IfOk, MatchResult}
 use Rattle.std.proofs.lemmas.List.{append-nil}
 use Rattle.httparse.specs.Grammar.{RequestHead, print_request, ReadsRequest}

@@ -1,4 +1,4 @@
--- Where a body is whole.
+-- Bodies that are whole.
 use Rattle.std.proofs.Common.{◌≡◌, ◌∙◌, ℕ, ◌≤◌, List, ◌++◌, length, take, refl, sym, ap, arith, true, length-append, Some, None}
 use Rattle.std.specs.Prelude.{nat_le, if◌then◌else◌}
 use Rattle.std.proofs.lemmas.Bool.Decides.{nat_tests}
@@ -9,7 +9,7 @@ use Rattle.desk_http.specs.Bodies.{body_in}
 pub is_whole : (size : ℕ) (b : List ℕ) → size ≤ length b → body_in size b ≡ Some (take size b)
 is_whole size b le = let yes : nat_le size (length b) ≡ true = grind (arith, nat_tests) in rw yes refl
 
--- what follows a body doesn't change it
+-- the bytes after a body don't change it
 pub body_followed : (size : ℕ) (rest more : List ℕ) → size ≤ length rest → body_in size (rest ++ more) ≡ body_in size rest
 body_followed size rest more le =
     let sum = length-append rest more in

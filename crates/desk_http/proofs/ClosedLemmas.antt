@@ -1,4 +1,4 @@
--- What a desk that has failed lets be known of a request, and tells of it.
+-- A request to a desk that has failed: the part of it that is known, and its answer.
 use Rattle.std.proofs.Common.{◌≡◌, ◌≢◌, ◌∙◌, inl, inr, ℕ, List, [], refl, sym, subst, Option, Some, None, Result, Ok, Err, IfSome, MatchResult}
 use Rattle.std.specs.Prelude.{IfErr, IsErr}
 use Rattle.httparse.specs.Grammar.{ReadsRequest, RequestHead}
@@ -60,7 +60,7 @@ outage_of_closed u e = subst IsOfClosed (sym e) tt
 
 -- ---- by the head
 
--- what a head is answered whatever the history is
+-- the answer that is due to a head whatever the history is
 abbrev IsDueOfAll : List ℕ → Due → Type 0
 IsDueOfAll head due =
     IsErr due × ((h : RequestHead) (q : List ℕ) → ReadsRequest head h q → HasFewFields h → (cs : History) (rest : List ℕ) → due ≡ due_of cs h rest)
@@ -94,7 +94,7 @@ pub closed_none : (old mid : Option (List ℕ)) → FindsOf old mid NoHead → I
 closed_none None mid found = tt
 closed_none (Some b) mid found = λ cs. inr (found.0, found.1, refl)
 
--- ---- what is told
+-- ---- the answer
 
 known : (input : Option (List ℕ)) (told : Answer) → ((b : List ℕ) → IsClosed (λ owner cs. AnswersInput owner cs b) told)
     → IfSome input (λ b. IsClosed (λ owner cs. AnswersInput owner cs b) told)
@@ -128,7 +128,7 @@ closed_outage input outage.Reopen h = record {
 }
 closed_outage input outage.NotADesk h = absurd h
 
--- what is told in its place
+-- the answer that is sent for this one
 told_closed : (input : Option (List ℕ)) (a told : Answer) → TellsClosed input a → Replaces a told → TellsClosed input told
 told_closed input a told closed (inl e) = subst (TellsClosed input) (sym e) closed
 told_closed input a told closed (inr x) = record {

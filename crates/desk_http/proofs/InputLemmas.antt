@@ -1,4 +1,4 @@
--- What is asked for by an input, and by what follows it.
+-- The request of an input, and of an input with more bytes after it.
 use Rattle.std.proofs.Common.{◌≡◌, ◌∙◌, ℕ, ◌≤◌, List, [], ◌++◌, length, refl, sym, ap, inl, inr, Option, Some, None, Result, Ok, Err, IfOk, IfSome}
 use Rattle.httparse.specs.Grammar.{ReadsRequest, RequestHead}
 use Rattle.httparse.proofs.GrammarLemmas.{ReadsRequest-append, request_unique}
@@ -22,7 +22,7 @@ use Rattle.desk_http.specs.declared.served.Unread.{Unread}
 use Rattle.desk_http.proofs.AskLemmas.{head_reads_itself}
 use Rattle.desk_http.proofs.BodyLemmas.{body_followed}
 
--- two heads of one input ask for the same
+-- two heads of one input make the same request
 heads_ask_alike : (cs : History) (b : List ℕ) (h k : RequestHead) (r q : List ℕ) → HasHead b h r → HasHead b k q
     → due_of cs h r ≡ due_of cs k q
 heads_ask_alike cs b h k r q x y =
@@ -53,7 +53,7 @@ head_followed : (cs : History) (rest more : List ℕ) (w : Result Want WantedFau
 head_followed cs rest more (Err fault) le = refl
 head_followed cs rest more (Ok w) le = caller_followed w rest more (caller_of cs w.token) le
 
--- a head stands where more follows
+-- a head is read although more follows
 followed : (b more : List ℕ) (h : RequestHead) (rest : List ℕ) → HasHead b h rest → HasHead (b ++ more) h (rest ++ more)
 followed b more h rest has = record {
   reads = ReadsRequest-append b h rest more has.reads;

@@ -1,4 +1,4 @@
--- What went out, and what was served by it.
+-- The bytes that went out, and the answer that they carry.
 use Rattle.std.proofs.Common.{◌≡◌, ◌∙◌, ℕ, List, sym, Option, Some, None, Result, Ok, Err, IfSome, MatchResult}
 use Rattle.std.specs.Io.KnownBytes.{Appends}
 use Rattle.desk_bytes.specs.Output.{AppendsBeginning}
@@ -30,7 +30,7 @@ sends_response old new a bytes says (Err Read) is e sent = let same : Read ≡ W
 sends_response old new a bytes says (Err Write) is e sent = rw (sym e) sent.1
 sends_response old new a bytes says (Err NoMemory) is e sent = let same : NoMemory ≡ Write = sent.0 in cc
 
--- the response went out, or a beginning of it, of the answer that is told in this one's place
+-- the response to this answer, or to the one that replaces it, went out, or a prefix of it
 abbrev pub SendsFor : (before after : Option (List ℕ)) → Answer → Result Served HttpFault → Type 0
 SendsFor before after a r = (told : Answer) × Replaces a told × Sends before after told r
 

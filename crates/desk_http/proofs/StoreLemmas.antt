@@ -1,4 +1,4 @@
--- Which answers say that the store failed.
+-- Answers that say that the store failed.
 use Rattle.std.proofs.Common.{◌≡◌, ◌∙◌, inl, inr, sym, ap, Option, None, Some, List, ℕ, Result, Ok, Err}
 use Rattle.http_responses.specs.declared.outage.Outage.TheVariants as outage
 use Rattle.http_responses.specs.declared.refused.Refused as refusing

@@ -1,4 +1,4 @@
--- What is left of an input whose head is nobody's.
+-- The rest of an input whose head is nobody's.
 use Rattle.std.proofs.Common.{◌≡◌, ◌≢◌, ◌∙◌, ℕ, List, [], refl, sym, ap, subst, Option, Some, None, Result, Ok, Err, IfOk}
 use Rattle.httparse.specs.Grammar.{ReadsRequest, RequestHead}
 use Rattle.httparse.proofs.GrammarLemmas.{request_unique}
@@ -27,7 +27,7 @@ pub nobody_wants : (cs : History) (h : RequestHead) (v : Want) → wanted_of (pa
 nobody_wants cs h v is nobody =
     let P : Result Want WantedFault → Type 0 = λ r. IfOk r (λ w. caller_of cs w.token ≡ None) in subst P is nobody
 
--- a head was read, and nothing behind it
+-- a head was read, and nothing after it
 pub leaves_head : (old mid new : Option (List ℕ)) (taken : List ℕ) (shows : List ℕ → History → Type 0)
     → FindsOf old mid (Head taken)
     → ((h : RequestHead) (q : List ℕ) → ReadsRequest taken h q → HasFewFields h → ForEachShown shows (λ _ cs. IsOfNobody cs h → new ≡ mid))
@@ -55,7 +55,7 @@ pub none_has_byte : (old mid : Option (List ℕ)) → FindsOf old mid NoHead →
 none_has_byte None mid found = tt
 none_has_byte (Some b) mid found = found.0
 
--- nothing is known of what is asked for
+-- nothing is known of the request
 pub unread_leaves : (u : Unread) (holds : Type 0) → holds → WhenAsked (Err u) holds
 unread_leaves unread.Read holds h = tt
 unread_leaves unread.NoMemory holds h = tt

@@ -1,4 +1,4 @@
--- What is told is what was served, or the want of memory in its place.
+-- The answer that is sent: the one that was served, or NoMemory instead.
 use Rattle.std.proofs.Common.{◌≡◌, ◌⊎◌, ℕ, List, inl, inr, refl, sym, subst, true, false, Option, Some, None, IfSome}
 use Rattle.desk_history.specs.Calls.{History}
 use Rattle.http_responses.specs.declared.outage.Outage.TheVariants as outage
@@ -11,7 +11,7 @@ use Rattle.desk_http.specs.Asked.{Asks, Due}
 use Rattle.desk_http.specs.Sending.{Replaces, is_outage}
 use Rattle.desk_http.specs.Serving.{AnswersDue, AnswersInput, IsServed, AnswersDueOrOutage}
 
--- what answers what is asked for answers the input
+-- an answer to the request of an input is one to the input
 pub serves_input : (shows : History → Type 0) (failed : Type 0) (owner : List ℕ) (cs : History) (b : List ℕ) (due : Due) (a : Answer)
     → Asks cs b due → Serves shows failed cs (AnswersDue owner cs due) a → Serves shows failed cs (AnswersInput owner cs b) a
 serves_input shows failed owner cs b due a asked (inl s) = inl (s.0, record { due = due; asked = asked; answered = s.1 }, s.2)
@@ -26,7 +26,7 @@ input_is_served None old mid new failed due a asked kept served = tt
 input_is_served (Some b) old mid new failed due a asked kept served =
     λ owner cs shown. serves_input (new owner) failed owner cs b due a (asked owner cs shown) (served owner cs (kept owner cs shown))
 
--- an answer is told as it is
+-- an answer is sent unchanged
 same_told : (shows : History → Type 0) (failed : Type 0) (cs : History) (due : Answer → History → Type 0) (a : Answer)
     → Serves shows failed cs due a → AnswersDueOrOutage shows failed cs due a
 same_told shows failed cs due a (inl s) = inl (record { later = s.0; answered = s.1; shown = s.2 })

@@ -45,7 +45,7 @@ inserted digest (x ∷ keys) q =
 
 -- new digests
 
--- new rows are those that stand once
+-- new rows are those that appear once
 pub put_new-once : (ds rest : List (List ℕ)) → put_new ds (distinct rest) ≡ distinct (reverse ds ++ rest)
 put_new-once [] rest = refl
 put_new-once (d ∷ ds) rest =

@@ -70,7 +70,7 @@ module _ (v : View) (caller : Caller) (c : Command) (n : Named) (names : named_b
   count_seen : v.sizes.proposals ≡ length (proposals cs)
   count_seen = shown.sizes counted.Proposals of.puts ∙ length-map (proposals cs) (λ p. proposal_row (proposal_state cs p.number) p)
 
-  -- a desk that a legal history stands for has numbers of proposals left
+  -- a desk that shows a legal history has numbers of proposals left
   pub has_numbers : greatest_number ≤ v.sizes.proposals → {A : Type 0} → A
   has_numbers full = absurd (no_more v.sizes.proposals (length (proposals cs)) count_seen full (legal_proposals cs legal))
     where

@@ -1,4 +1,4 @@
--- A view that shows a history for some keys says the same of them.
+-- Views that show a history for some keys: they agree with it on these keys.
 use Rattle.std.proofs.Common.{◌≡◌, ℕ, ◌+◌, Bool, true, false, ◌||◌, cond, List, [], ◌∷◌, map, Option, Some, None, refl, sym, ◌∙◌, ap}
 use Rattle.std.specs.Prelude.{if◌then◌else◌, IsTrue, bytes_eq, find, is_some, option_map, unwrap_or}
 use Rattle.std.specs.List.{list_any}
@@ -20,12 +20,12 @@ use Rattle.desk_rules.specs.Views.{EntryKeys, Keys, ShowsLists, component_names,
 use Rattle.desk_history.proofs.ListLemmas.{any_once, bytes_eq-refl, same_text}
 use Rattle.desk_history.proofs.ListingLemmas.{listed_rows_are_listed}
 
--- both bar the same of these keys
+-- both bar these keys alike
 pub record BarAlike (s u : Standing) (entries : EntryKeys) (names : List (List ℕ)) : Type 0 where
   pub revoked : (kind : ListedKind) (digest : List ℕ) → IsTrue (is_among (keys_for entries kind) digest) → s.revoked kind digest ≡ u.revoked kind digest
   pub required : (name : List ℕ) → IsTrue (is_among names name) → s.required name ≡ u.required name
 
--- both list the same of these keys
+-- both list these keys alike
 pub record ListAlike (s u : Standing) (entries : EntryKeys) : Type 0 where
   pub listed : (kind : ListedKind) (digest : List ℕ) → IsTrue (is_among (keys_for entries kind) digest) → s.listed kind digest ≡ u.listed kind digest
 
@@ -64,7 +64,7 @@ module _ (v : ListView) (owner : List ℕ) (cs : History) (k : Keys) (shown : Sh
   pub shown_generation : (name : List ℕ) → IsTrue (is_among k.names name) → generation_in v.components.items name ≡ greatest (generations cs) name
   shown_generation name h = ap (λ o. option_map (λ (row : Component). row.generation) o) (shown.components name h) ∙ generation_row (generations cs) name
 
-  -- the view says of the keys what the calls leave standing
+  -- the view and the calls bar these keys alike
   pub bars_so : BarAlike (seen_standing v) (standing cs) k.revoked k.names
   bars_so = record {
     revoked = revoked_alike;

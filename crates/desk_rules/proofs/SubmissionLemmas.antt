@@ -175,7 +175,7 @@ module _ (v : View) (caller : Caller) (s : Submission) (owner : List ℕ) (cs : 
       ∙ (ap (λ b. b || list_any takes_off components) (none_taken (λ row. writes.RequestCertificate row) (λ row. refl) (reverse (certificate_rows r)))
       ∙ none_taken (λ row. writes.RequestComponent row) (λ row. refl) (reverse (component_rows r)))))
 
--- a desk that a legal history stands for has numbers left
+-- a desk that shows a legal history has numbers left
 pub has_numbers : (v : View) (caller : Caller) (s : Submission) (owner : List ℕ) (cs : History) (key : List ℕ) → is_legal cs ≡ true → Shows v (tables owner cs) (called caller key (command.Submit s)) → (greatest_number ≤ v.sizes.requests) → {A : Type 0} → A
 has_numbers v caller s owner cs key legal shown full =
     let number : v.sizes.requests ≡ length (requests cs) = shown.sizes counted.Requests refl ∙ length-map (requests cs) (λ r. request_row (state cs r.number) r) in

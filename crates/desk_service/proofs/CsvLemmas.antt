@@ -1,4 +1,4 @@
--- How a reader of CSV goes from record to record.
+-- The steps of a reader of CSV from record to record.
 use Rattle.std.proofs.Common.{◌≡◌, ℕ, zero, suc, ◌+◌, ◌<◌, ◌≤◌, cond, eqb, Bool, true, false, List, [], ◌∷◌, ◌++◌, append-nil, length, Option, Some, None, Ok, Err, refl, sym, ap, subst, ◌∙◌, inl, arith}
 use Rattle.std.specs.Result.{IsOkAnd}
 use Rattle.csv.specs.Machine.{Read, after_end, ends_at_end, ends_with, field_after, fields_after, in_field, is_end, next_record, start_field, start_record, step}
@@ -54,7 +54,7 @@ ended st.AfterQuote c = either (eqb c 34) (st.InQuoted, act.Copy) (in_field defa
 ended st.InComment c = either (eqb c 10) (st.StartRecord, act.Skip) (st.InComment, act.Skip) (λ h. cc) (λ h. cc)
 ended st.AfterCr c = either (eqb c 10) (st.StartRecord, act.Skip) (start_record default_config c) (λ h. cc) (ended_at_record c)
 
--- after a record the reader stands between records, and no more bytes are left
+-- after a record the reader is between records, and no more bytes are left
 pub record Goes (p : Read) (xs : List ℕ) : Type 0 where
   pub between : ends_at_end p.1 ≡ false
   pub left : length p.2 ≤ length xs
@@ -176,7 +176,7 @@ Reading-wrong rem all n old new now f h read is =
     let r = read h.left h.leaves in
     sym h.same ∙ ap (λ rows. put_before h.done (items_from n rows)) r.1 ∙ ap (λ x. put_before h.done (named_at n x (items_from (n + 1) r.0))) is
 
--- the same of whatever records there were at first
+-- so it is whatever records there were at first
 pub Reading-wrong-all : {R : Type 0} (rem : R → Option (List ℕ)) (n : ℕ) (first old new : Reader R) (now : Gathering) (f : Record) → ((rows : List Record) → Leaves rem first rows → Reading rem rows n old now)
     → ((rows : List Record) → Leaves rem old rows → Reads rem next.Record f rows new) → record_item f ≡ None → (rows : List Record) → Leaves rem first rows → items_in rows ≡ Err n
 Reading-wrong-all rem n first old new now f all read is rows h = Reading-wrong rem rows n old new now f (all rows h) read is

@@ -33,7 +33,7 @@ first_line-ended line text rest h is = elim is [
       sym (ap (λ l. first_line (l ++ 10 ∷ rest)) plain.0 ∙ ap first_of (lines_of-lf text rest (subst HasNoLf plain.0 h) plain.1))
 ]
 
--- the same of what a reader gave before the LF, and with it
+-- the bytes that a reader gave before the first LF, as a text, are its first line
 pub first_line-read : (a b c : Option (List ℕ)) (line text : List ℕ) (byte : ℕ) → Consumes a b line → Consumes b c (byte ∷ []) → byte ≡ 10
     → HasNoLf line → IsTextOf line text → IfSome a (λ given. text ≡ first_line given)
 first_line-read None b c line text byte before next lf h is = tt
@@ -59,7 +59,7 @@ length-onto b [] = refl
 length-onto b (line ∷ lines) = refl
 
 -- two bytes that are no LF: the first of them belongs to the first line, as the second is no LF
--- behind a CR
+-- after a CR
 lines_of-onto : (b c : ℕ) (text : List ℕ) → eqb b 10 ≡ false → eqb c 10 ≡ false → lines_of (b ∷ c ∷ text) ≡ onto_first b (lines_of (c ∷ text))
 lines_of-onto b c text first next = grind (arith, common_steps, first, next)
 

@@ -52,7 +52,7 @@ Keeping-ends which all left old now h is = λ items gathers.
     let whole = sym (append-nil h.done) ∙ sym (ap (λ xs. h.done ++ map (item_of which) xs) is) ∙ h.whole in
     subst (λ xs. Gathers (items ++ xs) now) whole (h.kept items gathers)
 
--- the entries of lists that stand somewhere
+-- the entries of lists with their places
 abbrev pub placed_items : List Placed → List Item
 placed_items placed = flat_map (λ p. list_items p.list) placed
 

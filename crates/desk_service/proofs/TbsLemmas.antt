@@ -48,7 +48,7 @@ pub tbs_of-found : (b t : List ℕ) → tbs_of b ≡ Some t → IsCertificate b 
 unfolding tbs_of
 tbs_of-found b t h = tbs_found b t (element_of b) refl h
 
--- nothing is read where no certificate stands
+-- nothing is read where there is no certificate
 pub tbs_of-none : (b : List ℕ) → ((t : List ℕ) → IsCertificate b t → ⊥) → tbs_of b ≡ None
 tbs_of-none b never = by (tbs_of b) refl
   where

@@ -1,4 +1,4 @@
--- From what a view shows and a decision says to what a call does inside its transaction.
+-- From a view and a decision to the effect of a call inside its transaction.
 use Rattle.std.proofs.Common.{◌≡◌, ◌≢◌, inl, inr, ℕ, List, [], ◌∷◌, length, All, refl, sym, ap, subst, ◌∙◌, arith, IsTrue, true, false}
 use Rattle.std.proofs.lemmas.List.Elements.{All-cons}
 use Rattle.sqlite.specs.State.{State}
@@ -76,7 +76,7 @@ module _ (sizes : KeptSizes) (c : Call) where
         };
       }
 
-  -- what a decision tells of the answer, where it writes nothing
+  -- the answer by a decision that writes nothing
   pub repeats : (d : Decided) (owner : List ℕ) (cs : History) → length d.writes.items ≡ 0 → rules.Decides d owner cs c → answer cs c ≡ Repeated d.reply
   repeats d owner cs none told = elim told.told [
     | inl accepted ↦ absurd (let joined = next_joined cs c (ap is_accepted accepted) in

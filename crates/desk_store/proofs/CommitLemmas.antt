@@ -1,5 +1,5 @@
--- From what a call does inside its transaction to what the connection shows after it, and what a
--- stop leaves.
+-- From the effect of a call inside its transaction to the contents of the connection after it, and
+-- after a stop.
 use Rattle.std.proofs.Common.{◌≡◌, true, false, refl, sym, ap, subst, ◌∙◌, arith}
 use Rattle.sqlite.specs.Store as store
 use Rattle.sqlite.specs.Held.{Held, state}
@@ -19,7 +19,7 @@ use Rattle.desk_store.specs.declared.acting.Acted.{Acted}
 use Rattle.desk_store.proofs.ActingLemmas.{next_same}
 
 module _ {S : Type 0} (g : store.Ghosts S) (old last : Held S) (sizes : KeptSizes) (c : Call) (acted : Acted) (did : Worked g old last (Acts sizes c acted)) where
-  -- what is told inside the transaction, of what the connection shows before it
+  -- the answer inside the transaction, for the history that the connection shows before it
   told : HasCleanDisk (state g last) → (p : Past sizes) → ShowsHistory (state g old) p.owner p.calls → AnswersWithSizes c acted p
   told late p shows =
       let acts = did.value late in

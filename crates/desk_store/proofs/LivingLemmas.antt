@@ -97,7 +97,7 @@ ends_then before events c fate cs later told ends turn =
       subst (λ es. MayLeave [] es later) (sym (events_then before events e)) (leave_then [] (events_of (and_now before events)) e cs later ends.2 turn),
     )
 
--- one more life by the second rules, without calls, leaves the history as it was
+-- one more life by the second rules, without calls, leaves the history unchanged
 ends_after : (lives : List Life) (last : Life) (cs : History) → is_life last ≡ true → is_second_life last ≡ true → last.events ≡ [] → Ends lives cs → Ends (lives ++ last ∷ []) cs
 ends_after lives last cs life second none ends = (
   list_all-append is_life lives (last ∷ []) ∙ (rw (ends.0, life) refl),
@@ -110,7 +110,7 @@ ends_after lives last cs life second none ends = (
 ends_next : (lives : List Life) (cs : History) → Ends lives cs → Ends (and_now lives []) cs
 ends_next lives cs ends = ends_after lives (record { rules = Second; opening = Opened; events = [] }) cs refl refl refl ends
 
--- a life that isn't opened leaves the history as it was
+-- a life that isn't opened leaves the history unchanged
 pub ends_refused : (lives : List Life) (cs : History) → Ends lives cs → Ends (and_refused lives) cs
 ends_refused lives cs ends = ends_after lives (record { rules = Second; opening = NotOpened; events = [] }) cs refl refl refl ends
 

@@ -47,7 +47,7 @@ no_text Full fault is = cc
 no_text Broken fault is = cc
 no_text Unstorable fault is = cc
 
--- the query asks for the desk's row in tables of either version
+-- the query selects the desk's row from tables of either version
 asks_for_desk : (schema : Schema) → IsDeskSchema schema → SelectsRows schema 0 desk SELECT_DESK.now [] (by_first 1 desk) (columns_after 1 desk) (names_of desk)
 asks_for_desk schema (inl first) = subst (λ s. SelectsRows s 0 desk SELECT_DESK.now [] (by_first 1 desk) (columns_after 1 desk) (names_of desk)) (sym first) select_first_desk
 asks_for_desk schema (inr second) = subst (λ s. SelectsRows s 0 desk SELECT_DESK.now [] (by_first 1 desk) (columns_after 1 desk) (names_of desk)) (sym second) select_desk
@@ -82,7 +82,7 @@ no_rows s refusal (inl (inl memory)) is schema c of_desk sees = let e = sym memo
 no_rows s refusal (inl (inr store)) is schema c of_desk sees = let e = sym store ∙ is in cc
 no_rows s refusal (inr told) is schema c of_desk sees = told.2 (subst IsDeskSchema (sym sees.holds.listed) of_desk)
 
--- where the columns are refused, for want of a desk, the store is open
+-- where the columns are refused because there is no desk, the store is open
 pub open_there : (s : State) (refusal : Refusal) → RefusesColumns s refusal → refusal ≡ refusals.NotADesk → IsTrue s.is_open
 open_there s refusal (inl (inl memory)) is = absurd (let e = sym memory ∙ is in cc)
 open_there s refusal (inl (inr store)) is = absurd (let e = sym store ∙ is in cc)

@@ -1,4 +1,4 @@
--- From what a read tells of any tables, or of any history, to what answers a question.
+-- From a read of any tables, or of any history, to the answer to a question.
 use Rattle.std.proofs.Common.{refl, arith, ℕ, List, Result, Ok, Err, IsTrue}
 use Rattle.std.specs.Prelude.{IfOk, OnOk}
 use Rattle.sqlite.specs.Store as store
@@ -19,7 +19,7 @@ of_tables old new P it = record { kept = it.kept; tells = λ owner cs history se
 pub of_history : (old new : State) (P : History → Type 0) → TellsOf P old new → AnswersQuestion (λ owner cs. P cs) old new
 of_history old new P it = record { kept = it.kept; tells = it.tells }
 
--- what is read in a transaction is told of each history that the connection showed before
+-- a read in a transaction holds for each history that the connection showed before
 pub read_told : {S X E : Type 0} (g : store.Ghosts S) (old last : Held S) (tells : X → List ℕ → History → Type 0) (r : Result X E) → Survives (begun g old) (state g last) (λ _. ⊥)
     → HasCleanDisk (state g last) → IfOk r (λ x. AnswersQuestion (tells x) (begun g old) (state g last)) → OnOk r (IsTrue (state g last).is_open × IsTrue (state g last).in_transaction)
     → IfOk r (λ x. (owner : List ℕ) (cs : History) → IsHistory cs → ShowsHistory (state g old) owner cs → tells x owner cs)

@@ -1,4 +1,4 @@
--- Which version a desk's row tells of the tables of a history, and what an opening makes of it.
+-- The version in a desk's row, by the tables of a history, and the result of an opening.
 use Rattle.std.proofs.Common.{◌≡◌, ◌⊎◌, inl, inr, ℕ, List, [], ◌∷◌, length, refl, sym, subst, ◌∙◌, arith, IsTrue, false}
 use Rattle.std.proofs.lemmas.List.Sorted.{IsPermutation-refl}
 use Rattle.sqlite.proofs.Callers.{one_permutation}

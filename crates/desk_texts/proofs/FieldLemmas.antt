@@ -7,7 +7,7 @@ use Rattle.std.proofs.lemmas.List.Splits.{slice_split_none, slice_split_at}
 use Rattle.desk_texts.specs.Items.{list_text}
 use Rattle.desk_texts.proofs.FormLemmas.{both, joined}
 
--- the byte c doesn't stand in the text
+-- the byte c isn't in the text
 abbrev pub is_free : ℕ → List ℕ → Bool
 is_free c text = list_all (λ b. not (eqb b c)) text
 
@@ -24,7 +24,7 @@ not_passing p c b outside inside = decided (eqb b c) refl
     decided true h = sym (differ (eqb_same b c h))
     decided false h = refl
 
--- where each byte passes a test that c fails, c doesn't stand
+-- where each byte passes a test that c fails, c isn't in the text
 pub free-by : (p : ℕ → Bool) (c : ℕ) → p c ≡ false → (text : List ℕ) → list_all p text ≡ true → is_free c text ≡ true
 free-by p c outside [] h = refl
 free-by p c outside (b ∷ bs) h =
@@ -83,7 +83,8 @@ field parts i = get_or parts i []
 
 -- ---- lists
 
--- an item that can be told from others, and from the mark of an empty list
+-- an item isn't empty, has no comma (44), and doesn't begin with `-` (45), the mark of an empty
+-- list
 pub record IsItem (item : List ℕ) : Type 0 where
   pub free : is_free 44 item ≡ true
   pub first : eqb (get_or item 0 45) 45 ≡ false

@@ -1,4 +1,4 @@
--- Texts parted at their first space, and numbers in front of it.
+-- Texts split at their first space, and numbers before it.
 use Rattle.std.proofs.Common.{◌≡◌, ◌≢◌, ℕ, zero, suc, ◌+◌, ◌-◌, ◌<◌, ◌≤◌, ltb, eqb, leb, cond, Bool, true, false, not, ◌&&◌, ◌||◌, Bor, List, [], ◌∷◌, ◌++◌, length, get_or, take, drop, Option, Some, None, IfNone, IfSome, Result, Ok, Err, decimal, position, refl, sym, subst, ap, ◌^◌, ◌∙◌, arith, add-one}
 use Rattle.std.specs.Char.{is_ascii_digit}
 use Rattle.std.specs.List.{list_all, position_or_len}
@@ -62,7 +62,7 @@ parted_none text e =
     let free = free_to text (length text) (omega arith) (λ k less. fails_before_first is_space text k 0 (omega arith)) in
     ap (is_free 32) (sym (take_all (length text) text (omega arith))) ∙ free
 
--- a text that is parted at a space without one before it is parted so in one way
+-- there is one way to split a text at a space with none before it
 pub parted_once : (a b c d : List ℕ) → is_free 32 a ≡ true → is_free 32 c ≡ true → a ++ (32 ∷ b) ≡ c ++ (32 ∷ d) → (a ≡ c) × (b ≡ d)
 parted_once a b c d h k e =
     (sym (before-is 32 a b h) ∙ ap (before 32) e ∙ before-is 32 c d k, sym (after-is 32 a b h) ∙ ap (after 32) e ∙ after-is 32 c d k)
@@ -70,7 +70,7 @@ parted_once a b c d h k e =
 free_apart : (b : Bool) → not b ≡ true → b ≡ true → ⊥
 free_apart b h k = cc
 
--- a text without a space isn't parted
+-- a text without a space isn't split
 pub free_whole : (a b : List ℕ) → is_free 32 (a ++ (32 ∷ b)) ≡ true → ⊥
 free_whole [] b h = absurd (cc)
 free_whole (x ∷ a) b h = free_whole a b (both (not (eqb x 32)) (is_free 32 (a ++ (32 ∷ b))) h).1
@@ -155,7 +155,7 @@ numeral_ascii text h = ascii_digits text (numeral_parts text h).digits
 
 -- ---- beginnings
 
--- what `strip_prefix` tells of a text that begins so
+-- the rest that `strip_prefix` gives of a text that begins so
 abbrev pub BeginsSo : List ℕ → List ℕ → Bor (List ℕ) → Type 0
 BeginsSo text beginning rest =
     (pointwise eqb (take (length beginning) text) beginning ≡ true) × (rest.now ≡ drop (length beginning) text) × (length rest.now + length beginning ≡ length text)
@@ -178,7 +178,7 @@ pub stripped_others : (text beginning : List ℕ) (rest : Bor (List ℕ)) (o : O
 stripped_others text beginning rest (Some n) is h = tt
 stripped_others text beginning rest None is h = λ n form same. h n form (append_cancel_left beginning rest.now (decimal n) (sym is ∙ same))
 
--- what stands after a number
+-- the text after a number
 pub behind_number : (text rest more : List ℕ) (m n : ℕ) → IsCount m → IsCount n → text ≡ decimal m ++ (32 ∷ rest) → text ≡ decimal n ++ (32 ∷ more) → rest ≡ more
 behind_number text rest more m n h k is same =
     (parted_once (decimal m) rest (decimal n) more (decimal_free m h) (decimal_free n k) (sym is ∙ same)).1

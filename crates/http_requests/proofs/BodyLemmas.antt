@@ -1,4 +1,4 @@
--- How what was taken stands to a body.
+-- The bytes that were taken, and the body.
 use Rattle.std.proofs.Common.{◌≡◌, ℕ, ◌<◌, List, length, sym, ap, arith, length-append, Option, Some, None, Vec}
 use Rattle.std.specs.declared.alloc.Global.{Global}
 use Rattle.std.proofs.lemmas.List.{take_at}

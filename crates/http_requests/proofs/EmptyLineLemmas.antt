@@ -1,4 +1,4 @@
--- Which bytes no head ends with.
+-- Bytes that no head ends with.
 use Rattle.std.proofs.Common.{inl, inr, ◌≡◌, ◌∙◌, ℕ, ◌-◌, List, [], ◌∷◌, ◌++◌, length, drop, refl, sym, ap, subst, arith, append_assoc, length-append, Bool, true, false, ◌&&◌, ◌||◌, nat_eq}
 use Rattle.std.proofs.lemmas.List.{append-nil}
 use Rattle.std.proofs.lemmas.List.Folds.{list_all-append}
@@ -9,7 +9,7 @@ use Rattle.httparse.specs.Grammar.{Field, LineEnd, crlf, lf, print_blank, print_
 use Rattle.http_requests.specs.heads.Heads.{EndsNoHead, ends_empty_line, is_line_break, may_end_head}
 use Rattle.http_requests.proofs.HeadLemmas.{end_front, request_ends, whole_or_before}
 
--- ---- what a head ends with
+-- ---- the end of a head
 
 and_false : (b : Bool) → (b && false) ≡ false
 and_false true = refl
@@ -35,7 +35,7 @@ ends_so f n e =
 field_ends : (s : List ℕ) (x : Field) → (f : List ℕ) × (s ++ print_field x ≡ f ++ 10 ∷ [])
 field_ends s x = let end = end_front x.end in (s ++ (x.name ++ 58 ∷ x.raw) ++ end.0, rw end.1 (simp append_assoc))
 
--- so do fields, behind a line that has ended
+-- so do fields, after a line that has ended
 fields_end : (s : List ℕ) (fields : List Field) → (f : List ℕ) × (s ≡ f ++ 10 ∷ [])
     → (f : List ℕ) × (s ++ flat_map print_field fields ≡ f ++ 10 ∷ [])
 fields_end s [] ended = (ended.0, append-nil s ∙ ended.1)
@@ -68,7 +68,7 @@ request_has_space h = (
   spaced (print_blank h.blank ++ h.method) h.target (print_version h.minor) (print_end h.line_end) (print_section h.fields h.last),
 )
 
--- ---- what no head ends with
+-- ---- bytes that end no head
 
 -- a line that goes on
 ends_no_line : (bytes : List ℕ) → ends_with nat_eq bytes (10 ∷ []) ≡ false → EndsNoHead bytes

@@ -1,4 +1,4 @@
--- How a head that is read byte by byte stands to the heads of the whole input.
+-- A head that is read byte by byte, and the heads of the whole input.
 use Rattle.std.proofs.Common.{◌≡◌, ◌≢◌, ◌∙◌, ℕ, ◌<◌, ◌≤◌, List, [], ◌∷◌, ◌++◌, length, drop, refl, sym, ap, arith, append_assoc, length-append, Option, Some, None, inl, inr, ◌⊎◌}
 use Rattle.std.proofs.lemmas.Bool.{cases_lt}
 use Rattle.std.proofs.lemmas.List.{append-nil}
@@ -65,7 +65,7 @@ pub consumed_none : (o : Option (List ℕ)) → Consumes o o []
 consumed_none None = tt
 consumed_none (Some xs) = refl
 
--- what was taken, and then more
+-- more bytes were taken after the first
 pub consumed_more : (o m n : Option (List ℕ)) (xs ys : List ℕ) → Consumes o m xs → Consumes m n ys → Consumes o n (xs ++ ys)
 consumed_more None m n xs ys a b = tt
 consumed_more (Some os) None n xs ys a b = absurd a

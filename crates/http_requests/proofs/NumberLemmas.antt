@@ -1,4 +1,4 @@
--- The number that stands for {no}, as desk_texts reads it.
+-- The number at {no}, as desk_texts reads it.
 use Rattle.std.proofs.Common.{◌≡◌, ◌∙◌, ℕ, List, Bool, true, false, Option, Some, None, decimal, ap, refl, arith, cond}
 use Rattle.sbat.specs.Fields.{decimal_of}
 use Rattle.sbat.proofs.DigitLemmas.{decimal_of-decimal}

@@ -6,7 +6,7 @@ use Rattle.serde_json.specs.Written.{compact_text, items_text}
 use Rattle.http_responses.specs.json.Arrays.{after_commas, bracketed}
 
 module _ {X : Type 0} (as_data : X → Data) where
-  -- the items behind the first one, each after a comma, and the bracket
+  -- the items after the first one, each after a comma, and the bracket
   others_text : (xs : List X) → after_commas as_data xs ++ 93 ∷ [] ≡ items_text true (items_of (map as_data xs))
   others_text [] = refl
   others_text (x ∷ xs) =

@@ -1,4 +1,4 @@
--- What the checks tell where none fails.
+-- The checks where none fails.
 use Rattle.std.proofs.Common.{◌≡◌, ◌+◌, ◌*◌, ◌^◌, sum_by, ◌≤◌, ◌<◌, ◌&&◌, ◌||◌, ℕ, Bool, true, false, if◌then◌else◌, not, List, [], ◌∷◌, length, nat_le, ◌==◌, Some, None, refl, sym, ap, ◌∙◌, arith}
 use Rattle.std.specs.List.{list_all}
 use Rattle.std.proofs.lemmas.Bool.{leb-true, eqb-true, and_parts}
@@ -46,7 +46,7 @@ without-not : (p q : Bool) → (not p || q) ≡ true → p ≡ true → q ≡ tr
 without-not true q h e = h
 without-not false q h e = cc
 
--- the same of an image that is accepted
+-- an image whose checks hold has its parts in place
 pub placed-from-laid : (f : List ℕ) → IsLaid f → IsPlaced f
 placed-from-laid f laid =
     let rest = laid.1.1.1.1.1.1 in
@@ -70,7 +70,7 @@ placed-from-laid f laid =
           (eqb-true (table_offset f + table_size f) (length f) both.0, leb-true (sections_end f) (table_offset f) both.1);
     }
 
--- what the two tests on the sections in order tell
+-- the two tests on the sections in order decide those on the sections of the headers
 ends-are : (hs : List Header) (ss : List Span) (n : ℕ) (r b : Bool) → ss ≡ in_order (raw_of hs) → r ≡ list_all (λ s. nat_le s.to n) ss → r ≡ b → list_all (λ s. nat_le s.to n) (raw_of hs) ≡ b
 ends-are hs ss n r b is test answer = sym (test ∙ ap (list_all (λ s. nat_le s.to n)) is ∙ all-in_order (λ s. nat_le s.to n) (raw_of hs)) ∙ answer
 
@@ -88,14 +88,14 @@ sections-overlap hs ss z n r q is test answer row broken =
     let apart = apart-are hs ss z q false is row broken in
     rw ends (rw apart refl)
 
--- the sections stand as they must
+-- the sections are as they must be
 pub sections-hold : (hs : List Header) (ss : List Span) (z n : ℕ) (r q : Bool) → ss ≡ in_order (raw_of hs) → r ≡ list_all (λ s. nat_le s.to n) ss → r ≡ true → q ≡ follows z ss → q ≡ true → first_of (section_checks (raw_of hs) z n) ≡ None
 sections-hold hs ss z n r q is test answer row holds =
     let ends = ends-are hs ss n r true is test answer in
     let apart = apart-are hs ss z q true is row holds in
     rw ends (rw apart refl)
 
--- sections that stand as they must end within the file, and their bytes are at most those up to
+-- sections that are as they must be end within the file, and their bytes are at most those up to
 -- there
 pub sections-fit : (f : List ℕ) → first_of (section_checks (raw f) (size_of_headers f) (length f)) ≡ None → size_of_headers f ≤ length f → (sum_of_bytes_hashed f ≤ sections_end f) × (sections_end f ≤ length f)
 sections-fit f none low =

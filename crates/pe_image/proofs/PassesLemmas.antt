@@ -1,4 +1,4 @@
--- The ranges that one pass meets stand in order.
+-- The ranges that one pass meets, in order.
 use Rattle.std.proofs.Common.{◌≡◌, ◌+◌, ◌-◌, ◌==◌, ◌<◌, ◌≤◌, ◌++◌, ℕ, zero, suc, true, false, cond, if◌then◌else◌, List, [], ◌∷◌, length, take, drop, nat_lt, refl, sym, ap, ◌∙◌, subst, append_assoc, append-nil, length-append, length-drop, max, arith}
 use Rattle.std.specs.Prelude.{All}
 use Rattle.std.proofs.Math.Seq.{take-append_seam, take-length}
@@ -52,7 +52,7 @@ Ascends-behind z (s ∷ ss) t chain far wide =
     let same = reach-chain z s ss chain in
     (chain.0, omega arith, Ascends-behind s.to ss t chain.2 (omega arith) wide)
 
--- the headers, and what stands after them
+-- the headers, and the spans after them
 Ascends-headers : (f : List ℕ) (ss : List Span) → IsPlaced f → Ascends (size_of_headers f) ss → Ascends 0 (header_spans f ++ ss)
 Ascends-headers f ss p up =
     let least = fixed-least f in
@@ -134,7 +134,7 @@ pub passes-joined : (f : List ℕ) (p : Places) → p ≡ places_of f → bytes_
 passes-joined f p same =
     sym (flat_map-append _ (first_pass_of p) (second_pass_of p)) ∙ ap (bytes_at f) (take-append-drop (in_first_pass p) (spans_of p) ∙ ap spans_of same)
 
--- so they stand in the file
+-- so they are in order within the file
 pub first-between : (f : List ℕ) (p : Places) → IsLayoutOf f p → StandBetween 0 (length f) (first_pass_of p)
 first-between f p layout = record {
   follow = follows-chain 0 (first_pass_of p) (first-chain f p layout);

@@ -46,7 +46,7 @@ end-of_piece all piece rest begin from at stands is fits =
     let wide : (at + length (take (length piece - from) end)) - at ≡ length piece - from = omega arith in
     sym (ap (λ n. take n (drop at all)) wide ∙ ap (take (length piece - from)) behind ∙ take-append-le (length piece - from) end rest (omega arith))
 
--- a full piece stands at its place
+-- a full piece is at its offset
 pub piece-stands : {X : Type 0} (f : X → List ℕ) (xs : List X) (last : List ℕ) (i : ℕ) (x : X) → All (λ x. length (f x) ≡ 65536) xs → i < length xs
     → x ≡ get_or xs i x → drop (65536 * i) (flat_map f xs ++ last) ≡ f x ++ (flat_map f (drop (suc i) xs) ++ last)
 piece-stands f xs last i x full within is =
@@ -61,7 +61,7 @@ pub last-stands : {X : Type 0} (f : X → List ℕ) (xs : List X) (last : List �
 last-stands f xs last full =
     drop-pieces f (length xs) xs last full (omega arith) ∙ ap (λ l. flat_map f l ++ last) (drop-length xs) ∙ sym (append-nil last)
 
--- what was read after what stood there
+-- the bytes that were read, after those in front of them
 pub take-behind : (front read back : List ℕ) (n count : ℕ) → length front ≡ n → count ≤ length read → take (n + count) (front ++ (read ++ back)) ≡ front ++ take count read
 take-behind front read back n count is fits =
     ap (λ m. take (m + count) (front ++ (read ++ back))) (sym is) ∙ take-append-add front (read ++ back) count ∙ ap (λ l. front ++ l) (take-append-le count read back fits)
@@ -101,7 +101,7 @@ rest-of_last f xs last all piece at whole full behind short within shown =
     let stands = ap (drop (65536 * length xs)) (sym whole) ∙ last-stands f xs last full ∙ ap (λ l. l ++ []) (sym shown) in
     end-of_piece all piece [] (65536 * length xs) (at % 65536) at stands place.place (omega arith)
 
--- a slice of all, and the beginning of what stands after it
+-- a slice of all, and the first bytes after it
 pub slice-more : (all rest : List ℕ) (at done count : ℕ) → rest ≡ slice_range all (at + done) ((at + done) + length rest) → count ≤ length rest
     → at + done + count ≤ length all → slice_range all at (at + done) ++ take count rest ≡ slice_range all at (at + (done + count))
 slice-more all rest at done count is short fits =

@@ -1,4 +1,4 @@
--- What the checks tell of a layout.
+-- Bounds of a layout that the checks give.
 use Rattle.std.proofs.Common.{◌≡◌, ◌+◌, ◌≤◌, ◌<◌, ◌==◌, ◌++◌, ℕ, true, false, if◌then◌else◌, List, [], ◌∷◌, length, min, map, filter, find, Some, None, IfSome, nat_lt, nat_le, refl, sym, subst, ◌∙◌, inl, inr, arith}
 use Rattle.std.specs.List.{list_all}
 use Rattle.std.proofs.lemmas.Bool.{leb-true, and_from, and_parts, cases_lt}
@@ -63,7 +63,7 @@ spans-within f laid =
     let all = All-append (λ s. s.to ≤ n) (header_spans f ++ in_order (raw f)) (span (sum_of_bytes_hashed f) (image_end f) ∷ []) front tail in
     subst (EndWithin n) (sym (spans-of_file f)) (All-filter (λ s. nat_lt s.from s.to) (λ s. s.to ≤ n) _ all)
 
--- the sections of a layout stand in order between the headers and the end
+-- the sections of a layout are in order between the headers and the end
 pub sections-between : (f : List ℕ) → IsLaid f → StandBetween (places_of f).headers_end (length f) (places_of f).sections
 unfolding places_of
 sections-between f laid =
@@ -83,7 +83,7 @@ text_size-least h = elim (h.virtual_size == 0) as (λ b. (if b then h.size_of_ra
   | false ↦ omega arith
 ]
 
--- the text of one section, whose raw data lie within so many bytes
+-- the text of one section, whose raw data end within the first n bytes
 text-within : (n : ℕ) (h : Header) → (0 < h.size_of_raw_data → h.pointer_to_raw_data + h.size_of_raw_data ≤ n) → IfSome (text_at (Some h)) (IsWithin n)
 text-within n h fits = elim (cases_lt 0 (text_size h)) [
   | inl some ↦
@@ -96,7 +96,7 @@ text-within n h fits = elim (cases_lt 0 (text_size h)) [
       rw test tt
 ]
 
--- what all raw data tell of those of the first header, and of the others
+-- bounds of all raw data are those of the first header's, and of the others'
 first-within : (n : ℕ) (h : Header) (hs : List Header) → list_all (λ s. nat_le s.to n) (raw_of (h ∷ hs)) ≡ true → 0 < h.size_of_raw_data
     → h.pointer_to_raw_data + h.size_of_raw_data ≤ n
 unfolding raw_of

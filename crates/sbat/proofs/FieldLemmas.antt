@@ -24,11 +24,11 @@ position_found p xs i e =
     let here = both.1 in
     (omega arith, here)
 
--- what stands before the first place
+-- the bytes before the first place
 pub before_first-found : (p : ℕ → Bool) (xs : List ℕ) (i : ℕ) → position p xs ≡ Some i → before_first p xs ≡ take i xs
 before_first-found p xs i e = ap (λ n. take n xs) (position_found p xs i e).1
 
--- where no byte passes, all stands before it
+-- where no byte passes, all bytes are before it
 pub before_first-none : (p : ℕ → Bool) (xs : List ℕ) → position p xs ≡ None → before_first p xs ≡ xs
 before_first-none p xs e =
     let past = none_is (ltb (position_or_len p xs) (length xs)) (position_or_len p xs) e in

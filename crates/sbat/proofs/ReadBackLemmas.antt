@@ -87,7 +87,7 @@ level_of-text stamp es h right =
     ∙ ap (λ s. begun 1 s (named_in level_row (numbered_from 2 (lines_of (rows_text es))))) (stamp_on-head stamp h)
     ∙ ap (with_rows stamp) (named_in-text 2 es right)
 
--- names in order: what stands below all others is none of them
+-- names in order: one that is below all others is none of them
 less_is : (o : Ordering) → T (is_lt o) → is_eq o ≡ false
 less_is Less h = refl
 less_is Equal h = absurd h

@@ -38,7 +38,7 @@ graphic_both xs ys h k = list_all-append is_ascii_graphic xs ys ∙ both_parts _
 graphic_at : (line : List ℕ) → IsGraphic line → (k : ℕ) → k < length line → is_ascii_graphic (get_or line k 0) ≡ true
 graphic_at line h k l = AllPass-from_list_all is_ascii_graphic line h k 0 l
 
--- a line of graphic bytes ends where its LF stands
+-- a line of graphic bytes ends at its LF
 pub graphic_line : (line rest : List ℕ) → IsGraphic line → lines_of (line ++ 10 ∷ rest) ≡ line ∷ lines_of rest
 graphic_line line rest h =
     lines_of-lf line rest

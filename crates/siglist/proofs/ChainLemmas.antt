@@ -1,4 +1,4 @@
--- Which tests of the chain in `lack_at` failed.
+-- The tests of the chain in `lack_at` that failed.
 use Rattle.std.proofs.Common.{◌≡◌, ◌⊎◌, ℕ, ◌+◌, ◌%◌, ◌<◌, ◌≤◌, eqb, ltb, cond, Bool, true, false, ◌&&◌, List, length, take, Option, Some, None, refl, inl, inr, arith}
 use Rattle.std.specs.Str.{bytes_eq}
 use Rattle.std.proofs.lemmas.Bool.Decides.{nat_tests}

@@ -53,7 +53,7 @@ keeps_to l kind.X509 e h = let p = h.x509 e in (λ _. ap length p.0, let s = p.1
 keeps_to l kind.X509Sha256 e h = let p = h.x509_sha256 e in (λ _. ap length p.0, let s = p.1 in grind (arith, nat_tests, s))
 keeps_to l (kind.Other guid) e h = (λ f. absurd (cc), refl)
 
--- what the front of the bytes tells of a list that stands there
+-- a list at the front of the bytes is the one that is read there
 pub record Reads (b : List ℕ) (l : SignatureList) (rest : List ℕ) : Type 0 where
   pub head : HasHead b
   pub front : front_of b ≡ l

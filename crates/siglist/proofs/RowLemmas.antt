@@ -16,7 +16,7 @@ use Rattle.siglist.proofs.ChainLemmas.{lack_at-none, lack_at-head, lack_at-some}
 use Rattle.siglist.proofs.HeadLemmas.{Reads, spelt_reads}
 use Rattle.siglist.proofs.SpeltLemmas.{IsBytes, IsBytes-drop, reads_spelt}
 
--- a list that stands at the front is read
+-- a list at the front is read
 pub reads_at : (b : List ℕ) (l : SignatureList) (rest : List ℕ) → IsList l → b ≡ list_bytes l ++ rest → Reads b l rest
 reads_at b l rest h is = subst (λ x. Reads x l rest) (sym is) (spelt_reads l rest h)
 
@@ -130,7 +130,7 @@ Spells-rest (l ∷ ls) (m ∷ ms) a c h k =
     let same : k.0 ≡ h.0 ++ c = sym s.rest_is ∙ r.rest_is in
     Spells-rest ls ms h.0 c h.3 (subst (Spells ms) same k.3)
 
--- a row of some bytes has a list at its front
+-- a row of at least one byte has a list at the front
 row_has_list : (ls : List SignatureList) (b after : List ℕ) → 0 < length b → Spells ls b → HasNoList (b ++ after) → ⊥
 row_has_list [] b after some h none = let e = ap length h in omega (arith, e)
 row_has_list (l ∷ ls) b after some h none = none l (h.0 ++ after) h.1 (ap (λ x. x ++ after) h.2 ∙ append_assoc (list_bytes l) h.0 after)

@@ -46,7 +46,7 @@ four_bytes : (b : List ℕ) (n i : ℕ) → IsBytes b → get_or (take 4 (drop n
 four_bytes b n i h = ⊎_elim (λ near. let e = get_or-take 4 (drop n b) i 0 near in let l = (IsBytes-drop b n h).at i in omega (arith, e, l))
     (λ far. let short = length-take 4 (drop n b) in let e = get_or_past (take 4 (drop n b)) i 0 (omega (arith, short)) in omega (arith, e)) (cases_lt i 4)
 
--- the number that stands at a place is spelt there
+-- the number that is read at a place is spelt there
 u32_spelt : (b : List ℕ) (i : ℕ) → IsBytes b → i + 4 ≤ length b → (to_le_bytes w32 (u32_at b i) ≡ take 4 (drop i b)) × (u32_at b i < 2 ^ 32)
 unfolding u32_at
 u32_spelt b i h fits =

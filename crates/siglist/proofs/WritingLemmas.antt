@@ -51,7 +51,7 @@ digest_text kind owner after ds some =
     row_text kind (48 + length after) (map (digest_entry owner after) ds) (omega (arith, count, some))
     ∙ ap (λ n. bare_head kind (48 + length after) n ++ entries_text owner after ds) count
 
--- nothing stands after a digest of a SHA256 list
+-- no bytes follow a digest of a SHA256 list
 pub map-digest_entry : (owner : List ℕ) (ds : List (List ℕ)) → map (digest_entry owner []) ds ≡ map (entry_of owner) ds
 map-digest_entry owner [] = refl
 map-digest_entry owner (d ∷ ds) = ap₂ ◌∷◌ (ap (entry_of owner) (append-nil d)) (map-digest_entry owner ds)
@@ -108,7 +108,7 @@ bare_row_spells kind size (e ∷ es) k least small fits entries keeps = (
   refl,
 )
 
--- a body of 32 bytes and what stands after it
+-- a body of 32 bytes and the bytes after it
 IsEntryOf-all : (owner after : List ℕ) (ds : List (List ℕ)) → length owner ≡ 16 → AllByRecursion (λ d. length d ≡ 32) ds
     → AllByRecursion (IsEntryOf (48 + length after)) (map (digest_entry owner after) ds)
 IsEntryOf-all owner after [] o h = h
@@ -178,6 +178,6 @@ pub x509_sha256_row-parts : (owner : List ℕ) (ds : List (List ℕ)) → spelli
 x509_sha256_row-parts owner [] = refl
 x509_sha256_row-parts owner (d ∷ ds) = row_parts x509_sha256_kind x509_sha256_size (digest_entry owner no_time) d ds
 
--- the same of bytes that are equal
+-- a prefix of bytes is one of bytes that equal them
 pub OnErr-spelt : {T E : Type 0} (r : Result T E) (a b : Option (List ℕ)) {bs cs : List ℕ} → bs ≡ cs → OnErr r (AppendsBeginning a b bs) → OnErr r (AppendsBeginning a b cs)
 OnErr-spelt r a b e h = subst (λ l. OnErr r (AppendsBeginning a b l)) e h

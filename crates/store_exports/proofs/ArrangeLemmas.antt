@@ -35,7 +35,7 @@ module _ {X : Type 0} (le : X → X → Bool) where
   Rises (x ∷ []) = ⊤
   Rises (x ∷ y ∷ ys) = (le x y ≡ true) × Rises (y ∷ ys)
 
-  -- items of which each may stand before the other are one
+  -- items of which each may come before the other are one
   abbrev pub Tie : X → X → Type 0
   Tie x y = le x y ≡ true → le y x ≡ true → x ≡ y
 

@@ -1,4 +1,5 @@
--- What each query of an export writes, by the lists of the histories that the connection shows.
+-- The bytes that each query of an export writes, by the lists of the histories that the connection
+-- shows.
 use Rattle.std.proofs.Common.{◌≡◌, ℕ, pos, List, [], ◌∷◌, ◌++◌, map, flat_map, length, reverse, Option, Bool, true, refl, sym, ap, ap₂, ◌∙◌, arith, bytes_eq}
 use Rattle.sqlite.specs.Held.{Held, state}
 use Rattle.sqlite.specs.Order.{Row}

@@ -1,5 +1,5 @@
--- What the queries for the level, for entries and for calls write, by the lists of the histories
--- that the connection shows.
+-- The bytes that the queries for the level, for entries and for calls write, by the lists of the
+-- histories that the connection shows.
 use Rattle.std.proofs.Common.{◌≡◌, ℕ, pos, List, [], ◌∷◌, map, reverse, true, Some, refl, sym, ap, ap₂}
 use Rattle.sqlite.specs.Order.{Row}
 use Rattle.sqlite.specs.State.{State, HasCleanDisk}

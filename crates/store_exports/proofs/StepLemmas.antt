@@ -26,7 +26,7 @@ pub spares_then : (a b c : State) → Survives a b (λ _. ⊥) → Survives b c 
 spares_then a b c one two = survives_then a b c (λ _. ⊥) (λ _. ⊥) (λ _. ⊥) (λ _ _ none. none) (λ _ _ none. none) one two
 
 module _ {S X E : Type 0} (g : store.Ghosts S) where
-  -- a read came before, which may tell what the bytes are
+  -- a read came before, which may determine the bytes
   pub after_read : (a b c : Held S) (x y : Option (List ℕ)) (r : Result X E) (f h : List ℕ → History → List ℕ) → StaysOf (state g a) (state g b) → Survives (state g a) (state g b) (λ _. ⊥)
       → (HasCleanDisk (state g b) → (owner : List ℕ) (cs : History) → ShowsHistory (state g a) owner cs → f owner cs ≡ h owner cs) → Exports g b c x y r f → Exports g a c x y r h
   after_read a b c x y r f h stays spared same it = record {
@@ -98,7 +98,7 @@ module _ {S X E : Type 0} (g : store.Ghosts S) where
       → (HasCleanDisk (state g b) → BeginsOf (state g a) x y f) → Exports {X = X} g a b x y (Err e) f
   stopped_read a b x y e f stays spared begins = record { wrote = begins; same = stays; spares = λ _ _ _. spared; clean = λ end. omega (arith, spared.clean, end) }
 
-  -- a read told that nothing is to be written
+  -- a read found that nothing is to be written
   pub nothing : (a b : Held S) (x : Option (List ℕ)) (v : X) (f : List ℕ → History → List ℕ) → StaysOf (state g a) (state g b) → Survives (state g a) (state g b) (λ _. ⊥)
       → (HasCleanDisk (state g b) → (owner : List ℕ) (cs : History) → ShowsHistory (state g a) owner cs → f owner cs ≡ []) → Exports {E = E} g a b x x (Ok v) f
   nothing a b x v f stays spared none = record {
@@ -139,7 +139,7 @@ module _ {S : Type 0} (g : store.Ghosts S) (old last end : Held S) where
         (undone_shows g old last end desk_schema (rows_of owner cs) (omega (arith, spared.clean, late)) (kept late) (rolled clean) was).holds clean live);
   }
 
-  -- what it gave is told of each history that the connection showed before
+  -- its result is right for each history that the connection showed before
   pub read_told : {X E : Type 0} (tells : X → Tables → Type 0) (r : Result X E) → Survives (begun g old) (state g last) (λ _. ⊥) → HasCleanDisk (state g last)
       → IfOk r (λ x. ReadsTables (tells x) (begun g old) (state g last)) → OnOk r (IsTrue (state g last).is_open × IsTrue (state g last).in_transaction)
       → IfOk r (λ x. (owner : List ℕ) (cs : History) → ShowsHistory (state g old) owner cs → tells x (tables owner cs))

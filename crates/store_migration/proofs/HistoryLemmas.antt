@@ -1,4 +1,4 @@
--- What the tables of version 2 are of a history of calls by the first rules.
+-- The tables of version 2 of a history of calls by the first rules.
 use Rattle.std.proofs.Common.{◌≡◌, ℕ, ◌+◌, List, [], ◌∷◌, ◌++◌, length, map, cond, None, true, refl, sym, ap, ap₂, ◌∙◌, arith}
 use Rattle.std.specs.Prelude.{count_by}
 use Rattle.std.specs.List.{list_all}

@@ -1,5 +1,5 @@
--- From what the migration does inside its transaction to what the connection shows after it, and
--- what a stop leaves.
+-- From the work of the migration inside its transaction to the contents of the connection after it,
+-- and after a stop.
 use Rattle.std.proofs.Common.{◌≡◌, ℕ, List, length, map, false, refl, sym, subst, ◌∙◌, arith, IsTrue}
 use Rattle.sqlite.specs.Store as store
 use Rattle.sqlite.specs.Held.{Held, state}
@@ -36,13 +36,13 @@ turned old made told noted new n makes tells notes sets = record {
 }
 
 module _ {S : Type 0} (g : store.Ghosts S) (old last : Held S) (did : Worked g old last TurnsFirst) where
-  -- what stands inside the transaction, of what the connection shows before it
+  -- the contents inside the transaction, by those that the connection shows before it
   stands : HasCleanDisk (state g last) → (owner : List ℕ) (cs : History) → ShowsFirst (state g old) owner cs → Sees desk_schema (state g last) (rows_of owner cs)
   stands late owner cs shows =
       let turns = did.value late in
       turns.value owner cs shows.0 (record { inside = refl; holds = (shows.1.holds (omega (arith, did.spares.clean, late)) (turns.kept.was_open (did.inside late).0)).0 })
 
-  -- the trees that they stand in
+  -- the trees that hold them
   pub migrated_trees : HasCleanDisk (state g last) → Migrates (state g old) (state g last).now.trees
   migrated_trees late owner cs shows = tables_of desk_schema (state g last).now (rows_of owner cs) (stands late owner cs shows).holds
 

@@ -38,7 +38,7 @@ pub all_compared : (k i : ℕ) (rows : List ProposalItemRow) (all : List Proposa
 all_compared k i rows all count high before =
     sym (take_all i rows high) ∙ before ∙ ap (items_from k 0) (take_all i all (omega (arith, count, high)))
 
--- ---- values that are told to be equal
+-- ---- values that compare equal
 
 pub same_bytes : (a b : List ℕ) → bytes_eq a b ≡ true → a ≡ b
 same_bytes a b h = (bytes_eq-Decides a b).0 h

@@ -1,4 +1,4 @@
--- What is named is told by its items.
+-- The import of a proposal, as its items determine it.
 use Rattle.std.proofs.Common.{◌≡◌, ◌<◌, ℕ, ◌+◌, List, [], ◌∷◌, ◌++◌, map, Option, Some, None, refl, sym, ap, ap₂, ◌∙◌, append-nil, arith}
 use Rattle.std.specs.Prelude.{IfSome, unwrap_or}
 use Rattle.std.specs.List.{AllByRecursion, cons_option, filter_map}
@@ -73,7 +73,7 @@ same_stamp n a None is same h = is.1 (sym same)
 same_stamp n None (Some s) is same h = absurd (omega (arith, is.0, same, h))
 same_stamp n (Some r) (Some s) is same h = ap Some (is.0 ∙ sym same)
 
--- what is named is told by its items, its stamp and how many entries were passed over
+-- an import is determined by its items, its stamp and the number of entries that were skipped
 pub same_named : (i j : Imported) → i.stamp ≡ j.stamp → i.passed ≡ j.passed → items_of i ≡ items_of j → i ≡ j
 same_named i j stamp passed named =
     let digests : i.digests ≡ j.digests = sym (digests_in i) ∙ ap (filter_map as_digest) named ∙ digests_in j in
@@ -96,7 +96,7 @@ unplaced : (k p : ℕ) (xs : List ProposalItem) → map (λ (y : ProposalItemRow
 unplaced k p [] = refl
 unplaced k p (x ∷ xs) = ap (λ l. x ∷ l) (unplaced k (p + 1) xs)
 
--- items are told by their rows, in whatever order the rows come
+-- items are determined by their rows, in whatever order the rows come
 pub same_items : (j k : ℕ) (xs ys : List ProposalItem) → IsPermutation (items_from j 0 xs) (items_from k 0 ys) → ys ≡ xs
 same_items j k xs ys moved =
     let same : items_from k 0 ys ≡ items_from j 0 xs =

@@ -1,4 +1,4 @@
--- What the answer of a count tells, for each thing that is counted.
+-- The answer of a count, for each thing that is counted.
 use Rattle.std.proofs.Common.{◌≡◌, ℕ, List, [], ◌∷◌, codes, Result, Ok, Err, IfOk, refl}
 use Rattle.sqlite.specs.Order.{Row}
 use Rattle.sqlite.specs.State.{State}

@@ -31,7 +31,7 @@ module _ {X : Type 0} (at : ℕ) (table : Table) (text : List ℕ) (terms : List
     (has : (t : Tables) → slice_get (contents t) at ≡ Some (map item (part t))) (params : Row)
     (shows : (x : X) → shown_of table (keys_of (by_first ordered table) ++ rest) params (item x) ≡ shown x)
     (p : X → Bool) (tested : (x : X) → passes table terms params (item x) ≡ p x) (old new : State) where
-  -- the rows that meet the condition, all and only those, in the order that is asked for
+  -- the rows that meet the condition, all and only those, in the order of the query
   pub tells_rows : (values : List X) → Finds shown text params values old new → ReadsTables (λ t. AreFound shown table ordered p (part t) values) old new
   tells_rows values f =
       let order = by_first ordered table in
@@ -87,7 +87,7 @@ pub only_row : {X : Type 0} (x y : X) (found : Option X) → found ≡ Some y �
 only_row x y None is same = absurd cc
 only_row x y (Some z) is same = let one : x ≡ z = cc in let two : z ≡ y = cc in one ∙ two
 
--- ---- calls, which are told by texts
+-- ---- calls, which are determined by their texts
 
 -- the texts of calls are those of no call or of one, so that call is read back
 pub one_told : {X Y : Type 0} (texts : X → Y) (P : X → Type 0) (xs : List X) → All P xs → (y : Y) → map texts xs ≡ y ∷ [] → (read : X) → ((x : X) → P x → y ≡ texts x → read ≡ x) → xs ≡ read ∷ []

@@ -1,4 +1,4 @@
--- Which rows have a key, and what a SELECT shows of them.
+-- Rows that have a key, and a SELECT of them.
 use Rattle.std.proofs.Common.{◌≡◌, ℕ, pos, List, [], ◌∷◌, ◌==◌, ◌&&◌, bytes_eq, refl, ◌∙◌}
 use Rattle.sqlite.specs.declared.types.Value.TheVariants.{Null, Int, Text, Blob}
 use Rattle.sqlite.specs.Order.{Row}

@@ -1,4 +1,4 @@
--- What the answer of a look among revoked digests tells, for each kind.
+-- The answer of a look among revoked digests, for each kind.
 use Rattle.std.proofs.Common.{◌≡◌, ℕ, List, [], ◌∷◌, Option, bytes_eq, filter, refl}
 use Rattle.sqlite.specs.State.{State}
 use Rattle.sqlite.specs.declared.types.Value.TheVariants.{Blob}

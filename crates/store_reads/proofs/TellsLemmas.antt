@@ -1,4 +1,4 @@
--- What reads tell, one after another.
+-- Reads one after another, and the facts of the tables that they give.
 use Rattle.std.proofs.Common.{IsTrue}
 use Rattle.sqlite.specs.State.{State}
 use Rattle.desk_history.specs.Tables.{Tables}
@@ -7,7 +7,7 @@ use Rattle.store_sql.proofs.StopLemmas.{changes_then, turns_none}
 use Rattle.store_schema.specs.Tables.{desk_schema}
 use Rattle.store_reads.specs.Reads.{ReadsTables}
 
--- what is told of any tables, without a read
+-- a fact of any tables, without a read
 pub tells_none : (s : State) (P : Tables → Type 0) → IsTrue s.in_transaction → ((t : Tables) → P t) → ReadsTables P s s
 tells_none s P inside p = record { kept = turns_none desk_schema contents s inside; tells = λ t sees. p t }
 

@@ -1,11 +1,11 @@
--- Values beside the rows that they stand for.
+-- Values beside their rows.
 use Rattle.std.proofs.Common.{◌≡◌, ℕ, List, [], ◌∷◌, ◌++◌, map, take, length, get_or, ◌<◌, ◌+◌, add-one, refl, sym, ap, ap₂, subst, ◌∙◌}
 use Rattle.std.proofs.Math.Seq.{take-suc}
 use Rattle.std.specs.List.{AllZip}
 use Rattle.sqlite.specs.Order.{Row}
 use Rattle.store_reads.specs.Reads.{AreRead}
 
--- the row stands for the value, and for no other
+-- the row is that of the value, and of no other
 abbrev pub IsValue : {T : Type 0} → (T → Row) → Row → T → Type 0
 IsValue {T = T} shown row x = (row ≡ shown x) × ((y : T) → row ≡ shown y → x ≡ y)
 

@@ -1,4 +1,4 @@
--- What is given to a person who asks for a request.
+-- The answer to a person who asks for a request.
 use Rattle.std.proofs.Common.{◌≡◌, ℕ, ◌==◌, Bool, true, false, List, [], ◌∷◌, map, filter, Option, Some, None, option_map, Result, Ok, Err, refl, sym, ap, subst, ◌∙◌}
 use Rattle.std.specs.Prelude.{bytes_eq, if◌then◌else◌, ok_or}
 use Rattle.std.specs.Result.{result_map_both}
@@ -23,15 +23,15 @@ use Rattle.store_requests.proofs.ItemLemmas.{found_listed, found_passing, map_li
 use Rattle.store_requests.proofs.MadeLemmas.{is_shown, row_of}
 
 module _ (owner : List ℕ) (cs : History) (name : List ℕ) (k : ℕ) where
-  -- what is due to the person whom the name finds
+  -- the answer that is due to the person whom the name finds
   abbrev due_to : Option Person → Result Whole Refusal
   due_to o = found_among k (result_map_both (λ p. filter (λ w. is_shown_to p w) (wholes cs)) (λ refusal. refusal) (ok_or o refusals.UnknownCaller))
 
-  -- what the read of the person told
+  -- the result of the read of the person
   abbrev pub IsNamed : Option Person → Type 0
   IsNamed found = filter (has_name name) (tables owner cs).people ≡ listed found
 
-  -- what the read of the request's row told
+  -- the result of the read of the request's row
   abbrev pub IsAsked : Option RequestRow → Type 0
   IsAsked row = filter (λ (r : RequestRow). k == r.number) (tables owner cs).requests ≡ listed row
 

@@ -1,4 +1,4 @@
--- What is given to a person who asks for all requests.
+-- The answer to a person who asks for all requests.
 use Rattle.std.proofs.Common.{◌≡◌, ℕ, suc, ◌+◌, ◌<◌, ◌==◌, Bool, List, [], ◌∷◌, ◌++◌, map, filter, length, Option, Some, None, Ok, Err, refl, sym, ap, ap₂, subst, ◌∙◌, arith}
 use Rattle.std.specs.Prelude.{⊤, bytes_eq, ok_or, reverse}
 use Rattle.std.specs.List.{AllByRecursion, AllZip}
@@ -117,7 +117,7 @@ module _ (owner : List ℕ) (cs : History) (p : Person) where
     held = l.held;
   }
 
--- what is due to the person of a name
+-- the answer that is due to the person of a name
 pub all_due : (owner : List ℕ) (cs : History) (name : List ℕ) (found : Option Person) → filter (has_name name) (tables owner cs).people ≡ listed found
     → requests_for cs (callers.Person name)
     ≡ result_map_both reverse (λ refusal. refusal) (result_map_both (λ p. filter (λ w. is_shown_to p w) (wholes cs)) (λ refusal. refusal) (ok_or found refusals.UnknownCaller))

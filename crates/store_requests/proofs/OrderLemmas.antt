@@ -1,4 +1,4 @@
--- Lists by the numbers of their items: turned round, told apart by them, and in their order.
+-- Lists by the numbers of their items: reversed, distinct by them, and in their order.
 use Rattle.std.proofs.Common.{◌≡◌, ◌≢◌, ℕ, suc, ◌+◌, ◌<◌, ◌≤◌, ◌==◌, Bool, true, false, List, [], ◌∷◌, ◌++◌, map, filter, get_or, refl, sym, ap, subst, ◌∙◌, append-nil, arith}
 use Rattle.std.specs.Prelude.{reverse}
 use Rattle.std.specs.List.{AllByRecursion}
@@ -38,7 +38,7 @@ turned R (x ∷ xs) up =
     (all-permutation (λ y. AllByRecursion (R y) (x ∷ [])) xs (reverse xs) (IsPermutation-reverse xs)
     (all_weaker (λ y. R y x) (λ y. AllByRecursion (R y) (x ∷ [])) (λ y h. (h, tt)) xs up.0)))
 
--- ---- told apart
+-- ---- distinct
 
 below : (m n : ℕ) → m < n → (m == n) ≡ false
 below m n h = grind (arith, nat_tests)

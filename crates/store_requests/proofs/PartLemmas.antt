@@ -77,7 +77,7 @@ unplaced : (k p : ℕ) (xs : List Component) → map component_of (placed_from k
 unplaced k p [] = refl
 unplaced k p (x ∷ xs) = ap (λ l. x ∷ l) (unplaced k (p + 1) xs)
 
--- components are told by their rows with their places
+-- components are determined by their rows with their places
 pub components_are : (k : ℕ) (xs ys : List Component) → IsPermutation (placed_from k 0 xs) (placed_from k 0 ys) → ys ≡ xs
 components_are k xs ys moved =
     let same : placed_from k 0 ys ≡ placed_from k 0 xs =

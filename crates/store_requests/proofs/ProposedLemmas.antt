@@ -1,4 +1,4 @@
--- What is given to a person who asks for all proposals.
+-- The answer to a person who asks for all proposals.
 use Rattle.std.proofs.Common.{◌≡◌, ◌≢◌, ℕ, ◌+◌, ◌<◌, ◌≤◌, ◌==◌, pos, Bool, true, false, List, [], ◌∷◌, map, filter, length, Option, Some, None, Result, Ok, Err, refl, sym, ap, ap₂, subst, ◌∙◌, arith}
 use Rattle.std.specs.Prelude.{if◌then◌else◌, ok_or, reverse}
 use Rattle.std.specs.List.{All, AllByRecursion, AllZip}

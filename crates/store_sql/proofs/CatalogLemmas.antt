@@ -1,4 +1,4 @@
--- Rows of `sqlite_schema` stand for one table or one index each.
+-- Rows of `sqlite_schema`: each is that of one table or one index.
 use Rattle.std.proofs.Common.{◌≡◌, ◌+◌, ◌<◌, ℕ, pos, true, false, List, [], ◌∷◌, ◌++◌, Ok, Some, codes, slice_get, refl, sym, ap, ap₂, subst, ◌∙◌, arith}
 use Rattle.std.specs.List.{AllZip}
 use Rattle.std.specs.Fmt.{decimal}
@@ -15,7 +15,7 @@ use Rattle.sqlite_schema.specs.declared.schema.Table.{Table}
 use Rattle.sqlite_catalog.proofs.StepLemmas.{named_once, same_itself}
 use Rattle.sqlite_catalog.specs.Listing.{IsDefined, IsIndexRow, IsTableRow, automatic}
 
--- a row id that is a tree's number and one stands for one tree
+-- a row id of a tree's number plus 1 is that of one tree
 one_tree : (v : Value) (m n : ℕ) → v ≡ Int (pos (m + 1)) → v ≡ Int (pos (n + 1)) → m ≡ n
 one_tree v m n a b = let e : m + 1 ≡ n + 1 = (let k = sym a ∙ b in cc) in omega (arith, e)
 

@@ -1,4 +1,4 @@
--- From the end of a transaction to what the connection shows after it, and what a stop leaves.
+-- From the end of a transaction to the contents of the connection after it, and after a stop.
 use Rattle.std.proofs.Common.{◌≡◌, inl, inr, true, false, refl, sym, ap, subst, ◌∙◌, arith, IsTrue, ℕ, List}
 use Rattle.sqlite.specs.Store as store
 use Rattle.sqlite.specs.declared.error.Error.{Error}
@@ -118,8 +118,7 @@ pub record Worked {S : Type 0} (g : store.Ghosts S) (old last : Held S) (does : 
   pub kept : HasCleanDisk (state g last) → KeepsCommit (begun g old) (state g last)
   pub spares : Survives (begun g old) (state g last) (λ _. ⊥)
 
--- the clauses of the call that made the steps, told of the connection that the transaction began
--- with
+-- the clauses of the call that made the steps, for the connection that the transaction began with
 pub worked : {S : Type 0} (g : store.Ghosts S) (old first last : Held S) (does : State → State → Type 0) → first ≡ record old { in_transaction = true }
     → (HasCleanDisk (state g last) → IsTrue (state g first).in_transaction → does (state g first) (state g last))
     → (HasCleanDisk (state g last) → IsTrue (state g first).in_transaction → IsTrue (state g last).is_open × IsTrue (state g last).in_transaction)

@@ -1,4 +1,4 @@
--- From rows to what they stand for.
+-- From rows to the items that they hold.
 use Rattle.std.proofs.Common.{◌≡◌, inl, inr, ℕ, zero, suc, List, [], ◌∷◌, ◌++◌, map, filter, length, slice_get, Bool, not, cond, Some, refl, sym, ap, subst, ◌∙◌}
 use Rattle.std.specs.List.Sorted.{IsPermutation, IsSorted}
 use Rattle.std.proofs.lemmas.Bool.{cases_Bool}
@@ -45,20 +45,20 @@ module _ {X : Type 0} (table : Table) (terms : List Term) (params : Row) (item :
     | inr is ↦ rw (tested x, is) refl
   ]
 
-  -- UPDATE, by what the rows stand for
+  -- UPDATE, by the items of the rows
   pub replaces : (rest : List Term) (h : X → X) → ((x : X) → seen table (rewritten table rest params (whole table (item x))) ≡ item (h x))
       → (at : ℕ) (c : Contents) (xs : List X) → slice_get c at ≡ Some (map item xs)
       → change_at at (λ _. map item (map (λ x. cond (p x) (h x) x) xs)) c ≡ change_at at (map (updated table terms rest params)) c
   replaces rest h made at c xs has = change_same at _ _ c (map item xs) has
       (map-map item (λ x. cond (p x) (h x) x) xs ∙ sym (map_same _ _ (updated_item rest h made) xs) ∙ sym (map-map (updated table terms rest params) item xs))
 
-  -- DELETE, by what the rows stand for
+  -- DELETE, by the items of the rows
   pub removes : (at : ℕ) (c : Contents) (xs : List X) → slice_get c at ≡ Some (map item xs)
       → change_at at (λ _. map item (filter (λ x. not (p x)) xs)) c ≡ change_at at (filter (λ r. not (passes table terms params r))) c
   removes at c xs has = change_same at _ _ c (map item xs) has
       (ap (map item) (filter_same (λ x. not (p x)) (λ x. not (passes table terms params (item x))) (λ x. ap not (sym (tested x))) xs) ∙ sym (filter-map (λ r. not (passes table terms params r)) item xs))
 
-  -- SELECT, by what the rows stand for: these things, in that order, are what the answer shows
+  -- SELECT, by the items of the rows: the answer shows these items, in that order
   pub lists : (order : List (Term × Key)) (rest : List Term) (show : X → Row) → ((x : X) → shown_of table (keys_of order ++ rest) params (item x) ≡ show x)
       → (xs : List X) (answer : List Row) → IsSelected table terms order rest params (map item xs) answer
       → (ys : List X) × IsPermutation (filter p xs) ys × (answer ≡ map show ys) × IsSorted (λ x y. by_keys order (show x) (show y)) ys
@@ -70,7 +70,7 @@ module _ {X : Type 0} (table : Table) (terms : List Term) (params : Row) (item :
       let back = pull_back show (map show (filter p xs)) answer (subst (λ l. IsPermutation l answer) same it.same) (filter p xs) refl in
       (back.0, back.1, back.2, IsSorted-from_map (by_keys order) show back.0 (subst (IsSorted (by_keys order)) back.2 it.sorted))
 
-  -- count(*), by what the rows stand for
+  -- count(*), by the items of the rows
   pub passed : (xs : List X) → length (filter (passes table terms params) (map item xs)) ≡ length (filter p xs)
   passed xs = ap length (filter-map (passes table terms params) item xs) ∙ length-map (filter (λ x. passes table terms params (item x)) xs) item
       ∙ ap length (filter_same (λ x. passes table terms params (item x)) p tested xs)

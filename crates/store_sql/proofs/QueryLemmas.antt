@@ -1,4 +1,4 @@
--- What a query over one table answers: the rows that pass, projected, in the order asked for.
+-- The answer of a query over one table: the rows that pass, projected, in the order of the query.
 use Rattle.std.proofs.Common.{◌≡◌, inl, inr, ℕ, List, [], ◌∷◌, ◌++◌, map, filter, flat_map, take, length, Bool, cond, refl, sym, ap, subst, ◌∙◌, nat_le}
 use Rattle.std.specs.List.{list_all}
 use Rattle.std.specs.List.Sorted.{IsPermutation, IsSorted}

@@ -1,4 +1,4 @@
--- What SELECT answers of the contents, and what a query does inside a transaction.
+-- The answer of SELECT from the contents, and the effect of a query inside a transaction.
 use Rattle.std.proofs.Common.{◌≡◌, ◌⊎◌, inl, inr, ℕ, List, [], ◌∷◌, ◌++◌, slice_get, Option, Some, None, refl, sym, subst, ◌∙◌, IsTrue, true, Ok}
 use Rattle.std.specs.List.Sorted.{IsPermutation}
 use Rattle.std.proofs.lemmas.List.Sorted.{IsPermutation-map, IsPermutation-trans}

@@ -128,7 +128,7 @@ ends_at_once text params s schema at table terms order rest names means has c db
     let known : Ok c ≡ understood schema text = sym it.is ∙ ap (λ (k : Schema). understood k text) has in
     subst (λ (k : Command). EndsIn k db (timed params c.formats it.now)) (sym (ap command_of known ∙ means.means)) tt
 
--- the rows that were given so far begin the answer of the connection as it was
+-- the rows that were given up to now begin the answer in the old state
 pub given_begins : {S : Type 0} (g : store.Ghosts S) (text : List ℕ) (params : Row) (old : State) (h : Held S) (given : List Row) → IsTrue old.is_open
     → (IsPlain (understood old.now.schema text) → HasGiven g text params h given × IsUnchanged old (state g h)) → BeginsAnswer text params old given
 given_begins g text params old h given live was = (

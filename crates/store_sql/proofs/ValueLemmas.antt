@@ -1,4 +1,4 @@
--- What SQL's equality says of texts, blobs and integers, and what a cast to INTEGER leaves alone.
+-- SQL's equality of texts, blobs and integers, and the values that a cast to INTEGER leaves alone.
 use Rattle.std.proofs.Common.{◌≡◌, ℕ, ℤ, pos, List, Bool, true, false, ◌&&◌, ◌==◌, Some, refl, sym, ap, ◌∙◌, bytes_eq, cond}
 use Rattle.std.specs.Ordering.{is_eq, int_cmp}
 use Rattle.std.proofs.lemmas.Map.Text.{is_eq-slice_cmp}

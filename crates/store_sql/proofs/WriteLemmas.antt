@@ -1,4 +1,4 @@
--- What INSERT, UPDATE and DELETE do to the contents.
+-- The effect of INSERT, UPDATE and DELETE on the contents.
 use Rattle.std.proofs.Common.{◌≡◌, ℕ, List, [], ◌∷◌, ◌++◌, map, filter, drop, take, length, not, cond, Ok, sym, ap, subst, subst₂, ◌∙◌, arith}
 use Rattle.std.specs.List.Sorted.{IsPermutation}
 use Rattle.std.proofs.lemmas.List.{take_all}

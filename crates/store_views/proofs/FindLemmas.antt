@@ -1,4 +1,5 @@
--- Rows of a table by a key that stands there once at most: what some of the table's rows find.
+-- Rows of a table by a key that appears there at most once: those that some of the table's rows
+-- find.
 use Rattle.std.proofs.Common.{◌≡◌, ◌⊎◌, inl, inr, ◌≤◌, Bool, true, false, List, [], ◌∷◌, ◌++◌, length, filter, find, Option, Some, None, refl, sym, ap, subst, ◌∙◌, arith}
 use Rattle.store_reads.specs.Reads.{listed}
 

@@ -33,7 +33,7 @@ pub only_digest : (digest : List ℕ) (xs : List (List ℕ)) (x : List ℕ) → 
     → filter (bytes_eq digest) xs ≡ digest ∷ []
 only_digest digest xs x h = h ∙ ap (λ y. y ∷ []) (sym (same_text digest x (passes (bytes_eq digest) xs x h)))
 
--- what is revoked of a kind, as a read tells it
+-- the revoked digests of a kind, as a read gives them
 pub told_revoked : (kind : ListedKind) (t : Tables) (digest : List ℕ) (xs : List (List ℕ)) → filter (bytes_eq digest) (revoked_in kind t) ≡ xs → revocations_of kind t digest ≡ xs
 told_revoked kinds.Digest t digest xs h = h
 told_revoked kinds.Certificate t digest xs h = h

@@ -1,4 +1,4 @@
--- What is gathered for keys has, for each of them, what the table has.
+-- Rows gathered for keys: for each key, those of the table.
 use Rattle.std.proofs.Common.{◌≡◌, Bool, true, false, ◌||◌, List, [], ◌∷◌, map, Option, Some, None, refl, sym, ap, ◌∙◌}
 use Rattle.std.specs.Prelude.{filter, find, flat_map, if◌then◌else◌}
 use Rattle.std.specs.List.{list_any}
@@ -42,7 +42,7 @@ module _ {K X : Type 0} (asked : K → X → Bool) (p : X → Bool) (same : K �
     | false ↦ λ is. none_found p (asked k) (apart k is) table
   ] refl
 
-  -- by a key that was asked for, the rows of all that were asked for have the table's first row
+  -- a key among these finds, in the rows of all of them, the table's first row
   pub of_keys : (keys : List K) → find p (flat_map (λ k. filter (asked k) table) keys) ≡
       (if list_any same keys then find p table else None)
   of_keys [] = refl

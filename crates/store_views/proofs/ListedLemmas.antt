@@ -1,4 +1,4 @@
--- How many entries are listed after an accepted call.
+-- The number of listed entries after an accepted call.
 use Rattle.std.proofs.Common.{◌≡◌, ℕ, ◌+◌, Bool, true, false, not, cond, ◌||◌, List, [], ◌∷◌, length, None, refl, ◌∙◌, ap, arith}
 use Rattle.std.proofs.lemmas.Bool.{and_parts, not-true, or_parts}
 use Rattle.desk_bytes.specs.declared.refusal.Refusal.{Refusal}

@@ -1,4 +1,4 @@
--- From what reads by keys gave to what a call's rows show, and hold.
+-- From the results of reads by keys to the rows that a call shows, and holds.
 use Rattle.std.proofs.Common.{◌≡◌, ℕ, ◌==◌, Bool, true, false, ◌||◌, List, [], ◌∷◌, ◌++◌, filter, find, bytes_eq, Option, Some, None, IsTrue, All, refl, sym, ap, subst, ◌∙◌, arith}
 use Rattle.std.specs.List.{list_any}
 use Rattle.std.specs.List.Sorted.{IsPermutation}
@@ -62,7 +62,7 @@ the_key name n h = sym ((bytes_eq-Decides name n).0 (go (bytes_eq name n) h))
     go true h = refl
     go false h = absurd (let k = h in cc)
 
--- what is found by the only one of some keys
+-- the row found by the only one of some keys
 module _ {X : Type 0} (p : List ℕ → X → Bool) (rows table : List X) where
   for_none : (keys : List (List ℕ)) → keys ≡ [] → (k : List ℕ) → IsTrue (list_any (λ n. bytes_eq k n) keys) → find (p k) rows ≡ find (p k) table
   for_none keys none k h = absurd (let at = subst (λ l. IsTrue (list_any (λ n. bytes_eq k n) l)) none h in cc)

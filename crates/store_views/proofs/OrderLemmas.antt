@@ -1,4 +1,4 @@
--- What is shown for digests in order is shown for those that were named.
+-- Views of digests in order, which are also views of the digests that were named.
 use Rattle.std.proofs.Common.{◌≡◌, ℕ, List, ap, subst, sym, ◌∙◌, IsTrue}
 use Rattle.std.specs.Prelude.{All, bytes_eq}
 use Rattle.std.specs.List.{Contains}
@@ -15,7 +15,7 @@ use Rattle.desk_rules.specs.Views.{EntryKeys, ShowsLists, keys_for, revoked_rows
 use Rattle.store_views.specs.lists.Gathering.{barring_keys}
 use Rattle.store_views.specs.lists.Lists.{HoldsNoOther}
 
--- the same of lists that are these
+-- lists equal to these are arranged so too
 pub arranged_as : (named digests ordered images : List (List ℕ)) → named ≡ digests → images ≡ ordered
     → IsArranged named ordered → IsArranged digests images
 arranged_as named digests ordered images same is h =

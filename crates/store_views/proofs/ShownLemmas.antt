@@ -1,4 +1,4 @@
--- What was gathered for keys shows the lists for them.
+-- Rows gathered for keys, which show the lists for these keys.
 use Rattle.std.proofs.Common.{◌≡◌, ℕ, Bool, true, false, ◌||◌, ◌&&◌, List, [], ◌∷◌, ◌++◌, map, Option, None, refl, sym, ap, subst, ◌∙◌, IsTrue}
 use Rattle.std.specs.Prelude.{All, bytes_eq, filter, find, flat_map, if◌then◌else◌}
 use Rattle.std.specs.List.{list_any}

@@ -1,4 +1,4 @@
--- How sizes follow an accepted call.
+-- Sizes after an accepted call.
 use Rattle.std.proofs.Common.{◌≡◌, ℕ, ◌+◌, ◌-◌, ◌<◌, ◌≤◌, Bool, true, ◌&&◌, List, ◌∷◌, length, Option, Some, None, refl, sym, ◌∙◌, ap, subst, arith}
 use Rattle.std.specs.Prelude.{IsTrue, count_by, is_some, nat_le, nat_lt}
 use Rattle.std.proofs.lemmas.Bool.{and_parts}
@@ -34,7 +34,7 @@ use Rattle.store_views.specs.sizes.Sizes.{AreRight, Follows, KnowsNoLess, known}
 use Rattle.store_views.specs.sizes.Steps.{listed_after, more, one_less, sizes_after}
 use Rattle.store_views.proofs.ListedLemmas.{Changed, listed_changes}
 
--- a size after a command is that of a table with so many rows, and is known where the one before is
+-- a size after a command is that of a table with `rows` rows, and is known where the one before is
 record Goes (before after : Option ℕ) (rows : ℕ) : Type 0 where
   right : (m : ℕ) → after ≡ Some m → m ≡ rows
   kept : IsTrue (is_some before) → IsTrue (is_some after)

@@ -3,7 +3,7 @@ use Rattle.std.specs.Prelude.{string_bytes}
 use Rattle.cli_words.proofs.LineLemmas.{fault_among, line_given, line_kept, line_met, line_read, line_taken, no_fault}
 use Rattle.cli_words.proofs.words_reading.words.Goals as goal
 
--- a line of plain words is refused only for want of memory
+-- a line of plain words is refused only if memory is refused
 pub returns-else-eq : goal.returns-else-eq
 returns-else-eq c = record {
   exact =

@@ -17,7 +17,7 @@ returns-in_default-clause-value g c clean inside =
     (rw (c.params-to_sql.ensures, c.params-to_sql-2.ensures, c.as_str.ensures.value) at (c.in_ok-found.ensures.value clean inside)) in
     record { kept = it.kept; tells = λ t sees all. none_told texts_of (filter asked t.calls) (it.tells t sees ∙ ap listed c.in_default.is) }
 
--- there is one, whose texts tell it
+-- there is one, which its texts determine
 pub returns-clause-value : goal.returns-clause-value
 returns-clause-value g c clean inside =
     let asked = has_key c.args.caller.now c.args.key.now in
