@@ -13,7 +13,7 @@ from days import RETURNS
 from desk import CERTIFICATE, NO_MEMORY, OWNER, SIGNED, STORED, X509_KIND, Program, expect, fail, got, signature_list, text
 
 PROGRAM, LIBRARY, ROOT, STRIDE = sys.argv[1], sys.argv[2], sys.argv[3], int(sys.argv[4])
-# Of more allocations of one size in a row, which are the store's pages taken at once, the first, the last and one in so many are refused.
+# Of more than this many allocations of one size in a row, which are the store's pages taken at once, the first, the last and one in LONG_ROW are refused.
 LONG_ROW = 100
 # Set where this ends early, by a fault of one case or by a signal: then the other cases end too.
 ENDING = threading.Event()
@@ -28,7 +28,7 @@ class Case(NamedTuple):
     wanted: bytes
     given: bytes = b""
     status: int = 0
-    # How much may be written before memory is refused; whether what stands in place of it may be the response of NoMemory.
+    # How many bytes may be written before memory is refused; whether the response of NoMemory may be written instead.
     most: int = 0
     answers: bool = False
     # The desk's file that it finds: one of the desks below, or none; and its minutes, where they are compared.

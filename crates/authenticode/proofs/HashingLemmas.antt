@@ -16,13 +16,13 @@ use Rattle.authenticode.specs.Hashing.{padding_of, signed_bytes}
 
 -- ---- blocks of a range
 
--- what a read put into the front of a block
+-- the bytes that a read put into the front of a block
 pub block_read : (content file out block : List ℕ) (at size : ℕ) → content ≡ file → size ≤ length block
     → out ≡ slice_range content at (at + length (take size block)) → out ≡ slice_range file at (at + size)
 block_read content file out block at size same fits is =
     is ∙ ap (λ k. slice_range content at (at + k)) (length-take-le size block fits) ∙ ap (λ f. slice_range f at (at + size)) same
 
--- what is shown of a block whose front was read
+-- the front of a block after a read
 pub block_front : (out block : List ℕ) (size : ℕ) → length out ≡ size → take size (out ++ drop size block) ≡ out
 block_front out block size wide = ap (λ k. take k (out ++ drop size block)) (sym wide) ∙ take-append_seam out (drop size block)
 
@@ -48,7 +48,7 @@ Feeds-next hasher next f s rest message h more = record {
   whole = append_assoc h.fed (slice_range f s.from s.to) (bytes_at f rest) ∙ h.whole;
 }
 
--- ---- what is to be signed
+-- ---- the bytes to be signed
 
 told : {X : Type 0} (b : Bool) (x : X) → is_some (cond b (Some x) None) ≡ b
 told true x = refl

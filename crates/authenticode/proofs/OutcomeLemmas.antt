@@ -29,7 +29,7 @@ unreadable_stops left bad own next h = elim h.gives [
   | inr g ↦ g.0 bad.signed
 ]
 
--- ---- what a walk to the end gives
+-- ---- the result of a walk to the end
 
 walked_same : (table : List ℕ) (xs ys : List (List ℕ)) → IsWalked table xs → IsWalked table ys → xs ≡ ys
 walked_same table xs ys h k =
@@ -43,7 +43,7 @@ carries_one table ds es h k =
 pub IsCarried-one : (table : List ℕ) (ds es : List (List ℕ)) → IsCarried table ds → IsCarried table es → ds ≡ es
 IsCarried-one table ds es h k = carries_one table ds es h.0 k.0
 
--- ---- what excludes what
+-- ---- results that exclude one another
 
 stuck : (table left : List ℕ) (xs ys : List (List ℕ)) → Walks GivesEntry table xs left → is_end left ≡ false → Stops GivesEntry left
     → IsWalked table ys → ⊥

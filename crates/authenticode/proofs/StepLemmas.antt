@@ -51,7 +51,7 @@ pub record IsDetermined (Step : Stepping) : Type 0 where
 abbrev pub Stops : Stepping → List ℕ → Type 0
 Stops Step b = (own : List (List ℕ)) (next : List ℕ) → Step b own next → ⊥
 
--- what is left of a walk to d, where another led to c
+-- the rest of a walk to d, where another led to c
 record Remains (Step : Stepping) (c d : List ℕ) (xs ys : List (List ℕ)) : Type 0 where
   count : ℕ
   others : List (List ℕ)

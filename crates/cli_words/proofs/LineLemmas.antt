@@ -66,7 +66,7 @@ reads_back (list file) = refl
 reads_back (pack owner) = refl
 reads_back (minutes path) = refl
 
--- ---- what `words` cites
+-- ---- the lemmas that `words` cites
 
 -- the command takes the line
 pub line_taken : (line : Line) (app : App) (words : List Text) → app ≡ desk_app → Spells words line → takes app words ≡ true

@@ -68,7 +68,7 @@ row_at place word = record {
   reading = reading_by (positional place);
 }
 
--- what is found of the words, from this place on
+-- the rows for the words from this place on
 abbrev pub rows_from : ℕ → List Text → List Row
 rows_from place [] = []
 rows_from place (word ∷ words) = row_at place word ∷ rows_from (place + 1) words

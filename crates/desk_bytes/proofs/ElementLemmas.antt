@@ -192,6 +192,6 @@ certificate_of b p q e tag none f first =
       is = i.is;
     }
 
--- what is read is an element, and each element is read
+-- the part that is read is an element, and each element is read
 pub element_of-each : (b : List ℕ) (p : Part) → IsElement p.tag p.content p.whole → b ≡ p.whole ++ p.rest → element_of b ≡ Some p
 element_of-each b p h is = ap element_of is ∙ element_of-again p.tag p.content p.whole p.rest h

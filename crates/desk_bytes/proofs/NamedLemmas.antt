@@ -2,7 +2,7 @@
 use Rattle.std.proofs.Common.{◌≡◌, ℕ, List, [], ◌∷◌, ◌++◌, Result, Ok, Err, refl, sym, ap, append_assoc}
 use Rattle.desk_bytes.specs.Lines.{put_first}
 
--- what was read already, and then the rest
+-- the items that were read already, and then the rest
 abbrev pub put_before : {X : Type 0} → List X → Result (List X) ℕ → Result (List X) ℕ
 put_before xs (Ok ys) = Ok (xs ++ ys)
 put_before xs (Err n) = Err n

@@ -80,7 +80,7 @@ sorted_same o (x ∷ xs) (y ∷ ys) up above to from =
 
 -- ---- digests that are sorted and freed of repeats
 
--- what sorting and then dropping repeats leave
+-- sorting, and then dropping repeats, arranges a list
 pub IsArranged-sorted : (named sorted ds : List (List ℕ)) → IsPermutation named sorted → IsSorted (slice_cmp nat_cmp) sorted
     → IsFiltered (DiffersFromLast (pointwise nat_eq)) [] sorted ds → IsArranged named ds
 IsArranged-sorted named sorted ds moved up kept = record {

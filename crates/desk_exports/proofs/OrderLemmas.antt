@@ -110,7 +110,7 @@ module _ {X : Type 0} (key : X → List ℕ) where
   pub sorted : (xs : List X) → are_apart same_key xs ≡ true → IsInOrder key xs (ascending_by key xs)
   sorted xs h = record { ascends = sort_ascends xs h; same = sort_moved xs }
 
--- ---- what is revoked
+-- ---- revoked entries
 
 pub revoked_in_order : (kind : ListedKind) (cs : History) → IsInOrder (λ digest. digest) (distinct (revocations kind cs)) (revoked kind cs)
 revoked_in_order kind cs = sorted (λ digest. digest) (distinct (revocations kind cs)) (once_apart (revocations kind cs))
@@ -120,7 +120,7 @@ all_revoked kind cs digest =
     let once : List (List ℕ) = distinct (revocations kind cs) in
     sym (list_any-IsPermutation (bytes_eq digest) once (revoked kind cs) (sort_moved (λ text. text) once)) ∙ any_once digest (revocations kind cs)
 
--- ---- what is listed
+-- ---- listed entries
 
 abbrev is_of : ListedKind → Entry → Bool
 is_of kind e = is_same_kind kind e.kind

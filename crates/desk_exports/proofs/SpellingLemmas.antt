@@ -33,7 +33,7 @@ use Rattle.desk_exports.proofs.OrderLemmas.{all_moved, length_ascending, sort_mo
 joined : (ls ms : List SignatureList) → Spells ls (spelling ls) → Spells ms (spelling ms) → Spells (ls ++ ms) (spelling (ls ++ ms))
 joined ls ms h k = subst (Spells (ls ++ ms)) (sym (flat_map-append list_bytes ls ms)) (Spells-append ls ms (spelling ls) (spelling ms) h k)
 
--- what each item has whole is kept by those that pass a test
+-- all items that pass a test have the fact that it gives
 kept : {X : Type 0} (P Q : X → Type 0) (p : X → Bool) → ((x : X) → P x → p x ≡ true → Q x) → (xs : List X) → AllByRecursion P xs → AllByRecursion Q (filter p xs)
 kept P Q p each [] h = tt
 kept P Q p each (x ∷ xs) h =

@@ -85,7 +85,7 @@ legal_back : (between earlier : History) → is_legal (between ++ earlier) ≡ t
 legal_back [] earlier h = h
 legal_back (i ∷ between) earlier h = legal_back between earlier (newest (between ++ earlier) i h).before
 
--- what is proposed is named
+-- the entries of a proposal are those that its call names
 proposed_names : (c : Call) (rules : Rules) (named : Named) → proposed_by (under rules c) ≡ Some named → Names (under rules c) named.entries
 proposed_names c First named h = no_some named h
 proposed_names c Second named h = ap entries_of h
@@ -141,9 +141,9 @@ by_rules cs c Second entries here h = inr (refl, second_puts cs c c.command entr
 pub two_officers_put : TwoOfficersPut
 two_officers_put cs i entries legal h = by_rules cs i.call i.rules entries (newest cs i legal) h
 
--- ---- what closes a proposal
+-- ---- calls that close a proposal
 
--- what a call that closes a proposal found of it
+-- a call that closes a proposal found it open
 record Closes (cs : History) (o : ProposalOutcome) : Type 0 where
   there : is_some (proposal cs o.proposal) ≡ true
   was_open : proposal_state cs o.proposal ≡ states.Open

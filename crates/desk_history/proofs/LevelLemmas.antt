@@ -49,11 +49,11 @@ raised_other : (same lower : Bool) (rest : Option Refusal) → (if same || lower
 raised_other false lower rest h = refl
 raised_other true lower rest h = no_refusal h
 
--- what these entries put into force
+-- these entries put no component named `sbat` into force
 abbrev AreOther : Option Imported → Type 0
 AreOther o = names_no_sbat (option_map_or forced o nothing).components ≡ true
 
--- what a command names that isn't refused
+-- nor do those that a command names, if it isn't refused
 named_other : (cs : History) (given : Command) → IsWithin given → force_refusal cs given ≡ None → AreOther (entries_of (named_by given))
 named_other cs (command.RaiseLevel r) w h =
     joined (is_other r.component.name) true
@@ -72,7 +72,7 @@ own_force cs name (command.RaiseLevel _) own = own
 own_force cs name (command.ImportRevocations _) own = own
 own_force cs name _ own = refl
 
--- what is confirmed isn't refused
+-- the entries of a proposal that is confirmed aren't refused
 confirmed_force : (state : ProposalState) (own : Bool) (refused : Option Refusal) → confirm_by state own refused ≡ None → refused ≡ None
 confirmed_force states.Open false refused h = h
 confirmed_force states.Open true refused h = no_refusal h
@@ -90,7 +90,7 @@ confirmed_other : (cs : History) (name : List ℕ) (given : Command) → All IsI
 confirmed_other cs name (command.Confirm k) h own = proposed_other cs (proposal cs k) (proposal_state cs k) name (found_proposed cs k h) own
 confirmed_other cs name _ h own = refl
 
--- what an accepted call puts into force
+-- nor does an accepted call
 put_other : (cs : History) (c : Call) (rules : Rules) → All IsItem cs → IsWithin c.command → own_refusal cs (caller_name c.caller) c.command ≡ None
     → names_no_sbat (into_force cs (under rules c)).components ≡ true
 put_other cs c First h w own = named_other cs c.command w (own_force cs (caller_name c.caller) c.command own)

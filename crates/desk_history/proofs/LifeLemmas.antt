@@ -22,14 +22,14 @@ use Rattle.desk_history.specs.Runs.{answer_known, earlier, has_key, is_accepted,
 use Rattle.desk_history.proofs.ListLemmas.{bytes_eq-refl, same_text}
 use Rattle.desk_history.proofs.RunLemmas.{accepted_parts, by_next, goes_on-trans, next_goes_on, next_legal}
 
--- what holds before an event and is kept by its call holds after the event
+-- a fact that holds before an event and is kept by its call holds after the event
 pub turned : (P : History → Type 0) (cs : History) (i : Item) (fate : Fate) (later : History) → P cs → P (next_item cs i) → MayTurn cs i fate later → P later
 turned P cs i (Answered reply) later same more t = subst P (sym t.1) more
 turned P cs i Refused later same more t = subst P (sym t) same
 turned P cs i Stopped later same more (inl e) = subst P (sym e) same
 turned P cs i Stopped later same more (inr e) = subst P (sym e) more
 
--- what each call keeps, events keep
+-- a fact that each call keeps is kept by events
 left_kept : (P : History → Type 0) → ((h : History) (i : Item) → P h → P (next_item h i)) → (cs : History) (events : List Event) (end : History) → P cs → MayLeave cs events end → P end
 left_kept P each cs [] end h left = subst P (sym left) h
 left_kept P each cs (e ∷ events) end h left =

@@ -76,7 +76,7 @@ once_apart (t ∷ ts) =
       | false ↦ λ e. apart-more bytes_eq t (distinct ts) (any_once t ts ∙ e) (once_apart ts)
     ] refl
 
--- what is left from a place on begins with the item there
+-- the rest of a list from a place on begins with the item there
 pub split_at : {X : Type 0} (xs : List X) (i : ℕ) (x : X) → i < length xs → x ≡ get_or xs i x → drop i xs ≡ x ∷ drop (i + 1) xs
 split_at xs i x h is = rw (add-one, drop-cons xs i x) (ap (λ d. d ∷ drop (suc i) xs) (sym is))
 

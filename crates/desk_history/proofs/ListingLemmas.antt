@@ -59,7 +59,7 @@ without_other kind other digest d (x ∷ rows) h =
         let both : (is_same_kind other k ≡ true) × (bytes_eq d t ≡ true) = and_parts (is_same_kind other k) (bytes_eq d t) e in
         ap (λ v. is_one kind digest v t) (sym (same_kind other k both.0)) ∙ (ap (λ v. is_one kind digest other v) (sym (same_text d t both.1)) ∙ h)
 
--- what a call about another or this entry leaves
+-- the entries after a call about this entry or another
 taken_off : (kind other : ListedKind) (digest d : List ℕ) (rows : List Entry) (c : Item) (rest : Bool) → lists c.call.command ≡ false → has_entry kind digest rows ≡ rest →
     has_entry kind digest (without other d rows) ≡ (if is_one kind digest other d then lists c.call.command else rest)
 taken_off kind other digest d rows c rest off h =

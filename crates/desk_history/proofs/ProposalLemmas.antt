@@ -47,7 +47,7 @@ module _ (at : Proposal → ProposalState) where
   proposals_apart [] = refl
   proposals_apart (i ∷ cs) = next_apart (proposals cs) i.call (proposed_by i) (λ n. any_proposal n cs) (proposals_apart cs)
 
--- ---- what they name
+-- ---- the entries that they name
 
 -- the proposal names what its command names, which is in its forms and keeps within its limits
 pub record IsProposed (p : Proposal) : Type 0 where
@@ -69,7 +69,7 @@ all_proposed (i ∷ cs) h =
     let here = All-head IsItem i cs h in
     one_proposed (proposals cs) i.call i.rules here.forms here.limits (all_proposed cs (All-tail IsItem i cs h))
 
--- what is found is one of them
+-- the item that is found is one of the list
 found_all : {X : Type 0} (P : X → Type 0) (p : X → Bool) (xs : List X) → All P xs → IfSome (find p xs) P
 found_all P p [] h = tt
 found_all P p (x ∷ xs) h =
@@ -102,13 +102,13 @@ all_named (i ∷ cs) = one_named (proposals cs) i.call i.rules (all_named cs)
 pub found_named : (cs : History) (k : ℕ) → IfSome (proposal cs k) HasNames
 found_named cs k = found_all HasNames (is_proposal k) (proposals cs) (all_named cs)
 
--- ---- what is put into force
+-- ---- entries that are put into force
 
 -- the entries that a command names
 abbrev pub entries_of : Option Named → Option Imported
 entries_of o = option_map (λ n. n.entries) o
 
--- what holds of all that a command in its forms names
+-- a fact of all entries that a command in its forms names
 module _ (P : Imported → Type 0) (names_so : (c : Command) → IsCommand c → IsWithin c → IfSome (entries_of (named_by c)) P) where
   proposed_so : (o : Option Proposal) → IfSome o IsProposed → IfSome (option_map (λ (p : Proposal). p.named.entries) o) P
   proposed_so None h = tt
@@ -133,6 +133,6 @@ named_few (command.RaiseLevel r) f w = omega arith
 named_few (command.ImportRevocations i) f w = w.entries
 named_few _ f w = tt
 
--- what a call in its forms puts into force is no more than an import may name
+-- a call in its forms puts no more entries into force than an import may name
 pub enforced_few : (cs : History) (c : Call) (rules : Rules) → All IsItem cs → IsCall c → IfSome (enforced_by cs (under rules c)) AreFew
 enforced_few cs c rules h given = enforced_so AreFew named_few cs c rules h given

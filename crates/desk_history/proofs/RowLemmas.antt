@@ -61,7 +61,7 @@ requests_apart at (s ∷ ss) =
     let r : Request = record { number = length ss + 1; submitter = s.submitter; title = s.submission.title; facts = s.submission.facts } in
     apart-more (λ (a b : RequestRow). a.number == b.number) (request_row (at r) r) (map (λ r. request_row (at r) r) (numbered ss)) (any_request (length ss + 1) at ss (omega arith)) (requests_apart at ss)
 
--- what a call must be to be accepted, command by command
+-- the conditions on which a call is accepted, command by command
 
 -- people
 

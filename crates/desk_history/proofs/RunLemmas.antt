@@ -32,7 +32,7 @@ use Rattle.desk_history.specs.Runs.{answer_known, earlier, is_accepted, is_legal
 abbrev pub giving : Item → Command → Item
 giving i given = record i { call = record i.call { command = given } }
 
--- what is true of an item that is accepted
+-- the facts of an item that is accepted
 pub record IsNew (cs : History) (i : Item) : Type 0 where
   pub fresh : earlier cs i.call ≡ None
   pub allowed : may_give cs i.call.caller i.call.command ≡ true
@@ -64,7 +64,7 @@ accepted_parts cs i h =
     parts (is_known cs i.call.caller) (earlier cs i.call) (text_of i.call.command) (may_give cs i.call.caller i.call.command) (own_refusal cs (caller_name i.call.caller) i.call.command) (is_within (i ∷ cs)) (reply_to cs i) h in
     record { fresh = p.is_fresh; allowed = p.is_allowed; own = p.is_right; within = p.has_room }
 
--- what is true of the newest of a legal history
+-- the facts of the newest item of a legal history
 pub record IsNewest (cs : History) (i : Item) : Type 0 where
   pub accepted : is_accepted (ruling cs i) ≡ true
   pub follows : may_follow cs i ≡ true

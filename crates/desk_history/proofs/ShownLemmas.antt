@@ -13,7 +13,7 @@ use Rattle.desk_history.specs.People.{has_name, people, person}
 use Rattle.desk_history.specs.Shown.{SubmittersSeeOwn, Whole, found_among, own, role_of, sees, shown_to, wholes}
 use Rattle.desk_history.proofs.ListLemmas.{same_text}
 
--- what is found passes the test
+-- the item that is found passes the test
 pub found_passes : {X : Type 0} (p : X → Bool) (xs : List X) (x : X) → find p xs ≡ Some x → p x ≡ true
 found_passes p [] x e = absurd cc
 found_passes p (y ∷ xs) x e = elim (p y) as (λ b. p y ≡ b → p x ≡ true) [

@@ -74,7 +74,7 @@ abbrev pub EndsAreHistories : Type 0
 EndsAreHistories =
     (lives : List Life) (cs : History) → Ends lives cs → All (λ e. IsItem e.item) (events_of lives) → IsHistory cs
 
--- and each call that was answered Ok stands in it with its reply
+-- and each call that was answered Ok is in it with its reply
 abbrev pub AnsweredCallsStand : Type 0
 AnsweredCallsStand =
     (lives : List Life) (cs : History) → Ends lives cs → All (λ e. IsItem e.item) (events_of lives)

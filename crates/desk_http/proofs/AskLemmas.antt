@@ -11,7 +11,7 @@ use Rattle.desk_http.specs.Refused.{refused_by_fields}
 use Rattle.desk_http.specs.declared.served.Unread.{Unread}
 use Rattle.desk_http.specs.declared.served.Unread.TheVariants.{Outage}
 
--- what is due of a request whose fields have a fault holds of what it is refused for
+-- the answer that is due if the fields have a fault is the refusal for it
 pub fault_is_due : {A : Type 0} → (given : Result A AskedFault) (f : AskedFault) (r : Result Due Unread) (holds : Due → Type 0)
     → (f ≢ NoMemory → given ≡ Err f)
     → MatchResult r (λ due. (f ≢ NoMemory) × (due ≡ Err (refused_by_fields f))) (λ u. u ≡ Outage outage.NoMemory)

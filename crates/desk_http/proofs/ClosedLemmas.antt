@@ -30,7 +30,7 @@ use Rattle.desk_http.specs.declared.served.Unread.TheVariants as unread
 use Rattle.desk_http.proofs.AskLemmas.{head_reads_itself}
 use Rattle.desk_http.proofs.SendLemmas.{SendsFor}
 
--- ---- what comes without a desk
+-- ---- faults that come without a desk
 
 pub own_can_come : (u : Unread) → IsOwn u → CanCome u
 own_can_come unread.Read h = tt
@@ -136,7 +136,7 @@ told_closed input a told closed (inr x) = record {
   closed = known input told (λ b. inr (inl x.0));
 }
 
--- what went out
+-- the response of a desk that has failed, as it went out
 pub responds_closed : (input before after : Option (List ℕ)) (a : Answer) (r : Result Served HttpFault)
     → TellsClosed input a → SendsFor before after a r → RespondsClosed input before after r
 responds_closed input before after a (Ok (Answered answered)) closed sent = record {

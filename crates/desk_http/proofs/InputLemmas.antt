@@ -69,7 +69,7 @@ asks_the_same cs b h rest more due has (inl x) =
     inl (h, rest ++ more, followed b more h rest has.head, x.3 ∙ (alike ∙ sym same))
 asks_the_same cs b h rest more due has (inr x) = absurd (x.1 h rest has.head)
 
--- ---- what is read of a head
+-- ---- heads that are read
 
 -- the head wants this
 pub wanted_is_due : (w : Result Want WantedFault) (v : Want) (r : Result Due Unread) (known : Option (List ℕ)) (shows : List ℕ → History → Type 0)

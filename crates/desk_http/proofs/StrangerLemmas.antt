@@ -67,7 +67,7 @@ input_leaves unread.Read holds h = tt
 input_leaves unread.NoMemory holds h = tt
 input_leaves (unread.Outage o) holds h = absurd h
 
--- what is left of an input is left whatever became of its response
+-- the rest of an input stays the same, whatever became of its response
 pub leaves_strangers : (old : List ℕ → History → Type 0) (input left : Option (List ℕ)) (r : Result Served HttpFault)
     → LeavesBody old input left → LeavesStrangers old input left r
 leaves_strangers old input left (Ok (Answered answered)) h = (h, tt)

@@ -108,11 +108,11 @@ early_parts true own r h = given refusals.ProposalClosed r refl h
 early_parts false true r h = given refusals.OwnProposal r refl h
 early_parts false false r h = none_some h
 
--- what a Confirm refuses of a closed proposal and of an own one
+-- the refusals of a Confirm of a closed proposal or of an own one
 pub early_only : (state : ProposalState) (own : Bool) (r : Refusal) → confirm_by state own None ≡ Some r → may_answer r ≡ true
 early_only state own r h = early_parts (is_closed state) own r h
 
--- what a decision by a refusal, a reply and writes refuses
+-- the refusals of a decision by a refusal, a reply and writes
 decided_only : (result : Result Changes Refusal) (refusal : Option Refusal) (reply : Reply) (ws : List Write) → Decided result refusal reply ws → ((r : Refusal) → refusal ≡ Some r → may_answer r ≡ true) →
     IfErr result (λ r. IsTrue (may_answer r))
 decided_only (Ok changes) refusal reply ws told each = tt
@@ -177,7 +177,7 @@ module _ (v : View) (result : Result Changes Refusal) where
   pub drops_only : (k : ℕ) (reply : Reply) (ws : List Write) → Decided result (drop_refusal_in v k) reply ws → IfErr result (λ r. IsTrue (may_answer r))
   drops_only k reply ws told = decided_only result (drop_refusal_in v k) reply ws told (dropped_only (find (is_proposal_row k) v.proposals.items))
 
--- what the key's earlier call refuses
+-- the refusal by the key's earlier call
 repeated_only : (m : Minute) (text : List ℕ) (r : Refusal) → repeated m text ≡ Refused r → may_answer r ≡ true
 repeated_only m text r = elim (bytes_eq m.text text) as (λ b. (if b then Repeated m.reply else Refused refusals.KeyReused) ≡ Refused r → may_answer r ≡ true) [
   | true ↦ λ h. cc

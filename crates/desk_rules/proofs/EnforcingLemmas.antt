@@ -88,7 +88,7 @@ stamp_kept n (Some s) = elim (nat_lt 0 n) as (λ b. list_any takes_off (if b the
 counted : (new rows : List (List ℕ)) → length new ≡ length (reverse new ++ rows) - length rows
 counted new rows = omega (arith, length-append (reverse new) rows, length-reverse new)
 
--- what is refused by its name is refused at any generation
+-- a component refused by its name is refused at any generation
 named_lower : (same : Bool) (n first : ℕ) (named : Option ℕ) → (same || not (is_above n named)) ≡ (same || not (is_above n (if same then Some first else named)))
 named_lower true n first named = refl
 named_lower false n first named = refl

@@ -17,7 +17,7 @@ use Rattle.desk_rules.proofs.SubmissionLemmas.{turned}
 
 -- sets of digests
 
--- what is found by the order is found by being the same
+-- a key is found by the order exactly if it is among the keys
 pub found_same : (q : List ℕ) (keys : List (List ℕ)) → list_any (λ x. is_eq (slice_cmp nat_cmp q x)) keys ≡ is_among keys q
 found_same q [] = refl
 found_same q (x ∷ keys) = ap (λ b. b || list_any (λ x. is_eq (slice_cmp nat_cmp q x)) keys) (is_eq-slice_cmp q x) ∙ ap (λ b. bytes_eq q x || b) (found_same q keys)

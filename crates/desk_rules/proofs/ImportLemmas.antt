@@ -35,7 +35,7 @@ greater_below : (g : ℕ) (o : Option ℕ) → is_above g o ≡ false → Some (
 greater_below g None h = cc
 greater_below g (Some m) h = let le : g ≤ m = ltb-false m g h in ap (λ n. Some n) (omega arith)
 
--- what is above the greatest of more is above that of fewer
+-- a generation above the greatest of more components is above that of fewer
 above_fewer : (g : ℕ) (n : List ℕ) (seen old : List Component) → is_above g (greatest (seen ++ old) n) ≡ true → is_above g (greatest old n) ≡ true
 above_fewer g n [] old h = h
 above_fewer g n (x ∷ seen) old h =

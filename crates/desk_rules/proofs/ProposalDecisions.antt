@@ -44,7 +44,7 @@ use Rattle.desk_rules.proofs.EnforcingLemmas.{force_seen, kept, puts, says}
 abbrev next_row : History → List ℕ → Named → ProposalState → ProposalRow
 next_row cs officer n s = record { number = length (proposals cs) + 1; officer = officer; kind = n.kind; named = n.entries; state = s }
 
--- what a command that names something is
+-- a command that names these entries proposes them
 record IsProposal (owner : List ℕ) (cs : History) (caller : Caller) (key : List ℕ) (c : Command) (n : Named) : Type 0 where
   keys : keys_asked (tables owner cs) (called caller key c) ≡ import_keys n.entries
   own : own_refusal cs (caller_name caller) c ≡ force_refusal cs c
@@ -96,7 +96,7 @@ entries_by : (s : ProposalState) (o : Option Proposal) → option_map (λ (p : P
 entries_by s None = refl
 entries_by s (Some p) = refl
 
--- what a closed or an own proposal is refused, whatever its command would be
+-- a closed or an own proposal is refused alike, whatever its command would be
 early : (state : ProposalState) (own : Bool) (refused : Option Refusal) (r : Refusal) → confirm_by state own None ≡ Some r → confirm_by state own refused ≡ Some r
 early states.Open true refused r h = h
 early states.Open false refused r h = absurd cc

@@ -205,7 +205,7 @@ pub right_header : {R : Type 0} (rem : R → Option (List ℕ)) (old new : Reade
 right_header rem old new f read is rows h =
     let r = read rows h in record { rest = r.0; same = ap items_in r.1 ∙ ap (λ b. cond b (items_from 1 r.0) (Err 0)) is; leaves = r.2 }
 
--- what was gathered, as the file's import
+-- the gathered entries are the file's import
 pub IsCsvImport-given : (text : List ℕ) (stamp : Option ℕ) (g : Gathering) (command : Command) → GathersRecords (records_of text) g
     → ((items : List Item) → Gathers items g → IsCommandOf stamp items command) → IsCsvImport text stamp command
 IsCsvImport-given text stamp g command h is = record { items = h.items; read = h.read; is = is h.items h.gathers }

@@ -19,7 +19,7 @@ named_items (item.Certificate d ∷ items) = let rest = named_items items in ome
 named_items (item.Component c ∷ items) = let rest = named_items items in omega (arith, rest)
 named_items (item.Passed ∷ items) = let rest = named_items items in grind (arith, common_steps, rest)
 
--- what a gathering of these parts shows
+-- a gathering of these parts
 abbrev pub gathering : ℕ → ℕ → List (List ℕ) → List (List ℕ) → List Component → Gathering
 gathering count passed digests certificates components = record {
   count = count;

@@ -7,7 +7,7 @@ use Rattle.desk_bytes.specs.Parts.{Part, element_of}
 use Rattle.desk_bytes.proofs.ElementLemmas.{certificate_of, inner_is, no_inner, no_outer, outer_is, some_same}
 use Rattle.desk_service.specs.imports.FromLists.{first_in, tbs_in, tbs_of}
 
--- what a certificate holds is read
+-- the TBSCertificate of a certificate is read
 first_is : (b t : List ℕ) (p : Part) (o : Option Part) → IsCertificate b t → element_of b ≡ Some p → element_of p.content ≡ o → first_in o ≡ Some t
 first_is b t p None h e n = absurd (no_inner b t p h e n)
 first_is b t p (Some q) h e n =
@@ -26,7 +26,7 @@ pub tbs_of-each : (b t : List ℕ) → IsCertificate b t → tbs_of b ≡ Some t
 unfolding tbs_of
 tbs_of-each b t h = tbs_is b t (element_of b) h refl
 
--- what is read is that of a certificate
+-- the TBSCertificate that is read is that of a certificate
 first_found : (b t : List ℕ) (p : Part) (o : Option Part) → element_of b ≡ Some p → p.tag ≡ 48 → p.rest ≡ [] → element_of p.content ≡ o → first_in o ≡ Some t → IsCertificate b t
 first_found b t p None e tag rest n h = absurd (cc)
 first_found b t p (Some q) e tag rest n h = by (eqb q.tag 48) refl h

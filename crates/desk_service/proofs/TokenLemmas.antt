@@ -18,7 +18,7 @@ pub HasNoToken-long : (given : Option (List ℕ)) → IfSome given PassesTokens 
 HasNoToken-long None long = tt
 HasNoToken-long (Some text) long = is_token-long (first_line text) long
 
--- what a test keeps nothing of fails it
+-- a test that keeps nothing has failed
 kept-none : (is : Bool) (kept : List ℕ) → None ≡ cond is (Some kept) None → is ≡ false
 kept-none true kept none = cc
 kept-none false kept none = refl

@@ -47,7 +47,7 @@ next_history cs c history formed = record {
 
 -- what is right of the tables before a call that isn't accepted is right after it
 module _ (sizes : KeptSizes) (c : Call) where
-  -- what a view shows
+  -- the reads that made a view: it shows the tables, and the counted sizes are right
   pub record Viewed (v : View) (counted : KeptSizes) (first read : State) : Type 0 where
     pub is_open : IsTrue read.is_open
     pub changed : Changes desk_schema contents first read (λ t. t)

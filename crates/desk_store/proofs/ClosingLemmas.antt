@@ -30,7 +30,7 @@ module _ {D : Type 0} {g : Ghosts D} (desk : Desk (FileStore D g)) where
       → (owner : List ℕ) (cs : History) → ShowsDesk over_files desk owner cs → HoldsHistory (file_state desk.conn).committed.trees owner cs
   committed_rows clean live owner cs was = committed_tables desk_schema (file_state desk.conn) (rows_of owner cs) was.shows clean live
 
-  -- what a close has copied
+  -- the rows that a close has copied
   pub copied_rows : (files : Files D) → IsCopied desk.conn files → (owner : List ℕ) (cs : History) → ShowsDesk over_files desk owner cs → AreClosed g files owner cs
   copied_rows files it owner cs was =
       let rows = committed_rows it.was_clean it.was_open owner cs was in
@@ -39,14 +39,14 @@ module _ {D : Type 0} {g : Ghosts D} (desk : Desk (FileStore D g)) where
         left = λ image may. record { db = (file_state desk.conn).committed.trees; alone = it.left image may; rows = rows };
       }
 
-  -- what a later open finds
+  -- the rows that a later open finds
   pub found_rows : (files : Files D) → (AreClean g files.log files.db → IsCopied desk.conn files)
       → (owner : List ℕ) (cs : History) → ShowsDesk over_files desk owner cs → OpenAgain g files owner cs
   found_rows files copied owner cs was conn finds =
       let it = copied finds.honest in
       subst (λ (t : Trees). HoldsHistory t owner cs) (sym (finds_again desk.conn conn files copied finds)) (committed_rows it.was_clean it.was_open owner cs was)
 
-  -- what a stop leaves where nothing was copied, or not all
+  -- the rows after a stop if nothing was copied, or not all
   pub rows_left : (last : FileStore D g) → IsQuiet view faults recovers is_shielded desk.conn.store last → IsClean (view last)
       → (owner : List ℕ) (cs : History) → ShowsDesk over_files desk owner cs → (db : Trees) → recovers last db → HoldsHistory db owner cs
   rows_left last quiet clean owner cs was db may = was.left (omega (arith, quiet.clean, clean)) db (quiet.outcomes db may)

@@ -32,7 +32,7 @@ reads_shown g old new s usable same sizes owner cs was = record {
 }
 
 module _ {S : Type 0} (g : store.Ghosts S) (old new : Desk S) (c : Call) where
-  -- what the desk shows before the call
+  -- the history that the desk shows before the call
   abbrev pub past : (owner : List ℕ) (cs : History) → ShowsDesk g old owner cs → Past old.sizes
   past owner cs was = record { owner = owner; calls = cs; history = was.history; right = was.sizes }
 
@@ -64,7 +64,7 @@ module _ {S : Type 0} (g : store.Ghosts S) (old new : Desk S) (c : Call) where
     left = still_leaves (λ db. HoldsHistory db owner cs) (state g old.conn) (state g new.conn) s was.left;
   }
 
-  -- what a stop leaves
+  -- the history after a stop
   pub stopped : Survives (state g old.conn) (state g new.conn) (LeavesNext (state g old.conn) old.sizes c)
       → (owner : List ℕ) (cs : History) → ShowsDesk g old owner cs → Leaves (state g new.conn) (λ db. HoldsLeft db owner cs c)
   stopped s owner cs was clean db may = elim (s.crash clean db may) [

@@ -29,7 +29,7 @@ founds first mid new owner made put = record {
 
 module _ {S : Type 0} (g : store.Ghosts S) (old last : Held S) (owner : List ℕ) (sound : IsTrue (state g old).is_open → IsDatabase (state g old).now)
     (did : Worked g old last (λ before after. Founds before after owner)) where
-  -- what is made in a transaction, where the store was sound before it
+  -- the tables made in a transaction, where the store was sound before it
   founded : HasCleanDisk (state g last) → (state g old).now.schema ≡ no_schema → Sees desk_schema (state g last) (rows_of owner [])
   founded late free = let made = did.value late in made.value (sound (made.kept.was_open (did.inside late).0)) free
 

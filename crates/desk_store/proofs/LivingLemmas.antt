@@ -23,7 +23,7 @@ events_then : (before : List Life) (events : List Event) (e : Event) → events_
 events_then before events e =
     events_now before (events ++ e ∷ []) ∙ sym (append_assoc (events_of before) events (e ∷ [])) ∙ ap (λ es. es ++ e ∷ []) (sym (events_now before events))
 
--- what events leave, and one more
+-- the history after events and one more
 leave_then : (cs : History) (events : List Event) (e : Event) (middle end : History) → MayLeave cs events middle → MayTurn middle e.item e.fate end → MayLeave cs (events ++ e ∷ []) end
 leave_then cs [] e middle end left turn = (end, subst (λ h. MayTurn h e.item e.fate end) left turn, refl)
 leave_then cs (x ∷ events) e middle end left turn = (left.0, left.1, leave_then left.0 events e middle end left.2 turn)

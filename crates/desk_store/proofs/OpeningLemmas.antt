@@ -62,7 +62,7 @@ no_tables old new e (inl (inr (c, is, inr (inl (few, count))), same)) text = abs
 no_tables old new e (inl (inr (c, is, inr (inr (formats, clock))), same)) text = absurd (let a = sym clock ∙ text.1 in cc)
 no_tables old new e (inr h) text = absurd (no_text h.0 text.0 (sym h.1 ∙ text.1))
 
--- what the query shows of the rows of the table
+-- the answer of the query, from the rows of the table
 pub selected : (old mid new : State) (answer : List Row) → IsUnchanged old mid → Selects SELECT_DESK.now [] mid new answer
     → SeesRows old (λ rows. IsSelected desk [] (by_first 1 desk) (columns_after 1 desk) [] rows answer)
 selected old mid new answer same selects schema c rows of_desk sees has =
@@ -92,7 +92,7 @@ module _ {S : Type 0} (g : store.Ghosts S) (old : Held S) where
   abbrev begun : State
   begun = state g (record old { in_transaction = true })
 
-  -- what is seen inside a transaction of an open connection is shown outside
+  -- the rows seen inside a transaction of an open connection are shown outside
   shown_before : (of_rows : List Row → Type 0) → HasCleanDisk (state g old) → IsTrue begun.is_open → SeesRows begun of_rows → ShowsRows (state g old) (λ _ rows. of_rows rows)
   shown_before of_rows clean live sees schema c rows of_desk shows has = sees schema c rows of_desk (record { inside = refl; holds = (shows.holds clean live).0 }) has
 

@@ -30,7 +30,7 @@ shown_by_catalog s schema c no_view one_schema live settled outside holds = reco
       (record { listed = sym same; sound = mine.sound; rows = mine.rows }, now);
 }
 
--- what is there isn't missing
+-- a thing that exists isn't missing
 pub not_missing : {A : Type 0} → ∥ A ∥₁ → (A → ⊥) → ⊥
 not_missing there none = ∥∥₁_elim there (λ x y. absurd x) none
 

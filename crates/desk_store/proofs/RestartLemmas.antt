@@ -61,7 +61,7 @@ pub given_back : {D : Type 0} (g : Ghosts D) (old : Held (FileStore D g)) (files
 given_back g old files found None h = tt
 given_back g old files found (Some left) h = λ owner lives seen leaves. h owner lives seen (found owner lives seen (λ _. leaves))
 
--- ---- what a stop after an opening that was refused leaves
+-- ---- the files after a stop, where the opening before it was refused
 
 still_none : (lives : List Life) → none_by_second lives ≡ true → none_by_second (and_refused lives) ≡ true
 still_none lives none = list_all-append (λ (life : Life). not (is_opened_by_second life)) lives (record { rules = Second; opening = NotOpened; events = [] } ∷ []) ∙ (rw none refl)

@@ -16,7 +16,7 @@ use Rattle.desk_history.specs.Level.{raises_some, stamp}
 use Rattle.desk_history.specs.Proposals.{named_by}
 use Rattle.desk_history.proofs.ProposalLemmas.{enforced_so, entries_of}
 
--- ---- what is named has a stamp in its form, or none
+-- ---- entries that are named have a stamp in its form, or none
 
 abbrev HasForm : Imported → Type 0
 HasForm i = IsStamp i.stamp

@@ -94,7 +94,7 @@ module _ (s : State) (owner : List ℕ) (cs : History) where
     ];
   }
 
--- ---- what is found before a migration, by what the connection shows when it begins
+-- ---- the version found before a migration, by the tables that the connection shows when it begins
 
 module _ (s mid : State) (version : ℕ) (reads : AreShownAs s version) (one : version ≡ 1) (shown : KeepsShown s mid) (clean : HasCleanDisk mid) where
   -- the names that are looked at are those of the tables that are shown
@@ -113,7 +113,7 @@ module _ (s mid : State) (version : ℕ) (reads : AreShownAs s version) (one : v
     subst (λ (x : Schema). IsTrue (takes_a_name x)) (names_of schema c live shows) taken,
   )
 
--- what a stop in a migration leaves, of the connection before the version was read
+-- the tables after a stop in a migration, by those of the connection before the version was read
 pub brought_left : (s mid new : State) → Survives s mid (λ _. ⊥) → Survives mid new (Migrates mid) → (HasCleanDisk mid → AreShownAs s 1) → (HasCleanDisk mid → KeepsShown s mid) → Survives s new (Brings s)
 brought_left s mid new one two reads shown = survives_then s mid new (λ _. ⊥) (Migrates mid) (Brings s)
     (λ _ db none. absurd none)

@@ -13,7 +13,7 @@ both false b h = absurd (cc)
 pub joined : (a b : Bool) → a ≡ true → b ≡ true → (a && b) ≡ true
 joined a b h k = cc
 
--- what holds of each byte holds of each by a weaker test
+-- bytes that each pass a test each pass a weaker one
 pub list_all-weaker : (p q : ℕ → Bool) → ((b : ℕ) → p b ≡ true → q b ≡ true) → (bs : List ℕ) → list_all p bs ≡ true → list_all q bs ≡ true
 list_all-weaker p q weaker [] h = refl
 list_all-weaker p q weaker (b ∷ bs) h =

@@ -10,7 +10,7 @@ pub joined-flat_map : {X : Type 0} (c : ℕ) (f : X → List ℕ) (x : X) (xs : 
 joined-flat_map c f x [] = sym (append-nil (f x))
 joined-flat_map c f x (y ∷ ys) = ap (λ t. f x ++ (c ∷ t)) (joined-flat_map c f y ys)
 
--- what a loop over the items after the first has made is the list's text
+-- the text that a loop over the items after the first has made is the list's
 pub listed : {X : Type 0} (f : X → List ℕ) (items : List X) (x : X) (xs : List X) (text start : List ℕ) (i : ℕ) → items ≡ x ∷ xs → start ≡ f x
     → text ≡ start ++ flat_map (λ y. 44 ∷ f y) (take i xs) → length xs ≤ i → text ≡ list_text (map f items)
 listed f items x xs text start i whole first made all =

@@ -116,12 +116,12 @@ is_numeral-decimal n small =
     let some : leb 1 (length (decimal n)) ≡ true = grind (arith, nat_tests, decimal_nonempty n small) in
     joined _ _ (joined _ _ some (alone_decimal n small)) (digits_decimal own n small)
 
--- what the text of a numeral is parsed as
+-- the number that the text of a numeral is parsed as
 parsed : {E : Type 0} (given text : List ℕ) (r : Result ℕ E) → text ≡ given → IsNumeral given → ParsesUnsigned 64 10 text r
     → OkIff r ((0 < length given) × (decimal_of given < 2 ^ 64)) (decimal_of given)
 parsed given text r same h p = parse_digits own 64 given r (subst (λ t. ParsesUnsigned 64 10 t r) same p) h.digits
 
--- what is read of a numeral is the number whose text it is
+-- the number that is read of a numeral is the one whose text it is
 pub numeral_read : {E : Type 0} (given text : List ℕ) (r : Result ℕ E) (o : Option ℕ) → text ≡ given → is_numeral given ≡ true → ParsesUnsigned 64 10 text r
     → o ≡ result_ok r → IfSome o (λ n. given ≡ decimal n)
 numeral_read given text r None same h p e = tt

@@ -25,7 +25,7 @@ no_item_has_float : {X : Type 0} (as_data : X → Data) → ((x : X) → has_flo
 no_item_has_float as_data none [] = refl
 no_item_has_float as_data none (x ∷ xs) = rw (none x, no_item_has_float as_data none xs) refl
 
--- what was returned has none
+-- a returned file has none
 returned_has_no_float : (returned : Option ShownReturn) → has_float (returned_data returned) ≡ false
 returned_has_no_float None = refl
 returned_has_no_float (Some returned) = refl

@@ -43,7 +43,7 @@ below_is_one_of s all (x ∷ xs) place same =
     one_of_lacking all x place (s.required x.name) (first_below s (place + 1) xs) (ap (slice_get all) (unmoved place) ∙ same 0)
     (below_is_one_of s all xs (place + 1) (λ k. ap (slice_get all) (moved place k) ∙ same (suc k)))
 
--- what is there is said
+-- a component that is there is said
 kept : (say : Component → Data) (found : Option Component) → is_some found ≡ true → is_some (option_map say found) ≡ true
 kept say None one = one
 kept say (Some c) one = refl

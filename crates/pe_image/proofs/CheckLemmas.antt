@@ -41,7 +41,7 @@ pub record IsPlaced (f : List ℕ) : Type 0 where
   pub ends : list_all (λ s. nat_le s.to (length f)) (raw f) ≡ true
   pub table : has_table f ≡ true → (table_offset f + table_size f ≡ length f) × (sections_end f ≤ table_offset f)
 
--- what holds where a condition does
+-- the conclusion of a check whose condition holds
 without-not : (p q : Bool) → (not p || q) ≡ true → p ≡ true → q ≡ true
 without-not true q h e = h
 without-not false q h e = cc

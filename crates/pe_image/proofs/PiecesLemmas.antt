@@ -6,14 +6,14 @@ use Rattle.std.proofs.Math.Seq.{drop-append-add, drop-cons, drop-length, take-ap
 use Rattle.std.proofs.lemmas.List.{take-append-le, take-take, drop-append-le, drop-drop, length-take-le}
 use Rattle.pe_image.proofs.SpanLemmas.{slice_range-join}
 
--- what holds of all holds of the first, and of the others
+-- a fact of all holds of the first, and of the others
 all-first : {X : Type 0} (P : X → Type 0) (x : X) (xs : List X) → All P (x ∷ xs) → P x
 all-first P x xs all = all 0 x (omega arith)
 
 all-rest : {X : Type 0} (P : X → Type 0) (x : X) (xs : List X) → All P (x ∷ xs) → All P xs
 all-rest P x xs all = λ k d within. all (suc k) d (omega arith)
 
--- how many bytes full pieces have
+-- the number of bytes of full pieces
 pub length-pieces : {X : Type 0} (f : X → List ℕ) (xs : List X) → All (λ x. length (f x) ≡ 65536) xs → length (flat_map f xs) ≡ 65536 * length xs
 length-pieces f [] full = refl
 length-pieces f (x ∷ xs) full =
@@ -22,7 +22,7 @@ length-pieces f (x ∷ xs) full =
     let both = length-append (f x) (flat_map f xs) in
     omega arith
 
--- what is left after this number of full pieces
+-- the bytes after this number of full pieces
 drop-pieces : {X : Type 0} (f : X → List ℕ) (i : ℕ) (xs : List X) (last : List ℕ) → All (λ x. length (f x) ≡ 65536) xs → i ≤ length xs
     → drop (65536 * i) (flat_map f xs ++ last) ≡ flat_map f (drop i xs) ++ last
 drop-pieces f zero xs last full within = refl
@@ -78,7 +78,7 @@ rest-of_full f xs last all piece x at whole full within is shown =
     let stands = ap (drop (65536 * i)) (sym whole) ∙ piece-stands f xs last i x full within is ∙ ap (λ l. l ++ rest) (sym shown) in
     end-of_piece all piece rest (65536 * i) (at % 65536) at stands (omega arith) (omega arith)
 
--- what the last piece begins with, for a place after the full ones
+-- the place is in the last piece, after the full ones
 pub record IsInLast (size piece at : ℕ) : Type 0 where
   pub within : at % 65536 < piece
   pub place : at ≡ 65536 * size + at % 65536

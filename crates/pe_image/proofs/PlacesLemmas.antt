@@ -41,7 +41,7 @@ spans-pushed p q headers sections all same first second third =
 end-by_table : (f : List ℕ) → end_by (table_of f) (length f) ≡ image_end f
 end-by_table f = elim (has_table f) as (λ b. end_by (if b then Some (span (table_offset f) (table_offset f + table_size f)) else None) (length f) ≡ (if b then table_offset f else length f)) [ true ↦ refl | false ↦ refl ]
 
--- what was read part by part are the places of the file
+-- the places that were read part by part are those of the file
 pub places-read : (f : List ℕ) (checksum_read : Span) (z size end between last : ℕ) (entry_read table_read text_read : Option Span) (ss : List Span)
     → checksum_read ≡ span (pe_signature_offset f + 88) (pe_signature_offset f + 88 + 4)
     → entry_read ≡ certificate_directory_of f

@@ -100,7 +100,7 @@ is_other : LayoutFault → Bool
 is_other Read = false
 is_other _ = true
 
--- what holds of the fault of each check holds of the first
+-- a fact of the fault of each check holds of the first fault
 first_of-passes : (p : LayoutFault → Bool) (cs : List (Bool × LayoutFault)) (fault : LayoutFault) → list_all (λ c. p c.1) cs ≡ true → first_of cs ≡ Some fault → p fault ≡ true
 first_of-passes p [] fault all some = cc
 first_of-passes p (c ∷ cs) fault all some =

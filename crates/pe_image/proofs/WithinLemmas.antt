@@ -34,7 +34,7 @@ sections-follow f p =
 none-within : (n : ℕ) → EndWithin n []
 none-within n = λ k d within. absurd (omega arith)
 
--- what is hashed of the headers lies within the file
+-- the hashed bytes of the headers lie within the file
 headers-within : (f : List ℕ) → IsPlaced f → EndWithin (length f) (header_spans f)
 headers-within f p =
     let n = length f in
@@ -125,7 +125,7 @@ sbat-within n (h ∷ hs) ends =
       | false ↦ sbat-within n hs (others-within n h hs ends)
     ]
 
--- what lies within the file besides what is hashed
+-- the table and `.sbat` lie within the file, and the gap is no longer than it
 record PartsWithin (f : List ℕ) (p : Places) : Type 0 where
   table : IfSome p.table (IsWithin (length f))
   sbat : IfSome p.sbat (IsWithin (length f))

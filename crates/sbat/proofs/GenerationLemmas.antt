@@ -34,7 +34,7 @@ tied_value : (b : Bool) (m : Generations) (q x : List ℕ) (n : ℕ) → ties q 
 tied_value true m q x n e = ap (λ g. Some (greater g n)) (get_tied nat_list_cmp_total m q x (equal _ e))
 tied_value false m q x n e = refl
 
--- what a name has after a row
+-- the generation of a name after a row
 pub get-raised : (m : Generations) (r : Row) (q : List ℕ) → get (raised m r) q ≡ cond (ties q r.name) (Some (greater (get m q) r.generation)) (get m q)
 get-raised m r q =
     get-insert nat_list_cmp_total m r.name (greater (get m r.name) r.generation) q ∙ tied_value (ties q r.name) m q r.name r.generation refl
@@ -42,7 +42,7 @@ get-raised m r q =
 same_generations : (m n : Generations) → ((q : List ℕ) → get m q ≡ get n q) → m ≡ n
 same_generations = same_map nat_list_cmp_total names_differ
 
--- what is seen of a row at one name
+-- the generation of a name after a row of generation n, which has that name or not
 abbrev seen : Bool → ℕ → Option ℕ → Option ℕ
 seen b n g = cond b (Some (greater g n)) g
 

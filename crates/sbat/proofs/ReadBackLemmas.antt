@@ -118,7 +118,7 @@ generations_in-entries (e ∷ es) h =
 from_entries-entries : (m : Generations) → from_entries (entries m) ≡ m
 from_entries-entries m = same_map nat_list_cmp_total names_differ _ _ (λ q. get-from_entries nat_list_cmp_total (entries m) q ∙ sym (get-entries m q))
 
--- what is found of names in order is right, so all entries are
+-- an entry that is found among names in order is right, so all entries are
 abbrev FindsRight : List (List ℕ × ℕ) → Type 0
 FindsRight es = (q : List ℕ) (n : ℕ) → find (slice_cmp nat_cmp) q es ≡ Some n → IsRight (q, n)
 

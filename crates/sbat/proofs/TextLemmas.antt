@@ -83,7 +83,7 @@ fields_of-line e h =
     ∙ slice_split_at is_comma e.0 44 (decimal e.1) (no_comma_in_name e.0 (name_bytes e.0 h.name)) refl
     ∙ ap (λ fields. e.0 ∷ fields) (fields_of-digits (decimal e.1) (entry_digits e h))
 
--- what an entry is as a row
+-- the row of an entry
 abbrev pub row_with : List ℕ × ℕ → Row
 row_with e = record { name = e.0; generation = e.1 }
 

@@ -70,7 +70,7 @@ IsLevel-after (Ok x) stamp old new r ok err name other count h =
 IsLevel-after (Err e) stamp old new r ok err name other count h =
     subst (λ es. IsLevel (record { stamp = stamp; generations = generations_of es })) (sym err) h
 
--- what no name can be has no generation
+-- bytes that can't be a name have no generation
 has_none : (q : List ℕ) (g : Option ℕ) → ((n : ℕ) → g ≡ Some n → is_name q ≡ true) → (is_name q ≡ true → ⊥) → None ≡ g
 has_none q None name never = refl
 has_none q (Some n) name never = absurd (never (name n refl))

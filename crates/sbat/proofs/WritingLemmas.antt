@@ -10,7 +10,7 @@ use Rattle.desk_bytes.proofs.OutputLemmas.{AppendsBeginning-after, AppendsBeginn
 use Rattle.sbat.specs.Levels.{Stamped}
 use Rattle.sbat.specs.Writing.{head_text, level_text, row_text, rows_text}
 
--- what was written, and the lines of the entries that are left, are the level's text
+-- the bytes that were written, and the lines of the entries that are left, are the level's text
 pub record Written (old new : Option (List ℕ)) (level : Stamped) (left : List (List ℕ × ℕ)) : Type 0 where
   pub out : List ℕ
   pub written : Appends old new out

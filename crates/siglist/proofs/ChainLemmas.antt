@@ -91,7 +91,7 @@ later : (c : Bool) (o : Option Lack) → cond c (Some lack.List) o ≡ Some lack
 later true o h = absurd (cc)
 later false o h = (refl, h)
 
--- what is wrong at the front of these bytes
+-- the lack at the front of these bytes
 abbrev pub IsLack : Lack → List ℕ → Type 0
 IsLack lack.List b = LacksRoom b
 IsLack lack.EntrySize b = LacksRoom b → ⊥

@@ -52,7 +52,7 @@ entries_of-spelt (suc n) size b least fits =
       count = ap suc others.count;
     }
 
--- how many bytes the entries take
+-- the number of bytes that the entries take
 pub entries_length : (size : ℕ) (es : List Entry) → AllByRecursion (IsEntryOf size) es → length (flat_map entry_bytes es) ≡ size * length es
 entries_length size [] h = let none : 0 ≡ size * 0 = omega arith in none
 entries_length size (e ∷ es) h =

@@ -9,7 +9,7 @@ use Rattle.desk_bytes.specs.Output.{AppendsBeginning}
 use Rattle.siglist.specs.Packing.{IsPacked, IsPartlyPacked, Packs, digests_in, packed, longest_text}
 use Rattle.desk_bytes.proofs.OrderLemmas.{IsArranged-one}
 
--- how many bytes the lines have
+-- the number of bytes of the lines
 abbrev total : List (List ℕ) → ℕ
 total [] = 0
 total (l ∷ ls) = length l + total ls
@@ -59,7 +59,7 @@ Packs-one text ds es h k =
     let named : h.named ≡ k.named = ok_same h.named k.named _ h.read k.read in
     IsArranged-one h.named ds es h.arranged (subst (λ xs. IsArranged xs es) (sym named) k.arranged)
 
--- what was read to the end, read as digests and arranged
+-- the text that was read to the end, read as digests and arranged
 pub Packs-given : (given : Option (List ℕ)) (text part : List ℕ) (named ds : List (List ℕ)) → IfSome given (λ xs. text ≡ xs)
     → length text ≤ longest_text → part ≡ text → digests_in (parted part) ≡ Ok named → IsArranged named ds → IfSome given (λ xs. Packs xs ds)
 Packs-given None text part named ds same fits whole read arranged = tt

@@ -83,7 +83,7 @@ HasNoList-lack b why h = λ l rest il is. let read = lack_at-head b (reads_at b 
 stops_at : (bytes : List ℕ) (at : ℕ) (why : Lack) → at < length bytes → SpeltTo bytes at → lack_at (drop at bytes) ≡ Some why → Stops bytes at
 stops_at bytes at why l h e = record { row = h.row; before = h.spelt; within = l; none = HasNoList-lack (drop at bytes) why e }
 
--- what is wrong at a place up to which the bytes are spelt is what they are refused for
+-- bytes that are spelt up to a place are refused for the lack there
 pub SpeltTo-refused : (bytes : List ℕ) (at : ℕ) (why : Lack) → at < length bytes → SpeltTo bytes at → lack_at (drop at bytes) ≡ Some why → IsRefused bytes (fault_of why at)
 SpeltTo-refused bytes at lack.List l h e = (stops_at bytes at lack.List l h e, lack_at-some (drop at bytes) lack.List e)
 SpeltTo-refused bytes at lack.EntrySize l h e = (stops_at bytes at lack.EntrySize l h e, lack_at-some (drop at bytes) lack.EntrySize e)

@@ -76,7 +76,7 @@ entries_split owner after ds i =
 regroup : (a b owner x after : List ℕ) → a ++ (b ++ (owner ++ (x ++ after))) ≡ ((a ++ b) ++ (owner ++ x)) ++ after
 regroup a b owner x after = simp append_assoc
 
--- what is written once one entry more is
+-- the bytes written after one entry more
 pub head_more : (kind owner after : List ℕ) (ds : List (List ℕ)) (i : ℕ) (x : List ℕ) → i < length ds → x ≡ get_or ds i x
     → digest_head kind after ds ++ entries_text owner after (take (i + 1) ds)
     ≡ ((digest_head kind after ds ++ entries_text owner after (take i ds)) ++ (owner ++ x)) ++ after
@@ -138,7 +138,7 @@ keeps_x509 size es h = record {
   x509_sha256 = λ e. let bad : 0xa1 ≡ 0x92 = ap (λ (l : List ℕ). slice_index l 0) e in absurd (omega arith);
 }
 
--- what the writers write is spelt
+-- the writers' bytes are spelt
 pub sha256_spells : (owner : List ℕ) (ds : List (List ℕ)) → length owner ≡ 16 → AllByRecursion (λ d. length d ≡ 32) ds → length ds ≤ 1000000
     → Spells (sha256_row owner ds) (spelling (sha256_row owner ds))
 sha256_spells owner ds o h few =

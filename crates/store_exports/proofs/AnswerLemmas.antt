@@ -70,7 +70,7 @@ module _ {X : Type 0} (at : ℕ) (table : Table) (text : List ℕ) (terms : List
       let it = (w.exact desk_schema at table terms (by_first ordered table) rest names means held.listed).1 (contents (tables owner cs)) (map item (part (tables owner cs))) held (has (tables owner cs)) in
       subst (Appends before after) (spelt_rows shown bytes w.answer (wanted cs) w.bytes (listed owner cs w.answer it) w.spelt) w.written
 
-  -- what begins the answer begins the list
+  -- rows that begin the answer begin the list
   begun : (owner : List ℕ) (cs : History) → ShowsHistory s owner cs → (given : List Row) → BeginsAnswer text params s given
       → (ahead : List X) × (behind : List X) × (given ≡ map shown ahead) × (wanted cs ≡ ahead ++ behind)
   begun owner cs was given h =

@@ -14,7 +14,7 @@ use Rattle.desk_history.specs.Proposals.{Named, Proposal, named_by, proposal_sta
 use Rattle.desk_history.specs.Tables.{proposal_row, tables}
 use Rattle.store_proposals.specs.Reading.{IsStamped}
 
--- what is named has no stamp of 0
+-- a stamp that is named isn't 0
 abbrev HasStamp : Option ℕ → Type 0
 HasStamp stamp = IfSome stamp (λ s. 0 < s)
 

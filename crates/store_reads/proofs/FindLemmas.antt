@@ -59,7 +59,7 @@ every (x ∷ xs) = ap (λ l. x ∷ l) (every xs)
 below : (n a most : ℕ) → n ≡ min a most → n < most → n ≡ a
 below n a most is low = grind (arith)
 
--- how many rows of the table meet the condition
+-- the number of rows of the table that meet the condition
 pub tells_count_of : {X : Type 0} (at : ℕ) (table : Table) (text : List ℕ) (terms : List Term) (names : List (List ℕ)) → CountsRows desk_schema at table text terms names
     → (item : X → Row) (part : Tables → List X) → ((t : Tables) → slice_get (contents t) at ≡ Some (map item (part t)))
     → (params : Row) (p : X → Bool) → ((x : X) → passes table terms params (item x) ≡ p x)
@@ -73,7 +73,7 @@ tells_count_of at table text terms names means item part has params p tested old
           below n (count_by p (part t)) 9223372036854775807 (it.1 (contents t) (map item (part t)) sees (has t) ∙ ap counted all) f.below;
     }
 
--- how many rows the table has
+-- the number of rows of the table
 pub tells_count : {X : Type 0} (at : ℕ) (table : Table) (text : List ℕ) (names : List (List ℕ)) → CountsRows desk_schema at table text [] names
     → (item : X → Row) (part : Tables → List X) → ((t : Tables) → slice_get (contents t) at ≡ Some (map item (part t)))
     → (old new : State) (n : ℕ) → IsCounted text [] n old new → ReadsTables (λ t. n ≡ length (part t)) old new

@@ -131,10 +131,10 @@ module _ (owner : List ℕ) (cs : History) where
       let alone : AllByRecursion IsAlone (reverse ps) = all-permutation IsAlone ps (reverse ps) (IsPermutation-reverse ps) (all_only (λ (p : Proposal). p.number) ps (newest_first cs)) in
       each_shown (reverse ps) alone given (subst (λ l. AllZip (IsShown (tables owner cs)) l given) (heads_are it.0 it.1) (it.2 stamped))
 
-  -- ---- what is due to the person of a name
+  -- ---- the answer that is due to the person of a name
 
   module _ (name : List ℕ) {B : Type 0} (shows : List Proposal → B → Type 0) where
-    -- what is due to an officer, or to one who is none
+    -- the answer that is due to an officer, or to one who is none
     abbrev due_to : Result Person Refusal → Result (List Proposal) Refusal
     due_to r = result_map_both (λ p. reverse (proposals cs)) (λ refusal. refusal) r
 

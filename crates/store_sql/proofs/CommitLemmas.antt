@@ -14,7 +14,7 @@ use Rattle.sqlite.proofs.Callers.{survives_begin}
 use Rattle.store_sql.specs.Contents.{Contents, Holds}
 use Rattle.store_sql.specs.States.{CommitsNothing, Shows, Spares}
 
--- what commits nothing leaves no more than what may commit
+-- a stop of a call that commits nothing leaves no more than one of a call that may commit
 pub leaves_more : (P : Trees → Type 0) (old new : State) → Survives old new (λ _. ⊥) → Survives old new P
 leaves_more P old new s = record {
   clean = s.clean;
@@ -111,7 +111,7 @@ module _ {S : Type 0} (g : store.Ghosts S) (old last end : Held S) where
 -- ---- A transaction's end. `old` is the connection before the transaction, `first` inside it, and
 -- `last` before its end.
 
--- what the steps inside did, and that they committed nothing
+-- the effect of the steps inside, which committed nothing
 pub record Worked {S : Type 0} (g : store.Ghosts S) (old last : Held S) (does : State → State → Type 0) : Type 0 where
   pub value : HasCleanDisk (state g last) → does (begun g old) (state g last)
   pub inside : HasCleanDisk (state g last) → IsTrue (state g last).is_open × IsTrue (state g last).in_transaction

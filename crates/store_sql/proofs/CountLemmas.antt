@@ -58,7 +58,7 @@ always : (key : Option ℕ) → OverlooksRowid {Y = ℕ} key (λ _. 0)
 always (Some _) = tt
 always None = λ id row. refl
 
--- what is answered, by what the database holds, inside a transaction and outside
+-- the answer, by the contents of the database, inside a transaction and outside
 pub tallies : (text : List ℕ) (params : Row) (old new : State) (answer : List Row) (schema : Schema) (at : ℕ) (table : Table) (terms : List Term) (names : List (List ℕ))
     → CountsRows schema at table text terms names → Shown text params old new answer
     → (c : Contents) (rows : List Row) → Holds schema old.now c → slice_get c at ≡ Some rows → answer ≡ number_row (counted (length (filter (passes table terms params) rows)))

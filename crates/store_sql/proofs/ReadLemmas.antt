@@ -80,7 +80,7 @@ stays schema text params old new answer plain inside h =
           record { inside = s.mode; holds = subst (λ (b : Database). Holds schema b c) (sym same.0.now_is) sees.holds };
     }
 
--- what is answered, by what the database holds, inside a transaction and outside
+-- the answer, by the contents of the database, inside a transaction and outside
 pub finds_rows : (text : List ℕ) (params : Row) (old new : State) (answer : List Row) (schema : Schema) (at : ℕ) (table : Table) (terms : List Term) (order : List (Term × Key)) (rest : List Term) (names : List (List ℕ))
     → SelectsRows schema at table text terms order rest names → Shown text params old new answer
     → (c : Contents) (rows : List Row) → Holds schema old.now c → slice_get c at ≡ Some rows → IsSelected table terms order rest params rows answer

@@ -12,7 +12,7 @@ abbrev pub HaveRowids : List Row → Type 0
 HaveRowids rows = AllByRecursion (λ (r : Row). IsTrue (is_int (rowid r))) rows
 
 module _ {Y : Type 0} (key : Option ℕ) (f : Row → Y) (overlooks : OverlooksRowid key f) where
-  -- what is read of a row is read of what counts of it
+  -- a row is read the same without the row id if its reader overlooks it
   pub read_alike : (r : Row) → IsTrue (is_int (rowid r)) → f r ≡ f (with_rowid_by_key key (by_key key r))
   read_alike r has = elim key as (λ k. OverlooksRowid k f → f r ≡ f (with_rowid_by_key k (by_key k r))) [
     | Some _ ↦ λ _. refl

@@ -97,7 +97,7 @@ module _ (p : Row → Bool) where
         (λ r. later x rows r h.1.0) rows h.0.0 (exactly rows (h.0.1, h.1.1)),
   )
 
-  -- what is left is what does not pass
+  -- the rows that are left are those that don't pass
   pub left_over : (rows : List Row) (found : List ℤ) → IsKeyed rows → IsPermutation (ids rows) found → without_all rows found ≡ filter (λ r. not (p r)) rows
   left_over rows found keyed same =
       without_as_filter found rows

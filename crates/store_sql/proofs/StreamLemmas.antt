@@ -38,7 +38,7 @@ pub OnOk-so : {X E : Type 0} (r : Result X E) (P Q : Type 0) → (P → Q) → O
 OnOk-so (Ok x) P Q so h = so h
 OnOk-so (Err e) P Q so h = tt
 
--- ---- what steps leave
+-- ---- the state after steps
 
 pub unchanged_self : (s : State) → IsTrue s.is_open → IsUnchanged s s
 unchanged_self s live =
@@ -98,7 +98,7 @@ spares_any old new P s = record {
   ];
 }
 
--- what a text commits after a step that changed nothing
+-- the trees that a text commits after a step that changed nothing
 pub showing_before : (text : List ℕ) (params : Row) (old mid : State) → IsUnchanged old mid → mid.step_limit ≡ old.step_limit → (db : Trees) → CommitsShowing text params mid db → CommitsShowing text params old db
 unfolding CommitsShowing
 showing_before text params old mid same limit db h =
@@ -119,7 +119,7 @@ showing_before text params old mid same limit db h =
       ),
     )
 
--- ---- what rows begin
+-- ---- answers that rows begin
 
 -- a query without WITH ends
 ends_at_once : (text : List ℕ) (params : Row) (s : State) (schema : Schema) (at : ℕ) (table : Table) (terms : List Term) (order : List (Term × Key)) (rest : List Term) (names : List (List ℕ))

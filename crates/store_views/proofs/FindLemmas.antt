@@ -85,7 +85,7 @@ module _ {X : Type 0} (p : X → Bool) where
     ] refl
   ] refl
 
-  -- what a read by the key gave is the table's
+  -- the rows that a read by the key gave are the table's
   pub are_of_table : (table : List X) (found : Option X) → filter p table ≡ listed found → AreAmong (listed found) table
   are_of_table table found is x h = filter_in table x (subst (IsAmong x) (sym is) h)
 

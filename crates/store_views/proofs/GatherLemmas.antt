@@ -31,7 +31,7 @@ module _ {K X : Type 0} (rows_of : Tables → K → List X) (keys : List K) wher
         ∙ ap (λ l. start ++ flat_map (rows_of t) l)
         (sym (ap (λ k. take k keys) (add-one i) ∙ take-suc keys i key low ∙ ap (λ x. take i keys ++ x ∷ []) (sym is)))
 
-    -- what the tables have of one key more was put
+    -- the rows that the tables have for one key more were appended
     pub gathers_next : (first mid new : State) → i < length keys → key ≡ get_or keys i key → after ≡ before ++ listed found
         → ReadsTables (Gathers rows_of (take i keys) start before) first mid → ReadsTables (λ t. rows_of t key ≡ listed found) mid new
         → ReadsTables (Gathers rows_of (take (i + 1) keys) start after) first new

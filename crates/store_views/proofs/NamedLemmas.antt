@@ -189,7 +189,7 @@ pub one_proposal : (rows : List ProposalRow) (t : Tables) (number : ℕ) (found 
 one_proposal rows t number found is read k e =
     subst (λ n. find (is_proposal_row n) rows ≡ find (is_proposal_row n) t.proposals) (some_same number k e) (finds_alone (is_proposal_row number) t.proposals rows found is read)
 
--- what is found by the number that the command names
+-- the row found by the number that the command names
 pub found_by : (rows : List ProposalRow) (o : Option ℕ) (number : ℕ) (found : Option ProposalRow) → o ≡ Some number → found ≡ find (is_proposal_row number) rows → (k : ℕ) → o ≡ Some k → found ≡ find (is_proposal_row k) rows
 found_by rows o number found is read k e = subst (λ n. found ≡ find (is_proposal_row n) rows) (some_same number k (sym is ∙ e)) read
 

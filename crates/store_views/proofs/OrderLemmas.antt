@@ -21,7 +21,7 @@ pub arranged_as : (named digests ordered images : List (List ℕ)) → named ≡
 arranged_as named digests ordered images same is h =
     subst (λ l. IsArranged digests l) (sym is) (subst (λ l. IsArranged l ordered) same h)
 
--- what is among some texts is among others that hold each of these
+-- a text among some is among others that hold each of these
 kept_among : (xs ys : List (List ℕ)) → ((d : List ℕ) → Contains xs d → Contains ys d)
     → (d : List ℕ) → IsTrue (is_among xs d) → IsTrue (is_among ys d)
 kept_among xs ys all d h =

@@ -139,7 +139,7 @@ shows_listed kind digest t digests certificates asked =
         ∙ second_has (list_any (λ x. is_same_kind kinds.Certificate kinds.Digest && bytes_eq digest x) digests)
         (has_entry kind digest t.listed)
 
--- ---- what was gathered from nothing
+-- ---- rows gathered from nothing
 
 pub gathered_listed : (k : EntryKeys) (start mid rows : List Listing) → start ≡ [] → (t : Tables)
     → Gathers (listings_of kinds.Digest) k.digests start mid t

@@ -23,7 +23,7 @@ fn word(kind: Kind) -> &'static str {
     }
 }
 
-/// Appends the beginning of an entry's owner, and its body.
+/// Appends the first three bytes of an entry's owner, and its body.
 fn tell_entry(alloc: Global, told: &mut String, entry: &Entry<'_>) -> Result<(), Fail> {
     told.push('[')?;
     tell_hex(alloc, told, &entry.owner.as_bytes()[..3])?;
@@ -114,7 +114,7 @@ e8070b16000000000000000000000000\
 33221100554477668899aabbccddeeff300000000000000014000000\
 33221100554477668899aabbccddeeff01020304";
 
-/// The fault of its beginning of this length: the first lists end at 0, 76, 168 and 216.
+/// The fault of its prefix of this length: the first lists end at 0, 76, 168 and 216.
 fn fault_of(size: usize) -> Option<ListsFault> {
     match size {
         0 | 76 | 168 | 216 => None,
@@ -142,7 +142,7 @@ aaaaaaaaaaaaaaaaaaaaaaaaaaaaaaaaaaaaaaaaaaaaaaaaaaaaaaaaaaaaaaaa\
 33221100554477668899aabbccddeeff\
 bbbbbbbbbbbbbbbbbbbbbbbbbbbbbbbbbbbbbbbbbbbbbbbbbbbbbbbbbbbbbbbb";
 
-/// The fault of its beginning of this length.
+/// The fault of its prefix of this length.
 fn fault_of_two(size: usize) -> Option<ListsFault> {
     match size {
         0 | 124 => None,

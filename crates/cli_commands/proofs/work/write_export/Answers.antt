@@ -16,7 +16,7 @@ pub returns-in-Err-clause-same : goal.returns-in-Err-clause-same
 returns-in-Err-clause-same g c = λ clean other.
     c.in-Err.ensures.same clean (λ given. other (store_told c.from.result c.in-Err.refusal c.from.ensures given))
 
--- what is buffered wasn't written out
+-- the buffered bytes weren't written out
 
 pub returns-in-Err-flush-clause-beginning : goal.returns-in-Err-flush-clause-beginning
 returns-in-Err-flush-clause-beginning g c = λ clean owner cs was.
