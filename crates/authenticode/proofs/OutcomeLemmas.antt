@@ -1,4 +1,4 @@
--- A table has one outcome.
+-- The one outcome of a table.
 use Rattle.std.proofs.Common.{◌≡◌, ◌≢◌, ℕ, true, false, Bool, List, length, refl, ap, ◌∙◌, subst, inl, inr, arith}
 use Rattle.std.specs.Prelude.{map}
 use Rattle.desk_bytes.specs.Digests.{IsArranged}

@@ -1,4 +1,4 @@
--- No two refusals have one number.
+-- Numbers of refusals, no two the same.
 use Rattle.std.proofs.Common.{◌≡◌, ℕ, ◌==◌, if◌then◌else◌, refl, sym, ap, ◌∙◌}
 use Rattle.desk_bytes.specs.Refusals.{number_of}
 use Rattle.desk_bytes.specs.declared.refusal.Refusal.{Refusal}

@@ -1,4 +1,4 @@
--- From the result of a desk to the answer.
+-- The step from the result of a desk to the answer.
 use Rattle.std.proofs.Common.{◌≡◌, ◌≢◌, ◌∙◌, inl, inr, ℕ, List, [], Some, None, Result, Ok, Err, refl, sym, ap, subst}
 use Rattle.desk_bytes.specs.declared.refusal.Refusal.{Refusal}
 use Rattle.desk_bytes.specs.declared.refusal.Refusal.TheVariants as refusals

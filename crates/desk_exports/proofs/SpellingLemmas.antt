@@ -1,4 +1,4 @@
--- The bytes of dbx and of db spell their lists.
+-- The bytes of dbx and of db, which spell their lists.
 use Rattle.std.proofs.Common.{◌≡◌, ◌≤◌, ℕ, All, Bool, true, false, not, cond, List, [], ◌∷◌, ◌++◌, length, map, filter, refl, sym, subst, arith, true≢false, nat_le}
 use Rattle.std.specs.Prelude.{if◌then◌else◌}
 use Rattle.std.specs.List.{AllByRecursion, flat_map}

@@ -1,4 +1,4 @@
--- Nobody calls by the name `console` but the console.
+-- The name `console`, which is that of the console alone.
 use Rattle.std.proofs.Common.{◌≡◌, ℕ, Bool, true, false, not, ◌||◌, List, [], ◌∷◌, None, refl, sym, ◌∙◌, ap}
 use Rattle.std.specs.Prelude.{if◌then◌else◌, bytes_eq, codes, find, is_some}
 use Rattle.std.specs.List.{list_any, list_all}

@@ -1,4 +1,4 @@
--- Lists that are named the last first, and counts of different texts.
+-- Tests on reversed lists, and counts of different texts.
 use Rattle.std.proofs.Common.{◌≡◌, ℕ, ◌+◌, ◌<◌, ◌≤◌, Bool, true, false, not, ◌||◌, List, [], ◌∷◌, ◌++◌, length, take, get_or, sym, ◌∙◌, ap, arith}
 use Rattle.std.specs.Prelude.{if◌then◌else◌, reverse}
 use Rattle.std.specs.List.{list_any}

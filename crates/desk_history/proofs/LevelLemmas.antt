@@ -1,5 +1,5 @@
--- The level's table has no row of `sbat`, and other names have there the generation that the level
--- asks.
+-- The level's table: no row of `sbat`, and for each other name the generation that the level
+-- requires.
 use Rattle.std.proofs.Common.{◌≡◌, ℕ, Bool, true, false, not, ◌&&◌, ◌||◌, cond, All, IfSome, List, [], ◌∷◌, map, Option, Some, None, refl, ◌∙◌, ap, subst}
 use Rattle.std.specs.Prelude.{if◌then◌else◌, bytes_eq, filter, nat_lt, option_map, reverse}
 use Rattle.std.specs.Option.{option_map_or}

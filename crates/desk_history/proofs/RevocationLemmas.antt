@@ -1,4 +1,4 @@
--- Revocations are digests.
+-- Revocations, which are digests.
 use Rattle.std.proofs.Common.{ℕ, All, IfSome, List, [], ◌∷◌, Option, Some, None}
 use Rattle.std.specs.Prelude.{reverse}
 use Rattle.std.specs.Option.{option_map_or}

@@ -1,4 +1,4 @@
--- Why a call is refused: the first condition that holds.
+-- The refusal of a call: the first condition that holds.
 use Rattle.std.specs.Prelude.{ℕ, Bool, true, false, not, ◌&&◌, ◌||◌, nat_lt, if◌then◌else◌, List, ◌∷◌, find, Option, Some, None, is_some, bytes_eq, codes}
 use Rattle.std.specs.List.{list_any}
 use Rattle.std.specs.Option.{option_map_or, option_or}

@@ -1,4 +1,4 @@
--- Which role gives which command.
+-- The commands that each role gives.
 use Rattle.std.specs.Prelude.{Bool, true, false}
 use Rattle.desk_texts.specs.declared.command.Command.{Command}
 use Rattle.desk_texts.specs.declared.command.Command.TheVariants as command

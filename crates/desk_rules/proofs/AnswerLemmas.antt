@@ -1,4 +1,4 @@
--- A decision refuses by its own refusals alone, whatever the view shows.
+-- The refusals of a decision: its own alone, whatever the view shows.
 use Rattle.std.proofs.Common.{◌≡◌, ℕ, Bool, true, false, not, ◌&&◌, ◌||◌, List, [], ◌∷◌, Option, Some, None, Ok, Err, Result, refl, sym, subst, inl, inr}
 use Rattle.std.specs.Prelude.{if◌then◌else◌, IfErr, IsTrue, bytes_eq, codes, find, nat_lt}
 use Rattle.std.specs.List.{list_any}

@@ -1,4 +1,4 @@
--- A row that alone has its key is found in any order of the rows.
+-- A row that alone has its key, found in any order of the rows.
 use Rattle.std.proofs.Common.{◌≡◌, ℕ, ◌+◌, ◌≤◌, Bool, true, false, not, List, [], ◌∷◌, Some, refl, sym, ◌∙◌, ap, arith}
 use Rattle.std.specs.Prelude.{◌==◌, if◌then◌else◌, IsPermutation, bytes_eq, count_by, find}
 use Rattle.std.specs.List.{list_any}

@@ -1,4 +1,4 @@
--- The tables after a call have room where those before it have room for what it writes.
+-- Room in the tables after a call, where those before it have room for its writes.
 use Rattle.std.proofs.Common.{◌≡◌, ℕ, ◌+◌, ◌≤◌, Bool, true, false, ◌&&◌, List, [], ◌∷◌, length, refl, sym, ◌∙◌, ap, inl, inr, arith, suc}
 use Rattle.std.specs.Prelude.{IsTrue, count_by, nat_le}
 use Rattle.std.specs.List.{list_any}

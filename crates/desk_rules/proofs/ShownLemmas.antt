@@ -1,4 +1,4 @@
--- A view of whole tables shows them for every call.
+-- A view of whole tables, which shows them for every call.
 use Rattle.std.proofs.Common.{◌≡◌, ℕ, true, ◌&&◌, ◌||◌, List, [], ◌∷◌, map, refl, sym, ◌∙◌, ap}
 use Rattle.std.specs.Prelude.{◌==◌, bytes_eq, find}
 use Rattle.std.specs.List.{list_any}

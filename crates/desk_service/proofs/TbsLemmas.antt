@@ -1,4 +1,4 @@
--- The TBSCertificate that is read of bytes, against what a certificate is.
+-- The TBSCertificate read from bytes, against the definition of a certificate.
 use Rattle.std.proofs.Common.{◌≡◌, ℕ, eqb, cond, Bool, true, false, ◌&&◌, List, [], length, Option, Some, None, refl, arith}
 use Rattle.std.proofs.lemmas.Bool.Decides.{nat_tests}
 use Rattle.std.proofs.lemmas.List.{nil_from_length}

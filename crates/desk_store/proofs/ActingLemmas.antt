@@ -1,4 +1,4 @@
--- From a view and a decision to the effect of a call inside its transaction.
+-- The step from a view and a decision to the effect of a call inside its transaction.
 use Rattle.std.proofs.Common.{◌≡◌, ◌≢◌, inl, inr, ℕ, List, [], ◌∷◌, length, All, refl, sym, ap, subst, ◌∙◌, arith, IsTrue, true, false}
 use Rattle.std.proofs.lemmas.List.Elements.{All-cons}
 use Rattle.sqlite.specs.State.{State}

@@ -1,4 +1,4 @@
--- From the files after a close to the history that they hold.
+-- The step from the files after a close to the history that they hold.
 use Rattle.std.proofs.Common.{◌≡◌, ◌⊎◌, inr, ℕ, List, false, sym, subst, arith, IsTrue}
 use Rattle.sqlite.specs.Closing.{IsCopied}
 use Rattle.sqlite.specs.Files.{FailsToClose, file_state, over_files}

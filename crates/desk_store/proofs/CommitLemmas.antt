@@ -1,5 +1,5 @@
--- From the effect of a call inside its transaction to the contents of the connection after it, and
--- after a stop.
+-- The step from the effect of a call inside its transaction to the contents of the connection after
+-- it, and after a stop.
 use Rattle.std.proofs.Common.{◌≡◌, true, false, refl, sym, ap, subst, ◌∙◌, arith}
 use Rattle.sqlite.specs.Store as store
 use Rattle.sqlite.specs.Held.{Held, state}

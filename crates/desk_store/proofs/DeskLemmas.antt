@@ -1,4 +1,4 @@
--- From the effect of a call on the connection to the history that the desk shows after it.
+-- The step from the effect of a call on the connection to the history that the desk shows after it.
 use Rattle.std.proofs.Common.{◌≡◌, inl, inr, ℕ, List, true, false, refl, sym, ap, subst, ◌∙◌, arith, IsTrue}
 use Rattle.sqlite.specs.Store as store
 use Rattle.sqlite.specs.Held.{state}

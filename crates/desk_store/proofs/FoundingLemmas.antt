@@ -1,4 +1,4 @@
--- From the making of a desk to the contents of the connection after it.
+-- The step from the making of a desk to the contents of the connection after it.
 use Rattle.std.proofs.Common.{◌≡◌, ℕ, List, [], map, sym, subst, ◌∙◌, IsTrue, false}
 use Rattle.std.specs.Prelude.{⊤}
 use Rattle.sqlite.specs.Store as store

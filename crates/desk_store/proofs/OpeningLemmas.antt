@@ -1,4 +1,4 @@
--- From the answer of the query for the desk's row to the tables of a history.
+-- The step from the answer of the query for the desk's row to the tables of a history.
 use Rattle.std.proofs.Common.{◌≡◌, inl, inr, ℕ, List, [], refl, sym, subst, ◌∙◌, arith, IsTrue, true, Result, Ok, Err}
 use Rattle.std.proofs.lemmas.List.Sorted.{IsPermutation-sym, IsPermutation-trans}
 use Rattle.std.specs.List.Sorted.{IsPermutation}

@@ -1,4 +1,4 @@
--- From a read of any tables, or of any history, to the answer to a question.
+-- The step from a read of any tables, or of any history, to the answer to a question.
 use Rattle.std.proofs.Common.{refl, arith, ℕ, List, Result, Ok, Err, IsTrue}
 use Rattle.std.specs.Prelude.{IfOk, OnOk}
 use Rattle.sqlite.specs.Store as store

@@ -1,5 +1,5 @@
--- From the last commit of a connection to the history that it shows, and to a desk that is opened
--- over it.
+-- The step from the last commit of a connection to the history that it shows, and to a desk that is
+-- opened over it.
 use Rattle.std.proofs.Common.{◌≡◌, inl, inr, List, [], sym, subst, ◌∙◌, IsTrue, false}
 use Rattle.std.proofs.Math.Logic.{∥∥₁_elim}
 use Rattle.sqlite.specs.Effect.{Database}

@@ -1,4 +1,4 @@
--- From a desk's files after a stop to the tables that a connection over them finds.
+-- The step from a desk's files after a stop to the tables that a connection over them finds.
 use Rattle.std.proofs.Common.{◌≡◌, inl, inr, ℕ, not, true, List, [], ◌∷◌, Option, Some, None, refl, sym, subst, ◌∙◌, arith, IsTrue}
 use Rattle.std.proofs.Math.Logic.{∥∥₁_map₂}
 use Rattle.std.proofs.lemmas.Bool.{and_parts}

@@ -1,4 +1,4 @@
--- From what was read to the desk's result.
+-- The step from what was read to the desk's result.
 use Rattle.std.proofs.Common.{◌≡◌, ◌≢◌, ℕ, List, Result, Ok, Err, MatchResult, IfOk, IfErr, sym, ap}
 use Rattle.sqlite.specs.Store as store
 use Rattle.desk_bytes.specs.declared.refusal.Refusal.{Refusal}

@@ -1,4 +1,4 @@
--- No number of the desk's JSON is a float.
+-- The numbers of the desk's JSON, none of which is a float.
 use Rattle.std.proofs.Common.{◌≡◌, ℕ, List, [], ◌∷◌, Option, Some, None, false, map, refl, sym, subst}
 use Rattle.std.specs.Prelude.{⊤, option_map, slice_get}
 use Rattle.serde_json.specs.Data.{Data}

@@ -1,4 +1,4 @@
--- The responses of outages are those of their refusals.
+-- The responses of outages, which are those of their refusals.
 use Rattle.std.proofs.Common.{◌≡◌, refl}
 use Rattle.std.specs.Fmt.{digits}
 use Rattle.serde_json.proofs.OnLiterals.{serde_json_on_literals}

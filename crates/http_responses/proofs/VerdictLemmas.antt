@@ -1,4 +1,4 @@
--- A verdict names a component that there is.
+-- The component of a verdict, which exists.
 use Rattle.std.proofs.Common.{◌≡◌, ℕ, suc, ◌+◌, List, [], ◌∷◌, Bool, true, false, Option, None, Some, nat_lt, refl, ◌∙◌, ap, arith}
 use Rattle.std.specs.Prelude.{⊤, is_some, option_map, slice_get, if◌then◌else◌}
 use Rattle.std.specs.Option.{option_or}
@@ -20,7 +20,7 @@ one_of_all : (all : List Component) (x : Component) (place : ℕ) (lack : Bool) 
 one_of_all all x place true needed later at rest = ap is_some at
 one_of_all all x place false needed later at rest = rest
 
--- the same by what is asked of the component
+-- the same by the generation that is required of the component
 one_of_lacking : (all : List Component) (x : Component) (place : ℕ) (asked : Option ℕ) (later : Option Below)
     → slice_get all place ≡ Some x → IsOneOf all later → IsOneOf all (option_or (lack_at place x.generation asked) later)
 one_of_lacking all x place None later at rest = rest

@@ -1,4 +1,4 @@
--- An image without a gap is hashed but for CheckSum, the entry and the table.
+-- An image without a gap, which is hashed but for CheckSum, the entry and the table.
 use Rattle.std.proofs.Common.{◌≡◌, ◌+◌, ◌-◌, ◌≤◌, ◌++◌, ℕ, true, false, cond, if◌then◌else◌, List, [], ◌∷◌, length, take, drop, slice_range, nat_lt, refl, sym, ap, ◌∙◌, append_assoc, append-nil, arith}
 use Rattle.std.proofs.lemmas.List.{take-take, take-append-le, drop-append-le, drop-take, length-take-le}
 use Rattle.std.proofs.lemmas.List.Concat.{flat_map-append}

@@ -1,4 +1,5 @@
--- Where and why bytes aren't a row of signature lists (UEFI 2.10, section 32.4.1).
+-- Faults of bytes that aren't a row of signature lists: the place and the cause (UEFI 2.10, section
+-- 32.4.1).
 use Rattle.std.specs.Prelude.{◌≡◌, ◌+◌, ◌<◌, ◌⊎◌, ℕ, true, List, ◌++◌, length, take, drop}
 use Rattle.desk_bytes.specs.declared.refusal.Refusal.{Refusal}
 use Rattle.desk_bytes.specs.declared.refusal.Refusal.TheVariants as refusal

@@ -1,4 +1,4 @@
--- From the bytes of an answer's rows to those of the rows in the desk's tables.
+-- The step from the bytes of an answer's rows to those of the rows in the desk's tables.
 use Rattle.std.proofs.Common.{◌≡◌, inl, inr, ℕ, List, [], ◌∷◌, ◌++◌, map, filter, flat_map, slice_get, Bool, Option, Some, refl, sym, ap, ap₂, subst, ◌∙◌, append_assoc}
 use Rattle.std.specs.Io.KnownBytes.{Appends}
 use Rattle.std.specs.List.Sorted.{IsPermutation, IsSorted}

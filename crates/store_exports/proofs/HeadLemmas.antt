@@ -1,4 +1,4 @@
--- From the desk's own row to its owner and its stamp.
+-- The step from the desk's own row to its owner and its stamp.
 use Rattle.std.proofs.Common.{◌≡◌, ℕ, List, Result, Ok, Err, ap}
 use Rattle.std.specs.Prelude.{IfOk}
 use Rattle.sqlite.specs.State.{State}

@@ -1,4 +1,4 @@
--- SQL's order of keys is that of exports.
+-- SQL's order of keys, which is that of exports.
 use Rattle.std.proofs.Common.{◌≡◌, ℕ, pos, Bool, true, false, List, [], ◌∷◌, refl, sym, ap, ◌∙◌, cond, arith, true≢false, nat_le}
 use Rattle.std.specs.Prelude.{if◌then◌else◌, nat_eq}
 use Rattle.std.specs.Cmp.{tied_itself, upto}

@@ -1,5 +1,5 @@
--- From the work of the migration inside its transaction to the contents of the connection after it,
--- and after a stop.
+-- The step from the work of the migration inside its transaction to the contents of the connection
+-- after it, and after a stop.
 use Rattle.std.proofs.Common.{◌≡◌, ℕ, List, length, map, false, refl, sym, subst, ◌∙◌, arith, IsTrue}
 use Rattle.sqlite.specs.Store as store
 use Rattle.sqlite.specs.Held.{Held, state}

@@ -1,4 +1,4 @@
--- The tables of version 1 take none of the three names.
+-- The names of the tables of version 1, none of which is one of the three.
 use Rattle.std.proofs.Common.{◌≡◌, ℕ, List, true, false, refl, subst, IsTrue}
 use Rattle.sqlite.specs.Schema.{Schema}
 use Rattle.sqlite.specs.State.{State, HasCleanDisk}

@@ -1,4 +1,4 @@
--- No two items of proposals have the same key, where no two proposals have the same number.
+-- Keys of proposals' items, no two the same where no two proposals have the same number.
 use Rattle.std.proofs.Common.{◌≡◌, ℕ, ◌+◌, ◌<◌, Bool, true, false, not, ◌&&◌, ◌||◌, All, List, [], ◌∷◌, ◌++◌, refl, sym, ◌∙◌, arith}
 use Rattle.std.specs.Prelude.{◌==◌, flat_map}
 use Rattle.std.specs.List.{list_any}

@@ -1,4 +1,4 @@
--- From a proposal's own row and its items to the proposal.
+-- The step from a proposal's own row and its items to the proposal.
 use Rattle.std.proofs.Common.{◌≡◌, ◌==◌, ℕ, ◌+◌, Bool, List, [], ◌∷◌, map, filter, Some, None, All, refl, sym, ap, subst, ◌∙◌}
 use Rattle.std.specs.Prelude.{flat_map}
 use Rattle.std.specs.List.{AllByRecursion}

@@ -1,4 +1,4 @@
--- From the answer of a query to the rows of the desk's tables.
+-- The step from the answer of a query to the rows of the desk's tables.
 use Rattle.std.proofs.Common.{◌≡◌, ℕ, List, [], ◌∷◌, ◌++◌, map, filter, count_by, length, slice_get, Bool, true, min, ◌<◌, Option, Some, None, refl, sym, ap, subst, ◌∙◌, arith}
 use Rattle.std.specs.List.Sorted.{IsPermutation}
 use Rattle.std.specs.List.{All}

@@ -1,4 +1,4 @@
--- From the facts that reads give of tables to those of a history.
+-- The step from the facts that reads give of tables to those of a history.
 use Rattle.std.proofs.Common.{ℕ, List}
 use Rattle.sqlite.specs.State.{State}
 use Rattle.desk_history.specs.Calls.{History}

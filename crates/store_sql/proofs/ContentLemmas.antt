@@ -1,4 +1,4 @@
--- From a change of one table's tree to the contents of all tables.
+-- The step from a change of one table's tree to the contents of all tables.
 use Rattle.std.proofs.Common.{◌≡◌, ◌≢◌, ℕ, zero, suc, ◌==◌, not, List, [], ◌∷◌, map, slice_get, true, Some, sym, subst, subst₂, ◌∙◌}
 use Rattle.std.specs.List.{AllByRecursion}
 use Rattle.std.specs.List.Sorted.{IsPermutation}

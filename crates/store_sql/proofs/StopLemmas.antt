@@ -1,4 +1,4 @@
--- From the steps of a transaction to its commit.
+-- The passage from the steps of a transaction to its commit.
 use Rattle.std.proofs.Common.{true, false, refl, sym, subst, ◌∙◌, arith, IsTrue}
 use Rattle.sqlite.specs.Store as store
 use Rattle.sqlite.specs.Effect.{Database}

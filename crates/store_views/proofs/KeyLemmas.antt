@@ -1,4 +1,4 @@
--- The only row of a key has that key.
+-- The only row of a key, which has that key.
 use Rattle.std.proofs.Common.{◌≡◌, ℕ, Bool, true, false, List, [], ◌∷◌, map, refl, sym, ap, ◌∙◌}
 use Rattle.std.specs.Prelude.{bytes_eq, filter, if◌then◌else◌}
 use Rattle.std.proofs.lemmas.Bool.{and_parts}

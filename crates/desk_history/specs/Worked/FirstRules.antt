@@ -1,4 +1,4 @@
--- A desk with one officer gets a second.
+-- A desk with one officer, which gets a second.
 use Rattle.std.specs.Prelude.{◌≡◌, true, false, List, [], ◌∷◌, map, codes}
 use Rattle.desk_bytes.specs.declared.refusal.Refusal.TheVariants as refusals
 use Rattle.desk_texts.specs.declared.command.Call.{Call}

@@ -1,4 +1,4 @@
--- A key is given again.
+-- A key that is given again.
 use Rattle.std.specs.Prelude.{◌≡◌, List, [], ◌∷◌, length, codes}
 use Rattle.desk_bytes.specs.declared.refusal.Refusal.TheVariants as refusals
 use Rattle.desk_texts.specs.declared.command.Command.TheVariants as command

@@ -1,5 +1,5 @@
--- The signed file of a request is returned, and its certificate is listed, revoked and taken off
--- the list.
+-- The signed file of a request, returned, and its certificate, listed, revoked and taken off the
+-- list.
 use Rattle.std.specs.Prelude.{◌≡◌, ℕ, List, [], ◌∷◌, ◌++◌, map, codes}
 use Rattle.desk_bytes.specs.declared.refusal.Refusal.TheVariants as refusals
 use Rattle.desk_texts.specs.declared.command.Command.{Command}

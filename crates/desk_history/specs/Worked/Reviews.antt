@@ -1,4 +1,4 @@
--- A request is reviewed, and another one rejected.
+-- A request that is reviewed, and another one that is rejected.
 use Rattle.std.specs.Prelude.{◌≡◌, List, [], ◌∷◌, map, codes}
 use Rattle.desk_bytes.specs.declared.refusal.Refusal.TheVariants as refusals
 use Rattle.desk_texts.specs.declared.facts.Facts.{Facts}

@@ -1,4 +1,4 @@
-//! The report of the counts is the report of the history.
+//! The report of the counts, which is the report of the history.
 ghost use Rattle.std.specs.Prelude.{◌≡◌};
 ghost use Rattle.store_counts.specs.Counts.{CountHistory};
 ghost use Rattle.store_counts.specs.declared.numbers.Counts.{Counts};
