@@ -15,7 +15,7 @@ image_digest f = sha256 (hashed_bytes f)
 abbrev pub bytes_between : List ℕ → ℕ → ℕ → List Span → List ℕ
 bytes_between f from to ss = flat_map (λ s. slice_range f (max s.from from) (min s.to to)) ss
 
--- how many bytes a length lacks to a multiple of 8
+-- the number of bytes that a length lacks to a multiple of 8
 abbrev pub padding_of : ℕ → ℕ
 padding_of n = (8 - n % 8) % 8
 

@@ -69,7 +69,7 @@ fn hash_image<S: Source>(source: &mut S, layout: &Layout) -> Result<Sha256, Read
     Ok(hasher)
 }
 
-/// How many bytes a length lacks to a multiple of 8.
+/// The number of bytes that a length lacks to a multiple of 8.
 fn missing(length: u64) -> usize
     ensures value { result ≡ padding_of length }
     ensures few { result < 8 }

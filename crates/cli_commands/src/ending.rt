@@ -14,7 +14,7 @@ pub enum Outcome {
     Refused,
 }
 
-/// How a subcommand over a desk's file ended.
+/// The end of a subcommand over a desk's file.
 #[derive(Clone, Copy, Debug, PartialEq, Eq)]
 pub struct Ending {
     /// The outcome of its work, or the fault that stopped it.

@@ -12,8 +12,8 @@ use sqlite_std_file::OpenError;
 use std::hash::{BuildHasher, RandomState};
 use std::io::ErrorKind;
 
-/// How many pages of 4,096 bytes the store keeps in memory: 32 MiB of a file, which has room for
-/// some 130,000 accepted calls. The store takes this memory at once.
+/// The number of pages of 4,096 bytes that the store keeps in memory: 32 MiB of a file, which has
+/// room for some 130,000 accepted calls. The store takes this memory at once.
 const KEPT_PAGES: usize = 8_192;
 
 /// A random number for the salts of the log, and the sizes for the store.

@@ -11,11 +11,11 @@ use Rattle.desk_history.specs.People.{people}
 use Rattle.desk_history.specs.Requests.{is_state, requests, state}
 use Rattle.desk_history.specs.Revocations.{revocations}
 
--- how many requests are in this state
+-- the number of requests in this state
 abbrev pub count_in : State → History → ℕ
 count_in s cs = count_by (λ r. is_state s (state cs r.number)) (requests cs)
 
--- how many entries of this kind are listed
+-- the number of listed entries of this kind
 abbrev pub count_listed : ListedKind → History → ℕ
 count_listed kind cs = count_by (λ e. is_same_kind kind e.kind) (listed cs)
 

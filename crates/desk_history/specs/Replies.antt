@@ -18,11 +18,11 @@ use Rattle.desk_history.specs.Requests.{requests, state}
 use Rattle.desk_history.specs.Revocations.{revocations}
 use Rattle.desk_texts.specs.CommandTexts.{text_of}
 
--- how many different digests of this kind are revoked after the call and weren't before
+-- the number of different digests of this kind that are revoked after the call and weren't before
 abbrev pub gained : ListedKind → History → Item → ℕ
 gained kind cs i = length (distinct (revocations kind (i ∷ cs))) - length (distinct (revocations kind cs))
 
--- how many different names the entries put into force raise
+-- the number of different names that the entries put into force raise
 abbrev pub raised_count : History → InForce → ℕ
 raised_count cs f = length (names (filter (raises cs) f.components))
 

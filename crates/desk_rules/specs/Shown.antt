@@ -72,7 +72,7 @@ size_in s counted.RevokedCertificates = s.revoked_certificates
 size_in s counted.Components = s.components
 size_in s counted.Proposals = s.proposals
 
--- how many rows the table has
+-- the number of rows of the table
 abbrev pub rows_in : Tables → LimitedTable → ℕ
 rows_in t counted.People = length t.people
 rows_in t counted.Requests = length t.requests

@@ -79,7 +79,7 @@ certificate_directory_offset f = optional_header_offset f + (fixed_size f + 32)
 abbrev pub table_offset : List ℕ → ℕ
 table_offset f = u32_at f (certificate_directory_offset f)
 
--- how many bytes the certificate table has
+-- the number of bytes of the certificate table
 abbrev pub table_size : List ℕ → ℕ
 table_size f = u32_at f (certificate_directory_offset f + 4)
 
@@ -107,7 +107,7 @@ sum_of_bytes_hashed f = size_of_headers f + sum_by size_of (raw f)
 abbrev pub sections_end : List ℕ → ℕ
 sections_end f = reach (size_of_headers f) (raw f)
 
--- own: how many bytes before the sections' end are in no header and in no section
+-- own: the number of bytes before the sections' end that are in no header and in no section
 abbrev pub gap : List ℕ → ℕ
 gap f = sections_end f - sum_of_bytes_hashed f
 

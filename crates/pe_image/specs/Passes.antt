@@ -3,7 +3,7 @@ use Rattle.std.specs.Prelude.{ℕ, ◌-◌, ◌==◌, if◌then◌else◌, List,
 use Rattle.pe_image.specs.Places.{Places, spans_of}
 use Rattle.pe_image.specs.declared.span.Span.{Span}
 
--- own: how many of the ranges one pass reads in order: all, or, if there is a gap, all but the
+-- own: the number of ranges that one pass reads in order: all, or, if there is a gap, all but the
 -- last, which begins before the sections end
 abbrev pub in_first_pass : Places → ℕ
 in_first_pass p = if p.gap == 0 then length (spans_of p) else length (spans_of p) - 1

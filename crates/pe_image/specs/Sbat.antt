@@ -9,8 +9,8 @@ use Rattle.pe_image.specs.declared.span.Span.{Span}
 abbrev pub is_sbat : Header → Bool
 is_sbat h = bytes_eq h.name (codes ".sbat" ++ 0 ∷ 0 ∷ 0 ∷ [])
 
--- own: how many bytes of a section are text: SizeOfRawData, or VirtualSize if that is given and
--- less
+-- own: the number of bytes of a section that are text: SizeOfRawData, or VirtualSize if that is
+-- given and less
 abbrev pub text_size : Header → ℕ
 text_size h = if h.virtual_size == 0 then h.size_of_raw_data else min h.virtual_size h.size_of_raw_data
 
@@ -31,6 +31,6 @@ text_at (Some h) =
 unfoldable pub sbat_section : List Header → Option Header
 sbat_section hs = find is_sbat hs
 
--- how many sections have that name
+-- the number of sections with that name
 unfoldable pub sbat_count : List Header → ℕ
 sbat_count hs = count_by is_sbat hs

@@ -17,7 +17,7 @@ use crate::source::Source;
 use crate::span::Span;
 use crate::spans::{greatest_end, total_size};
 
-/// How many bytes the headers and the sections have, and where they end.
+/// The number of bytes of the headers and the sections, and the offset where they end.
 #[derive(Clone, Copy, Debug)]
 struct Measured {
     size: u64,

@@ -105,7 +105,7 @@ pub(crate) fn read_directories<S: Source>(
     })
 }
 
-/// How many sections there are, and where the headers end.
+/// The number of sections, and the offset where the headers end.
 #[derive(Clone, Copy, Debug)]
 pub(crate) struct Extent {
     pub(crate) count: usize,

@@ -36,7 +36,7 @@ impl Model for Layout {
     } };
 }
 
-/// How many bytes before the sections' end are in no header and in no section.
+/// The number of bytes before the sections' end that are in no header and in no section.
 pub fn gap(layout: &Layout) -> u64
     ensures { result ≡ layout.now.gap }
 {

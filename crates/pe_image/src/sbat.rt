@@ -17,7 +17,7 @@ fn has_name(header: &Header) -> bool
     header.name == *b".sbat\0\0\0"
 }
 
-/// How many sections have the name `.sbat`.
+/// The number of sections named `.sbat`.
 #[tactic(auto, unfolding(crate::specs::Sbat::sbat_count))]
 fn count_named(headers: &[Header]) -> usize
     ensures { result ≡ sbat_count headers.now }
@@ -38,7 +38,7 @@ fn named(headers: &[Header]) -> Option<Header>
     None
 }
 
-/// How many bytes of a section are text.
+/// The number of bytes of a section that are text.
 fn size_of_text(header: Header) -> u32
     ensures { result ≡ text_size header }
 {

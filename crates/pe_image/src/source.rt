@@ -10,14 +10,14 @@ pub trait Source {
     /// The bytes of the source.
     ghost content: { Self → List ℕ };
 
-    /// How many reads failed. The count stops at the greatest `u64`.
+    /// The number of failed reads. It stops at the greatest `u64`.
     ghost failures: { Self → ℕ };
 
-    /// How many bytes there are.
+    /// The number of bytes.
     fn len(&self) -> u64
         ensures { result ≡ length (content self.now) };
 
-    /// How many reads have failed so far.
+    /// The number of reads that have failed so far.
     fn failures(&self) -> u64
         ensures { result ≡ failures self.now };
 

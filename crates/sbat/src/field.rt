@@ -9,7 +9,7 @@ fn first_comma(line: &[u8]) -> Option<usize>
     line.iter().position(|b| *b == b',')
 }
 
-/// How many commas there are.
+/// The number of commas.
 fn count_commas(line: &[u8]) -> usize
     ensures { result ≡ count_by is_comma line.now }
 {

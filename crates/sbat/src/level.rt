@@ -101,7 +101,7 @@ impl Level {
         }
     }
 
-    /// How many names there are.
+    /// The number of names.
     pub fn len(&self) -> usize
         ensures exact { result ≡ len self.now.generations }
         ensures form { IsLevel self.now }

@@ -99,7 +99,7 @@ impl<'a> SignatureList<'a> {
         self.header
     }
 
-    /// How many entries it has.
+    /// The number of entries.
     pub fn count(&self) -> usize
         ensures { result ≡ length self.now.list.entries }
     {

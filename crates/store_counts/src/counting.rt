@@ -11,14 +11,14 @@ use sqlite::{Alter, Transaction};
 use std::alloc::Global;
 use store_reads::{Counted, ReadFault, count, own_row};
 
-/// How many requests wait for votes, and how many for the signed file.
+/// The numbers of requests that wait for votes, and for the signed file.
 #[derive(Clone, Copy)]
 struct Waiting {
     still_open: u64,
     approved: u64,
 }
 
-/// How many requests were rejected, withdrawn and signed.
+/// The numbers of requests that were rejected, withdrawn and signed.
 #[derive(Clone, Copy)]
 struct Ended {
     rejected: u64,

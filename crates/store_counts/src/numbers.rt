@@ -1,7 +1,7 @@
 //! Counts.
 use sbat::Stamp;
 
-/// How many requests there are, and how many are in each state.
+/// The number of requests, and of those in each state.
 #[derive(Clone, Copy, Debug, PartialEq, Eq)]
 pub struct RequestCounts {
     pub all: u64,
@@ -13,15 +13,15 @@ pub struct RequestCounts {
     pub signed: u64,
 }
 
-/// How many digests of images, and how many certificates.
+/// The number of digests of images, and of certificates.
 #[derive(Clone, Copy, Debug, PartialEq, Eq)]
 pub struct KindCounts {
     pub digests: u64,
     pub certificates: u64,
 }
 
-/// How many entries are listed and revoked, and the level: how many components it names apart from
-/// `sbat`, and its stamp.
+/// The numbers of listed and of revoked entries, and the level: the number of components that it
+/// names apart from `sbat`, and its stamp.
 #[derive(Clone, Copy, Debug, PartialEq, Eq)]
 pub struct ListCounts {
     pub listed: KindCounts,

@@ -15,7 +15,7 @@ use std::alloc::Global;
 use std::io::Write;
 use store_reads::FromRow;
 
-/// How a row is written.
+/// The form in which a row is written.
 pub(crate) trait RowForm {
     /// The bytes of a row in this form: the form, the row, the bytes.
     ghost spells: { Self → Shown → List ℕ → Type 0 };

@@ -18,7 +18,7 @@ use store_schema::make_added;
 use store_sql::StoreFault;
 use store_writes::{failed_commit, put_migrated, set_version};
 
-/// How many calls the tables have.
+/// The number of calls in the tables.
 fn calls_in<S: Alter>(tx: &mut Transaction<'_, S>) -> Result<u64, StoreFault>
     ensures same_reference { tx.new.conn.ghost_name ≡ tx.old.conn.ghost_name }
     ensures value { DoesInside S.Store tx.old.conn.now tx.new.conn.now result

@@ -54,7 +54,7 @@ fn is_row(proposal: ProposalNumber, named: &Import, place: usize, row: &Proposal
     is_item(named, place, &row.item)
 }
 
-/// How many items the import has.
+/// The number of items of the import.
 fn count_of(named: &Import) -> usize
     ensures { result ≡ length (items_of named.now) }
 {

@@ -1,31 +1,31 @@
 //! SELECT count(*), which visits every row of the table.
 
-/// How many people there are.
+/// The number of people.
 pub const COUNT_PEOPLE: &str = "SELECT count(*) FROM people";
 
-/// How many calls there are.
+/// The number of calls.
 pub const COUNT_CALLS: &str = "SELECT count(*) FROM calls";
 
-/// How many requests there are.
+/// The number of requests.
 pub const COUNT_REQUESTS: &str = "SELECT count(*) FROM requests";
 
-/// How many requests are in a state (`?1`).
+/// The number of requests in a state (`?1`).
 pub const COUNT_REQUESTS_IN: &str = "SELECT count(*) FROM requests WHERE state = ?1";
 
-/// How many entries there are, of both kinds.
+/// The number of listed entries, of both kinds.
 pub const COUNT_LISTED: &str = "SELECT count(*) FROM listed";
 
-/// How many entries of a kind (`?1`) there are.
+/// The number of listed entries of a kind (`?1`).
 pub const COUNT_LISTED_OF: &str = "SELECT count(*) FROM listed WHERE kind = ?1";
 
-/// How many revoked digests there are.
+/// The number of revoked digests.
 pub const COUNT_REVOKED_DIGESTS: &str = "SELECT count(*) FROM revoked_digests";
 
-/// How many revoked certificates there are.
+/// The number of revoked certificates.
 pub const COUNT_REVOKED_CERTIFICATES: &str = "SELECT count(*) FROM revoked_certificates";
 
-/// How many components the level has.
+/// The number of components of the level.
 pub const COUNT_COMPONENTS: &str = "SELECT count(*) FROM components";
 
-/// How many proposals there are.
+/// The number of proposals.
 pub const COUNT_PROPOSALS: &str = "SELECT count(*) FROM proposals";

@@ -71,7 +71,7 @@ pub record LearnsOf (tables : List LimitedTable) (command : Command) (before aft
   pub sizes : (table : LimitedTable) (n : ℕ) → known before table ≡ Some n → known after table ≡ Some n
   pub others : (table : LimitedTable) → IsTrue (not (may_put command table)) → known after table ≡ known before table
 
--- how many calls there are is known; all else stays
+-- the number of calls is known; all else stays
 pub record LearnsCalls (before after : KeptSizes) : Type 0 where
   pub enough : IsTrue (is_some after.calls)
   pub kept : (n : ℕ) → before.calls ≡ Some n → after.calls ≡ Some n

@@ -30,7 +30,7 @@ fn counted_of(table: LimitedTable) -> Counted
     }
 }
 
-/// How many rows the table has.
+/// The number of rows of the table.
 fn count_of<S: Alter>(tx: &mut Transaction<'_, S>, table: LimitedTable) -> Result<u64, ReadFault>
     ensures same_reference { tx.new.conn.ghost_name ≡ tx.old.conn.ghost_name }
     ensures value { DoesInside S.Store tx.old.conn.now tx.new.conn.now result

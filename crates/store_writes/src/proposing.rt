@@ -92,7 +92,7 @@ fn put_item<S: Alter>(
     )
 }
 
-/// How many items it has.
+/// The number of its items.
 fn count_of(named: &Import) -> usize
     ensures { result ≡ length (items_of named.now) }
 {

@@ -7,7 +7,7 @@ use Rattle.desk_service.specs.imports.Items.{named_by}
 use Rattle.desk_service.specs.declared.imports.item.Item.{Item}
 use Rattle.desk_service.specs.declared.imports.item.Item.TheVariants as item
 
--- how many entries were gathered, and the import of them
+-- the number of entries that were gathered, and the import of them
 pub record Gathering : Type 0 where
   pub count : ℕ
   pub names : Imported

@@ -28,7 +28,7 @@ pub record AreDirectories (f : List ℕ) (directories : Directories) : Type 0 wh
   pub inside : IfSome directories.certificate_directory (λ e. e.from + 8 ≤ length f)
   pub fields : pe_signature_offset f + 120 ≤ length f
 
--- how many sections there are, and where the headers end, after the section table
+-- the number of sections, and the offset where the headers end, after the section table
 pub record IsExtent (f : List ℕ) (extent : Extent) : Type 0 where
   pub count : extent.count ≡ number_of_sections f
   pub few : extent.count ≤ 96

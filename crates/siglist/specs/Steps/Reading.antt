@@ -7,7 +7,7 @@ use Rattle.siglist.specs.SignatureLists.{Entry, Placed, SignatureList}
 use Rattle.siglist.specs.declared.fault.Lack.{Lack}
 use Rattle.siglist.specs.declared.fault.Lack.TheVariants as lack
 
--- how many bytes the entries have
+-- the number of bytes of the entries
 abbrev pub entries_size_at : List ℕ → ℕ
 entries_size_at b = size_at b - (28 + header_size_at b)
 

@@ -106,6 +106,6 @@ item_values r =
     Int (pos r.proposal) ∷ Int (pos r.place) ∷ Text (item_kind_text (item_kind r.item)) ∷ Blob (item_digest r.item)
     ∷ Text (item_name r.item) ∷ Int (pos (item_generation r.item)) ∷ []
 
--- own: how many calls were accepted by the first rules: id, calls
+-- own: the number of calls accepted by the first rules: id, calls
 abbrev pub migrated_values : MigratedRow → Row
 migrated_values m = Int (pos m.id) ∷ Null ∷ Int (pos m.calls) ∷ []

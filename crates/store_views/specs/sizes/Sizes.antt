@@ -13,7 +13,7 @@ use Rattle.desk_rules.specs.declared.view.Sizes.{Sizes}
 use Rattle.desk_rules.specs.Shown.{is_table, may_put, rows_in, size_in}
 use Rattle.store_views.specs.declared.sizes.kept.KeptSizes.{KeptSizes}
 
--- how many rows the table has, if that is known
+-- the number of rows of the table, if that is known
 abbrev pub known : KeptSizes → LimitedTable → Option ℕ
 known k counted.People = k.people
 known k counted.Requests = k.requests

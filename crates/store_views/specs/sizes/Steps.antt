@@ -17,7 +17,7 @@ abbrev pub one_less : Option ℕ → Option ℕ
 one_less None = None
 one_less (Some n) = if nat_lt 0 n then Some (n - 1) else None
 
--- how many entries are listed after a command
+-- the number of listed entries after a command
 abbrev pub listed_after : Option ℕ → Command → Option ℕ
 listed_after size (command.ListCertificate _) = more size 1
 listed_after size (command.ListDigest _) = more size 1

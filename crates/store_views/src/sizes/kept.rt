@@ -7,7 +7,7 @@ use desk_history::Write;
 use desk_rules::{LimitedTable, Sizes, count};
 use desk_texts::Command;
 
-/// How many rows each table has that a limit of the desk counts, or `None` if that isn't known.
+/// The number of rows of each table that a limit of the desk counts, or `None` if it isn't known.
 #[derive(Clone, Copy, Debug, PartialEq, Eq)]
 pub struct KeptSizes {
     people: Option<u64>,
@@ -34,7 +34,7 @@ fn one_less(size: Option<u64>) -> Option<u64>
     size?.checked_sub(1)
 }
 
-/// How many entries are listed after an accepted command.
+/// The number of listed entries after an accepted command.
 fn listed_after(size: Option<u64>, command: &Command) -> Option<u64>
     ensures { result ≡ steps.listed_after size command.now }
 {
@@ -72,14 +72,14 @@ impl KeptSizes {
         }
     }
 
-    /// How many calls there are, if that is known.
+    /// The number of calls, if it is known.
     pub fn calls(&self) -> Option<u64>
         ensures { result ≡ self.now.calls }
     {
         self.calls
     }
 
-    /// How many rows the table has, if that is known.
+    /// The number of rows of the table, if it is known.
     pub fn size(&self, table: LimitedTable) -> Option<u64>
         ensures { result ≡ spec.known self.now table }
     {
