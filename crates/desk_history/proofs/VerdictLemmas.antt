@@ -45,7 +45,7 @@ pub allows_exactly : AllowsExactly
 allows_exactly cs x =
     by_parts (has_revoked_digest (standing cs) x) (has_revoked_certificate (standing cs) x) (stands_in_db cs x) (first_below (standing cs) 0 x.components) (list_any (is_below (standing cs)) x.components) (components_allow (standing cs) 0 x.components)
 
--- what more calls add
+-- revocations and required generations after more calls
 
 pub revoked_after : (kind : ListedKind) (cs new : History) (digest : List ℕ) → is_revoked kind cs digest ≡ true → is_revoked kind (new ++ cs) digest ≡ true
 revoked_after kind cs [] digest h = h

@@ -78,7 +78,7 @@ adds v caller p result told owner cs key legal shown =
     token : list_any (has_token p.token) v.people.items ≡ list_any (has_token p.token) (people cs)
     token = any_found (has_token p.token) v.people.items ∙ (ap is_some (shown.tokens p.token (among_one p.token)) ∙ sym (any_found (has_token p.token) (people cs)))
 
--- what is listed
+-- the list of allowed images
 
 -- rows that lack the entry are those without it
 pub without_missing : (kind : ListedKind) (digest : List ℕ) (rows : List Entry) → has_entry kind digest rows ≡ false → without kind digest rows ≡ rows

@@ -45,7 +45,7 @@ next_history cs c history formed = record {
   formed = by_next (All IsItem) cs (item c) history.formed (λ _. All-cons IsItem (item c) cs formed history.formed);
 }
 
--- what is right of the tables before a call that isn't accepted is right after it
+-- the effect of a call, accepted or not, by a view that shows the tables
 module _ (sizes : KeptSizes) (c : Call) where
   -- the reads that made a view: it shows the tables, and the counted sizes are right
   pub record Viewed (v : View) (counted : KeptSizes) (first read : State) : Type 0 where

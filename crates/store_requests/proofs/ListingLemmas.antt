@@ -61,7 +61,7 @@ oldest_first (s ∷ ss) =
 abbrev IsAlone : List Request → Request → Type 0
 IsAlone rs r = IsOnly (λ (q : Request). q.number) rs r
 
--- ---- rows, and what is shown of them
+-- ---- rows, and the requests shown of them
 
 module _ (owner : List ℕ) (cs : History) (p : Person) where
   abbrev is_mine : Request → Bool

@@ -25,7 +25,7 @@ placed_more k place [] x = ap (λ n. placed k n x ∷ []) (let same : place ≡ 
 placed_more k place (y ∷ ys) x =
     ap (λ l. placed k place y ∷ l) (placed_more k (place + 1) ys x ∙ ap (λ n. placed_from k (place + 1) ys ++ placed k n x ∷ []) (let same : place + 1 + length ys ≡ place + length (y ∷ ys) = omega arith in same))
 
--- what two lists show of one another, with one item more
+-- a relation of two lists holds with one item more in each
 pub zip_more : {A B : Type 0} (P : A → B → Type 0) (xs : List A) (ys : List B) (x : A) (y : B) → AllZip P xs ys → P x y → AllZip P (xs ++ x ∷ []) (ys ++ y ∷ [])
 zip_more P [] [] x y h p = (p, tt)
 zip_more P [] (v ∷ ys) x y h p = absurd h

@@ -14,7 +14,7 @@ use Rattle.store_requests.proofs.LoopLemmas.{zip_more}
 -- ---- one request
 
 module _ (reader : Person) (t : Tables) (k n : ℕ) (same : n ≡ k) (found : Option RequestRow) (row : RequestRow) (some : found ≡ Some row) where
-  -- what the read of the row told
+  -- the result of the read of the row
   abbrev pub IsFound : Type 0
   IsFound = filter (λ (r : RequestRow). n == r.number) t.requests ≡ listed found
 

@@ -13,7 +13,7 @@ use Rattle.desk_history.proofs.ListLemmas.{number_above}
 use Rattle.store_reads.proofs.PartLemmas.{Ascends}
 use Rattle.store_requests.proofs.ItemLemmas.{drops, keeps}
 
--- ---- turned round
+-- ---- reversed
 
 pub map-reverse : {X Y : Type 0} (f : X → Y) (xs : List X) → map f (reverse xs) ≡ reverse (map f xs)
 map-reverse f [] = refl

@@ -86,7 +86,7 @@ components_are k xs ys moved =
     (λ d h. Contains-permutation (placed_from k 0 xs) (placed_from k 0 ys) d moved h) in
     sym (unplaced k 0 ys) ∙ ap (map component_of) same ∙ unplaced k 0 xs
 
--- ---- what a request's image carries ascends
+-- ---- the facts of a request's image, which are within their limits
 
 abbrev HasWithin : Request → Type 0
 HasWithin r = AreFactsWithin r.facts
