@@ -16,7 +16,7 @@ pub enum Outage {
     Store,
     /// The desk failed before, and must be opened again.
     Reopen,
-    /// The database holds no desk.
+    /// The file holds no desk, or a desk that this program does not open.
     NotADesk,
 }
 

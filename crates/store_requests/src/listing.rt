@@ -49,7 +49,7 @@ fn take_numbered<S: Alter, L: RequestList>(
     }
 }
 
-/// The requests of the first so many numbers, as far as the person is shown them.
+/// The requests numbered 1 to `count`, those of them that the person is shown.
 fn list_first<S: Alter, L: RequestList + Drop>(
     alloc: Global,
     tx: &mut Transaction<'_, S>,

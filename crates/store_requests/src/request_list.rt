@@ -14,8 +14,7 @@ pub trait RequestList {
     fn new(alloc: Global) -> Self
         ensures { holds result [] };
 
-    /// Adds a request behind the others. Fails where memory is refused; what it then holds is not
-    /// said.
+    /// Adds a request at the end. Fails if memory is refused; the list's contents are then unknown.
     fn push(&mut self, shown: ShownRequest) -> Result<(), AllocError>
         ensures { (before : List Shown) → holds self.old before
             → OnOk result (holds self.new (before ++ shown ∷ [])) };

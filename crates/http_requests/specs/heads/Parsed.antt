@@ -1,4 +1,4 @@
--- Where the parts of a head stand in the bytes that it begins.
+-- The spans of the parts of a head, in the bytes that begin with it.
 use Rattle.std.specs.Prelude.{ℕ, List}
 use Rattle.httparse.specs.Grammar.{RequestHead}
 use Rattle.httparse.specs.Spans.{IsRequestAt, IsRequestWithin}

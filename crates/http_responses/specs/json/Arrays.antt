@@ -11,7 +11,7 @@ after_comma item = 44 ∷ compact_text item
 abbrev pub after_commas : {X : Type 0} → (X → Data) → List X → List ℕ
 after_commas as_data items = flat_map (λ item. after_comma (as_data item)) items
 
--- items that stand each after a comma, as an array: its opening bracket is in place of the first comma
+-- items, each after a comma, as an array: the opening bracket replaces the first comma
 abbrev pub bracketed : List ℕ → List ℕ
 bracketed [] = 91 ∷ 93 ∷ []
 bracketed (comma ∷ rest) = 91 ∷ rest ++ 93 ∷ []
