@@ -1,8 +1,8 @@
-//! Where the parts of a head stand.
+//! The spans of the parts of a head.
 use crate::heads::head_reading::MOST_FIELDS;
 use httparse::spans::{HeaderSpan, RequestSpans};
 
-/// Where the parts of a head stand in its bytes.
+/// The spans of the parts of a head in its bytes.
 #[derive(Debug, Drop)]
 pub(crate) struct HeadSpans {
     pub(crate) request: RequestSpans,

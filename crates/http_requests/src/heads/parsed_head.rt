@@ -10,7 +10,7 @@ use crate::heads::head_parts::parts_at;
 use crate::heads::head_spans::HeadSpans;
 use std::marker::Model;
 
-/// The bytes of a head, with where its parts stand in them.
+/// The bytes of a head, with the spans of its parts.
 #[derive(Debug, Drop)]
 pub struct ParsedHead {
     bytes: Vec<u8>,
@@ -26,7 +26,7 @@ impl Model for ParsedHead {
 }
 
 impl ParsedHead {
-    /// A head of these bytes, where its parts stand there.
+    /// The head of these bytes, with the spans of its parts in them.
     pub(crate) fn new(bytes: Vec<u8>, spans: HeadSpans) -> ParsedHead
         requires { IsParsed bytes.items spans }
         ensures { result ≡ bytes.items }
