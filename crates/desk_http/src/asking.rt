@@ -23,7 +23,7 @@ use http_responses::{Outage, Refused};
 use std::alloc::Global;
 use std::io::Read;
 
-/// What is due where the fields have this fault.
+/// The refusal of fields that have this fault.
 fn refuse(fault: AskedFault) -> Result<Due, Unread>
     ensures refused { MatchResult result
         (λ due. (fault ≢ AskedFault.NoMemory) × (due ≡ Err (refused_by_fields fault)))
@@ -40,7 +40,7 @@ fn refuse(fault: AskedFault) -> Result<Due, Unread>
     }
 }
 
-/// What a person asks to be shown.
+/// The call of a person for a reading.
 fn ask_to_read(person: Person, route: GetRoute, wanted: &Wanted<'_>) -> Result<Due, Unread>
     ensures asked { IfOk result (λ due.
         due ≡ spec.of_read person (asks.read_at route (shown wanted.now))) }
@@ -57,7 +57,7 @@ fn ask_to_read(person: Person, route: GetRoute, wanted: &Wanted<'_>) -> Result<D
     }
 }
 
-/// What a person asks for with the image that the reader stands at.
+/// The call of a person with the image that comes next.
 fn ask_with_image<R: Read>(
     alloc: Global,
     person: Person,
@@ -85,7 +85,7 @@ fn ask_with_image<R: Read>(
     }
 }
 
-/// The command that a person gives with the body that the reader stands at.
+/// The command of a person with the body that comes next.
 fn ask_with_body<R: Read>(
     alloc: Global,
     person: Person,
@@ -115,7 +115,7 @@ fn ask_with_body<R: Read>(
     }
 }
 
-/// What a person asks for, with the body that the reader stands at. Of a GET nothing more is read.
+/// The call of a person with the body that comes next. For a GET nothing more is read.
 pub(crate) fn ask<R: Read>(
     alloc: Global,
     person: Person,

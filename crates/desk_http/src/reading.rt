@@ -62,7 +62,7 @@ fn person_of<D: Answering>(desk: &mut D, token: Option<&[u8]>) -> Result<Option<
     }
 }
 
-/// What a head asks for, where it wants this.
+/// The call of a head that wants this, or its refusal.
 fn ask_as<D: Answering, R: Read>(
     alloc: Global,
     desk: &mut D,
@@ -94,7 +94,7 @@ fn ask_as<D: Answering, R: Read>(
     }
 }
 
-/// What a head asks for, with what follows it.
+/// The call of a head and the bytes after it, or its refusal.
 fn ask_by_head<D: Answering, R: Read>(
     alloc: Global,
     routes: &Routes,
@@ -128,7 +128,7 @@ fn ask_by_head<D: Answering, R: Read>(
     }
 }
 
-/// Reads what the input asks for, or gives `None` where it has no byte. Takes memory.
+/// Reads the request of the input, or returns `None` if the input has no byte. Takes memory.
 pub(crate) fn read_due<D: Answering, R: Read>(
     alloc: Global,
     routes: &Routes,

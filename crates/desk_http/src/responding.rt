@@ -19,7 +19,7 @@ use http_responses::{
 use std::alloc::{AllocError, Global};
 use std::io::Write;
 
-/// The response of status 200 whose body is JSON, or empty where there is none.
+/// The response of status 200 with this JSON as its body, or with an empty body.
 fn json_response(alloc: Global, json: Option<Vec<u8>>) -> Result<Vec<u8>, AllocError>
     ensures { IfOk result (λ bytes.
         bytes.items ≡ response_text status.Ok Json (spec.items_or_none json)) }
@@ -30,7 +30,7 @@ fn json_response(alloc: Global, json: Option<Vec<u8>>) -> Result<Vec<u8>, AllocE
     }
 }
 
-/// The whole response to an answer, whose own bytes aren't held a second time. Takes memory.
+/// The whole response to an answer. The answer's bytes aren't copied. Takes memory.
 fn response_to(alloc: Global, answer: Answer) -> Result<Vec<u8>, AllocError>
     ensures { IfOk result (λ bytes. bytes.items ≡ spec.response_of answer) }
 {
@@ -52,7 +52,7 @@ fn response_to(alloc: Global, answer: Answer) -> Result<Vec<u8>, AllocError>
     }
 }
 
-/// Why the desk can answer no request, where the answer says so.
+/// The outage that an answer reports, if it reports one.
 fn outage_in(answer: &Answer) -> Option<Outage>
     ensures { MatchOption result (sending.is_outage answer.now ≡ false)
         (λ outage. answer.now ≡ Answer.Refused (Refused.Unavailable outage)) }
@@ -72,7 +72,7 @@ fn outage_in(answer: &Answer) -> Option<Outage>
     }
 }
 
-/// Writes the bytes of a response, which says this.
+/// Writes the bytes of the response that says this.
 fn send<W: Write>(bytes: &[u8], says: Answered, writer: &mut W) -> Result<Served, HttpFault>
     ensures { MatchResult result (λ served. (served ≡ Served.Answered says)
         × Appends (W.contents writer.old) (W.contents writer.new) bytes.now)
@@ -85,7 +85,7 @@ fn send<W: Write>(bytes: &[u8], says: Answered, writer: &mut W) -> Result<Served
     }
 }
 
-/// Writes the response where the desk can answer no request.
+/// Writes the response for an outage.
 fn send_outage<W: Write>(outage: Outage, writer: &mut W) -> Result<Served, HttpFault>
     ensures { sending.Sends (W.contents writer.old) (W.contents writer.new)
         (Answer.Refused (Refused.Unavailable outage)) result }
@@ -97,7 +97,7 @@ fn send_outage<W: Write>(outage: Outage, writer: &mut W) -> Result<Served, HttpF
     send(outage_response(outage), says, writer)
 }
 
-/// Writes the response to an answer, or that of NoMemory where its text finds no memory. It is built whole
+/// Writes the response to an answer, or NoMemory if memory for its text is refused. It is built whole
 /// before its first byte is written.
 pub(crate) fn send_answer<W: Write>(
     alloc: Global,

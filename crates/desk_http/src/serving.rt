@@ -18,7 +18,7 @@ use http_responses::{Outage, Refused};
 use std::alloc::Global;
 use std::io::{Read, Write};
 
-/// The answer to what is asked for.
+/// The answer to a call, or to a refusal of it.
 fn answer_due<D: Answering>(alloc: Global, desk: &mut D, due: Due) -> Answer
     ensures served { D.clean desk.new → ForEachShown (D.shows desk.old) (λ owner cs.
         Serves (D.shows desk.new owner) (D.failed desk.new) cs
@@ -35,7 +35,7 @@ fn answer_due<D: Answering>(alloc: Global, desk: &mut D, due: Due) -> Answer
     }
 }
 
-/// The answer to what the input asks for, or `None` where it has no byte.
+/// The answer to the request of the input, or `None` if the input has no byte.
 fn answer_input<D: Answering, R: Read>(
     alloc: Global,
     routes: &Routes,
@@ -68,12 +68,13 @@ fn answer_input<D: Answering, R: Read>(
     }
 }
 
-/// Serves one connection: reads a request, asks the desk, and writes the response, which is built whole before its
-/// first byte is written. Of what follows the request nothing is read, nor the body before the caller is known. Takes
-/// memory.
+/// Serves one connection: reads a request, asks the desk, and writes the response, which is built whole
+/// before its first byte is written. Nothing after the request is read, and the body only once the
+/// caller is known. Takes memory.
 ///
-/// Where a call's answer or its text finds no memory, the response says NoMemory, and a command that was accepted
-/// stays accepted; where the store fails, it says Store, and where it failed before, Reopen: each with status 503.
+/// If memory for an answer or its text is refused, the response is NoMemory, and an accepted command
+/// stays accepted. If the store fails, the response is Store; if it failed before, Reopen. Each has
+/// status 503.
 pub fn serve_one<D: Answering, R: Read, W: Write>(
     alloc: Global,
     routes: &Routes,

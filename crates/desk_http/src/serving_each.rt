@@ -44,9 +44,9 @@ fn serve_next<D: Answering, W: Write>(
     }
 }
 
-/// Serves inputs one after another, each as a connection of its own, and writes their responses one behind
-/// another. Gives how many were served: all, or those before the first that met a fault, or whose response
-/// says that memory or the store failed. Takes memory.
+/// Serves inputs one after another, each as a connection of its own, and writes their responses in that
+/// order. Returns the number of inputs served: all, or those before the first that met a fault or whose
+/// response reports that memory or the store failed. Takes memory.
 pub fn serve_each<D: Answering, W: Write>(
     alloc: Global,
     routes: &Routes,

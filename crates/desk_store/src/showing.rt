@@ -100,7 +100,7 @@ impl<S: Alter + Drop> Desk<S> {
         }
     }
 
-    /// All proposals, ascending by number, for an officer: who proposed each, where it stands, and how
+    /// All proposals, ascending by number, for an officer: who proposed each, its state, and how
     /// much it names. Nothing is changed. Takes memory for them, and for all that one of them names at
     /// a time.
     ///

@@ -17,7 +17,7 @@ use std::alloc::Global;
 use std::net::{Ipv4Addr, Net, SocketAddr, SocketAddrV4, TcpListener, TcpStream};
 use std::time::Clock;
 
-/// Listens at this port of 127.0.0.1, and nowhere else. Read: the port can't be had.
+/// Listens at this port of 127.0.0.1, and nowhere else. Read: the port isn't available.
 pub fn listen<N: Net<Listener = TcpListener, Stream = TcpStream>>(
     net: &N,
     port: u16,
@@ -31,7 +31,7 @@ pub fn listen<N: Net<Listener = TcpListener, Stream = TcpStream>>(
     }
 }
 
-/// The peers that connect to a listener, each in its time by a clock.
+/// The peers that connect to a listener, each with the deadlines of this clock.
 #[derive(Drop)]
 struct Callers<'l, C> {
     listener: &'l TcpListener,
@@ -50,7 +50,7 @@ impl<'l, C: Clock, D: Answering> Peers<D> for Callers<'l, C> {
     }
 }
 
-/// Serves so many peers, one after another, unless one ends the program before.
+/// Serves `count` peers, one after another, unless one of them ends the program first.
 fn serve_peers<D: Answering, P: Peers<D>>(
     alloc: Global,
     desk: &mut D,
@@ -75,12 +75,12 @@ fn serve_peers<D: Answering, P: Peers<D>>(
     Ok(())
 }
 
-/// Serves so many connections, one request each, one after another. What stops one connection ends that
-/// connection alone. By the clock a peer has 30 seconds for its request, and one more for each 64 KiB that came, and
-/// as long to take the response; then it is let go. Takes memory for each.
+/// Serves `count` connections, one request each, one after another. A fault of one connection ends that
+/// connection only. By the clock a peer has 30 seconds for its request, one more for each 64 KiB that
+/// arrived, and as long to take the response; then its connection is closed. Takes memory for each.
 ///
-/// Read: a connection couldn't be accepted. Store, Reopen: that response was written, and the desk has to be
-/// opened again.
+/// Read: a connection couldn't be accepted. Store, Reopen: that response was written, and the desk must
+/// be opened again.
 pub fn serve<C: Clock, D: Answering>(
     alloc: Global,
     clock: &C,

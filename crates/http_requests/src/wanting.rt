@@ -26,7 +26,7 @@ fn after_slash(text: &[u8]) -> &[u8]
     }
 }
 
-/// What stands before the first slash, or all.
+/// The bytes before the first slash, or all.
 fn before_slash(text: &[u8]) -> &[u8]
     ensures { result.now ≡ before_first spec.is_slash text.now }
 {
@@ -36,7 +36,7 @@ fn before_slash(text: &[u8]) -> &[u8]
     }
 }
 
-/// What stands for `{no}` in a target.
+/// The part of a target that `{no}` stands for.
 fn number_part(target: &[u8]) -> &[u8]
     ensures { result.now ≡ spec.number_part target.now }
 {

@@ -55,7 +55,7 @@ fn text_at(bytes: &[u8], span: Span) -> &str
     }
 }
 
-/// The parts of a head of these bytes, where they stand there.
+/// The parts of the head of these bytes, at these spans.
 pub(crate) fn parts_at<'b>(bytes: &'b [u8], spans: &HeadSpans) -> Head<'b>
     requires { IsParsed bytes.now spans.now }
     ensures { (h : RequestHead) → IsRequestAt bytes.now spans.now.fields spans.now.request h

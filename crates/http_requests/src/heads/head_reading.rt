@@ -18,9 +18,9 @@ const MOST_BYTES: usize = 16_384;
 /// The most fields of a head.
 pub(crate) const MOST_FIELDS: usize = 64;
 
-/// How the bytes so far stand to a head.
+/// The bytes so far, as the beginning of a request.
 enum Look {
-    /// They begin with one, whose parts stand here.
+    /// They begin with a head, which has these spans.
     Whole(HeadSpans),
     /// They don't begin with one.
     Open,
@@ -81,11 +81,11 @@ fn may_end_head(bytes: &[u8], blank: bool, begun: bool) -> bool
     }
 }
 
-/// Reads the head of a request (RFC 9112, section 2.1, as `httparse` takes it) of at most 16,384 bytes and
-/// 64 fields. After a head the reader stands at the first byte of the body; one byte is asked for at a time,
-/// so a reader without a buffer is slow. The bytes so far are parsed at the end of the first line that isn't
-/// empty, and at each empty line behind it: `NoHead` is told of a wrong first line at its end, of a wrong field
-/// at the empty line. An interrupted read is a fault. Takes memory for the head.
+/// Reads the head of a request (RFC 9112, section 2.1, as `httparse` takes it) of at most 16,384 bytes
+/// and 64 fields. After a head the reader is at the first byte of the body. It is read byte by byte, so
+/// a reader without a buffer is slow. The bytes so far are parsed at the end of the first line that
+/// isn't empty, and at each empty line after it: a wrong first line is `NoHead` at its end, a wrong
+/// field at the empty line. An interrupted read is a fault. Takes memory for the head.
 pub fn read_head<R: Read>(
     alloc: Global,
     reader: &mut R,

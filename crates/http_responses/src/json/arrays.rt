@@ -58,7 +58,7 @@ fn push_items<T: JsonText>(alloc: Global, text: &mut Vec<u8>, items: &[T]) -> Re
     Ok(())
 }
 
-/// The array of the items that stand in the text, each after a comma. Takes memory for its brackets.
+/// The array of the items in the text, each after a comma. Takes memory for its brackets.
 pub(crate) fn bracketed(mut text: Vec<u8>) -> Result<Vec<u8>, AllocError>
     ensures { IfOk result (λ whole. whole.items ≡ spec.bracketed text.items) }
 {

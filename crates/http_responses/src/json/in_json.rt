@@ -6,7 +6,7 @@ ghost use Rattle.serde_json.specs.View.{items_of, view};
 use serde_json::Value;
 use std::alloc::{AllocError, Global};
 
-/// What stands in JSON.
+/// Values that have a form in JSON.
 pub(crate) trait InJson {
     /// The value.
     ghost as_data: { Self → Data };

@@ -23,7 +23,7 @@ fn numbered(alloc: Global, word: &str, request: RequestNumber) -> Result<Value, 
     json!(in alloc; {"reply": word, "request": number})
 }
 
-/// Where a request stands after a review.
+/// The state of a request after a review.
 fn reviewed(alloc: Global, outcome: Outcome) -> Result<Value, AllocError>
     ensures { IfOk result (λ v. view v ≡ spec.reviewed_data outcome) }
 {
