@@ -61,6 +61,31 @@ fn answer_at<D: Disk + Drop, R: Read + Drop, W: Write>(
     ended(desk.into_desk(), work)
 }
 
+/// Answers one request of the reader by this table of paths, for the desk in a file.
+fn answer_by<R: Read + Drop, W: Write>(
+    rt: &HostRuntime,
+    routes: &Routes,
+    path: &str,
+    reader: R,
+    writer: &mut W,
+) -> Ending
+    ensures answered { (IsUnopened result × Keeps (W.contents writer.old) (W.contents writer.new))
+        ⊎ AtADesk (AnswersOnce ⟦<File as Disk>⟧ (R.remaining reader)
+        (W.contents writer.old) (W.contents writer.new) result) }
+    ensures done { IfOk result.work (λ outcome. outcome ≡ Outcome.Done) }
+    ensures named { IfErr result.work (IsRow (λ refusal.
+        IsOpeningRefusal refusal ⊎ IsAnsweringRefusal refusal)) }
+    ensures first { IfErr result.work (λ fault. IsOfOpening fault.refusal
+        → (result.closing ≡ None) × Keeps (W.contents writer.old) (W.contents writer.new)) }
+    ensures closing { IfSome result.closing (IsRow IsClosingRefusal) }
+    ensures let_go { IfErr result.work (λ fault. IsLasting fault.refusal → result.closing ≡ None) }
+{
+    match open(rt, path) {
+        Ok(desk) => answer_at(rt.alloc(), routes, desk, reader, writer),
+        Err(refusal) => Ending::without_desk(refusal),
+    }
+}
+
 /// Answers one request of the reader, for the desk in a file; if the reader has no byte, nothing is
 /// written. The work is done, whatever the response, unless the desk must be opened again after it:
 /// then the fault is Store or Reopen.
@@ -84,12 +109,9 @@ pub fn answer_from<R: Read + Drop, W: Write>(
     ensures closing { IfSome result.closing (IsRow IsClosingRefusal) }
     ensures let_go { IfErr result.work (λ fault. IsLasting fault.refusal → result.closing ≡ None) }
 {
-    let Ok(routes) = Routes::new(rt.alloc()) else {
-        return Ending::without_desk(Refusal::NoMemory);
-    };
-    match open(rt, path) {
-        Ok(desk) => answer_at(rt.alloc(), &routes, desk, reader, writer),
-        Err(refusal) => Ending::without_desk(refusal),
+    match Routes::new(rt.alloc()) {
+        Ok(routes) => answer_by(rt, &routes, path, reader, writer),
+        Err(_) => Ending::without_desk(Refusal::NoMemory),
     }
 }
 
@@ -149,6 +171,23 @@ fn serve_at<D: Disk + Drop>(
     ended(desk.into_desk(), work)
 }
 
+/// Serves `count` connections at this port of 127.0.0.1 by this table of paths, for the desk in a
+/// file.
+fn serve_by(rt: &HostRuntime, routes: &Routes, path: &str, port: u16, count: u32) -> Ending
+    ensures served { IsUnopened result ⊎ AtADesk (Serves ⟦<File as Disk>⟧ count result) }
+    ensures done { IfOk result.work (λ outcome. outcome ≡ Outcome.Done) }
+    ensures named { IfErr result.work (IsRow (λ refusal.
+        IsOpeningRefusal refusal ⊎ IsServingRefusal refusal)) }
+    ensures first { IfErr result.work (λ fault. IsOfOpening fault.refusal → result.closing ≡ None) }
+    ensures closing { IfSome result.closing (IsRow IsClosingRefusal) }
+    ensures let_go { IfErr result.work (λ fault. IsLasting fault.refusal → result.closing ≡ None) }
+{
+    match open(rt, path) {
+        Ok(desk) => serve_at(rt, routes, desk, port, count),
+        Err(refusal) => Ending::without_desk(refusal),
+    }
+}
+
 /// Serves `count` connections at this port of 127.0.0.1, one request each, one after another, for
 /// the desk in a file. A fault of one connection ends only that connection.
 ///
@@ -164,11 +203,8 @@ pub fn serve_from(rt: &HostRuntime, path: &str, port: u16, count: u32) -> Ending
     ensures closing { IfSome result.closing (IsRow IsClosingRefusal) }
     ensures let_go { IfErr result.work (λ fault. IsLasting fault.refusal → result.closing ≡ None) }
 {
-    let Ok(routes) = Routes::new(rt.alloc()) else {
-        return Ending::without_desk(Refusal::NoMemory);
-    };
-    match open(rt, path) {
-        Ok(desk) => serve_at(rt, &routes, desk, port, count),
-        Err(refusal) => Ending::without_desk(refusal),
+    match Routes::new(rt.alloc()) {
+        Ok(routes) => serve_by(rt, &routes, path, port, count),
+        Err(_) => Ending::without_desk(Refusal::NoMemory),
     }
 }
