@@ -11,6 +11,8 @@ from desk import PLAIN, Program, Server, expect, fail, got, sha256, with_text
 sys.stdout.reconfigure(line_buffering=True)
 REQUESTS = int(sys.argv[2]) if len(sys.argv) > 2 else 10_000
 ROUNDS = 5
+# The most memory that a list may take, of its length.
+MOST_MEMORY = 1.5
 HEAD = "sbat,1,SBAT Version,sbat,1,https://github.com/rhboot/shim/blob/main/SBAT.md\n"
 # As many components as a request may have, with names as long as they may be.
 LARGE = with_text(PLAIN, (HEAD + "".join(f"c{it:03}{'n' * 60},1,a,b,1,u\n" for it in range(255))).encode())
@@ -75,6 +77,8 @@ def filled(program, name, steps):
 def lists(program, desk, name, path):
     length, took, memory = listing(program, desk, name, path)
     print(f"  GET {path}: {length / 1e6:.2f} MB in {took:.3f} s, {memory / 1e6:.1f} MB of memory, {memory / length:.2f} of its length")
+    if memory > MOST_MEMORY * length:
+        fail(f"GET {path} takes more than {MOST_MEMORY} of its length in memory")
 
 
 with Program(sys.argv[1]) as program:
