@@ -5,7 +5,6 @@ use Rattle.httparse.specs.Grammar.{ReadsRequest, RequestHead}
 use Rattle.desk_history.specs.Calls.{History}
 use Rattle.http_requests.specs.heads.Fields.{parts_of}
 use Rattle.http_requests.specs.heads.Heads.{FindsOf}
-use Rattle.http_requests.specs.heads.Limits.{HasFewFields}
 use Rattle.http_requests.specs.declared.heads.begun.Begun.TheVariants.{Head, NoHead}
 use Rattle.http_requests.specs.Wanted.{Want, wanted_of}
 use Rattle.http_requests.specs.declared.fault.WantedFault.{WantedFault}
@@ -63,7 +62,7 @@ outage_of_closed u e = subst IsOfClosed (sym e) tt
 -- the answer that is due to a head whatever the history is
 abbrev IsDueOfAll : List ℕ → Due → Type 0
 IsDueOfAll head due =
-    IsErr due × ((h : RequestHead) (q : List ℕ) → ReadsRequest head h q → HasFewFields h → (cs : History) (rest : List ℕ) → due ≡ due_of cs h rest)
+    IsErr due × ((h : RequestHead) (q : List ℕ) → ReadsRequest head h q → (cs : History) (rest : List ℕ) → due ≡ due_of cs h rest)
 
 -- a head without a token
 pub closed_ask : (head : List ℕ) (v : Want) (r : Result Due Unread)
@@ -73,13 +72,13 @@ pub closed_ask : (head : List ℕ) (v : Want) (r : Result Due Unread)
 closed_ask head v (Err u) found is = is
 closed_ask head v (Ok due) found is =
     let P : Due → Type 0 = IsErr in
-    (subst P (sym is.0) refl, λ h q reads few cs rest. is.0 ∙ rw (found h q reads, is.1) refl)
+    (subst P (sym is.0) refl, λ h q reads cs rest. is.0 ∙ rw (found h q reads, is.1) refl)
 
 -- a head with a fault
 pub closed_refuse : (head : List ℕ) (f : WantedFault) (x : Refusing) → x ≡ refused_by_head f
     → ((h : RequestHead) (q : List ℕ) → ReadsRequest head h q → wanted_of (parts_of h) ≡ Err f)
     → IsDueOfAll head (Err x)
-closed_refuse head f x is found = (refl, λ h q reads few cs rest. rw (is, found h q reads) refl)
+closed_refuse head f x is found = (refl, λ h q reads cs rest. rw (is, found h q reads) refl)
 
 -- ---- by the input
 
@@ -88,7 +87,7 @@ pub closed_head : (old mid : Option (List ℕ)) (taken : List ℕ) (due : Due)
 closed_head None mid taken due found all = tt
 closed_head (Some b) mid taken due found all =
     let reads : ReadsRequest taken found.0 [] = rw found.3 (head_reads_itself b found.0 found.1 found.2) in
-    λ cs. inl (found.0, found.1, found.2, all.1 found.0 [] reads found.2.few cs found.1)
+    λ cs. inl (found.0, found.1, found.2, all.1 found.0 [] reads cs found.1)
 
 pub closed_none : (old mid : Option (List ℕ)) → FindsOf old mid NoHead → IfSome old (λ b. (cs : History) → Asks cs b (Err refused.BadHead))
 closed_none None mid found = tt

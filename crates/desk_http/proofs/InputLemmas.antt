@@ -5,7 +5,6 @@ use Rattle.httparse.proofs.GrammarLemmas.{ReadsRequest-append, request_unique}
 use Rattle.desk_history.specs.Calls.{History}
 use Rattle.http_requests.specs.heads.Fields.{parts_of}
 use Rattle.http_requests.specs.heads.Heads.{FindsOf, HasHead}
-use Rattle.http_requests.specs.heads.Limits.{HasFewFields}
 use Rattle.http_requests.specs.declared.heads.begun.Begun.TheVariants.{Head}
 use Rattle.http_requests.specs.Asked.{image_at, keyed_at}
 use Rattle.http_requests.specs.Wanted.{Want, wanted_of}
@@ -87,12 +86,12 @@ refused_is_due w f x (Some rest) shows given is = λ owner cs shown. rw (given, 
 -- a head was read
 pub head_is_asked : (old mid : Option (List ℕ)) (taken : List ℕ) (due : Due) (shows : List ℕ → History → Type 0)
     → FindsOf old mid (Head taken)
-    → ((h : RequestHead) (q : List ℕ) → ReadsRequest taken h q → HasFewFields h
+    → ((h : RequestHead) (q : List ℕ) → ReadsRequest taken h q
     → IfSome mid (λ rest. ForEachShown shows (λ _ cs. due ≡ due_of cs h rest)))
     → IfSome old (λ b. ForEachShown shows (λ _ cs. Asks cs b due))
 head_is_asked None mid taken due shows found asked = tt
 head_is_asked (Some b) mid taken due shows found asked =
     let reads : ReadsRequest taken found.0 [] = rw found.3 (head_reads_itself b found.0 found.1 found.2) in
     let given : IfSome (Some found.1) (λ rest. ForEachShown shows (λ _ cs. due ≡ due_of cs found.0 rest)) =
-    rw found.4 at (asked found.0 [] reads found.2.few) in
+    rw found.4 at (asked found.0 [] reads) in
     λ owner cs shown. inl (found.0, found.1, found.2, given owner cs shown)

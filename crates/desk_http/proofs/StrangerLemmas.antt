@@ -5,7 +5,6 @@ use Rattle.httparse.proofs.GrammarLemmas.{request_unique}
 use Rattle.desk_history.specs.Calls.{History}
 use Rattle.http_requests.specs.heads.Fields.{parts_of}
 use Rattle.http_requests.specs.heads.Heads.{FindsOf}
-use Rattle.http_requests.specs.heads.Limits.{HasFewFields}
 use Rattle.http_requests.specs.declared.heads.begun.Begun.TheVariants.{Head, NoHead}
 use Rattle.http_requests.proofs.HeadLemmas.{no_request_in_nothing}
 use Rattle.http_requests.specs.Wanted.{Want, wanted_of}
@@ -30,13 +29,13 @@ nobody_wants cs h v is nobody =
 -- a head was read, and nothing after it
 pub leaves_head : (old mid new : Option (List ℕ)) (taken : List ℕ) (shows : List ℕ → History → Type 0)
     → FindsOf old mid (Head taken)
-    → ((h : RequestHead) (q : List ℕ) → ReadsRequest taken h q → HasFewFields h → ForEachShown shows (λ _ cs. IsOfNobody cs h → new ≡ mid))
+    → ((h : RequestHead) (q : List ℕ) → ReadsRequest taken h q → ForEachShown shows (λ _ cs. IsOfNobody cs h → new ≡ mid))
     → LeavesBody shows old new
 leaves_head None mid new taken shows found stays = tt
 leaves_head (Some b) mid new taken shows found stays = λ owner cs shown h rest has nobody.
     let reads : ReadsRequest taken found.0 [] = rw found.3 (head_reads_itself b found.0 found.1 found.2) in
     let same = request_unique b h found.0 rest found.1 has.reads found.2.reads in
-    let left : new ≡ mid = stays found.0 [] reads found.2.few owner cs shown (subst (IsOfNobody cs) same.0 nobody) in
+    let left : new ≡ mid = stays found.0 [] reads owner cs shown (subst (IsOfNobody cs) same.0 nobody) in
     left ∙ (found.4 ∙ ap (λ (x : List ℕ). Some x) (sym same.1))
 
 -- there was no head

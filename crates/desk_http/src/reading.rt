@@ -4,7 +4,6 @@ ghost use Rattle.std.specs.Prelude.{IsErr, MatchOption, MatchResult};
 ghost use Rattle.httparse.specs.Grammar.{ReadsRequest, RequestHead};
 ghost use Rattle.desk_bytes.specs.declared.watch.Watch.{Watch as Watching};
 ghost use Rattle.http_requests.specs.heads.Fields.{parts_of};
-ghost use Rattle.http_requests.specs.heads.Limits.{HasFewFields};
 ghost use Rattle.http_requests.specs.Fields.{bytes_of};
 ghost use Rattle.http_requests.specs.Wanted as wants;
 ghost use Rattle.desk_calls.specs.Desks.{StillShows, ForEachShown};
@@ -103,7 +102,7 @@ fn ask_by_head<D: Answering, R: Read>(
     reader: &mut R,
     watch: &mut Watch,
 ) -> Result<Due, Unread>
-    ensures asked { (h : RequestHead) (q : List ℕ) → ReadsRequest head.now h q → HasFewFields h
+    ensures asked { (h : RequestHead) (q : List ℕ) → ReadsRequest head.now h q
         → D.clean desk.new → IfOk result (λ due. IfSome (R.remaining reader.old) (λ rest.
         ForEachShown (D.shows desk.old) (λ _ cs. due ≡ spec.due_of cs h rest))) }
     ensures same { D.clean desk.new → result ≢ Err (Unread.Outage Outage.Store)
@@ -114,10 +113,9 @@ fn ask_by_head<D: Answering, R: Read>(
     ensures no_store { result ≢ Ok (Err (Refused.Unavailable Outage.Store)) }
     ensures closed { D.failed desk.old → (desk.new ≡ desk.old) × MatchResult result
         (λ due. IsErr due × ((h : RequestHead) (q : List ℕ)
-        → ReadsRequest head.now h q → HasFewFields h
-        → (cs : History) (rest : List ℕ) → due ≡ spec.due_of cs h rest))
+        → ReadsRequest head.now h q → (cs : History) (rest : List ℕ) → due ≡ spec.due_of cs h rest))
         (λ unread. unread ≡ Unread.Outage Outage.Reopen) }
-    ensures stranger { (h : RequestHead) (q : List ℕ) → ReadsRequest head.now h q → HasFewFields h
+    ensures stranger { (h : RequestHead) (q : List ℕ) → ReadsRequest head.now h q
         → D.clean desk.new → ForEachShown (D.shows desk.old) (λ _ cs. spec.IsOfNobody cs h
         → R.remaining reader.new ≡ R.remaining reader.old) }
     ensures device { IfErr result (HasCause watch.new) }

@@ -6,12 +6,12 @@ use Rattle.desk_http.proofs.InputLemmas.{refused_is_due, wanted_is_due}
 use Rattle.desk_http.proofs.reading.ask_by_head.Goals as goal
 
 pub returns-in-Ok-clause-asked : goal.returns-in-Ok-clause-asked
-returns-in-Ok-clause-asked g c = λ h q reads few clean.
+returns-in-Ok-clause-asked g c = λ h q reads clean.
     wanted_is_due (wanted_of (parts_of h)) (shown c.in-Ok.wanted) c.ask_as.result (g.R.Read.remaining c.args.reader.now) (g.D.Answering.shows c.args.desk.now)
     (c.in-Ok.ensures h q reads) (c.ask_as.ensures.asked clean)
 
 pub returns-in-Err-clause-asked : goal.returns-in-Err-clause-asked
-returns-in-Err-clause-asked g c = λ h q reads few clean.
+returns-in-Err-clause-asked g c = λ h q reads clean.
     refused_is_due (wanted_of (parts_of h)) c.in-Err.fault c.refused.result (g.R.Read.remaining c.args.reader.now) (g.D.Answering.shows c.args.desk.now)
     (c.in-Err.ensures h q reads) c.refused.ensures.refused
 

@@ -8,7 +8,7 @@ pub returns-in-Ok-clause-asked : goal.returns-in-Ok-clause-asked
 returns-in-Ok-clause-asked g c = λ clean.
     head_is_asked (g.R.Read.remaining c.args.reader.now) (g.R.Read.remaining c.read_head.new.reader) c.in-Ok-Head.head c.in-Ok.due (g.D.Answering.shows c.args.desk.now)
     (rw c.in-Ok-Head.field-0-is at c.in-Ok-Head.ensures.found)
-    (λ h q reads few. c.in-Ok.ensures.asked h q reads few clean)
+    (λ h q reads. c.in-Ok.ensures.asked h q reads clean)
 
 pub returns-in-Ok-clause-closed : goal.returns-in-Ok-clause-closed
 returns-in-Ok-clause-closed g c was =
@@ -18,7 +18,7 @@ returns-in-Ok-clause-closed g c was =
         shut.1.0,
         closed_head (g.R.Read.remaining c.args.reader.now) (g.R.Read.remaining c.read_head.new.reader) c.in-Ok-Head.head c.in-Ok.due
             (rw c.in-Ok-Head.field-0-is at c.in-Ok-Head.ensures.found)
-            (shut.1.0, λ h q reads few. shut.1.1 h q reads few),
+            shut.1,
       ),
     )
 
@@ -26,7 +26,7 @@ pub returns-in-Ok-clause-stranger : goal.returns-in-Ok-clause-stranger
 returns-in-Ok-clause-stranger g c = λ clean.
     leaves_head (g.R.Read.remaining c.args.reader.now) (g.R.Read.remaining c.read_head.new.reader) (g.R.Read.remaining c.ask_by_head-due.new.reader)
     c.in-Ok-Head.head (g.D.Answering.shows c.args.desk.now) (rw c.in-Ok-Head.field-0-is at c.in-Ok-Head.ensures.found)
-    (λ h q reads few. c.in-Ok.ensures.stranger h q reads few clean)
+    (λ h q reads. c.in-Ok.ensures.stranger h q reads clean)
 
 pub returns-in-Err-due-clause-stranger : goal.returns-in-Err-due-clause-stranger
 returns-in-Err-due-clause-stranger g c = λ clean.
@@ -34,7 +34,7 @@ returns-in-Err-due-clause-stranger g c = λ clean.
     (LeavesBody (g.D.Answering.shows c.args.desk.now) (g.R.Read.remaining c.args.reader.now) (g.R.Read.remaining c.ask_by_head-due.new.reader))
     (leaves_head (g.R.Read.remaining c.args.reader.now) (g.R.Read.remaining c.read_head.new.reader) (g.R.Read.remaining c.ask_by_head-due.new.reader)
     c.in-Ok-Head.head (g.D.Answering.shows c.args.desk.now) (rw c.in-Ok-Head.field-0-is at c.in-Ok-Head.ensures.found)
-    (λ h q reads few. c.in-Err-due.ensures.stranger h q reads few clean))
+    (λ h q reads. c.in-Err-due.ensures.stranger h q reads clean))
 
 pub returns-in-Ok-clause-some : goal.returns-in-Ok-clause-some
 returns-in-Ok-clause-some g c =
