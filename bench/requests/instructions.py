@@ -6,10 +6,14 @@ import subprocess
 import sys
 
 from days import confirms, drops, judges, lists, named, proposes, raising, returns, reviews, submits, takes
-from desk import CERTIFICATE, PEOPLE, PLAIN, SIGNED, Program, Server, expect, fail, got, posted, sha256
+from desk import CERTIFICATE, PEOPLE, PLAIN, SIGNED, Program, Server, expect, fail, got, posted, sha256, request, token
 
 sys.stdout.reconfigure(line_buffering=True)
 SIZES = [int(it) for it in sys.argv[2:]] or [1_000, 10_000, 100_000]
+# Two heads of one length. A reader that looks at the whole head after each line end would take a hundred times as much
+# for the first.
+LINE_ENDS, ONE_FIELD = "GET /level behind 16,000 LF", "GET /level, a long field"
+MOST_RATIO = 3
 
 
 def digest_of(kind, number):
@@ -112,6 +116,9 @@ def kinds(history):
     yield "a verdict", [], [judges("ann", SIGNED, {"verdict": "allowed"})] * times
     yield "GET one request", [], [got("ann", f"/requests/{it}") for it in range(1, times + 1)]
     yield "GET /level", [], [got("ann", "/level")] * times
+    yield LINE_ENDS, [], [b"\n" * 16_000 + got("ann", "/level")] * times
+    filler = ("X-Filler", "a" * (16_000 - len("X-Filler: \r\n")))
+    yield ONE_FIELD, [], [request("GET", "/level", [("Desk-Token", token("ann")), filler])] * times
     yield "GET /proposals", [], [got("olga", "/proposals")] * 2
     yield "GET /dbx", [], [got("olga", "/dbx")] * 2
 
@@ -183,3 +190,6 @@ with Program(sys.argv[1]) as program:
     print(f"instructions of one request, and the ratio to {SIZES[0]:,} calls; at {SIZES}")
     for name, first in found[SIZES[0]].items():
         print(f"{name:26}" + "".join(f"{found[size][name]:14,.0f} ({found[size][name] / first:4.2f})" for size in SIZES))
+    for size in SIZES:
+        if found[size][LINE_ENDS] > MOST_RATIO * found[size][ONE_FIELD]:
+            fail(f"{LINE_ENDS} takes more than {MOST_RATIO} times as many instructions as {ONE_FIELD}")
