@@ -65,7 +65,8 @@ impl<S: Alter + Drop> Desk<S> {
             → ((state S.Store conn).now.schema ≢ no_schema) × (e.1 ≡ conn)) }
         ensures refused { IfErr result (λ e. e.0 ≢ Refusal.Store → Spares S.Store conn e.1) }
         ensures stopped { IfOk result (λ desk.
-            Survives (state S.Store conn) (state S.Store desk.conn) (λ db. HoldsHistory db owner.now [])) }
+            Survives (state S.Store conn) (state S.Store desk.conn)
+            (λ db. HoldsHistory db owner.now [])) }
         ensures failed { IfErr result (λ e. Survives (state S.Store conn) (state S.Store e.1)
             (λ db. HoldsHistory db owner.now [])) }
         ensures outside { IfErr result (λ e. e.1.in_transaction ≡ false) }
@@ -118,7 +119,8 @@ impl<S: Alter + Drop> Desk<S> {
             → FindsKnown (state S.Store conn)) }
         ensures other { IfErr result (λ e. HasCleanDisk (state S.Store e.1) → e.0 ≡ Refusal.Version
             → FindsOther (state S.Store conn)) }
-        ensures unread { IfErr result (λ e. HasCleanDisk (state S.Store e.1) → e.0 ≡ Refusal.NotADesk
+        ensures unread { IfErr result (λ e. HasCleanDisk (state S.Store e.1)
+            → e.0 ≡ Refusal.NotADesk
             → FindsNone (state S.Store conn)) }
         ensures known { IfErr result (λ e. HasCleanDisk (state S.Store e.1)
             → (owner : List ℕ) (cs : History) → length owner ≡ 16 → IsHistory cs

@@ -173,13 +173,14 @@ pub fn components_statements()
 
 /// Proposals: put in, given a state, found by number, listed by number, counted.
 pub fn proposals_statements()
-    ensures inserted { InsertsRow desk_schema 12 proposals INSERT_PROPOSAL.now (values_of proposals) }
+    ensures inserted { InsertsRow desk_schema 12 proposals INSERT_PROPOSAL.now
+        (values_of proposals) }
     ensures closed { UpdatesRows desk_schema 12 proposals UPDATE_PROPOSAL_STATE.now
         (equals proposals (codes "no") 0 ∷ []) (set_to proposals (codes "state") 1) }
     ensures numbered { SelectsRows desk_schema 12 proposals SELECT_PROPOSAL.now
         (equals proposals (codes "no") 0 ∷ []) [] (columns_of proposals) (names_of proposals) }
-    ensures all { SelectsRows desk_schema 12 proposals SELECT_PROPOSALS.now [] (by_first 1 proposals)
-        (columns_after 1 proposals) (names_of proposals) }
+    ensures all { SelectsRows desk_schema 12 proposals SELECT_PROPOSALS.now []
+        (by_first 1 proposals) (columns_after 1 proposals) (names_of proposals) }
     ensures counted { CountsRows desk_schema 12 proposals COUNT_PROPOSALS.now [] (codes "count(*)"
         ∷ []) }
 {}
