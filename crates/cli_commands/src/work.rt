@@ -11,7 +11,7 @@ ghost use Rattle.cli_lines.specs.Faults.{row_of};
 ghost use Rattle.cli_lines.specs.VerdictLines.{verdict_line};
 ghost use Rattle.desk_rules.specs.Decisions.{called};
 ghost use Rattle.store_sql.specs.States.{Spares};
-ghost use Rattle.desk_store.specs.Desks.{KeepsDesk, MayStop, Replies, Views};
+ghost use Rattle.desk_store.specs.Desks.{ForEachShown, KeepsDesk, MayStop, Replies};
 ghost use Rattle.desk_store.specs.Exports.{SparesDesk, Writes, WritesBeginning};
 ghost use Rattle.desk_texts.specs.declared.reply.Reply.{Reply};
 ghost use Rattle.cli_commands.specs.Faults.{IsAddingRefusal, IsRow, IsWritingRefusal};
@@ -44,7 +44,7 @@ pub fn add<S: Alter + Drop, W: Write>(
     ensures done { IfOk result (λ outcome. outcome ≡ Outcome.Done) }
 
     ensures beginning { HasCleanDisk (state S.Store desk.new.conn) → OnErr result
-        (Views S.Store desk.old desk.new
+        (ForEachShown S.Store desk.old desk.new
         (WritesBeginning (W.contents writer.old) (W.contents writer.new)
         (answer_line (called Caller.Console key.now (Command.AddPerson person))))) }
     ensures unwritten { IfErr result (λ fault. fault ≢ row_of refusals.Write
@@ -76,11 +76,11 @@ pub fn judge<S: Alter + Drop, W: Write>(
 ) -> Result<Outcome, Fault>
     ensures told { IfOk result (λ outcome. (said : Verdict) × (outcome ≡ outcome_of said)
         × Appends (W.contents writer.old) (W.contents writer.new) (verdict_line said found.now)
-        × (HasCleanDisk (state S.Store desk.new.conn) → Views S.Store desk.old desk.new
+        × (HasCleanDisk (state S.Store desk.new.conn) → ForEachShown S.Store desk.old desk.new
         (λ owner cs. said ≡ verdicts.verdict cs found.now))) }
 
     ensures beginning { HasCleanDisk (state S.Store desk.new.conn) → OnErr result
-        (Views S.Store desk.old desk.new
+        (ForEachShown S.Store desk.old desk.new
         (WritesBeginning (W.contents writer.old) (W.contents writer.new)
         (λ owner cs. verdict_line (verdicts.verdict cs found.now) found.now))) }
     ensures unwritten { IfErr result (λ fault. fault ≢ row_of refusals.Write
@@ -109,12 +109,12 @@ pub fn write_export<S: Alter + Drop, W: Write>(
     writer: &mut W,
 ) -> Result<Outcome, Fault>
     ensures ok { HasCleanDisk (state S.Store desk.new.conn) → OnOk result
-        (Views S.Store desk.old desk.new
+        (ForEachShown S.Store desk.old desk.new
         (Writes (W.contents writer.old) (W.contents writer.new) (exported what))) }
     ensures done { IfOk result (λ outcome. outcome ≡ Outcome.Done) }
 
     ensures beginning { HasCleanDisk (state S.Store desk.new.conn) → OnErr result
-        (Views S.Store desk.old desk.new
+        (ForEachShown S.Store desk.old desk.new
         (WritesBeginning (W.contents writer.old) (W.contents writer.new) (exported what))) }
     ensures poisons { IsErrOf result (row_of refusals.Store) → desk.new.needs_reopening ≡ true }
     ensures closed { desk.old.needs_reopening ≡ true → (result ≡ Err (row_of refusals.Reopen))

@@ -44,7 +44,8 @@ fn octets_of<S: Alter + Drop>(
     ensures before { HasCleanDisk (state S.Store desk.new.conn)
         → HasCleanDisk (state S.Store desk.old.conn) }
     ensures named { IfErr result IsOutage }
-    ensures usable { ForEachShown (ShowsDesk S.Store desk.old) (λ _ _. result ≢ Err Refusal.Reopen) }
+    ensures usable { ForEachShown (ShowsDesk S.Store desk.old)
+        (λ _ _. result ≢ Err Refusal.Reopen) }
     ensures poisons { IsErrOf result Refusal.Store → desk.new.needs_reopening ≡ true }
     ensures closed { desk.old.needs_reopening ≡ true
         → (result ≡ Err Refusal.Reopen) × (desk.new ≡ desk.old) }

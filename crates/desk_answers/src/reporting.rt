@@ -5,7 +5,7 @@ ghost use Rattle.sqlite.specs.State.{HasCleanDisk};
 ghost use Rattle.desk_exports.specs.Reports as exports;
 ghost use Rattle.store_reads.specs.Failures.{IsFailure};
 ghost use Rattle.store_sql.specs.States.{Spares};
-ghost use Rattle.desk_store.specs.Desks.{KeepsDesk, Views};
+ghost use Rattle.desk_store.specs.Desks.{ForEachShown, KeepsDesk};
 
 use desk_bytes::Refusal;
 use desk_store::Desk;
@@ -19,7 +19,7 @@ use store_counts::report_is_the_history;
 /// an earlier call failed.
 pub fn report<S: Alter + Drop>(alloc: Global, desk: &mut Desk<S>) -> Result<String, Refusal>
     ensures shown { HasCleanDisk (state S.Store desk.new.conn) → IfOk result (λ text.
-        Views S.Store desk.old desk.new (λ _ cs. string_bytes text ≡ exports.report cs)) }
+        ForEachShown S.Store desk.old desk.new (λ _ cs. string_bytes text ≡ exports.report cs)) }
     ensures same { HasCleanDisk (state S.Store desk.new.conn) → result ≢ Err Refusal.Store
         → KeepsDesk S.Store desk.old desk.new }
     ensures spares { Spares S.Store desk.old.conn desk.new.conn }

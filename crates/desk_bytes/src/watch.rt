@@ -37,7 +37,8 @@ impl Watch {
     /// an empty slice. Fails if the reader does, or if an earlier read of this watch did.
     pub fn read<R: Read>(&mut self, reader: &mut R, buf: &mut [u8]) -> Result<usize, ReadFailed>
         ensures bound { ReadsAtMost result buf.new }
-        ensures bytes { ReadConsumes (R.remaining reader.old) (R.remaining reader.new) result buf.new }
+        ensures bytes { ReadConsumes (R.remaining reader.old) (R.remaining reader.new)
+            result buf.new }
 
         ensures device { OnErr result (HasFailed self.new) }
         ensures steady { OnOk result (self.new ≡ self.old) }

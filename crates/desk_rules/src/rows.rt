@@ -25,9 +25,13 @@ pub(crate) fn minute(
     text: CommandText,
     reply: &Reply,
 ) -> Result<Minute, Refusal>
-    ensures { MatchResult result (λ row. row
-        ≡ record { number = number; caller = caller.now; key = key.now; text = text; reply = reply.now })
-        (λ refusal. refusal ≡ Refusal.NoMemory) }
+    ensures { MatchResult result (λ row. row ≡ record {
+      number = number;
+      caller = caller.now;
+      key = key.now;
+      text = text;
+      reply = reply.now;
+    }) (λ refusal. refusal ≡ Refusal.NoMemory) }
 {
     Ok(Minute {
         number,

@@ -44,9 +44,9 @@ module _ {S : Type 0} (g : Ghosts S) (old new : Desk S) where
   abbrev pub KeepsDesk : Type 0
   KeepsDesk = (owner : List ℕ) (cs : History) → ShowsDesk g old owner cs → ShowsDesk g new owner cs
 
-  -- The rows show each history that the desk shows.
-  abbrev pub Views : (List ℕ → History → Type 0) → Type 0
-  Views shown = (owner : List ℕ) (cs : History) → ShowsDesk g old owner cs → shown owner cs
+  -- This holds of each owner and history that the desk shows.
+  abbrev pub ForEachShown : (List ℕ → History → Type 0) → Type 0
+  ForEachShown told = (owner : List ℕ) (cs : History) → ShowsDesk g old owner cs → told owner cs
 
   -- A stop after the call, whatever its result, leaves the history before the call or the one after
   -- it.

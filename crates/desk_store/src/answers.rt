@@ -8,7 +8,7 @@ ghost use Rattle.desk_history.specs.Verdicts as verdicts;
 ghost use Rattle.store_reads.specs.Failures.{IsFailure};
 ghost use Rattle.store_reads.specs.Reads.{listed};
 ghost use Rattle.store_sql.specs.States.{Spares};
-ghost use Rattle.desk_store.specs.Desks.{KeepsDesk, Views};
+ghost use Rattle.desk_store.specs.Desks.{ForEachShown, KeepsDesk};
 
 use crate::desk::Desk;
 use crate::questions::{HowMany, WhoHas};
@@ -25,7 +25,7 @@ impl<S: Alter + Drop> Desk<S> {
     /// `NoMemory`: memory was refused. `Store`: the store failed, or isn't as a desk left it.
     pub fn person_of(&mut self, token: &Digest) -> Result<Option<Person>, Refusal>
         ensures shown { HasCleanDisk (state S.Store self.new.conn) → IfOk result (λ person.
-            Views S.Store self.old self.new (λ owner cs.
+            ForEachShown S.Store self.old self.new (λ owner cs.
             filter (has_token token.now) (people cs) ≡ listed person)) }
         ensures same { HasCleanDisk (state S.Store self.new.conn) → result ≢ Err Refusal.Store
             → KeepsDesk S.Store self.old self.new }
@@ -46,7 +46,7 @@ impl<S: Alter + Drop> Desk<S> {
     /// `NoMemory`: memory was refused. `Store`: the store failed, or isn't as a desk left it.
     pub fn verdict(&mut self, facts: &Facts) -> Result<Verdict, Refusal>
         ensures shown { HasCleanDisk (state S.Store self.new.conn) → IfOk result (λ said.
-            Views S.Store self.old self.new (λ owner cs.
+            ForEachShown S.Store self.old self.new (λ owner cs.
             said ≡ verdicts.verdict cs facts.now)) }
         ensures same { HasCleanDisk (state S.Store self.new.conn) → result ≢ Err Refusal.Store
             → KeepsDesk S.Store self.old self.new }
@@ -70,7 +70,7 @@ impl<S: Alter + Drop> Desk<S> {
     /// `NoMemory`: memory was refused. `Store`: the store failed, or isn't as a desk left it.
     pub fn counts(&mut self) -> Result<Counts, Refusal>
         ensures shown { HasCleanDisk (state S.Store self.new.conn) → IfOk result (λ n.
-            Views S.Store self.old self.new (λ owner cs. CountHistory n cs)) }
+            ForEachShown S.Store self.old self.new (λ owner cs. CountHistory n cs)) }
         ensures same { HasCleanDisk (state S.Store self.new.conn) → result ≢ Err Refusal.Store
             → KeepsDesk S.Store self.old self.new }
         ensures spares { Spares S.Store self.old.conn self.new.conn }

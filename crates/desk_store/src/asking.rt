@@ -7,7 +7,7 @@ ghost use Rattle.desk_history.specs.Calls.{History};
 ghost use Rattle.desk_history.specs.Formed.{IsHistory};
 ghost use Rattle.store_reads.specs.Failures.{IsFailure};
 ghost use Rattle.store_sql.specs.States.{DoesInside, CommitsNothing, Spares, StaysInside};
-ghost use Rattle.desk_store.specs.Desks.{KeepsDesk, Views};
+ghost use Rattle.desk_store.specs.Desks.{ForEachShown, KeepsDesk};
 ghost use Rattle.desk_store.specs.Questions.{AnswersQuestion};
 
 use crate::desk::Desk;
@@ -77,7 +77,7 @@ impl<S: Alter + Drop> Desk<S> {
         question: &Q,
     ) -> Result<Q::Answer, Refusal>
         ensures shown { HasCleanDisk (state S.Store self.new.conn) → IfOk result (λ answer.
-            Views S.Store self.old self.new (Q.Question.tells question.now answer)) }
+            ForEachShown S.Store self.old self.new (Q.Question.tells question.now answer)) }
         ensures bound { IfOk result (Q.Question.bounds question.now) }
         ensures same { HasCleanDisk (state S.Store self.new.conn) → result ≢ Err Refusal.Store
             → KeepsDesk S.Store self.old self.new }

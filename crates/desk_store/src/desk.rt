@@ -14,7 +14,7 @@ ghost use Rattle.desk_rules.specs.Shown.{Shows};
 ghost use Rattle.desk_rules.specs.Views.{ShowsLists, keys_of};
 ghost use Rattle.store_views.specs.Named.{HoldsNoRowBeyond};
 ghost use Rattle.desk_store.specs.Desks.{CommitsOnlyAccepted, IsCallRefusal, KeepsDesk, MayStop};
-ghost use Rattle.desk_store.specs.Desks.{Refuses, Replies, ShowsDesk, Views};
+ghost use Rattle.desk_store.specs.Desks.{ForEachShown, Refuses, Replies, ShowsDesk};
 ghost use Rattle.desk_store.specs.Headline.{Recovers};
 ghost use Rattle.desk_store.specs.Reopening.{FindsADesk};
 ghost use Rattle.store_schema.specs.rows.Histories.{HoldsHistory, LeavesHistory, ShowsFirst};
@@ -65,7 +65,8 @@ impl<S: Alter + Drop> Desk<S> {
             → ((state S.Store conn).now.schema ≢ no_schema) × (e.1 ≡ conn)) }
         ensures refused { IfErr result (λ e. e.0 ≢ Refusal.Store → Spares S.Store conn e.1) }
         ensures stopped { IfOk result (λ desk.
-            Survives (state S.Store conn) (state S.Store desk.conn) (λ db. HoldsHistory db owner.now [])) }
+            Survives (state S.Store conn) (state S.Store desk.conn)
+            (λ db. HoldsHistory db owner.now [])) }
         ensures failed { IfErr result (λ e. Survives (state S.Store conn) (state S.Store e.1)
             (λ db. HoldsHistory db owner.now [])) }
         ensures outside { IfErr result (λ e. e.1.in_transaction ≡ false) }
@@ -118,7 +119,8 @@ impl<S: Alter + Drop> Desk<S> {
             → FindsKnown (state S.Store conn)) }
         ensures other { IfErr result (λ e. HasCleanDisk (state S.Store e.1) → e.0 ≡ Refusal.Version
             → FindsOther (state S.Store conn)) }
-        ensures unread { IfErr result (λ e. HasCleanDisk (state S.Store e.1) → e.0 ≡ Refusal.NotADesk
+        ensures unread { IfErr result (λ e. HasCleanDisk (state S.Store e.1)
+            → e.0 ≡ Refusal.NotADesk
             → FindsNone (state S.Store conn)) }
         ensures known { IfErr result (λ e. HasCleanDisk (state S.Store e.1)
             → (owner : List ℕ) (cs : History) → length owner ≡ 16 → IsHistory cs
@@ -212,7 +214,7 @@ impl<S: Alter + Drop> Desk<S> {
     /// `NoMemory`: memory was refused. `Store`: the store failed, or isn't as a desk left it.
     pub fn view(&mut self, caller: &Caller, key: &Key, command: &Command) -> Result<View, Refusal>
         ensures shown { HasCleanDisk (state S.Store self.new.conn) → IfOk result (λ v.
-            Views S.Store self.old self.new (λ owner cs.
+            ForEachShown S.Store self.old self.new (λ owner cs.
             Shows v (tables owner cs) (called caller.now key.now command.now))) }
         ensures only { IfOk result (λ v. HoldsNoRowBeyond v
             (called caller.now key.now command.now)) }
@@ -246,7 +248,7 @@ impl<S: Alter + Drop> Desk<S> {
     /// `NoMemory`: memory was refused. `Store`: the store failed, or isn't as a desk left it.
     pub fn list_view(&mut self, facts: &Facts) -> Result<ListView, Refusal>
         ensures shown { HasCleanDisk (state S.Store self.new.conn) → IfOk result (λ v.
-            Views S.Store self.old self.new (λ owner cs.
+            ForEachShown S.Store self.old self.new (λ owner cs.
             ShowsLists v (tables owner cs) (keys_of facts.now))) }
         ensures only { IfOk result (λ v. HoldsNoOther v (keys_of facts.now)) }
         ensures same { HasCleanDisk (state S.Store self.new.conn) → result ≢ Err Refusal.Store

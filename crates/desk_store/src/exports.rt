@@ -5,7 +5,7 @@ ghost use Rattle.sqlite.specs.Held.{state};
 ghost use Rattle.sqlite.specs.State.{HasCleanDisk};
 ghost use Rattle.desk_exports.specs.Exports.{exported};
 ghost use Rattle.store_exports.specs.Faults.{IsExportFailure};
-ghost use Rattle.desk_store.specs.Desks.{KeepsDesk, Views};
+ghost use Rattle.desk_store.specs.Desks.{ForEachShown, KeepsDesk};
 ghost use Rattle.desk_store.specs.Exports.{SparesDesk, Writes, WritesBeginning};
 
 use crate::desk::Desk;
@@ -25,10 +25,10 @@ impl<S: Alter + Drop> Desk<S> {
     /// unchanged.
     pub fn export<W: Write>(&mut self, what: Export, writer: &mut W) -> Result<(), Refusal>
         ensures ok { HasCleanDisk (state S.Store self.new.conn)
-            → OnOk result (Views S.Store self.old self.new
+            → OnOk result (ForEachShown S.Store self.old self.new
             (Writes (W.contents writer.old) (W.contents writer.new) (exported what))) }
         ensures beginning { HasCleanDisk (state S.Store self.new.conn)
-            → OnErr result (Views S.Store self.old self.new
+            → OnErr result (ForEachShown S.Store self.old self.new
             (WritesBeginning (W.contents writer.old) (W.contents writer.new) (exported what))) }
         ensures same { HasCleanDisk (state S.Store self.new.conn) → result ≢ Err Refusal.Store
             → KeepsDesk S.Store self.old self.new }

@@ -183,7 +183,8 @@ pub(crate) fn bring_up<S: Alter>(conn: &mut Connection<S>) -> Result<(), Refusal
         → ShowsHistory (state S.Store conn.new) owner cs }
     ensures first { HasCleanDisk (state S.Store conn.new) → OnOk result
         ((owner : List ℕ) (cs : History) → ShowsFirst (state S.Store conn.old) owner cs
-        → IsTrue (state S.Store conn.new).is_open × ShowsHistory (state S.Store conn.new) owner cs) }
+        → IsTrue (state S.Store conn.new).is_open
+        × ShowsHistory (state S.Store conn.new) owner cs) }
 
     ensures read { HasCleanDisk (state S.Store conn.new)
         → OnOk result (FindsKnown (state S.Store conn.old)) }

@@ -45,9 +45,11 @@ fn outcome_of(text: &[u8]) -> Option<Outcome>
 /// The four counts of a reply.
 fn counts_of(text: &[u8]) -> Option<Counts>
     ensures found { IfSome result (λ c. AreCounts c
-        × (text.now ≡ spaced (decimal c.digests ∷ decimal c.certificates ∷ decimal c.components ∷ decimal c.passed ∷ []))) }
+        × (text.now ≡ spaced (decimal c.digests ∷ decimal c.certificates
+        ∷ decimal c.components ∷ decimal c.passed ∷ []))) }
     ensures only { IfNone result ((c : Counts) → AreCounts c
-        → text.now ≢ spaced (decimal c.digests ∷ decimal c.certificates ∷ decimal c.components ∷ decimal c.passed ∷ [])) }
+        → text.now ≢ spaced (decimal c.digests ∷ decimal c.certificates
+        ∷ decimal c.components ∷ decimal c.passed ∷ [])) }
 {
     let (digests, text) = count_before(text)?;
     let (certificates, text) = count_before(text)?;
@@ -65,10 +67,12 @@ fn counts_of(text: &[u8]) -> Option<Counts>
 fn confirmation_of(text: &[u8]) -> Option<Confirmation>
     ensures found { IfSome result (λ c. IsReply (Confirmed c)
         × (text.now ≡ decimal c.proposal ++ (32 ∷ spaced (decimal c.counts.digests
-        ∷ decimal c.counts.certificates ∷ decimal c.counts.components ∷ decimal c.counts.passed ∷ [])))) }
+        ∷ decimal c.counts.certificates ∷ decimal c.counts.components
+        ∷ decimal c.counts.passed ∷ [])))) }
     ensures only { IfNone result ((c : Confirmation) → IsReply (Confirmed c)
         → text.now ≢ decimal c.proposal ++ (32 ∷ spaced (decimal c.counts.digests
-        ∷ decimal c.counts.certificates ∷ decimal c.counts.components ∷ decimal c.counts.passed ∷ []))) }
+        ∷ decimal c.counts.certificates ∷ decimal c.counts.components
+        ∷ decimal c.counts.passed ∷ []))) }
 {
     let (number, counts) = parted_at_space(text)?;
     let proposal = ProposalNumber::parse(number)?;

@@ -133,7 +133,8 @@ impl ProposalKind {
     /// The kind whose word this is.
     pub fn parse(text: &[u8]) -> Option<ProposalKind>
         ensures found { IfSome result (λ kind. text.now ≡ spec.proposal_kind_text kind) }
-        ensures only { IfNone result ((kind : ProposalKind) → text.now ≢ spec.proposal_kind_text kind) }
+        ensures only { IfNone result ((kind : ProposalKind)
+            → text.now ≢ spec.proposal_kind_text kind) }
     {
         match text {
             b"digest" => Some(ProposalKind::Digest),
@@ -160,7 +161,8 @@ impl ProposalState {
     /// The state whose word this is.
     pub fn parse(text: &[u8]) -> Option<ProposalState>
         ensures found { IfSome result (λ state. text.now ≡ spec.proposal_state_text state) }
-        ensures only { IfNone result ((state : ProposalState) → text.now ≢ spec.proposal_state_text state) }
+        ensures only { IfNone result ((state : ProposalState)
+            → text.now ≢ spec.proposal_state_text state) }
     {
         match text {
             b"open" => Some(ProposalState::Open),

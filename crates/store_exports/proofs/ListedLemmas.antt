@@ -1,6 +1,6 @@
 -- The bytes that the queries for the level, for entries and for calls write, by the lists of the
 -- histories that the connection shows.
-use Rattle.std.proofs.Common.{◌≡◌, ℕ, pos, List, [], ◌∷◌, map, reverse, true, Some, refl, sym, ap, ap₂}
+use Rattle.std.proofs.Common.{◌≡◌, ℕ, pos, List, [], ◌∷◌, map, reverse, true, Some, refl, sym, ap, ap₂, codes}
 use Rattle.sqlite.specs.Order.{Row}
 use Rattle.sqlite.specs.State.{State, HasCleanDisk}
 use Rattle.sqlite.specs.declared.types.Value.TheVariants.{Null, Int, Text}
@@ -18,7 +18,8 @@ use Rattle.desk_history.specs.Tables.{Tables}
 use Rattle.store_schema.specs.rows.Histories.{ShowsHistory}
 use Rattle.store_schema.specs.rows.Values.{component_values, entry_values}
 use Rattle.desk_exports.specs.Exports.{entries_of, level_components}
-use Rattle.store_schema.specs.Columns.{columns_after, equals, names_of}
+use Rattle.store_schema.specs.Columns.{columns_after, names_of}
+use Rattle.store_schema.specs.Named.{equals}
 use Rattle.store_schema.specs.Tables as tables
 use Rattle.store_schema.specs.declared.selecting.TheConstants.{SELECT_CALLS, SELECT_COMPONENTS, SELECT_LISTED_OF}
 use Rattle.store_schema.proofs.SelectFacts as facts
@@ -67,7 +68,7 @@ module _ (s : State) (clean : (owner : List ℕ) (cs : History) → ShowsHistory
   module _ (kind : ListedKind) (bytes : Entry → List ℕ) (own : (x y : Entry) → entry_values x ≡ entry_values y → bytes x ≡ bytes y) where
     tells_entries : Told entry_values bytes SELECT_LISTED_OF.now (Text (kind_text kind) ∷ []) s (entries_of kind)
     tells_entries =
-        told 8 tables.listed SELECT_LISTED_OF.now (equals tables.listed 0 0 ∷ []) 2 (columns_after 2 tables.listed) (names_of tables.listed) facts.select_listed_of entry_values entry_values
+        told 8 tables.listed SELECT_LISTED_OF.now (equals tables.listed (codes "kind") 0 ∷ []) 2 (columns_after 2 tables.listed) (names_of tables.listed) facts.select_listed_of entry_values entry_values
         (λ (t : Tables). t.listed) (λ t. refl) (Text (kind_text kind) ∷ []) (λ x. refl) (λ e. is_same_kind kind e.kind) (is_of_kind kind) bytes own (entries_of kind)
         (λ owner cs ys moved sorted. entries_in_order kind cs ys moved sorted)
         s clean

@@ -68,7 +68,8 @@ fn put_certificates<S: Alter, W: Write>(
 ) -> Result<(), ExportFault>
     ensures { Exports S.Store conn.old conn.new
         (W.contents writer.old) (W.contents writer.new) result
-        (λ _ cs. flat_map (λ e. spelling (x509_row owner e.body)) (entries_of kinds.Certificate cs)) }
+        (λ _ cs. flat_map (λ e. spelling (x509_row owner e.body))
+        (entries_of kinds.Certificate cs)) }
 {
     let form = ListedCertificate { owner };
     let kind = ListedKind::Certificate.text();

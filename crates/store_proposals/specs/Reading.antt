@@ -5,7 +5,7 @@ use Rattle.desk_history.specs.declared.rows.ProposalRow.{ProposalRow}
 use Rattle.desk_history.specs.Tables.{Tables}
 use Rattle.store_reads.specs.Reads.{listed}
 
--- its stamp, if it has one, isn't 0; in a row 0 means no stamp
+-- its stamp, if it has one, isn't 0, which stands for no stamp in the table
 abbrev pub IsStamped : ProposalRow → Type 0
 IsStamped p = IfSome p.named.stamp (λ s. 0 < s)
 

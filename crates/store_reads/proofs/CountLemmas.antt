@@ -7,7 +7,7 @@ use Rattle.store_schema.specs.rows.Values as values
 use Rattle.desk_history.specs.Calls.{is_same_kind}
 use Rattle.desk_history.specs.Requests.{is_state}
 use Rattle.desk_history.specs.Tables.{Tables}
-use Rattle.store_schema.specs.Columns.{equals}
+use Rattle.store_schema.specs.Named.{equals}
 use Rattle.store_schema.specs.Tables as tables
 use Rattle.store_schema.specs.declared.counting.TheConstants as texts
 use Rattle.store_schema.proofs.CountFacts as facts
@@ -24,10 +24,10 @@ tells : (asked : Counted) (old new : State) (n : ℕ) → IsCounted (count_text 
 tells what.People = tells_count 1 tables.people texts.COUNT_PEOPLE.now (codes "count(*)" ∷ []) facts.count_people values.person_values (λ (t : Tables). t.people) (λ t. refl)
 tells what.Calls = tells_count 2 tables.calls texts.COUNT_CALLS.now (codes "count(*)" ∷ []) facts.count_calls values.call_values (λ (t : Tables). t.calls) (λ t. refl)
 tells what.Requests = tells_count 3 tables.requests texts.COUNT_REQUESTS.now (codes "count(*)" ∷ []) facts.count_requests values.request_values (λ (t : Tables). t.requests) (λ t. refl)
-tells (what.RequestsIn state) = tells_count_of 3 tables.requests texts.COUNT_REQUESTS_IN.now (equals tables.requests 8 0 ∷ []) (codes "count(*)" ∷ []) facts.count_requests_in values.request_values (λ (t : Tables). t.requests) (λ t. refl)
+tells (what.RequestsIn state) = tells_count_of 3 tables.requests texts.COUNT_REQUESTS_IN.now (equals tables.requests (codes "state") 0 ∷ []) (codes "count(*)" ∷ []) facts.count_requests_in values.request_values (λ (t : Tables). t.requests) (λ t. refl)
     (Text (state_text state) ∷ []) (λ r. is_state state r.state) (is_in state)
 tells what.Listed = tells_count 8 tables.listed texts.COUNT_LISTED.now (codes "count(*)" ∷ []) facts.count_listed values.entry_values (λ (t : Tables). t.listed) (λ t. refl)
-tells (what.ListedOf kind) = tells_count_of 8 tables.listed texts.COUNT_LISTED_OF.now (equals tables.listed 0 0 ∷ []) (codes "count(*)" ∷ []) facts.count_listed_of values.entry_values (λ (t : Tables). t.listed) (λ t. refl)
+tells (what.ListedOf kind) = tells_count_of 8 tables.listed texts.COUNT_LISTED_OF.now (equals tables.listed (codes "kind") 0 ∷ []) (codes "count(*)" ∷ []) facts.count_listed_of values.entry_values (λ (t : Tables). t.listed) (λ t. refl)
     (Text (kind_text kind) ∷ []) (λ e. is_same_kind kind e.kind) (is_of_kind kind)
 tells what.RevokedDigests = tells_count 9 tables.revoked_digests texts.COUNT_REVOKED_DIGESTS.now (codes "count(*)" ∷ []) facts.count_revoked_digests values.digest_values (λ (t : Tables). t.revoked_digests) (λ t. refl)
 tells what.RevokedCertificates = tells_count 10 tables.revoked_certificates texts.COUNT_REVOKED_CERTIFICATES.now (codes "count(*)" ∷ []) facts.count_revoked_certificates values.digest_values (λ (t : Tables). t.revoked_certificates) (λ t. refl)

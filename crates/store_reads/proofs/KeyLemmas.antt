@@ -1,10 +1,10 @@
 -- Rows that have a key, and a SELECT of them.
-use Rattle.std.proofs.Common.{◌≡◌, ℕ, pos, List, [], ◌∷◌, ◌==◌, ◌&&◌, bytes_eq, refl, ◌∙◌}
+use Rattle.std.proofs.Common.{◌≡◌, ℕ, pos, List, [], ◌∷◌, ◌==◌, ◌&&◌, bytes_eq, refl, ◌∙◌, codes}
 use Rattle.sqlite.specs.declared.types.Value.TheVariants.{Null, Int, Text, Blob}
 use Rattle.sqlite.specs.Order.{Row}
 use Rattle.store_sql.specs.Effects.{passes}
 use Rattle.store_sql.proofs.ValueLemmas.{text_is, blob_is, int_is, only, both}
-use Rattle.store_schema.specs.Columns.{equals}
+use Rattle.store_schema.specs.Named.{equals}
 use Rattle.store_schema.specs.Tables as tables
 use Rattle.sbat.specs.declared.component.Component.{Component}
 use Rattle.desk_texts.specs.declared.command.Person.{Person}
@@ -33,29 +33,29 @@ call_row c = Int (pos c.number) ∷ Null ∷ Text c.caller ∷ Text c.key ∷ Te
 
 -- ---- people
 
-pub person_has_name : (name : List ℕ) (x : Person) → passes tables.people (equals tables.people 0 0 ∷ []) (Text name ∷ []) (values.person_values x) ≡ has_name name x
+pub person_has_name : (name : List ℕ) (x : Person) → passes tables.people (equals tables.people (codes "name") 0 ∷ []) (Text name ∷ []) (values.person_values x) ≡ has_name name x
 person_has_name name x = only _ _ (text_is x.name name)
 
-pub person_has_token : (token : List ℕ) (x : Person) → passes tables.people (equals tables.people 2 0 ∷ []) (Blob token ∷ []) (values.person_values x) ≡ has_token token x
+pub person_has_token : (token : List ℕ) (x : Person) → passes tables.people (equals tables.people (codes "token") 0 ∷ []) (Blob token ∷ []) (values.person_values x) ≡ has_token token x
 person_has_token token x = only _ _ (blob_is x.token token)
 
 -- ---- requests, and what belongs to them
 
-pub is_request : (k : ℕ) (x : RequestRow) → passes tables.requests (equals tables.requests 0 0 ∷ []) (Int (pos k) ∷ []) (values.request_values x) ≡ (k == x.number)
+pub is_request : (k : ℕ) (x : RequestRow) → passes tables.requests (equals tables.requests (codes "no") 0 ∷ []) (Int (pos k) ∷ []) (values.request_values x) ≡ (k == x.number)
 is_request k x = only _ _ (int_is x.number k)
 
 pub is_certificate : (k : ℕ) (x : RequestCertificateRow)
-    → passes tables.request_certificates (equals tables.request_certificates 0 0 ∷ []) (Int (pos k) ∷ []) (values.request_certificate_values x) ≡ (k == x.request)
+    → passes tables.request_certificates (equals tables.request_certificates (codes "request") 0 ∷ []) (Int (pos k) ∷ []) (values.request_certificate_values x) ≡ (k == x.request)
 is_certificate k x = only _ _ (int_is x.request k)
 
 pub is_component : (k : ℕ) (x : RequestComponentRow)
-    → passes tables.request_components (equals tables.request_components 0 0 ∷ []) (Int (pos k) ∷ []) (values.request_component_values x) ≡ (k == x.request)
+    → passes tables.request_components (equals tables.request_components (codes "request") 0 ∷ []) (Int (pos k) ∷ []) (values.request_component_values x) ≡ (k == x.request)
 is_component k x = only _ _ (int_is x.request k)
 
-pub is_vote : (k : ℕ) (x : VoteRow) → passes tables.votes (equals tables.votes 0 0 ∷ []) (Int (pos k) ∷ []) (values.vote_values x) ≡ (k == x.request)
+pub is_vote : (k : ℕ) (x : VoteRow) → passes tables.votes (equals tables.votes (codes "request") 0 ∷ []) (Int (pos k) ∷ []) (values.vote_values x) ≡ (k == x.request)
 is_vote k x = only _ _ (int_is x.request k)
 
-pub is_return : (k : ℕ) (x : ReturnRow) → passes tables.returns (equals tables.returns 0 0 ∷ []) (Int (pos k) ∷ []) (values.return_values x) ≡ (k == x.request)
+pub is_return : (k : ℕ) (x : ReturnRow) → passes tables.returns (equals tables.returns (codes "request") 0 ∷ []) (Int (pos k) ∷ []) (values.return_values x) ≡ (k == x.request)
 is_return k x = only _ _ (int_is x.request k)
 
 states_differ : (s t : State) → bytes_eq (state_text s) (state_text t) ≡ is_state s t
@@ -85,7 +85,7 @@ states_differ states.Signed states.Rejected = refl
 states_differ states.Signed states.Withdrawn = refl
 states_differ states.Signed states.Signed = refl
 
-pub is_in : (s : State) (x : RequestRow) → passes tables.requests (equals tables.requests 8 0 ∷ []) (Text (state_text s) ∷ []) (values.request_values x) ≡ is_state s x.state
+pub is_in : (s : State) (x : RequestRow) → passes tables.requests (equals tables.requests (codes "state") 0 ∷ []) (Text (state_text s) ∷ []) (values.request_values x) ≡ is_state s x.state
 is_in s x = only _ _ (text_is (state_text x.state) (state_text s) ∙ states_differ s x.state)
 
 -- ---- lists
@@ -97,24 +97,24 @@ kinds_differ Certificate Digest = refl
 kinds_differ Certificate Certificate = refl
 
 pub is_it : (kind : ListedKind) (digest : List ℕ) (x : Entry)
-    → passes tables.listed (equals tables.listed 0 0 ∷ equals tables.listed 1 1 ∷ []) (Text (kind_text kind) ∷ Blob digest ∷ []) (values.entry_values x) ≡ is_entry kind digest x
+    → passes tables.listed (equals tables.listed (codes "kind") 0 ∷ equals tables.listed (codes "digest") 1 ∷ []) (Text (kind_text kind) ∷ Blob digest ∷ []) (values.entry_values x) ≡ is_entry kind digest x
 is_it kind digest x = both _ _ _ _ (text_is (kind_text x.kind) (kind_text kind) ∙ kinds_differ kind x.kind) (blob_is x.digest digest)
 
-pub is_of_kind : (kind : ListedKind) (x : Entry) → passes tables.listed (equals tables.listed 0 0 ∷ []) (Text (kind_text kind) ∷ []) (values.entry_values x) ≡ is_same_kind kind x.kind
+pub is_of_kind : (kind : ListedKind) (x : Entry) → passes tables.listed (equals tables.listed (codes "kind") 0 ∷ []) (Text (kind_text kind) ∷ []) (values.entry_values x) ≡ is_same_kind kind x.kind
 is_of_kind kind x = only _ _ (text_is (kind_text x.kind) (kind_text kind) ∙ kinds_differ kind x.kind)
 
-pub is_digest : (digest x : List ℕ) → passes tables.revoked_digests (equals tables.revoked_digests 0 0 ∷ []) (Blob digest ∷ []) (values.digest_values x) ≡ bytes_eq digest x
+pub is_digest : (digest x : List ℕ) → passes tables.revoked_digests (equals tables.revoked_digests (codes "digest") 0 ∷ []) (Blob digest ∷ []) (values.digest_values x) ≡ bytes_eq digest x
 is_digest digest x = only _ _ (blob_is x digest)
 
 pub is_revoked_certificate : (digest x : List ℕ)
-    → passes tables.revoked_certificates (equals tables.revoked_certificates 0 0 ∷ []) (Blob digest ∷ []) (values.digest_values x) ≡ bytes_eq digest x
+    → passes tables.revoked_certificates (equals tables.revoked_certificates (codes "digest") 0 ∷ []) (Blob digest ∷ []) (values.digest_values x) ≡ bytes_eq digest x
 is_revoked_certificate digest x = only _ _ (blob_is x digest)
 
-pub is_of_name : (name : List ℕ) (x : Component) → passes tables.components (equals tables.components 0 0 ∷ []) (Text name ∷ []) (values.component_values x) ≡ is_named name x
+pub is_of_name : (name : List ℕ) (x : Component) → passes tables.components (equals tables.components (codes "name") 0 ∷ []) (Text name ∷ []) (values.component_values x) ≡ is_named name x
 is_of_name name x = only _ _ (text_is x.name name)
 
 -- ---- calls
 
 pub is_call : (caller key : List ℕ) (x : CallTexts)
-    → passes tables.calls (equals tables.calls 1 0 ∷ equals tables.calls 2 1 ∷ []) (Text caller ∷ Text key ∷ []) (call_row x) ≡ (bytes_eq caller x.caller && bytes_eq key x.key)
+    → passes tables.calls (equals tables.calls (codes "caller") 0 ∷ equals tables.calls (codes "key") 1 ∷ []) (Text caller ∷ Text key ∷ []) (call_row x) ≡ (bytes_eq caller x.caller && bytes_eq key x.key)
 is_call caller key x = both _ _ _ _ (text_is x.caller caller) (text_is x.key key)

@@ -1,5 +1,5 @@
 -- Proposals by their numbers, and items by their columns.
-use Rattle.std.proofs.Common.{◌≡◌, ◌==◌, ℕ, pos, List, [], ◌∷◌, map, filter, length, Option, Some, true, refl, sym, ap, ap₂, ◌∙◌, arith}
+use Rattle.std.proofs.Common.{◌≡◌, ◌==◌, ℕ, pos, List, [], ◌∷◌, map, filter, length, Option, Some, true, refl, sym, ap, ap₂, ◌∙◌, arith, codes}
 use Rattle.std.specs.Prelude.{flat_map}
 use Rattle.sqlite.specs.declared.types.Value.TheVariants.{Null, Int, Text}
 use Rattle.sqlite.specs.Order.{Row}
@@ -7,7 +7,8 @@ use Rattle.sqlite.specs.State.{State}
 use Rattle.sqlite_trees.proofs.ListLemmas.{filter-map, map-map}
 use Rattle.store_sql.specs.Effects.{passes}
 use Rattle.store_sql.proofs.ValueLemmas.{int_is, only}
-use Rattle.store_schema.specs.Columns.{columns_after, columns_of, equals, names_of}
+use Rattle.store_schema.specs.Columns.{columns_after, columns_of, names_of}
+use Rattle.store_schema.specs.Named.{equals}
 use Rattle.store_schema.specs.Tables as tables
 use Rattle.store_schema.specs.declared.selecting.TheConstants.{SELECT_PROPOSAL, SELECT_PROPOSAL_ITEMS, SELECT_PROPOSALS}
 use Rattle.store_schema.proofs.SelectFacts.{select_proposal, select_proposal_items, select_proposals}
@@ -56,17 +57,17 @@ head_row h =
     Int (pos h.number) ∷ Null ∷ Text h.officer ∷ Text (proposal_kind_text h.kind) ∷ Int (pos h.stamp) ∷ Int (pos h.passed)
     ∷ Text (proposal_state_text h.state) ∷ []
 
-is_head : (k : ℕ) (x : ProposalHead) → passes tables.proposals (equals tables.proposals 0 0 ∷ []) (Int (pos k) ∷ []) (head_row x) ≡ (k == x.number)
+is_head : (k : ℕ) (x : ProposalHead) → passes tables.proposals (equals tables.proposals (codes "no") 0 ∷ []) (Int (pos k) ∷ []) (head_row x) ≡ (k == x.number)
 is_head k x = only _ _ (int_is x.number k)
 
-is_item : (k : ℕ) (x : ProposalItemRow) → passes tables.proposal_items (equals tables.proposal_items 0 0 ∷ []) (Int (pos k) ∷ []) (item_values x) ≡ (k == x.proposal)
+is_item : (k : ℕ) (x : ProposalItemRow) → passes tables.proposal_items (equals tables.proposal_items (codes "proposal") 0 ∷ []) (Int (pos k) ∷ []) (item_values x) ≡ (k == x.proposal)
 is_item k x = only _ _ (int_is x.proposal k)
 
 pub tells_head : (k : ℕ) (old new : State) (found : Option ProposalHead) → Finds head_columns SELECT_PROPOSAL.now (Int (pos k) ∷ []) (listed found) old new
     → ReadsTables (λ t. map head_of (filter (λ p. k == p.number) t.proposals) ≡ listed found) old new
 tells_head k old new found f =
     let p : ProposalHead → _ = λ x. k == x.number in
-    let it = tells_row 12 tables.proposals SELECT_PROPOSAL.now (equals tables.proposals 0 0 ∷ []) 0 (columns_of tables.proposals) (names_of tables.proposals) select_proposal head_row head_columns
+    let it = tells_row 12 tables.proposals SELECT_PROPOSAL.now (equals tables.proposals (codes "no") 0 ∷ []) 0 (columns_of tables.proposals) (names_of tables.proposals) select_proposal head_row head_columns
     (λ (t : Tables). map head_of t.proposals) (λ t. ap Some (sym (map-map head_row head_of t.proposals))) (Int (pos k) ∷ []) (λ x. refl) p (is_head k) old new found f in
     record { kept = it.kept; tells = λ t sees. sym (filter-map p head_of t.proposals) ∙ it.tells t sees }
 
@@ -79,5 +80,5 @@ tells_heads old new found =
 pub tells_items : (k : ℕ) (old new : State) (found : List ProposalItemRow) → Finds item_values SELECT_PROPOSAL_ITEMS.now (Int (pos k) ∷ []) found old new
     → ReadsTables (λ t. AreFound item_values tables.proposal_items 2 (λ r. k == r.proposal) (flat_map item_rows t.proposals) found) old new
 tells_items k old new found =
-    tells_rows 13 tables.proposal_items SELECT_PROPOSAL_ITEMS.now (equals tables.proposal_items 0 0 ∷ []) 2 (columns_after 2 tables.proposal_items) (names_of tables.proposal_items) select_proposal_items item_values item_values
+    tells_rows 13 tables.proposal_items SELECT_PROPOSAL_ITEMS.now (equals tables.proposal_items (codes "proposal") 0 ∷ []) 2 (columns_after 2 tables.proposal_items) (names_of tables.proposal_items) select_proposal_items item_values item_values
     (λ (t : Tables). flat_map item_rows t.proposals) (λ t. refl) (Int (pos k) ∷ []) (λ x. refl) (λ r. k == r.proposal) (is_item k) old new found

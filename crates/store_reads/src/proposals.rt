@@ -25,7 +25,8 @@ pub fn head_numbered<S: Alter>(
 ) -> Result<Option<ProposalHead>, ReadFault>
     ensures same_reference { tx.new.conn.ghost_name ≡ tx.old.conn.ghost_name }
     ensures value { DoesInside S.Store tx.old.conn.now tx.new.conn.now result
-        (λ head. ReadsTables (λ t. map head_of (filter (λ p. proposal == p.number) t.proposals) ≡ listed head)) }
+        (λ head. ReadsTables (λ t. map head_of (filter (λ p. proposal == p.number) t.proposals)
+        ≡ listed head)) }
     ensures inside { StaysInside S.Store tx.old.conn.now tx.new.conn.now result }
     ensures kept { CommitsNothing S.Store tx.old.conn.now tx.new.conn.now }
     ensures survives { Spares S.Store tx.old.conn.now tx.new.conn.now }

@@ -6,7 +6,7 @@ use Rattle.store_sql.specs.Meanings.{SelectsRows}
 use Rattle.store_schema.specs.Columns.{by_first, columns_after, columns_of, names_of}
 use Rattle.store_schema.specs.Named.{equals}
 use Rattle.store_schema.specs.Tables.{desk_schema, first_schema, desk, people, calls, requests, request_certificates, request_components, votes, returns, listed, revoked_digests, revoked_certificates, components, proposals, proposal_items}
-use Rattle.store_schema.specs.declared.selecting.TheConstants.{SELECT_DESK, SELECT_PERSON, SELECT_PERSON_OF_TOKEN, SELECT_CALL, SELECT_CALLS, SELECT_REQUEST, SELECT_REQUESTS, SELECT_REQUESTS_OF, SELECT_REQUEST_CERTIFICATES, SELECT_REQUEST_COMPONENTS, SELECT_VOTES, SELECT_RETURN, SELECT_LISTED, SELECT_LISTED_OF, SELECT_REVOKED_DIGEST, SELECT_REVOKED_DIGESTS, SELECT_REVOKED_CERTIFICATE, SELECT_REVOKED_CERTIFICATES, SELECT_COMPONENT, SELECT_COMPONENTS, SELECT_PROPOSAL, SELECT_PROPOSALS, SELECT_PROPOSAL_ITEMS}
+use Rattle.store_schema.specs.declared.selecting.TheConstants.{SELECT_DESK, SELECT_PERSON, SELECT_PERSON_OF_TOKEN, SELECT_CALL, SELECT_CALLS, SELECT_REQUEST, SELECT_REQUEST_CERTIFICATES, SELECT_REQUEST_COMPONENTS, SELECT_VOTES, SELECT_RETURN, SELECT_LISTED, SELECT_LISTED_OF, SELECT_REVOKED_DIGEST, SELECT_REVOKED_DIGESTS, SELECT_REVOKED_CERTIFICATE, SELECT_REVOKED_CERTIFICATES, SELECT_COMPONENT, SELECT_COMPONENTS, SELECT_PROPOSAL, SELECT_PROPOSALS, SELECT_PROPOSAL_ITEMS}
 
 pub select_desk : SelectsRows desk_schema 0 desk SELECT_DESK.now [] (by_first 1 desk) (columns_after 1 desk) (names_of desk)
 unfolding understood everything
@@ -36,14 +36,6 @@ select_calls = record { place = refl; means = refl; unlisted = refl; plain = (re
 pub select_request : SelectsRows desk_schema 3 requests SELECT_REQUEST.now (equals requests (codes "no") 0 ∷ []) [] (columns_of requests) (names_of requests)
 unfolding understood everything
 select_request = record { place = refl; means = refl; unlisted = refl; plain = (refl, refl); overlooks = λ _. tt; passes_over = λ _. tt }
-
-pub select_requests : SelectsRows desk_schema 3 requests SELECT_REQUESTS.now [] (by_first 1 requests) (columns_after 1 requests) (names_of requests)
-unfolding understood everything
-select_requests = record { place = refl; means = refl; unlisted = refl; plain = (refl, refl); overlooks = λ _. tt; passes_over = λ _. tt }
-
-pub select_requests_of : SelectsRows desk_schema 3 requests SELECT_REQUESTS_OF.now (equals requests (codes "submitter") 0 ∷ []) (by_first 1 requests) (columns_after 1 requests) (names_of requests)
-unfolding understood everything
-select_requests_of = record { place = refl; means = refl; unlisted = refl; plain = (refl, refl); overlooks = λ _. tt; passes_over = λ _. tt }
 
 pub select_request_certificates : SelectsRows desk_schema 4 request_certificates SELECT_REQUEST_CERTIFICATES.now (equals request_certificates (codes "request") 0 ∷ []) (by_first 2 request_certificates) (columns_after 2 request_certificates) (names_of request_certificates)
 unfolding understood everything

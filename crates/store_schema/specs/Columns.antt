@@ -1,12 +1,10 @@
--- What the statements read, test and write, by the columns of a table, counted from 0, and the parameters, counted from 0.
-use Rattle.std.specs.Prelude.{ℕ, zero, suc, ◌+◌, ◌==◌, List, [], ◌∷◌, ◌++◌, map, drop, Option, Some, None, if◌then◌else◌}
+-- What the statements read, insert and sort by: the columns of a table, counted from 0, and the parameters, counted from 0.
+use Rattle.std.specs.Prelude.{ℕ, zero, suc, ◌+◌, List, [], ◌∷◌, ◌++◌, map, drop, Option, Some, None}
 use Rattle.sqlite.specs.Collation.TheVariants.{Binary}
 use Rattle.sqlite.specs.declared.types.Value.TheVariants.{Null}
 use Rattle.sqlite.specs.Table.{Table}
-use Rattle.sqlite.specs.Term.{Term, col, lit, op2}
+use Rattle.sqlite.specs.Term.{Term, col, lit}
 use Rattle.sqlite_schema.specs.declared.schema.Column.{Column}
-use Rattle.sqlite_sql.specs.declared.ops.BinaryOp.TheVariants.{Compare}
-use Rattle.sqlite_sql.specs.declared.ops.CompareOp.TheVariants.{Eq}
 use Rattle.sqlite_value.specs.declared.keys.Key.{Key}
 use Rattle.sqlite_value.specs.Keys.{ascending}
 
@@ -29,10 +27,6 @@ columns_of table = columns_from table.key 0 table.columns
 -- the names of the columns, as an answer heads them
 abbrev pub names_of : Table → List (List ℕ)
 names_of table = map (λ (c : Column). c.name) table.columns
-
--- WHERE column = ?parameter, by the column's place (by its name: Named.antt)
-abbrev pub equals : Table → ℕ → ℕ → Term
-equals table at parameter = op2 (Compare Eq Binary) (column_at table.key at) (col 0 parameter)
 
 -- ORDER BY the first columns, ascending
 abbrev pub by_first : ℕ → Table → List (Term × Key)
@@ -57,18 +51,3 @@ parameters_from at (c ∷ cs) = col 0 at ∷ parameters_from (at + 1) cs
 -- VALUES (?1, ?2, ..), a parameter for each column
 abbrev pub values_of : Table → List Term
 values_of table = stored_as table.key (parameters_from 0 table.columns)
-
--- a stored row as it is, but for this column, which is set to the parameter
-abbrev pub set_from : Option ℕ → ℕ → ℕ → ℕ → List Column → List Term
-set_from key set parameter at [] = []
-set_from key set parameter at (c ∷ cs) = (if at == set then col 0 parameter else column_at key at) ∷ set_from key set parameter (at + 1) cs
-
--- what UPDATE writes into a row whose columns become these: the row id first, as the key says or as it was
-abbrev pub with_row_id : Option ℕ → List Term → List Term
-with_row_id None values = col 1 0 ∷ values
-with_row_id (Some _) [] = []
-with_row_id (Some _) (key ∷ values) = key ∷ lit Null ∷ values
-
--- SET column = ?parameter, by the column's place: the row id and every column of the row that an UPDATE writes
-abbrev pub set_to : Table → ℕ → ℕ → List Term
-set_to table at parameter = with_row_id table.key (set_from table.key at parameter 0 table.columns)

@@ -23,9 +23,8 @@ use crate::selecting::{
     SELECT_CALL, SELECT_CALLS, SELECT_COMPONENT, SELECT_COMPONENTS, SELECT_DESK, SELECT_LISTED,
     SELECT_LISTED_OF, SELECT_PERSON, SELECT_PERSON_OF_TOKEN, SELECT_PROPOSAL,
     SELECT_PROPOSAL_ITEMS, SELECT_PROPOSALS, SELECT_REQUEST, SELECT_REQUEST_CERTIFICATES,
-    SELECT_REQUEST_COMPONENTS, SELECT_REQUESTS, SELECT_REQUESTS_OF, SELECT_RETURN,
-    SELECT_REVOKED_CERTIFICATE, SELECT_REVOKED_CERTIFICATES, SELECT_REVOKED_DIGEST,
-    SELECT_REVOKED_DIGESTS, SELECT_VOTES,
+    SELECT_REQUEST_COMPONENTS, SELECT_RETURN, SELECT_REVOKED_CERTIFICATE,
+    SELECT_REVOKED_CERTIFICATES, SELECT_REVOKED_DIGEST, SELECT_REVOKED_DIGESTS, SELECT_VOTES,
 };
 
 /// The row of the desk: written whole, its stamp and its version set, read, also where the tables are those of version 1.
@@ -62,18 +61,13 @@ pub fn calls_statements()
     ensures counted { CountsRows desk_schema 2 calls COUNT_CALLS.now [] (codes "count(*)" ∷ []) }
 {}
 
-/// Requests: put in, given a state, found by number, listed by number, for one submitter too, counted.
+/// Requests: put in, given a state, found by number, counted.
 pub fn requests_statements()
     ensures inserted { InsertsRow desk_schema 3 requests INSERT_REQUEST.now (values_of requests) }
     ensures decided { UpdatesRows desk_schema 3 requests UPDATE_STATE.now
         (equals requests (codes "no") 0 ∷ []) (set_to requests (codes "state") 1) }
     ensures numbered { SelectsRows desk_schema 3 requests SELECT_REQUEST.now
         (equals requests (codes "no") 0 ∷ []) [] (columns_of requests) (names_of requests) }
-    ensures all { SelectsRows desk_schema 3 requests SELECT_REQUESTS.now [] (by_first 1 requests)
-        (columns_after 1 requests) (names_of requests) }
-    ensures of_submitter { SelectsRows desk_schema 3 requests SELECT_REQUESTS_OF.now
-        (equals requests (codes "submitter") 0 ∷ []) (by_first 1 requests)
-        (columns_after 1 requests) (names_of requests) }
     ensures counted { CountsRows desk_schema 3 requests COUNT_REQUESTS.now [] (codes "count(*)"
         ∷ []) }
     ensures counted_in { CountsRows desk_schema 3 requests COUNT_REQUESTS_IN.now
@@ -173,13 +167,14 @@ pub fn components_statements()
 
 /// Proposals: put in, given a state, found by number, listed by number, counted.
 pub fn proposals_statements()
-    ensures inserted { InsertsRow desk_schema 12 proposals INSERT_PROPOSAL.now (values_of proposals) }
+    ensures inserted { InsertsRow desk_schema 12 proposals INSERT_PROPOSAL.now
+        (values_of proposals) }
     ensures closed { UpdatesRows desk_schema 12 proposals UPDATE_PROPOSAL_STATE.now
         (equals proposals (codes "no") 0 ∷ []) (set_to proposals (codes "state") 1) }
     ensures numbered { SelectsRows desk_schema 12 proposals SELECT_PROPOSAL.now
         (equals proposals (codes "no") 0 ∷ []) [] (columns_of proposals) (names_of proposals) }
-    ensures all { SelectsRows desk_schema 12 proposals SELECT_PROPOSALS.now [] (by_first 1 proposals)
-        (columns_after 1 proposals) (names_of proposals) }
+    ensures all { SelectsRows desk_schema 12 proposals SELECT_PROPOSALS.now []
+        (by_first 1 proposals) (columns_after 1 proposals) (names_of proposals) }
     ensures counted { CountsRows desk_schema 12 proposals COUNT_PROPOSALS.now [] (codes "count(*)"
         ∷ []) }
 {}

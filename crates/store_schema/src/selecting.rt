@@ -20,14 +20,6 @@ pub const SELECT_CALLS: &str = "SELECT no, caller, key, text, reply FROM calls O
 pub const SELECT_REQUEST: &str =
     "SELECT no, submitter, title, length, gap, file, digest, signing, state FROM requests WHERE no = ?1";
 
-/// Every request, by number.
-pub const SELECT_REQUESTS: &str =
-    "SELECT no, submitter, title, length, gap, file, digest, signing, state FROM requests ORDER BY no";
-
-/// The requests of a submitter (`?1`), by number.
-pub const SELECT_REQUESTS_OF: &str =
-    "SELECT no, submitter, title, length, gap, file, digest, signing, state FROM requests WHERE submitter = ?1 ORDER BY no";
-
 /// The certificates of a request (`?1`), by digest.
 pub const SELECT_REQUEST_CERTIFICATES: &str =
     "SELECT request, digest FROM request_certificates WHERE request = ?1 ORDER BY request, digest";

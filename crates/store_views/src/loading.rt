@@ -130,7 +130,8 @@ fn people_of<S: Alter>(
 ) -> Result<Vec<Person>, ReadFault>
     ensures same_reference { tx.new.conn.ghost_name ≡ tx.old.conn.ghost_name }
     ensures value { DoesInside S.Store tx.old.conn.now tx.new.conn.now result
-        (λ people. ReadsTables (λ t. ShowsPeople people.items t (caller_name caller.now) command.now)) }
+        (λ people. ReadsTables (λ t. ShowsPeople people.items t
+        (caller_name caller.now) command.now)) }
     ensures only { IfOk result (λ people.
         All (λ p. IsTrue (is_named_person (caller_name caller.now) command.now p)) people.items) }
     ensures inside { StaysInside S.Store tx.old.conn.now tx.new.conn.now result }

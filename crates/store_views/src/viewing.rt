@@ -44,8 +44,8 @@ fn see<S: Alter>(
     command: &Command,
 ) -> Result<Seen, ReadFault>
     ensures same_reference { tx.new.conn.ghost_name ≡ tx.old.conn.ghost_name }
-    ensures value { DoesInside S.Store tx.old.conn.now tx.new.conn.now result (λ seen. ReadsTables (λ t.
-        ReadsBack t → AreRight sizes t
+    ensures value { DoesInside S.Store tx.old.conn.now tx.new.conn.now result
+        (λ seen. ReadsTables (λ t. ReadsBack t → AreRight sizes t
         → Shows seen.view t (called caller.now key.now command.now) × AreRight seen.sizes t)) }
     ensures only { IfOk result (λ seen. HoldsNoRowBeyond seen.view
         (called caller.now key.now command.now)) }

@@ -245,7 +245,8 @@ pub(crate) fn enforce(
     proposal: ProposalNumber,
     so_far: SoFar,
 ) -> Result<Changes, Refusal>
-    ensures ok { IfOk result (λ changes. spec.PutsIntoForce view.now named.now proposal so_far changes) }
+    ensures ok { IfOk result
+        (λ changes. spec.PutsIntoForce view.now named.now proposal so_far changes) }
     ensures err { IfErr result (λ refusal. refusal ≡ Refusal.NoMemory) }
 {
     let lists = &view.lists;

@@ -16,7 +16,8 @@ use std::alloc::Global;
 /// Lists the image of this digest.
 pub(crate) fn list_digest(alloc: Global, view: &View, digest: Digest) -> Result<Changes, Refusal>
     ensures { Decided result
-        (refuse_if ((seen_standing view.now.lists).listed ListedKind.Digest digest) Refusal.AlreadyListed)
+        (refuse_if ((seen_standing view.now.lists).listed ListedKind.Digest digest)
+        Refusal.AlreadyListed)
         Reply.Listed
         (puts.List (record { kind = ListedKind.Digest; digest = digest; body = [] }) ∷ []) }
 {
@@ -34,7 +35,9 @@ pub(crate) fn list_certificate(
     certificate: &Certificate,
 ) -> Result<Changes, Refusal>
     ensures { Decided result
-        (refuse_if ((seen_standing view.now.lists).listed ListedKind.Certificate certificate.now.tbs) Refusal.AlreadyListed)
+        (refuse_if
+        ((seen_standing view.now.lists).listed ListedKind.Certificate certificate.now.tbs)
+        Refusal.AlreadyListed)
         Reply.Listed
         (puts.List (record {
           kind = ListedKind.Certificate;
@@ -55,7 +58,8 @@ pub(crate) fn list_certificate(
 /// Takes the entry off the list.
 pub(crate) fn unlist(alloc: Global, view: &View, listing: Listing) -> Result<Changes, Refusal>
     ensures { Decided result
-        (refuse_if (not ((seen_standing view.now.lists).listed listing.kind listing.digest)) Refusal.NotThere)
+        (refuse_if (not ((seen_standing view.now.lists).listed listing.kind listing.digest))
+        Refusal.NotThere)
         Reply.Unlisted (puts.Unlist listing ∷ []) }
 {
     if !view.lists.is_listed(listing.kind, listing.digest) {

@@ -245,7 +245,8 @@ pub(crate) fn propose_import(
     caller: &Caller,
     named: &Import,
 ) -> Result<Changes, Refusal>
-    ensures exact { spec.DecidesOwn view.now caller.now (Command.ImportRevocations named.now) result }
+    ensures exact { spec.DecidesOwn view.now caller.now (Command.ImportRevocations named.now)
+        result }
     ensures only { IfErr result (λ refusal. IsTrue (may_answer refusal)) }
 {
     let named = named.clone()?;
@@ -283,7 +284,8 @@ pub(crate) fn drop_proposal(
     view: &View,
     proposal: ProposalNumber,
 ) -> Result<Changes, Refusal>
-    ensures { spec.Decided result (spec.drop_refusal_in view.now proposal) (replies.Dropped proposal)
+    ensures { spec.Decided result (spec.drop_refusal_in view.now proposal)
+        (replies.Dropped proposal)
         (puts.ProposalState (record { proposal = proposal; state = ProposalState.Dropped }) ∷ []) }
 {
     if let Some(refusal) = view.drop_refusal(proposal) {

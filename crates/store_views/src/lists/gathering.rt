@@ -48,7 +48,8 @@ pub(crate) fn gather_revoked<S: Alter>(
 ) -> Result<(), ReadFault>
     ensures same_reference { tx.new.conn.ghost_name ≡ tx.old.conn.ghost_name }
     ensures value { DoesInside S.Store tx.old.conn.now tx.new.conn.now result
-        (λ _. ReadsTables (Gathers (revocations_of kind) digests.now rows.old.items rows.new.items)) }
+        (λ _. ReadsTables (Gathers (revocations_of kind) digests.now rows.old.items
+        rows.new.items)) }
     ensures only { OnOk result (PutsOnly (λ x. IsTrue (is_among digests.now x))
         rows.old.items rows.new.items) }
     ensures kept { CommitsNothing S.Store tx.old.conn.now tx.new.conn.now }

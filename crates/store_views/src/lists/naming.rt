@@ -66,7 +66,8 @@ fn barring_view<S: Alter>(
 ) -> Result<ListView, ReadFault>
     ensures same_reference { tx.new.conn.ghost_name ≡ tx.old.conn.ghost_name }
     ensures value { DoesInside S.Store tx.old.conn.now tx.new.conn.now result
-        (λ view. ReadsTables (λ t. ShowsLists view t (barring_keys (entry_keys revoked.entry) named.now))) }
+        (λ view. ReadsTables (λ t. ShowsLists view t
+        (barring_keys (entry_keys revoked.entry) named.now))) }
     ensures only { IfOk result (λ view.
         HoldsNoOther view (barring_keys (entry_keys revoked.entry) named.now)) }
     ensures inside { StaysInside S.Store tx.old.conn.now tx.new.conn.now result }

@@ -26,7 +26,8 @@ fn listings<S: Alter>(
     ensures value { DoesInside S.Store tx.old.conn.now tx.new.conn.now result
         (λ rows. ReadsTables (ShowsListed rows.items (entry_keys listed.entry))) }
     ensures only { IfOk result (λ rows. All
-        (λ row. IsTrue (is_among (keys_for (entry_keys listed.entry) row.kind) row.digest)) rows.items) }
+        (λ row. IsTrue (is_among (keys_for (entry_keys listed.entry) row.kind) row.digest))
+        rows.items) }
     ensures kept { CommitsNothing S.Store tx.old.conn.now tx.new.conn.now }
     ensures survives { Spares S.Store tx.old.conn.now tx.new.conn.now }
 {
@@ -53,7 +54,8 @@ pub(crate) fn rows_of<S: Alter>(
 ) -> Result<ListView, ReadFault>
     ensures same_reference { tx.new.conn.ghost_name ≡ tx.old.conn.ghost_name }
     ensures value { DoesInside S.Store tx.old.conn.now tx.new.conn.now result
-        (λ view. ReadsTables (λ t. ShowsLists view t (keys_of listed.entry revoked.entry named.now))) }
+        (λ view. ReadsTables (λ t. ShowsLists view t
+        (keys_of listed.entry revoked.entry named.now))) }
     ensures only { IfOk result (λ view.
         HoldsNoOther view (keys_of listed.entry revoked.entry named.now)) }
     ensures inside { StaysInside S.Store tx.old.conn.now tx.new.conn.now result }

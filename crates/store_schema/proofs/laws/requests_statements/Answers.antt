@@ -1,7 +1,7 @@
 use Rattle.store_schema.proofs.ChangeFacts.{update_state}
 use Rattle.store_schema.proofs.CountFacts.{count_requests, count_requests_in}
 use Rattle.store_schema.proofs.InsertFacts.{insert_request}
-use Rattle.store_schema.proofs.SelectFacts.{select_request, select_requests, select_requests_of}
+use Rattle.store_schema.proofs.SelectFacts.{select_request}
 use Rattle.store_schema.proofs.laws.requests_statements.Goals as goal
 
 pub returns-clause-inserted : goal.returns-clause-inserted
@@ -12,12 +12,6 @@ returns-clause-decided g = update_state
 
 pub returns-clause-numbered : goal.returns-clause-numbered
 returns-clause-numbered g = select_request
-
-pub returns-clause-all : goal.returns-clause-all
-returns-clause-all g = select_requests
-
-pub returns-clause-of_submitter : goal.returns-clause-of_submitter
-returns-clause-of_submitter g = select_requests_of
 
 pub returns-clause-counted : goal.returns-clause-counted
 returns-clause-counted g = count_requests
