@@ -9,6 +9,6 @@ mod sizes;
 mod sizing;
 mod viewing;
 
-pub use lists::{list_view, lists_asked};
+pub use lists::list_view;
 pub use sizes::{KeptSizes, may_put};
 pub use viewing::view;

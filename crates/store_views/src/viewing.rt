@@ -15,9 +15,10 @@ ghost use Rattle.store_views.specs.Named.{HoldsNoRowBeyond};
 ghost use Rattle.store_views.specs.Learning.{Learns};
 ghost use Rattle.store_views.specs.Steps.{ReadsBack};
 
+use crate::KeptSizes;
+use crate::lists::lists_asked;
 use crate::loading::{named_row, rows_of_call};
 use crate::sizing::learn;
-use crate::{KeptSizes, lists_asked};
 use desk_bytes::Refusal;
 use desk_history::minutes_are_readable;
 use desk_rules::View;
@@ -34,7 +35,8 @@ struct Seen {
     sizes: KeptSizes,
 }
 
-/// The rows and sizes that the call needs, with the sizes that are known.
+/// The rows and sizes that the call needs, with the sizes that are known. The desk's own row comes
+/// first, so that only an open store gives Ok.
 fn see<S: Alter>(
     alloc: Global,
     tx: &mut Transaction<'_, S>,

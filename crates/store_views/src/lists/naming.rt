@@ -1,12 +1,12 @@
-//! The rows of the lists that commands of one kind name.
+//! The rows of the lists that commands of one kind name, or an image's facts.
 ghost use Rattle.std.specs.Prelude.{◌≡◌, IfErr, IfOk};
 ghost use Rattle.desk_bytes.specs.Digests.{IsArranged};
 ghost use Rattle.store_views.specs.lists.Gathering.{barring_keys, entry_keys, import_keys};
 ghost use Rattle.store_views.specs.lists.Gathering.{listed_keys, revoked_keys, submission_keys};
 ghost use Rattle.store_views.specs.lists.Lists.{HoldsNoOther};
 ghost use Rattle.store_reads.specs.Reads.{ReadsTables};
-ghost use Rattle.desk_rules.specs.Views.{ShowsLists};
-ghost use Rattle.store_sql.specs.States.{DoesInside, CommitsNothing, Spares, StaysInside};
+ghost use Rattle.desk_rules.specs.Views.{ShowsLists, keys_of};
+ghost use Rattle.store_sql.specs.States.{DoesInside, CommitsNothing, Spares};
 
 use crate::lists::keys::Digests;
 use crate::lists::reading::rows_of;
@@ -16,6 +16,7 @@ use desk_texts::{Facts, Import, ListedKind};
 use sbat::Component;
 use sqlite::{Alter, Transaction};
 use std::alloc::Global;
+use std::slice;
 use store_reads::ReadFault;
 
 /// The listed row of this kind and digest.
@@ -29,7 +30,6 @@ pub(crate) fn listed_view<S: Alter>(
     ensures value { DoesInside S.Store tx.old.conn.now tx.new.conn.now result
         (λ view. ReadsTables (λ t. ShowsLists view t (listed_keys kind digest))) }
     ensures only { IfOk result (λ view. HoldsNoOther view (listed_keys kind digest)) }
-    ensures inside { StaysInside S.Store tx.old.conn.now tx.new.conn.now result }
     ensures kept { CommitsNothing S.Store tx.old.conn.now tx.new.conn.now }
     ensures survives { Spares S.Store tx.old.conn.now tx.new.conn.now }
 {
@@ -48,7 +48,6 @@ pub(crate) fn revoked_view<S: Alter>(
     ensures value { DoesInside S.Store tx.old.conn.now tx.new.conn.now result
         (λ view. ReadsTables (λ t. ShowsLists view t (revoked_keys kind digest))) }
     ensures only { IfOk result (λ view. HoldsNoOther view (revoked_keys kind digest)) }
-    ensures inside { StaysInside S.Store tx.old.conn.now tx.new.conn.now result }
     ensures kept { CommitsNothing S.Store tx.old.conn.now tx.new.conn.now }
     ensures survives { Spares S.Store tx.old.conn.now tx.new.conn.now }
 {
@@ -70,7 +69,6 @@ fn barring_view<S: Alter>(
         (barring_keys (entry_keys revoked.entry) named.now))) }
     ensures only { IfOk result (λ view.
         HoldsNoOther view (barring_keys (entry_keys revoked.entry) named.now)) }
-    ensures inside { StaysInside S.Store tx.old.conn.now tx.new.conn.now result }
     ensures kept { CommitsNothing S.Store tx.old.conn.now tx.new.conn.now }
     ensures survives { Spares S.Store tx.old.conn.now tx.new.conn.now }
 {
@@ -100,7 +98,6 @@ pub(crate) fn import_view<S: Alter>(
     ensures value { DoesInside S.Store tx.old.conn.now tx.new.conn.now result
         (λ view. ReadsTables (λ t. ShowsLists view t (import_keys import.now))) }
     ensures only { IfOk result (λ view. HoldsNoOther view (import_keys import.now)) }
-    ensures inside { StaysInside S.Store tx.old.conn.now tx.new.conn.now result }
     ensures kept { CommitsNothing S.Store tx.old.conn.now tx.new.conn.now }
     ensures survives { Spares S.Store tx.old.conn.now tx.new.conn.now }
 {
@@ -124,7 +121,6 @@ pub(crate) fn submission_view<S: Alter>(
     ensures value { DoesInside S.Store tx.old.conn.now tx.new.conn.now result
         (λ view. ReadsTables (λ t. ShowsLists view t (submission_keys facts.now))) }
     ensures only { IfOk result (λ view. HoldsNoOther view (submission_keys facts.now)) }
-    ensures inside { StaysInside S.Store tx.old.conn.now tx.new.conn.now result }
     ensures kept { CommitsNothing S.Store tx.old.conn.now tx.new.conn.now }
     ensures survives { Spares S.Store tx.old.conn.now tx.new.conn.now }
 {
@@ -134,4 +130,31 @@ pub(crate) fn submission_view<S: Alter>(
         certificates: facts.carried.as_slice(),
     };
     barring_view(alloc, tx, revoked, facts.components.as_slice())
+}
+
+/// The rows that an image's facts name: its listed entries, revoked entries, and components of the
+/// level.
+pub(crate) fn image_view<S: Alter>(
+    alloc: Global,
+    tx: &mut Transaction<'_, S>,
+    facts: &Facts,
+) -> Result<ListView, ReadFault>
+    ensures same_reference { tx.new.conn.ghost_name ≡ tx.old.conn.ghost_name }
+    ensures value { DoesInside S.Store tx.old.conn.now tx.new.conn.now result
+        (λ view. ReadsTables (λ t. ShowsLists view t (keys_of facts.now))) }
+    ensures only { IfOk result (λ view. HoldsNoOther view (keys_of facts.now)) }
+    ensures kept { CommitsNothing S.Store tx.old.conn.now tx.new.conn.now }
+    ensures survives { Spares S.Store tx.old.conn.now tx.new.conn.now }
+{
+    let digests = [facts.digest, facts.signing];
+    let carried = facts.carried.as_slice();
+    let listed = Digests {
+        images: slice::from_ref(&facts.digest),
+        certificates: carried,
+    };
+    let revoked = Digests {
+        images: &digests,
+        certificates: carried,
+    };
+    rows_of(alloc, tx, listed, revoked, facts.components.as_slice())
 }

@@ -5,7 +5,7 @@ ghost use Rattle.store_views.specs.lists.Gathering.{ShowsListed, keys_of, entry_
 ghost use Rattle.store_views.specs.lists.Lists.{HoldsNoOther};
 ghost use Rattle.store_reads.specs.Reads.{ReadsTables};
 ghost use Rattle.desk_rules.specs.Views.{ShowsLists, keys_for};
-ghost use Rattle.store_sql.specs.States.{DoesInside, CommitsNothing, Spares, StaysInside};
+ghost use Rattle.store_sql.specs.States.{DoesInside, CommitsNothing, Spares};
 
 use crate::lists::gathering::{gather_components, gather_listed, gather_revoked};
 use crate::lists::keys::Digests;
@@ -14,7 +14,7 @@ use desk_texts::{ListedKind, Listing};
 use sbat::Component;
 use sqlite::{Alter, Transaction};
 use std::alloc::Global;
-use store_reads::{ReadFault, own_row};
+use store_reads::ReadFault;
 
 /// The keys of the listed entries that have these digests.
 fn listings<S: Alter>(
@@ -43,8 +43,7 @@ fn listings<S: Alter>(
     Ok(rows)
 }
 
-/// The rows of the lists that have these keys. It reads the desk's row first, so that only an open
-/// store gives Ok, even if there is no key.
+/// The rows of the lists that have these keys.
 pub(crate) fn rows_of<S: Alter>(
     alloc: Global,
     tx: &mut Transaction<'_, S>,
@@ -58,11 +57,9 @@ pub(crate) fn rows_of<S: Alter>(
         (keys_of listed.entry revoked.entry named.now))) }
     ensures only { IfOk result (λ view.
         HoldsNoOther view (keys_of listed.entry revoked.entry named.now)) }
-    ensures inside { StaysInside S.Store tx.old.conn.now tx.new.conn.now result }
     ensures kept { CommitsNothing S.Store tx.old.conn.now tx.new.conn.now }
     ensures survives { Spares S.Store tx.old.conn.now tx.new.conn.now }
 {
-    own_row(alloc, tx)?;
     let listed = listings(alloc, tx, listed)?;
     let mut images = Vec::new(alloc);
     gather_revoked(alloc, tx, ListedKind::Digest, revoked.images, &mut images)?;

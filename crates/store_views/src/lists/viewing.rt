@@ -7,7 +7,7 @@ ghost use Rattle.desk_rules.specs.Views.{ShowsLists, keys_of};
 ghost use Rattle.store_sql.specs.States.{DoesInside, CommitsNothing, Spares, StaysInside};
 
 use crate::lists::keys::Digests;
-use crate::lists::naming::{import_view, listed_view, revoked_view, submission_view};
+use crate::lists::naming::{image_view, import_view, listed_view, revoked_view, submission_view};
 use crate::lists::reading::rows_of;
 use desk_history::ProposalRow;
 use desk_rules::ListView;
@@ -15,12 +15,12 @@ use desk_texts::{Command, Facts, ListedKind};
 use sqlite::{Alter, Transaction};
 use std::alloc::Global;
 use std::slice;
-use store_reads::ReadFault;
+use store_reads::{ReadFault, own_row};
 
 /// The rows of the lists that an image's facts name: the listed entry of its digest and those of
 /// the certificates that it carries, the revocations of its two digests and of these certificates,
 /// and the level's components that it names. Takes memory for them. Costs one keyed statement for
-/// each.
+/// each, after one for the desk's own row: so only an open store gives Ok, whatever the facts name.
 pub fn list_view<S: Alter>(
     alloc: Global,
     tx: &mut Transaction<'_, S>,
@@ -34,22 +34,14 @@ pub fn list_view<S: Alter>(
     ensures kept { CommitsNothing S.Store tx.old.conn.now tx.new.conn.now }
     ensures survives { Spares S.Store tx.old.conn.now tx.new.conn.now }
 {
-    let digests = [facts.digest, facts.signing];
-    let carried = facts.carried.as_slice();
-    let listed = Digests {
-        images: slice::from_ref(&facts.digest),
-        certificates: carried,
-    };
-    let revoked = Digests {
-        images: &digests,
-        certificates: carried,
-    };
-    rows_of(alloc, tx, listed, revoked, facts.components.as_slice())
+    own_row(alloc, tx)?;
+    let view = image_view(alloc, tx, facts)?;
+    Ok(view)
 }
 
 /// The rows of the lists that the command names, or, for a Confirm, those that its proposal, of
 /// this row, names. Takes memory for them. Costs one keyed statement for each key.
-pub fn lists_asked<S: Alter>(
+pub(crate) fn lists_asked<S: Alter>(
     alloc: Global,
     tx: &mut Transaction<'_, S>,
     command: &Command,
@@ -61,7 +53,6 @@ pub fn lists_asked<S: Alter>(
         ShowsLists view t (keys_with command.now (λ k. option_copied proposal.entry)))) }
     ensures only { IfOk result (λ view.
         HoldsNoOther view (keys_with command.now (λ k. option_copied proposal.entry))) }
-    ensures inside { StaysInside S.Store tx.old.conn.now tx.new.conn.now result }
     ensures kept { CommitsNothing S.Store tx.old.conn.now tx.new.conn.now }
     ensures survives { Spares S.Store tx.old.conn.now tx.new.conn.now }
 {
@@ -70,7 +61,7 @@ pub fn lists_asked<S: Alter>(
             rows_of(alloc, tx, Digests::none(), Digests::none(), &[])
         }
         Command::Submit(submission) => submission_view(alloc, tx, &submission.facts),
-        Command::Return(returned) => list_view(alloc, tx, &returned.facts),
+        Command::Return(returned) => image_view(alloc, tx, &returned.facts),
         Command::ListCertificate(certificate) => {
             listed_view(alloc, tx, ListedKind::Certificate, certificate.tbs())
         }

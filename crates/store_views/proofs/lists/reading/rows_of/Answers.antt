@@ -12,37 +12,31 @@ use Rattle.store_views.proofs.lists.reading.rows_of.Goals as goal
 pub returns-clause-value : goal.returns-clause-value
 returns-clause-value g c clean inside =
     let at0 = state g.S.Store c.args.tx.now.conn.now in
-    let at1 = state g.S.Store c.own_row.new.tx.conn.now in
-    let at2 = state g.S.Store c.listings.new.tx.conn.now in
-    let at3 = state g.S.Store c.gather_revoked.new.tx.conn.now in
-    let at4 = state g.S.Store c.gather_revoked-2.new.tx.conn.now in
-    let at5 = state g.S.Store c.gather_components.new.tx.conn.now in
-    let own = c.in_ok-own_row.ensures in
+    let at1 = state g.S.Store c.listings.new.tx.conn.now in
+    let at2 = state g.S.Store c.gather_revoked.new.tx.conn.now in
+    let at3 = state g.S.Store c.gather_revoked-2.new.tx.conn.now in
+    let at4 = state g.S.Store c.gather_components.new.tx.conn.now in
     let listed = c.in_ok-listed.ensures in
     let images = c.in_ok-gather_revoked.ensures in
     let certificates = c.in_ok-gather_revoked-2.ensures in
     let components = c.in_ok-gather_components.ensures in
-    let clean4 : HasCleanDisk at4 = omega (arith, components.survives.clean, clean) in
-    let clean3 : HasCleanDisk at3 = omega (arith, certificates.survives.clean, clean4) in
-    let clean2 : HasCleanDisk at2 = omega (arith, images.survives.clean, clean3) in
-    let clean1 : HasCleanDisk at1 = omega (arith, listed.survives.clean, clean2) in
-    let a = own.value clean1 inside in
-    let b = listed.value clean2 a.kept.inside in
-    let d = images.value clean3 b.kept.inside in
-    let e = certificates.value clean4 d.kept.inside in
+    let clean3 : HasCleanDisk at3 = omega (arith, components.survives.clean, clean) in
+    let clean2 : HasCleanDisk at2 = omega (arith, certificates.survives.clean, clean3) in
+    let clean1 : HasCleanDisk at1 = omega (arith, images.survives.clean, clean2) in
+    let b = listed.value clean1 inside in
+    let d = images.value clean2 b.kept.inside in
+    let e = certificates.value clean3 d.kept.inside in
     let f = components.value clean e.kept.inside in
     record {
-      kept = changes_then desk_schema contents at0 at1 at5 (λ t. t) (λ t. t) a.kept
-          (changes_then desk_schema contents at1 at2 at5 (λ t. t) (λ t. t) b.kept
-          (changes_then desk_schema contents at2 at3 at5 (λ t. t) (λ t. t) d.kept
-          (changes_then desk_schema contents at3 at4 at5 (λ t. t) (λ t. t) e.kept f.kept)));
+      kept = changes_then desk_schema contents at0 at1 at4 (λ t. t) (λ t. t) b.kept
+          (changes_then desk_schema contents at1 at2 at4 (λ t. t) (λ t. t) d.kept
+          (changes_then desk_schema contents at2 at3 at4 (λ t. t) (λ t. t) e.kept f.kept));
       tells = λ t sees.
-          let sees1 = a.kept.value t sees in
-          let sees2 = b.kept.value t sees1 in
-          let sees3 = d.kept.value t sees2 in
-          let sees4 = e.kept.value t sees3 in
-          shows_lists _ (keys_of c.args.listed c.args.revoked c.args.named.now) t (b.tells t sees1)
-          (gathered_revoked kinds.Digest c.args.revoked.images.now c.new-images.result.items c.gather_revoked.new.rows.items c.new-images.ensures.items t (d.tells t sees2))
-          (gathered_revoked kinds.Certificate c.args.revoked.certificates.now c.new-certificates.result.items c.gather_revoked-2.new.rows.items c.new-certificates.ensures.items t (e.tells t sees3))
-          (gathered_components c.args.named.now c.new-components.result.items c.gather_components.new.rows.items c.new-components.ensures.items t (f.tells t sees4));
+          let sees1 = b.kept.value t sees in
+          let sees2 = d.kept.value t sees1 in
+          let sees3 = e.kept.value t sees2 in
+          shows_lists _ (keys_of c.args.listed c.args.revoked c.args.named.now) t (b.tells t sees)
+          (gathered_revoked kinds.Digest c.args.revoked.images.now c.new-images.result.items c.gather_revoked.new.rows.items c.new-images.ensures.items t (d.tells t sees1))
+          (gathered_revoked kinds.Certificate c.args.revoked.certificates.now c.new-certificates.result.items c.gather_revoked-2.new.rows.items c.new-certificates.ensures.items t (e.tells t sees2))
+          (gathered_components c.args.named.now c.new-components.result.items c.gather_components.new.rows.items c.new-components.ensures.items t (f.tells t sees3));
     }
