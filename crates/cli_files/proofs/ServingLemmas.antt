@@ -1,11 +1,10 @@
 -- Refusals that stop a subcommand at an open desk: none of them is an opening's.
-use Rattle.std.proofs.Common.{◌≡◌, ◌∙◌, ◌⊎◌, IsTrue, Result, Ok, Err, false, sym, subst, inl, inr}
+use Rattle.std.proofs.Common.{◌⊎◌, IsTrue, Result, Ok, Err, arith, false, subst, inl, inr}
 use Rattle.std.specs.Prelude.{IfErr}
 use Rattle.desk_bytes.specs.declared.refusal.Refusal.{Refusal}
-use Rattle.desk_bytes.specs.declared.refusal.Refusal.TheVariants as refusals
 use Rattle.cli_lines.specs.declared.fault.Fault.{Fault}
 use Rattle.http_net.specs.Faults.{IsAnsweringRefusal, IsServingRefusal}
-use Rattle.cli_files.specs.Faults.{IsOfOpening, IsOpeningRefusal}
+use Rattle.cli_files.specs.Faults.{IsImageFault, IsJudgingFault, IsOfOpening, IsOpeningRefusal, IsUnreadRefusal}
 use Rattle.desk_history.specs.DecisionRefusals.{may_answer}
 use Rattle.cli_commands.specs.Faults.{IsAddingRefusal, IsRow, IsWritingRefusal}
 use Rattle.cli_commands.specs.declared.ending.Outcome.{Outcome}
@@ -23,20 +22,10 @@ never_of_opening P apart (Ok outcome) h = tt
 never_of_opening P apart (Err fault) h = λ opening. apart fault.refusal h.1 opening
 
 pub served_apart : {X : Type 0} (refusal : Refusal) → IsServingRefusal refusal → IsOfOpening refusal → X
-served_apart refusal (inl (inl s)) (inl n) = let bad : refusals.Store ≡ refusals.NotADesk = sym s ∙ n in absurd (cc)
-served_apart refusal (inl (inl s)) (inr v) = let bad : refusals.Store ≡ refusals.Version = sym s ∙ v in absurd (cc)
-served_apart refusal (inl (inr o)) (inl n) = let bad : refusals.Reopen ≡ refusals.NotADesk = sym o ∙ n in absurd (cc)
-served_apart refusal (inl (inr o)) (inr v) = let bad : refusals.Reopen ≡ refusals.Version = sym o ∙ v in absurd (cc)
-served_apart refusal (inr r) (inl n) = let bad : refusals.Read ≡ refusals.NotADesk = sym r ∙ n in absurd (cc)
-served_apart refusal (inr r) (inr v) = let bad : refusals.Read ≡ refusals.Version = sym r ∙ v in absurd (cc)
+served_apart refusal served opening = grind arith
 
 pub answering_apart : {X : Type 0} (refusal : Refusal) → IsAnsweringRefusal refusal → IsOfOpening refusal → X
-answering_apart refusal (inl lasting) opening = served_apart refusal (inl lasting) opening
-answering_apart refusal (inr (inl r)) opening = served_apart refusal (inr r) opening
-answering_apart refusal (inr (inr (inl w))) (inl n) = let bad : refusals.Write ≡ refusals.NotADesk = sym w ∙ n in absurd (cc)
-answering_apart refusal (inr (inr (inl w))) (inr v) = let bad : refusals.Write ≡ refusals.Version = sym w ∙ v in absurd (cc)
-answering_apart refusal (inr (inr (inr m))) (inl n) = let bad : refusals.NoMemory ≡ refusals.NotADesk = sym m ∙ n in absurd (cc)
-answering_apart refusal (inr (inr (inr m))) (inr v) = let bad : refusals.NoMemory ≡ refusals.Version = sym m ∙ v in absurd (cc)
+answering_apart refusal answering opening = grind arith
 
 pub adding_apart : {X : Type 0} (refusal : Refusal) → IsAddingRefusal refusal → IsOfOpening refusal → X
 adding_apart refusal (inl o) opening = served_apart refusal (inl (inr o)) opening
@@ -46,7 +35,28 @@ adding_apart refusal (inr (inl (inr s))) opening = served_apart refusal (inl (in
 adding_apart refusal (inr (inr w)) opening = answering_apart refusal (inr (inr (inl w))) opening
 
 pub writing_apart : {X : Type 0} (refusal : Refusal) → IsWritingRefusal refusal → IsOfOpening refusal → X
-writing_apart refusal (inl o) opening = served_apart refusal (inl (inr o)) opening
-writing_apart refusal (inr (inl (inl m))) opening = answering_apart refusal (inr (inr (inr m))) opening
-writing_apart refusal (inr (inl (inr s))) opening = served_apart refusal (inl (inl s)) opening
-writing_apart refusal (inr (inr w)) opening = answering_apart refusal (inr (inr (inl w))) opening
+writing_apart refusal writing opening = grind arith
+
+pub unread_apart : {X : Type 0} (refusal : Refusal) → IsUnreadRefusal refusal → IsOfOpening refusal → X
+unread_apart refusal unread opening = grind arith
+
+-- nor is the fault of an image
+pub image_apart : {X : Type 0} (fault : Fault) → IsImageFault fault → IsOfOpening fault.refusal → X
+image_apart fault why opening = grind arith
+
+-- nor what stops a verdict
+pub judging_apart : (X : Type 0) (work : Result Outcome Fault) → IfErr work IsJudgingFault → IfErr work (λ fault. IsOfOpening fault.refusal → X)
+judging_apart X (Ok outcome) h = tt
+judging_apart X (Err fault) (inl (inl unread)) = unread_apart fault.refusal unread.1
+judging_apart X (Err fault) (inl (inr image)) = image_apart fault image
+judging_apart X (Err fault) (inr unwritten) = writing_apart fault.refusal unwritten.1
+
+-- what stops the judging of an open desk stops a verdict
+pub judging_unwritten : (work : Result Outcome Fault) → IfErr work (IsRow IsWritingRefusal) → IfErr work IsJudgingFault
+judging_unwritten (Ok outcome) h = tt
+judging_unwritten (Err fault) h = inr h
+
+pub judging_also : (work : Result Outcome Fault) → IfErr work IsJudgingFault
+    → IfErr work (λ fault. IsRow IsOpeningRefusal fault ⊎ IsJudgingFault fault)
+judging_also (Ok outcome) h = tt
+judging_also (Err fault) h = inr h

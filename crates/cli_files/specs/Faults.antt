@@ -2,12 +2,29 @@
 use Rattle.std.specs.Prelude.{◌≡◌, ◌⊎◌}
 use Rattle.desk_bytes.specs.declared.refusal.Refusal.{Refusal}
 use Rattle.desk_bytes.specs.declared.refusal.Refusal.TheVariants as refusals
+use Rattle.cli_lines.specs.Faults.{of_facts}
+use Rattle.cli_lines.specs.declared.fault.Fault.{Fault}
+use Rattle.desk_service.specs.declared.fault.FactsFault.{FactsFault}
+use Rattle.cli_commands.specs.Faults.{IsRow, IsWritingRefusal}
 use Rattle.store_reads.specs.Failures.{IsFailure}
 use Rattle.desk_store.specs.Steps.{IsReadRefusal}
 
 -- own: a file can't be opened, or memory was refused
 abbrev pub IsFileRefusal : Refusal → Type 0
 IsFileRefusal refusal = (refusal ≡ refusals.NoMemory) ⊎ (refusal ≡ refusals.File)
+
+-- own: a file isn't read to its end: it can't be opened, memory was refused, or a read failed
+abbrev pub IsUnreadRefusal : Refusal → Type 0
+IsUnreadRefusal refusal = IsFileRefusal refusal ⊎ (refusal ≡ refusals.Read)
+
+-- an image has no facts: its row of the table, with the line of its SBAT text if that is wrong
+abbrev pub IsImageFault : Fault → Type 0
+IsImageFault fault = (why : FactsFault) × (fault ≡ of_facts why)
+
+-- own: an image isn't judged: its file isn't read, it has no facts, or the open desk's answer isn't
+-- written
+abbrev pub IsJudgingFault : Fault → Type 0
+IsJudgingFault fault = (IsRow IsUnreadRefusal fault ⊎ IsImageFault fault) ⊎ IsRow IsWritingRefusal fault
 
 -- own: no desk is made: the file fails, it has tables already, or a device fails
 abbrev pub IsMakingRefusal : Refusal → Type 0

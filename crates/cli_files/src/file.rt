@@ -1,5 +1,7 @@
 //! Files read to their end.
-ghost use Rattle.std.specs.Prelude.{◌+◌, ◌≤◌, length, IfOk};
+ghost use Rattle.std.specs.Prelude.{◌≡◌, ◌⊎◌, ◌+◌, ◌≤◌, length, IfErr, IfOk};
+ghost use Rattle.cli_files.specs.Faults.{IsFileRefusal, IsUnreadRefusal};
+ghost use Rattle.cli_commands.specs.Faults.{IsRow};
 
 use cli_lines::{Fault, MOST_BYTES};
 use desk_bytes::{LONGEST_IMAGE, Refusal, read_all};
@@ -8,7 +10,9 @@ use std::rt::Files;
 use std::{fs, io};
 
 /// Opens a file.
-fn open<R: Files + AllocGlobal>(rt: &R, path: &str) -> Result<R::File, Fault> {
+fn open<R: Files + AllocGlobal>(rt: &R, path: &str) -> Result<R::File, Fault>
+    ensures { IfErr result (IsRow IsFileRefusal) }
+{
     match fs::open(rt, path) {
         Ok(file) => Ok(file),
         Err(error) if error.kind() == io::ErrorKind::OutOfMemory => {
@@ -18,9 +22,14 @@ fn open<R: Files + AllocGlobal>(rt: &R, path: &str) -> Result<R::File, Fault> {
     }
 }
 
-/// All bytes of a file. TooLong: it has more than `MOST_BYTES`.
+/// All bytes of a file.
+///
+/// File: it can't be opened, which includes that it doesn't exist. Read: a read failed or was
+/// interrupted. NoMemory: memory was refused. TooLong: it has more than `MOST_BYTES`.
 pub fn read_file<R: Files + AllocGlobal>(rt: &R, path: &str) -> Result<Vec<u8>, Fault>
     ensures bound { IfOk result (λ bytes. length bytes.items ≤ MOST_BYTES) }
+    ensures named { IfErr result (IsRow (λ refusal.
+        IsUnreadRefusal refusal ⊎ (refusal ≡ Refusal.TooLong))) }
 {
     let mut file = open(rt, path)?;
     Ok(read_all(rt.alloc(), &mut file, MOST_BYTES)?)
@@ -28,8 +37,11 @@ pub fn read_file<R: Files + AllocGlobal>(rt: &R, path: &str) -> Result<Vec<u8>, 
 
 /// An image's file, in pieces. Of a file that is too long for an image, `LONGEST_IMAGE` bytes and
 /// one more are read; its layout is then refused for its length.
+///
+/// File, Read, NoMemory: as for `read_file`.
 pub fn read_image<R: Files + AllocGlobal>(rt: &R, path: &str) -> Result<Pieces, Fault>
     ensures bound { IfOk result (λ bytes. length bytes ≤ LONGEST_IMAGE + 1) }
+    ensures named { IfErr result (IsRow IsUnreadRefusal) }
 {
     let mut file = open(rt, path)?;
     Ok(Pieces::take(rt.alloc(), &mut file, LONGEST_IMAGE + 1)?)

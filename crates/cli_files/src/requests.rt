@@ -61,8 +61,13 @@ fn answer_at<D: Disk + Drop, R: Read + Drop, W: Write>(
     ended(desk.into_desk(), work)
 }
 
-/// Answers one request of the reader by this table of paths, for the desk in a file.
-fn answer_by<R: Read + Drop, W: Write>(
+/// Answers one request of the reader by this table of paths, for the desk in a file; if the reader
+/// has no byte, nothing is written. The work is done, whatever the response, unless the desk must be
+/// opened again after it: then the fault is Store or Reopen.
+///
+/// The faults of the desk's file come first, as for `add_person`. Read, NoMemory: the request
+/// wasn't read. Write: a prefix of the response was written, and the answer's changes stay.
+pub fn answer_from<R: Read + Drop, W: Write>(
     rt: &HostRuntime,
     routes: &Routes,
     path: &str,
@@ -83,35 +88,6 @@ fn answer_by<R: Read + Drop, W: Write>(
     match open(rt, path) {
         Ok(desk) => answer_at(rt.alloc(), routes, desk, reader, writer),
         Err(refusal) => Ending::without_desk(refusal),
-    }
-}
-
-/// Answers one request of the reader, for the desk in a file; if the reader has no byte, nothing is
-/// written. The work is done, whatever the response, unless the desk must be opened again after it:
-/// then the fault is Store or Reopen.
-///
-/// The faults of the desk's file come first, as for `add_person`. Read, NoMemory: the request
-/// wasn't read. Write: a prefix of the response was written, and the answer's changes stay.
-pub fn answer_from<R: Read + Drop, W: Write>(
-    rt: &HostRuntime,
-    path: &str,
-    reader: R,
-    writer: &mut W,
-) -> Ending
-    ensures answered { (IsUnopened result × Keeps (W.contents writer.old) (W.contents writer.new))
-        ⊎ AtADesk (AnswersOnce ⟦<File as Disk>⟧ (R.remaining reader)
-        (W.contents writer.old) (W.contents writer.new) result) }
-    ensures done { IfOk result.work (λ outcome. outcome ≡ Outcome.Done) }
-    ensures named { IfErr result.work (IsRow (λ refusal.
-        IsOpeningRefusal refusal ⊎ IsAnsweringRefusal refusal)) }
-    ensures first { IfErr result.work (λ fault. IsOfOpening fault.refusal
-        → (result.closing ≡ None) × Keeps (W.contents writer.old) (W.contents writer.new)) }
-    ensures closing { IfSome result.closing (IsRow IsClosingRefusal) }
-    ensures let_go { IfErr result.work (λ fault. IsLasting fault.refusal → result.closing ≡ None) }
-{
-    match Routes::new(rt.alloc()) {
-        Ok(routes) => answer_by(rt, &routes, path, reader, writer),
-        Err(_) => Ending::without_desk(Refusal::NoMemory),
     }
 }
 
@@ -171,9 +147,13 @@ fn serve_at<D: Disk + Drop>(
     ended(desk.into_desk(), work)
 }
 
-/// Serves `count` connections at this port of 127.0.0.1 by this table of paths, for the desk in a
-/// file.
-fn serve_by(rt: &HostRuntime, routes: &Routes, path: &str, port: u16, count: u32) -> Ending
+/// Serves `count` connections at this port of 127.0.0.1 by this table of paths, one request each,
+/// one after another, for the desk in a file. A fault of one connection ends only that connection.
+///
+/// The faults of the desk's file come first, as for `add_person`. Read: the port couldn't be
+/// opened, or no connection could be accepted. Store, Reopen: that response was written, and the
+/// desk must be opened again.
+pub fn serve_from(rt: &HostRuntime, routes: &Routes, path: &str, port: u16, count: u32) -> Ending
     ensures served { IsUnopened result ⊎ AtADesk (Serves ⟦<File as Disk>⟧ count result) }
     ensures done { IfOk result.work (λ outcome. outcome ≡ Outcome.Done) }
     ensures named { IfErr result.work (IsRow (λ refusal.
@@ -185,26 +165,5 @@ fn serve_by(rt: &HostRuntime, routes: &Routes, path: &str, port: u16, count: u32
     match open(rt, path) {
         Ok(desk) => serve_at(rt, routes, desk, port, count),
         Err(refusal) => Ending::without_desk(refusal),
-    }
-}
-
-/// Serves `count` connections at this port of 127.0.0.1, one request each, one after another, for
-/// the desk in a file. A fault of one connection ends only that connection.
-///
-/// The faults of the desk's file come first, as for `add_person`. Read: the port couldn't be
-/// opened, or no connection could be accepted. Store, Reopen: that response was written, and the
-/// desk must be opened again.
-pub fn serve_from(rt: &HostRuntime, path: &str, port: u16, count: u32) -> Ending
-    ensures served { IsUnopened result ⊎ AtADesk (Serves ⟦<File as Disk>⟧ count result) }
-    ensures done { IfOk result.work (λ outcome. outcome ≡ Outcome.Done) }
-    ensures named { IfErr result.work (IsRow (λ refusal.
-        IsOpeningRefusal refusal ⊎ IsServingRefusal refusal)) }
-    ensures first { IfErr result.work (λ fault. IsOfOpening fault.refusal → result.closing ≡ None) }
-    ensures closing { IfSome result.closing (IsRow IsClosingRefusal) }
-    ensures let_go { IfErr result.work (λ fault. IsLasting fault.refusal → result.closing ≡ None) }
-{
-    match Routes::new(rt.alloc()) {
-        Ok(routes) => serve_by(rt, &routes, path, port, count),
-        Err(_) => Ending::without_desk(Refusal::NoMemory),
     }
 }

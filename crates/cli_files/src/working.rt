@@ -9,7 +9,8 @@ ghost use Rattle.cli_lines.specs.Faults.{row_of};
 ghost use Rattle.desk_service.specs.ImageFacts.{IsFactsOf};
 ghost use Rattle.store_sql.specs.States.{Spares};
 ghost use Rattle.desk_store.specs.Desks.{KeepsDesk};
-ghost use Rattle.cli_files.specs.Faults.{IsLasting, IsMakingRefusal, IsOfOpening, IsOpeningRefusal};
+ghost use Rattle.cli_files.specs.Faults.{IsImageFault, IsJudgingFault, IsLasting, IsMakingRefusal};
+ghost use Rattle.cli_files.specs.Faults.{IsOfOpening, IsOpeningRefusal, IsUnreadRefusal};
 ghost use Rattle.cli_files.specs.Works.{AtADesk, Calls, Exports, IsUnopened, Judges, JudgesImage};
 ghost use Rattle.cli_files.specs.Works.{MakesDesk, adding};
 ghost use Rattle.cli_commands.specs.Faults.{IsAddingRefusal, IsClosingRefusal, IsRow};
@@ -98,7 +99,8 @@ pub fn add_person<W: Write>(
 
 /// The facts of the image in a file that the desk keeps.
 fn facts_in<R: Files + AllocGlobal>(rt: &R, file: &str) -> Result<Facts, Fault>
-    ensures { IfOk result (λ found. (image : List ℕ) × IsFactsOf image found) }
+    ensures found { IfOk result (λ found. (image : List ℕ) × IsFactsOf image found) }
+    ensures named { IfErr result (λ fault. IsRow IsUnreadRefusal fault ⊎ IsImageFault fault) }
 {
     let mut image = read_image(rt, file)?;
     Ok(facts(rt.alloc(), &mut image)?)
@@ -113,6 +115,7 @@ fn judge_file<S: Alter + Drop, W: Write>(
 ) -> Result<Outcome, Fault>
     ensures told { IfOk result (JudgesImage S.Store desk.old desk.new
         (W.contents writer.old) (W.contents writer.new)) }
+    ensures named { IfErr result IsJudgingFault }
     ensures same { HasCleanDisk (state S.Store desk.new.conn)
         → result ≢ Err (row_of Refusal.Store) → KeepsDesk S.Store desk.old desk.new }
     ensures spares { Spares S.Store desk.old.conn desk.new.conn }
@@ -131,6 +134,7 @@ fn judge_at<D: Disk + Drop, W: Write>(
     writer: &mut W,
 ) -> Ending
     ensures judged { Judges D.Disk (W.contents writer.old) (W.contents writer.new) result desk }
+    ensures named { IfErr result.work IsJudgingFault }
     ensures closing { IfSome result.closing (IsRow IsClosingRefusal) }
     ensures let_go { IfErr result.work (λ fault. IsLasting fault.refusal → result.closing ≡ None) }
 {
@@ -141,11 +145,16 @@ fn judge_at<D: Disk + Drop, W: Write>(
 /// Writes the verdict of the desk in a file on the image in another: `allowed`, or `refused` and
 /// why, and LF. The desk doesn't change.
 ///
-/// The faults of the desk's file come first, as for `add_person`; then the refusal of the image.
+/// The faults of the desk's file come first, as for `add_person`; then those of the image's file
+/// (File, Read, NoMemory), then the refusal of the image, then Store, Reopen or Write.
 pub fn judge_image<W: Write>(rt: &HostRuntime, path: &str, file: &str, writer: &mut W) -> Ending
     ensures judged { (IsUnopened result × Keeps (W.contents writer.old) (W.contents writer.new))
         ⊎ AtADesk (Judges ⟦<File as Disk>⟧
         (W.contents writer.old) (W.contents writer.new) result) }
+    ensures named { IfErr result.work (λ fault.
+        IsRow IsOpeningRefusal fault ⊎ IsJudgingFault fault) }
+    ensures first { IfErr result.work (λ fault. IsOfOpening fault.refusal
+        → (result.closing ≡ None) × Keeps (W.contents writer.old) (W.contents writer.new)) }
     ensures closing { IfSome result.closing (IsRow IsClosingRefusal) }
     ensures let_go { IfErr result.work (λ fault. IsLasting fault.refusal → result.closing ≡ None) }
 {

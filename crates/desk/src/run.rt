@@ -8,6 +8,7 @@ use cli_words::{PersonWords, ServeWords, Stop, Words, owner_from, person_from, p
 use desk_bytes::{Guid, Refusal, WriteFailed};
 use desk_exports::Export;
 use desk_service::facts;
+use http_requests::Routes;
 use siglist::pack;
 use std::alloc::Global;
 use std::io::{BufWriter, Read, Write};
@@ -92,16 +93,28 @@ fn run_person(rt: &HostRuntime, words: PersonWords<'_>) -> Result<Ending, Stop> 
     Ok(add_person(rt, db, &key, person, &mut out))
 }
 
+/// The table of paths.
+fn paths(alloc: Global) -> Result<Routes, Fault> {
+    Routes::new(alloc).map_err(|_| Fault::from(Refusal::NoMemory))
+}
+
 /// Serves requests, one connection after another.
 fn run_serve(rt: &HostRuntime, words: ServeWords<'_>) -> Result<Ending, Stop> {
     let ServeWords { db, port, count } = words;
     let place = place_from(port, count)?;
-    Ok(serve_from(rt, db, place.port, place.count))
+    let routes = paths(rt.alloc())?;
+    Ok(serve_from(rt, &routes, db, place.port, place.count))
+}
+
+/// Answers the request on the standard input by this table of paths.
+fn answer_input(rt: &HostRuntime, routes: &Routes, db: &str) -> Ending {
+    answer_from(rt, routes, db, rt.stdin(), &mut rt.stdout())
 }
 
 /// Answers the request on the standard input.
 fn run_answer(rt: &HostRuntime, db: &str) -> Result<Ending, Stop> {
-    Ok(answer_from(rt, db, rt.stdin(), &mut rt.stdout()))
+    let routes = paths(rt.alloc())?;
+    Ok(answer_input(rt, &routes, db))
 }
 
 /// Prints a verdict.

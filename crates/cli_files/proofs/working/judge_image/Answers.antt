@@ -1,5 +1,6 @@
 use Rattle.std.proofs.Common.{inl, inr, refl}
 use Rattle.std.proofs.KnownBytes.{Keeps-refl}
+use Rattle.cli_files.proofs.ServingLemmas.{judging_also, judging_apart}
 use Rattle.cli_files.proofs.working.judge_image.Goals as goal
 
 -- the desk was opened
@@ -7,6 +8,12 @@ use Rattle.cli_files.proofs.working.judge_image.Goals as goal
 pub returns-in-Ok-clause-judged : goal.returns-in-Ok-clause-judged
 returns-in-Ok-clause-judged g c =
     inr (record { desk = c.in-Ok.desk; opened = c.in-Ok.ensures.opened; done = c.judge_at.ensures.judged })
+
+pub returns-in-Ok-clause-named : goal.returns-in-Ok-clause-named
+returns-in-Ok-clause-named g c = judging_also c.judge_at.result.work c.judge_at.ensures.named
+
+pub returns-in-Ok-clause-first : goal.returns-in-Ok-clause-first
+returns-in-Ok-clause-first g c = judging_apart _ c.judge_at.result.work c.judge_at.ensures.named
 
 pub returns-in-Ok-clause-closing : goal.returns-in-Ok-clause-closing
 returns-in-Ok-clause-closing g c = c.judge_at.ensures.closing
@@ -18,6 +25,12 @@ returns-in-Ok-clause-let_go g c = c.judge_at.ensures.let_go
 
 pub returns-in-Err-clause-judged : goal.returns-in-Err-clause-judged
 returns-in-Err-clause-judged g c = inl ((c.in-Err.refusal, c.in-Err.ensures.named, c.without_desk.ensures), Keeps-refl _)
+
+pub returns-in-Err-clause-named : goal.returns-in-Err-clause-named
+returns-in-Err-clause-named g c = rw c.without_desk.ensures (inl (refl, c.in-Err.ensures.named))
+
+pub returns-in-Err-clause-first : goal.returns-in-Err-clause-first
+returns-in-Err-clause-first g c = rw c.without_desk.ensures (λ opening. (refl, Keeps-refl _))
 
 pub returns-in-Err-clause-closing : goal.returns-in-Err-clause-closing
 returns-in-Err-clause-closing g c = rw c.without_desk.ensures tt

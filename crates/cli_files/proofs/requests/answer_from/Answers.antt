@@ -2,7 +2,7 @@ use Rattle.std.proofs.Common.{inl, inr, refl}
 use Rattle.std.proofs.KnownBytes.{Keeps-refl}
 use Rattle.http_net.specs.Faults.{IsAnsweringRefusal}
 use Rattle.cli_files.proofs.ServingLemmas.{also, answering_apart, never_of_opening}
-use Rattle.cli_files.proofs.requests.answer_by.Goals as goal
+use Rattle.cli_files.proofs.requests.answer_from.Goals as goal
 
 -- the desk was opened
 

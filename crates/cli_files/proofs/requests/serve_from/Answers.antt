@@ -1,7 +1,7 @@
 use Rattle.std.proofs.Common.{inl, inr, refl}
 use Rattle.http_net.specs.Faults.{IsServingRefusal}
 use Rattle.cli_files.proofs.ServingLemmas.{also, never_of_opening, served_apart}
-use Rattle.cli_files.proofs.requests.serve_by.Goals as goal
+use Rattle.cli_files.proofs.requests.serve_from.Goals as goal
 
 -- the desk was opened
 
