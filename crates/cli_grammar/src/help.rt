@@ -140,8 +140,8 @@ Example:
 
 Exit status:
   0  the ranges are printed
-  1  refused: 1 Short to 9 Table, FILE is no EFI image that a desk takes;
-     13 TooLong, it is longer than 128 MiB
+  1  refused: 1 Short to 9 Table, 11 TwoSbat or 13 TooLong, FILE is no EFI
+     image that a desk takes
   2  an argument is missing or wrong
   3  a device failed: 45 File, FILE can't be opened";
 
@@ -209,7 +209,7 @@ Example:
 
 Exit status:
   0  the lists are printed
-  1  refused: 15 List or 16 EntrySize, at the offset where FILE holds no whole
+  1  refused: 15 List or 16 EntrySize, at the first offset where FILE holds no
      list; 13 TooLong, it is longer than 128 MiB
   2  an argument is missing or wrong
   3  a device failed: 45 File, FILE can't be opened";
