@@ -1,8 +1,8 @@
 #!/usr/bin/env python3
 """man.py PROGRAM DATE FOLDER: writes the manual pages desk.1 and desk-http.7 into the folder.
 
-What they say stands once: the subcommands in the program's help, formats and routes in docs/FORMATS.md, refusals in
-docs/REFUSALS.md, the service and its backup in packaging/README.md. This script sets them in man(7), tables in tbl(1).
+Each text has one source: the program's help for subcommands, docs/FORMATS.md for formats and routes, docs/REFUSALS.md
+for refusals, packaging/README.md for the service and its backup. This script sets them in man(7), tables in tbl(1).
 """
 
 import os
@@ -30,17 +30,18 @@ INPUT_AND_OUTPUT = [
 ]
 DESK = """\
 desk keeps the Secure Boot decisions of a distribution in one file: requests for a signature, their reviews, what is listed (db)
-and what is revoked (dbx, SBAT level). It takes calls over HTTP and on the command line, reads EFI images, gives verdicts and exports
-the bytes. One officer proposes a revocation, another one confirms it. The desk neither makes nor checks signatures. A command
-that was acknowledged is never lost, while nobody else writes the file and the disk keeps what it synced."""
+and what is revoked (dbx, SBAT level). It takes calls over HTTP and on the command line, reads EFI images, says whether they are
+allowed, and exports db, dbx and the level. One officer proposes a revocation, another one confirms it. The desk neither makes nor
+checks signatures. An acknowledged command is never lost, as long as nobody else writes the file and the disk keeps what it synced."""
 HTTP = """\
-`desk serve` and `desk answer` read one HTTP/1.1 request of each connection and write one response. Who calls is told by a token,
-which `desk person` adds; `Desk-Key` names a command, so that the same command under the same key acts once and is answered again."""
+`desk serve` reads one HTTP/1.1 request from each connection and writes one response; `desk answer` reads one from standard input.
+`Desk-Token` says who calls: it has the token that `desk person` was given. `Desk-Key` names a command: sent again under the same key,
+the same command gets the same answer and acts once."""
 ENVIRONMENT = """\
-`GLIBC_TUNABLES=glibc.malloc.hugetlb=1` has the C library ask for large pages, which makes a subcommand on a small desk quicker. The
+`GLIBC_TUNABLES=glibc.malloc.hugetlb=1` makes the C library ask for large pages, so that a subcommand on a small desk is quicker. The
 service sets it."""
 EXAMPLES = """\
-One officer raises a generation of the level, and another one confirms it:
+One officer proposes to raise a generation of the level, and another one confirms it:
 
     curl -H "Desk-Token: $(cat olga.token)" -H 'Desk-Key: k2' \\
         -d '{"component":"grub","generation":3,"stamp":2024010100}' \\
@@ -68,7 +69,7 @@ def breaking(code):
 
 
 def inline(text):
-    """A text with `code` and **strong** words."""
+    """The text in roff, with its `code` and **strong** words in bold."""
     parts = re.split(r"`([^`]+)`|\*\*([^*]+)\*\*", text)
     found = ""
     for before, code, strong in zip(parts[0::3], parts[1::3] + [None], parts[2::3] + [None]):
@@ -107,7 +108,7 @@ def width(cell):
 
 
 def table(rows):
-    """A table, whose first row is the head: by tbl(1), which fills the last column, or a list where that has no room."""
+    """A table, whose first row is the head: by tbl(1), which fills the last column, or as a list if that column has no room."""
     columns = list(zip(*rows))
     if sum(max(map(width, column)) for column in columns[:-1]) > WIDTH / 2:
         return listed(rows)
@@ -121,7 +122,7 @@ def table(rows):
 
 
 def listed(rows):
-    """A table as a list: the first cell of a row, and below it the others, by their heads where there are several."""
+    """A table as a list: the first cell of each row, and below it the others, with their heads if there are several."""
     found, heads = [], [head.split(",")[0] for head in rows[0][1:]]
     for row in rows[1:]:
         named = [(f"{head}: " if len(heads) > 1 else "") + cell for head, cell in zip(heads, row[1:]) if cell]
@@ -134,7 +135,7 @@ def cells(line):
 
 
 def roff(text):
-    """Markdown as this repository writes it: paragraphs, tables, lists, and text that is typed."""
+    """The roff of Markdown as this repository writes it: paragraphs, tables, lists, and text that is typed."""
     lines, found, at = text.strip("\n").split("\n"), [], 0
     while at < len(lines):
         line, begins = lines[at], at
@@ -165,7 +166,7 @@ def roff(text):
 
 
 def section(file, title):
-    """The part of a page of the repository below this title, without what it says of a crate."""
+    """The part of a page of the repository below this title, without the names of crates in parentheses."""
     with open(f"{ROOT}/{file}", encoding="utf-8") as page:
         parts = page.read().split(f"\n## {title}\n", 1)
     if len(parts) < 2:
@@ -181,7 +182,7 @@ def refusals():
 
 
 class Help:
-    """What the program's help says of itself and of its subcommands."""
+    """The program's help, and that of each subcommand."""
 
     def __init__(self, program):
         self.program = program
@@ -193,7 +194,7 @@ class Help:
         return subprocess.run([self.program, *words], check=True, stdout=subprocess.PIPE, text=True).stdout
 
     def of(self, subcommand):
-        """What it does, its arguments with what they are, the paragraphs below, an example, and the statuses with what they say."""
+        """What it does, its arguments and what they are, the paragraphs below, an example, and the exit statuses and what they mean."""
         text = self.said("help", subcommand)
         arguments = text.split("\nArguments:\n", 1)[1].split("\n\n", 1)[0]
         below = text.split("Print version\n\n", 1)[1].rstrip("\n")
@@ -208,7 +209,7 @@ class Help:
 
 
 def numbered(statuses):
-    """Exit statuses with what they say."""
+    """Exit statuses and what they mean."""
     found = []
     for status, text in statuses:
         found += [".TP", f"\\fB{status}\\fR"] + filled(text)
@@ -216,7 +217,7 @@ def numbered(statuses):
 
 
 def called(subcommand, words):
-    """A subcommand with the names of its words."""
+    """A subcommand with the names of its arguments."""
     return " ".join([f"\\fBdesk {subcommand}\\fR"] + ["\\fI" + name.strip("<>") + "\\fR" for name, _ in words])
 
 
@@ -281,7 +282,7 @@ def http_page(said, date):
             ("DESCRIPTION", roff(HTTP)),
             ("REQUESTS", roff(section("docs/FORMATS.md", "Requests of HTTP"))),
             ("RESPONSES", roff(section("docs/FORMATS.md", "Responses of HTTP"))),
-            ("REFUSALS", roff("A number and its name stay one refusal's for good.\n\n" + refusals())),
+            ("REFUSALS", roff("The number and the name of a refusal never change.\n\n" + refusals())),
             ("LIMITS AND FORMS", roff(section("docs/FORMATS.md", "Limits and forms"))),
             ("EXAMPLES", roff(EXAMPLES)),
             ("SEE ALSO", ["desk(1), curl(1)"]),

@@ -122,7 +122,7 @@ fn with_person<'a>(alloc: Global, command: Command<'a>) -> Result<Command<'a>, A
 {
     let name = Shown {
         name: "NAME",
-        help: "1 to 32 of a to z, 0 to 9 and -, first a letter",
+        help: "1 to 32 of a to z, 0 to 9 and -, the first a letter",
     };
     let role = Shown {
         name: "ROLE",
@@ -130,7 +130,7 @@ fn with_person<'a>(alloc: Global, command: Command<'a>) -> Result<Command<'a>, A
     };
     let key = Shown {
         name: "KEY",
-        help: "1 to 64 visible characters of ASCII, another for each call",
+        help: "1 to 64 visible characters of ASCII, a new one for each call",
     };
     with_one_more(
         alloc,

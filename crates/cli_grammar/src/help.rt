@@ -46,15 +46,16 @@ Options:
 Exit status: 0 done, 1 refused, 2 an argument is wrong, 3 a device failed";
 
 pub const INIT: &str = "\
-DB has to be missing, empty, or a database without tables. OWNER is the owner
-of every entry that the desk exports. Reads no input and prints nothing.
+DB has to be missing, empty, or a database without tables, indexes and views.
+OWNER is the owner of every entry that the desk exports. Reads no input and
+prints nothing.
 
 Example:
   desk init desk.db 00112233-4455-6677-8899-aabbccddeeff
 
 Exit status:
   0  the desk is made
-  1  refused: 46 Exists, DB has a table already
+  1  refused: 46 Exists, DB has a table, an index or a view already
   2  an argument is missing or wrong
   3  a device failed: 45 File, DB can't be opened";
 
@@ -68,8 +69,8 @@ Example:
 
 Exit status:
   0  the person is added
-  1  refused: 22 KeyReused, KEY named another call; 35 NameTaken, so is the
-     name or the token; 43 NotADesk, DB holds no desk
+  1  refused: 22 KeyReused, KEY named another call; 35 NameTaken, the name or
+     the token is taken; 43 NotADesk, DB holds no desk
   2  an argument or the token is missing or wrong
   3  a device failed: 45 File, DB is missing or in use";
 
@@ -89,8 +90,9 @@ Exit status:
 pub const SERVE: &str = "\
 Takes COUNT connections at PORT of 127.0.0.1, one after another, and ends. It
 reads one HTTP request of each and writes its response. A peer has 30 seconds
-for a request, and one more for each 64 KiB of it. What stops a connection ends
-that connection alone. Prints nothing.
+to send its request, and one more for each 64 KiB of it; then as long to take
+the response. A fault of a connection ends that connection alone. Prints
+nothing.
 
 Example:
   desk serve desk.db 8080 1000
@@ -104,7 +106,7 @@ Exit status:
 
 pub const ANSWER: &str = "\
 Reads one HTTP request from standard input and writes to standard output the
-response that `serve` would give; of no input, nothing.
+response that `serve` would give. Empty input gets no response.
 
 Example:
   desk answer desk.db < request.txt
@@ -138,8 +140,8 @@ Example:
 
 Exit status:
   0  the ranges are printed
-  1  refused: 1 Short to 9 Table, FILE is no EFI image that a desk takes;
-     13 TooLong, it is longer than 128 MiB
+  1  refused: 1 Short to 9 Table, 11 TwoSbat or 13 TooLong, FILE is no EFI
+     image that a desk takes
   2  an argument is missing or wrong
   3  a device failed: 45 File, FILE can't be opened";
 
@@ -160,7 +162,7 @@ Exit status:
 
 pub const DB: &str = "\
 Writes signature lists to standard output: one of all digests that are listed,
-then one for each certificate. Where nothing is listed, nothing.
+then one for each certificate. If nothing is listed, it writes nothing.
 
 Example:
   desk db desk.db > db.esl
@@ -174,7 +176,7 @@ Exit status:
 pub const DBX: &str = "\
 Writes signature lists to standard output: one of all digests that are revoked,
 then one of the revoked certificates, each by the SHA-256 of its
-TBSCertificate. Where nothing is revoked, nothing.
+TBSCertificate. If nothing is revoked, it writes nothing.
 
 Example:
   desk dbx desk.db > dbx.esl
@@ -207,15 +209,15 @@ Example:
 
 Exit status:
   0  the lists are printed
-  1  refused: 15 List or 16 EntrySize, at the offset where FILE holds no whole
+  1  refused: 15 List or 16 EntrySize, at the first offset where FILE holds no
      list; 13 TooLong, it is longer than 128 MiB
   2  an argument is missing or wrong
   3  a device failed: 45 File, FILE can't be opened";
 
 pub const PACK: &str = "\
 Reads a digest a line, 64 hexadecimal digits, from standard input, and writes
-one signature list of them to standard output, ascending and each once; of no
-digest, nothing.
+one signature list of them to standard output, ascending and each once. Without a
+digest it writes nothing.
 
 Example:
   desk pack 00112233-4455-6677-8899-aabbccddeeff < digests.txt > dbx.esl
