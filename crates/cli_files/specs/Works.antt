@@ -25,7 +25,7 @@ use Rattle.http_net.specs.Turns.{ServesInTurn}
 use Rattle.http_net.specs.Wire.{IsOneRequest}
 use Rattle.desk_rules.specs.Decisions.{called}
 use Rattle.desk_service.specs.ImageFacts.{IsFactsOf}
-use Rattle.desk_store.specs.Desks.{KeepsDesk, MayStop, Replies, ShowsDesk, Views}
+use Rattle.desk_store.specs.Desks.{ForEachShown, KeepsDesk, MayStop, Replies, ShowsDesk}
 use Rattle.desk_store.specs.Exports.{SparesDesk, Writes, WritesBeginning}
 use Rattle.desk_store.specs.declared.desk.Desk.{Desk}
 use Rattle.desk_history.specs.Calls.{History}
@@ -59,7 +59,7 @@ pub record JudgesImage {S : Type 0} (g : store.Ghosts S) (old new : Desk S) (bef
   pub found : Facts
   pub facts : IsFactsOf image found
   pub said : Verdict
-  pub exact : HasCleanDisk (state g new.conn) → Views g old new (λ owner cs. said ≡ verdicts.verdict cs found)
+  pub exact : HasCleanDisk (state g new.conn) → ForEachShown g old new (λ owner cs. said ≡ verdicts.verdict cs found)
   pub line : Appends before after (verdict_line said found)
   pub told : outcome ≡ outcome_of said
 
@@ -112,8 +112,8 @@ module _ {D : Type 0} (g : Ghosts D) where
   -- them
   abbrev pub Exports : Export → Option (List ℕ) → Option (List ℕ) → Ending → Desk (FileStore D g) → Type 0
   Exports what before after ending desk = Reads desk ending (λ left. HasCleanDisk (file_state left.conn)
-      → OnOk ending.work (Views over_files desk left (Writes before after (exported what)))
-      × OnErr ending.work (Views over_files desk left (WritesBeginning before after (exported what))))
+      → OnOk ending.work (ForEachShown over_files desk left (Writes before after (exported what)))
+      × OnErr ending.work (ForEachShown over_files desk left (WritesBeginning before after (exported what))))
 
   -- the line of the verdict on an image was written, and the outcome is that of the verdict
   abbrev pub Judges : Option (List ℕ) → Option (List ℕ) → Ending → Desk (FileStore D g) → Type 0
