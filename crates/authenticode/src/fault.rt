@@ -12,13 +12,13 @@ pub enum CarriedFault {
     #[error("an entry of the certificate table isn't whole")]
     Table,
     /// An entry of type 2 has no SignedData, or a certificate of it has no TBSCertificate.
-    #[error("an entry of the certificate table has no readable certificates")]
+    #[error("there is no DER element, SignedData or certificate where one is needed")]
     Der,
     /// There are more than 64 different certificates.
-    #[error("the image carries more than 64 certificates")]
+    #[error("the image carries more than 64 different certificates")]
     TooLong,
     /// Memory was refused.
-    #[error("no memory")]
+    #[error("memory was refused")]
     NoMemory,
 }
 

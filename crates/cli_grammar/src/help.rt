@@ -216,8 +216,8 @@ Exit status:
 
 pub const PACK: &str = "\
 Reads a digest a line, 64 hexadecimal digits, from standard input, and writes
-one signature list of them to standard output, ascending and each once. Without a
-digest it writes nothing.
+one signature list of them to standard output, ascending and each once. Without
+a digest it writes nothing.
 
 Example:
   desk pack 00112233-4455-6677-8899-aabbccddeeff < digests.txt > dbx.esl

@@ -15,7 +15,7 @@ pub struct Element<'a> {
 
 /// A DER element, or a certificate, is missing where one is needed.
 #[derive(Clone, Copy, Debug, PartialEq, Eq, Error)]
-#[error("no DER element stands there")]
+#[error("there is no DER element")]
 pub struct NotDer;
 
 impl NotDer {

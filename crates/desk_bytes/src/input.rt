@@ -12,13 +12,13 @@ use thiserror::Error;
 #[derive(Clone, Copy, Debug, PartialEq, Eq, Error)]
 pub enum InputFault {
     /// The input is longer than the limit.
-    #[error("the input passes its limit")]
+    #[error("the input is longer than its limit")]
     TooLong,
     /// The reader failed or was interrupted.
     #[error("a read failed")]
     Read,
     /// Memory was refused.
-    #[error("no memory")]
+    #[error("memory was refused")]
     NoMemory,
 }
 

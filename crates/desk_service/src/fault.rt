@@ -14,7 +14,7 @@ use thiserror::Error;
 #[derive(Clone, Copy, Debug, PartialEq, Eq, Error)]
 pub enum FactsFault {
     /// It has no layout.
-    #[error("the file is no EFI image: {0}")]
+    #[error("the image: {0}")]
     Layout(LayoutFault),
     /// A read after the headers failed.
     #[error("a read failed")]
@@ -26,7 +26,7 @@ pub enum FactsFault {
     #[error("the components: {0}")]
     Components(SbatFault),
     /// Memory was refused.
-    #[error("no memory")]
+    #[error("memory was refused")]
     NoMemory,
 }
 

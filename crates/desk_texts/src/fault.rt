@@ -8,6 +8,6 @@ pub enum TextFault {
     #[error("the text isn't in its form")]
     Form,
     /// Memory was refused.
-    #[error("no memory")]
+    #[error("memory was refused")]
     NoMemory,
 }

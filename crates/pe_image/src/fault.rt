@@ -12,17 +12,17 @@ pub enum LayoutFault {
     Short,
     #[error("the file doesn't begin with MZ")]
     NoMz,
-    #[error("no PE signature stands where the file says")]
+    #[error("there is no PE, 0, 0 where the u32 at 0x3C points")]
     NoPe,
     #[error("the optional header is neither PE32 nor PE32+")]
     Magic,
-    #[error("the subsystem is none of EFI's")]
+    #[error("Subsystem is none of EFI's, 10 to 13")]
     NotEfi,
     #[error("the headers' sizes don't fit one another or the file")]
     Headers,
-    #[error("there are too many sections, or one passes the file's end")]
+    #[error("there are more than 96 sections, or one's raw data passes the file's end")]
     Sections,
-    #[error("a section shares bytes with the headers or with another section")]
+    #[error("a section's raw data begins within the headers, or shares a byte with another's")]
     Overlap,
     #[error("the certificate table isn't the end of the file, or begins before the sections' end")]
     Table,

@@ -24,7 +24,7 @@ pub enum PiecesFault {
     #[error("a read failed")]
     Read,
     /// Memory was refused.
-    #[error("no memory")]
+    #[error("memory was refused")]
     NoMemory,
 }
 

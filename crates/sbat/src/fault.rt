@@ -15,7 +15,7 @@ pub enum SbatFault {
     #[error("the SBAT text names too many components")]
     TooLong,
     /// Memory was refused.
-    #[error("no memory")]
+    #[error("memory was refused")]
     NoMemory,
 }
 

@@ -33,7 +33,7 @@ pub enum NameFault {
     #[error("not a component's name")]
     Form,
     /// Memory was refused.
-    #[error("no memory")]
+    #[error("memory was refused")]
     NoMemory,
 }
 

@@ -10,7 +10,7 @@ use thiserror::Error;
 #[derive(Clone, Copy, Debug, PartialEq, Eq, Error)]
 pub enum PackFault {
     /// The text is over 8,388,608 bytes.
-    #[error("the text is over 8,388,608 bytes")]
+    #[error("the text is longer than 8,388,608 bytes")]
     TooLong,
     /// The reader failed or was interrupted.
     #[error("a read failed")]
@@ -19,10 +19,10 @@ pub enum PackFault {
     #[error("a write failed")]
     Write,
     /// The first line that isn't 64 hexadecimal digits, numbered from 1.
-    #[error("line {line} is not 64 hexadecimal digits")]
+    #[error("line {line} isn't 64 hexadecimal digits")]
     Line { line: u64 },
     /// Memory was refused.
-    #[error("no memory")]
+    #[error("memory was refused")]
     NoMemory,
 }
 
@@ -76,10 +76,10 @@ impl PackFault {
 #[derive(Clone, Copy, Debug, PartialEq, Eq, Error)]
 pub enum ListsFault {
     /// There is no whole list there, or a list of a kind without a header has one.
-    #[error("no signature list stands at {offset}")]
+    #[error("there is no signature list at {offset}")]
     List { offset: u64 },
     /// The list's entries can't have its SignatureSize.
-    #[error("the entries of the signature list at {offset} can't have its SignatureSize")]
+    #[error("the entries of the signature list at {offset} can't have the size that it gives")]
     EntrySize { offset: u64 },
 }
 

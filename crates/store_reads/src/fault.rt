@@ -16,7 +16,7 @@ pub enum ReadFault {
     #[error("a row isn't the desk's")]
     Row,
     /// Memory was refused, to the desk or to the store.
-    #[error("no memory")]
+    #[error("memory was refused")]
     NoMemory,
     /// The store failed.
     #[error("the database failed")]

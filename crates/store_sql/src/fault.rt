@@ -10,7 +10,7 @@ use thiserror::Error as ErrorText;
 #[derive(Clone, Copy, Debug, PartialEq, Eq, ErrorText)]
 pub enum StoreFault {
     /// Memory was refused, to the desk or to the store.
-    #[error("no memory")]
+    #[error("memory was refused")]
     NoMemory,
     /// The store failed, or SQL's integers can't hold a number.
     #[error("the database failed")]

@@ -22,7 +22,7 @@ pub enum ImportFault {
     #[error("there are more than 10,000 entries")]
     TooLong,
     /// Memory was refused.
-    #[error("no memory")]
+    #[error("memory was refused")]
     NoMemory,
 }
 
