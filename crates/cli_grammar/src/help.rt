@@ -70,7 +70,8 @@ Example:
 Exit status:
   0  the person is added
   1  refused: 22 KeyReused, KEY named another call; 35 NameTaken, the name or
-     the token is taken; 43 NotADesk, DB holds no desk
+     the token is taken; 36 Full, the desk has as many people as it may;
+     43 NotADesk, DB holds no desk; 44 Version, it holds one of another version
   2  an argument or the token is missing or wrong
   3  a device failed: 45 File, DB is missing or in use";
 
@@ -83,7 +84,8 @@ Example:
 
 Exit status:
   0  the minutes are printed
-  1  refused: 43 NotADesk, DB holds no desk
+  1  refused: 43 NotADesk, DB holds no desk; 44 Version, it holds one of another
+     version
   2  an argument is missing or wrong
   3  a device failed: 45 File, DB is missing or in use";
 
@@ -99,7 +101,8 @@ Example:
 
 Exit status:
   0  COUNT connections are served, whatever the responses were
-  1  refused: 43 NotADesk, DB holds no desk
+  1  refused: 43 NotADesk, DB holds no desk; 44 Version, it holds one of another
+     version
   2  an argument is missing or wrong
   3  a device failed: 45 File, DB is missing or in use; 14 Read, PORT is taken;
      41 Store or 42 Reopen, after the response that says so";
@@ -113,7 +116,8 @@ Example:
 
 Exit status:
   0  the request is answered, whatever the response is
-  1  refused: 43 NotADesk, DB holds no desk
+  1  refused: 43 NotADesk, DB holds no desk; 44 Version, it holds one of another
+     version
   2  an argument is missing or wrong
   3  a device failed: 45 File, DB is missing or in use; 41 Store or 42 Reopen,
      after the response that says so";
@@ -156,7 +160,8 @@ Example:
 Exit status:
   0  the image is allowed
   1  the image is refused; or refused: 1 Short to 13 TooLong, FILE is no EFI
-     image that a desk takes; 43 NotADesk, DB holds no desk
+     image that a desk takes; 43 NotADesk, DB holds no desk; 44 Version, it
+     holds one of another version
   2  an argument is missing or wrong
   3  a device failed: 45 File, DB is missing or in use, or FILE can't be opened";
 
@@ -169,7 +174,8 @@ Example:
 
 Exit status:
   0  the lists are written
-  1  refused: 43 NotADesk, DB holds no desk
+  1  refused: 43 NotADesk, DB holds no desk; 44 Version, it holds one of another
+     version
   2  an argument is missing or wrong
   3  a device failed: 45 File, DB is missing or in use";
 
@@ -183,7 +189,8 @@ Example:
 
 Exit status:
   0  the lists are written
-  1  refused: 43 NotADesk, DB holds no desk
+  1  refused: 43 NotADesk, DB holds no desk; 44 Version, it holds one of another
+     version
   2  an argument is missing or wrong
   3  a device failed: 45 File, DB is missing or in use";
 
@@ -196,7 +203,8 @@ Example:
 
 Exit status:
   0  the level is written
-  1  refused: 43 NotADesk, DB holds no desk
+  1  refused: 43 NotADesk, DB holds no desk; 44 Version, it holds one of another
+     version
   2  an argument is missing or wrong
   3  a device failed: 45 File, DB is missing or in use";
 
