@@ -31,7 +31,7 @@ below() {
             print name
         }
         /^[^#:]+:/ { split($0, half, ":"); split(half[1], head, " "); needs[head[1]] = half[2] }
-        END { take("cli_files"); take("desk_store") }
+        END { take("cli_opening"); take("desk_store") }
     ' "$root/crates.txt"
 }
 for crate in $(below); do
@@ -43,7 +43,7 @@ for crate in $(below); do
     grep "^$crate:" "$root/crates.txt" >> "$room/crates.txt"
 done
 cp "$root/bench/desk/main.rt.txt" "$room/crates/desk_bench/src/main.rt"
-echo 'desk_bench: cli_files desk_store desk_rules desk_texts sbat desk_bytes sqlite' >> "$room/crates.txt"
+echo 'desk_bench: cli_opening desk_store desk_rules desk_texts sbat desk_bytes sqlite' >> "$room/crates.txt"
 (cd "$room/crates/desk_bench" && rt run > "$room/build.log" 2>&1) || true
 program="$room/crates/desk_bench/out/desk_bench"
 test -x "$program" || { tail -20 "$room/build.log" >&2; exit 1; }

@@ -1,4 +1,2 @@
-mod EndingLemmas
-mod OpeningLemmas
 mod ServingLemmas
 mod WorkLemmas

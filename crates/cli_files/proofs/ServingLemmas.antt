@@ -1,10 +1,11 @@
 -- Refusals that stop a subcommand at an open desk: none of them is an opening's.
-use Rattle.std.proofs.Common.{◌⊎◌, IsTrue, Result, Ok, Err, arith, false, subst, inl, inr}
+use Rattle.std.proofs.Common.{◌≡◌, ◌⊎◌, IsTrue, Result, Ok, Err, arith, false, subst, inl, inr}
 use Rattle.std.specs.Prelude.{IfErr}
 use Rattle.desk_bytes.specs.declared.refusal.Refusal.{Refusal}
+use Rattle.desk_bytes.specs.declared.refusal.Refusal.TheVariants as refusals
 use Rattle.cli_lines.specs.declared.fault.Fault.{Fault}
-use Rattle.http_net.specs.Faults.{IsAnsweringRefusal, IsServingRefusal}
-use Rattle.cli_files.specs.Faults.{IsImageFault, IsJudgingFault, IsOfOpening, IsOpeningRefusal, IsUnreadRefusal}
+use Rattle.cli_files.specs.Faults.{IsImageFault, IsJudgingFault, IsUnreadRefusal}
+use Rattle.cli_opening.specs.Faults.{IsOfOpening, IsOpeningRefusal}
 use Rattle.desk_history.specs.DecisionRefusals.{may_answer}
 use Rattle.cli_commands.specs.Faults.{IsAddingRefusal, IsRow, IsWritingRefusal}
 use Rattle.cli_commands.specs.declared.ending.Outcome.{Outcome}
@@ -21,18 +22,17 @@ pub never_of_opening : {X : Type 0} (P : Refusal → Type 0) → ((refusal : Ref
 never_of_opening P apart (Ok outcome) h = tt
 never_of_opening P apart (Err fault) h = λ opening. apart fault.refusal h.1 opening
 
-pub served_apart : {X : Type 0} (refusal : Refusal) → IsServingRefusal refusal → IsOfOpening refusal → X
-served_apart refusal served opening = grind arith
-
-pub answering_apart : {X : Type 0} (refusal : Refusal) → IsAnsweringRefusal refusal → IsOfOpening refusal → X
-answering_apart refusal answering opening = grind arith
+-- what any work may end with
+pub told_apart : {X : Type 0} (refusal : Refusal)
+    → (((refusal ≡ refusals.Store) ⊎ (refusal ≡ refusals.Reopen)) ⊎ (refusal ≡ refusals.Write)) → IsOfOpening refusal → X
+told_apart refusal told opening = grind arith
 
 pub adding_apart : {X : Type 0} (refusal : Refusal) → IsAddingRefusal refusal → IsOfOpening refusal → X
-adding_apart refusal (inl o) opening = served_apart refusal (inl (inr o)) opening
+adding_apart refusal (inl o) opening = told_apart refusal (inl (inr o)) opening
 adding_apart refusal (inr (inl (inl told))) (inl n) = let bad : IsTrue false = subst (λ r. IsTrue (may_answer r)) n told in absurd (cc)
 adding_apart refusal (inr (inl (inl told))) (inr v) = let bad : IsTrue false = subst (λ r. IsTrue (may_answer r)) v told in absurd (cc)
-adding_apart refusal (inr (inl (inr s))) opening = served_apart refusal (inl (inl s)) opening
-adding_apart refusal (inr (inr w)) opening = answering_apart refusal (inr (inr (inl w))) opening
+adding_apart refusal (inr (inl (inr s))) opening = told_apart refusal (inl (inl s)) opening
+adding_apart refusal (inr (inr w)) opening = told_apart refusal (inr w) opening
 
 pub writing_apart : {X : Type 0} (refusal : Refusal) → IsWritingRefusal refusal → IsOfOpening refusal → X
 writing_apart refusal writing opening = grind arith

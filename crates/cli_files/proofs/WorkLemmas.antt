@@ -21,8 +21,8 @@ use Rattle.desk_store.specs.Desks.{ForEachShown, KeepsDesk}
 use Rattle.desk_store.specs.Exports.{SparesDesk, Writes, WritesBeginning}
 use Rattle.desk_store.specs.declared.desk.Desk.{Desk}
 use Rattle.desk_texts.specs.declared.facts.Facts.{Facts}
-use Rattle.cli_files.specs.Closing.{Ends}
-use Rattle.cli_files.specs.Opening.{IsMade}
+use Rattle.cli_opening.specs.Closing.{Ends}
+use Rattle.cli_opening.specs.Opening.{IsMade}
 use Rattle.cli_files.specs.Works.{Exports, Judges, JudgesImage, MakesDesk, Reads}
 use Rattle.cli_commands.specs.Works.{outcome_of}
 use Rattle.cli_commands.specs.declared.ending.Ending.{Ending}

@@ -6,12 +6,7 @@ use Rattle.cli_lines.specs.Faults.{of_facts}
 use Rattle.cli_lines.specs.declared.fault.Fault.{Fault}
 use Rattle.desk_service.specs.declared.fault.FactsFault.{FactsFault}
 use Rattle.cli_commands.specs.Faults.{IsRow, IsWritingRefusal}
-use Rattle.store_reads.specs.Failures.{IsFailure}
-use Rattle.desk_store.specs.Steps.{IsReadRefusal}
-
--- own: a file can't be opened, or memory was refused
-abbrev pub IsFileRefusal : Refusal → Type 0
-IsFileRefusal refusal = (refusal ≡ refusals.NoMemory) ⊎ (refusal ≡ refusals.File)
+use Rattle.cli_opening.specs.Faults.{IsFileRefusal}
 
 -- own: a file isn't read to its end: it can't be opened, memory was refused, or a read failed
 abbrev pub IsUnreadRefusal : Refusal → Type 0
@@ -25,19 +20,3 @@ IsImageFault fault = (why : FactsFault) × (fault ≡ of_facts why)
 -- written
 abbrev pub IsJudgingFault : Fault → Type 0
 IsJudgingFault fault = (IsRow IsUnreadRefusal fault ⊎ IsImageFault fault) ⊎ IsRow IsWritingRefusal fault
-
--- own: no desk is made: the file fails, it has tables already, or a device fails
-abbrev pub IsMakingRefusal : Refusal → Type 0
-IsMakingRefusal refusal = IsFileRefusal refusal ⊎ ((refusal ≡ refusals.Exists) ⊎ IsFailure refusal)
-
--- own: no desk is opened: the file fails, it holds no known desk, or a device fails
-abbrev pub IsOpeningRefusal : Refusal → Type 0
-IsOpeningRefusal refusal = IsFileRefusal refusal ⊎ ((refusal ≡ refusals.Version) ⊎ IsReadRefusal refusal)
-
--- own: after these the desk must be opened again
-abbrev pub IsLasting : Refusal → Type 0
-IsLasting refusal = (refusal ≡ refusals.Store) ⊎ (refusal ≡ refusals.Reopen)
-
--- own: the refusals that only an opening gives
-abbrev pub IsOfOpening : Refusal → Type 0
-IsOfOpening refusal = (refusal ≡ refusals.NotADesk) ⊎ (refusal ≡ refusals.Version)

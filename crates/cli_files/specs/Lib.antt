@@ -1,4 +1,2 @@
-pub mod Closing
 pub mod Faults
-pub mod Opening
 pub mod Works

@@ -1,0 +1,26 @@
+-- The refusals of a desk's file.
+use Rattle.std.specs.Prelude.{◌≡◌, ◌⊎◌}
+use Rattle.desk_bytes.specs.declared.refusal.Refusal.{Refusal}
+use Rattle.desk_bytes.specs.declared.refusal.Refusal.TheVariants as refusals
+use Rattle.store_reads.specs.Failures.{IsFailure}
+use Rattle.desk_store.specs.Steps.{IsReadRefusal}
+
+-- own: a file can't be opened, or memory was refused
+abbrev pub IsFileRefusal : Refusal → Type 0
+IsFileRefusal refusal = (refusal ≡ refusals.NoMemory) ⊎ (refusal ≡ refusals.File)
+
+-- own: no desk is made: the file fails, it has tables already, or a device fails
+abbrev pub IsMakingRefusal : Refusal → Type 0
+IsMakingRefusal refusal = IsFileRefusal refusal ⊎ ((refusal ≡ refusals.Exists) ⊎ IsFailure refusal)
+
+-- own: no desk is opened: the file fails, it holds no known desk, or a device fails
+abbrev pub IsOpeningRefusal : Refusal → Type 0
+IsOpeningRefusal refusal = IsFileRefusal refusal ⊎ ((refusal ≡ refusals.Version) ⊎ IsReadRefusal refusal)
+
+-- own: after these the desk must be opened again
+abbrev pub IsLasting : Refusal → Type 0
+IsLasting refusal = (refusal ≡ refusals.Store) ⊎ (refusal ≡ refusals.Reopen)
+
+-- own: the refusals that only an opening gives
+abbrev pub IsOfOpening : Refusal → Type 0
+IsOfOpening refusal = (refusal ≡ refusals.NotADesk) ⊎ (refusal ≡ refusals.Version)

@@ -1,0 +1,160 @@
+//! A desk's file: made, opened and closed.
+ghost use Rattle.std.specs.Prelude.{◌≡◌, None, IfErr, IfOk, IfSome, OnOk, false, true};
+ghost use Rattle.cli_opening.specs.Closing.{Ends, FailsForGood, IsClosed};
+ghost use Rattle.cli_opening.specs.Faults.{IsFileRefusal, IsLasting, IsMakingRefusal};
+ghost use Rattle.cli_opening.specs.Faults.{IsOpeningRefusal};
+ghost use Rattle.cli_opening.specs.Opening.{IsMade, IsOpened, Makes, Opens};
+ghost use Rattle.cli_commands.specs.Faults.{IsClosingRefusal, IsRow};
+
+use crate::connect;
+use cli_commands::{Ending, Outcome};
+use cli_lines::Fault;
+use desk_bytes::{Guid, Refusal};
+use desk_store::Desk;
+use sqlite::{Alter, Connection, File, FileStore, Unknown};
+use sqlite_disk::Disk;
+use std::alloc::Global;
+use std::{fs, io};
+
+/// A desk in a file.
+pub type FileDesk = Desk<FileStore<File>>;
+
+/// Drops a connection without closing it: nothing is written.
+fn let_go<S: Alter + Drop>(conn: Connection<S>) {
+    let _ = conn;
+}
+
+/// Whether there is something at a path.
+fn is_there(rt: &HostRuntime, path: &str) -> Result<bool, Refusal>
+    ensures { IfErr result IsFileRefusal }
+{
+    match fs::exists(rt, path) {
+        Ok(there) => Ok(there),
+        Err(error) if error.kind() == io::ErrorKind::OutOfMemory => Err(Refusal::NoMemory),
+        Err(_) => Err(Refusal::File),
+    }
+}
+
+/// Makes a desk over a connection, which is dropped if no desk is made.
+fn make_over<S: Alter + Drop>(
+    alloc: Global,
+    conn: Connection<S>,
+    owner: &Guid,
+) -> Result<Desk<S>, Refusal>
+    requires { conn.in_transaction ≡ false }
+    ensures made { IfOk result (Makes S.Store conn owner.now) }
+    ensures named { IfErr result IsMakingRefusal }
+{
+    match Desk::create(alloc, conn, owner) {
+        Ok(desk) => Ok(desk),
+        Err((refusal, conn)) => {
+            let_go(conn);
+            Err(refusal)
+        }
+    }
+}
+
+/// Makes a desk in a file, which is created if it doesn't exist.
+pub fn make(rt: &HostRuntime, path: &str, owner: &Guid) -> Result<FileDesk, Refusal>
+    ensures made { IfOk result (IsMade ⟦<File as Disk>⟧ owner.now) }
+    ensures named { IfErr result IsMakingRefusal }
+{
+    match connect(rt, path, Unknown) {
+        Ok(conn) => make_over(rt.alloc(), conn, owner),
+        Err(refusal) => Err(refusal),
+    }
+}
+
+/// Opens the desk of a connection, which is dropped if there is no desk.
+fn open_over<S: Alter + Drop>(alloc: Global, conn: Connection<S>) -> Result<Desk<S>, Refusal>
+    requires { conn.in_transaction ≡ false }
+    ensures opened { IfOk result (Opens S.Store conn) }
+    ensures named { IfErr result IsOpeningRefusal }
+{
+    match Desk::open(alloc, conn) {
+        Ok(desk) => Ok(desk),
+        Err((refusal, conn)) => {
+            let_go(conn);
+            Err(refusal)
+        }
+    }
+}
+
+/// Opens an existing file, and the desk in it.
+fn open_there(rt: &HostRuntime, path: &str) -> Result<FileDesk, Refusal>
+    ensures opened { IfOk result (IsOpened ⟦<File as Disk>⟧) }
+    ensures named { IfErr result IsOpeningRefusal }
+{
+    match connect(rt, path, Unknown) {
+        Ok(conn) => open_over(rt.alloc(), conn),
+        Err(refusal) => Err(refusal),
+    }
+}
+
+/// Opens the desk in a file. File: it doesn't exist, and isn't created.
+pub fn open(rt: &HostRuntime, path: &str) -> Result<FileDesk, Refusal>
+    ensures opened { IfOk result (IsOpened ⟦<File as Disk>⟧) }
+    ensures named { IfErr result IsOpeningRefusal }
+{
+    match is_there(rt, path) {
+        Ok(true) => open_there(rt, path),
+        Ok(false) => Err(Refusal::File),
+        Err(refusal) => Err(refusal),
+    }
+}
+
+/// Closes a desk's file: the contents of its log are copied into it. After a failure both files
+/// together are the desk.
+fn close<D: Disk + Drop>(desk: Desk<FileStore<D>>) -> Result<(), Refusal>
+    ensures closed { OnOk result (IsClosed D.Disk desk) }
+    ensures named { IfErr result IsClosingRefusal }
+{
+    match desk.close() {
+        Ok(_) => Ok(()),
+        Err((refusal, store)) => {
+            drop(store.close());
+            Err(refusal)
+        }
+    }
+}
+
+/// Whether a desk that answered this must be opened again.
+fn is_lasting(refusal: Refusal) -> bool
+    ensures lasting { IsLasting refusal → result ≡ true }
+    ensures only { result ≡ true → IsLasting refusal }
+{
+    matches!(refusal, Refusal::Store | Refusal::Reopen)
+}
+
+/// Whether the desk must be opened again after this work, so that it can't be closed.
+fn needs_reopening(work: &Result<Outcome, Fault>) -> bool
+    ensures lasting { IfErr work.now (λ fault. IsLasting fault.refusal → result ≡ true) }
+    ensures only { result ≡ true → FailsForGood work.now }
+{
+    match work {
+        Ok(_) => false,
+        Err(fault) => is_lasting(fault.refusal),
+    }
+}
+
+/// Closes the desk after its work. A desk that failed is dropped: its next opening finds what it
+/// stored.
+pub fn ended<D: Disk + Drop>(desk: Desk<FileStore<D>>, work: Result<Outcome, Fault>) -> Ending
+    ensures work { result.work ≡ work }
+    ensures closed { Ends D.Disk desk result }
+    ensures closing { IfSome result.closing (IsRow IsClosingRefusal) }
+    ensures let_go { IfErr work (λ fault. IsLasting fault.refusal → result.closing ≡ None) }
+{
+    if needs_reopening(&work) {
+        let_go(desk.release());
+        return Ending {
+            work,
+            closing: None,
+        };
+    }
+    let closing = match close(desk) {
+        Ok(()) => None,
+        Err(refusal) => Some(Fault::from(refusal)),
+    };
+    Ending { work, closing }
+}

@@ -1,0 +1,170 @@
+//! Requests over HTTP to the desk in a file.
+ghost use Rattle.std.specs.Prelude.{◌≡◌, ◌⊎◌, None, IfErr, IfOk, IfSome};
+ghost use Rattle.std.specs.Io.KnownBytes.{Keeps};
+ghost use Rattle.http_net.specs.Faults.{IsAnsweringRefusal, IsServingRefusal};
+ghost use Rattle.http_net.specs.Wire.{IsOneRequest};
+ghost use Rattle.cli_opening.specs.Faults.{IsLasting, IsOfOpening, IsOpeningRefusal};
+ghost use Rattle.cli_opening.specs.Works.{AtADesk, IsUnopened};
+ghost use Rattle.cli_requests.specs.Works.{AnswersOnce, AnswersOne, Serves};
+ghost use Rattle.cli_requests.specs.Works.{ServesPort, WorksInTurn, WorksOnce};
+ghost use Rattle.cli_commands.specs.Faults.{IsClosingRefusal, IsRow};
+
+use cli_commands::{Ending, Outcome};
+use cli_lines::Fault;
+use cli_opening::{ended, open};
+use desk_answers::OpenDesk;
+use desk_bytes::Refusal;
+use desk_calls::Answering;
+use desk_store::Desk;
+use http_net::{answer_connection, listen, serve};
+use http_requests::Routes;
+use sqlite::{File, FileStore};
+use sqlite_disk::Disk;
+use std::alloc::Global;
+use std::io::{Read, Write};
+
+/// Answers one request of the reader, as a subcommand's work.
+fn answer_one<D: Answering, R: Read + Drop, W: Write>(
+    alloc: Global,
+    routes: &Routes,
+    desk: &mut D,
+    reader: R,
+    writer: &mut W,
+) -> Result<Outcome, Fault>
+    ensures answered { WorksOnce (AnswersOne D.shows D.clean D.failed (R.remaining reader)
+        (W.contents writer.old) (W.contents writer.new)) desk.old desk.new result }
+    ensures done { IfOk result (λ outcome. outcome ≡ Outcome.Done) }
+    ensures named { IfErr result (IsRow IsAnsweringRefusal) }
+{
+    match http_net::outcome(answer_connection(alloc, routes, desk, reader, writer)) {
+        Ok(()) => Ok(Outcome::Done),
+        Err(refusal) => Err(Fault::from(refusal)),
+    }
+}
+
+/// Answers one request of the reader, for an open desk over files, and closes it.
+fn answer_at<D: Disk + Drop, R: Read + Drop, W: Write>(
+    alloc: Global,
+    routes: &Routes,
+    desk: Desk<FileStore<D>>,
+    reader: R,
+    writer: &mut W,
+) -> Ending
+    ensures answered { AnswersOnce D.Disk (R.remaining reader)
+        (W.contents writer.old) (W.contents writer.new) result desk }
+    ensures done { IfOk result.work (λ outcome. outcome ≡ Outcome.Done) }
+    ensures named { IfErr result.work (IsRow IsAnsweringRefusal) }
+    ensures closing { IfSome result.closing (IsRow IsClosingRefusal) }
+    ensures let_go { IfErr result.work (λ fault. IsLasting fault.refusal → result.closing ≡ None) }
+{
+    let mut desk = OpenDesk::new(desk);
+    let work = answer_one(alloc, routes, &mut desk, reader, writer);
+    ended(desk.into_desk(), work)
+}
+
+/// Answers one request of the reader by this table of paths, for the desk in a file; if the reader
+/// has no byte, nothing is written. The work is done, whatever the response, unless the desk must be
+/// opened again after it: then the fault is Store or Reopen.
+///
+/// The faults of the desk's file come first, as for `add_person`. Read, NoMemory: the request
+/// wasn't read. Write: a prefix of the response was written, and the answer's changes stay.
+pub fn answer_from<R: Read + Drop, W: Write>(
+    rt: &HostRuntime,
+    routes: &Routes,
+    path: &str,
+    reader: R,
+    writer: &mut W,
+) -> Ending
+    ensures answered { (IsUnopened result × Keeps (W.contents writer.old) (W.contents writer.new))
+        ⊎ AtADesk (AnswersOnce ⟦<File as Disk>⟧ (R.remaining reader)
+        (W.contents writer.old) (W.contents writer.new) result) }
+    ensures done { IfOk result.work (λ outcome. outcome ≡ Outcome.Done) }
+    ensures named { IfErr result.work (IsRow (λ refusal.
+        IsOpeningRefusal refusal ⊎ IsAnsweringRefusal refusal)) }
+    ensures first { IfErr result.work (λ fault. IsOfOpening fault.refusal
+        → (result.closing ≡ None) × Keeps (W.contents writer.old) (W.contents writer.new)) }
+    ensures closing { IfSome result.closing (IsRow IsClosingRefusal) }
+    ensures let_go { IfErr result.work (λ fault. IsLasting fault.refusal → result.closing ≡ None) }
+{
+    match open(rt, path) {
+        Ok(desk) => answer_at(rt.alloc(), routes, desk, reader, writer),
+        Err(refusal) => Ending::without_desk(refusal),
+    }
+}
+
+/// Serves `count` connections at this port of 127.0.0.1, for a desk.
+fn serve_desk<D: Answering>(
+    rt: &HostRuntime,
+    routes: &Routes,
+    desk: &mut D,
+    port: u16,
+    count: u32,
+) -> Result<(), Refusal>
+    ensures in_turn { ServesPort (IsOneRequest D.clean D.failed) count desk.old desk.new result }
+    ensures named { IfErr result IsServingRefusal }
+{
+    let listener = match listen(rt, port) {
+        Ok(listener) => listener,
+        Err(refusal) => return Err(refusal),
+    };
+    serve(rt.alloc(), rt, routes, desk, &listener, count)
+}
+
+/// The same, as a subcommand's work.
+fn serve_all<D: Answering>(
+    rt: &HostRuntime,
+    routes: &Routes,
+    desk: &mut D,
+    port: u16,
+    count: u32,
+) -> Result<Outcome, Fault>
+    ensures in_turn { WorksInTurn (IsOneRequest D.clean D.failed) count desk.old desk.new result }
+    ensures done { IfOk result (λ outcome. outcome ≡ Outcome.Done) }
+    ensures named { IfErr result (IsRow IsServingRefusal) }
+{
+    match serve_desk(rt, routes, desk, port, count) {
+        Ok(()) => Ok(Outcome::Done),
+        Err(refusal) => Err(Fault::from(refusal)),
+    }
+}
+
+/// Serves `count` connections at this port of 127.0.0.1, for an open desk over files, and closes
+/// it.
+fn serve_at<D: Disk + Drop>(
+    rt: &HostRuntime,
+    routes: &Routes,
+    desk: Desk<FileStore<D>>,
+    port: u16,
+    count: u32,
+) -> Ending
+    ensures served { Serves D.Disk count result desk }
+    ensures done { IfOk result.work (λ outcome. outcome ≡ Outcome.Done) }
+    ensures named { IfErr result.work (IsRow IsServingRefusal) }
+    ensures closing { IfSome result.closing (IsRow IsClosingRefusal) }
+    ensures let_go { IfErr result.work (λ fault. IsLasting fault.refusal → result.closing ≡ None) }
+{
+    let mut desk = OpenDesk::new(desk);
+    let work = serve_all(rt, routes, &mut desk, port, count);
+    ended(desk.into_desk(), work)
+}
+
+/// Serves `count` connections at this port of 127.0.0.1 by this table of paths, one request each,
+/// one after another, for the desk in a file. A fault of one connection ends only that connection.
+///
+/// The faults of the desk's file come first, as for `add_person`. Read: the port couldn't be
+/// opened, or no connection could be accepted. Store, Reopen: that response was written, and the
+/// desk must be opened again.
+pub fn serve_from(rt: &HostRuntime, routes: &Routes, path: &str, port: u16, count: u32) -> Ending
+    ensures served { IsUnopened result ⊎ AtADesk (Serves ⟦<File as Disk>⟧ count result) }
+    ensures done { IfOk result.work (λ outcome. outcome ≡ Outcome.Done) }
+    ensures named { IfErr result.work (IsRow (λ refusal.
+        IsOpeningRefusal refusal ⊎ IsServingRefusal refusal)) }
+    ensures first { IfErr result.work (λ fault. IsOfOpening fault.refusal → result.closing ≡ None) }
+    ensures closing { IfSome result.closing (IsRow IsClosingRefusal) }
+    ensures let_go { IfErr result.work (λ fault. IsLasting fault.refusal → result.closing ≡ None) }
+{
+    match open(rt, path) {
+        Ok(desk) => serve_at(rt, routes, desk, port, count),
+        Err(refusal) => Ending::without_desk(refusal),
+    }
+}
