@@ -3,8 +3,9 @@
 # broken, huge and many, and two officers go on working. It prints how many answers the officers
 # had, their longest wait and the most memory. It fails if an officer waits longer than the clients
 # before one may hold the desk (30 seconds each), if the desk takes more memory than an image's
-# limit and 64 MiB, or if its file then lacks an acknowledged command. Not part of the gate: it
-# needs python3; sqlite3 checks the file if it is installed.
+# limit and 64 MiB, or if its file then lacks an acknowledged command. The clients let go when SECONDS
+# end, so only a soak of some 90 or more can find too long a wait. Not part of the gate: it needs
+# python3; sqlite3 checks the file if it is installed.
 set -eu
 root=$(CDPATH='' cd -- "$(dirname -- "$(readlink -f -- "$0")")/.." && pwd -P)
 [ $# -gt 0 ] || { echo "usage: checks/soak.sh SECONDS [PROGRAM]" >&2; exit 2; }

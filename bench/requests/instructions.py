@@ -10,8 +10,8 @@ from desk import CERTIFICATE, PEOPLE, PLAIN, SIGNED, Program, Server, expect, fa
 
 sys.stdout.reconfigure(line_buffering=True)
 SIZES = [int(it) for it in sys.argv[2:]] or [1_000, 10_000, 100_000]
-# Two heads of one length. A reader that looks at the whole head after each line end would take a hundred times as much
-# for the first.
+# Two heads of one length. A reader that looks at the whole head after each line end takes many times as much for the
+# first.
 LINE_ENDS, ONE_FIELD = "GET /level behind 16,000 LF", "GET /level, a long field"
 MOST_RATIO = 3
 
