@@ -1,3 +1,2 @@
-pub mod Endings
 pub mod Faults
 pub mod Works

@@ -7,8 +7,8 @@ use Rattle.desk_history.specs.declared.finding.Verdict.TheVariants.{Allowed, Dbx
 use Rattle.desk_texts.specs.ReplyTexts.{reply_text_of}
 use Rattle.desk_texts.specs.declared.command.Call.{Call}
 use Rattle.desk_texts.specs.declared.reply.Reply.{Reply}
-use Rattle.cli_commands.specs.declared.ending.Outcome.{Outcome}
-use Rattle.cli_commands.specs.declared.ending.Outcome.TheVariants.{Done, Refused}
+use Rattle.cli_lines.specs.declared.ending.Outcome.{Outcome}
+use Rattle.cli_lines.specs.declared.ending.Outcome.TheVariants.{Done, Refused}
 
 -- a text and LF
 abbrev pub line_of : List ℕ → List ℕ

@@ -6,8 +6,7 @@ ghost use Rattle.cli_lines.specs.Faults.{row_of};
 ghost use Rattle.cli_lines.specs.VerdictLines.{verdict_line};
 ghost use Rattle.cli_commands.specs.Works.{outcome_of, reply_line};
 
-use crate::ending::Outcome;
-use cli_lines::{Fault, print_verdict};
+use cli_lines::{Fault, Outcome, print_verdict};
 use desk_bytes::{Refusal, WriteFailed, put_each};
 use desk_history::Verdict;
 use desk_texts::{Facts, Reply, reply_text};

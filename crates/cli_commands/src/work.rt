@@ -7,19 +7,18 @@ ghost use Rattle.desk_bytes.specs.declared.refusal.Refusal.TheVariants as refusa
 ghost use Rattle.desk_exports.specs.Exports.{exported};
 ghost use Rattle.desk_history.specs.Verdicts as verdicts;
 ghost use Rattle.desk_history.specs.declared.finding.Verdict.{Verdict};
-ghost use Rattle.cli_lines.specs.Faults.{row_of};
+ghost use Rattle.cli_lines.specs.Faults.{IsRow, row_of};
 ghost use Rattle.cli_lines.specs.VerdictLines.{verdict_line};
 ghost use Rattle.desk_rules.specs.Decisions.{called};
 ghost use Rattle.store_sql.specs.States.{Spares};
 ghost use Rattle.desk_store.specs.Desks.{ForEachShown, KeepsDesk, MayStop, Replies};
 ghost use Rattle.desk_store.specs.Exports.{SparesDesk, Writes, WritesBeginning};
 ghost use Rattle.desk_texts.specs.declared.reply.Reply.{Reply};
-ghost use Rattle.cli_commands.specs.Faults.{IsAddingRefusal, IsRow, IsWritingRefusal};
+ghost use Rattle.cli_commands.specs.Faults.{IsAddingRefusal, IsWritingRefusal};
 ghost use Rattle.cli_commands.specs.Works.{answer_line, outcome_of, reply_line};
 
-use crate::ending::Outcome;
 use crate::saying::{flush, say_reply, say_verdict};
-use cli_lines::Fault;
+use cli_lines::{Fault, Outcome};
 use desk_exports::Export;
 use desk_store::Desk;
 use desk_texts::{Caller, Command, Facts, Key, Person};

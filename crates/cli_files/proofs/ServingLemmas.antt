@@ -7,20 +7,9 @@ use Rattle.cli_lines.specs.declared.fault.Fault.{Fault}
 use Rattle.cli_files.specs.Faults.{IsImageFault, IsJudgingFault, IsUnreadRefusal}
 use Rattle.cli_opening.specs.Faults.{IsOfOpening, IsOpeningRefusal}
 use Rattle.desk_history.specs.DecisionRefusals.{may_answer}
-use Rattle.cli_commands.specs.Faults.{IsAddingRefusal, IsRow, IsWritingRefusal}
-use Rattle.cli_commands.specs.declared.ending.Outcome.{Outcome}
-
--- a row of these refusals is one of these and more
-pub also : (P : Refusal → Type 0) (work : Result Outcome Fault) → IfErr work (IsRow P)
-    → IfErr work (IsRow (λ refusal. IsOpeningRefusal refusal ⊎ P refusal))
-also P (Ok outcome) h = tt
-also P (Err fault) h = (h.0, inr h.1)
-
--- of refusals that no opening gives anything holds where one is of an opening
-pub never_of_opening : {X : Type 0} (P : Refusal → Type 0) → ((refusal : Refusal) → P refusal → IsOfOpening refusal → X)
-    → (work : Result Outcome Fault) → IfErr work (IsRow P) → IfErr work (λ fault. IsOfOpening fault.refusal → X)
-never_of_opening P apart (Ok outcome) h = tt
-never_of_opening P apart (Err fault) h = λ opening. apart fault.refusal h.1 opening
+use Rattle.cli_lines.specs.Faults.{IsRow}
+use Rattle.cli_commands.specs.Faults.{IsAddingRefusal, IsWritingRefusal}
+use Rattle.cli_lines.specs.declared.ending.Outcome.{Outcome}
 
 -- what any work may end with
 pub told_apart : {X : Type 0} (refusal : Refusal)

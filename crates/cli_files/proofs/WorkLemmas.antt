@@ -25,8 +25,8 @@ use Rattle.cli_opening.specs.Closing.{Ends}
 use Rattle.cli_opening.specs.Opening.{IsMade}
 use Rattle.cli_files.specs.Works.{Exports, Judges, JudgesImage, MakesDesk, Reads}
 use Rattle.cli_commands.specs.Works.{outcome_of}
-use Rattle.cli_commands.specs.declared.ending.Ending.{Ending}
-use Rattle.cli_commands.specs.declared.ending.Outcome.{Outcome}
+use Rattle.cli_lines.specs.declared.ending.Ending.{Ending}
+use Rattle.cli_lines.specs.declared.ending.Outcome.{Outcome}
 
 -- a verdict on these facts is one on the image that has them
 pub judged : {S : Type 0} (g : store.Ghosts S) (old new : Desk S) (before after : Option (List ℕ)) (work : Result Outcome Fault)

@@ -2,10 +2,10 @@
 use Rattle.std.specs.Prelude.{◌≡◌, ◌⊎◌}
 use Rattle.desk_bytes.specs.declared.refusal.Refusal.{Refusal}
 use Rattle.desk_bytes.specs.declared.refusal.Refusal.TheVariants as refusals
-use Rattle.cli_lines.specs.Faults.{of_facts}
+use Rattle.cli_lines.specs.Faults.{IsRow, of_facts}
 use Rattle.cli_lines.specs.declared.fault.Fault.{Fault}
 use Rattle.desk_service.specs.declared.fault.FactsFault.{FactsFault}
-use Rattle.cli_commands.specs.Faults.{IsRow, IsWritingRefusal}
+use Rattle.cli_commands.specs.Faults.{IsWritingRefusal}
 use Rattle.cli_opening.specs.Faults.{IsFileRefusal}
 
 -- own: a file isn't read to its end: it can't be opened, memory was refused, or a read failed

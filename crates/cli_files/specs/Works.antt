@@ -28,8 +28,8 @@ use Rattle.desk_texts.specs.declared.reply.Reply.{Reply}
 use Rattle.cli_opening.specs.Closing.{Ends}
 use Rattle.cli_opening.specs.Opening.{IsMade}
 use Rattle.cli_commands.specs.Works.{outcome_of, reply_line}
-use Rattle.cli_commands.specs.declared.ending.Ending.{Ending}
-use Rattle.cli_commands.specs.declared.ending.Outcome.{Outcome}
+use Rattle.cli_lines.specs.declared.ending.Ending.{Ending}
+use Rattle.cli_lines.specs.declared.ending.Outcome.{Outcome}
 
 -- own: the console's call that adds a person
 abbrev pub adding : List ℕ → Person → Call

@@ -1,8 +1,8 @@
 //! Files read to their end.
 ghost use Rattle.std.specs.Prelude.{◌≡◌, ◌⊎◌, ◌+◌, ◌≤◌, length, IfErr, IfOk};
 ghost use Rattle.cli_files.specs.Faults.{IsUnreadRefusal};
+ghost use Rattle.cli_lines.specs.Faults.{IsRow};
 ghost use Rattle.cli_opening.specs.Faults.{IsFileRefusal};
-ghost use Rattle.cli_commands.specs.Faults.{IsRow};
 
 use cli_lines::{Fault, MOST_BYTES};
 use desk_bytes::{LONGEST_IMAGE, Refusal, read_all};

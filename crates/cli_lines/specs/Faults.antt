@@ -1,5 +1,5 @@
 -- Rows of the table of refusals with their places.
-use Rattle.std.specs.Prelude.{None, Some}
+use Rattle.std.specs.Prelude.{◌≡◌, None, Some}
 use Rattle.desk_bytes.specs.Inputs as input
 use Rattle.desk_bytes.specs.declared.input.InputFault.{InputFault}
 use Rattle.desk_bytes.specs.declared.refusal.Refusal.{Refusal}
@@ -18,6 +18,10 @@ use Rattle.siglist.specs.declared.fault.PackFault.{PackFault}
 -- own: a row without a place
 abbrev pub row_of : Refusal → Fault
 row_of refusal = record { refusal = refusal; place = None }
+
+-- a row without a place, whose refusal is one of these
+abbrev pub IsRow : (Refusal → Type 0) → Fault → Type 0
+IsRow P fault = (fault.place ≡ None) × P fault.refusal
 
 -- own: the row for a text that isn't packed
 abbrev pub of_pack : PackFault → Fault

@@ -1,3 +1,4 @@
+pub mod Endings
 pub mod FaultLines
 pub mod Faults
 pub mod Statuses

@@ -11,8 +11,8 @@ use Rattle.desk_store.specs.Closed.{AreClosed, OpenAgain}
 use Rattle.desk_store.specs.Desks.{ShowsDesk}
 use Rattle.desk_store.specs.declared.desk.Desk.{Desk}
 use Rattle.cli_opening.specs.Faults.{IsLasting}
-use Rattle.cli_commands.specs.declared.ending.Ending.{Ending}
-use Rattle.cli_commands.specs.declared.ending.Outcome.{Outcome}
+use Rattle.cli_lines.specs.declared.ending.Ending.{Ending}
+use Rattle.cli_lines.specs.declared.ending.Outcome.{Outcome}
 
 -- own: the work ended with a fault after which the desk must be opened again
 abbrev pub FailsForGood : Result Outcome Fault → Type 0

@@ -17,6 +17,10 @@ IsMakingRefusal refusal = IsFileRefusal refusal ⊎ ((refusal ≡ refusals.Exist
 abbrev pub IsOpeningRefusal : Refusal → Type 0
 IsOpeningRefusal refusal = IsFileRefusal refusal ⊎ ((refusal ≡ refusals.Version) ⊎ IsReadRefusal refusal)
 
+-- the refusals for a close that fails: a device's
+abbrev pub IsClosingRefusal : Refusal → Type 0
+IsClosingRefusal refusal = IsFailure refusal ⊎ (refusal ≡ refusals.Reopen)
+
 -- own: after these the desk must be opened again
 abbrev pub IsLasting : Refusal → Type 0
 IsLasting refusal = (refusal ≡ refusals.Store) ⊎ (refusal ≡ refusals.Reopen)

@@ -3,8 +3,8 @@ use Rattle.std.specs.Prelude.{◌≡◌}
 use Rattle.sqlite_disk.specs.declared.Disk.{Ghosts}
 use Rattle.sqlite_store.specs.declared.store.FileStore.{FileStore}
 use Rattle.desk_bytes.specs.declared.refusal.Refusal.{Refusal}
-use Rattle.cli_commands.specs.Endings.{unopened}
-use Rattle.cli_commands.specs.declared.ending.Ending.{Ending}
+use Rattle.cli_lines.specs.Endings.{unopened}
+use Rattle.cli_lines.specs.declared.ending.Ending.{Ending}
 use Rattle.desk_store.specs.declared.desk.Desk.{Desk}
 use Rattle.cli_opening.specs.Faults.{IsOpeningRefusal}
 use Rattle.cli_opening.specs.Opening.{IsOpened}

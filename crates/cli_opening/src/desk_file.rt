@@ -1,14 +1,13 @@
 //! A desk's file: made, opened and closed.
 ghost use Rattle.std.specs.Prelude.{◌≡◌, None, IfErr, IfOk, IfSome, OnOk, false, true};
 ghost use Rattle.cli_opening.specs.Closing.{Ends, FailsForGood, IsClosed};
-ghost use Rattle.cli_opening.specs.Faults.{IsFileRefusal, IsLasting, IsMakingRefusal};
-ghost use Rattle.cli_opening.specs.Faults.{IsOpeningRefusal};
+ghost use Rattle.cli_opening.specs.Faults.{IsClosingRefusal, IsFileRefusal, IsLasting};
+ghost use Rattle.cli_opening.specs.Faults.{IsMakingRefusal, IsOpeningRefusal};
 ghost use Rattle.cli_opening.specs.Opening.{IsMade, IsOpened, Makes, Opens};
-ghost use Rattle.cli_commands.specs.Faults.{IsClosingRefusal, IsRow};
+ghost use Rattle.cli_lines.specs.Faults.{IsRow};
 
 use crate::connect;
-use cli_commands::{Ending, Outcome};
-use cli_lines::Fault;
+use cli_lines::{Ending, Fault, Outcome};
 use desk_bytes::{Guid, Refusal};
 use desk_store::Desk;
 use sqlite::{Alter, Connection, File, FileStore, Unknown};

@@ -19,9 +19,9 @@ use Rattle.desk_store.specs.Desks.{ShowsDesk}
 use Rattle.desk_store.specs.declared.desk.Desk.{Desk}
 use Rattle.desk_history.specs.Calls.{History}
 use Rattle.cli_opening.specs.Closing.{Ends}
-use Rattle.cli_commands.specs.declared.ending.Ending.{Ending}
-use Rattle.cli_commands.specs.declared.ending.Outcome.{Outcome}
-use Rattle.cli_commands.specs.declared.ending.Outcome.TheVariants.{Done}
+use Rattle.cli_lines.specs.declared.ending.Ending.{Ending}
+use Rattle.cli_lines.specs.declared.ending.Outcome.{Outcome}
+use Rattle.cli_lines.specs.declared.ending.Outcome.TheVariants.{Done}
 
 -- own: the result of a program that serves connections, as a subcommand's work
 abbrev pub work_of : Result Unit Refusal → Result Outcome Fault

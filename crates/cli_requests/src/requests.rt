@@ -3,14 +3,14 @@ ghost use Rattle.std.specs.Prelude.{◌≡◌, ◌⊎◌, None, IfErr, IfOk, IfS
 ghost use Rattle.std.specs.Io.KnownBytes.{Keeps};
 ghost use Rattle.http_net.specs.Faults.{IsAnsweringRefusal, IsServingRefusal};
 ghost use Rattle.http_net.specs.Wire.{IsOneRequest};
-ghost use Rattle.cli_opening.specs.Faults.{IsLasting, IsOfOpening, IsOpeningRefusal};
+ghost use Rattle.cli_lines.specs.Faults.{IsRow};
+ghost use Rattle.cli_opening.specs.Faults.{IsClosingRefusal, IsLasting, IsOfOpening};
+ghost use Rattle.cli_opening.specs.Faults.{IsOpeningRefusal};
 ghost use Rattle.cli_opening.specs.Works.{AtADesk, IsUnopened};
 ghost use Rattle.cli_requests.specs.Works.{AnswersOnce, AnswersOne, Serves};
 ghost use Rattle.cli_requests.specs.Works.{ServesPort, WorksInTurn, WorksOnce};
-ghost use Rattle.cli_commands.specs.Faults.{IsClosingRefusal, IsRow};
 
-use cli_commands::{Ending, Outcome};
-use cli_lines::Fault;
+use cli_lines::{Ending, Fault, Outcome};
 use cli_opening::{ended, open};
 use desk_answers::OpenDesk;
 use desk_bytes::Refusal;

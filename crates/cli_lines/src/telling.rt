@@ -1,11 +1,12 @@
 //! The last line of a subcommand over a desk's file.
 ghost use Rattle.std.specs.Prelude.{◌≡◌};
 ghost use Rattle.desk_bytes.specs.Output.{AppendsBeginning};
-ghost use Rattle.cli_commands.specs.Endings.{TellsEnding, closing_line, status_after};
-ghost use Rattle.cli_commands.specs.Endings.{status_of_ending, status_of_work, work_line};
+ghost use Rattle.cli_lines.specs.Endings.{TellsEnding, closing_line, status_after};
+ghost use Rattle.cli_lines.specs.Endings.{status_of_ending, status_of_work, work_line};
 
 use crate::ending::{Ending, Outcome};
-use cli_lines::{Fault, print_fault};
+use crate::fault::Fault;
+use crate::printing::print_fault;
 use std::io::Write;
 
 /// The status of an image that a desk doesn't allow.

@@ -6,9 +6,9 @@ use Rattle.cli_lines.specs.FaultLines.{fault_line}
 use Rattle.cli_lines.specs.Faults.{row_of}
 use Rattle.cli_lines.specs.Statuses.{status_of}
 use Rattle.cli_lines.specs.declared.fault.Fault.{Fault}
-use Rattle.cli_commands.specs.declared.ending.Ending.{Ending}
-use Rattle.cli_commands.specs.declared.ending.Outcome.{Outcome}
-use Rattle.cli_commands.specs.declared.ending.Outcome.TheVariants.{Done, Refused}
+use Rattle.cli_lines.specs.declared.ending.Ending.{Ending}
+use Rattle.cli_lines.specs.declared.ending.Outcome.{Outcome}
+use Rattle.cli_lines.specs.declared.ending.Outcome.TheVariants.{Done, Refused}
 
 -- own: if no desk is opened, that refusal is the end, and nothing is closed
 abbrev pub unopened : Refusal → Ending

@@ -1,10 +1,10 @@
 //! A law of how a subcommand ends.
 ghost use Rattle.std.specs.Prelude.{◌≡◌, Some};
-ghost use Rattle.cli_commands.specs.Endings.{status_of_ending};
-ghost use Rattle.cli_commands.specs.Faults.{IsClosingRefusal, IsRow};
+ghost use Rattle.cli_lines.specs.Endings.{status_of_ending};
+ghost use Rattle.cli_lines.specs.Faults.{IsRow};
+ghost use Rattle.cli_opening.specs.Faults.{IsClosingRefusal};
 
-use crate::ending::Ending;
-use cli_lines::Fault;
+use cli_lines::{Ending, Fault};
 
 /// A desk that couldn't be closed ends its subcommand with status 3, whatever the outcome of its
 /// work.

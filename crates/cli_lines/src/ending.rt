@@ -1,8 +1,8 @@
 //! The exit status of a subcommand over a desk's file.
 ghost use Rattle.std.specs.Prelude.{◌≡◌};
-ghost use Rattle.cli_commands.specs.Endings.{unopened};
+ghost use Rattle.cli_lines.specs.Endings.{unopened};
 
-use cli_lines::Fault;
+use crate::fault::Fault;
 use desk_bytes::Refusal;
 
 /// The outcome of a subcommand's work.
