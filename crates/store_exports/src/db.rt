@@ -4,7 +4,7 @@ ghost use Rattle.std.specs.List.{flat_map};
 ghost use Rattle.sqlite.specs.Held.{state};
 ghost use Rattle.sqlite.specs.State.{HasCleanDisk};
 ghost use Rattle.siglist.specs.SignatureLists.{spelling};
-ghost use Rattle.siglist.specs.Writing.{sha256_entry_bytes, sha256_parts, x509_row};
+ghost use Rattle.siglist.specs.Writing.{sha256_parts, x509_row};
 ghost use Rattle.desk_texts.specs.declared.kind.ListedKind.TheVariants as kinds;
 ghost use Rattle.desk_exports.specs.Exports.{db, entries_of};
 ghost use Rattle.store_exports.specs.Exporting.{BeginsOf, Exports, SparesOf, StaysOf, WritesOf};
@@ -23,23 +23,7 @@ use std::io::Write;
 use store_reads::Counted;
 use store_schema::SELECT_LISTED_OF;
 
-/// Writes an entry for each listed digest of an image, ascending.
-fn put_digests<S: Alter, W: Write>(
-    alloc: Global,
-    conn: &mut Connection<S>,
-    owner: Guid,
-    writer: &mut W,
-) -> Result<(), ExportFault>
-    ensures { Exports S.Store conn.old conn.new
-        (W.contents writer.old) (W.contents writer.new) result
-        (λ _ cs. flat_map (λ e. sha256_entry_bytes owner e.digest) (entries_of kinds.Digest cs)) }
-{
-    let form = ListedDigest { owner };
-    let kind = ListedKind::Digest.text();
-    put_rows(alloc, conn, SELECT_LISTED_OF, params![kind], &form, writer)
-}
-
-/// Writes the list of the listed digests of images, if there is one.
+/// Writes the list of the listed digests of images, ascending, if there is one.
 fn put_digest_list<S: Alter, W: Write>(
     alloc: Global,
     conn: &mut Connection<S>,
@@ -56,7 +40,9 @@ fn put_digest_list<S: Alter, W: Write>(
     }
     let count = head_count(counted)?;
     sha256_head(count, writer)?;
-    put_digests(alloc, conn, owner, writer)
+    let form = ListedDigest { owner };
+    let kind = ListedKind::Digest.text();
+    put_rows(alloc, conn, SELECT_LISTED_OF, params![kind], &form, writer)
 }
 
 /// Writes a list for each listed certificate, ascending by its digest.

@@ -1,10 +1,8 @@
 //! dbx: the revoked entries.
 ghost use Rattle.std.specs.Prelude.{◌≡◌, IfErr, OnErr, OnOk};
-ghost use Rattle.std.specs.List.{flat_map};
 ghost use Rattle.sqlite.specs.Held.{state};
 ghost use Rattle.sqlite.specs.State.{HasCleanDisk};
-ghost use Rattle.siglist.specs.Writing.{sha256_entry_bytes, sha256_parts};
-ghost use Rattle.siglist.specs.Writing.{x509_sha256_entry_bytes, x509_sha256_parts};
+ghost use Rattle.siglist.specs.Writing.{sha256_parts, x509_sha256_parts};
 ghost use Rattle.desk_texts.specs.declared.kind.ListedKind.TheVariants as kinds;
 ghost use Rattle.desk_exports.specs.Exports.{dbx, revoked};
 ghost use Rattle.store_exports.specs.Exporting.{BeginsOf, Exports, SparesOf, StaysOf, WritesOf};
@@ -22,22 +20,7 @@ use std::io::Write;
 use store_reads::Counted;
 use store_schema::{SELECT_REVOKED_CERTIFICATES, SELECT_REVOKED_DIGESTS};
 
-/// Writes an entry for each revoked digest of an image, ascending.
-fn put_digests<S: Alter, W: Write>(
-    alloc: Global,
-    conn: &mut Connection<S>,
-    owner: Guid,
-    writer: &mut W,
-) -> Result<(), ExportFault>
-    ensures { Exports S.Store conn.old conn.new
-        (W.contents writer.old) (W.contents writer.new) result
-        (λ _ cs. flat_map (sha256_entry_bytes owner) (revoked kinds.Digest cs)) }
-{
-    let form = RevokedDigest { owner };
-    put_rows(alloc, conn, SELECT_REVOKED_DIGESTS, &[], &form, writer)
-}
-
-/// Writes the list of the revoked digests of images, if there is one.
+/// Writes the list of the revoked digests of images, ascending, if there is one.
 fn put_digest_list<S: Alter, W: Write>(
     alloc: Global,
     conn: &mut Connection<S>,
@@ -54,25 +37,11 @@ fn put_digest_list<S: Alter, W: Write>(
     }
     let count = head_count(counted)?;
     sha256_head(count, writer)?;
-    put_digests(alloc, conn, owner, writer)
+    let form = RevokedDigest { owner };
+    put_rows(alloc, conn, SELECT_REVOKED_DIGESTS, &[], &form, writer)
 }
 
-/// Writes an entry for each revoked certificate, ascending by its digest.
-fn put_certificates<S: Alter, W: Write>(
-    alloc: Global,
-    conn: &mut Connection<S>,
-    owner: Guid,
-    writer: &mut W,
-) -> Result<(), ExportFault>
-    ensures { Exports S.Store conn.old conn.new
-        (W.contents writer.old) (W.contents writer.new) result
-        (λ _ cs. flat_map (x509_sha256_entry_bytes owner) (revoked kinds.Certificate cs)) }
-{
-    let form = RevokedCertificate { owner };
-    put_rows(alloc, conn, SELECT_REVOKED_CERTIFICATES, &[], &form, writer)
-}
-
-/// Writes the list of the revoked certificates, if there is one.
+/// Writes the list of the revoked certificates, ascending by their digests, if there is one.
 fn put_certificate_list<S: Alter, W: Write>(
     alloc: Global,
     conn: &mut Connection<S>,
@@ -89,7 +58,8 @@ fn put_certificate_list<S: Alter, W: Write>(
     }
     let count = head_count(counted)?;
     x509_sha256_head(count, writer)?;
-    put_certificates(alloc, conn, owner, writer)
+    let form = RevokedCertificate { owner };
+    put_rows(alloc, conn, SELECT_REVOKED_CERTIFICATES, &[], &form, writer)
 }
 
 /// Writes both lists.

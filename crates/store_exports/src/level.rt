@@ -1,10 +1,8 @@
 //! The level, as SBAT text.
 ghost use Rattle.std.specs.Prelude.{◌≡◌, IfErr, OnErr, OnOk};
-ghost use Rattle.std.specs.List.{flat_map};
 ghost use Rattle.sqlite.specs.Held.{state};
 ghost use Rattle.sqlite.specs.State.{HasCleanDisk};
-ghost use Rattle.sbat.specs.Writing.{row_text};
-ghost use Rattle.desk_exports.specs.Exports.{level, level_components};
+ghost use Rattle.desk_exports.specs.Exports.{level};
 ghost use Rattle.store_exports.specs.Exporting.{BeginsOf, Exports, SparesOf, StaysOf, WritesOf};
 ghost use Rattle.store_exports.specs.Faults.{IsExportFailure};
 
@@ -19,20 +17,7 @@ use std::alloc::Global;
 use std::io::Write;
 use store_schema::SELECT_COMPONENTS;
 
-/// Writes a line for each component, ascending by name.
-fn put_components<S: Alter, W: Write>(
-    alloc: Global,
-    conn: &mut Connection<S>,
-    writer: &mut W,
-) -> Result<(), ExportFault>
-    ensures { Exports S.Store conn.old conn.new
-        (W.contents writer.old) (W.contents writer.new) result
-        (λ _ cs. flat_map (λ x. row_text x.name x.generation) (level_components cs)) }
-{
-    put_rows(alloc, conn, SELECT_COMPONENTS, &[], &LevelLine, writer)
-}
-
-/// Writes the first line and the components' lines.
+/// Writes the first line, and a line for each component, ascending by name.
 pub(crate) fn put_level<S: Alter, W: Write>(
     alloc: Global,
     conn: &mut Connection<S>,
@@ -43,5 +28,5 @@ pub(crate) fn put_level<S: Alter, W: Write>(
 {
     let row = own(alloc, conn)?;
     level_head(row.stamp, writer)?;
-    put_components(alloc, conn, writer)
+    put_rows(alloc, conn, SELECT_COMPONENTS, &[], &LevelLine, writer)
 }

@@ -1,6 +1,9 @@
 use Rattle.std.proofs.Common.{◌≡◌, ◌≤◌, ◌++◌, ◌∙◌, ℕ, List, [], ◌∷◌, map, filter, flat_map, count_by, length, refl, ap, sym, subst, rules}
 use Rattle.std.proofs.lemmas.Result.{err_from_is_err_and}
+use Rattle.sqlite.specs.Held.{state}
+use Rattle.sqlite.specs.declared.types.Value.TheVariants.{Text}
 use Rattle.siglist.specs.Writing.{sha256_entry_bytes, sha256_head_bytes, sha256_parts}
+use Rattle.desk_texts.specs.Words.{kind_text}
 use Rattle.desk_texts.specs.declared.kind.ListedKind.TheVariants as kinds
 use Rattle.std.proofs.lemmas.List.{length-map}
 use Rattle.std.proofs.lemmas.List.Sums.{length-filter}
@@ -8,10 +11,14 @@ use Rattle.desk_history.specs.declared.rows.Entry.{Entry}
 use Rattle.desk_history.specs.Calls.{History, is_same_kind}
 use Rattle.desk_history.specs.Listing.{listed}
 use Rattle.desk_exports.specs.Exports.{entries_of}
+use Rattle.store_schema.specs.declared.selecting.TheConstants.{SELECT_LISTED_OF}
+use Rattle.store_schema.specs.rows.Values.{entry_values}
+use Rattle.store_schema.proofs.SelectFacts as facts
 use Rattle.store_exports.specs.Exporting.{Exports}
 use Rattle.store_reads.specs.declared.counts.Counted.TheVariants as what
 use Rattle.store_exports.proofs.CountedLemmas.{empty, head_stopped, whole}
-use Rattle.store_exports.proofs.StepLemmas.{same_bytes}
+use Rattle.store_exports.proofs.ListedLemmas.{tells_listed_digests}
+use Rattle.store_exports.proofs.StepLemmas.{of_rows, same_bytes}
 use Rattle.desk_exports.proofs.OrderLemmas.{length_ascending}
 use Rattle.store_exports.proofs.PartLemmas.{sha256-none, sha256-some}
 use Rattle.store_exports.proofs.db.put_digest_list.Goals as goal
@@ -49,11 +56,15 @@ returns g c =
     let old = c.args.conn.now in
     let mid = c.size.new.conn in
     let owner = c.args.owner in
+    let head = g.W.Write.contents c.sha256_head.new.writer in
+    let all = g.W.Write.contents c.put_rows.new.writer in
     let more : 1 ≤ c.in_ok-count.count = search rules in
     whole g.S.Store sha256_head_bytes (sha256_entry_bytes owner) (sha256_parts owner) (sha256-none owner) (sha256-some owner) (what.ListedOf kinds.Digest) (λ cs. map (λ e. e.digest) (entries_of kinds.Digest cs))
     (λ _ cs. sized cs) old mid c.in_ok-counted.ensures.same c.in_ok-counted.ensures.survives c.in_ok-count.count
     (λ clean by cs was. c.in_ok-count.ensures.0 ∙ c.in_ok-counted.ensures.ok clean by cs was)
-    c.put_digests.new.conn (g.W.Write.contents c.args.writer.now) (g.W.Write.contents c.sha256_head.new.writer) (g.W.Write.contents c.put_digests.new.writer) c.put_digests.result more c.in_ok-sha256_head.ensures.ok
-    (same_bytes g.S.Store mid c.put_digests.new.conn (g.W.Write.contents c.sha256_head.new.writer) (g.W.Write.contents c.put_digests.new.writer) c.put_digests.result
+    c.put_rows.new.conn (g.W.Write.contents c.args.writer.now) head all c.put_rows.result more c.in_ok-sha256_head.ensures.ok
+    (same_bytes g.S.Store mid c.put_rows.new.conn head all c.put_rows.result
     (λ _ cs. flat_map (λ e. sha256_entry_bytes owner e.digest) (entries_of kinds.Digest cs)) (λ _ cs. flat_map (sha256_entry_bytes owner) (map (λ e. e.digest) (entries_of kinds.Digest cs)))
-    (λ _ cs. by_digest owner (entries_of kinds.Digest cs)) c.put_digests.ensures)
+    (λ _ cs. by_digest owner (entries_of kinds.Digest cs))
+    (of_rows g.S.Store entry_values (λ e. sha256_entry_bytes owner e.digest) SELECT_LISTED_OF.now (Text (kind_text kinds.Digest) ∷ []) (entries_of kinds.Digest) mid c.put_rows.new.conn head all c.put_rows.result
+    facts.select_listed_of.plain (λ clean. tells_listed_digests (state g.S.Store mid) clean owner) (rw (c.params-to_sql.ensures, c.text-kind.ensures) at c.put_rows.ensures)))

@@ -1,4 +1,4 @@
-use Rattle.std.proofs.Common.{◌≡◌, ◌++◌, ◌∙◌, ℕ, flat_map, ap, sym, subst}
+use Rattle.std.proofs.Common.{[], ◌≡◌, ◌++◌, ◌∙◌, ℕ, flat_map, ap, sym, subst}
 use Rattle.std.proofs.lemmas.Result.{err_from_is_err_and}
 use Rattle.sqlite.specs.Held.{state}
 use Rattle.sbat.specs.Writing.{head_text, row_text}
@@ -8,8 +8,12 @@ use Rattle.desk_history.specs.Calls.{History}
 use Rattle.desk_history.specs.Level.{stamp}
 use Rattle.desk_exports.specs.Exports.{level, level_components}
 use Rattle.desk_exports.proofs.PartLemmas.{rows-parts}
+use Rattle.store_schema.specs.declared.selecting.TheConstants.{SELECT_COMPONENTS}
+use Rattle.store_schema.specs.rows.Values.{component_values}
+use Rattle.store_schema.proofs.SelectFacts as facts
 use Rattle.store_exports.specs.Exporting.{Exports}
-use Rattle.store_exports.proofs.StepLemmas.{after_read, after_write, stopped_read}
+use Rattle.store_exports.proofs.ListedLemmas.{tells_components}
+use Rattle.store_exports.proofs.StepLemmas.{after_read, after_write, of_rows, stopped_read}
 use Rattle.store_exports.proofs.level.put_level.Goals as goal
 
 -- the stamp that was read is the level's
@@ -34,11 +38,13 @@ pub returns : goal.returns
 returns g c =
     let old = c.args.conn.now in
     let mid = c.own.new.conn in
-    let end = c.put_components.new.conn in
+    let end = c.put_rows.new.conn in
     let n = c.in_ok-row.row.stamp in
     let x = g.W.Write.contents c.args.writer.now in
     let y = g.W.Write.contents c.level_head.new.writer in
-    let z = g.W.Write.contents c.put_components.new.writer in
-    after_read g.S.Store old mid end x z c.put_components.result (λ _ cs. head_text n ++ flat_map (λ x. row_text x.name x.generation) (level_components cs)) (λ _ cs. level cs)
+    let z = g.W.Write.contents c.put_rows.new.writer in
+    after_read g.S.Store old mid end x z c.put_rows.result (λ _ cs. head_text n ++ flat_map (λ x. row_text x.name x.generation) (level_components cs)) (λ _ cs. level cs)
     c.in_ok-row.ensures.same c.in_ok-row.ensures.survives (λ clean owner cs was. is_level n cs (c.in_ok-row.ensures.ok clean owner cs was).1)
-    (after_write g.S.Store mid end x y z c.put_components.result (head_text n) (λ _ cs. flat_map (λ x. row_text x.name x.generation) (level_components cs)) c.in_ok-level_head.ensures.ok c.put_components.ensures)
+    (after_write g.S.Store mid end x y z c.put_rows.result (head_text n) (λ _ cs. flat_map (λ x. row_text x.name x.generation) (level_components cs)) c.in_ok-level_head.ensures.ok
+    (of_rows g.S.Store component_values (λ x. row_text x.name x.generation) SELECT_COMPONENTS.now [] level_components mid end y z c.put_rows.result
+    facts.select_components.plain (tells_components (state g.S.Store mid)) c.put_rows.ensures))
