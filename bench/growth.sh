@@ -7,7 +7,9 @@
 # that the server took above an idle one, as a ratio to the length. The last part does the same for
 # GET /proposals, with a tenth as many proposals. Times are of the clock, medians of five. The
 # program is ./desk's, or the one that $DESK_BENCH_PROGRAM names. It fails where a list takes more
-# than 1.5 times its length. Not part of the gate: it needs python3 and sqlite3, and takes two minutes.
+# than 1.5 times its length, an opening more than 1.5 times the file's, or a request or a proposal
+# more bytes of the file than packaging/README.md says. Not part of the gate: it needs python3 and
+# sqlite3, and takes two minutes.
 set -eu
 root=$(CDPATH='' cd -- "$(dirname -- "$(readlink -f -- "$0")")/.." && pwd -P)
 if [ -n "${DESK_BENCH_PROGRAM:-}" ]; then

@@ -10,104 +10,15 @@
 # README, or is claimed there twice. The last line is `N rows, M missing`.
 set -u
 cd "$(dirname "$0")/.." || exit 1
-exec python3 - <<'END'
+PYTHONPATH=checks/clauses exec python3 -B - <<'END'
 import glob, os, re, sys
+from clauses import calls_of, crates
 
-FULL = sorted(crate for crate in os.listdir('crates') if os.path.exists(f'crates/{crate}/src/lib.rt'))
-
-def plain(text):
-    """The text without comments, and with nothing in its quotes."""
-    quoted = r'r(#+)".*?"\1|"(?:[^"\\]|\\.)*"|\'(?:[^\'\\\n]|\\.[^\'\n]*)\'(?![a-z_A-Z])'
-    return re.sub(r'//[^\n]*|' + quoted, lambda m: '' if m.group(0).startswith('//') else '""', text, flags=re.S)
-
-def words(path):
-    return re.findall(r'[A-Za-z_][A-Za-z_0-9]*|::|->|\S', plain(open(path, encoding='utf-8').read()))
-
-def end_of(tokens, at):
-    """The index after the bracket that matches the one at `at`."""
-    depth = 0
-    while True:
-        depth += (tokens[at] in '{[(') - (tokens[at] in '}])')
-        at += 1
-        if depth == 0:
-            return at
-
-def owner_of(head):
-    """The name of the type that an `impl` is for: the last name outside angle brackets, after `for` if it has one."""
-    depth, name, skipping = 0, '', head[:1] == ['<']
-    for at, token in enumerate(head):
-        depth += (token == '<') - (token == '>')
-        if depth == 0 and token == 'where':
-            break
-        if depth == 0 and re.match('[A-Za-z]', token) and token != 'for':
-            name = token
-    return name
-
-def functions(tokens, at, end, owner, of_trait):
-    """Each function between the two indices: its owner, its name, whether others may call it, and its clauses."""
-    public = False
-    while at < end:
-        token = tokens[at]
-        if token == 'pub' and tokens[at + 1] == '(':
-            at = end_of(tokens, at + 1)
-        elif token == 'pub':
-            public, at = True, at + 1
-        elif token == '#':
-            at = end_of(tokens, at + 1 + (tokens[at + 1] == '!'))
-        elif token == 'fn':
-            name, clauses, at = tokens[at + 1], [], at + 2
-            while True:
-                token = tokens[at]
-                if token in ('ensures', 'requires'):
-                    named = tokens[at + 1] != '{'
-                    if token == 'ensures':
-                        clauses.append(tokens[at + 1] if named else '')
-                    at = end_of(tokens, at + 1 + named)
-                elif token in ('decreases', 'variant'):
-                    at = end_of(tokens, tokens.index('{', at))
-                elif token in '([':
-                    at = end_of(tokens, at)
-                elif token == '{':
-                    at = end_of(tokens, at)
-                    break
-                else:
-                    at += 1
-                    if token == ';':
-                        break
-            yield owner, name, public or of_trait, clauses
-            public = False
-        elif token in ('impl', 'trait', 'mod'):
-            at, head = at + 1, []
-            while tokens[at] not in '{;':
-                after = end_of(tokens, at) if tokens[at] in '([' else at + 1
-                head += tokens[at:after]
-                at = after
-            after = end_of(tokens, at) if tokens[at] == '{' else at + 1
-            if token == 'trait' and public:
-                yield from functions(tokens, at + 1, after - 1, head[0], True)
-            if token == 'impl':
-                yield from functions(tokens, at + 1, after - 1, owner_of(head), 'for' in head)
-            at, public = after, False
-        elif token == '{':
-            at, public = end_of(tokens, at), False
-        else:
-            public = public and token != ';'
-            at += 1
+FULL = crates()
 
 def offered(crate):
-    """The public calls of a crate, each with the names of its clauses."""
-    room = f'crates/{crate}/src'
-    names = set()
-    for path in re.findall(r'pub use ([^;]*);', plain(open(f'{room}/lib.rt', encoding='utf-8').read())):
-        inner = re.search(r'\{(.*)\}', path, re.S)
-        names |= {name.strip().split('::')[-1].split(' as ')[-1].strip() for name in (inner.group(1) if inner else path).split(',')}
-    calls = {}
-    for path in sorted(glob.glob(f'{room}/**/*.rt', recursive=True)):
-        tokens = words(path)
-        for owner, name, public, clauses in functions(tokens, 0, len(tokens), '', False):
-            if public and (owner or name) in names:
-                calls.setdefault(f'{owner}::{name}' if owner else name, []).extend(clauses)
-    return calls
+    """The public calls of a crate, each with the names of what it ensures."""
+    return {call: [name for kind, name, _ in clauses if kind == 'ensures'] for call, clauses in calls_of(crate).items()}
 
 def claims(path):
     """The rows of the tables of claims: the number of the line, the calls, the clauses."""

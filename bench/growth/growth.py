@@ -1,5 +1,6 @@
 """Measures what requests and proposals make grow: see ../growth.sh."""
 import os
+import re
 import statistics
 import subprocess
 import sys
@@ -11,11 +12,21 @@ from desk import PLAIN, Program, Server, expect, fail, got, sha256, with_text
 sys.stdout.reconfigure(line_buffering=True)
 REQUESTS = int(sys.argv[2]) if len(sys.argv) > 2 else 10_000
 ROUNDS = 5
-# The most memory that a list may take, of its length.
+# The most memory that a list may take, of its length, and an opening, of the file's.
 MOST_MEMORY = 1.5
+# The bytes of the file that each takes, as the administrator is told; a measured one may be a twentieth above.
+TABLE = f"{os.path.dirname(os.path.realpath(__file__))}/../../packaging/README.md"
+SLACK = 1.05
 HEAD = "sbat,1,SBAT Version,sbat,1,https://github.com/rhboot/shim/blob/main/SBAT.md\n"
 # As many components as a request may have, with names as long as they may be.
 LARGE = with_text(PLAIN, (HEAD + "".join(f"c{it:03}{'n' * 60},1,a,b,1,u\n" for it in range(255))).encode())
+
+
+def documented():
+    """The bytes of a request of a plain image, of one of 256 components, and of a proposal of a digest."""
+    with open(TABLE, encoding="utf-8") as page:
+        said = re.search(r"(\d+) bytes for an image without SBAT, (\d+) KB for one of 256 components.*?(\d+) bytes for a proposal of a digest", page.read(), re.S)
+    return int(said[1]), 1000 * int(said[2]), int(said[3])
 
 
 def timed(run):
@@ -56,13 +67,17 @@ def listing(program, desk, name, path):
         return len(answer), took, server.memory() - idle
 
 
-def told(program, empty, desk, count, what):
+def told(program, empty, desk, count, what, most):
     size, first = os.path.getsize(desk), os.path.getsize(empty)
     opening = timed(lambda: program.gives("level", desk))
     beside = timed(lambda: checked(desk))
     memory = most_memory(program.path, "level", desk) - most_memory(program.path, "level", empty)
     print(f"{what}: {count:,}, a file of {size / 1e6:.1f} MB, {(size - first) / count:,.0f} bytes each")
     print(f"  opening {opening:.3f} s, sqlite3's integrity_check {beside:.3f} s, ratio {opening / beside:.2f}; {memory / 1e6:.1f} MB of memory")
+    if size - first > SLACK * most * count:
+        fail(f"{what} take more than {most:,} bytes each, as packaging/README.md has it")
+    if memory > MOST_MEMORY * size:
+        fail(f"an opening takes more than {MOST_MEMORY} of the file's length in memory")
 
 
 def filled(program, name, steps):
@@ -81,20 +96,21 @@ def lists(program, desk, name, path):
         fail(f"GET {path} takes more than {MOST_MEMORY} of its length in memory")
 
 
+PLAIN_REQUEST, LARGE_REQUEST, PROPOSAL = documented()
 with Program(sys.argv[1]) as program:
     empty = program.founded("empty.db")
     program.gives("level", empty)
     small = filled(program, "small.db", (submits("ann", f"k{it}", PLAIN, "a loader", it) for it in range(1, REQUESTS + 1)))
-    told(program, empty, small, REQUESTS, "requests of a plain image")
+    told(program, empty, small, REQUESTS, "requests of a plain image", PLAIN_REQUEST)
     lists(program, small, "rita", "/requests")
     count = max(1, REQUESTS * 3 // 100)
     large = filled(program, "large.db", (submits("ann", f"k{it}", LARGE, "a loader", it) for it in range(1, count + 1)))
-    told(program, empty, large, count, "requests of 256 components")
+    told(program, empty, large, count, "requests of 256 components", LARGE_REQUEST)
     lists(program, large, "rita", "/requests")
     count = max(1, REQUESTS // 10)
     digests = filled(
         program, "proposals.db",
         (proposes("olga", f"k{it}", "/dbx/digests", named(sha256(str(it).encode())), it) for it in range(1, count + 1)),
     )
-    told(program, empty, digests, count, "proposals of a digest")
+    told(program, empty, digests, count, "proposals of a digest", PROPOSAL)
     lists(program, digests, "olga", "/proposals")
