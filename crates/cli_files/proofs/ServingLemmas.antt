@@ -4,10 +4,11 @@ use Rattle.std.specs.Prelude.{IfErr}
 use Rattle.desk_bytes.specs.declared.refusal.Refusal.{Refusal}
 use Rattle.desk_bytes.specs.declared.refusal.Refusal.TheVariants as refusals
 use Rattle.cli_lines.specs.declared.fault.Fault.{Fault}
+use Rattle.desk_service.specs.declared.fault.FactsFault.{FactsFault}
 use Rattle.cli_files.specs.Faults.{IsImageFault, IsJudgingFault, IsUnreadRefusal}
 use Rattle.cli_opening.specs.Faults.{IsOfOpening, IsOpeningRefusal}
 use Rattle.desk_history.specs.DecisionRefusals.{may_answer}
-use Rattle.cli_lines.specs.Faults.{IsRow}
+use Rattle.cli_lines.specs.Faults.{IsRow, of_facts}
 use Rattle.cli_commands.specs.Faults.{IsAddingRefusal, IsWritingRefusal}
 use Rattle.cli_lines.specs.declared.ending.Outcome.{Outcome}
 
@@ -30,8 +31,11 @@ pub unread_apart : {X : Type 0} (refusal : Refusal) → IsUnreadRefusal refusal 
 unread_apart refusal unread opening = grind arith
 
 -- nor is the fault of an image
+row_apart : {X : Type 0} (fault : Fault) (why : FactsFault) → fault ≡ of_facts why → IsOfOpening fault.refusal → X
+row_apart fault why row opening = grind arith
+
 pub image_apart : {X : Type 0} (fault : Fault) → IsImageFault fault → IsOfOpening fault.refusal → X
-image_apart fault why opening = grind arith
+image_apart fault it opening = row_apart fault it.why it.row opening
 
 -- nor what stops a verdict
 pub judging_apart : (X : Type 0) (work : Result Outcome Fault) → IfErr work IsJudgingFault → IfErr work (λ fault. IsOfOpening fault.refusal → X)

@@ -1,7 +1,8 @@
 -- The outcome of a subcommand, by the desk that its work left and that was closed.
-use Rattle.std.proofs.Common.{◌≡◌, ◌≢◌, Option, ℕ, List, Result, Ok, Err, subst, sym}
-use Rattle.std.specs.Prelude.{IfOk, OnErr, OnOk}
-use Rattle.std.specs.Io.KnownBytes.{Appends}
+use Rattle.std.proofs.Common.{◌≡◌, ◌≢◌, Option, ℕ, List, Result, Ok, Err, inl, inr, subst, sym}
+use Rattle.std.specs.Prelude.{IfErr, IfOk, OnErr, OnOk}
+use Rattle.std.specs.Io.KnownBytes.{Appends, Keeps}
+use Rattle.std.proofs.KnownBytes.{Keeps-refl}
 use Rattle.sqlite.specs.Files.{file_state, over_files}
 use Rattle.sqlite.specs.Held.{state}
 use Rattle.sqlite.specs.State.{HasCleanDisk}
@@ -23,7 +24,7 @@ use Rattle.desk_store.specs.declared.desk.Desk.{Desk}
 use Rattle.desk_texts.specs.declared.facts.Facts.{Facts}
 use Rattle.cli_opening.specs.Closing.{Ends}
 use Rattle.cli_opening.specs.Opening.{IsMade}
-use Rattle.cli_files.specs.Works.{Exports, Judges, JudgesImage, MakesDesk, Reads}
+use Rattle.cli_files.specs.Works.{Exports, Judges, JudgesImage, MakesDesk, Reads, StopsVerdict}
 use Rattle.cli_commands.specs.Works.{outcome_of}
 use Rattle.cli_lines.specs.declared.ending.Ending.{Ending}
 use Rattle.cli_lines.specs.declared.ending.Outcome.{Outcome}
@@ -37,6 +38,23 @@ pub judged : {S : Type 0} (g : store.Ghosts S) (old new : Desk S) (before after 
 judged g old new before after (Err fault) found of told = tt
 judged g old new before after (Ok outcome) found of told =
     record { image = of.0; found = found; facts = of.1; said = told.0; exact = told.3; line = told.2; told = told.1 }
+
+-- the facts of an image weren't found: nothing was written
+pub unread : {S : Type 0} (g : store.Ghosts S) (old new : Desk S) (contents : Option (List ℕ)) (fault : Fault) → StopsVerdict g old new contents contents fault
+unread g old new contents fault = record { unwritten = λ other. Keeps-refl contents; beginning = inl (Keeps-refl contents) }
+
+-- a verdict on these facts stopped
+pub stopped : {S W : Type 0} (g : store.Ghosts S) (old new : Desk S) (contents : W → Option (List ℕ)) (before after : W) (work : Result Outcome Fault)
+    (found : Facts) → ((image : List ℕ) × IsFactsOf image found)
+    → IfErr work (λ fault. fault ≢ row_of refusals.Write → after ≡ before)
+    → (HasCleanDisk (state g new.conn) → OnErr work (ForEachShown g old new
+    (WritesBeginning (contents before) (contents after) (λ owner cs. verdict_line (verdicts.verdict cs found) found))))
+    → IfErr work (StopsVerdict g old new (contents before) (contents after))
+stopped g old new contents before after (Ok outcome) found of unwritten begins = tt
+stopped g old new contents before after (Err fault) found of unwritten begins = record {
+  unwritten = λ other. subst (λ w. Keeps (contents before) (contents w)) (sym (unwritten other)) (Keeps-refl (contents before));
+  beginning = inr (record { image = of.0; found = found; facts = of.1; begins = begins });
+}
 
 -- once the work is done, a desk was made
 pub made_desk : {D : Type 0} {g : Ghosts D} (owner : List ℕ) (ending : Ending) (desk : Desk (FileStore D g))
@@ -77,7 +95,9 @@ module _ {D : Type 0} (g : Ghosts D) (desk left : Desk (FileStore D g)) (ending 
   pub judges : (before after : Option (List ℕ))
       → (HasCleanDisk (file_state left.conn) → work ≢ Err (row_of refusals.Store) → KeepsDesk over_files desk left)
       → SparesDesk over_files desk left → IfOk work (JudgesImage over_files desk left before after)
+      → IfErr work (StopsVerdict over_files desk left before after)
       → Ends g left ending → Judges g before after ending desk
-  judges before after same spares told ended =
-      let P : Result Outcome Fault → Desk (FileStore D g) → Type 0 = λ w l. IfOk w (JudgesImage over_files desk l before after) in
-      reads P same spares told ended
+  judges before after same spares told stopped ended =
+      let P : Result Outcome Fault → Desk (FileStore D g) → Type 0 = λ w l. IfOk w (JudgesImage over_files desk l before after)
+      × IfErr w (StopsVerdict over_files desk l before after) in
+      reads P same spares (told, stopped) ended

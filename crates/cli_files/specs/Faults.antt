@@ -1,9 +1,10 @@
 -- The faults of a subcommand over a desk's file.
-use Rattle.std.specs.Prelude.{◌≡◌, ◌⊎◌}
+use Rattle.std.specs.Prelude.{◌≡◌, ◌⊎◌, ℕ, List}
 use Rattle.desk_bytes.specs.declared.refusal.Refusal.{Refusal}
 use Rattle.desk_bytes.specs.declared.refusal.Refusal.TheVariants as refusals
 use Rattle.cli_lines.specs.Faults.{IsRow, of_facts}
 use Rattle.cli_lines.specs.declared.fault.Fault.{Fault}
+use Rattle.desk_service.specs.ImageFacts.{IsFirstFault}
 use Rattle.desk_service.specs.declared.fault.FactsFault.{FactsFault}
 use Rattle.cli_commands.specs.Faults.{IsWritingRefusal}
 use Rattle.cli_opening.specs.Faults.{IsFileRefusal}
@@ -12,9 +13,15 @@ use Rattle.cli_opening.specs.Faults.{IsFileRefusal}
 abbrev pub IsUnreadRefusal : Refusal → Type 0
 IsUnreadRefusal refusal = IsFileRefusal refusal ⊎ (refusal ≡ refusals.Read)
 
--- an image has no facts: its row of the table, with the line of its SBAT text if that is wrong
-abbrev pub IsImageFault : Fault → Type 0
-IsImageFault fault = (why : FactsFault) × (fault ≡ of_facts why)
+-- an image has no facts: the row of its first fault, with the line of its SBAT text if that is
+-- wrong, by the numbers of failed reads before and after
+pub record IsImageFault (fault : Fault) : Type 0 where
+  pub image : List ℕ
+  pub before : ℕ
+  pub after : ℕ
+  pub why : FactsFault
+  pub first : IsFirstFault image before after why
+  pub row : fault ≡ of_facts why
 
 -- own: an image isn't judged: its file isn't read, it has no facts, or the open desk's answer isn't
 -- written

@@ -1,6 +1,6 @@
 -- The work of each subcommand on a desk over files, and its end.
-use Rattle.std.specs.Prelude.{◌≡◌, ◌≢◌, ℕ, List, Option, Err, IfOk, OnErr, OnOk}
-use Rattle.std.specs.Io.KnownBytes.{Appends}
+use Rattle.std.specs.Prelude.{◌≡◌, ◌≢◌, ◌⊎◌, ℕ, List, Option, Err, IfErr, IfOk, OnErr, OnOk}
+use Rattle.std.specs.Io.KnownBytes.{Appends, Keeps}
 use Rattle.sqlite.specs.Files.{file_state, over_files}
 use Rattle.sqlite.specs.Held.{state}
 use Rattle.sqlite.specs.State.{HasCleanDisk}
@@ -14,6 +14,7 @@ use Rattle.desk_history.specs.Verdicts as verdicts
 use Rattle.desk_history.specs.declared.finding.Verdict.{Verdict}
 use Rattle.cli_lines.specs.Faults.{row_of}
 use Rattle.cli_lines.specs.VerdictLines.{verdict_line}
+use Rattle.cli_lines.specs.declared.fault.Fault.{Fault}
 use Rattle.desk_rules.specs.Decisions.{called}
 use Rattle.desk_service.specs.ImageFacts.{IsFactsOf}
 use Rattle.desk_store.specs.Desks.{ForEachShown, KeepsDesk, MayStop, Replies}
@@ -46,6 +47,19 @@ pub record JudgesImage {S : Type 0} (g : store.Ghosts S) (old new : Desk S) (bef
   pub line : Appends before after (verdict_line said found)
   pub told : outcome ≡ outcome_of said
 
+-- the facts of an image were found, and a prefix of the line of the desk's verdict was written
+pub record BeginsVerdict {S : Type 0} (g : store.Ghosts S) (old new : Desk S) (before after : Option (List ℕ)) : Type 0 where
+  pub image : List ℕ
+  pub found : Facts
+  pub facts : IsFactsOf image found
+  pub begins : HasCleanDisk (state g new.conn)
+      → ForEachShown g old new (WritesBeginning before after (λ owner cs. verdict_line (verdicts.verdict cs found) found))
+
+-- own: a verdict stopped: nothing was written, or, only if the write failed, a prefix of its line
+pub record StopsVerdict {S : Type 0} (g : store.Ghosts S) (old new : Desk S) (before after : Option (List ℕ)) (fault : Fault) : Type 0 where
+  pub unwritten : fault ≢ row_of refusals.Write → Keeps before after
+  pub beginning : Keeps before after ⊎ BeginsVerdict g old new before after
+
 module _ {D : Type 0} (g : Ghosts D) where
   -- A subcommand that reads: after its work the desk shows each history that it showed, and a stop
   -- leaves only what it could have left before. Then the desk is closed.
@@ -63,9 +77,11 @@ module _ {D : Type 0} (g : Ghosts D) where
       → OnOk ending.work (ForEachShown over_files desk left (Writes before after (exported what)))
       × OnErr ending.work (ForEachShown over_files desk left (WritesBeginning before after (exported what))))
 
-  -- the line of the verdict on an image was written, and the outcome is that of the verdict
+  -- the line of the verdict on an image was written, and the outcome is that of the verdict; or the
+  -- verdict stopped
   abbrev pub Judges : Option (List ℕ) → Option (List ℕ) → Ending → Desk (FileStore D g) → Type 0
-  Judges before after ending desk = Reads desk ending (λ left. IfOk ending.work (JudgesImage over_files desk left before after))
+  Judges before after ending desk = Reads desk ending (λ left. IfOk ending.work (JudgesImage over_files desk left before after)
+      × IfErr ending.work (StopsVerdict over_files desk left before after))
 
   -- the desk answered a call of the console: the line of its reply was written, a stop leaves the
   -- history before the call or the one after it, and the desk is closed

@@ -13,7 +13,8 @@ ghost use Rattle.cli_files.specs.Faults.{IsImageFault, IsJudgingFault, IsUnreadR
 ghost use Rattle.cli_opening.specs.Faults.{IsClosingRefusal, IsLasting, IsMakingRefusal};
 ghost use Rattle.cli_opening.specs.Faults.{IsOfOpening, IsOpeningRefusal};
 ghost use Rattle.cli_opening.specs.Works.{AtADesk, IsUnopened};
-ghost use Rattle.cli_files.specs.Works.{Calls, Exports, Judges, JudgesImage, MakesDesk, adding};
+ghost use Rattle.cli_files.specs.Works.{Calls, Exports, Judges, JudgesImage, MakesDesk};
+ghost use Rattle.cli_files.specs.Works.{StopsVerdict, adding};
 ghost use Rattle.cli_commands.specs.Faults.{IsAddingRefusal, IsWritingRefusal};
 
 use crate::file::read_image;
@@ -115,6 +116,8 @@ fn judge_file<S: Alter + Drop, W: Write>(
 ) -> Result<Outcome, Fault>
     ensures told { IfOk result (JudgesImage S.Store desk.old desk.new
         (W.contents writer.old) (W.contents writer.new)) }
+    ensures stopped { IfErr result (StopsVerdict S.Store desk.old desk.new
+        (W.contents writer.old) (W.contents writer.new)) }
     ensures named { IfErr result IsJudgingFault }
     ensures same { HasCleanDisk (state S.Store desk.new.conn)
         → result ≢ Err (row_of Refusal.Store) → KeepsDesk S.Store desk.old desk.new }
@@ -146,7 +149,8 @@ fn judge_at<D: Disk + Drop, W: Write>(
 /// why, and LF. The desk doesn't change.
 ///
 /// The faults of the desk's file come first, as for `add_person`; then those of the image's file
-/// (File, Read, NoMemory), then the refusal of the image, then Store, Reopen or Write.
+/// (File, Read, NoMemory), then the refusal of the image, then Store, Reopen or Write. Nothing is
+/// written but after Write, which may leave a prefix of the line.
 pub fn judge_image<W: Write>(rt: &HostRuntime, path: &str, file: &str, writer: &mut W) -> Ending
     ensures judged { (IsUnopened result × Keeps (W.contents writer.old) (W.contents writer.new))
         ⊎ AtADesk (Judges ⟦<File as Disk>⟧

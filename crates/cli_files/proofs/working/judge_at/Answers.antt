@@ -4,7 +4,7 @@ use Rattle.cli_files.proofs.working.judge_at.Goals as goal
 pub returns-clause-judged : goal.returns-clause-judged
 returns-clause-judged g c =
     judges g.D.Disk c.args.desk c.judge_file-work.new.desk c.ended.result c.judge_file-work.result c.ended.ensures.work
-    _ _ c.judge_file-work.ensures.same (λ owner cs was. c.judge_file-work.ensures.spares) c.judge_file-work.ensures.told c.ended.ensures.closed
+    _ _ c.judge_file-work.ensures.same (λ owner cs was. c.judge_file-work.ensures.spares) c.judge_file-work.ensures.told c.judge_file-work.ensures.stopped c.ended.ensures.closed
 
 pub returns-clause-named : goal.returns-clause-named
 returns-clause-named g c = rw c.ended.ensures.work c.judge_file-work.ensures.named
