@@ -1,12 +1,12 @@
 -- Connections that are served one after another.
-use Rattle.std.proofs.Common.{◌≡◌, ◌<◌, ◌+◌, ◌∙◌, ℕ, List, [], ◌∷◌, ◌++◌, length, inl, inr, refl, sym, subst, length-append, None, Some, Result, Ok, Err}
+use Rattle.std.proofs.Common.{◌≡◌, ◌<◌, ◌+◌, ◌∙◌, ℕ, List, [], ◌∷◌, ◌++◌, inl, inr, refl, subst, length-append, None, Some, Result, Ok, Err}
 use Rattle.std.proofs.lemmas.List.Elements.{All-nil, All-push}
 use Rattle.desk_bytes.specs.declared.refusal.Refusal.{Refusal}
 use Rattle.desk_bytes.specs.declared.refusal.Refusal.TheVariants as refusals
 use Rattle.desk_http.specs.declared.served.HttpFault.{HttpFault}
 use Rattle.desk_http.specs.declared.served.Served.{Served}
 use Rattle.http_net.specs.Served.{ending_of}
-use Rattle.http_net.specs.Turns.{AreServed, EndsTurns, GoesOn, ServesInTurn}
+use Rattle.http_net.specs.Turns.{AreServed, GoesOn, ServesInTurn}
 
 module _ {D : Type 0} (serves : D → D → Result Served HttpFault → Type 0) where
   one_more : (all : List (Result Served HttpFault)) (served : Result Served HttpFault) (old mid new : D)

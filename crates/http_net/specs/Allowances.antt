@@ -1,5 +1,5 @@
 -- The time that a peer has.
-use Rattle.std.specs.Prelude.{◌≡◌, ℕ, ◌+◌, ◌-◌, ◌*◌, ◌/◌, ◌^◌, min, Option, None, Some}
+use Rattle.std.specs.Prelude.{ℕ, ◌+◌, ◌-◌, ◌*◌, ◌/◌, ◌^◌, min, Option, None, Some}
 use Rattle.std.specs.Time.{instant_nanos}
 use Rattle.std.specs.declared.time.Instant.{Instant}
 use Rattle.http_net.specs.declared.allowance.Allowance.{Allowance}

@@ -1,7 +1,8 @@
 use Rattle.std.proofs.Common.{inl, inr, refl}
 use Rattle.std.proofs.KnownBytes.{Keeps-refl}
 use Rattle.cli_commands.specs.Faults.{IsAddingRefusal}
-use Rattle.cli_files.proofs.ServingLemmas.{also, never_of_opening, adding_apart}
+use Rattle.cli_opening.proofs.EndingLemmas.{also, never_of_opening}
+use Rattle.cli_files.proofs.ServingLemmas.{adding_apart}
 use Rattle.cli_files.proofs.working.add_person.Goals as goal
 
 -- the desk was opened

@@ -1,7 +1,8 @@
 use Rattle.std.proofs.Common.{inl, inr, refl}
 use Rattle.std.proofs.KnownBytes.{Keeps-refl}
 use Rattle.http_net.specs.Faults.{IsAnsweringRefusal}
-use Rattle.cli_requests.proofs.ServingLemmas.{also, answering_apart, never_of_opening}
+use Rattle.cli_opening.proofs.EndingLemmas.{also, never_of_opening}
+use Rattle.cli_requests.proofs.ServingLemmas.{answering_apart}
 use Rattle.cli_requests.proofs.requests.answer_from.Goals as goal
 
 -- the desk was opened

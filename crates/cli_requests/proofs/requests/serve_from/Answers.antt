@@ -1,6 +1,7 @@
 use Rattle.std.proofs.Common.{inl, inr, refl}
 use Rattle.http_net.specs.Faults.{IsServingRefusal}
-use Rattle.cli_requests.proofs.ServingLemmas.{also, never_of_opening, served_apart}
+use Rattle.cli_opening.proofs.EndingLemmas.{also, never_of_opening}
+use Rattle.cli_requests.proofs.ServingLemmas.{served_apart}
 use Rattle.cli_requests.proofs.requests.serve_from.Goals as goal
 
 -- the desk was opened

@@ -1,4 +1,4 @@
-use Rattle.std.proofs.Common.{◌≡◌, ◌∙◌, subst, sym}
+use Rattle.std.proofs.Common.{◌∙◌, subst, sym}
 use Rattle.http_net.proofs.TurnLemmas.{serves_one_more}
 use Rattle.http_net.proofs.serving.serve_peers.Goals as goal
 

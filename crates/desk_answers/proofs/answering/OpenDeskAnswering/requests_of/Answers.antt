@@ -1,6 +1,3 @@
-use Rattle.std.proofs.Common.{Err, sym, subst}
-use Rattle.std.specs.Prelude.{IfErr}
-use Rattle.desk_store.specs.Showing.{IsReadingRefusal}
 use Rattle.desk_answers.proofs.DeskLemmas.{reading_refused}
 use Rattle.desk_answers.proofs.answering.OpenDeskAnswering.requests_of.Goals as goal
 
