@@ -1,2 +1,2 @@
-mod EndingLemmas
+pub mod EndingLemmas
 mod OpeningLemmas
