@@ -26,6 +26,8 @@ def documented():
     """The bytes of a request of a plain image, of one of 256 components, and of a proposal of a digest."""
     with open(TABLE, encoding="utf-8") as page:
         said = re.search(r"(\d+) bytes for an image without SBAT, (\d+) KB for one of 256 components.*?(\d+) bytes for a proposal of a digest", page.read(), re.S)
+    if not said:
+        fail("packaging/README.md doesn't say what a request takes")
     return int(said[1]), 1000 * int(said[2]), int(said[3])
 
 
