@@ -2,7 +2,8 @@
 """man.py PROGRAM DATE FOLDER: writes the manual pages desk.1 and desk-http.7 into the folder.
 
 Each text has one source: the program's help for subcommands, docs/FORMATS.md for formats and routes, docs/REFUSALS.md
-for refusals, packaging/README.md for the service and its backup. This script sets them in man(7), tables in tbl(1).
+for refusals, packaging/README.md for the service, its backup and what makes a desk grow. This script sets them in
+man(7), tables in tbl(1).
 """
 
 import os
@@ -263,6 +264,7 @@ def desk_page(said, date):
             ("DIAGNOSTICS", roff(section("docs/FORMATS.md", "Lines on standard error")) + roff("desk-http(7) lists all refusals.")),
             ("THE SERVICE", roff(section("packaging/README.md", "The service"))),
             ("BACKUP", roff(section("packaging/README.md", "Backup"))),
+            ("WHAT MAKES A DESK GROW", roff(section("packaging/README.md", "What makes a desk grow"))),
             ("A PROXY IN FRONT", roff(section("packaging/README.md", "A proxy in front"))),
             ("ENVIRONMENT", roff(ENVIRONMENT)),
             ("FILES", files),
