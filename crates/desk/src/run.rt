@@ -1,7 +1,6 @@
 //! The work of each line of words.
 use cli_files::{add_person, export_from, judge_image, make_desk, read_file, read_image};
-use cli_lines::{Ending, Fault, print_ending, print_facts, print_fault, print_list};
-use cli_lines::print_ranges;
+use cli_lines::{Ending, Fault, print_ending, print_facts, print_fault, print_list, print_ranges};
 use cli_requests::{answer_from, serve_from};
 use cli_words::{PersonWords, ServeWords, Stop, Words, owner_from, person_from, place_from};
 use desk_bytes::{Guid, Refusal, WriteFailed};
