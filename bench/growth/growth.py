@@ -100,6 +100,17 @@ def lists(program, desk, name, path):
         fail(f"GET {path} takes more than {MOST_MEMORY} of its length in memory")
 
 
+def minutes(program, desk):
+    """The length of the minutes, and the memory that `desk minutes` takes beyond an opening and the level."""
+    length = len(subprocess.run([program.path, "minutes", desk], capture_output=True, check=True).stdout)
+    memory = statistics.median(
+        most_memory(program.path, "minutes", desk) - most_memory(program.path, "level", desk) for _ in range(ROUNDS)
+    )
+    print(f"  desk minutes: {length / 1e6:.2f} MB, {memory / 1e6:.1f} MB of memory, {memory / length:.2f} of its length")
+    if memory > MOST_MEMORY * length:
+        fail(f"desk minutes takes more than {MOST_MEMORY} of its length in memory")
+
+
 PLAIN_REQUEST, LARGE_REQUEST, PROPOSAL = documented()
 with Program(sys.argv[1]) as program:
     empty = program.founded("empty.db")
@@ -107,7 +118,9 @@ with Program(sys.argv[1]) as program:
     small = filled(program, "small.db", (submits("ann", f"k{it}", PLAIN, "a loader", it) for it in range(1, REQUESTS + 1)))
     told(program, empty, small, REQUESTS, "requests of a plain image", PLAIN_REQUEST)
     lists(program, small, "rita", "/requests")
-    count = max(1, REQUESTS * 3 // 100)
+    minutes(program, small)
+    # (some 22 MB where there are 10,000 of the others)
+    count = max(1, REQUESTS * 52 // 1_000)
     large = filled(program, "large.db", (submits("ann", f"k{it}", LARGE, "a loader", it) for it in range(1, count + 1)))
     told(program, empty, large, count, "requests of 256 components", LARGE_REQUEST)
     lists(program, large, "rita", "/requests")
