@@ -7,6 +7,7 @@ use Rattle.desk_texts.specs.declared.command.Call.{Call}
 use Rattle.store_schema.specs.rows.Contents.{contents}
 use Rattle.desk_history.specs.Calls.{History, item}
 use Rattle.desk_history.specs.Formed.{IsHistory, IsItem}
+use Rattle.desk_history.specs.People.{people}
 use Rattle.desk_history.specs.Replies.{minutes}
 use Rattle.desk_history.specs.Runs.{answer, is_accepted, is_legal, next}
 use Rattle.desk_history.specs.Tables.{Tables, tables}
@@ -18,13 +19,14 @@ use Rattle.desk_rules.specs.Decisions as rules
 use Rattle.desk_rules.specs.Shown.{Shows}
 use Rattle.desk_rules.specs.declared.view.Changes.{Changes as Decided}
 use Rattle.desk_rules.specs.declared.view.View.{View}
+use Rattle.store_reads.specs.People.{IsOneOf}
 use Rattle.store_views.specs.sizes.Sizes.{AreRight, Follows}
 use Rattle.store_views.specs.declared.sizes.kept.KeptSizes.{KeptSizes}
 use Rattle.store_sql.specs.States.{Changes, Sees}
 use Rattle.store_schema.specs.Tables.{desk_schema}
 use Rattle.desk_store.specs.Acts.{Acts}
 use Rattle.store_schema.specs.rows.Histories.{rows_of}
-use Rattle.desk_store.specs.Pasts.{Past, before}
+use Rattle.desk_store.specs.Pasts.{Kept, Past, before}
 
 no_items : {X : Type 0} (xs : List X) → length xs ≡ 0 → xs ≡ []
 no_items [] h = refl
@@ -46,22 +48,22 @@ next_history cs c history formed = record {
 }
 
 -- the effect of a call, accepted or not, by a view that shows the tables
-module _ (sizes : KeptSizes) (c : Call) where
+module _ (k : Kept) (c : Call) where
   -- the reads that made a view: it shows the tables, and the counted sizes are right
   pub record Viewed (v : View) (counted : KeptSizes) (first read : State) : Type 0 where
     pub is_open : IsTrue read.is_open
     pub changed : Changes desk_schema contents first read (λ t. t)
-    pub shown : (owner : List ℕ) (cs : History) → IsHistory cs → Sees desk_schema first (contents (tables owner cs)) → AreRight sizes (tables owner cs)
-        → Shows v (tables owner cs) c × AreRight counted (tables owner cs)
+    pub shown : (owner : List ℕ) (cs : History) → IsHistory cs → Sees desk_schema first (contents (tables owner cs))
+        → IsOneOf k.person (people cs) → AreRight k.sizes (tables owner cs) → Shows v (tables owner cs) c × AreRight counted (tables owner cs)
 
   -- a call that isn't accepted
   pub acts_not : (v : View) (counted : KeptSizes) (first read : State) (given : Answer) → Viewed v counted first read → is_accepted given ≡ false
       → ((owner : List ℕ) (cs : History) → IsTrue (is_legal cs) → Shows v (tables owner cs) c → answer cs c ≡ given)
-      → Acts sizes c (record { answer = given; sizes = counted }) first read
+      → Acts k c (record { answer = given; sizes = counted }) first read
   acts_not v counted first read given viewed out told =
-      let exact : (p : Past sizes) → Sees desk_schema first (before sizes p) → answer p.calls c ≡ given =
-      λ p sees. told p.owner p.calls p.history.legal (viewed.shown p.owner p.calls p.history sees p.right).0 in
-      let same : (p : Past sizes) → Sees desk_schema first (before sizes p) → next p.calls c ≡ p.calls =
+      let exact : (p : Past k) → Sees desk_schema first (before k p) → answer p.calls c ≡ given =
+      λ p sees. told p.owner p.calls p.history.legal (viewed.shown p.owner p.calls p.history sees p.person p.right).0 in
+      let same : (p : Past k) → Sees desk_schema first (before k p) → next p.calls c ≡ p.calls =
       λ p sees. next_same p.calls c (ap is_accepted (exact p sees) ∙ out) in
       record {
         turned = record {
@@ -72,7 +74,7 @@ module _ (sizes : KeptSizes) (c : Call) where
         };
         answered = λ p sees. record {
           exact = exact p sees;
-          right = subst (λ (cs : History). AreRight counted (tables p.owner cs)) (sym (same p sees)) (viewed.shown p.owner p.calls p.history sees p.right).1;
+          right = subst (λ (cs : History). AreRight counted (tables p.owner cs)) (sym (same p sees)) (viewed.shown p.owner p.calls p.history sees p.person p.right).1;
         };
       }
 
@@ -90,11 +92,11 @@ module _ (sizes : KeptSizes) (c : Call) where
   pub acts_accepted : (v : View) (counted later : KeptSizes) (first read last : State) (d : Decided) → Viewed v counted first read
       → length d.writes.items ≢ 0 → ((owner : List ℕ) (cs : History) → IsTrue (is_legal cs) → Shows v (tables owner cs) c → rules.Decides d owner cs c)
       → Changes desk_schema contents read last (all_written d.writes.items) → Follows counted c.command d.writes.items later
-      → Acts sizes c (record { answer = Accepted d.reply; sizes = later }) first last
+      → Acts k c (record { answer = Accepted d.reply; sizes = later }) first last
   acts_accepted v counted later first read last d viewed some told wrote follows =
-      let said : (p : Past sizes) → Sees desk_schema first (before sizes p) → rules.Decides d p.owner p.calls c =
-      λ p sees. told p.owner p.calls p.history.legal (viewed.shown p.owner p.calls p.history sees p.right).0 in
-      let exact : (p : Past sizes) → Sees desk_schema first (before sizes p) → answer p.calls c ≡ Accepted d.reply =
+      let said : (p : Past k) → Sees desk_schema first (before k p) → rules.Decides d p.owner p.calls c =
+      λ p sees. told p.owner p.calls p.history.legal (viewed.shown p.owner p.calls p.history sees p.person p.right).0 in
+      let exact : (p : Past k) → Sees desk_schema first (before k p) → answer p.calls c ≡ Accepted d.reply =
       λ p sees. elim (said p sees).told [ inl accepted ↦ accepted | inr repeated ↦ absurd (some (ap length repeated.1)) ] in
       record {
         turned = record {
@@ -113,6 +115,6 @@ module _ (sizes : KeptSizes) (c : Call) where
             record {
               exact = exact p sees;
               right = subst (λ (cs : History). AreRight later (tables p.owner cs)) (sym joined)
-                  (follows p.owner p.calls c legal refl made (viewed.shown p.owner p.calls p.history sees p.right).1).0;
+                  (follows p.owner p.calls c legal refl made (viewed.shown p.owner p.calls p.history sees p.person p.right).1).0;
             });
       }

@@ -1,10 +1,11 @@
 -- The step from the effect of a call on the connection to the history that the desk shows after it.
-use Rattle.std.proofs.Common.{◌≡◌, inl, inr, ℕ, List, true, false, refl, sym, ap, subst, ◌∙◌, arith, IsTrue}
+use Rattle.std.proofs.Common.{◌≡◌, inl, inr, ℕ, List, Option, None, true, false, refl, sym, ap, subst, ◌∙◌, arith, IsTrue}
 use Rattle.sqlite.specs.Store as store
 use Rattle.sqlite.specs.Held.{state}
 use Rattle.sqlite.specs.State.{Survives}
 use Rattle.desk_texts.specs.Formed.{IsCall}
 use Rattle.desk_texts.specs.declared.command.Call.{Call}
+use Rattle.desk_texts.specs.declared.command.Person.{Person}
 use Rattle.desk_history.specs.Calls.{History}
 use Rattle.desk_history.specs.Runs.{answer, is_accepted, next}
 use Rattle.desk_history.specs.Tables.{tables}
@@ -13,31 +14,33 @@ use Rattle.store_sql.specs.States.{Leaves}
 use Rattle.desk_store.specs.Acts.{LeavesNext, Runs}
 use Rattle.desk_store.specs.Desks.{ShowsDesk}
 use Rattle.store_schema.specs.rows.Histories.{HoldsHistory, HoldsLeft, LeavesHistory, ShowsHistory}
-use Rattle.desk_store.specs.Pasts.{Past}
+use Rattle.desk_store.specs.Pasts.{Past, kept}
 use Rattle.desk_store.specs.declared.acting.Acted.{Acted}
 use Rattle.desk_store.specs.declared.desk.Desk.{Desk}
 use Rattle.desk_store.proofs.ActingLemmas.{next_history, next_same}
 use Rattle.desk_store.proofs.OpeningLemmas.{still_leaves}
 
--- a read that keeps the sizes
+-- a read that keeps the sizes and the person
 pub reads_shown : {S : Type 0} (g : store.Ghosts S) (old new : Desk S) → Survives (state g old.conn) (state g new.conn) (λ _. ⊥) → new.needs_reopening ≡ false
-    → ((owner : List ℕ) (cs : History) → ShowsHistory (state g old.conn) owner cs → ShowsHistory (state g new.conn) owner cs) → new.sizes ≡ old.sizes
+    → ((owner : List ℕ) (cs : History) → ShowsHistory (state g old.conn) owner cs → ShowsHistory (state g new.conn) owner cs) → new.sizes ≡ old.sizes → new.kept_person ≡ old.kept_person
     → (owner : List ℕ) (cs : History) → ShowsDesk g old owner cs → ShowsDesk g new owner cs
-reads_shown g old new s usable same sizes owner cs was = record {
+reads_shown g old new s usable same sizes person owner cs was = record {
   usable = usable;
   history = was.history;
   shows = same owner cs was.shows;
   sizes = rw sizes was.sizes;
+  person = rw person was.person;
   left = still_leaves (λ db. HoldsHistory db owner cs) (state g old.conn) (state g new.conn) s was.left;
 }
 
-module _ {S : Type 0} (g : store.Ghosts S) (old new : Desk S) (c : Call) where
+-- a call for which the desk's person was taken
+module _ {S : Type 0} (g : store.Ghosts S) (old new : Desk S) (c : Call) (taken : Option Person) (is : taken ≡ old.kept_person) where
   -- the history that the desk shows before the call
-  abbrev pub past : (owner : List ℕ) (cs : History) → ShowsDesk g old owner cs → Past old.sizes
-  past owner cs was = record { owner = owner; calls = cs; history = was.history; right = was.sizes }
+  abbrev pub past : (owner : List ℕ) (cs : History) → ShowsDesk g old owner cs → Past (kept old.sizes taken)
+  past owner cs was = record { owner = owner; calls = cs; history = was.history; right = was.sizes; person = rw is was.person }
 
   -- a call that isn't accepted commits nothing
-  pub spares : Survives (state g old.conn) (state g new.conn) (LeavesNext (state g old.conn) old.sizes c)
+  pub spares : Survives (state g old.conn) (state g new.conn) (LeavesNext (state g old.conn) (kept old.sizes taken) c)
       → (owner : List ℕ) (cs : History) → ShowsDesk g old owner cs → is_accepted (answer cs c) ≡ false → Survives (state g old.conn) (state g new.conn) (λ _. ⊥)
   spares s owner cs was out = record {
     clean = s.clean;
@@ -54,18 +57,19 @@ module _ {S : Type 0} (g : store.Ghosts S) (old new : Desk S) (c : Call) where
   -- a call that commits nothing and changes no history
   pub stays_shown : Survives (state g old.conn) (state g new.conn) (λ _. ⊥) → new.needs_reopening ≡ false
       → ((owner : List ℕ) (cs : History) → ShowsHistory (state g old.conn) owner cs → ShowsHistory (state g new.conn) owner cs)
-      → ((p : Past old.sizes) → ShowsHistory (state g old.conn) p.owner p.calls → AreRight new.sizes (tables p.owner p.calls))
+      → ((p : Past (kept old.sizes taken)) → ShowsHistory (state g old.conn) p.owner p.calls → AreRight new.sizes (tables p.owner p.calls)) → new.kept_person ≡ None
       → (owner : List ℕ) (cs : History) → ShowsDesk g old owner cs → ShowsDesk g new owner cs
-  stays_shown s usable same right owner cs was = record {
+  stays_shown s usable same right none owner cs was = record {
     usable = usable;
     history = was.history;
     shows = same owner cs was.shows;
     sizes = right (past owner cs was) was.shows;
+    person = rw none tt;
     left = still_leaves (λ db. HoldsHistory db owner cs) (state g old.conn) (state g new.conn) s was.left;
   }
 
   -- the history after a stop
-  pub stopped : Survives (state g old.conn) (state g new.conn) (LeavesNext (state g old.conn) old.sizes c)
+  pub stopped : Survives (state g old.conn) (state g new.conn) (LeavesNext (state g old.conn) (kept old.sizes taken) c)
       → (owner : List ℕ) (cs : History) → ShowsDesk g old owner cs → Leaves (state g new.conn) (λ db. HoldsLeft db owner cs c)
   stopped s owner cs was clean db may = elim (s.crash clean db may) [
     | inl before ↦ (cs, inl refl, was.left (omega (arith, s.clean, clean)) db before)
@@ -73,11 +77,11 @@ module _ {S : Type 0} (g : store.Ghosts S) (old new : Desk S) (c : Call) where
   ]
 
   -- the desk after a call that was answered
-  pub goes_on : (acted : Acted) → Runs old.sizes c acted (state g old.conn) (state g new.conn) → Survives (state g old.conn) (state g new.conn) (LeavesNext (state g old.conn) old.sizes c)
+  pub goes_on : (acted : Acted) → Runs (kept old.sizes taken) c acted (state g old.conn) (state g new.conn) → Survives (state g old.conn) (state g new.conn) (LeavesNext (state g old.conn) (kept old.sizes taken) c)
       → ((owner : List ℕ) (cs : History) → ShowsHistory (state g new.conn) owner cs → IsTrue (state g new.conn).is_open → LeavesHistory (state g new.conn) owner cs)
-      → IsCall c → new.sizes ≡ acted.sizes → new.needs_reopening ≡ old.needs_reopening
+      → IsCall c → new.sizes ≡ acted.sizes → new.kept_person ≡ None → new.needs_reopening ≡ old.needs_reopening
       → (owner : List ℕ) (cs : History) → ShowsDesk g old owner cs → (answer cs c ≡ acted.answer) × ShowsDesk g new owner (next cs c)
-  goes_on acted runs s law formed sizes same owner cs was =
+  goes_on acted runs s law formed sizes none same owner cs was =
       let it = runs.answered (past owner cs was) was.shows in
       let shows = runs.shown (past owner cs was) was.shows in (
         it.exact,
@@ -86,6 +90,7 @@ module _ {S : Type 0} (g : store.Ghosts S) (old new : Desk S) (c : Call) where
           history = next_history cs c was.history formed;
           shows = shows;
           sizes = rw sizes it.right;
+          person = rw none tt;
           left = elim (is_accepted (answer cs c)) as (λ b. is_accepted (answer cs c) ≡ b → LeavesHistory (state g new.conn) owner (next cs c)) [
             | true ↦ λ accepted. law owner (next cs c) shows (runs.is_open (ap is_accepted (sym it.exact) ∙ accepted))
             | false ↦ λ out. subst (λ (later : History). LeavesHistory (state g new.conn) owner later) (sym (next_same cs c out)) (λ clean db may. elim (s.crash clean db may) [

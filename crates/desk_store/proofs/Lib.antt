@@ -8,6 +8,7 @@ mod CommitLemmas
 mod DeskLemmas
 mod ClosingLemmas
 mod ShowingLemmas
+mod PersonLemmas
 mod QuestionLemmas
 mod ReopeningLemmas
 mod LivingLemmas

@@ -9,21 +9,25 @@ use Rattle.desk_texts.specs.declared.reply.Reply.{Reply}
 use Rattle.desk_history.specs.Calls.{History}
 use Rattle.desk_history.specs.DecisionRefusals.{may_answer}
 use Rattle.desk_history.specs.Formed.{IsHistory}
+use Rattle.desk_history.specs.People.{people}
 use Rattle.desk_history.specs.Runs.{answer, is_accepted, next, reply_in}
 use Rattle.desk_history.specs.Tables.{tables}
 use Rattle.desk_history.specs.declared.answer.Answer.TheVariants.{Refused}
+use Rattle.store_reads.specs.People.{IsOneOf}
 use Rattle.store_views.specs.sizes.Sizes.{AreRight}
 use Rattle.store_sql.specs.States.{Leaves, Spares}
 use Rattle.desk_store.specs.declared.desk.Desk.{Desk}
 use Rattle.store_schema.specs.rows.Histories.{HoldsLeft, LeavesHistory, ShowsHistory}
 
 -- The desk answers for a history: a desk may have it, the connection shows its tables, the sizes
--- that the desk keeps are right, and a stop leaves these tables.
+-- that the desk keeps are right, the person whom it keeps is one of the people, and a stop leaves
+-- these tables.
 pub record ShowsDesk {S : Type 0} (g : Ghosts S) (desk : Desk S) (owner : List ℕ) (cs : History) : Type 0 where
   pub usable : desk.needs_reopening ≡ false
   pub history : IsHistory cs
   pub shows : ShowsHistory (state g desk.conn) owner cs
   pub sizes : AreRight desk.sizes (tables owner cs)
+  pub person : IsOneOf desk.kept_person (people cs)
   pub left : LeavesHistory (state g desk.conn) owner cs
 
 module _ {S : Type 0} (g : Ghosts S) (old new : Desk S) where

@@ -1,5 +1,5 @@
 //! One call, in one transaction.
-ghost use Rattle.std.specs.Prelude.{◌≡◌, ◌≢◌, ℕ, List, Some, IfErr, IfOk};
+ghost use Rattle.std.specs.Prelude.{◌≡◌, ◌≢◌, ℕ, List, Some, IfErr, IfOk, option_copied};
 ghost use Rattle.sqlite.specs.Held.{state};
 ghost use Rattle.sqlite.specs.State.{HasCleanDisk, Survives};
 ghost use Rattle.desk_history.specs.Calls.{History};
@@ -7,13 +7,14 @@ ghost use Rattle.desk_history.specs.Runs as runs;
 ghost use Rattle.desk_rules.specs.Decisions.{called};
 ghost use Rattle.store_sql.specs.States.{DoesInside, CommitsNothing, Spares, StaysInside};
 ghost use Rattle.desk_store.specs.Acts.{Acts, IsNamed, LeavesNext, Runs};
+ghost use Rattle.desk_store.specs.Pasts.{kept};
 ghost use Rattle.store_schema.specs.rows.Histories.{ShowsHistory};
 ghost use Rattle.store_reads.specs.Failures.{IsFailure};
 
 use desk_bytes::Refusal;
 use desk_history::Answer;
 use desk_rules::decide;
-use desk_texts::{Caller, Command, Key, Reply};
+use desk_texts::{Caller, Command, Key, Person, Reply};
 use sqlite::{Alter, Connection, Transaction};
 use std::alloc::Global;
 use store_views::{KeptSizes, view};
@@ -55,13 +56,15 @@ fn act<S: Alter>(
     alloc: Global,
     tx: &mut Transaction<'_, S>,
     sizes: KeptSizes,
+    kept_person: Option<&Person>,
     caller: &Caller,
     key: &Key,
     command: &Command,
 ) -> Result<Acted, Refusal>
     ensures same_reference { tx.new.conn.ghost_name ≡ tx.old.conn.ghost_name }
     ensures value { DoesInside S.Store tx.old.conn.now tx.new.conn.now result
-        (Acts sizes (called caller.now key.now command.now)) }
+        (Acts (kept sizes (option_copied kept_person.entry))
+        (called caller.now key.now command.now)) }
     ensures inside { StaysInside S.Store tx.old.conn.now tx.new.conn.now result }
     ensures named { IfOk result (λ acted. IsNamed acted.answer) }
     ensures failed { IfErr result IsFailure }
@@ -69,7 +72,7 @@ fn act<S: Alter>(
     ensures survives { Spares S.Store tx.old.conn.now tx.new.conn.now }
 {
     let mut sizes = sizes;
-    let view = match view(alloc, tx, &mut sizes, caller, key, command) {
+    let view = match view(alloc, tx, &mut sizes, kept_person, caller, key, command) {
         Ok(view) => view,
         Err(failure) => return Err(failure),
     };
@@ -107,12 +110,14 @@ pub(crate) fn run<S: Alter>(
     alloc: Global,
     conn: &mut Connection<S>,
     sizes: KeptSizes,
+    kept_person: Option<&Person>,
     caller: &Caller,
     key: &Key,
     command: &Command,
 ) -> Result<Acted, Refusal>
     ensures ok { HasCleanDisk (state S.Store conn.new) → IfOk result (λ acted.
-        Runs sizes (called caller.now key.now command.now) acted
+        Runs (kept sizes (option_copied kept_person.entry))
+        (called caller.now key.now command.now) acted
         (state S.Store conn.old) (state S.Store conn.new)) }
     ensures err { HasCleanDisk (state S.Store conn.new) → IfErr result (λ e. e ≢ Refusal.Store
         → (owner : List ℕ) (cs : History) → ShowsHistory (state S.Store conn.old) owner cs
@@ -121,13 +126,14 @@ pub(crate) fn run<S: Alter>(
     ensures failed { IfErr result IsFailure }
     ensures unwritten { IfErr result (λ e. e ≢ Refusal.Store → Spares S.Store conn.old conn.new) }
     ensures survives { Survives (state S.Store conn.old) (state S.Store conn.new)
-        (LeavesNext (state S.Store conn.old) sizes (called caller.now key.now command.now)) }
+        (LeavesNext (state S.Store conn.old) (kept sizes (option_copied kept_person.entry))
+        (called caller.now key.now command.now)) }
 {
     if !conn.is_autocommit() {
         return Err(Refusal::Store);
     }
     let mut tx = conn.transaction();
-    let acted = match act(alloc, &mut tx, sizes, caller, key, command) {
+    let acted = match act(alloc, &mut tx, sizes, kept_person, caller, key, command) {
         Ok(acted) => acted,
         Err(failure) => return Err(failure),
     };

@@ -1,5 +1,6 @@
 //! Answers of a desk: people by their tokens, verdicts, and counts.
-ghost use Rattle.std.specs.Prelude.{◌≡◌, ◌≢◌, Err, filter, true, false, IfErr, IfOk, IsErrOf};
+ghost use Rattle.std.specs.Prelude.{◌≡◌, ◌≢◌, Err, Some, filter, true, false, IfErr, IfOk, IfSome, IsErrOf};
+ghost use Rattle.std.specs.Prelude.{option_copied};
 ghost use Rattle.sqlite.specs.Held.{state};
 ghost use Rattle.sqlite.specs.State.{HasCleanDisk};
 ghost use Rattle.store_counts.specs.Counts.{CountHistory};
@@ -19,8 +20,20 @@ use desk_texts::{Facts, Person};
 use sqlite::Alter;
 use store_counts::{Counts, tables_count_their_history};
 
+/// A copy of the person, if there is one and memory for it.
+fn copied(person: Option<&Person>) -> Option<Person>
+    ensures { IfSome result (λ copy. option_copied person.entry ≡ Some copy) }
+{
+    match person?.clone() {
+        Ok(copy) => Some(copy),
+        Err(_) => None,
+    }
+}
+
 impl<S: Alter + Drop> Desk<S> {
-    /// The person whose token has this SHA-256, if there is one. Takes memory for the row.
+    /// The person whose token has this SHA-256, if there is one. The desk keeps the person for the
+    /// next call with a caller, which doesn't look them up again. Takes memory for the row, and for
+    /// the copy that is kept; without that copy the next call reads the row.
     ///
     /// `NoMemory`: memory was refused. `Store`: the store failed, or isn't as a desk left it.
     pub fn person_of(&mut self, token: &Digest) -> Result<Option<Person>, Refusal>
@@ -37,7 +50,12 @@ impl<S: Alter + Drop> Desk<S> {
             → (result ≡ Err Refusal.Reopen) × (self.new ≡ self.old) }
         ensures named { self.old.needs_reopening ≡ false → IfErr result IsFailure }
     {
-        self.answer_question(&WhoHas { token })
+        let found = match self.answer_question(&WhoHas { token }) {
+            Ok(found) => found,
+            Err(refusal) => return Err(refusal),
+        };
+        self.kept_person = copied(found.as_ref());
+        Ok(found)
     }
 
     /// The desk's verdict on the image. It reads only the rows that the facts name. Takes memory

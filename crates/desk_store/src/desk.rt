@@ -29,18 +29,20 @@ use crate::questions::{ListsFor, RowsFor};
 use desk_bytes::{Guid, Refusal};
 use desk_history::{keys_stand_once, lives_keep_what_was_answered};
 use desk_rules::{ListView, View};
-use desk_texts::{Caller, Command, Facts, Key, Reply, call_is_formed};
+use desk_texts::{Caller, Command, Facts, Key, Person, Reply, call_is_formed};
 use sqlite::{Alter, Connection};
 use std::alloc::Global;
 use store_sql::stop_leaves_what_is_shown;
 use store_views::KeptSizes;
 
-/// A desk in a store. It has the connection, and the sizes of its tables that it has counted.
+/// A desk in a store. It has the connection, the sizes of its tables that it has counted, and the
+/// person whom `person_of` found, for the next call.
 #[derive(Drop)]
 pub struct Desk<S: Alter> {
     pub(crate) alloc: Global,
     pub(crate) conn: Connection<S>,
     pub(crate) sizes: KeptSizes,
+    pub(crate) kept_person: Option<Person>,
     pub(crate) needs_reopening: bool,
 }
 
@@ -82,6 +84,7 @@ impl<S: Alter + Drop> Desk<S> {
                     alloc,
                     conn,
                     sizes: KeptSizes::unknown(),
+                    kept_person: None,
                     needs_reopening: false,
                 })
             }
@@ -157,6 +160,7 @@ impl<S: Alter + Drop> Desk<S> {
                     alloc,
                     conn,
                     sizes: KeptSizes::unknown(),
+                    kept_person: None,
                     needs_reopening: false,
                 })
             }
@@ -193,7 +197,16 @@ impl<S: Alter + Drop> Desk<S> {
             return Err(Refusal::Reopen);
         }
         call_is_formed(caller, key, command);
-        match run(self.alloc, &mut self.conn, self.sizes, caller, key, command) {
+        let kept_person = self.kept_person.take();
+        match run(
+            self.alloc,
+            &mut self.conn,
+            self.sizes,
+            kept_person.as_ref(),
+            caller,
+            key,
+            command,
+        ) {
             Ok(acted) => {
                 stop_leaves_what_is_shown(&self.conn);
                 self.sizes = acted.sizes;

@@ -1,11 +1,12 @@
 //! The questions that a desk is asked.
-ghost use Rattle.std.specs.Prelude.{◌≡◌, ⊤, filter, map, IfErr};
+ghost use Rattle.std.specs.Prelude.{◌≡◌, ⊤, filter, map, IfErr, option_copied};
 ghost use Rattle.store_counts.specs.Counts.{CountTables};
-ghost use Rattle.desk_history.specs.People.{has_token};
+ghost use Rattle.desk_history.specs.People.{has_token, people};
 ghost use Rattle.desk_history.specs.Shown.{GivesRequest, IsGiven, requests_for};
 ghost use Rattle.desk_history.specs.Shown.{proposals_for, shown_proposal};
 ghost use Rattle.desk_history.specs.Tables.{tables};
 ghost use Rattle.store_views.specs.lists.Lists.{HoldsNoOther};
+ghost use Rattle.store_reads.specs.People.{IsOneOf};
 ghost use Rattle.store_reads.specs.Reads.{listed};
 ghost use Rattle.desk_rules.specs.Decisions.{called};
 ghost use Rattle.desk_rules.specs.Shown.{Shows};
@@ -136,16 +137,26 @@ impl<'a> Question for RowsFor<'a> {
         tx: &mut Transaction<'_, S>,
     ) -> Result<Viewed, Refusal> {
         let mut sizes = self.sizes;
-        match view(alloc, tx, &mut sizes, self.caller, self.key, self.command) {
+        match view(
+            alloc,
+            tx,
+            &mut sizes,
+            None,
+            self.caller,
+            self.key,
+            self.command,
+        ) {
             Ok(view) => Ok(Viewed { view, sizes }),
             Err(failure) => Err(failure),
         }
     }
 }
 
-/// What is the person of this name shown of the request of this number?
+/// What is the person of this name, who may be the one who is kept, shown of the request of this
+/// number?
 #[derive(Drop)]
 pub(crate) struct OneRequest<'a> {
+    pub(crate) kept_person: Option<&'a Person>,
     pub(crate) name: &'a PersonName,
     pub(crate) number: RequestNumber,
 }
@@ -153,8 +164,8 @@ pub(crate) struct OneRequest<'a> {
 impl<'a> Question for OneRequest<'a> {
     type Answer = Result<ShownRequest, Refusal>;
 
-    ghost tells = { λ q given owner cs.
-        GivesRequest cs (callers.Person q.name.now) q.number given };
+    ghost tells = { λ q given owner cs. IsOneOf (option_copied q.kept_person) (people cs)
+        → GivesRequest cs (callers.Person q.name.now) q.number given };
 
     ghost bounds = { λ _ given. IfErr given IsRequestRefusal };
 
@@ -163,16 +174,18 @@ impl<'a> Question for OneRequest<'a> {
         alloc: Global,
         tx: &mut Transaction<'_, S>,
     ) -> Result<Result<ShownRequest, Refusal>, Refusal> {
-        match request(alloc, tx, self.name, self.number) {
+        match request(alloc, tx, self.kept_person, self.name, self.number) {
             Ok(given) => Ok(given),
             Err(fault) => Err(fault.refusal()),
         }
     }
 }
 
-/// Which requests is the person of this name shown? They are collected into an `L`.
+/// Which requests is the person of this name, who may be the one who is kept, shown? They are
+/// collected into an `L`.
 #[derive(Drop)]
 pub(crate) struct AllRequests<'a, L> {
+    pub(crate) kept_person: Option<&'a Person>,
     pub(crate) name: &'a PersonName,
     pub(crate) list: PhantomData<L>,
 }
@@ -180,7 +193,8 @@ pub(crate) struct AllRequests<'a, L> {
 impl<'a, L: RequestList + Drop> Question for AllRequests<'a, L> {
     type Answer = Result<L, Refusal>;
 
-    ghost tells = { λ q given owner cs. IsGiven (requests_for cs (callers.Person q.name.now)) given
+    ghost tells = { λ q given owner cs. IsOneOf (option_copied q.kept_person) (people cs)
+        → IsGiven (requests_for cs (callers.Person q.name.now)) given
         (HoldsShown L.RequestList.holds) };
 
     ghost bounds = { λ _ given. IfErr given IsReaderRefusal };
@@ -190,23 +204,25 @@ impl<'a, L: RequestList + Drop> Question for AllRequests<'a, L> {
         alloc: Global,
         tx: &mut Transaction<'_, S>,
     ) -> Result<Result<L, Refusal>, Refusal> {
-        match requests_of(alloc, tx, self.name) {
+        match requests_of(alloc, tx, self.kept_person, self.name) {
             Ok(given) => Ok(given),
             Err(fault) => Err(fault.refusal()),
         }
     }
 }
 
-/// Which proposals is the person of this name shown?
+/// Which proposals is the person of this name, who may be the one who is kept, shown?
 #[derive(Drop)]
 pub(crate) struct AllProposals<'a> {
+    pub(crate) kept_person: Option<&'a Person>,
     pub(crate) name: &'a PersonName,
 }
 
 impl<'a> Question for AllProposals<'a> {
     type Answer = Result<Vec<Proposal>, Refusal>;
 
-    ghost tells = { λ q given owner cs. IsGiven (proposals_for cs (callers.Person q.name.now)) given
+    ghost tells = { λ q given owner cs. IsOneOf (option_copied q.kept_person) (people cs)
+        → IsGiven (proposals_for cs (callers.Person q.name.now)) given
         (λ ps shown. shown.items ≡ map (shown_proposal cs) ps) };
 
     ghost bounds = { λ _ given. IfErr given IsOfficerRefusal };
@@ -216,7 +232,7 @@ impl<'a> Question for AllProposals<'a> {
         alloc: Global,
         tx: &mut Transaction<'_, S>,
     ) -> Result<Result<Vec<Proposal>, Refusal>, Refusal> {
-        match proposals_of(alloc, tx, self.name) {
+        match proposals_of(alloc, tx, self.kept_person, self.name) {
             Ok(given) => Ok(given),
             Err(fault) => Err(fault.refusal()),
         }

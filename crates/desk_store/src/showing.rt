@@ -53,7 +53,13 @@ impl<S: Alter + Drop> Desk<S> {
         let Caller::Person(name) = caller else {
             return Err(Refusal::NotYourRole);
         };
-        match self.answer_question(&OneRequest { name, number }) {
+        let kept_person = self.kept_person.take();
+        let question = OneRequest {
+            kept_person: kept_person.as_ref(),
+            name,
+            number,
+        };
+        match self.answer_question(&question) {
             Ok(given) => given,
             Err(failure) => Err(failure),
         }
@@ -90,7 +96,9 @@ impl<S: Alter + Drop> Desk<S> {
         let Caller::Person(name) = caller else {
             return Err(Refusal::NotYourRole);
         };
+        let kept_person = self.kept_person.take();
         let question: AllRequests<'_, L> = AllRequests {
+            kept_person: kept_person.as_ref(),
             name,
             list: PhantomData,
         };
@@ -131,7 +139,12 @@ impl<S: Alter + Drop> Desk<S> {
         let Caller::Person(name) = caller else {
             return Err(Refusal::NotYourRole);
         };
-        match self.answer_question(&AllProposals { name }) {
+        let kept_person = self.kept_person.take();
+        let question = AllProposals {
+            kept_person: kept_person.as_ref(),
+            name,
+        };
+        match self.answer_question(&question) {
             Ok(given) => given,
             Err(failure) => Err(failure),
         }

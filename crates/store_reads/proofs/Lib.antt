@@ -8,3 +8,4 @@ pub mod CallLemmas
 pub mod ProposalLemmas
 pub mod PartLemmas
 pub mod TellsLemmas
+pub mod PeopleLemmas

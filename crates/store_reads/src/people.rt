@@ -1,5 +1,5 @@
 //! People, by their keys.
-ghost use Rattle.std.specs.Prelude.{◌≡◌, filter};
+ghost use Rattle.std.specs.Prelude.{◌≡◌, IfOk, filter, option_copied};
 ghost use Rattle.desk_history.specs.People.{has_name, has_token};
 ghost use Rattle.store_reads.specs.Reads.{ReadsTables, listed};
 ghost use Rattle.store_sql.specs.States.{DoesInside, CommitsNothing, Spares, StaysInside};
@@ -27,6 +27,24 @@ pub fn person_named<S: Alter>(
 {
     let person = row_of(alloc, tx, SELECT_PERSON, params![name])?;
     Ok(person)
+}
+
+/// A copy of a person who is kept, if the name is theirs. It saves the read of the row while
+/// nothing else is known of the person (`IsOneOf`). Takes memory for the copy.
+pub fn kept_named(kept: Option<&Person>, name: &str) -> Result<Option<Person>, ReadFault>
+    ensures exact { IfOk result (λ person.
+        listed person ≡ filter (has_name name.now) (listed (option_copied kept.entry))) }
+{
+    let Some(person) = kept else {
+        return Ok(None);
+    };
+    if name != person.name.as_str() {
+        return Ok(None);
+    }
+    match person.clone() {
+        Ok(person) => Ok(Some(person)),
+        Err(_) => Err(ReadFault::NoMemory),
+    }
 }
 
 /// The person with the token of a digest, if there is one. Takes memory for the row.

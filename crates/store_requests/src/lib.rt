@@ -5,6 +5,7 @@ mod listing;
 mod making;
 mod parts;
 mod proposed;
+mod reader;
 mod request_list;
 mod showing;
 

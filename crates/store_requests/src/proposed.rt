@@ -1,17 +1,20 @@
 //! All proposals, as an officer is shown them.
-ghost use Rattle.std.specs.Prelude.{◌≡◌, IfErr, IfOk, map};
+ghost use Rattle.std.specs.Prelude.{◌≡◌, IfErr, IfOk, map, option_copied};
+ghost use Rattle.desk_history.specs.People.{people};
 ghost use Rattle.desk_history.specs.Roles.{is_officer};
 ghost use Rattle.desk_history.specs.Shown.{IsGiven, proposals_for, shown_proposal};
+ghost use Rattle.store_reads.specs.People.{IsOneOf};
 ghost use Rattle.store_requests.specs.Telling.{IsOfficerRefusal, TellsOf};
 ghost use Rattle.store_sql.specs.States.{DoesInside, CommitsNothing, Spares, StaysInside};
 ghost use Rattle.desk_texts.specs.declared.caller.Caller.TheVariants as callers;
 
+use crate::reader::reader_of;
 use desk_bytes::Refusal;
-use desk_texts::{PersonName, Proposal, Role};
+use desk_texts::{Person, PersonName, Proposal, Role};
 use sqlite::{Alter, Transaction};
 use std::alloc::Global;
 use store_proposals::{proposals, stamps_are_above_none};
-use store_reads::{ReadFault, person_named};
+use store_reads::{ReadFault, own_row};
 
 /// Whether the role is shown proposals.
 fn sees_proposals(role: Role) -> bool
@@ -23,19 +26,22 @@ fn sees_proposals(role: Role) -> bool
     }
 }
 
-/// All proposals, ascending by number, for the person of this name, who must be an officer. Takes
-/// memory for what is shown of them, and for all items of one at a time.
+/// All proposals, ascending by number, for the person of this name, who must be an officer. The
+/// person isn't looked up if that is `kept_person`, who must be one of the desk's people (`value`).
+/// Takes memory for what is shown of them, and for all items of one at a time.
 ///
 /// `UnknownCaller`: nobody has the name. `NotYourRole`: the person isn't an officer, and no
 /// proposal is read.
 pub fn proposals_of<S: Alter>(
     alloc: Global,
     tx: &mut Transaction<'_, S>,
+    kept_person: Option<&Person>,
     name: &PersonName,
 ) -> Result<Result<Vec<Proposal>, Refusal>, ReadFault>
     ensures same_reference { tx.new.conn.ghost_name ≡ tx.old.conn.ghost_name }
     ensures value { DoesInside S.Store tx.old.conn.now tx.new.conn.now result
-        (λ given. TellsOf (λ cs. IsGiven (proposals_for cs (callers.Person name.now)) given
+        (λ given. TellsOf (λ cs. IsOneOf (option_copied kept_person.entry) (people cs)
+        → IsGiven (proposals_for cs (callers.Person name.now)) given
         (λ ps shown. shown.items ≡ map (shown_proposal cs) ps))) }
     ensures named { IfOk result (λ given. IfErr given IsOfficerRefusal) }
     ensures inside { StaysInside S.Store tx.old.conn.now tx.new.conn.now result }
@@ -43,11 +49,13 @@ pub fn proposals_of<S: Alter>(
     ensures survives { Spares S.Store tx.old.conn.now tx.new.conn.now }
 {
     stamps_are_above_none();
-    let found = person_named(alloc, tx, name.as_str())?;
+    let found = reader_of(alloc, tx, kept_person, name)?;
     let Some(reader) = found else {
         return Ok(Err(Refusal::UnknownCaller));
     };
     if !sees_proposals(reader.role) {
+        // Only an open store gives Ok.
+        own_row(alloc, tx)?;
         return Ok(Err(Refusal::NotYourRole));
     }
     let shown = proposals(alloc, tx)?;

@@ -1,6 +1,8 @@
 //! Requests, as a person is shown them.
-ghost use Rattle.std.specs.Prelude.{◌≡◌, IfErr, IfOk, bytes_eq};
+ghost use Rattle.std.specs.Prelude.{◌≡◌, IfErr, IfOk, bytes_eq, option_copied};
+ghost use Rattle.desk_history.specs.People.{people};
 ghost use Rattle.desk_history.specs.Shown.{GivesRequest, sees};
+ghost use Rattle.store_reads.specs.People.{IsOneOf};
 ghost use Rattle.store_reads.specs.Reads.{ReadsTables};
 ghost use Rattle.store_requests.specs.Steps.{IsShownIn, visible_row};
 ghost use Rattle.store_requests.specs.Telling.{IsRequestRefusal, TellsOf};
@@ -9,12 +11,13 @@ ghost use Rattle.desk_texts.specs.declared.caller.Caller.TheVariants as callers;
 
 use crate::making::made_of;
 use crate::parts::parts_of;
+use crate::reader::reader_of;
 use desk_bytes::Refusal;
 use desk_history::RequestRow;
 use desk_texts::{Person, PersonName, RequestNumber, Role, ShownRequest};
 use sqlite::{Alter, Transaction};
 use std::alloc::Global;
-use store_reads::{ReadFault, person_named, request_numbered};
+use store_reads::{ReadFault, request_numbered};
 
 /// The request of this row, with all that belongs to it.
 pub(crate) fn shown_of<S: Alter>(
@@ -57,25 +60,28 @@ fn row_for(reader: &Person, row: Option<RequestRow>) -> Option<RequestRow>
     Some(row)
 }
 
-/// The request of this number, as the person of this name is shown it. Takes memory for its rows.
+/// The request of this number, as the person of this name is shown it. The person isn't looked up if
+/// that is `kept_person`, who must be one of the desk's people (`value`). Takes memory for its rows.
 ///
 /// `UnknownCaller`: nobody has the name. `NoSuchRequest`: no request has the number, or it belongs
 /// to someone else and the person is a submitter; then none of its other rows is read.
 pub fn request<S: Alter>(
     alloc: Global,
     tx: &mut Transaction<'_, S>,
+    kept_person: Option<&Person>,
     name: &PersonName,
     number: RequestNumber,
 ) -> Result<Result<ShownRequest, Refusal>, ReadFault>
     ensures same_reference { tx.new.conn.ghost_name ≡ tx.old.conn.ghost_name }
     ensures value { DoesInside S.Store tx.old.conn.now tx.new.conn.now result
-        (λ given. TellsOf (λ cs. GivesRequest cs (callers.Person name.now) number given)) }
+        (λ given. TellsOf (λ cs. IsOneOf (option_copied kept_person.entry) (people cs)
+        → GivesRequest cs (callers.Person name.now) number given)) }
     ensures named { IfOk result (λ given. IfErr given IsRequestRefusal) }
     ensures inside { StaysInside S.Store tx.old.conn.now tx.new.conn.now result }
     ensures kept { CommitsNothing S.Store tx.old.conn.now tx.new.conn.now }
     ensures survives { Spares S.Store tx.old.conn.now tx.new.conn.now }
 {
-    let found = person_named(alloc, tx, name.as_str())?;
+    let found = reader_of(alloc, tx, kept_person, name)?;
     let Some(reader) = found else {
         return Ok(Err(Refusal::UnknownCaller));
     };

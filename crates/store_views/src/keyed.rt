@@ -1,10 +1,11 @@
 //! Rows by a key. A row with another key than the requested one isn't a desk's.
-ghost use Rattle.std.specs.Prelude.{◌≡◌, ◌==◌, All, IfOk, IsTrue, filter};
+ghost use Rattle.std.specs.Prelude.{◌≡◌, ◌==◌, All, IfOk, IsTrue, filter, option_copied};
 ghost use Rattle.store_schema.specs.rows.Values.{vote_values};
 ghost use Rattle.desk_history.specs.Formed.{IsReadable};
 ghost use Rattle.desk_history.specs.People.{has_name, has_token};
 ghost use Rattle.desk_history.specs.Runs.{has_key};
 ghost use Rattle.store_proposals.specs.Reading.{IsStamped};
+ghost use Rattle.store_reads.specs.People.{IsOneOf};
 ghost use Rattle.store_reads.specs.Reads.{AreFound, ReadsTables, listed};
 ghost use Rattle.desk_rules.specs.Shown.{is_proposal_row, is_request_row};
 ghost use Rattle.store_sql.specs.States.{DoesInside, CommitsNothing, Spares, StaysInside};
@@ -16,7 +17,9 @@ use desk_texts::{Key, Person, ProposalNumber, RequestNumber};
 use sqlite::{Alter, Transaction};
 use std::alloc::Global;
 use store_proposals::proposal_of;
-use store_reads::{ReadFault, call_of, person_named, person_of_token, request_numbered, votes_of};
+use store_reads::{
+    ReadFault, call_of, kept_named, person_named, person_of_token, request_numbered, votes_of,
+};
 
 /// The person of this name.
 pub(crate) fn person<S: Alter>(
@@ -38,6 +41,27 @@ pub(crate) fn person<S: Alter>(
     if name != person.name.as_str() {
         return Err(ReadFault::Row);
     }
+    Ok(Some(person))
+}
+
+/// The person of this name: the one who is kept, or else the row.
+pub(crate) fn caller<S: Alter>(
+    alloc: Global,
+    tx: &mut Transaction<'_, S>,
+    kept_person: Option<&Person>,
+    name: &str,
+) -> Result<Option<Person>, ReadFault>
+    ensures same_reference { tx.new.conn.ghost_name ≡ tx.old.conn.ghost_name }
+    ensures value { DoesInside S.Store tx.old.conn.now tx.new.conn.now result
+        (λ person. ReadsTables (λ t. IsOneOf (option_copied kept_person.entry) t.people
+        → filter (has_name name.now) t.people ≡ listed person)) }
+    ensures only { IfOk result (λ person. All (λ p. IsTrue (has_name name.now p)) (listed person)) }
+    ensures kept { CommitsNothing S.Store tx.old.conn.now tx.new.conn.now }
+    ensures survives { Spares S.Store tx.old.conn.now tx.new.conn.now }
+{
+    let Some(person) = kept_named(kept_person, name)? else {
+        return person(alloc, tx, name);
+    };
     Ok(Some(person))
 }
 

@@ -1,9 +1,11 @@
 //! The rows and sizes for a decision.
-ghost use Rattle.std.specs.Prelude.{◌≡◌, ℕ, List, IfErr, IfOk, OnErr};
+ghost use Rattle.std.specs.Prelude.{◌≡◌, ℕ, List, IfErr, IfOk, OnErr, option_copied};
 ghost use Rattle.store_schema.specs.rows.Contents.{contents};
 ghost use Rattle.desk_history.specs.Calls.{History};
 ghost use Rattle.desk_history.specs.Formed.{IsHistory};
+ghost use Rattle.desk_history.specs.People.{people};
 ghost use Rattle.desk_history.specs.Tables.{tables};
+ghost use Rattle.store_reads.specs.People.{IsOneOf};
 ghost use Rattle.store_reads.specs.Reads.{ReadsTables};
 ghost use Rattle.desk_rules.specs.Decisions.{called};
 ghost use Rattle.desk_rules.specs.Shown.{Shows};
@@ -22,7 +24,7 @@ use crate::sizing::learn;
 use desk_bytes::Refusal;
 use desk_history::minutes_are_readable;
 use desk_rules::View;
-use desk_texts::{Caller, Command, Key};
+use desk_texts::{Caller, Command, Key, Person};
 use sqlite::{Alter, Transaction};
 use std::alloc::Global;
 use store_proposals::stamps_are_above_none;
@@ -35,20 +37,22 @@ struct Seen {
     sizes: KeptSizes,
 }
 
-/// The rows and sizes that the call needs, with the sizes that are known. The desk's own row comes
-/// first, so that only an open store gives Ok.
+/// The rows and sizes that the call needs, with the sizes that are known and the person who is
+/// kept. The desk's own row comes first, so that only an open store gives Ok.
 fn see<S: Alter>(
     alloc: Global,
     tx: &mut Transaction<'_, S>,
     sizes: KeptSizes,
+    kept_person: Option<&Person>,
     caller: &Caller,
     key: &Key,
     command: &Command,
 ) -> Result<Seen, ReadFault>
     ensures same_reference { tx.new.conn.ghost_name ≡ tx.old.conn.ghost_name }
     ensures value { DoesInside S.Store tx.old.conn.now tx.new.conn.now result
-        (λ seen. ReadsTables (λ t. ReadsBack t → AreRight sizes t
-        → Shows seen.view t (called caller.now key.now command.now) × AreRight seen.sizes t)) }
+        (λ seen. ReadsTables (λ t. ReadsBack t → IsOneOf (option_copied kept_person.entry) t.people
+        → AreRight sizes t → Shows seen.view t (called caller.now key.now command.now)
+        × AreRight seen.sizes t)) }
     ensures only { IfOk result (λ seen. HoldsNoRowBeyond seen.view
         (called caller.now key.now command.now)) }
     ensures learnt { IfOk result (λ seen. Learns command.now sizes seen.sizes) }
@@ -57,7 +61,7 @@ fn see<S: Alter>(
     ensures survives { Spares S.Store tx.old.conn.now tx.new.conn.now }
 {
     let own = own_row(alloc, tx)?;
-    let rows = rows_of_call(alloc, tx, caller, key, command)?;
+    let rows = rows_of_call(alloc, tx, kept_person, caller, key, command)?;
     let proposal = named_row(&rows.proposals, command);
     let lists = lists_asked(alloc, tx, command, proposal)?;
     let known = learn(tx, sizes, command)?;
@@ -75,13 +79,15 @@ fn see<S: Alter>(
 }
 
 /// The rows and sizes that show the tables for the call. Unknown sizes that the command needs are
-/// counted, and known from then on. Takes memory for the rows.
+/// counted, and known from then on. The caller isn't looked up if that is `kept_person`, who
+/// must be one of the desk's people (`shown`). Takes memory for the rows.
 ///
 /// `Store`: the store failed, or a row that the call names isn't one that the desk writes.
 pub fn view<S: Alter>(
     alloc: Global,
     tx: &mut Transaction<'_, S>,
     sizes: &mut KeptSizes,
+    kept_person: Option<&Person>,
     caller: &Caller,
     key: &Key,
     command: &Command,
@@ -92,7 +98,7 @@ pub fn view<S: Alter>(
     ensures shown { DoesInside S.Store tx.old.conn.now tx.new.conn.now result
         (λ v before after. (owner : List ℕ) (cs : History) → IsHistory cs
         → Sees desk_schema before (contents (tables owner cs))
-        → AreRight sizes.old (tables owner cs)
+        → IsOneOf (option_copied kept_person.entry) (people cs) → AreRight sizes.old (tables owner cs)
         → Shows v (tables owner cs) (called caller.now key.now command.now)
         × AreRight sizes.new (tables owner cs)) }
     ensures only { IfOk result (λ v. HoldsNoRowBeyond v
@@ -108,7 +114,7 @@ pub fn view<S: Alter>(
 {
     minutes_are_readable();
     stamps_are_above_none();
-    match see(alloc, tx, *sizes, caller, key, command) {
+    match see(alloc, tx, *sizes, kept_person, caller, key, command) {
         Ok(seen) => {
             *sizes = seen.sizes;
             Ok(seen.view)

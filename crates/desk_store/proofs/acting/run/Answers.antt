@@ -1,4 +1,5 @@
 use Rattle.std.proofs.Common.{◌≡◌, ◌∙◌, rules, sym, ap, subst, arith}
+use Rattle.std.specs.Prelude.{option_copied}
 use Rattle.sqlite.specs.Held.{Held, state}
 use Rattle.sqlite.specs.State.{HasCleanDisk, Survives}
 use Rattle.desk_rules.specs.Decisions.{called}
@@ -7,6 +8,7 @@ use Rattle.store_sql.proofs.CommitLemmas.{failed_leaves, failed_shows, failed_sp
 use Rattle.store_sql.specs.Faults.{refusal_of}
 use Rattle.store_schema.specs.Tables.{desk_schema}
 use Rattle.store_schema.specs.rows.Histories.{rows_of}
+use Rattle.desk_store.specs.Pasts.{kept}
 use Rattle.desk_store.proofs.CommitLemmas.{answered, committed, next_trees}
 use Rattle.desk_store.proofs.acting.run.Goals as goal
 
@@ -17,10 +19,10 @@ returns-in-Ok-commit-clause-ok g c =
     let call = called c.args.caller.now c.args.key.now c.args.command.now in
     let last = c.act.new.tx.conn.now in
     let e = c.in-Ok.ensures in
-    let did = worked g.S.Store old _ last (Acts c.args.sizes call c.in-Ok.acted) c.transaction-tx.ensures.begun e.value e.inside e.kept e.survives in
+    let did = worked g.S.Store old _ last (Acts (kept c.args.sizes (option_copied c.args.kept_person)) call c.in-Ok.acted) c.transaction-tx.ensures.begun e.value e.inside e.kept e.survives in
     let same : c.commit.new.self.0 ≡ c.conn-then-is_accepted-1.given.0 = search rules in
-    subst (λ (x : Held _). HasCleanDisk (state g.S.Store x) → Runs c.args.sizes call c.in-Ok.acted (state g.S.Store old) (state g.S.Store x)) same
-    (λ clean. committed g.S.Store old last c.args.sizes call c.in-Ok.acted did c.commit.new.self.0
+    subst (λ (x : Held _). HasCleanDisk (state g.S.Store x) → Runs (kept c.args.sizes (option_copied c.args.kept_person)) call c.in-Ok.acted (state g.S.Store old) (state g.S.Store x)) same
+    (λ clean. committed g.S.Store old last (kept c.args.sizes (option_copied c.args.kept_person)) call c.in-Ok.acted did c.commit.new.self.0
     (omega (arith, c.in-Ok-commit.ensures.survives.clean, clean)) (c.in-Ok-commit.ensures.ok clean).1)
 
 pub returns-in-Ok-commit-clause-survives : goal.returns-in-Ok-commit-clause-survives
@@ -28,13 +30,13 @@ returns-in-Ok-commit-clause-survives g c =
     let old = c.args.conn.now in
     let call = called c.args.caller.now c.args.key.now c.args.command.now in
     let last = c.act.new.tx.conn.now in
-    let acts = Acts c.args.sizes call c.in-Ok.acted in
+    let acts = Acts (kept c.args.sizes (option_copied c.args.kept_person)) call c.in-Ok.acted in
     let e = c.in-Ok.ensures in
     let did = worked g.S.Store old _ last acts c.transaction-tx.ensures.begun e.value e.inside e.kept e.survives in
     let same : c.commit.new.self.0 ≡ c.conn-then-is_accepted-1.given.0 = search rules in
-    subst (λ (x : Held _). Survives (state g.S.Store old) (state g.S.Store x) (LeavesNext (state g.S.Store old) c.args.sizes call)) same
-    (leaves_made g.S.Store old last c.commit.new.self.0 acts (LeavesNext (state g.S.Store old) c.args.sizes call) did c.in-Ok-commit.ensures.survives
-    (next_trees g.S.Store old last c.args.sizes call c.in-Ok.acted did (sym c.is_accepted.ensures ∙ c.if-is_accepted.true)))
+    subst (λ (x : Held _). Survives (state g.S.Store old) (state g.S.Store x) (LeavesNext (state g.S.Store old) (kept c.args.sizes (option_copied c.args.kept_person)) call)) same
+    (leaves_made g.S.Store old last c.commit.new.self.0 acts (LeavesNext (state g.S.Store old) (kept c.args.sizes (option_copied c.args.kept_person)) call) did c.in-Ok-commit.ensures.survives
+    (next_trees g.S.Store old last (kept c.args.sizes (option_copied c.args.kept_person)) call c.in-Ok.acted did (sym c.is_accepted.ensures ∙ c.if-is_accepted.true)))
 
 -- accepted, and the commit failed
 
@@ -42,7 +44,7 @@ pub returns-in-Err-commit-clause-err : goal.returns-in-Err-commit-clause-err
 returns-in-Err-commit-clause-err g c clean other =
     let old = c.args.conn.now in
     let last = c.act.new.tx.conn.now in
-    let acts = Acts c.args.sizes (called c.args.caller.now c.args.key.now c.args.command.now) c.in-Ok.acted in
+    let acts = Acts (kept c.args.sizes (option_copied c.args.kept_person)) (called c.args.caller.now c.args.key.now c.args.command.now) c.in-Ok.acted in
     let e = c.in-Ok.ensures in
     let did = worked g.S.Store old _ last acts c.transaction-tx.ensures.begun e.value e.inside e.kept e.survives in
     λ owner cs shows. failed_shows g.S.Store old last c.commit.new.self.0 c.conn-then-is_accepted-1.given.0 c.failed_commit.new.conn acts c.in-Err-commit.error did
@@ -53,7 +55,7 @@ pub returns-in-Err-commit-clause-unwritten : goal.returns-in-Err-commit-clause-u
 returns-in-Err-commit-clause-unwritten g c other =
     let old = c.args.conn.now in
     let last = c.act.new.tx.conn.now in
-    let acts = Acts c.args.sizes (called c.args.caller.now c.args.key.now c.args.command.now) c.in-Ok.acted in
+    let acts = Acts (kept c.args.sizes (option_copied c.args.kept_person)) (called c.args.caller.now c.args.key.now c.args.command.now) c.in-Ok.acted in
     let e = c.in-Ok.ensures in
     let did = worked g.S.Store old _ last acts c.transaction-tx.ensures.begun e.value e.inside e.kept e.survives in
     failed_spares g.S.Store old last c.commit.new.self.0 c.conn-then-is_accepted-1.given.0 c.failed_commit.new.conn acts c.in-Err-commit.error did
@@ -66,13 +68,13 @@ returns-in-Err-commit-clause-survives g c =
     let old = c.args.conn.now in
     let call = called c.args.caller.now c.args.key.now c.args.command.now in
     let last = c.act.new.tx.conn.now in
-    let acts = Acts c.args.sizes call c.in-Ok.acted in
+    let acts = Acts (kept c.args.sizes (option_copied c.args.kept_person)) call c.in-Ok.acted in
     let e = c.in-Ok.ensures in
     let did = worked g.S.Store old _ last acts c.transaction-tx.ensures.begun e.value e.inside e.kept e.survives in
     failed_leaves g.S.Store old last c.commit.new.self.0 c.conn-then-is_accepted-1.given.0 c.failed_commit.new.conn acts c.in-Err-commit.error did
     (search rules) c.in-Err-commit.ensures.survives c.in-Err-commit.ensures.err c.failed_commit.ensures.survives
-    (LeavesNext (state g.S.Store old) c.args.sizes call)
-    (next_trees g.S.Store old last c.args.sizes call c.in-Ok.acted did (sym c.is_accepted.ensures ∙ c.if-is_accepted.true))
+    (LeavesNext (state g.S.Store old) (kept c.args.sizes (option_copied c.args.kept_person)) call)
+    (next_trees g.S.Store old last (kept c.args.sizes (option_copied c.args.kept_person)) call c.in-Ok.acted did (sym c.is_accepted.ensures ∙ c.if-is_accepted.true))
 
 -- not accepted, and rolled back
 pub returns-clause-ok : goal.returns-clause-ok
@@ -81,10 +83,10 @@ returns-clause-ok g c =
     let call = called c.args.caller.now c.args.key.now c.args.command.now in
     let last = c.act.new.tx.conn.now in
     let e = c.in-Ok.ensures in
-    let did = worked g.S.Store old _ last (Acts c.args.sizes call c.in-Ok.acted) c.transaction-tx.ensures.begun e.value e.inside e.kept e.survives in
+    let did = worked g.S.Store old _ last (Acts (kept c.args.sizes (option_copied c.args.kept_person)) call c.in-Ok.acted) c.transaction-tx.ensures.begun e.value e.inside e.kept e.survives in
     let same : c.rollback.new.self.0 ≡ c.conn-2-1.given.0 = search rules in
-    subst (λ (x : Held _). HasCleanDisk (state g.S.Store x) → Runs c.args.sizes call c.in-Ok.acted (state g.S.Store old) (state g.S.Store x)) same
-    (λ clean. answered g.S.Store old last c.args.sizes call c.in-Ok.acted did c.rollback.new.self.0 c.rollback.ensures.survives
+    subst (λ (x : Held _). HasCleanDisk (state g.S.Store x) → Runs (kept c.args.sizes (option_copied c.args.kept_person)) call c.in-Ok.acted (state g.S.Store old) (state g.S.Store x)) same
+    (λ clean. answered g.S.Store old last (kept c.args.sizes (option_copied c.args.kept_person)) call c.in-Ok.acted did c.rollback.new.self.0 c.rollback.ensures.survives
     (sym c.is_accepted.ensures ∙ c.if-is_accepted.false) (c.rollback.ensures.undone clean) clean)
 
 pub returns-clause-survives : goal.returns-clause-survives
@@ -93,8 +95,8 @@ returns-clause-survives g c =
     let call = called c.args.caller.now c.args.key.now c.args.command.now in
     let end = c.rollback.new.self.0 in
     let e = c.in-Ok.ensures in
-    let did = worked g.S.Store old _ c.act.new.tx.conn.now (Acts c.args.sizes call c.in-Ok.acted) c.transaction-tx.ensures.begun e.value e.inside e.kept e.survives in
+    let did = worked g.S.Store old _ c.act.new.tx.conn.now (Acts (kept c.args.sizes (option_copied c.args.kept_person)) call c.in-Ok.acted) c.transaction-tx.ensures.begun e.value e.inside e.kept e.survives in
     let same : c.rollback.new.self.0 ≡ c.conn-2-1.given.0 = search rules in
-    subst (λ (x : Held _). Survives (state g.S.Store old) (state g.S.Store x) (LeavesNext (state g.S.Store old) c.args.sizes call)) same
-    (leaves_more (LeavesNext (state g.S.Store old) c.args.sizes call) (state g.S.Store old) (state g.S.Store end)
+    subst (λ (x : Held _). Survives (state g.S.Store old) (state g.S.Store x) (LeavesNext (state g.S.Store old) (kept c.args.sizes (option_copied c.args.kept_person)) call)) same
+    (leaves_more (LeavesNext (state g.S.Store old) (kept c.args.sizes (option_copied c.args.kept_person)) call) (state g.S.Store old) (state g.S.Store end)
     (through g.S.Store old c.act.new.tx.conn.now end did.spares c.rollback.ensures.survives))

@@ -1,4 +1,5 @@
 use Rattle.std.proofs.Common.{rules, ◌≡◌, ◌++◌, filter, subst, All, None, Some, IsTrue, arith}
+use Rattle.std.specs.Prelude.{option_copied}
 use Rattle.sqlite.specs.Held.{state}
 use Rattle.sqlite.specs.State.{HasCleanDisk}
 use Rattle.desk_texts.specs.Callers.{caller_name}
@@ -6,6 +7,7 @@ use Rattle.store_schema.specs.rows.Contents.{contents}
 use Rattle.desk_history.specs.People.{added_by, has_name}
 use Rattle.store_sql.proofs.StopLemmas.{changes_then}
 use Rattle.store_schema.specs.Tables.{desk_schema}
+use Rattle.store_reads.specs.People.{IsOneOf}
 use Rattle.store_reads.specs.Reads.{ReadsTables, listed}
 use Rattle.store_views.specs.Steps.{ShowsPeople}
 use Rattle.store_views.proofs.NamedLemmas.{people_asked, put_thrice, shows_caller, shows_people}
@@ -15,21 +17,22 @@ use Rattle.store_views.proofs.loading.people_of.Goals as goal
 pub returns-in_default-clause-value : goal.returns-in_default-clause-value
 returns-in_default-clause-value g c clean inside =
     let first = state g.S.Store c.args.tx.now.conn.now in
-    let last = state g.S.Store c.person.new.tx.conn.now in
+    let last = state g.S.Store c.caller.new.tx.conn.now in
     let caller = caller_name c.args.caller.now in
     let own = c.in_ok-own.own in
     let rows = c.push_some.new.rows.items in
     let is : rows ≡ listed own = subst (λ l. rows ≡ l ++ listed own) c.new-people.ensures.items c.in_ok-push_some.ensures in
     let none : added_by c.args.command.now ≡ None = search (rules, c.added.ensures, c.in_default.is) in
-    tells_so first last (λ t. filter (has_name caller) t.people ≡ listed own) (λ t. ShowsPeople rows t caller c.args.command.now)
-    (λ t read. shows_caller t caller c.args.command.now own read rows none is)
-    (subst (λ n. ReadsTables (λ t. filter (has_name n) t.people ≡ listed own) first last) c.name.ensures (c.in_ok-own.ensures.value clean inside))
+    let kept = option_copied c.args.kept_person in
+    tells_so first last (λ t. IsOneOf kept t.people → filter (has_name caller) t.people ≡ listed own) (λ t. IsOneOf kept t.people → ShowsPeople rows t caller c.args.command.now)
+    (λ t read known. shows_caller t caller c.args.command.now own (read known) rows none is)
+    (subst (λ n. ReadsTables (λ t. IsOneOf kept t.people → filter (has_name n) t.people ≡ listed own) first last) c.name.ensures (c.in_ok-own.ensures.value clean inside))
 
 pub returns-clause-value : goal.returns-clause-value
 returns-clause-value g c clean inside =
     let s0 = state g.S.Store c.args.tx.now.conn.now in
-    let s1 = state g.S.Store c.person.new.tx.conn.now in
-    let s2 = state g.S.Store c.person-2.new.tx.conn.now in
+    let s1 = state g.S.Store c.caller.new.tx.conn.now in
+    let s2 = state g.S.Store c.person.new.tx.conn.now in
     let s3 = state g.S.Store c.holder.new.tx.conn.now in
     let c2 : HasCleanDisk s2 = omega (arith, c.in_ok-holder.ensures.survives.clean, clean) in
     let c1 : HasCleanDisk s1 = omega (arith, c.in_ok-namesake.ensures.survives.clean, c2) in
@@ -40,7 +43,7 @@ returns-clause-value g c clean inside =
     let namesake = c.in_ok-namesake.namesake in
     let holder = c.in_ok-holder.holder in
     let rows = c.push_some-3.new.rows.items in
-    let a = subst (λ n. ReadsTables (λ t. filter (has_name n) t.people ≡ listed own) s0 s1) c.name.ensures (c.in_ok-own.ensures.value c1 inside) in
+    let a = subst (λ n. ReadsTables (λ t. IsOneOf (option_copied c.args.kept_person) t.people → filter (has_name n) t.people ≡ listed own) s0 s1) c.name.ensures (c.in_ok-own.ensures.value c1 inside) in
     let b = subst (λ n. ReadsTables (λ t. filter (has_name n) t.people ≡ listed namesake) s1 s2) c.as_str.ensures.value (c.in_ok-namesake.ensures.value c2 a.kept.inside) in
     let d = c.in_ok-holder.ensures.value clean b.kept.inside in
     let some : added_by command ≡ Some person = search (rules, c.added.ensures, c.in-Some.is) in
@@ -48,10 +51,10 @@ returns-clause-value g c clean inside =
     c.new-people.ensures.items c.in_ok-push_some.ensures c.in_ok-push_some-2.ensures c.in_ok-push_some-3.ensures in
     record {
       kept = changes_then desk_schema contents s0 s1 s3 (λ t. t) (λ t. t) a.kept (changes_then desk_schema contents s1 s2 s3 (λ t. t) (λ t. t) b.kept d.kept);
-      tells = λ t sees.
+      tells = λ t sees known.
           let sees1 = a.kept.value t sees in
           let sees2 = b.kept.value t sees1 in
-          shows_people t caller command own (a.tells t sees) rows person namesake holder some (b.tells t sees1) (d.tells t sees2) all;
+          shows_people t caller command own (a.tells t sees known) rows person namesake holder some (b.tells t sees1) (d.tells t sees2) all;
     }
 
 pub returns-clause-only : goal.returns-clause-only

@@ -27,10 +27,10 @@ returns-clause-value g c clean inside =
       kept = changes_then desk_schema contents s0 s1 s5 (λ t. t) (λ t. t) a.kept
           (changes_then desk_schema contents s1 s2 s5 (λ t. t) (λ t. t) b.kept
           (changes_then desk_schema contents s2 s3 s5 (λ t. t) (λ t. t) d.kept (changes_then desk_schema contents s3 s4 s5 (λ t. t) (λ t. t) e.kept f.kept)));
-      tells = λ t sees back.
+      tells = λ t sees back known.
           let sees1 = a.kept.value t sees in
           let sees2 = b.kept.value t sees1 in
           let sees3 = d.kept.value t sees2 in
           let sees4 = e.kept.value t sees3 in
-          record { people = a.tells t sees; call = b.tells t sees1 back.calls; request = d.tells t sees2; votes = e.tells t sees3; proposal = f.tells t sees4 back.proposals };
+          record { people = a.tells t sees known; call = b.tells t sees1 back.calls; request = d.tells t sees2; votes = e.tells t sees3; proposal = f.tells t sees4 back.proposals };
     }

@@ -29,11 +29,11 @@ returns-clause-value g c clean inside =
     record {
       kept = changes_then desk_schema contents s0 s1 s4 (λ t. t) (λ t. t) a.kept
           (changes_then desk_schema contents s1 s2 s4 (λ t. t) (λ t. t) b.kept (changes_then desk_schema contents s2 s3 s4 (λ t. t) (λ t. t) d.kept e.kept));
-      tells = λ t sees back right.
+      tells = λ t sees back kept right.
           let sees1 = a.kept.value t sees in
           let sees2 = b.kept.value t sees1 in
           let sees3 = d.kept.value t sees2 in
-          let rows = b.tells t sees1 back in
+          let rows = b.tells t sees1 back kept in
           let known = e.tells t sees3 right in
           let told = c.sizes.ensures t c.args.command.now known c.in_ok-known.ensures.learnt.enough in (
             record {

@@ -19,6 +19,7 @@ returns-in-Ok-clause-ok g c clean =
       history = record { legal = refl; formed = All-nil IsItem };
       shows = shows;
       sizes = unknown_are_right c.unknown.result (tables owner []) c.unknown.ensures;
+      person = tt;
       left = c.stop_leaves_what_is_shown.ensures desk_schema (rows_of owner []) shows made.0;
     }
 

@@ -24,6 +24,7 @@ returns-in-Ok-clause-ok g c clean owner cs history shows left =
       history = history;
       shows = c.in-Ok.ensures.second clean owner cs shows;
       sizes = unknown_are_right c.unknown.result (tables owner cs) c.unknown.ensures;
+      person = tt;
       left = still_leaves (λ db. HoldsHistory db owner cs) old new (second_spared old owner cs new c.in-Ok.ensures.survives shows) left;
     }
 
@@ -35,6 +36,7 @@ returns-in-Ok-clause-migrated g c clean owner cs history early =
       history = history;
       shows = made.1;
       sizes = unknown_are_right c.unknown.result (tables owner cs) c.unknown.ensures;
+      person = tt;
       left = c.stop_leaves_what_is_shown-in-Ok.ensures desk_schema (rows_of owner cs) made.1 made.0;
     }
 

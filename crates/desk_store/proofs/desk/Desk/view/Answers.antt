@@ -12,5 +12,6 @@ returns-in-Ok-clause-same g c clean other owner cs was =
       history = it.history;
       shows = it.shows;
       sizes = (c.in-Ok.ensures.shown clean owner cs was was.sizes).1;
+      person = it.person;
       left = it.left;
     }

@@ -1,6 +1,9 @@
+use Rattle.std.specs.Prelude.{option_copied}
 use Rattle.sqlite.specs.Held.{state}
+use Rattle.desk_history.specs.People.{people}
 use Rattle.desk_history.specs.Shown.{GivesRequest}
 use Rattle.desk_texts.specs.declared.caller.Caller.TheVariants as callers
+use Rattle.store_reads.specs.People.{IsOneOf}
 use Rattle.desk_store.proofs.QuestionLemmas.{of_history}
 use Rattle.desk_store.proofs.questions.OneRequestQuestion.read.Goals as goal
 
@@ -8,4 +11,4 @@ pub returns-in-Ok-clause-value : goal.returns-in-Ok-clause-value
 returns-in-Ok-clause-value g c clean inside =
     let who = callers.Person c.args.self.now.name.now in
     of_history (state g.S.Store c.args.tx.now.conn.now) (state g.S.Store c.request.new.tx.conn.now)
-    (λ cs. GivesRequest cs who c.args.self.now.number c.in-Ok.given) (c.in-Ok.ensures.value clean inside)
+    (λ cs. IsOneOf (option_copied c.args.self.now.kept_person) (people cs) → GivesRequest cs who c.args.self.now.number c.in-Ok.given) (c.in-Ok.ensures.value clean inside)
