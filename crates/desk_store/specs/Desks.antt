@@ -26,6 +26,10 @@ pub record ShowsDesk {S : Type 0} (g : Ghosts S) (desk : Desk S) (owner : List �
   pub sizes : AreRight desk.sizes (tables owner cs)
   pub left : LeavesHistory (state g desk.conn) owner cs
 
+-- this holds of each owner and history that the desk shows
+abbrev pub ForEachShown : {S : Type 0} → Ghosts S → Desk S → (List ℕ → History → Type 0) → Type 0
+ForEachShown g desk told = (owner : List ℕ) (cs : History) → ShowsDesk g desk owner cs → told owner cs
+
 module _ {S : Type 0} (g : Ghosts S) (old new : Desk S) where
   -- Ok: the reply is the answer to the call, and the desk shows the history after it.
   abbrev pub Replies : Call → Reply → Type 0
@@ -43,10 +47,6 @@ module _ {S : Type 0} (g : Ghosts S) (old new : Desk S) where
   -- The desk shows the same history.
   abbrev pub KeepsDesk : Type 0
   KeepsDesk = (owner : List ℕ) (cs : History) → ShowsDesk g old owner cs → ShowsDesk g new owner cs
-
-  -- This holds of each owner and history that the desk shows.
-  abbrev pub ForEachShown : (List ℕ → History → Type 0) → Type 0
-  ForEachShown told = (owner : List ℕ) (cs : History) → ShowsDesk g old owner cs → told owner cs
 
   -- A stop after the call, whatever its result, leaves the history before the call or the one after
   -- it.

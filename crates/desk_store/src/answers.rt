@@ -25,7 +25,7 @@ impl<S: Alter + Drop> Desk<S> {
     /// `NoMemory`: memory was refused. `Store`: the store failed, or isn't as a desk left it.
     pub fn person_of(&mut self, token: &Digest) -> Result<Option<Person>, Refusal>
         ensures shown { HasCleanDisk (state S.Store self.new.conn) → IfOk result (λ person.
-            ForEachShown S.Store self.old self.new (λ owner cs.
+            ForEachShown S.Store self.old (λ owner cs.
             filter (has_token token.now) (people cs) ≡ listed person)) }
         ensures same { HasCleanDisk (state S.Store self.new.conn) → result ≢ Err Refusal.Store
             → KeepsDesk S.Store self.old self.new }
@@ -46,7 +46,7 @@ impl<S: Alter + Drop> Desk<S> {
     /// `NoMemory`: memory was refused. `Store`: the store failed, or isn't as a desk left it.
     pub fn verdict(&mut self, facts: &Facts) -> Result<Verdict, Refusal>
         ensures shown { HasCleanDisk (state S.Store self.new.conn) → IfOk result (λ said.
-            ForEachShown S.Store self.old self.new (λ owner cs.
+            ForEachShown S.Store self.old (λ owner cs.
             said ≡ verdicts.verdict cs facts.now)) }
         ensures same { HasCleanDisk (state S.Store self.new.conn) → result ≢ Err Refusal.Store
             → KeepsDesk S.Store self.old self.new }
@@ -70,7 +70,7 @@ impl<S: Alter + Drop> Desk<S> {
     /// `NoMemory`: memory was refused. `Store`: the store failed, or isn't as a desk left it.
     pub fn counts(&mut self) -> Result<Counts, Refusal>
         ensures shown { HasCleanDisk (state S.Store self.new.conn) → IfOk result (λ n.
-            ForEachShown S.Store self.old self.new (λ owner cs. CountHistory n cs)) }
+            ForEachShown S.Store self.old (λ owner cs. CountHistory n cs)) }
         ensures same { HasCleanDisk (state S.Store self.new.conn) → result ≢ Err Refusal.Store
             → KeepsDesk S.Store self.old self.new }
         ensures spares { Spares S.Store self.old.conn self.new.conn }

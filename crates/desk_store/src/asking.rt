@@ -77,7 +77,7 @@ impl<S: Alter + Drop> Desk<S> {
         question: &Q,
     ) -> Result<Q::Answer, Refusal>
         ensures shown { HasCleanDisk (state S.Store self.new.conn) → IfOk result (λ answer.
-            ForEachShown S.Store self.old self.new (Q.Question.tells question.now answer)) }
+            ForEachShown S.Store self.old (Q.Question.tells question.now answer)) }
         ensures bound { IfOk result (Q.Question.bounds question.now) }
         ensures same { HasCleanDisk (state S.Store self.new.conn) → result ≢ Err Refusal.Store
             → KeepsDesk S.Store self.old self.new }

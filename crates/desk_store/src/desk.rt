@@ -214,7 +214,7 @@ impl<S: Alter + Drop> Desk<S> {
     /// `NoMemory`: memory was refused. `Store`: the store failed, or isn't as a desk left it.
     pub fn view(&mut self, caller: &Caller, key: &Key, command: &Command) -> Result<View, Refusal>
         ensures shown { HasCleanDisk (state S.Store self.new.conn) → IfOk result (λ v.
-            ForEachShown S.Store self.old self.new (λ owner cs.
+            ForEachShown S.Store self.old (λ owner cs.
             Shows v (tables owner cs) (called caller.now key.now command.now))) }
         ensures only { IfOk result (λ v. HoldsNoRowBeyond v
             (called caller.now key.now command.now)) }
@@ -248,7 +248,7 @@ impl<S: Alter + Drop> Desk<S> {
     /// `NoMemory`: memory was refused. `Store`: the store failed, or isn't as a desk left it.
     pub fn list_view(&mut self, facts: &Facts) -> Result<ListView, Refusal>
         ensures shown { HasCleanDisk (state S.Store self.new.conn) → IfOk result (λ v.
-            ForEachShown S.Store self.old self.new (λ owner cs.
+            ForEachShown S.Store self.old (λ owner cs.
             ShowsLists v (tables owner cs) (keys_of facts.now))) }
         ensures only { IfOk result (λ v. HoldsNoOther v (keys_of facts.now)) }
         ensures same { HasCleanDisk (state S.Store self.new.conn) → result ≢ Err Refusal.Store

@@ -31,11 +31,11 @@ impl<S: Alter + Drop> Desk<S> {
         number: RequestNumber,
     ) -> Result<ShownRequest, Refusal>
         ensures shown { HasCleanDisk (state S.Store self.new.conn) → IfOk result (λ s.
-            ForEachShown S.Store self.old self.new (λ owner cs.
+            ForEachShown S.Store self.old (λ owner cs.
             MatchResult (request_for cs caller.now number) (λ w. IsShown w s) (λ _. ⊥))) }
         ensures refused { HasCleanDisk (state S.Store self.new.conn) → IfErr result (λ refusal.
             refusal ≢ Refusal.NoMemory → refusal ≢ Refusal.Store
-            → ForEachShown S.Store self.old self.new (λ owner cs.
+            → ForEachShown S.Store self.old (λ owner cs.
             request_for cs caller.now number ≡ Err refusal)) }
         ensures same { HasCleanDisk (state S.Store self.new.conn) → result ≢ Err Refusal.Store
             → KeepsDesk S.Store self.old self.new }
@@ -67,12 +67,12 @@ impl<S: Alter + Drop> Desk<S> {
     /// refused. `Store`: the store failed, or isn't as a desk left it.
     pub fn requests_of<L: RequestList + Drop>(&mut self, caller: &Caller) -> Result<L, Refusal>
         ensures shown { HasCleanDisk (state S.Store self.new.conn) → IfOk result (λ list.
-            ForEachShown S.Store self.old self.new (λ owner cs.
+            ForEachShown S.Store self.old (λ owner cs.
             MatchResult (requests_for cs caller.now)
             (λ ws. HoldsShown L.RequestList.holds ws list) (λ _. ⊥))) }
         ensures refused { HasCleanDisk (state S.Store self.new.conn) → IfErr result (λ refusal.
             refusal ≢ Refusal.NoMemory → refusal ≢ Refusal.Store
-            → ForEachShown S.Store self.old self.new (λ owner cs.
+            → ForEachShown S.Store self.old (λ owner cs.
             requests_for cs caller.now ≡ Err refusal)) }
         ensures same { HasCleanDisk (state S.Store self.new.conn) → result ≢ Err Refusal.Store
             → KeepsDesk S.Store self.old self.new }
@@ -108,12 +108,12 @@ impl<S: Alter + Drop> Desk<S> {
     /// name. `NoMemory`: memory was refused. `Store`: the store failed, or isn't as a desk left it.
     pub fn proposals(&mut self, caller: &Caller) -> Result<Vec<Proposal>, Refusal>
         ensures shown { HasCleanDisk (state S.Store self.new.conn) → IfOk result (λ shown.
-            ForEachShown S.Store self.old self.new (λ owner cs.
+            ForEachShown S.Store self.old (λ owner cs.
             MatchResult (proposals_for cs caller.now)
             (λ ps. shown.items ≡ map (shown_proposal cs) ps) (λ _. ⊥))) }
         ensures refused { HasCleanDisk (state S.Store self.new.conn) → IfErr result (λ refusal.
             refusal ≢ Refusal.NoMemory → refusal ≢ Refusal.Store
-            → ForEachShown S.Store self.old self.new (λ owner cs.
+            → ForEachShown S.Store self.old (λ owner cs.
             proposals_for cs caller.now ≡ Err refusal)) }
         ensures same { HasCleanDisk (state S.Store self.new.conn) → result ≢ Err Refusal.Store
             → KeepsDesk S.Store self.old self.new }
