@@ -43,7 +43,7 @@ pub fn add<S: Alter + Drop, W: Write>(
     ensures done { IfOk result (λ outcome. outcome ≡ Outcome.Done) }
 
     ensures beginning { HasCleanDisk (state S.Store desk.new.conn) → OnErr result
-        (ForEachShown S.Store desk.old desk.new
+        (ForEachShown S.Store desk.old
         (WritesBeginning (W.contents writer.old) (W.contents writer.new)
         (answer_line (called Caller.Console key.now (Command.AddPerson person))))) }
     ensures unwritten { IfErr result (λ fault. fault ≢ row_of refusals.Write
@@ -75,11 +75,11 @@ pub fn judge<S: Alter + Drop, W: Write>(
 ) -> Result<Outcome, Fault>
     ensures told { IfOk result (λ outcome. (said : Verdict) × (outcome ≡ outcome_of said)
         × Appends (W.contents writer.old) (W.contents writer.new) (verdict_line said found.now)
-        × (HasCleanDisk (state S.Store desk.new.conn) → ForEachShown S.Store desk.old desk.new
+        × (HasCleanDisk (state S.Store desk.new.conn) → ForEachShown S.Store desk.old
         (λ owner cs. said ≡ verdicts.verdict cs found.now))) }
 
     ensures beginning { HasCleanDisk (state S.Store desk.new.conn) → OnErr result
-        (ForEachShown S.Store desk.old desk.new
+        (ForEachShown S.Store desk.old
         (WritesBeginning (W.contents writer.old) (W.contents writer.new)
         (λ owner cs. verdict_line (verdicts.verdict cs found.now) found.now))) }
     ensures unwritten { IfErr result (λ fault. fault ≢ row_of refusals.Write
@@ -108,12 +108,12 @@ pub fn write_export<S: Alter + Drop, W: Write>(
     writer: &mut W,
 ) -> Result<Outcome, Fault>
     ensures ok { HasCleanDisk (state S.Store desk.new.conn) → OnOk result
-        (ForEachShown S.Store desk.old desk.new
+        (ForEachShown S.Store desk.old
         (Writes (W.contents writer.old) (W.contents writer.new) (exported what))) }
     ensures done { IfOk result (λ outcome. outcome ≡ Outcome.Done) }
 
     ensures beginning { HasCleanDisk (state S.Store desk.new.conn) → OnErr result
-        (ForEachShown S.Store desk.old desk.new
+        (ForEachShown S.Store desk.old
         (WritesBeginning (W.contents writer.old) (W.contents writer.new) (exported what))) }
     ensures poisons { IsErrOf result (row_of refusals.Store) → desk.new.needs_reopening ≡ true }
     ensures closed { desk.old.needs_reopening ≡ true → (result ≡ Err (row_of refusals.Reopen))

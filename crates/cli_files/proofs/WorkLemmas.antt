@@ -33,7 +33,7 @@ use Rattle.cli_lines.specs.declared.ending.Outcome.{Outcome}
 pub judged : {S : Type 0} (g : store.Ghosts S) (old new : Desk S) (before after : Option (List ℕ)) (work : Result Outcome Fault)
     (found : Facts) → ((image : List ℕ) × IsFactsOf image found)
     → IfOk work (λ outcome. (said : Verdict) × (outcome ≡ outcome_of said) × Appends before after (verdict_line said found)
-    × (HasCleanDisk (state g new.conn) → ForEachShown g old new (λ owner cs. said ≡ verdicts.verdict cs found)))
+    × (HasCleanDisk (state g new.conn) → ForEachShown g old (λ owner cs. said ≡ verdicts.verdict cs found)))
     → IfOk work (JudgesImage g old new before after)
 judged g old new before after (Err fault) found of told = tt
 judged g old new before after (Ok outcome) found of told =
@@ -47,7 +47,7 @@ unread g old new contents fault = record { unwritten = λ other. Keeps-refl cont
 pub stopped : {S W : Type 0} (g : store.Ghosts S) (old new : Desk S) (contents : W → Option (List ℕ)) (before after : W) (work : Result Outcome Fault)
     (found : Facts) → ((image : List ℕ) × IsFactsOf image found)
     → IfErr work (λ fault. fault ≢ row_of refusals.Write → after ≡ before)
-    → (HasCleanDisk (state g new.conn) → OnErr work (ForEachShown g old new
+    → (HasCleanDisk (state g new.conn) → OnErr work (ForEachShown g old
     (WritesBeginning (contents before) (contents after) (λ owner cs. verdict_line (verdicts.verdict cs found) found))))
     → IfErr work (StopsVerdict g old new (contents before) (contents after))
 stopped g old new contents before after (Ok outcome) found of unwritten begins = tt
@@ -82,13 +82,13 @@ module _ {D : Type 0} (g : Ghosts D) (desk left : Desk (FileStore D g)) (ending 
   pub exports : (what : Export) (before after : Option (List ℕ))
       → (HasCleanDisk (file_state left.conn) → work ≢ Err (row_of refusals.Store) → KeepsDesk over_files desk left)
       → SparesDesk over_files desk left
-      → (HasCleanDisk (file_state left.conn) → OnOk work (ForEachShown over_files desk left (Writes before after (exported what))))
-      → (HasCleanDisk (file_state left.conn) → OnErr work (ForEachShown over_files desk left (WritesBeginning before after (exported what))))
+      → (HasCleanDisk (file_state left.conn) → OnOk work (ForEachShown over_files desk (Writes before after (exported what))))
+      → (HasCleanDisk (file_state left.conn) → OnErr work (ForEachShown over_files desk (WritesBeginning before after (exported what))))
       → Ends g left ending → Exports g what before after ending desk
   exports what before after same spares ok beginning ended =
       let P : Result Outcome Fault → Desk (FileStore D g) → Type 0 = λ w l. HasCleanDisk (file_state l.conn)
-      → OnOk w (ForEachShown over_files desk l (Writes before after (exported what)))
-      × OnErr w (ForEachShown over_files desk l (WritesBeginning before after (exported what))) in
+      → OnOk w (ForEachShown over_files desk (Writes before after (exported what)))
+      × OnErr w (ForEachShown over_files desk (WritesBeginning before after (exported what))) in
       reads P same spares (λ clean. (ok clean, beginning clean)) ended
 
   -- a verdict on an image

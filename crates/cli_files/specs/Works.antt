@@ -43,7 +43,7 @@ pub record JudgesImage {S : Type 0} (g : store.Ghosts S) (old new : Desk S) (bef
   pub found : Facts
   pub facts : IsFactsOf image found
   pub said : Verdict
-  pub exact : HasCleanDisk (state g new.conn) → ForEachShown g old new (λ owner cs. said ≡ verdicts.verdict cs found)
+  pub exact : HasCleanDisk (state g new.conn) → ForEachShown g old (λ owner cs. said ≡ verdicts.verdict cs found)
   pub line : Appends before after (verdict_line said found)
   pub told : outcome ≡ outcome_of said
 
@@ -53,7 +53,7 @@ pub record BeginsVerdict {S : Type 0} (g : store.Ghosts S) (old new : Desk S) (b
   pub found : Facts
   pub facts : IsFactsOf image found
   pub begins : HasCleanDisk (state g new.conn)
-      → ForEachShown g old new (WritesBeginning before after (λ owner cs. verdict_line (verdicts.verdict cs found) found))
+      → ForEachShown g old (WritesBeginning before after (λ owner cs. verdict_line (verdicts.verdict cs found) found))
 
 -- own: a verdict stopped: nothing was written, or, only if the write failed, a prefix of its line
 pub record StopsVerdict {S : Type 0} (g : store.Ghosts S) (old new : Desk S) (before after : Option (List ℕ)) (fault : Fault) : Type 0 where
@@ -74,8 +74,8 @@ module _ {D : Type 0} (g : Ghosts D) where
   -- them
   abbrev pub Exports : Export → Option (List ℕ) → Option (List ℕ) → Ending → Desk (FileStore D g) → Type 0
   Exports what before after ending desk = Reads desk ending (λ left. HasCleanDisk (file_state left.conn)
-      → OnOk ending.work (ForEachShown over_files desk left (Writes before after (exported what)))
-      × OnErr ending.work (ForEachShown over_files desk left (WritesBeginning before after (exported what))))
+      → OnOk ending.work (ForEachShown over_files desk (Writes before after (exported what)))
+      × OnErr ending.work (ForEachShown over_files desk (WritesBeginning before after (exported what))))
 
   -- the line of the verdict on an image was written, and the outcome is that of the verdict; or the
   -- verdict stopped

@@ -19,7 +19,7 @@ use store_counts::report_is_the_history;
 /// an earlier call failed.
 pub fn report<S: Alter + Drop>(alloc: Global, desk: &mut Desk<S>) -> Result<String, Refusal>
     ensures shown { HasCleanDisk (state S.Store desk.new.conn) → IfOk result (λ text.
-        ForEachShown S.Store desk.old desk.new (λ _ cs. string_bytes text ≡ exports.report cs)) }
+        ForEachShown S.Store desk.old (λ _ cs. string_bytes text ≡ exports.report cs)) }
     ensures same { HasCleanDisk (state S.Store desk.new.conn) → result ≢ Err Refusal.Store
         → KeepsDesk S.Store desk.old desk.new }
     ensures spares { Spares S.Store desk.old.conn desk.new.conn }

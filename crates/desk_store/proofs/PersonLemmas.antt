@@ -1,9 +1,10 @@
 -- The person whom a desk keeps between two calls.
-use Rattle.std.proofs.Common.{◌≡◌, ℕ, Bool, true, false, not, List, [], ◌∷◌, Option, None, Some, filter, refl, sym, ap, subst, ◌∙◌}
+use Rattle.std.proofs.Common.{◌≡◌, ℕ, Bool, true, false, not, List, [], ◌∷◌, Option, None, Some, Result, filter, refl, sym, ap, subst, ◌∙◌}
 use Rattle.std.specs.Prelude.{IfSome, if◌then◌else◌, bytes_eq}
 use Rattle.std.specs.List.{list_any}
 use Rattle.std.proofs.lemmas.Bool.{and_parts, or_parts}
 use Rattle.sqlite.specs.Store as store
+use Rattle.desk_bytes.specs.declared.refusal.Refusal.{Refusal}
 use Rattle.desk_texts.specs.declared.command.Person.{Person}
 use Rattle.desk_history.specs.Calls.{History, are_apart}
 use Rattle.desk_history.specs.Formed.{IsHistory}
@@ -12,7 +13,7 @@ use Rattle.desk_history.proofs.ListLemmas.{bytes_eq-refl, same_text}
 use Rattle.desk_history.proofs.RowLemmas.{rows_stand_once}
 use Rattle.store_reads.specs.People.{IsOneOf}
 use Rattle.store_reads.specs.Reads.{listed}
-use Rattle.desk_store.specs.Desks.{ShowsDesk}
+use Rattle.desk_store.specs.Desks.{ReadsDesk, ShowsDesk}
 use Rattle.desk_store.specs.declared.desk.Desk.{Desk}
 
 module _ {S : Type 0} (g : store.Ghosts S) (desk : Desk S) where
@@ -26,6 +27,18 @@ module _ {S : Type 0} (g : store.Ghosts S) (desk : Desk S) where
     sizes = was.sizes;
     person = one;
     left = was.left;
+  }
+
+module _ {S A : Type 0} (g : store.Ghosts S) (may : Refusal → Type 0) (old new : Desk S) (result : Result A Refusal) where
+  -- a call that only reads, for which the person of a usable desk was taken
+  pub reads_taken : old.needs_reopening ≡ false → ReadsDesk g may (record old { kept_person = None }) new result → ReadsDesk g may old new result
+  reads_taken usable it = record {
+    same = λ clean other owner cs was. it.same clean other owner cs (with_person g old None owner cs tt was);
+    spares = it.spares;
+    poisons = it.poisons;
+    steady = it.steady;
+    closed = λ is. absurd (let h = sym is ∙ usable in cc);
+    named = it.named;
   }
 
 -- ---- the only one who has a token is the only one of that name

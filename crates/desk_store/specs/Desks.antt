@@ -1,7 +1,8 @@
 -- The history that a desk shows, and that a stop leaves of it.
-use Rattle.std.specs.Prelude.{◌≡◌, ◌≢◌, ◌⊎◌, ℕ, List, Some, false, IsTrue}
+use Rattle.std.specs.Prelude.{◌≡◌, ◌≢◌, ◌⊎◌, ℕ, List, Result, Err, Some, false, true, IfErr, IsErrOf, IsTrue}
 use Rattle.sqlite.specs.Store.{Ghosts}
 use Rattle.sqlite.specs.Held.{state}
+use Rattle.sqlite.specs.State.{HasCleanDisk}
 use Rattle.desk_bytes.specs.declared.refusal.Refusal.{Refusal}
 use Rattle.desk_bytes.specs.declared.refusal.Refusal.TheVariants as refusals
 use Rattle.desk_texts.specs.declared.command.Call.{Call}
@@ -30,6 +31,10 @@ pub record ShowsDesk {S : Type 0} (g : Ghosts S) (desk : Desk S) (owner : List �
   pub person : IsOneOf desk.kept_person (people cs)
   pub left : LeavesHistory (state g desk.conn) owner cs
 
+-- this holds of each owner and history that the desk shows
+abbrev pub ForEachShown : {S : Type 0} → Ghosts S → Desk S → (List ℕ → History → Type 0) → Type 0
+ForEachShown g desk told = (owner : List ℕ) (cs : History) → ShowsDesk g desk owner cs → told owner cs
+
 module _ {S : Type 0} (g : Ghosts S) (old new : Desk S) where
   -- Ok: the reply is the answer to the call, and the desk shows the history after it.
   abbrev pub Replies : Call → Reply → Type 0
@@ -48,10 +53,6 @@ module _ {S : Type 0} (g : Ghosts S) (old new : Desk S) where
   abbrev pub KeepsDesk : Type 0
   KeepsDesk = (owner : List ℕ) (cs : History) → ShowsDesk g old owner cs → ShowsDesk g new owner cs
 
-  -- This holds of each owner and history that the desk shows.
-  abbrev pub ForEachShown : (List ℕ → History → Type 0) → Type 0
-  ForEachShown told = (owner : List ℕ) (cs : History) → ShowsDesk g old owner cs → told owner cs
-
   -- A stop after the call, whatever its result, leaves the history before the call or the one after
   -- it.
   abbrev pub MayStop : Call → Type 0
@@ -68,3 +69,15 @@ module _ {S : Type 0} (g : Ghosts S) (old new : Desk S) where
 -- the refusals that a call may get: those of a decision, `NoMemory` among them, and the store's
 abbrev pub IsCallRefusal : Refusal → Type 0
 IsCallRefusal refusal = IsTrue (may_answer refusal) ⊎ (refusal ≡ refusals.Store)
+
+-- A call that only reads. Except after `Store` the desk shows the same history; a stop leaves only
+-- what it could have left before. After `Store`, and after nothing else, the desk needs to be
+-- opened again, and until then a call answers `Reopen` and changes nothing. The refusals of a
+-- usable desk are these.
+pub record ReadsDesk {S A : Type 0} (g : Ghosts S) (may : Refusal → Type 0) (old new : Desk S) (result : Result A Refusal) : Type 0 where
+  pub same : HasCleanDisk (state g new.conn) → result ≢ Err refusals.Store → KeepsDesk g old new
+  pub spares : Spares g old.conn new.conn
+  pub poisons : IsErrOf result refusals.Store → new.needs_reopening ≡ true
+  pub steady : result ≢ Err refusals.Store → new.needs_reopening ≡ old.needs_reopening
+  pub closed : old.needs_reopening ≡ true → (result ≡ Err refusals.Reopen) × (new ≡ old)
+  pub named : old.needs_reopening ≡ false → IfErr result may

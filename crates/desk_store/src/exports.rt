@@ -25,10 +25,10 @@ impl<S: Alter + Drop> Desk<S> {
     /// unchanged.
     pub fn export<W: Write>(&mut self, what: Export, writer: &mut W) -> Result<(), Refusal>
         ensures ok { HasCleanDisk (state S.Store self.new.conn)
-            → OnOk result (ForEachShown S.Store self.old self.new
+            → OnOk result (ForEachShown S.Store self.old
             (Writes (W.contents writer.old) (W.contents writer.new) (exported what))) }
         ensures beginning { HasCleanDisk (state S.Store self.new.conn)
-            → OnErr result (ForEachShown S.Store self.old self.new
+            → OnErr result (ForEachShown S.Store self.old
             (WritesBeginning (W.contents writer.old) (W.contents writer.new) (exported what))) }
         ensures same { HasCleanDisk (state S.Store self.new.conn) → result ≢ Err Refusal.Store
             → KeepsDesk S.Store self.old self.new }
