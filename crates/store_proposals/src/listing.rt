@@ -1,7 +1,7 @@
 //! All proposals, each with the counts of its items.
 ghost use Rattle.std.specs.Prelude.{◌≡◌};
 ghost use Rattle.store_reads.specs.Reads.{ReadsTables};
-ghost use Rattle.store_sql.specs.States.{DoesInside, CommitsNothing, Spares};
+ghost use Rattle.store_sql.specs.States.{DoesInside, CommitsNothing, Spares, StaysInside};
 ghost use Rattle.store_proposals.specs.Listing as spec;
 
 use crate::reading::proposal_of;
@@ -63,6 +63,7 @@ pub fn proposals<S: Alter>(
     ensures same_reference { tx.new.conn.ghost_name ≡ tx.old.conn.ghost_name }
     ensures value { DoesInside S.Store tx.old.conn.now tx.new.conn.now result
         (λ shown. ReadsTables (spec.AreListed shown.items)) }
+    ensures inside { StaysInside S.Store tx.old.conn.now tx.new.conn.now result }
     ensures kept { CommitsNothing S.Store tx.old.conn.now tx.new.conn.now }
     ensures survives { Spares S.Store tx.old.conn.now tx.new.conn.now }
 {
