@@ -29,11 +29,15 @@ module _ {S : Type 0} (g : store.Ghosts S) (desk : Desk S) where
     left = was.left;
   }
 
-module _ {S A : Type 0} (g : store.Ghosts S) (may : Refusal → Type 0) (old new : Desk S) (result : Result A Refusal) where
-  -- a call that only reads, for which the person of a usable desk was taken
-  pub reads_taken : old.needs_reopening ≡ false → ReadsDesk g may (record old { kept_person = None }) new result → ReadsDesk g may old new result
+  -- a desk whose person was taken
+  pub without_person : (left : Option Person) → left ≡ None → (owner : List ℕ) (cs : History) → ShowsDesk g desk owner cs → ShowsDesk g (record desk { kept_person = left }) owner cs
+  without_person left none owner cs was = with_person left owner cs (rw none tt) was
+
+module _ {S A : Type 0} (g : store.Ghosts S) (may : Refusal → Type 0) (old new : Desk S) (left : Option Person) (none : left ≡ None) (result : Result A Refusal) where
+  -- a call that only reads, of a usable desk whose person was taken
+  pub reads_taken : old.needs_reopening ≡ false → ReadsDesk g may (record old { kept_person = left }) new result → ReadsDesk g may old new result
   reads_taken usable it = record {
-    same = λ clean other owner cs was. it.same clean other owner cs (with_person g old None owner cs tt was);
+    same = λ clean other owner cs was. it.same clean other owner cs (without_person g old left none owner cs was);
     spares = it.spares;
     poisons = it.poisons;
     steady = it.steady;

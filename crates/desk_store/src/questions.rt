@@ -1,5 +1,5 @@
 //! The questions that a desk is asked.
-ghost use Rattle.std.specs.Prelude.{◌≡◌, ⊤, filter, map, IfErr, option_copied};
+ghost use Rattle.std.specs.Prelude.{◌≡◌, ⊤, filter, map, IfErr};
 ghost use Rattle.store_counts.specs.Counts.{CountTables};
 ghost use Rattle.desk_history.specs.People.{has_token, people};
 ghost use Rattle.desk_history.specs.Shown.{GivesRequest, IsGiven, requests_for};
@@ -156,7 +156,7 @@ impl<'a> Question for RowsFor<'a> {
 /// number?
 #[derive(Drop)]
 pub(crate) struct OneRequest<'a> {
-    pub(crate) kept_person: Option<&'a Person>,
+    pub(crate) kept_person: &'a Option<Person>,
     pub(crate) name: &'a PersonName,
     pub(crate) number: RequestNumber,
 }
@@ -164,7 +164,7 @@ pub(crate) struct OneRequest<'a> {
 impl<'a> Question for OneRequest<'a> {
     type Answer = Result<ShownRequest, Refusal>;
 
-    ghost tells = { λ q given owner cs. IsOneOf (option_copied q.kept_person) (people cs)
+    ghost tells = { λ q given owner cs. IsOneOf q.kept_person.now (people cs)
         → GivesRequest cs (callers.Person q.name.now) q.number given };
 
     ghost bounds = { λ _ given. IfErr given IsRequestRefusal };
@@ -174,7 +174,7 @@ impl<'a> Question for OneRequest<'a> {
         alloc: Global,
         tx: &mut Transaction<'_, S>,
     ) -> Result<Result<ShownRequest, Refusal>, Refusal> {
-        match request(alloc, tx, self.kept_person, self.name, self.number) {
+        match request(alloc, tx, self.kept_person.as_ref(), self.name, self.number) {
             Ok(given) => Ok(given),
             Err(fault) => Err(fault.refusal()),
         }
@@ -185,7 +185,7 @@ impl<'a> Question for OneRequest<'a> {
 /// collected into an `L`.
 #[derive(Drop)]
 pub(crate) struct AllRequests<'a, L> {
-    pub(crate) kept_person: Option<&'a Person>,
+    pub(crate) kept_person: &'a Option<Person>,
     pub(crate) name: &'a PersonName,
     pub(crate) list: PhantomData<L>,
 }
@@ -193,7 +193,7 @@ pub(crate) struct AllRequests<'a, L> {
 impl<'a, L: RequestList + Drop> Question for AllRequests<'a, L> {
     type Answer = Result<L, Refusal>;
 
-    ghost tells = { λ q given owner cs. IsOneOf (option_copied q.kept_person) (people cs)
+    ghost tells = { λ q given owner cs. IsOneOf q.kept_person.now (people cs)
         → IsGiven (requests_for cs (callers.Person q.name.now)) given
         (HoldsShown L.RequestList.holds) };
 
@@ -204,7 +204,7 @@ impl<'a, L: RequestList + Drop> Question for AllRequests<'a, L> {
         alloc: Global,
         tx: &mut Transaction<'_, S>,
     ) -> Result<Result<L, Refusal>, Refusal> {
-        match requests_of(alloc, tx, self.kept_person, self.name) {
+        match requests_of(alloc, tx, self.kept_person.as_ref(), self.name) {
             Ok(given) => Ok(given),
             Err(fault) => Err(fault.refusal()),
         }
@@ -214,14 +214,14 @@ impl<'a, L: RequestList + Drop> Question for AllRequests<'a, L> {
 /// Which proposals is the person of this name, who may be the one who is kept, shown?
 #[derive(Drop)]
 pub(crate) struct AllProposals<'a> {
-    pub(crate) kept_person: Option<&'a Person>,
+    pub(crate) kept_person: &'a Option<Person>,
     pub(crate) name: &'a PersonName,
 }
 
 impl<'a> Question for AllProposals<'a> {
     type Answer = Result<Vec<Proposal>, Refusal>;
 
-    ghost tells = { λ q given owner cs. IsOneOf (option_copied q.kept_person) (people cs)
+    ghost tells = { λ q given owner cs. IsOneOf q.kept_person.now (people cs)
         → IsGiven (proposals_for cs (callers.Person q.name.now)) given
         (λ ps shown. shown.items ≡ map (shown_proposal cs) ps) };
 
@@ -232,7 +232,7 @@ impl<'a> Question for AllProposals<'a> {
         alloc: Global,
         tx: &mut Transaction<'_, S>,
     ) -> Result<Result<Vec<Proposal>, Refusal>, Refusal> {
-        match proposals_of(alloc, tx, self.kept_person, self.name) {
+        match proposals_of(alloc, tx, self.kept_person.as_ref(), self.name) {
             Ok(given) => Ok(given),
             Err(fault) => Err(fault.refusal()),
         }

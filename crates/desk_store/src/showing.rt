@@ -45,7 +45,7 @@ impl<S: Alter + Drop> Desk<S> {
         };
         let kept_person = self.kept_person.take();
         let question = OneRequest {
-            kept_person: kept_person.as_ref(),
+            kept_person: &kept_person,
             name,
             number,
         };
@@ -79,7 +79,7 @@ impl<S: Alter + Drop> Desk<S> {
         };
         let kept_person = self.kept_person.take();
         let question: AllRequests<'_, L> = AllRequests {
-            kept_person: kept_person.as_ref(),
+            kept_person: &kept_person,
             name,
             list: PhantomData,
         };
@@ -113,7 +113,7 @@ impl<S: Alter + Drop> Desk<S> {
         };
         let kept_person = self.kept_person.take();
         let question = AllProposals {
-            kept_person: kept_person.as_ref(),
+            kept_person: &kept_person,
             name,
         };
         match self.answer_question(&question) {

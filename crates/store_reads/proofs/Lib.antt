@@ -8,4 +8,3 @@ pub mod CallLemmas
 pub mod ProposalLemmas
 pub mod PartLemmas
 pub mod TellsLemmas
-pub mod PeopleLemmas

@@ -11,8 +11,8 @@ returns-in-Ok-clause-found g c = found_rows c.args.self c.in-Ok.files c.in-Ok.en
 pub returns-then-needs_reopening-clause-stopped : goal.returns-then-needs_reopening-clause-stopped
 returns-then-needs_reopening-clause-stopped g c = rows_left c.args.self c.into_store.result c.into_store.ensures.quiet
 
-pub returns-in-Err-clause-stopped : goal.returns-in-Err-clause-stopped
-returns-in-Err-clause-stopped g c = rows_left c.args.self c.in-Err.store c.in-Err.ensures.err.0.quiet
+pub returns-clause-stopped : goal.returns-clause-stopped
+returns-clause-stopped g c = rows_left c.args.self c.in-Err.store c.in-Err.ensures.err.0.quiet
 
-pub returns-in-Err-clause-device : goal.returns-in-Err-clause-device
-returns-in-Err-clause-device g c clean store = fails_for c.args.self c.in-Err.store c.in-Err.error (c.in-Err.ensures.err.1 clean) (sym c.refusal_of_error.ensures ∙ store)
+pub returns-clause-device : goal.returns-clause-device
+returns-clause-device g c clean store = fails_for c.args.self c.in-Err.store c.in-Err.error (c.in-Err.ensures.err.1 clean) (sym c.refusal_of_error.ensures ∙ store)
