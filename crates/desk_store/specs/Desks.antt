@@ -1,7 +1,8 @@
 -- The history that a desk shows, and that a stop leaves of it.
-use Rattle.std.specs.Prelude.{◌≡◌, ◌≢◌, ◌⊎◌, ℕ, List, Some, false, IsTrue}
+use Rattle.std.specs.Prelude.{◌≡◌, ◌≢◌, ◌⊎◌, ℕ, List, Result, Err, Some, false, true, IfErr, IsErrOf, IsTrue}
 use Rattle.sqlite.specs.Store.{Ghosts}
 use Rattle.sqlite.specs.Held.{state}
+use Rattle.sqlite.specs.State.{HasCleanDisk}
 use Rattle.desk_bytes.specs.declared.refusal.Refusal.{Refusal}
 use Rattle.desk_bytes.specs.declared.refusal.Refusal.TheVariants as refusals
 use Rattle.desk_texts.specs.declared.command.Call.{Call}
@@ -64,3 +65,15 @@ module _ {S : Type 0} (g : Ghosts S) (old new : Desk S) where
 -- the refusals that a call may get: those of a decision, `NoMemory` among them, and the store's
 abbrev pub IsCallRefusal : Refusal → Type 0
 IsCallRefusal refusal = IsTrue (may_answer refusal) ⊎ (refusal ≡ refusals.Store)
+
+-- A call that only reads. Except after `Store` the desk shows the same history; a stop leaves only
+-- what it could have left before. After `Store`, and after nothing else, the desk needs to be
+-- opened again, and until then a call answers `Reopen` and changes nothing. The refusals of a
+-- usable desk are these.
+pub record ReadsDesk {S A : Type 0} (g : Ghosts S) (may : Refusal → Type 0) (old new : Desk S) (result : Result A Refusal) : Type 0 where
+  pub same : HasCleanDisk (state g new.conn) → result ≢ Err refusals.Store → KeepsDesk g old new
+  pub spares : Spares g old.conn new.conn
+  pub poisons : IsErrOf result refusals.Store → new.needs_reopening ≡ true
+  pub steady : result ≢ Err refusals.Store → new.needs_reopening ≡ old.needs_reopening
+  pub closed : old.needs_reopening ≡ true → (result ≡ Err refusals.Reopen) × (new ≡ old)
+  pub named : old.needs_reopening ≡ false → IfErr result may

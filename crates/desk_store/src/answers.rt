@@ -1,5 +1,5 @@
 //! Answers of a desk: people by their tokens, verdicts, and counts.
-ghost use Rattle.std.specs.Prelude.{◌≡◌, ◌≢◌, Err, filter, true, false, IfErr, IfOk, IsErrOf};
+ghost use Rattle.std.specs.Prelude.{◌≡◌, filter, IfOk};
 ghost use Rattle.sqlite.specs.Held.{state};
 ghost use Rattle.sqlite.specs.State.{HasCleanDisk};
 ghost use Rattle.store_counts.specs.Counts.{CountHistory};
@@ -7,8 +7,7 @@ ghost use Rattle.desk_history.specs.People.{has_token, people};
 ghost use Rattle.desk_history.specs.Verdicts as verdicts;
 ghost use Rattle.store_reads.specs.Failures.{IsFailure};
 ghost use Rattle.store_reads.specs.Reads.{listed};
-ghost use Rattle.store_sql.specs.States.{Spares};
-ghost use Rattle.desk_store.specs.Desks.{ForEachShown, KeepsDesk};
+ghost use Rattle.desk_store.specs.Desks.{ForEachShown, ReadsDesk};
 
 use crate::desk::Desk;
 use crate::questions::{HowMany, WhoHas};
@@ -27,15 +26,7 @@ impl<S: Alter + Drop> Desk<S> {
         ensures shown { HasCleanDisk (state S.Store self.new.conn) → IfOk result (λ person.
             ForEachShown S.Store self.old (λ owner cs.
             filter (has_token token.now) (people cs) ≡ listed person)) }
-        ensures same { HasCleanDisk (state S.Store self.new.conn) → result ≢ Err Refusal.Store
-            → KeepsDesk S.Store self.old self.new }
-        ensures spares { Spares S.Store self.old.conn self.new.conn }
-        ensures poisons { IsErrOf result Refusal.Store → self.new.needs_reopening ≡ true }
-        ensures steady { result ≢ Err Refusal.Store
-            → self.new.needs_reopening ≡ self.old.needs_reopening }
-        ensures closed { self.old.needs_reopening ≡ true
-            → (result ≡ Err Refusal.Reopen) × (self.new ≡ self.old) }
-        ensures named { self.old.needs_reopening ≡ false → IfErr result IsFailure }
+        ensures reads { ReadsDesk S.Store IsFailure self.old self.new result }
     {
         self.answer_question(&WhoHas { token })
     }
@@ -46,17 +37,8 @@ impl<S: Alter + Drop> Desk<S> {
     /// `NoMemory`: memory was refused. `Store`: the store failed, or isn't as a desk left it.
     pub fn verdict(&mut self, facts: &Facts) -> Result<Verdict, Refusal>
         ensures shown { HasCleanDisk (state S.Store self.new.conn) → IfOk result (λ said.
-            ForEachShown S.Store self.old (λ owner cs.
-            said ≡ verdicts.verdict cs facts.now)) }
-        ensures same { HasCleanDisk (state S.Store self.new.conn) → result ≢ Err Refusal.Store
-            → KeepsDesk S.Store self.old self.new }
-        ensures spares { Spares S.Store self.old.conn self.new.conn }
-        ensures poisons { IsErrOf result Refusal.Store → self.new.needs_reopening ≡ true }
-        ensures steady { result ≢ Err Refusal.Store
-            → self.new.needs_reopening ≡ self.old.needs_reopening }
-        ensures closed { self.old.needs_reopening ≡ true
-            → (result ≡ Err Refusal.Reopen) × (self.new ≡ self.old) }
-        ensures named { self.old.needs_reopening ≡ false → IfErr result IsFailure }
+            ForEachShown S.Store self.old (λ owner cs. said ≡ verdicts.verdict cs facts.now)) }
+        ensures reads { ReadsDesk S.Store IsFailure self.old self.new result }
     {
         match self.list_view(facts) {
             Ok(view) => Ok(verdict(&view, facts)),
@@ -71,15 +53,7 @@ impl<S: Alter + Drop> Desk<S> {
     pub fn counts(&mut self) -> Result<Counts, Refusal>
         ensures shown { HasCleanDisk (state S.Store self.new.conn) → IfOk result (λ n.
             ForEachShown S.Store self.old (λ owner cs. CountHistory n cs)) }
-        ensures same { HasCleanDisk (state S.Store self.new.conn) → result ≢ Err Refusal.Store
-            → KeepsDesk S.Store self.old self.new }
-        ensures spares { Spares S.Store self.old.conn self.new.conn }
-        ensures poisons { IsErrOf result Refusal.Store → self.new.needs_reopening ≡ true }
-        ensures steady { result ≢ Err Refusal.Store
-            → self.new.needs_reopening ≡ self.old.needs_reopening }
-        ensures closed { self.old.needs_reopening ≡ true
-            → (result ≡ Err Refusal.Reopen) × (self.new ≡ self.old) }
-        ensures named { self.old.needs_reopening ≡ false → IfErr result IsFailure }
+        ensures reads { ReadsDesk S.Store IsFailure self.old self.new result }
     {
         tables_count_their_history();
         match self.answer_question(&HowMany) {

@@ -1,5 +1,5 @@
 //! Questions about a desk's history, each answered by reads in a transaction that is rolled back.
-ghost use Rattle.std.specs.Prelude.{◌≡◌, ◌≢◌, ℕ, List, Err, true, false, IfErr, IfOk, IsErrOf};
+ghost use Rattle.std.specs.Prelude.{◌≡◌, ℕ, List, IfErr, IfOk};
 ghost use Rattle.sqlite.specs.Held.{state};
 ghost use Rattle.sqlite.specs.State.{HasCleanDisk};
 ghost use Rattle.store_schema.specs.rows.Histories.{ShowsHistory};
@@ -7,7 +7,7 @@ ghost use Rattle.desk_history.specs.Calls.{History};
 ghost use Rattle.desk_history.specs.Formed.{IsHistory};
 ghost use Rattle.store_reads.specs.Failures.{IsFailure};
 ghost use Rattle.store_sql.specs.States.{DoesInside, CommitsNothing, Spares, StaysInside};
-ghost use Rattle.desk_store.specs.Desks.{ForEachShown, KeepsDesk};
+ghost use Rattle.desk_store.specs.Desks.{ForEachShown, ReadsDesk};
 ghost use Rattle.desk_store.specs.Questions.{AnswersQuestion};
 
 use crate::desk::Desk;
@@ -79,15 +79,7 @@ impl<S: Alter + Drop> Desk<S> {
         ensures shown { HasCleanDisk (state S.Store self.new.conn) → IfOk result (λ answer.
             ForEachShown S.Store self.old (Q.Question.tells question.now answer)) }
         ensures bound { IfOk result (Q.Question.bounds question.now) }
-        ensures same { HasCleanDisk (state S.Store self.new.conn) → result ≢ Err Refusal.Store
-            → KeepsDesk S.Store self.old self.new }
-        ensures spares { Spares S.Store self.old.conn self.new.conn }
-        ensures poisons { IsErrOf result Refusal.Store → self.new.needs_reopening ≡ true }
-        ensures steady { result ≢ Err Refusal.Store
-            → self.new.needs_reopening ≡ self.old.needs_reopening }
-        ensures closed { self.old.needs_reopening ≡ true
-            → (result ≡ Err Refusal.Reopen) × (self.new ≡ self.old) }
-        ensures named { self.old.needs_reopening ≡ false → IfErr result IsFailure }
+        ensures reads { ReadsDesk S.Store IsFailure self.old self.new result }
     {
         if self.needs_reopening {
             return Err(Refusal::Reopen);

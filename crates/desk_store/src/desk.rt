@@ -13,8 +13,8 @@ ghost use Rattle.desk_rules.specs.Decisions.{called};
 ghost use Rattle.desk_rules.specs.Shown.{Shows};
 ghost use Rattle.desk_rules.specs.Views.{ShowsLists, keys_of};
 ghost use Rattle.store_views.specs.Named.{HoldsNoRowBeyond};
-ghost use Rattle.desk_store.specs.Desks.{CommitsOnlyAccepted, IsCallRefusal, KeepsDesk, MayStop};
-ghost use Rattle.desk_store.specs.Desks.{ForEachShown, Refuses, Replies, ShowsDesk};
+ghost use Rattle.desk_store.specs.Desks.{CommitsOnlyAccepted, ForEachShown, IsCallRefusal, MayStop};
+ghost use Rattle.desk_store.specs.Desks.{ReadsDesk, Refuses, Replies, ShowsDesk};
 ghost use Rattle.desk_store.specs.Headline.{Recovers};
 ghost use Rattle.desk_store.specs.Reopening.{FindsADesk};
 ghost use Rattle.store_schema.specs.rows.Histories.{HoldsHistory, LeavesHistory, ShowsFirst};
@@ -218,15 +218,7 @@ impl<S: Alter + Drop> Desk<S> {
             Shows v (tables owner cs) (called caller.now key.now command.now))) }
         ensures only { IfOk result (λ v. HoldsNoRowBeyond v
             (called caller.now key.now command.now)) }
-        ensures same { HasCleanDisk (state S.Store self.new.conn) → result ≢ Err Refusal.Store
-            → KeepsDesk S.Store self.old self.new }
-        ensures spares { Spares S.Store self.old.conn self.new.conn }
-        ensures poisons { IsErrOf result Refusal.Store → self.new.needs_reopening ≡ true }
-        ensures steady { result ≢ Err Refusal.Store
-            → self.new.needs_reopening ≡ self.old.needs_reopening }
-        ensures closed { self.old.needs_reopening ≡ true
-            → (result ≡ Err Refusal.Reopen) × (self.new ≡ self.old) }
-        ensures named { self.old.needs_reopening ≡ false → IfErr result IsFailure }
+        ensures reads { ReadsDesk S.Store IsFailure self.old self.new result }
     {
         let question = RowsFor {
             sizes: self.sizes,
@@ -251,15 +243,7 @@ impl<S: Alter + Drop> Desk<S> {
             ForEachShown S.Store self.old (λ owner cs.
             ShowsLists v (tables owner cs) (keys_of facts.now))) }
         ensures only { IfOk result (λ v. HoldsNoOther v (keys_of facts.now)) }
-        ensures same { HasCleanDisk (state S.Store self.new.conn) → result ≢ Err Refusal.Store
-            → KeepsDesk S.Store self.old self.new }
-        ensures spares { Spares S.Store self.old.conn self.new.conn }
-        ensures poisons { IsErrOf result Refusal.Store → self.new.needs_reopening ≡ true }
-        ensures steady { result ≢ Err Refusal.Store
-            → self.new.needs_reopening ≡ self.old.needs_reopening }
-        ensures closed { self.old.needs_reopening ≡ true
-            → (result ≡ Err Refusal.Reopen) × (self.new ≡ self.old) }
-        ensures named { self.old.needs_reopening ≡ false → IfErr result IsFailure }
+        ensures reads { ReadsDesk S.Store IsFailure self.old self.new result }
     {
         self.answer_question(&ListsFor { facts })
     }

@@ -1,13 +1,11 @@
 //! A desk's requests and proposals, as a person may see them.
-ghost use Rattle.std.specs.Prelude.{◌≡◌, ◌≢◌, Err, MatchResult, false, map, true};
-ghost use Rattle.std.specs.Prelude.{IfErr, IfOk, IsErrOf};
+ghost use Rattle.std.specs.Prelude.{◌≡◌, ◌≢◌, Err, IfErr, IfOk, MatchResult, map};
 ghost use Rattle.sqlite.specs.Held.{state};
 ghost use Rattle.sqlite.specs.State.{HasCleanDisk};
 ghost use Rattle.desk_history.specs.Shown.{IsShown, request_for, requests_for};
 ghost use Rattle.desk_history.specs.Shown.{proposals_for, shown_proposal};
 ghost use Rattle.store_requests.specs.Lists.{HoldsShown};
-ghost use Rattle.store_sql.specs.States.{Spares};
-ghost use Rattle.desk_store.specs.Desks.{ForEachShown, KeepsDesk};
+ghost use Rattle.desk_store.specs.Desks.{ForEachShown, ReadsDesk};
 ghost use Rattle.desk_store.specs.Showing.{IsReadingRefusal};
 
 use crate::desk::Desk;
@@ -37,15 +35,7 @@ impl<S: Alter + Drop> Desk<S> {
             refusal ≢ Refusal.NoMemory → refusal ≢ Refusal.Store
             → ForEachShown S.Store self.old (λ owner cs.
             request_for cs caller.now number ≡ Err refusal)) }
-        ensures same { HasCleanDisk (state S.Store self.new.conn) → result ≢ Err Refusal.Store
-            → KeepsDesk S.Store self.old self.new }
-        ensures spares { Spares S.Store self.old.conn self.new.conn }
-        ensures poisons { IsErrOf result Refusal.Store → self.new.needs_reopening ≡ true }
-        ensures steady { result ≢ Err Refusal.Store
-            → self.new.needs_reopening ≡ self.old.needs_reopening }
-        ensures closed { self.old.needs_reopening ≡ true
-            → (result ≡ Err Refusal.Reopen) × (self.new ≡ self.old) }
-        ensures named { self.old.needs_reopening ≡ false → IfErr result IsReadingRefusal }
+        ensures reads { ReadsDesk S.Store IsReadingRefusal self.old self.new result }
     {
         if self.needs_reopening {
             return Err(Refusal::Reopen);
@@ -67,22 +57,13 @@ impl<S: Alter + Drop> Desk<S> {
     /// refused. `Store`: the store failed, or isn't as a desk left it.
     pub fn requests_of<L: RequestList + Drop>(&mut self, caller: &Caller) -> Result<L, Refusal>
         ensures shown { HasCleanDisk (state S.Store self.new.conn) → IfOk result (λ list.
-            ForEachShown S.Store self.old (λ owner cs.
-            MatchResult (requests_for cs caller.now)
+            ForEachShown S.Store self.old (λ owner cs. MatchResult (requests_for cs caller.now)
             (λ ws. HoldsShown L.RequestList.holds ws list) (λ _. ⊥))) }
         ensures refused { HasCleanDisk (state S.Store self.new.conn) → IfErr result (λ refusal.
             refusal ≢ Refusal.NoMemory → refusal ≢ Refusal.Store
             → ForEachShown S.Store self.old (λ owner cs.
             requests_for cs caller.now ≡ Err refusal)) }
-        ensures same { HasCleanDisk (state S.Store self.new.conn) → result ≢ Err Refusal.Store
-            → KeepsDesk S.Store self.old self.new }
-        ensures spares { Spares S.Store self.old.conn self.new.conn }
-        ensures poisons { IsErrOf result Refusal.Store → self.new.needs_reopening ≡ true }
-        ensures steady { result ≢ Err Refusal.Store
-            → self.new.needs_reopening ≡ self.old.needs_reopening }
-        ensures closed { self.old.needs_reopening ≡ true
-            → (result ≡ Err Refusal.Reopen) × (self.new ≡ self.old) }
-        ensures named { self.old.needs_reopening ≡ false → IfErr result IsReadingRefusal }
+        ensures reads { ReadsDesk S.Store IsReadingRefusal self.old self.new result }
     {
         if self.needs_reopening {
             return Err(Refusal::Reopen);
@@ -108,22 +89,13 @@ impl<S: Alter + Drop> Desk<S> {
     /// name. `NoMemory`: memory was refused. `Store`: the store failed, or isn't as a desk left it.
     pub fn proposals(&mut self, caller: &Caller) -> Result<Vec<Proposal>, Refusal>
         ensures shown { HasCleanDisk (state S.Store self.new.conn) → IfOk result (λ shown.
-            ForEachShown S.Store self.old (λ owner cs.
-            MatchResult (proposals_for cs caller.now)
+            ForEachShown S.Store self.old (λ owner cs. MatchResult (proposals_for cs caller.now)
             (λ ps. shown.items ≡ map (shown_proposal cs) ps) (λ _. ⊥))) }
         ensures refused { HasCleanDisk (state S.Store self.new.conn) → IfErr result (λ refusal.
             refusal ≢ Refusal.NoMemory → refusal ≢ Refusal.Store
             → ForEachShown S.Store self.old (λ owner cs.
             proposals_for cs caller.now ≡ Err refusal)) }
-        ensures same { HasCleanDisk (state S.Store self.new.conn) → result ≢ Err Refusal.Store
-            → KeepsDesk S.Store self.old self.new }
-        ensures spares { Spares S.Store self.old.conn self.new.conn }
-        ensures poisons { IsErrOf result Refusal.Store → self.new.needs_reopening ≡ true }
-        ensures steady { result ≢ Err Refusal.Store
-            → self.new.needs_reopening ≡ self.old.needs_reopening }
-        ensures closed { self.old.needs_reopening ≡ true
-            → (result ≡ Err Refusal.Reopen) × (self.new ≡ self.old) }
-        ensures named { self.old.needs_reopening ≡ false → IfErr result IsReadingRefusal }
+        ensures reads { ReadsDesk S.Store IsReadingRefusal self.old self.new result }
     {
         if self.needs_reopening {
             return Err(Refusal::Reopen);

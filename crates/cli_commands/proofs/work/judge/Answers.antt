@@ -13,16 +13,16 @@ pub returns-in-Err-clause-beginning : goal.returns-in-Err-clause-beginning
 returns-in-Err-clause-beginning g c = λ clean owner cs was. none_written _ _
 
 pub returns-in-Err-clause-poisons : goal.returns-in-Err-clause-poisons
-returns-in-Err-clause-poisons g c = λ told. c.in-Err.ensures.poisons (store_given c.from.result c.in-Err.refusal c.from.ensures told)
+returns-in-Err-clause-poisons g c = λ told. c.in-Err.ensures.reads.poisons (store_given c.from.result c.in-Err.refusal c.from.ensures told)
 
 pub returns-in-Err-clause-closed : goal.returns-in-Err-clause-closed
 returns-in-Err-clause-closed g c = λ failed.
-    let it = c.in-Err.ensures.closed failed in
+    let it = c.in-Err.ensures.reads.closed failed in
     (reopen_told c.from.result c.in-Err.refusal c.from.ensures it.0, it.1, refl)
 
 pub returns-in-Err-clause-same : goal.returns-in-Err-clause-same
 returns-in-Err-clause-same g c = λ clean other.
-    c.in-Err.ensures.same clean (λ given. other (store_told c.from.result c.in-Err.refusal c.from.ensures given))
+    c.in-Err.ensures.reads.same clean (λ given. other (store_told c.from.result c.in-Err.refusal c.from.ensures given))
 
 -- the line of the verdict wasn't written
 

@@ -3,4 +3,4 @@ use Rattle.desk_answers.proofs.answering.OpenDeskAnswering.request.Goals as goal
 
 pub returns-clause-named : goal.returns-clause-named
 returns-clause-named g c =
-    reading_named c.args.self.now.desk.needs_reopening c.request.result c.request.ensures.named (λ closed. (c.request.ensures.closed closed).0)
+    reading_named c.args.self.now.desk.needs_reopening c.request.result c.request.ensures.reads.named (λ closed. (c.request.ensures.reads.closed closed).0)

@@ -1,16 +1,24 @@
+use Rattle.std.proofs.Common.{rules}
 use Rattle.desk_store.proofs.desk.Desk.view.Goals as goal
 
 pub returns-in-Ok-clause-shown : goal.returns-in-Ok-clause-shown
 returns-in-Ok-clause-shown g c clean owner cs was = (c.in-Ok.ensures.shown clean owner cs was was.sizes).0
 
 -- the sizes that were counted are right of the same history
-pub returns-in-Ok-clause-same : goal.returns-in-Ok-clause-same
-returns-in-Ok-clause-same g c clean other owner cs was =
-    let it = c.in-Ok.ensures.same clean (λ is. absurd (cc)) owner cs was in
-    record {
-      usable = it.usable;
-      history = it.history;
-      shows = it.shows;
-      sizes = (c.in-Ok.ensures.shown clean owner cs was was.sizes).1;
-      left = it.left;
-    }
+pub returns-in-Ok-clause-reads : goal.returns-in-Ok-clause-reads
+returns-in-Ok-clause-reads g c = record {
+  same = λ clean other owner cs was.
+      let it = c.in-Ok.ensures.reads.same clean (λ is. absurd (cc)) owner cs was in
+      record {
+        usable = it.usable;
+        history = it.history;
+        shows = it.shows;
+        sizes = (c.in-Ok.ensures.shown clean owner cs was was.sizes).1;
+        left = it.left;
+      };
+  spares = c.in-Ok.ensures.reads.spares;
+  poisons = search rules;
+  steady = search rules;
+  closed = search rules;
+  named = λ usable. tt;
+}
