@@ -1,7 +1,5 @@
 //! Connections, one after another.
-ghost use Rattle.std.specs.Prelude.{◌≡◌, IfErr, IsErrOf, Result};
-ghost use Rattle.desk_http.specs.declared.served.HttpFault.{HttpFault as Fault};
-ghost use Rattle.desk_http.specs.declared.served.Served.{Served as Came};
+ghost use Rattle.std.specs.Prelude.{◌≡◌, IfErr, IsErrOf};
 ghost use Rattle.http_net.specs.Faults.{IsServingRefusal};
 ghost use Rattle.http_net.specs.Turns.{ServesInTurn};
 ghost use Rattle.http_net.specs.Wire.{IsOneRequest};

@@ -1,5 +1,5 @@
 //! The table of paths.
-ghost use Rattle.std.specs.Prelude.{◌≡◌, [], IfOk, OnOk};
+ghost use Rattle.std.specs.Prelude.{◌≡◌, IfOk, OnOk};
 ghost use Rattle.http_requests.specs.Paths.{added, get, post_command, post_image, resource_of};
 ghost use Rattle.http_requests.specs.Paths.{table, with_lists, with_proposals, with_requests, with_rest};
 
