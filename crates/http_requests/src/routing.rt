@@ -31,8 +31,8 @@ impl Routes {
         }
     }
 
-    /// The resource of a request's target, if the target is a path of the table. `matchit` matches it
-    /// byte by byte, a query and percent signs included.
+    /// The resource of a request's target, if the target is a path of the table. `matchit` matches
+    /// it byte by byte, a query and percent signs included.
     #[tactic(auto, unfolding(crate::specs::Paths::resource_of))]
     pub(crate) fn resource_of(&self, target: &str) -> Option<Resource>
         ensures { result ≡ resource_of target.now }
