@@ -1,5 +1,5 @@
 //! The digests of an image.
-ghost use Rattle.std.specs.Prelude.{◌≡◌, ◌+◌, ◌<◌, ◌≤◌, ◌++◌, ℕ, List, All, length, slice_range, IfOk, OnErr, OnOk};
+ghost use Rattle.std.specs.Prelude.{◌≡◌, ◌<◌, ◌≤◌, ◌++◌, ℕ, List, All, length, slice_range, IfOk, OnErr, OnOk};
 ghost use Rattle.sha2.specs.Hashers.{Holds256};
 ghost use Rattle.pe_image.specs.Hashed.{hashed_bytes};
 ghost use Rattle.pe_image.specs.Places.{IsLayoutOf, places_of};

@@ -4,6 +4,10 @@ use Rattle.std.specs.Io.KnownBytes.{Appends}
 use Rattle.std.proofs.lemmas.List.{take_all}
 use Rattle.sbat.specs.declared.component.Component.{Component}
 use Rattle.desk_bytes.specs.Output.{AppendsBeginning}
+use Rattle.siglist.specs.Kinds.{kind_of}
+use Rattle.siglist.specs.SignatureLists.{Placed}
+use Rattle.siglist.specs.declared.kind.Kind.{Kind}
+use Rattle.cli_lines.specs.Listings.{kind_word, list_line, list_words}
 use Rattle.cli_lines.specs.VerdictLines.{below_words}
 
 -- all of it is a beginning too
@@ -42,3 +46,11 @@ below_some found component needs t h n some named held e =
     ∙ ap (λ l. codes "refused sbat " ++ component.name ++ codes " " ++ l ++ codes " " ++ n ++ codes "\n") held
     ∙ ap (λ l. codes "refused sbat " ++ component.name ++ codes " " ++ decimal component.generation ++ codes " " ++ l ++ codes "\n") e
     ∙ ap (λ o. below_words o needs ++ codes "\n") (sym some)
+
+-- the line of a list of this kind
+pub list_line_is : (l : Placed) (offset count : ℕ) (kind : Kind) → offset ≡ l.offset → count ≡ length l.list.entries → kind ≡ kind_of l.list.kind
+    → list_words offset (kind_word kind) count ≡ list_line l
+list_line_is l offset count kind at many is =
+    ap (λ o. list_words o (kind_word kind) count) at
+    ∙ ap (λ n. list_words l.offset (kind_word kind) n) many
+    ∙ ap (λ k. list_words l.offset (kind_word k) (length l.list.entries)) is

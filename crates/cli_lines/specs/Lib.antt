@@ -1,5 +1,6 @@
 pub mod Endings
 pub mod FaultLines
 pub mod Faults
+pub mod Listings
 pub mod Statuses
 pub mod VerdictLines

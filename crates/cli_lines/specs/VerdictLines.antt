@@ -2,7 +2,6 @@
 use Rattle.std.specs.Prelude.{ℕ, List, ◌++◌, Option, None, Some, codes, decimal, slice_get}
 use Rattle.sbat.specs.declared.component.Component.{Component}
 use Rattle.desk_texts.specs.declared.facts.Facts.{Facts}
-use Rattle.desk_history.specs.declared.finding.Below.{Below}
 use Rattle.desk_history.specs.declared.finding.Verdict.{Verdict}
 use Rattle.desk_history.specs.declared.finding.Verdict.TheVariants.{Allowed, DbxCertificate, DbxDigest, NotListed, Sbat}
 

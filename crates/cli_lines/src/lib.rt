@@ -2,15 +2,19 @@
 #![tactic(auto)]
 
 mod ending;
+mod facts_lines;
 mod fault;
-mod listing;
+mod list_lines;
 mod printing;
+mod range_lines;
 mod telling;
 mod verdict_lines;
 
 pub use ending::{Ending, Outcome};
+pub use facts_lines::print_facts;
 pub use fault::Fault;
-pub use listing::{MOST_BYTES, print_facts, print_list, print_ranges};
+pub use list_lines::{MOST_BYTES, print_list};
 pub use printing::{print_fault, put_fault};
+pub use range_lines::print_ranges;
 pub use telling::print_ending;
 pub use verdict_lines::print_verdict;

@@ -63,8 +63,8 @@ fn answer_at<D: Disk + Drop, R: Read + Drop, W: Write>(
 }
 
 /// Answers one request of the reader by this table of paths, for the desk in a file; if the reader
-/// has no byte, nothing is written. The work is done, whatever the response, unless the desk must be
-/// opened again after it: then the fault is Store or Reopen.
+/// has no byte, nothing is written. The work is done, whatever the response, unless the desk must
+/// be opened again after it: then the fault is Store or Reopen.
 ///
 /// The faults of the desk's file come first, as for `add_person`. Read, NoMemory: the request
 /// wasn't read. Write: a prefix of the response was written, and the answer's changes stay.

@@ -1,5 +1,5 @@
 //! GUIDs (UEFI 2.10, appendix A).
-ghost use Rattle.std.specs.Prelude.{◌≡◌, ◌*◌, ◌≤◌, ℕ, List, ◌++◌, ◌∷◌, Ok, Err, IfOk, OnErr, OnOk, length, string_bytes};
+ghost use Rattle.std.specs.Prelude.{◌≡◌, ◌*◌, ℕ, List, ◌++◌, ◌∷◌, IfOk, OnErr, OnOk, length, string_bytes};
 ghost use Rattle.std.specs.Result.{result_ok};
 ghost use Rattle.hex.specs.Hex.{decode_of, encode_lower};
 ghost use Rattle.desk_bytes.specs.Guids as spec;

@@ -1,9 +1,10 @@
 -- Tests on lists.
-use Rattle.std.proofs.Common.{◌≡◌, ℕ, ◌+◌, ◌<◌, Bool, true, false, ◌||◌, List, [], ◌∷◌, ◌++◌, length, drop, get_or, refl, sym, ◌∙◌, ap, append_assoc, inl, inr, arith, add-one, drop-cons, suc}
+use Rattle.std.proofs.Common.{◌≡◌, ℕ, ◌+◌, ◌<◌, Bool, true, false, not, ◌||◌, All, List, [], ◌∷◌, ◌++◌, length, drop, get_or, refl, sym, ◌∙◌, ap, append_assoc, inl, inr, arith, add-one, drop-cons, suc}
 use Rattle.std.specs.Prelude.{◌==◌, if◌then◌else◌, bytes_eq, flat_map}
 use Rattle.std.specs.List.{list_any}
-use Rattle.std.proofs.lemmas.Bool.{or_cases, or_left, or_right}
+use Rattle.std.proofs.lemmas.Bool.{and_parts, not-true, or_cases, or_left, or_right}
 use Rattle.std.proofs.lemmas.Bool.Decides.{nat_tests}
+use Rattle.std.proofs.lemmas.List.Elements.{All-head, All-tail}
 use Rattle.std.proofs.lemmas.List.Folds.{list_any-append}
 use Rattle.std.proofs.lemmas.Slice.Eq.{bytes_eq-Decides}
 use Rattle.desk_history.specs.Calls.{are_apart, is_among, distinct}
@@ -50,6 +51,17 @@ none_right true b h = cc
 -- one more item that is unlike the others
 pub apart-more : {X : Type 0} (same : X → X → Bool) (x : X) (xs : List X) → list_any (same x) xs ≡ false → are_apart same xs ≡ true → are_apart same (x ∷ xs) ≡ true
 apart-more same x xs fresh rest = rw fresh rest
+
+-- two lists without a pair alike, and no item of one like an item of the other
+pub apart_joined : {X : Type 0} (same : X → X → Bool) (xs ys : List X) → are_apart same xs ≡ true → are_apart same ys ≡ true
+    → All (λ x. list_any (same x) ys ≡ false) xs → are_apart same (xs ++ ys) ≡ true
+apart_joined same [] ys h k f = k
+apart_joined same (x ∷ xs) ys h k f =
+    let both : (not (list_any (same x) xs) ≡ true) × (are_apart same xs ≡ true) = and_parts (not (list_any (same x) xs)) (are_apart same xs) h in
+    let rest = apart_joined same xs ys both.1 k (All-tail (λ z. list_any (same z) ys ≡ false) x xs f) in
+    apart-more same x (xs ++ ys)
+    (list_any-append (same x) xs ys ∙ or_none (list_any (same x) xs) (list_any (same x) ys) (not-true (list_any (same x) xs) both.0) (All-head (λ z. list_any (same z) ys ≡ false) x xs f))
+    rest
 
 -- each text of `once` is one of the texts
 pub any_once : (t : List ℕ) (ts : List (List ℕ)) → list_any (bytes_eq t) (distinct ts) ≡ list_any (bytes_eq t) ts

@@ -1,5 +1,5 @@
 -- The rows of requests' certificates and components.
-use Rattle.std.proofs.Common.{◌≡◌, ℕ, ◌+◌, ◌<◌, Bool, true, false, not, ◌&&◌, All, List, [], ◌∷◌, ◌++◌, length, map, refl, sym, ◌∙◌, ap, arith}
+use Rattle.std.proofs.Common.{◌≡◌, ℕ, ◌+◌, ◌<◌, Bool, true, false, ◌&&◌, All, List, [], ◌∷◌, length, map, refl, sym, ◌∙◌, ap, arith}
 use Rattle.std.specs.Prelude.{◌==◌, bytes_eq, flat_map}
 use Rattle.std.specs.List.{AllByRecursion, list_any}
 use Rattle.std.specs.List.Sorted.{IsStrictlySortedBy}
@@ -23,26 +23,12 @@ use Rattle.desk_history.specs.Requests.{Request, Submitted, numbered, requests, 
 use Rattle.desk_history.specs.Tables.{certificate_rows, component_rows, placed_from}
 use Rattle.desk_history.specs.declared.rows.RequestCertificateRow.{RequestCertificateRow}
 use Rattle.desk_history.specs.declared.rows.RequestComponentRow.{RequestComponentRow}
-use Rattle.desk_history.proofs.ListLemmas.{apart-more, number_is, or_none}
+use Rattle.desk_history.proofs.ListLemmas.{apart-more, apart_joined, number_is, or_none}
 use Rattle.desk_history.proofs.RowLemmas.{rows_stand_once}
 use Rattle.desk_history.proofs.RunLemmas.{giving}
 
-unlike : (b : Bool) → not b ≡ true → b ≡ false
-unlike true h = sym h
-unlike false h = refl
-
 no_test : (a b : Bool) → a ≡ false → (a && b) ≡ false
 no_test a b h = cc
-
-apart_joined : {X : Type 0} (same : X → X → Bool) (xs ys : List X) → are_apart same xs ≡ true → are_apart same ys ≡ true
-    → All (λ x. list_any (same x) ys ≡ false) xs → are_apart same (xs ++ ys) ≡ true
-apart_joined same [] ys h k f = k
-apart_joined same (x ∷ xs) ys h k f =
-    let both : (not (list_any (same x) xs) ≡ true) × (are_apart same xs ≡ true) = and_parts (not (list_any (same x) xs)) (are_apart same xs) h in
-    let rest = apart_joined same xs ys both.1 k (All-tail (λ z. list_any (same z) ys ≡ false) x xs f) in
-    apart-more same x (xs ++ ys)
-    (list_any-append (same x) xs ys ∙ or_none (list_any (same x) xs) (list_any (same x) ys) (unlike (list_any (same x) xs) both.0) (All-head (λ z. list_any (same z) ys ≡ false) x xs f))
-    rest
 
 -- rows that a request has, each with its number
 record IsKeyed {X : Type 0} (rows : Request → List X) (number : X → ℕ) (same : X → X → Bool) : Type 0 where

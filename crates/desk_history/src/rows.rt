@@ -7,7 +7,6 @@ use desk_texts::{
     Reply, RequestNumber, State, Title, Vote,
 };
 use sbat::{Component, ComponentName, Generation};
-use std::alloc::AllocError;
 use std::marker::Model;
 
 /// The canonical text of a command. A contract sees the list of its bytes.

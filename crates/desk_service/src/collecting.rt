@@ -1,5 +1,5 @@
 //! Facts of an image.
-ghost use Rattle.std.specs.Prelude.{◌≡◌, ◌≤◌, List, length, IfOk, IfErr};
+ghost use Rattle.std.specs.Prelude.{IfOk, IfErr};
 ghost use Rattle.pe_image.specs.Places.{IsLayoutOf};
 ghost use Rattle.pe_image.specs.Sources.{OnlyReads};
 ghost use Rattle.authenticode.specs.Carried.{IsCarried};

@@ -1,5 +1,5 @@
 //! A part of a source, in memory.
-ghost use Rattle.std.specs.Prelude.{◌≡◌, ◌≤◌, ℕ, List, length, IfOk, IfErr, IfSome};
+ghost use Rattle.std.specs.Prelude.{◌≡◌, length, IfOk, IfErr, IfSome};
 ghost use Rattle.pe_image.specs.Sources.{OnlyReads};
 ghost use Rattle.pe_image.specs.Spans.{IsWithin};
 ghost use Rattle.desk_service.specs.Parts.{IsPartFault, part_of, read_failed};

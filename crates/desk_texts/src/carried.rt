@@ -1,5 +1,5 @@
 //! The certificates that an image carries.
-ghost use Rattle.std.specs.Prelude.{◌≡◌, ◌<◌, ◌≤◌, ℕ, List, length, MatchOption};
+ghost use Rattle.std.specs.Prelude.{◌≡◌, ◌≤◌, ℕ, List, length, MatchOption};
 ghost use Rattle.desk_bytes.specs.Digests.{IsArranged, IsAscending};
 ghost use Rattle.desk_texts.specs.Carrying.{HasMore};
 ghost use Rattle.desk_bytes.specs.Limits.{most_certificates};

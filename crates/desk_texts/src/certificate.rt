@@ -1,5 +1,5 @@
 //! Certificates that are listed whole.
-ghost use Rattle.std.specs.Prelude.{◌≡◌, ◌<◌, ◌⊎◌, ℕ, List, MatchOption, false, length, true};
+ghost use Rattle.std.specs.Prelude.{◌≡◌, MatchOption, false, length, true};
 ghost use Rattle.desk_texts.specs.Certificates.{WholeCertificate, is_certificate_size};
 
 use desk_bytes::Digest;

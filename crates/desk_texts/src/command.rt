@@ -1,5 +1,4 @@
 //! Calls of the desk and their commands.
-ghost use Rattle.std.specs.Prelude.{◌≡◌};
 
 use crate::{
     Caller, Certificate, Facts, Import, Key, ListedKind, Note, PersonName, ProposalNumber,
@@ -7,7 +6,6 @@ use crate::{
 };
 use desk_bytes::Digest;
 use sbat::{Component, Stamp};
-use std::alloc::AllocError;
 
 /// A person, with the SHA-256 of the bytes of the person's token.
 #[derive(Debug, Drop)]

@@ -1,5 +1,5 @@
 //! Entries of one import.
-ghost use Rattle.std.specs.Prelude.{◌≡◌, ◌<◌, ◌≤◌, ◌+◌, MatchOption, length};
+ghost use Rattle.std.specs.Prelude.{◌≡◌, ◌<◌, ◌≤◌, MatchOption};
 ghost use Rattle.desk_texts.specs.Forms.{most_imported};
 ghost use Rattle.desk_texts.specs.Imports.{Imported, named_count};
 

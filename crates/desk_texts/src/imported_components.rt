@@ -1,5 +1,5 @@
 //! The components that an import names.
-ghost use Rattle.std.specs.Prelude.{◌≡◌, ◌<◌, ◌≤◌, ◌⊎◌, ℕ, List, MatchOption, false, length, true};
+ghost use Rattle.std.specs.Prelude.{◌≡◌, ◌<◌, ◌≤◌, ◌⊎◌, List, MatchOption, false, length, true};
 ghost use Rattle.desk_texts.specs.Forms.{most_imported};
 ghost use Rattle.desk_texts.specs.Raising.{names_no_sbat};
 

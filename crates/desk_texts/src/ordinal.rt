@@ -1,5 +1,5 @@
 //! Numbers of requests and of proposals.
-ghost use Rattle.std.specs.Prelude.{◌≡◌, ◌≤◌, ℕ, List, IfSome, IfNone, MatchOption, false, decimal, length, true};
+ghost use Rattle.std.specs.Prelude.{◌≡◌, ℕ, IfSome, IfNone, MatchOption, false, decimal, true};
 ghost use Rattle.desk_texts.specs.Forms.{is_ordinal};
 
 use crate::forms;

@@ -9,7 +9,7 @@ ghost use Rattle.desk_texts.specs.declared.reply.Confirmation.{Confirmation};
 ghost use Rattle.desk_texts.specs.declared.reply.Counts.{Counts};
 ghost use Rattle.desk_texts.specs.declared.reply.Outcome.{Outcome};
 ghost use Rattle.desk_texts.specs.declared.reply.Reply.{Reply};
-ghost use Rattle.desk_texts.specs.declared.reply.Reply.TheVariants.{Added, Submitted, Reviewed, Withdrawn, Returned, Imported, Confirmed};
+ghost use Rattle.desk_texts.specs.declared.reply.Reply.TheVariants.{Added, Reviewed, Imported, Confirmed};
 
 use crate::counting::{count_before, count_of};
 use crate::forms::parted_at_space;

@@ -1,5 +1,5 @@
 //! The canonical texts of replies.
-ghost use Rattle.std.specs.Prelude.{◌≡◌, IfOk, List, [], ◌∷◌, decimal, string_bytes};
+ghost use Rattle.std.specs.Prelude.{◌≡◌, IfOk, [], ◌∷◌, decimal, string_bytes};
 ghost use Rattle.desk_texts.specs.ReplyTexts.{reply_text_of};
 ghost use Rattle.desk_texts.specs.Items.{spaced};
 ghost use Rattle.desk_texts.specs.declared.reply.Reply.TheVariants.{Confirmed, Reviewed, Imported};

@@ -1,5 +1,5 @@
 //! Numbers of requests.
-ghost use Rattle.std.specs.Prelude.{◌≡◌, ℕ, List, IfSome, IfNone, MatchOption, false, decimal, true};
+ghost use Rattle.std.specs.Prelude.{◌≡◌, ℕ, IfSome, IfNone, MatchOption, false, decimal, true};
 ghost use Rattle.desk_texts.specs.Forms.{is_request_number};
 
 use crate::ordinal::Ordinal;

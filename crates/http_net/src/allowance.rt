@@ -12,8 +12,8 @@ const SECONDS: u64 = 30;
 /// So many bytes give it a second more.
 const BYTES_A_SECOND: u64 = 65_536;
 
-/// The time that a peer has to send all that it sends, or to take all that it takes: 30 seconds, and one more for
-/// each 64 KiB that came or went.
+/// The time that a peer has to send all that it sends, or to take all that it takes: 30 seconds,
+/// and one more for each 64 KiB that came or went.
 #[derive(Clone, Copy)]
 pub(crate) struct Allowance {
     begun: Instant,

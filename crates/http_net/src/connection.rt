@@ -20,9 +20,9 @@ fn was_answered(served: &Result<Served, HttpFault>) -> bool {
     }
 }
 
-/// Ends a connection after its response: closes the writing side, and reads what the peer still sends.
-/// A connection that is closed while bytes wait is reset, and the peer may lose the response (RFC 9112,
-/// section 9.6).
+/// Ends a connection after its response: closes the writing side, and reads what the peer still
+/// sends. A connection that is closed while bytes wait is reset, and the peer may lose the response
+/// (RFC 9112, section 9.6).
 fn end_response<C: Clock>(clock: &C, stream: &TcpStream) {
     if stream.shutdown(Shutdown::Write).is_ok() {
         let mut peer = stream;
@@ -30,9 +30,9 @@ fn end_response<C: Clock>(clock: &C, stream: &TcpStream) {
     }
 }
 
-/// Answers the one request of a connection, which this reader reads, with the clauses of desk_http's
-/// `serve_one`. Takes memory for a piece of the input: NoMemory if it is refused, before anything is
-/// read.
+/// Answers the one request of a connection, which this reader reads, with the clauses of
+/// desk_http's `serve_one`. Takes memory for a piece of the input: NoMemory if it is refused,
+/// before anything is read.
 pub fn answer_connection<D: Answering, R: Read + Drop, W: Write>(
     alloc: Global,
     routes: &Routes,

@@ -16,8 +16,8 @@ const MOST: usize = 1_048_576;
 /// How many of them are asked for at a time.
 const PIECE: usize = 8192;
 
-/// Reads a piece, in what is left of the time that began at an instant. 0 where nothing is left, where the input has
-/// ended, and where a call fails.
+/// Reads a piece, in what is left of the time that began at an instant. 0 where nothing is left,
+/// where the input has ended, and where a call fails.
 fn read_piece<C: Clock, R: Read + Waits>(
     clock: &C,
     begun: Instant,
@@ -40,7 +40,8 @@ fn read_piece<C: Clock, R: Read + Waits>(
     reader.read(piece).unwrap_or(0)
 }
 
-/// Reads what a peer still sends, and drops it, until the peer ends its side: for two seconds at most, and a mebibyte.
+/// Reads what a peer still sends, and drops it, until the peer ends its side: for two seconds at
+/// most, and a mebibyte.
 pub fn read_off<C: Clock, R: Read + Waits>(clock: &C, reader: &mut R)
     ensures { (bs : List ℕ) × Consumes (R.remaining reader.old) (R.remaining reader.new) bs
         × (length bs ≤ 1048576) }

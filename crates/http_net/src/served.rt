@@ -33,8 +33,8 @@ pub(crate) fn ending(served: Result<Served, HttpFault>) -> Option<Refusal>
     }
 }
 
-/// The outcome of a program that serves one request. Store, Reopen: the desk has to be opened again. Read, Write,
-/// NoMemory: the request itself was stopped.
+/// The outcome of a program that serves one request. Store, Reopen: the desk has to be opened
+/// again. Read, Write, NoMemory: the request itself was stopped.
 pub fn outcome(served: Result<Served, HttpFault>) -> Result<(), Refusal>
     ensures value { result ≡ spec.outcome_of served }
     ensures named { IfErr result IsAnsweringRefusal }

@@ -1,7 +1,5 @@
 //! Connections, one after another.
-ghost use Rattle.std.specs.Prelude.{◌≡◌, IfErr, IsErrOf, Result};
-ghost use Rattle.desk_http.specs.declared.served.HttpFault.{HttpFault as Fault};
-ghost use Rattle.desk_http.specs.declared.served.Served.{Served as Came};
+ghost use Rattle.std.specs.Prelude.{◌≡◌, IfErr, IsErrOf};
 ghost use Rattle.http_net.specs.Faults.{IsServingRefusal};
 ghost use Rattle.http_net.specs.Turns.{ServesInTurn};
 ghost use Rattle.http_net.specs.Wire.{IsOneRequest};
@@ -75,12 +73,13 @@ fn serve_peers<D: Answering, P: Peers<D>>(
     Ok(())
 }
 
-/// Serves `count` connections, one request each, one after another. A fault of one connection ends that
-/// connection only. By the clock a peer has 30 seconds for its request, one more for each 64 KiB that
-/// arrived, and as long to take the response; then its connection is closed. Takes memory for each.
+/// Serves `count` connections, one request each, one after another. A fault of one connection ends
+/// that connection only. By the clock a peer has 30 seconds for its request, one more for each 64
+/// KiB that arrived, and as long to take the response; then its connection is closed. Takes memory
+/// for each.
 ///
-/// Read: a connection couldn't be accepted. Store, Reopen: that response was written, and the desk must
-/// be opened again.
+/// Read: a connection couldn't be accepted. Store, Reopen: that response was written, and the desk
+/// must be opened again.
 pub fn serve<C: Clock, D: Answering>(
     alloc: Global,
     clock: &C,

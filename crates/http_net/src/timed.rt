@@ -2,7 +2,7 @@
 ghost use Rattle.std.specs.Prelude.{◌≡◌, Some, IfOk, IsErr, OnErr};
 ghost use Rattle.std.specs.Duration.{as_nanos};
 ghost use Rattle.std.specs.Io.{ReadsAtMost, WritesAtMost};
-ghost use Rattle.std.specs.Io.KnownBytes.{Keeps, ReadConsumes, WriteAppends};
+ghost use Rattle.std.specs.Io.KnownBytes.{ReadConsumes, WriteAppends};
 ghost use Rattle.http_net.specs.Allowances as spec;
 
 use crate::allowance::Allowance;
@@ -30,9 +30,10 @@ impl Waits for &TcpStream {
     }
 }
 
-/// A stream that is read, or written, in the time that its peer has: from the first call on 30 seconds, and one more
-/// for each 64 KiB that came, or went. No call waits longer than what is left of it. Where nothing is left, a call is
-/// TimedOut, and takes or gives no byte; where the clock can't be read, it fails as the clock does.
+/// A stream that is read, or written, in the time that its peer has: from the first call on 30
+/// seconds, and one more for each 64 KiB that came, or went. No call waits longer than what is left
+/// of it. Where nothing is left, a call is TimedOut, and takes or gives no byte; where the clock
+/// can't be read, it fails as the clock does.
 ///
 /// One value is for reading alone, or for writing alone, since both count the same time.
 #[derive(Drop)]

@@ -1,6 +1,6 @@
 //! A request without its body.
 
-use desk_texts::{Command, Key, ProposalNumber, RequestNumber, Title};
+use desk_texts::{Command, Key, RequestNumber, Title};
 use sbat::Stamp;
 
 /// A GET.

@@ -1,5 +1,5 @@
 //! The table of paths.
-ghost use Rattle.std.specs.Prelude.{◌≡◌, [], IfOk, OnOk};
+ghost use Rattle.std.specs.Prelude.{◌≡◌, IfOk, OnOk};
 ghost use Rattle.http_requests.specs.Paths.{added, get, post_command, post_image, resource_of};
 ghost use Rattle.http_requests.specs.Paths.{table, with_lists, with_proposals, with_requests, with_rest};
 
@@ -31,8 +31,8 @@ impl Routes {
         }
     }
 
-    /// The resource of a request's target, if the target is a path of the table. `matchit` matches it
-    /// byte by byte, a query and percent signs included.
+    /// The resource of a request's target, if the target is a path of the table. `matchit` matches
+    /// it byte by byte, a query and percent signs included.
     #[tactic(auto, unfolding(crate::specs::Paths::resource_of))]
     pub(crate) fn resource_of(&self, target: &str) -> Option<Resource>
         ensures { result ≡ resource_of target.now }

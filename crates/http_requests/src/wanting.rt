@@ -79,10 +79,10 @@ fn wanted_by<'b>(routes: &Routes, head: &Head<'b>) -> Result<Wanted<'b>, WantedF
     })
 }
 
-/// What a head asks for, or the first check that fails, in this order: no Transfer-Encoding; each field that counts
-/// comes once at most and Content-Length has 1 to 10 digits; the target is a path of the table; the path has the
-/// method; POST has a Content-Length and GET has none above 0; the length is within the route's limit. Who calls
-/// isn't looked at.
+/// What a head asks for, or the first check that fails, in this order: no Transfer-Encoding; each
+/// field that counts comes once at most and Content-Length has 1 to 10 digits; the target is a path
+/// of the table; the path has the method; POST has a Content-Length and GET has none above 0; the
+/// length is within the route's limit. Who calls isn't looked at.
 pub fn wanted<'b>(routes: &Routes, head: &'b ParsedHead) -> Result<Wanted<'b>, WantedFault>
     ensures { (h : RequestHead) (rest : List ℕ) → ReadsRequest head.now h rest
         → spec.Gives (spec.wanted_of (parts_of h)) result }

@@ -1,6 +1,5 @@
 //! The heads of responses.
 ghost use Rattle.std.specs.Prelude.{◌≡◌, ◌++◌, IfOk, OnOk, string_bytes};
-ghost use Rattle.http.specs.StatusCode.{code_digits};
 ghost use Rattle.http_responses.specs.Responses as spec;
 
 use crate::content::Content;

@@ -1,16 +1,15 @@
 -- The ranges that one pass meets, in order.
 use Rattle.std.proofs.Common.{◌≡◌, ◌+◌, ◌-◌, ◌==◌, ◌<◌, ◌≤◌, ◌++◌, ℕ, zero, suc, true, false, cond, if◌then◌else◌, List, [], ◌∷◌, length, take, drop, nat_lt, refl, sym, ap, ◌∙◌, subst, append_assoc, append-nil, length-append, length-drop, max, arith}
-use Rattle.std.specs.Prelude.{All}
 use Rattle.std.proofs.Math.Seq.{take-append_seam, take-length}
 use Rattle.std.proofs.lemmas.Bool.{ltb-true, ltb-false, eqb-true}
 use Rattle.std.proofs.lemmas.List.{take-append-drop, take-take, drop-take, length-take-le}
 use Rattle.std.proofs.lemmas.List.Concat.{flat_map-append}
 use Rattle.std.proofs.lemmas.List.Elements.{All-take, filter-append}
 use Rattle.pe_image.specs.Hashed.{hashed_bytes}
-use Rattle.pe_image.specs.Image.{checksum_offset, has_certificate_directory, certificate_directory_offset, size_of_headers, raw, sum_of_bytes_hashed, image_end, gap, sections_end}
+use Rattle.pe_image.specs.Image.{checksum_offset, has_certificate_directory, certificate_directory_offset, size_of_headers, raw, sum_of_bytes_hashed, image_end, gap}
 use Rattle.pe_image.specs.Passes.{in_first_pass, first_pass_of, second_pass_of}
 use Rattle.pe_image.specs.Places.{Places, IsLayoutOf, places_of, spans_of}
-use Rattle.pe_image.specs.Spans.{span, nonempty, in_order, reach, follows, bytes_at, StandBetween}
+use Rattle.pe_image.specs.Spans.{span, nonempty, in_order, reach, bytes_at, StandBetween}
 use Rattle.pe_image.specs.declared.span.Span.{Span}
 use Rattle.pe_image.proofs.CheckLemmas.{IsPlaced, placed-from-laid, fixed-least}
 use Rattle.pe_image.proofs.HashedLemmas.{image-end}

@@ -1,5 +1,5 @@
 //! The certificate table.
-ghost use Rattle.std.specs.Prelude.{◌≡◌, ◌+◌, ◌≤◌, length, Some, None, OnOk, IfOk, IfErr, IfSome};
+ghost use Rattle.std.specs.Prelude.{◌≡◌, ◌+◌, ◌≤◌, length, None, OnOk, IfOk, IfErr, IfSome};
 ghost use Rattle.pe_image.specs.Image.{sections_end};
 ghost use Rattle.pe_image.specs.Checks.{first_of, table_checks, IsRefused};
 ghost use Rattle.pe_image.specs.Places.{certificate_directory_of, table_of};

@@ -1,5 +1,5 @@
 //! Headers before the section table.
-ghost use Rattle.std.specs.Prelude.{◌≡◌, ◌≤◌, None, OnOk, IfOk, IfErr};
+ghost use Rattle.std.specs.Prelude.{◌≡◌, None, OnOk, IfOk, IfErr};
 ghost use Rattle.pe_image.specs.Checks.{first_of, front_checks, IsRefused};
 ghost use Rattle.pe_image.specs.Sources.{OnlyReads};
 ghost use Rattle.pe_image.specs.Steps.Front.{IsFront};

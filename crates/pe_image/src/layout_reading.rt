@@ -1,5 +1,5 @@
 //! The reading of a layout.
-ghost use Rattle.std.specs.Prelude.{◌≡◌, ◌+◌, ◌<◌, ◌^◌, ◌≤◌, length, sum_by, IfOk, IfErr};
+ghost use Rattle.std.specs.Prelude.{◌≡◌, ◌+◌, ◌<◌, ◌^◌, length, sum_by, IfOk, IfErr};
 ghost use Rattle.pe_image.specs.Spans.{reach, size_of};
 ghost use Rattle.pe_image.specs.Places.{end_by, IsLayoutOf};
 ghost use Rattle.pe_image.specs.Checks.{checks, IsRefused};

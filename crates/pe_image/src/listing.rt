@@ -1,5 +1,5 @@
 //! The ranges of an image that are hashed.
-ghost use Rattle.std.specs.Prelude.{◌≡◌, ◌+◌, ◌<◌, ◌≤◌, ◌++◌, ◌∷◌, ℕ, List, [], All, length, take};
+ghost use Rattle.std.specs.Prelude.{◌≡◌, ◌+◌, ◌<◌, ◌≤◌, ◌++◌, ℕ, List, All, length, take};
 ghost use Rattle.pe_image.specs.Spans.{nonempty, bytes_at};
 ghost use Rattle.pe_image.specs.Places.{around, places_of, spans_of};
 ghost use Rattle.pe_image.specs.Hashed.{hashed_bytes};

@@ -1,5 +1,5 @@
 //! The section `.sbat`.
-ghost use Rattle.std.specs.Prelude.{◌≡◌, ◌+◌, ◌<◌, Some, None, OnOk, IfOk, IfErr};
+ghost use Rattle.std.specs.Prelude.{◌≡◌, Some, None, OnOk, IfOk, IfErr};
 ghost use Rattle.pe_image.specs.Checks.{first_of, sbat_checks};
 ghost use Rattle.pe_image.specs.Sbat.{is_sbat, text_size, text_at, sbat_count, sbat_section};
 

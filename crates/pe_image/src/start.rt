@@ -1,5 +1,5 @@
 //! The beginning of an image.
-ghost use Rattle.std.specs.Prelude.{◌≡◌, ◌≤◌, None, OnOk, IfOk, IfErr};
+ghost use Rattle.std.specs.Prelude.{◌≡◌, None, OnOk, IfOk, IfErr};
 ghost use Rattle.pe_image.specs.Checks.{first_of, start_checks, IsRefused};
 ghost use Rattle.pe_image.specs.Sources.{OnlyReads};
 ghost use Rattle.pe_image.specs.Steps.Front.{IsStart};

@@ -6,7 +6,6 @@ ghost use Rattle.std.specs.Iterator.{YieldsFirstBy, item_count};
 ghost use Rattle.std.specs.Str.{bytes_eq};
 ghost use Rattle.sbat.specs.Fields.{is_generation, sbat};
 ghost use Rattle.sbat.specs.Levels.{IsLevel, Stamped, byte_entries, entry_of, generations_of, raised, stamped_code};
-ghost use Rattle.sbat.specs.Rows.{Row};
 
 use crate::component::Component;
 use crate::generation::Generation;

@@ -1,6 +1,6 @@
 //! The 28 bytes before a list's header.
-ghost use Rattle.std.specs.Prelude.{◌≡◌, ◌+◌, ◌≤◌, ◌<◌, ◌^◌, length, None, Some, MatchResult, IfOk};
-ghost use Rattle.siglist.specs.Heads.{size_at, header_size_at, entry_size_at};
+ghost use Rattle.std.specs.Prelude.{◌≡◌, None, Some, MatchResult, IfOk};
+ghost use Rattle.siglist.specs.Heads.{size_at};
 ghost use Rattle.siglist.specs.Steps.Reading.{lack_at};
 
 use crate::entry::first_guid;

@@ -1,5 +1,5 @@
 //! Laws of the definitions that this crate's contracts cite.
-ghost use Rattle.std.specs.Prelude.{◌≡◌, ◌+◌, ◌≤◌, ℕ, List, length};
+ghost use Rattle.std.specs.Prelude.{◌≡◌, ◌≤◌, ℕ, List, length};
 ghost use Rattle.std.specs.List.{AllByRecursion};
 ghost use Rattle.siglist.specs.ListsFaults.{IsRefused};
 ghost use Rattle.siglist.specs.Packing.{Packs};

@@ -1,5 +1,5 @@
 //! One list.
-ghost use Rattle.std.specs.Prelude.{◌≡◌, ◌+◌, ◌*◌, ◌<◌, ◌≤◌, None, length, drop};
+ghost use Rattle.std.specs.Prelude.{◌≡◌, ◌+◌, ◌*◌, ◌≤◌, None, length, drop};
 ghost use Rattle.siglist.specs.Kinds as kinds;
 ghost use Rattle.siglist.specs.SignatureLists.{Placed};
 ghost use Rattle.siglist.specs.Heads.{size_at};

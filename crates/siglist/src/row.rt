@@ -1,5 +1,5 @@
 //! A row of lists.
-ghost use Rattle.std.specs.Prelude.{◌≡◌, ◌-◌, ◌≤◌, ◌<◌, ◌^◌, List, length};
+ghost use Rattle.std.specs.Prelude.{◌≡◌, ◌-◌, ◌≤◌, List, length};
 ghost use Rattle.std.specs.Iterator.{YieldsFirst, item_count};
 ghost use Rattle.siglist.specs.Steps.Reading.{row_of};
 ghost use Rattle.siglist.specs.SignatureLists.{IsRow, Placed, placed_from};

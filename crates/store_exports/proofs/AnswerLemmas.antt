@@ -23,7 +23,7 @@ use Rattle.store_sql.proofs.ItemLemmas.{lists}
 use Rattle.store_schema.specs.Columns.{by_first}
 use Rattle.store_schema.specs.Tables.{desk_schema}
 use Rattle.store_exports.specs.Exporting.{BeginsOf, WritesOf}
-use Rattle.store_exports.specs.Rows.{AreSpelt, BeginsRow, IsPart, WritesAnswer, WritesFirst}
+use Rattle.store_exports.specs.Rows.{AreSpelt, IsPart, WritesAnswer, WritesFirst}
 
 -- the front of an answer shows the front of what the answer shows
 parted : {X : Type 0} (shown : X → Row) (us rest : List Row) (ys : List X) → us ++ rest ≡ map shown ys

@@ -1,16 +1,14 @@
 -- The bytes that each query of an export writes, by the lists of the histories that the connection
 -- shows.
-use Rattle.std.proofs.Common.{◌≡◌, ℕ, pos, List, [], ◌∷◌, ◌++◌, map, flat_map, length, reverse, Option, Bool, true, refl, sym, ap, ap₂, ◌∙◌, arith, bytes_eq}
-use Rattle.sqlite.specs.Held.{Held, state}
+use Rattle.std.proofs.Common.{◌≡◌, ℕ, List, [], flat_map, Option, true, refl, ap}
 use Rattle.sqlite.specs.Order.{Row}
 use Rattle.sqlite.specs.State.{State, HasCleanDisk}
-use Rattle.sqlite.specs.declared.types.Value.TheVariants.{Int, Text, Blob}
-use Rattle.desk_history.specs.Calls.{History, distinct, is_same_kind}
+use Rattle.desk_history.specs.Calls.{History, distinct}
 use Rattle.desk_history.specs.Tables.{Tables}
 use Rattle.desk_history.specs.Revocations.{revocations}
 use Rattle.desk_texts.specs.declared.kind.ListedKind.TheVariants as kinds
 use Rattle.siglist.specs.Writing.{sha256_entry_bytes, x509_sha256_entry_bytes}
-use Rattle.store_schema.specs.rows.Histories.{ShowsHistory, rows_of}
+use Rattle.store_schema.specs.rows.Histories.{ShowsHistory}
 use Rattle.store_schema.specs.rows.Values.{digest_values}
 use Rattle.desk_exports.specs.Exports.{revoked}
 use Rattle.store_sql.specs.Queries.{by_keys}

@@ -30,7 +30,7 @@ use Rattle.store_sql.specs.Queries.{by_keys}
 use Rattle.store_schema.specs.Columns.{by_first}
 use Rattle.store_schema.specs.Tables as tables
 use Rattle.store_exports.specs.Lines.{Columns, columns_of, columns_row, line}
-use Rattle.store_exports.proofs.ArrangeLemmas.{Apart, Rises, Tie, all_any, all_permuted, arranged, arranged_is, arranged_one, rises_of}
+use Rattle.store_exports.proofs.ArrangeLemmas.{Apart, Rises, Tie, all_any, all_permuted, arranged, arranged_one, rises_of}
 use Rattle.store_exports.proofs.OrderLemmas.{ascending-arranged, before_chains, before_of, before_tie, before_total, by_key, calls_order, components_order, entries_order}
 
 -- every row

@@ -1,20 +1,17 @@
 //! db: the listed entries.
-ghost use Rattle.std.specs.Prelude.{◌≡◌, IfErr, OnErr, OnOk, map};
+ghost use Rattle.std.specs.Prelude.{map};
 ghost use Rattle.std.specs.List.{flat_map};
-ghost use Rattle.sqlite.specs.Held.{state};
-ghost use Rattle.sqlite.specs.State.{HasCleanDisk};
 ghost use Rattle.siglist.specs.SignatureLists.{spelling};
 ghost use Rattle.siglist.specs.Writing.{sha256_parts, x509_row};
 ghost use Rattle.desk_texts.specs.declared.kind.ListedKind.TheVariants as kinds;
 ghost use Rattle.desk_exports.specs.Exports.{db, entries_of};
-ghost use Rattle.store_exports.specs.Exporting.{BeginsOf, Exports, SparesOf, StaysOf, WritesOf};
-ghost use Rattle.store_exports.specs.Faults.{IsExportFailure};
+ghost use Rattle.store_exports.specs.Exporting.{Exports};
 
 use crate::fault::ExportFault;
 use crate::heads::{head_count, own, size};
 use crate::listed_forms::{ListedCertificate, ListedDigest};
 use crate::taking::put_rows;
-use desk_bytes::{Guid, Refusal};
+use desk_bytes::Guid;
 use desk_texts::ListedKind;
 use siglist::sha256_head;
 use sqlite::{Alter, Connection, params};

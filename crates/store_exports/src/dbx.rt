@@ -1,18 +1,14 @@
 //! dbx: the revoked entries.
-ghost use Rattle.std.specs.Prelude.{◌≡◌, IfErr, OnErr, OnOk};
-ghost use Rattle.sqlite.specs.Held.{state};
-ghost use Rattle.sqlite.specs.State.{HasCleanDisk};
 ghost use Rattle.siglist.specs.Writing.{sha256_parts, x509_sha256_parts};
 ghost use Rattle.desk_texts.specs.declared.kind.ListedKind.TheVariants as kinds;
 ghost use Rattle.desk_exports.specs.Exports.{dbx, revoked};
-ghost use Rattle.store_exports.specs.Exporting.{BeginsOf, Exports, SparesOf, StaysOf, WritesOf};
-ghost use Rattle.store_exports.specs.Faults.{IsExportFailure};
+ghost use Rattle.store_exports.specs.Exporting.{Exports};
 
 use crate::fault::ExportFault;
 use crate::forms::{RevokedCertificate, RevokedDigest};
 use crate::heads::{head_count, own, size};
 use crate::taking::put_rows;
-use desk_bytes::{Guid, Refusal};
+use desk_bytes::Guid;
 use siglist::{sha256_head, x509_sha256_head};
 use sqlite::{Alter, Connection};
 use std::alloc::Global;

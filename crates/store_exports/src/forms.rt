@@ -1,5 +1,5 @@
 //! Written forms of revoked digests, of the level's components and of the minutes.
-ghost use Rattle.std.specs.Prelude.{◌≡◌, ℕ, List, IfOk, OnErr, OnOk};
+ghost use Rattle.std.specs.Prelude.{ℕ, List, OnErr, OnOk};
 ghost use Rattle.sqlite.specs.Order.{Row as Shown};
 ghost use Rattle.sbat.specs.Writing.{row_text};
 ghost use Rattle.siglist.specs.Writing.{sha256_entry_bytes, x509_sha256_entry_bytes};

@@ -1,16 +1,11 @@
 //! The level, as SBAT text.
-ghost use Rattle.std.specs.Prelude.{◌≡◌, IfErr, OnErr, OnOk};
-ghost use Rattle.sqlite.specs.Held.{state};
-ghost use Rattle.sqlite.specs.State.{HasCleanDisk};
 ghost use Rattle.desk_exports.specs.Exports.{level};
-ghost use Rattle.store_exports.specs.Exporting.{BeginsOf, Exports, SparesOf, StaysOf, WritesOf};
-ghost use Rattle.store_exports.specs.Faults.{IsExportFailure};
+ghost use Rattle.store_exports.specs.Exporting.{Exports};
 
 use crate::fault::ExportFault;
 use crate::forms::LevelLine;
 use crate::heads::own;
 use crate::taking::put_rows;
-use desk_bytes::Refusal;
 use sbat::level_head;
 use sqlite::{Alter, Connection};
 use std::alloc::Global;

@@ -1,21 +1,18 @@
 //! The minutes, a line for each call.
-ghost use Rattle.std.specs.Prelude.{◌≡◌, ◌∷◌, [], IfErr, IfOk, OnErr, OnOk, length, pos};
+ghost use Rattle.std.specs.Prelude.{◌≡◌, ◌∷◌, [], IfOk, OnErr, OnOk, pos};
 ghost use Rattle.std.specs.Io.KnownBytes.{Appends};
-ghost use Rattle.sqlite.specs.Held.{state};
-ghost use Rattle.sqlite.specs.State.{HasCleanDisk};
 ghost use Rattle.sqlite.specs.declared.types.Value.TheVariants.{Int, Text};
 ghost use Rattle.sqlite_value.specs.Order.{column};
 ghost use Rattle.desk_bytes.specs.Output.{AppendsBeginning};
 ghost use Rattle.desk_exports.specs.Exports.{minutes_text};
-ghost use Rattle.store_exports.specs.Exporting.{BeginsOf, Exports, SparesOf, StaysOf, WritesOf};
-ghost use Rattle.store_exports.specs.Faults.{IsExportFailure};
+ghost use Rattle.store_exports.specs.Exporting.{Exports};
 ghost use Rattle.store_exports.specs.Lines.{columns_row, line, line_of};
 ghost use Rattle.store_exports.specs.Rows.{IsPart};
 
 use crate::fault::ExportFault;
 use crate::forms::RowForm;
 use crate::taking::put_rows;
-use desk_bytes::{Refusal, WriteFailed, put_each};
+use desk_bytes::{WriteFailed, put_each};
 use itoa::Buffer;
 use sqlite::types::ValueRef;
 use sqlite::{Alter, Connection, Row};

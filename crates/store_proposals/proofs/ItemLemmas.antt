@@ -1,22 +1,18 @@
 -- Keys of proposals' items, no two the same where no two proposals have the same number.
-use Rattle.std.proofs.Common.{◌≡◌, ℕ, ◌+◌, ◌<◌, Bool, true, false, not, ◌&&◌, ◌||◌, All, List, [], ◌∷◌, ◌++◌, refl, sym, ◌∙◌, arith}
+use Rattle.std.proofs.Common.{◌≡◌, ℕ, ◌+◌, ◌<◌, Bool, true, false, not, ◌&&◌, ◌||◌, All, List, [], ◌∷◌, refl, ◌∙◌, arith}
 use Rattle.std.specs.Prelude.{◌==◌, flat_map}
 use Rattle.std.specs.List.{list_any}
-use Rattle.std.proofs.lemmas.Bool.{and_parts}
+use Rattle.std.proofs.lemmas.Bool.{and_parts, not-true}
 use Rattle.std.proofs.lemmas.Bool.Decides.{nat_tests}
-use Rattle.std.proofs.lemmas.List.Elements.{All-cons, All-head, All-nil, All-tail}
+use Rattle.std.proofs.lemmas.List.Elements.{All-cons, All-nil}
 use Rattle.std.proofs.lemmas.List.Folds.{list_any-append}
 use Rattle.desk_history.specs.Calls.{are_apart}
 use Rattle.desk_history.specs.Items.{item_rows, items_from, items_of}
 use Rattle.desk_history.specs.declared.rows.ProposalItem.{ProposalItem}
 use Rattle.desk_history.specs.declared.rows.ProposalItemRow.{ProposalItemRow}
 use Rattle.desk_history.specs.declared.rows.ProposalRow.{ProposalRow}
-use Rattle.desk_history.proofs.ListLemmas.{apart-more, or_none}
+use Rattle.desk_history.proofs.ListLemmas.{apart-more, apart_joined, or_none}
 use Rattle.store_proposals.specs.Items.{is_item_key}
-
-unlike : (b : Bool) → not b ≡ true → b ≡ false
-unlike true h = sym h
-unlike false h = refl
 
 no_first : (a b : Bool) → a ≡ false → (a && b) ≡ false
 no_first a b h = cc
@@ -28,16 +24,6 @@ no_second false b h = refl
 neither : (a b : Bool) → (a || b) ≡ false → (a ≡ false) × (b ≡ false)
 neither true b h = absurd cc
 neither false b h = (refl, h)
-
-apart_joined : {X : Type 0} (same : X → X → Bool) (xs ys : List X) → are_apart same xs ≡ true → are_apart same ys ≡ true
-    → All (λ x. list_any (same x) ys ≡ false) xs → are_apart same (xs ++ ys) ≡ true
-apart_joined same [] ys h k f = k
-apart_joined same (x ∷ xs) ys h k f =
-    let both : (not (list_any (same x) xs) ≡ true) × (are_apart same xs ≡ true) = and_parts (not (list_any (same x) xs)) (are_apart same xs) h in
-    let rest = apart_joined same xs ys both.1 k (All-tail (λ z. list_any (same z) ys ≡ false) x xs f) in
-    apart-more same x (xs ++ ys)
-    (list_any-append (same x) xs ys ∙ or_none (list_any (same x) xs) (list_any (same x) ys) (unlike (list_any (same x) xs) both.0) (All-head (λ z. list_any (same z) ys ≡ false) x xs f))
-    rest
 
 abbrev row_of : ℕ → ℕ → ProposalItem → ProposalItemRow
 row_of k place x = record { proposal = k; place = place; item = x }
@@ -84,4 +70,4 @@ items_apart (p ∷ ps) h =
     let among = list_any (λ (b : ProposalRow). p.number == b.number) ps in
     let both : (not among ≡ true) × (are_apart (λ (a b : ProposalRow). a.number == b.number) ps ≡ true) = and_parts (not among) (are_apart (λ (a b : ProposalRow). a.number == b.number) ps) h in
     apart_joined is_item_key (item_rows p) (flat_map item_rows ps) (places_apart p.number 0 (items_of p.named)) (items_apart ps both.1)
-    (all_among p.number 0 (items_of p.named) ps (unlike among both.0))
+    (all_among p.number 0 (items_of p.named) ps (not-true among both.0))

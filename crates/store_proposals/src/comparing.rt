@@ -1,5 +1,5 @@
 //! Rows of items, compared with those of a proposal's items.
-ghost use Rattle.std.specs.Prelude.{◌≡◌, ◌<◌, Some, length, slice_get, true};
+ghost use Rattle.std.specs.Prelude.{◌≡◌, Some, length, slice_get, true};
 ghost use Rattle.desk_history.specs.Items.{items_from, items_of};
 
 use desk_history::{ProposalItem, ProposalItemRow};

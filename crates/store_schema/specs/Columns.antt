@@ -1,4 +1,5 @@
--- What the statements read, insert and sort by: the columns of a table, counted from 0, and the parameters, counted from 0.
+-- What the statements read, insert and sort by: the columns of a table, counted from 0, and the
+-- parameters, counted from 0.
 use Rattle.std.specs.Prelude.{ℕ, zero, suc, ◌+◌, List, [], ◌∷◌, ◌++◌, map, drop, Option, Some, None}
 use Rattle.sqlite.specs.Collation.TheVariants.{Binary}
 use Rattle.sqlite.specs.declared.types.Value.TheVariants.{Null}
@@ -8,8 +9,8 @@ use Rattle.sqlite_schema.specs.declared.schema.Column.{Column}
 use Rattle.sqlite_value.specs.declared.keys.Key.{Key}
 use Rattle.sqlite_value.specs.Keys.{ascending}
 
--- In terms, col 0 is the parameters and col 1 a stored row: the row id, then the columns. A column that is the row id is
--- NULL at its own place.
+-- In terms, col 0 is the parameters and col 1 a stored row: the row id, then the columns. A column
+-- that is the row id is NULL at its own place.
 abbrev pub column_at : Option ℕ → ℕ → Term
 column_at None at = col 1 (at + 1)
 column_at (Some _) zero = col 1 0

@@ -10,7 +10,8 @@ use Rattle.sqlite_sql.specs.declared.ops.BinaryOp.TheVariants.{Compare}
 use Rattle.sqlite_sql.specs.declared.ops.CompareOp.TheVariants.{Eq}
 use Rattle.store_schema.specs.Columns.{column_at}
 
--- the place of the first column of this name, counted from 0; if none has it, the place after the last
+-- the place of the first column of this name, counted from 0; if none has it, the place after the
+-- last
 abbrev pub place_of : List ℕ → List Column → ℕ
 place_of name [] = zero
 place_of name (c ∷ cs) = if bytes_eq c.name name then zero else suc (place_of name cs)
@@ -19,12 +20,14 @@ place_of name (c ∷ cs) = if bytes_eq c.name name then zero else suc (place_of 
 abbrev pub equals : Table → List ℕ → ℕ → Term
 equals table name parameter = op2 (Compare Eq Binary) (column_at table.key (place_of name table.columns)) (col 0 parameter)
 
--- these columns as they are, the first of them at this place, but for the one at the place that is set: it becomes the parameter
+-- these columns as they are, the first of them at this place, but for the one at the place that is
+-- set: it becomes the parameter
 abbrev set_from : Option ℕ → ℕ → ℕ → ℕ → List Column → List Term
 set_from key set parameter at [] = []
 set_from key set parameter at (c ∷ cs) = (if at == set then col 0 parameter else column_at key at) ∷ set_from key set parameter (at + 1) cs
 
--- what UPDATE writes into a row whose columns become these: the row id first, as the key says or as it was
+-- what UPDATE writes into a row whose columns become these: the row id first, as the key says or as
+-- it was
 abbrev with_row_id : Option ℕ → List Term → List Term
 with_row_id None values = col 1 0 ∷ values
 with_row_id (Some _) [] = []

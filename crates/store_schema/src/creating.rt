@@ -43,10 +43,7 @@ fn make_first<S: Alter>(tx: &mut Transaction<'_, S>) -> Result<(), Error>
     ensures kept { CommitsNothing S.Store tx.old.conn.now tx.new.conn.now }
     ensures survives { Spares S.Store tx.old.conn.now tx.new.conn.now }
 {
-    match create_tables(tx, &CREATE_TABLES) {
-        Ok(()) => Ok(()),
-        Err(error) => Err(error),
-    }
+    create_tables(tx, &CREATE_TABLES)
 }
 
 /// Makes the three tables that version 2 adds, after those of version 1, whose rows stay.
@@ -60,10 +57,7 @@ pub fn make_added<S: Alter>(tx: &mut Transaction<'_, S>) -> Result<(), Error>
     ensures kept { CommitsNothing S.Store tx.old.conn.now tx.new.conn.now }
     ensures survives { Spares S.Store tx.old.conn.now tx.new.conn.now }
 {
-    match create_tables(tx, &CREATE_ADDED_TABLES) {
-        Ok(()) => Ok(()),
-        Err(error) => Err(error),
-    }
+    create_tables(tx, &CREATE_ADDED_TABLES)
 }
 
 /// Makes the fifteen tables in a store that has none.

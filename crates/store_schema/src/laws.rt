@@ -27,7 +27,8 @@ use crate::selecting::{
     SELECT_REVOKED_CERTIFICATES, SELECT_REVOKED_DIGEST, SELECT_REVOKED_DIGESTS, SELECT_VOTES,
 };
 
-/// The row of the desk: written whole, its stamp and its version set, read, also where the tables are those of version 1.
+/// The row of the desk: written whole, its stamp and its version set, read, also where the tables
+/// are those of version 1.
 pub fn desk_statements()
     ensures inserted { InsertsRow desk_schema 0 desk INSERT_DESK.now (values_of desk) }
     ensures stamped { UpdatesRows desk_schema 0 desk UPDATE_STAMP.now []
@@ -108,7 +109,8 @@ pub fn returns_statements()
         (equals returns (codes "request") 0 ∷ []) [] (columns_of returns) (names_of returns) }
 {}
 
-/// Listed entries: put in, taken out, found by kind and digest, listed by digest for one kind, counted.
+/// Listed entries: put in, taken out, found by kind and digest, listed by digest for one kind,
+/// counted.
 pub fn listed_statements()
     ensures inserted { InsertsRow desk_schema 8 listed INSERT_LISTED.now (values_of listed) }
     ensures unlisted { DeletesRows desk_schema 8 listed DELETE_LISTED.now

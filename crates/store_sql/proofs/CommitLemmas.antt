@@ -1,6 +1,6 @@
 -- The step from the end of a transaction to the contents of the connection after it, and after a
 -- stop.
-use Rattle.std.proofs.Common.{◌≡◌, inl, inr, true, false, refl, sym, ap, subst, ◌∙◌, arith, IsTrue, ℕ, List}
+use Rattle.std.proofs.Common.{◌≡◌, inl, inr, true, refl, sym, ap, subst, ◌∙◌, arith, IsTrue, ℕ, List}
 use Rattle.sqlite.specs.Store as store
 use Rattle.sqlite.specs.declared.error.Error.{Error}
 use Rattle.sqlite.specs.Tree.{Trees}

@@ -1,5 +1,5 @@
 //! Queries outside a transaction, whose rows are passed on one at a time.
-ghost use Rattle.std.specs.Prelude.{◌≡◌, List, false, IfOk, IsTrue, OnErr, OnOk};
+ghost use Rattle.std.specs.Prelude.{◌≡◌, false, IsTrue, OnErr, OnOk};
 ghost use Rattle.sqlite.specs.Given.{IsPlain};
 ghost use Rattle.sqlite.specs.Held.{state};
 ghost use Rattle.sqlite.specs.Listing.{understood};

@@ -12,6 +12,7 @@ use std::alloc::Global;
 use std::process::Abort;
 use std::str;
 use std::test::Fail;
+use testing::{Answers, answered};
 
 /// The calls that scripts make.
 #[derive(Clone, Copy)]
@@ -113,40 +114,24 @@ fn tell_hex(alloc: Global, told: &mut String, bytes: &[u8]) -> Result<(), Fail> 
     Ok(())
 }
 
-/// Appends the answer of a call to an input.
-fn answer(alloc: Global, told: &mut String, call: Call, input: &str) -> Result<(), Fail> {
-    match call {
-        Call::Carried => certificates::of_carried(alloc, told, input),
-        Call::Digests => digests::of_digests(alloc, told, input),
-        Call::Facts => lines::of_facts(alloc, told, input),
-        Call::List => lines::of_list(alloc, told, input),
-        Call::Parts => layouts::of_parts(alloc, told, input),
-        Call::Ranges => layouts::of_ranges(alloc, told, input),
-        Call::Token => tokens::of_token(alloc, told, input),
-        Call::Words => words::of_words(alloc, told, input),
+impl Answers for Call {
+    fn answer(&self, alloc: Global, told: &mut String, input: &str) -> Result<(), Fail> {
+        match self {
+            Call::Carried => certificates::of_carried(alloc, told, input),
+            Call::Digests => digests::of_digests(alloc, told, input),
+            Call::Facts => lines::of_facts(alloc, told, input),
+            Call::List => lines::of_list(alloc, told, input),
+            Call::Parts => layouts::of_parts(alloc, told, input),
+            Call::Ranges => layouts::of_ranges(alloc, told, input),
+            Call::Token => tokens::of_token(alloc, told, input),
+            Call::Words => words::of_words(alloc, told, input),
+        }
     }
-}
-
-/// Appends the line with the call's answer instead of the expected one.
-fn answer_line(alloc: Global, told: &mut String, call: Call, line: &str) -> Result<(), Fail> {
-    let (input, _) = line.split_once(" = ").ok_or("a line without an answer")?;
-    told.push_str(input)?;
-    told.push_str(" = ")?;
-    let before = told.len();
-    answer(alloc, told, call, input)?;
-    if told.len() == before {
-        told.push_str("nothing")?;
-    }
-    told.push('\n')?;
-    Ok(())
 }
 
 /// Compares all answers of a script.
 fn check(rt: &impl Abort, alloc: Global, call: Call, script: &str) -> Result<(), Fail> {
-    let mut told = String::new(alloc);
-    for line in script.lines() {
-        answer_line(alloc, &mut told, call, line)?;
-    }
+    let told = answered(alloc, &call, script)?;
     assert!(rt; told.as_str() == script, "{told}");
     Ok(())
 }

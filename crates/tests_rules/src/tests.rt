@@ -16,7 +16,7 @@ use std::fmt::Write;
 use std::io::ErrorKind;
 use std::process::Abort;
 use std::test::Fail;
-use testing::Narrow;
+use testing::{Answers, Narrow, answered};
 
 /// The calls that scripts make.
 #[derive(Clone, Copy)]
@@ -53,47 +53,31 @@ fn tell_hex(alloc: Global, told: &mut String, bytes: &[u8]) -> Result<(), Fail> 
     Ok(())
 }
 
-/// Appends the answer of a call to an input.
-fn answer(alloc: Global, told: &mut String, call: Call, input: &str) -> Result<(), Fail> {
-    match call {
-        Call::Components => components::of_components(alloc, told, input),
-        Call::Csv => imports::of_csv(alloc, told, input),
-        Call::Dbx => imports::of_dbx(alloc, told, input),
-        Call::Digest => bytes::of_digest(told, input),
-        Call::Element => bytes::of_element(alloc, told, input),
-        Call::Generation => components::of_generation(told, input),
-        Call::Guid => bytes::of_guid(alloc, told, input),
-        Call::Level => levels::of_level(alloc, told, input),
-        Call::LevelImport => imports::of_level(alloc, told, input),
-        Call::Lines => bytes::of_lines(alloc, told, input),
-        Call::Lists => lists::of_lists(alloc, told, input),
-        Call::Name => components::of_name(alloc, told, input),
-        Call::Pack => packing::of_pack(alloc, told, input),
-        Call::Stamp => components::of_stamp(told, input),
-        Call::Tbs => bytes::of_tbs(alloc, told, input),
+impl Answers for Call {
+    fn answer(&self, alloc: Global, told: &mut String, input: &str) -> Result<(), Fail> {
+        match self {
+            Call::Components => components::of_components(alloc, told, input),
+            Call::Csv => imports::of_csv(alloc, told, input),
+            Call::Dbx => imports::of_dbx(alloc, told, input),
+            Call::Digest => bytes::of_digest(told, input),
+            Call::Element => bytes::of_element(alloc, told, input),
+            Call::Generation => components::of_generation(told, input),
+            Call::Guid => bytes::of_guid(alloc, told, input),
+            Call::Level => levels::of_level(alloc, told, input),
+            Call::LevelImport => imports::of_level(alloc, told, input),
+            Call::Lines => bytes::of_lines(alloc, told, input),
+            Call::Lists => lists::of_lists(alloc, told, input),
+            Call::Name => components::of_name(alloc, told, input),
+            Call::Pack => packing::of_pack(alloc, told, input),
+            Call::Stamp => components::of_stamp(told, input),
+            Call::Tbs => bytes::of_tbs(alloc, told, input),
+        }
     }
-}
-
-/// Appends the line with the call's answer instead of the expected one.
-fn answer_line(alloc: Global, told: &mut String, call: Call, line: &str) -> Result<(), Fail> {
-    let (input, _) = line.split_once(" = ").ok_or("a line without an answer")?;
-    told.push_str(input)?;
-    told.push_str(" = ")?;
-    let before = told.len();
-    answer(alloc, told, call, input)?;
-    if told.len() == before {
-        told.push_str("nothing")?;
-    }
-    told.push('\n')?;
-    Ok(())
 }
 
 /// Compares all answers of a script.
 fn check(rt: &impl Abort, alloc: Global, call: Call, script: &str) -> Result<(), Fail> {
-    let mut told = String::new(alloc);
-    for line in script.lines() {
-        answer_line(alloc, &mut told, call, line)?;
-    }
+    let told = answered(alloc, &call, script)?;
     assert!(rt; told.as_str() == script, "{told}");
     Ok(())
 }

@@ -1,5 +1,5 @@
 //! The list of allowed images.
-ghost use Rattle.std.specs.Prelude.{◌≡◌, [], ◌∷◌, not};
+ghost use Rattle.std.specs.Prelude.{[], ◌∷◌, not};
 ghost use Rattle.desk_history.specs.Refusals.{refuse_if};
 ghost use Rattle.desk_history.specs.declared.write.Write.TheVariants as puts;
 ghost use Rattle.desk_rules.specs.DecisionSteps.{Decided};

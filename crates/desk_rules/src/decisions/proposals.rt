@@ -1,7 +1,6 @@
 //! Proposals to revoke and to raise the level, and their confirmation.
-ghost use Rattle.std.specs.Prelude.{◌≡◌, ◌≤◌, ◌+◌, [], ◌∷◌, IfErr, IsTrue, MatchOption, MatchResult, None, Some, false, find, length, option_copied, true};
+ghost use Rattle.std.specs.Prelude.{◌≡◌, ◌≤◌, ◌+◌, [], ◌∷◌, IfErr, IsTrue, MatchOption, Some, find, length, option_copied, true};
 ghost use Rattle.std.specs.List.{list_any};
-ghost use Rattle.sbat.specs.declared.component.Component.{Component as ComponentValue};
 ghost use Rattle.desk_texts.specs.Callers.{caller_name};
 ghost use Rattle.desk_texts.specs.Forms.{greatest_number};
 ghost use Rattle.desk_texts.specs.Raising.{names_no_sbat};
@@ -9,7 +8,7 @@ ghost use Rattle.desk_texts.specs.declared.command.Command.{Command as CommandVa
 ghost use Rattle.desk_texts.specs.declared.command.Command.TheVariants as Command;
 ghost use Rattle.desk_texts.specs.declared.reply.Reply.TheVariants as replies;
 ghost use Rattle.desk_history.specs.DecisionRefusals.{may_answer};
-ghost use Rattle.desk_history.specs.Proposals.{named_by, no_entries};
+ghost use Rattle.desk_history.specs.Proposals.{named_by};
 ghost use Rattle.desk_history.specs.declared.write.Write.TheVariants as puts;
 ghost use Rattle.desk_rules.specs.DecisionSteps as spec;
 ghost use Rattle.desk_rules.specs.Shown.{is_proposal_row};

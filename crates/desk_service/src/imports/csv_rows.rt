@@ -1,5 +1,5 @@
 //! The records of a CSV file, one by one.
-ghost use Rattle.std.specs.Prelude.{◌≡◌, ◌∷◌, [], ℕ, List, IfOk, Some};
+ghost use Rattle.std.specs.Prelude.{List, Some};
 ghost use Rattle.csv.specs.Records.{fields_of};
 ghost use Rattle.desk_service.specs.imports.FromCsv.{Record, records_of};
 ghost use Rattle.desk_service.specs.imports.Records.{Leaves, Reads};

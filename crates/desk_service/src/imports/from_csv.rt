@@ -1,5 +1,5 @@
 //! Imports of CSV files.
-ghost use Rattle.std.specs.Prelude.{◌≡◌, List, IfErr, IfOk, Some};
+ghost use Rattle.std.specs.Prelude.{List, IfErr, IfOk, Some};
 ghost use Rattle.desk_service.specs.imports.FromCsv.{IsCsvImport, IsRefused, Record, RefusesCsv, items_in};
 ghost use Rattle.desk_service.specs.imports.Records.{GathersRecords, Leaves, PassesHeader};
 

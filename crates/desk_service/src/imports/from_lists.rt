@@ -1,6 +1,6 @@
 //! Imports of signature lists.
-ghost use Rattle.std.specs.Prelude.{◌≡◌, ◌++◌, List, IfErr, IfOk, OnOk};
-ghost use Rattle.siglist.specs.SignatureLists.{IsList, Placed};
+ghost use Rattle.std.specs.Prelude.{◌++◌, List, IfErr, IfOk, OnOk};
+ghost use Rattle.siglist.specs.SignatureLists.{IsList};
 ghost use Rattle.desk_service.specs.imports.FromLists.{IsDbxImport, RefusesDbx, list_items};
 ghost use Rattle.desk_service.specs.imports.Gathering.{Gathers};
 ghost use Rattle.desk_service.specs.declared.imports.item.Item.{Item};

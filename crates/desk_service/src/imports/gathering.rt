@@ -1,6 +1,5 @@
 //! Entries gathered into one command.
 ghost use Rattle.std.specs.Prelude.{◌≡◌, ◌∷◌, ◌++◌, ◌≤◌, [], List, None, MatchOption, OnOk, true};
-ghost use Rattle.desk_texts.specs.Forms.{most_imported};
 ghost use Rattle.desk_texts.specs.Raising.{names_no_sbat};
 ghost use Rattle.desk_service.specs.imports.Gathering.{Gathering, Gathers, is_free};
 ghost use Rattle.desk_service.specs.imports.Items.{IsCommandOf, IsTooMany};

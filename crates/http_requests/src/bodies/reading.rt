@@ -1,5 +1,5 @@
 //! The bodies of requests.
-ghost use Rattle.std.specs.Prelude.{◌≡◌, IfOk, IfErr, IfSome, Some};
+ghost use Rattle.std.specs.Prelude.{◌≡◌, IfOk, IfErr, Some};
 ghost use Rattle.serde_json.specs.View.{view};
 ghost use Rattle.http_requests.specs.bodies.Bodies as spec;
 

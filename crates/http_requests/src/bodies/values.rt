@@ -1,5 +1,5 @@
 //! The values of members, in their forms.
-ghost use Rattle.std.specs.Prelude.{◌≡◌, IfOk, IfErr, None, Some, true};
+ghost use Rattle.std.specs.Prelude.{◌≡◌, IfOk, IfErr, Some};
 ghost use Rattle.serde_json.specs.View.{view};
 ghost use Rattle.http_requests.specs.bodies.Bodies.{Refuses, data_of};
 ghost use Rattle.http_requests.specs.bodies.Forms as form;

@@ -6,7 +6,8 @@ use crate::ParsedHead;
 pub enum Begun {
     /// It has no byte.
     Nothing,
-    /// The head of a request: its bytes are those from the input's first to the LF of the empty line that ends it.
+    /// The head of a request: its bytes are those from the input's first to the LF of the empty
+    /// line that ends it.
     Head(ParsedHead),
     /// No head within the limits.
     NoHead,

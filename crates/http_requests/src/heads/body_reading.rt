@@ -10,8 +10,8 @@ use std::io::Read;
 /// How many bytes are asked for at a time.
 const PIECE: usize = 8192;
 
-/// Reads the `size` bytes of a body, or gives `None` where the input ends before them. Nothing past them is
-/// asked for. An interrupted read is a fault. Takes memory for what it reads, as it comes.
+/// Reads the `size` bytes of a body, or gives `None` where the input ends before them. Nothing past
+/// them is asked for. An interrupted read is a fault. Takes memory for what it reads, as it comes.
 pub fn read_body<R: Read>(
     alloc: Global,
     reader: &mut R,

@@ -67,8 +67,8 @@ fn ends_empty_line(bytes: &[u8]) -> bool
     bytes.ends_with(b"\n\n".as_slice()) || bytes.ends_with(b"\n\r\n".as_slice())
 }
 
-/// Whether the bytes are looked at for a head: `blank` where they are CR and LF alone, `begun` where they were
-/// looked at before.
+/// Whether the bytes are looked at for a head: `blank` where they are CR and LF alone, `begun`
+/// where they were looked at before.
 fn may_end_head(bytes: &[u8], blank: bool, begun: bool) -> bool
     ensures { result ≡ spec.may_end_head blank begun bytes.now }
 {
@@ -81,11 +81,12 @@ fn may_end_head(bytes: &[u8], blank: bool, begun: bool) -> bool
     }
 }
 
-/// Reads the head of a request (RFC 9112, section 2.1, as `httparse` takes it) of at most 16,384 bytes
-/// and 64 fields. After a head the reader is at the first byte of the body. It is read byte by byte, so
-/// a reader without a buffer is slow. The bytes so far are parsed at the end of the first line that
-/// isn't empty, and at each empty line after it: a wrong first line is `NoHead` at its end, a wrong
-/// field at the empty line. An interrupted read is a fault. Takes memory for the head.
+/// Reads the head of a request (RFC 9112, section 2.1, as `httparse` takes it) of at most 16,384
+/// bytes and 64 fields. After a head the reader is at the first byte of the body. It is read byte
+/// by byte, so a reader without a buffer is slow. The bytes so far are parsed at the end of the
+/// first line that isn't empty, and at each empty line after it: a wrong first line is `NoHead` at
+/// its end, a wrong field at the empty line. An interrupted read is a fault. Takes memory for the
+/// head.
 pub fn read_head<R: Read>(
     alloc: Global,
     reader: &mut R,

@@ -56,8 +56,8 @@ fn value_of(
     Ok(Some(value))
 }
 
-/// A verdict on the image of these facts as a JSON object, or `None` where it names a place without a
-/// component, which no verdict on this image does. Takes memory.
+/// A verdict on the image of these facts as a JSON object, or `None` where it names a place without
+/// a component, which no verdict on this image does. Takes memory.
 #[tactic(auto, using(crate::proofs::FloatLemmas::verdict_has_no_float))]
 pub fn verdict_json(
     alloc: Global,

@@ -1,5 +1,5 @@
 -- The contents of the fifteen tables as rows of SQL, in the order in which the tables are made.
-use Rattle.std.specs.Prelude.{List, [], ◌∷◌, map, flat_map}
+use Rattle.std.specs.Prelude.{[], ◌∷◌, map, flat_map}
 use Rattle.store_sql.specs.Contents.{Contents}
 use Rattle.desk_history.specs.Items.{item_rows}
 use Rattle.desk_history.specs.Tables.{Tables}

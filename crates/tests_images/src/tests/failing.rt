@@ -1,6 +1,5 @@
 //! Sources that fail.
-ghost use Rattle.std.specs.Prelude.{ℕ, List, ◌≡◌, ◌+◌, ◌≤◌, length, replicate, slice_range, OnOk, OnErr};
-ghost use Rattle.pe_image.specs.Sources.{HaveRisen};
+ghost use Rattle.std.specs.Prelude.{replicate};
 
 use super::image;
 use authenticode::sums;

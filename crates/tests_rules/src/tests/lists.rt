@@ -134,8 +134,8 @@ fn refuses_each_truncation_at_its_list(rt: HostRuntime) -> Result<(), Fail> {
     Ok(())
 }
 
-/// A SHA256 list of two digests: 124 bytes.
-const TWO: &str = "\
+/// A SHA256 list of two digests, aa*32 and bb*32: 124 bytes.
+pub const TWO: &str = "\
 2616c4c14c509240aca941f9369343287c0000000000000030000000\
 33221100554477668899aabbccddeeff\
 aaaaaaaaaaaaaaaaaaaaaaaaaaaaaaaaaaaaaaaaaaaaaaaaaaaaaaaaaaaaaaaa\

@@ -1,6 +1,6 @@
 //! Lines packed into one list.
 use super::inputs::expanded;
-use super::lists::OWNER;
+use super::lists::{OWNER, TWO};
 use super::{Call, check, is_beginning, narrow, refuse, tell_hex};
 use desk_bytes::Guid;
 use siglist::{PackFault, pack};
@@ -75,14 +75,6 @@ fn refuses_a_long_text_before_its_lines(rt: HostRuntime) {
     assert!(rt; answer(rt.alloc(), b'x', 8_388_608) == wrong);
     assert!(rt; answer(rt.alloc(), b'x', 8_388_609) == long);
 }
-
-/// The list of aa*32 and bb*32.
-const TWO: &str = "\
-2616c4c14c509240aca941f9369343287c0000000000000030000000\
-33221100554477668899aabbccddeeff\
-aaaaaaaaaaaaaaaaaaaaaaaaaaaaaaaaaaaaaaaaaaaaaaaaaaaaaaaaaaaaaaaa\
-33221100554477668899aabbccddeeff\
-bbbbbbbbbbbbbbbbbbbbbbbbbbbbbbbbbbbbbbbbbbbbbbbbbbbbbbbbbbbbbbbb";
 
 /// Packs three lines by a read that fails, from 1.
 fn pack_three(alloc: Global, read: u64, writer: &mut Narrow) -> Result<u64, PackFault> {

@@ -195,8 +195,8 @@ fn other(which: Which) -> Which {
     }
 }
 
-/// Lives all lives, in which the log and the database file stop in turn, and compares the exports at
-/// their end.
+/// Lives all lives, in which the log and the database file stop in turn, and compares the exports
+/// at their end.
 fn live<D: Stopping>(alloc: Global) -> Result<(), Fail> {
     let mut bytes = before_lives::<D>(alloc).ok_or("a desk before its lives")?;
     let wanted = whole::<D>(alloc, bytes.as_slice(), LIVES).ok_or("a desk without a stop")?;

@@ -1,5 +1,4 @@
 use Rattle.std.proofs.Common.{rules}
-use Rattle.std.proofs.Common.{rules}
 use Rattle.http_requests.proofs.fields.length.Goals as goal
 
 pub returns : goal.returns

@@ -1,4 +1,4 @@
-use Rattle.std.proofs.Common.{◌≡◌, ◌++◌, ap₂, append_assoc, subst, sym, ◌∙◌}
+use Rattle.std.proofs.Common.{◌++◌, ap₂, append_assoc, subst}
 use Rattle.std.specs.Io.KnownBytes.{Appends}
 use Rattle.desk_bytes.specs.Output.{AppendsBeginning}
 use Rattle.desk_bytes.proofs.OutputLemmas.{AppendsBeginning-before, OnErr-after, OnErr-fact}

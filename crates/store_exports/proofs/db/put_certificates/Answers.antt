@@ -2,7 +2,7 @@ use Rattle.std.proofs.Common.{[], ◌∷◌}
 use Rattle.sqlite.specs.Held.{state}
 use Rattle.sqlite.specs.declared.types.Value.TheVariants.{Text}
 use Rattle.siglist.specs.SignatureLists.{spelling}
-use Rattle.siglist.specs.Writing.{sha256_entry_bytes, x509_row}
+use Rattle.siglist.specs.Writing.{x509_row}
 use Rattle.desk_texts.specs.Words.{kind_text}
 use Rattle.desk_texts.specs.declared.kind.ListedKind.TheVariants as kinds
 use Rattle.store_schema.specs.rows.Values.{entry_values}

@@ -1,4 +1,4 @@
-use Rattle.std.proofs.Common.{[], ◌∷◌, flat_map, reverse}
+use Rattle.std.proofs.Common.{[], flat_map, reverse}
 use Rattle.sqlite.specs.Held.{state}
 use Rattle.desk_history.specs.Replies.{minutes}
 use Rattle.desk_exports.specs.Exports.{minutes_text}

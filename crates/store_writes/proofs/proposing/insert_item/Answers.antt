@@ -1,4 +1,3 @@
-use Rattle.sqlite.specs.Held.{state}
 use Rattle.store_schema.specs.Columns.{values_of}
 use Rattle.store_schema.specs.Tables.{desk_schema, proposal_items}
 use Rattle.store_schema.proofs.InsertFacts.{insert_proposal_item}

@@ -1,5 +1,4 @@
 use Rattle.std.proofs.Common.{rules}
-use Rattle.std.proofs.Common.{rules}
 use Rattle.http_requests.proofs.bodies.values.generation.Goals as goal
 
 pub returns-in-Ok : goal.returns-in-Ok

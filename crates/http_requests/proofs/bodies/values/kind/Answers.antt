@@ -1,5 +1,4 @@
 use Rattle.std.proofs.Common.{rules}
-use Rattle.std.proofs.Common.{rules}
 use Rattle.http_requests.proofs.bodies.values.kind.Goals as goal
 
 pub returns-then-eq : goal.returns-then-eq

@@ -1,5 +1,4 @@
 use Rattle.std.proofs.Common.{rules}
-use Rattle.std.proofs.Common.{rules}
 use Rattle.http_requests.proofs.resource.Methods.text.Goals as goal
 
 pub returns-in-GetAndPost : goal.returns-in-GetAndPost

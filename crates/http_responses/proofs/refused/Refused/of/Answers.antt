@@ -1,5 +1,4 @@
 use Rattle.std.proofs.Common.{rules}
-use Rattle.std.proofs.Common.{rules}
 use Rattle.http_responses.proofs.refused.Refused.of.Goals as goal
 
 pub returns-in-Revoked-clause-value : goal.returns-in-Revoked-clause-value

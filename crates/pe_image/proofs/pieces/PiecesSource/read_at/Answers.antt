@@ -1,4 +1,4 @@
-use Rattle.std.proofs.Common.{◌≡◌, ◌+◌, ◌≤◌, ◌∙◌, ◌++◌, ap, length, slice_range, take, sym, length-take-le, arith, rules}
+use Rattle.std.proofs.Common.{◌≡◌, ◌≤◌, ◌∙◌, ◌++◌, ap, length, take, length-take-le, arith, rules}
 use Rattle.std.proofs.lemmas.List.{places, take-take}
 use Rattle.pe_image.proofs.PiecesLemmas.{take-behind, slice-more}
 use Rattle.pe_image.proofs.pieces.PiecesSource.read_at.Goals as goal

@@ -1,4 +1,4 @@
-use Rattle.std.proofs.Common.{◌≡◌, ◌-◌, ◌≤◌, ◌∙◌, ap, length, max, take, drop, arith}
+use Rattle.std.proofs.Common.{◌≡◌, ◌-◌, ◌≤◌, ◌∙◌, ap, length, max, take, arith}
 use Rattle.pe_image.proofs.PassesLemmas.{but-last-left}
 use Rattle.pe_image.proofs.span_list.Ranges.but_last.Goals as goal
 

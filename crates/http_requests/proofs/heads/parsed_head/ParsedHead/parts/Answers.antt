@@ -1,4 +1,4 @@
-use Rattle.std.proofs.Common.{◌≡◌, ◌∙◌, ℕ, List, drop, ap, sym, subst}
+use Rattle.std.proofs.Common.{◌∙◌, ℕ, List, drop, ap, sym, subst}
 use Rattle.httparse.specs.Grammar.{ReadsRequest}
 use Rattle.httparse.proofs.GrammarLemmas.{request_unique}
 use Rattle.http_requests.specs.heads.Fields.{parts_of}
