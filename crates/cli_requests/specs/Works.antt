@@ -7,7 +7,7 @@ use Rattle.sqlite_store.specs.declared.store.FileStore.{FileStore}
 use Rattle.desk_answers.specs.declared.open_desk.OpenDesk.{OpenDesk}
 use Rattle.desk_bytes.specs.declared.refusal.Refusal.{Refusal}
 use Rattle.desk_bytes.specs.declared.refusal.Refusal.TheVariants as refusals
-use Rattle.desk_http.specs.Serving.{IsAnswered, IsPassedOver, IsUnread, IsUnwritten}
+use Rattle.desk_http.specs.Serving.{AnswersOne}
 use Rattle.desk_http.specs.declared.served.HttpFault.{HttpFault}
 use Rattle.desk_http.specs.declared.served.Served.{Served}
 use Rattle.cli_lines.specs.Faults.{row_of}
@@ -17,7 +17,6 @@ use Rattle.http_net.specs.Turns.{ServesInTurn}
 use Rattle.http_net.specs.Wire.{IsOneRequest}
 use Rattle.desk_store.specs.Desks.{ShowsDesk}
 use Rattle.desk_store.specs.declared.desk.Desk.{Desk}
-use Rattle.desk_history.specs.Calls.{History}
 use Rattle.cli_opening.specs.Closing.{Ends}
 use Rattle.cli_lines.specs.declared.ending.Ending.{Ending}
 use Rattle.cli_lines.specs.declared.ending.Outcome.{Outcome}
@@ -28,15 +27,7 @@ abbrev pub work_of : Result Unit Refusal → Result Outcome Fault
 work_of (Ok served) = Ok Done
 work_of (Err refusal) = Err (row_of refusal)
 
--- one request of an input was answered, as the clauses of http_net's `answer_connection` say: the
--- request, the history, and the bytes written
-pub record AnswersOne {D : Type 0} (shows : D → List ℕ → History → Type 0) (clean failed : D → Type 0) (input before after : Option (List ℕ)) (old new : D) (came : Result Served HttpFault) : Type 0 where
-  pub answered : clean new → IsAnswered (shows old) (shows new) (failed new) input before after came
-  pub nothing : clean new → IsPassedOver (shows old) (shows new) input before after came
-  pub unread : clean new → IsUnread (shows old) (shows new) before after came
-  pub unwritten : clean new → IsUnwritten (shows old) (shows new) (failed new) input before after came
-
--- the same, as a subcommand's work
+-- one connection was served so, as a subcommand's work
 abbrev pub WorksOnce : {D : Type 0} → (D → D → Result Served HttpFault → Type 0) → D → D → Result Outcome Fault → Type 0
 WorksOnce answers old new work = (came : Result Served HttpFault) × (work ≡ work_of (served.outcome_of came)) × answers old new came
 

@@ -7,8 +7,8 @@ ghost use Rattle.cli_lines.specs.Faults.{IsRow};
 ghost use Rattle.cli_opening.specs.Faults.{IsClosingRefusal, IsLasting, IsOfOpening};
 ghost use Rattle.cli_opening.specs.Faults.{IsOpeningRefusal};
 ghost use Rattle.cli_opening.specs.Works.{AtADesk, IsUnopened};
-ghost use Rattle.cli_requests.specs.Works.{AnswersOnce, AnswersOne, Serves};
-ghost use Rattle.cli_requests.specs.Works.{ServesPort, WorksInTurn, WorksOnce};
+ghost use Rattle.cli_requests.specs.Works.{AnswersOnce, Serves, ServesPort, WorksInTurn, WorksOnce};
+ghost use Rattle.desk_http.specs.Serving.{AnswersOne};
 
 use cli_lines::{Ending, Fault, Outcome};
 use cli_opening::{ended, open};

@@ -1,5 +1,5 @@
 -- The histories that a desk shows, and refusals, for any kind of desk.
-use Rattle.std.specs.Prelude.{◌≡◌, ◌⊎◌, ℕ, List, Option, find}
+use Rattle.std.specs.Prelude.{◌≡◌, ◌≢◌, ◌⊎◌, ℕ, List, Option, Result, Err, IfErr, IsErrOf, find}
 use Rattle.desk_bytes.specs.declared.refusal.Refusal.{Refusal}
 use Rattle.desk_bytes.specs.declared.refusal.Refusal.TheVariants as refusals
 use Rattle.desk_texts.specs.declared.caller.Caller.{Caller}
@@ -33,3 +33,16 @@ IsOutage refusal = (refusal ≡ refusals.NoMemory) ⊎ ((refusal ≡ refusals.St
 abbrev pub IsReadingRefusal : Refusal → Type 0
 IsReadingRefusal refusal =
     (refusal ≡ refusals.NotYourRole) ⊎ ((refusal ≡ refusals.UnknownCaller) ⊎ ((refusal ≡ refusals.NoSuchRequest) ⊎ IsOutage refusal))
+
+-- own: a call of a desk, whatever it asks for, and its failures. `shows` says what a desk shows,
+-- `clean` that its disk has returned what was written, `failed` that its store failed, `may_come`
+-- which refusals there are
+pub record FailsSafely {D X : Type 0} (shows : D → List ℕ → History → Type 0) (clean failed : D → Type 0) (may_come : Refusal → Type 0) (old new : D) (result : Result X Refusal) : Type 0 where
+  -- a disk that is clean after the call was clean before
+  pub before : clean new → clean old
+  pub named : IfErr result may_come
+  -- a desk that shows a history needn't be opened again
+  pub usable : ForEachShown (shows old) (λ _ _. result ≢ Err refusals.Reopen)
+  pub poisons : IsErrOf result refusals.Store → failed new
+  -- a desk that had failed doesn't change
+  pub closed : failed old → (result ≡ Err refusals.Reopen) × (new ≡ old)

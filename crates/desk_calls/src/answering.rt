@@ -1,5 +1,5 @@
 //! Desks that answer.
-ghost use Rattle.std.specs.Prelude.{◌≡◌, ◌≢◌, ◌⊎◌, ℕ, List, Err, IfErr, IfOk, IsErrOf, IsSome, IsTrue, MatchResult, Some, map};
+ghost use Rattle.std.specs.Prelude.{◌≡◌, ◌≢◌, ◌⊎◌, ℕ, List, Err, IfErr, IfOk, IsTrue, MatchResult, Some, map};
 ghost use Rattle.desk_exports.specs.Exports.{exported};
 ghost use Rattle.desk_exports.specs.Reports.{report};
 ghost use Rattle.desk_history.specs.Calls.{History};
@@ -8,7 +8,8 @@ ghost use Rattle.desk_history.specs.Runs.{answer, next, reply_in};
 ghost use Rattle.desk_history.specs.Shown.{AreShown, IsShown, proposals_for, request_for, requests_for, shown_proposal};
 ghost use Rattle.desk_history.specs.Verdicts as verdicts;
 ghost use Rattle.desk_history.specs.declared.answer.Answer.TheVariants as ruled;
-ghost use Rattle.desk_calls.specs.Desks.{IsOutage, IsReadingRefusal, StillShows, ForEachShown, called, person_with};
+ghost use Rattle.desk_calls.specs.Desks.{FailsSafely, ForEachShown, IsOutage, IsReadingRefusal};
+ghost use Rattle.desk_calls.specs.Desks.{StillShows, called, person_with};
 
 use crate::octets::Octets;
 use crate::shown_proposals::ShownProposals;
@@ -19,11 +20,11 @@ use desk_texts::{Caller, Command, Facts, Key, Person, Reply, RequestNumber, Show
 use http_responses::RequestsText;
 use std::alloc::Global;
 
-/// A desk that answers for a history of accepted calls. What its clauses say of the history holds where the
-/// disk has kept its promise until the end of the call.
+/// A desk that answers for a history of accepted calls. What its clauses say of the history holds
+/// where the disk has kept its promise until the end of the call.
 ///
-/// Each call may fail: `NoMemory` where memory was refused, which changes nothing; `Store` where the store failed,
-/// after which the desk has failed; `Reopen` from then on, and nothing is done.
+/// Each call may fail: `NoMemory` where memory was refused, which changes nothing; `Store` where
+/// the store failed, after which the desk has failed; `Reopen` from then on, and nothing is done.
 pub trait Answering {
     /// The desk answers for this history, with this owner of the entries that it exports.
     ghost shows: { Self → List ℕ → History → Type 0 };
@@ -40,13 +41,10 @@ pub trait Answering {
             (λ _ cs. person ≡ person_with token.now cs)) }
         ensures same { clean self.new → result ≢ Err Refusal.Store
             → StillShows (shows self.old) (shows self.new) }
-        ensures before { clean self.new → clean self.old }
-        ensures named { IfErr result IsOutage }
-        ensures usable { ForEachShown (shows self.old) (λ _ _. result ≢ Err Refusal.Reopen) }
-        ensures poisons { IsErrOf result Refusal.Store → failed self.new }
-        ensures closed { failed self.old → (result ≡ Err Refusal.Reopen) × (self.new ≡ self.old) };
+        ensures fails { FailsSafely shows clean failed IsOutage self.old self.new result };
 
-    /// Answers the call of a command: an accepted one joins the history. A refusal by the rules changes nothing.
+    /// Answers the call of a command: an accepted one joins the history. A refusal by the rules
+    /// changes nothing.
     fn apply(&mut self, caller: &Caller, key: &Key, command: &Command) -> Result<Reply, Refusal>
         ensures given { clean self.new → IfOk result (λ reply.
             ForEachShown (shows self.old) (λ owner cs.
@@ -57,11 +55,8 @@ pub trait Answering {
             answer cs (called caller.now key.now command.now) ≡ ruled.Refused refusal)) }
         ensures same { clean self.new → IfErr result (λ refusal. refusal ≢ Refusal.Store
             → StillShows (shows self.old) (shows self.new)) }
-        ensures before { clean self.new → clean self.old }
-        ensures named { IfErr result (λ refusal. IsTrue (may_answer refusal) ⊎ IsOutage refusal) }
-        ensures usable { ForEachShown (shows self.old) (λ _ _. result ≢ Err Refusal.Reopen) }
-        ensures poisons { IsErrOf result Refusal.Store → failed self.new }
-        ensures closed { failed self.old → (result ≡ Err Refusal.Reopen) × (self.new ≡ self.old) };
+        ensures fails { FailsSafely shows clean failed
+            (λ refusal. IsTrue (may_answer refusal) ⊎ IsOutage refusal) self.old self.new result };
 
     /// What the desk says of the image.
     fn verdict(&mut self, facts: &Facts) -> Result<Verdict, Refusal>
@@ -69,11 +64,7 @@ pub trait Answering {
             (λ _ cs. said ≡ verdicts.verdict cs facts.now)) }
         ensures same { clean self.new → result ≢ Err Refusal.Store
             → StillShows (shows self.old) (shows self.new) }
-        ensures before { clean self.new → clean self.old }
-        ensures named { IfErr result IsOutage }
-        ensures usable { ForEachShown (shows self.old) (λ _ _. result ≢ Err Refusal.Reopen) }
-        ensures poisons { IsErrOf result Refusal.Store → failed self.new }
-        ensures closed { failed self.old → (result ≡ Err Refusal.Reopen) × (self.new ≡ self.old) };
+        ensures fails { FailsSafely shows clean failed IsOutage self.old self.new result };
 
     /// The request of this number, as the caller is shown it.
     fn request(&mut self, caller: &Caller, number: RequestNumber) -> Result<ShownRequest, Refusal>
@@ -85,11 +76,7 @@ pub trait Answering {
             (λ _ cs. request_for cs caller.now number ≡ Err refusal)) }
         ensures same { clean self.new → result ≢ Err Refusal.Store
             → StillShows (shows self.old) (shows self.new) }
-        ensures before { clean self.new → clean self.old }
-        ensures named { IfErr result IsReadingRefusal }
-        ensures usable { ForEachShown (shows self.old) (λ _ _. result ≢ Err Refusal.Reopen) }
-        ensures poisons { IsErrOf result Refusal.Store → failed self.new }
-        ensures closed { failed self.old → (result ≡ Err Refusal.Reopen) × (self.new ≡ self.old) };
+        ensures fails { FailsSafely shows clean failed IsReadingRefusal self.old self.new result };
 
     /// The requests that the caller is shown, ascending by number.
     fn requests_of(&mut self, caller: &Caller) -> Result<RequestsText, Refusal>
@@ -101,11 +88,7 @@ pub trait Answering {
             (λ _ cs. requests_for cs caller.now ≡ Err refusal)) }
         ensures same { clean self.new → result ≢ Err Refusal.Store
             → StillShows (shows self.old) (shows self.new) }
-        ensures before { clean self.new → clean self.old }
-        ensures named { IfErr result IsReadingRefusal }
-        ensures usable { ForEachShown (shows self.old) (λ _ _. result ≢ Err Refusal.Reopen) }
-        ensures poisons { IsErrOf result Refusal.Store → failed self.new }
-        ensures closed { failed self.old → (result ≡ Err Refusal.Reopen) × (self.new ≡ self.old) };
+        ensures fails { FailsSafely shows clean failed IsReadingRefusal self.old self.new result };
 
     /// The proposals, ascending by number, for an officer.
     fn proposals(&mut self, caller: &Caller) -> Result<ShownProposals, Refusal>
@@ -117,11 +100,7 @@ pub trait Answering {
             (λ _ cs. proposals_for cs caller.now ≡ Err refusal)) }
         ensures same { clean self.new → result ≢ Err Refusal.Store
             → StillShows (shows self.old) (shows self.new) }
-        ensures before { clean self.new → clean self.old }
-        ensures named { IfErr result IsReadingRefusal }
-        ensures usable { ForEachShown (shows self.old) (λ _ _. result ≢ Err Refusal.Reopen) }
-        ensures poisons { IsErrOf result Refusal.Store → failed self.new }
-        ensures closed { failed self.old → (result ≡ Err Refusal.Reopen) × (self.new ≡ self.old) };
+        ensures fails { FailsSafely shows clean failed IsReadingRefusal self.old self.new result };
 
     /// The bytes of an export.
     fn export(&mut self, alloc: Global, what: Export) -> Result<Octets, Refusal>
@@ -129,11 +108,7 @@ pub trait Answering {
             (λ owner cs. bytes ≡ exported what owner cs)) }
         ensures same { clean self.new → result ≢ Err Refusal.Store
             → StillShows (shows self.old) (shows self.new) }
-        ensures before { clean self.new → clean self.old }
-        ensures named { IfErr result IsOutage }
-        ensures usable { ForEachShown (shows self.old) (λ _ _. result ≢ Err Refusal.Reopen) }
-        ensures poisons { IsErrOf result Refusal.Store → failed self.new }
-        ensures closed { failed self.old → (result ≡ Err Refusal.Reopen) × (self.new ≡ self.old) };
+        ensures fails { FailsSafely shows clean failed IsOutage self.old self.new result };
 
     /// The text of the report.
     fn report(&mut self, alloc: Global) -> Result<Octets, Refusal>
@@ -141,9 +116,5 @@ pub trait Answering {
             (λ _ cs. bytes ≡ report cs)) }
         ensures same { clean self.new → result ≢ Err Refusal.Store
             → StillShows (shows self.old) (shows self.new) }
-        ensures before { clean self.new → clean self.old }
-        ensures named { IfErr result IsOutage }
-        ensures usable { ForEachShown (shows self.old) (λ _ _. result ≢ Err Refusal.Reopen) }
-        ensures poisons { IsErrOf result Refusal.Store → failed self.new }
-        ensures closed { failed self.old → (result ≡ Err Refusal.Reopen) × (self.new ≡ self.old) };
+        ensures fails { FailsSafely shows clean failed IsOutage self.old self.new result };
 }

@@ -1,12 +1,9 @@
 -- The answer that is sent: the one that was served, or NoMemory instead.
-use Rattle.std.proofs.Common.{◌≡◌, ◌⊎◌, ℕ, List, inl, inr, refl, sym, subst, true, false, Option, Some, None, IfSome}
+use Rattle.std.proofs.Common.{◌≡◌, ◌⊎◌, ℕ, List, inl, inr, sym, subst, false, Option, Some, None, IfSome}
 use Rattle.desk_history.specs.Calls.{History}
-use Rattle.http_responses.specs.declared.outage.Outage.TheVariants as outage
-use Rattle.http_responses.specs.declared.refused.Refused.TheVariants as refused
-use Rattle.desk_calls.specs.Answers.{Serves, no_memory, store_failed}
+use Rattle.desk_calls.specs.Answers.{Serves, store_failed}
 use Rattle.desk_calls.specs.Desks.{StillShows, ForEachShown}
 use Rattle.desk_calls.specs.declared.answers.Answer.{Answer}
-use Rattle.desk_calls.specs.declared.answers.Answer.TheVariants as answer
 use Rattle.desk_http.specs.Asked.{Asks, Due}
 use Rattle.desk_http.specs.Sending.{Replaces, is_outage}
 use Rattle.desk_http.specs.Serving.{AnswersDue, AnswersInput, IsServed, AnswersDueOrOutage}

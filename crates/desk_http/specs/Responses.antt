@@ -1,5 +1,5 @@
 -- own: the response to each answer, to the byte.
-use Rattle.std.specs.Prelude.{◌≡◌, ℕ, List, [], Option, Some, None, Vec}
+use Rattle.std.specs.Prelude.{ℕ, List, [], Option, Some, None, Vec}
 use Rattle.std.specs.declared.alloc.Global.{Global}
 use Rattle.serde_json.specs.Data.{Data}
 use Rattle.serde_json.specs.Written.{compact_text}

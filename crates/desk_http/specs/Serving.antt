@@ -84,39 +84,8 @@ HasCause watch fault.Read = HasFailed watch
 HasCause watch fault.Write = ⊤
 HasCause watch fault.NoMemory = ⊤
 
--- In the following, `old` and `new` say what the desk showed and shows, `failed` that it has
--- failed; `input` and `left` are the reader's bytes before and after, `before` and `after` the
--- writer's.
-
--- a response that was written is that of an answer to the input at the history that the desk
--- showed, and the desk shows the history after that answer
-abbrev pub IsAnswered : (old new : List ℕ → History → Type 0) → (failed : Type 0) → (input before after : Option (List ℕ)) → Result Served HttpFault → Type 0
-IsAnswered old new failed input before after result = WhenAnswered result (λ answered.
-    IfSome input (λ b. ForEachShown old (λ owner cs. (told : Answer)
-    × Responds before after told answered
-    × AnswersDueOrOutage (new owner) failed cs (AnswersInput owner cs b) told)))
-
--- an input without bytes is ignored: nothing is written, and the desk shows the same history
-abbrev pub IsPassedOver : (old new : List ℕ → History → Type 0) → (input before after : Option (List ℕ)) → Result Served HttpFault → Type 0
-IsPassedOver old new input before after result = WhenNothing result
-    (IfSome input (λ b. ForEachShown old (λ owner cs. (b ≡ []) × Keeps before after × new owner cs)))
-
--- if the request wasn't read, nothing is written, and the desk shows the same history
-abbrev pub IsUnread : (old new : List ℕ → History → Type 0) → (before after : Option (List ℕ)) → Result Served HttpFault → Type 0
-IsUnread old new before after result = WhenUnread result (Keeps before after × StillShows old new)
-
--- if the writer failed, it has a prefix of the response to such an answer, and the desk shows the
--- history after that answer
-abbrev pub IsUnwritten : (old new : List ℕ → History → Type 0) → (failed : Type 0) → (input before after : Option (List ℕ)) → Result Served HttpFault → Type 0
-IsUnwritten old new failed input before after result = WhenUnwritten result
-    (IfSome input (λ b. ForEachShown old (λ owner cs. (told : Answer)
-    × AppendsBeginning before after (response_of told)
-    × AnswersDueOrOutage (new owner) failed cs (AnswersInput owner cs b) told)))
-
--- whatever the desk shows: the bytes that were written are the whole response to an answer, with
--- its status and refusal
-abbrev pub HasResponded : (before after : Option (List ℕ)) → Result Served HttpFault → Type 0
-HasResponded before after result = WhenAnswered result (λ answered. (told : Answer) × Responds before after told answered)
+-- In the following, `input` and `left` are the reader's bytes before and after, `before` and
+-- `after` the writer's.
 
 -- whatever the desk shows: a response that the store failed comes only from a desk that has failed
 abbrev pub FailsFirst : (failed : Type 0) → Result Served HttpFault → Type 0
@@ -144,3 +113,33 @@ LeavesStrangers old input left result =
 -- if a response was sent, whole or in part, the input has a byte
 abbrev pub IsOfBytes : (input : Option (List ℕ)) → Result Served HttpFault → Type 0
 IsOfBytes input result = WhenAnswered result (λ _. HasByte input) × WhenUnwritten result (HasByte input)
+
+-- One exchange of a desk that was `old` and is `new`, in the words of `Answering`; the writer held
+-- `held` and now holds `holds`.
+pub record AnswersOne {D : Type 0} (shows : D → List ℕ → History → Type 0) (clean failed : D → Type 0) (input held holds : Option (List ℕ)) (old new : D) (result : Result Served HttpFault) : Type 0 where
+  -- a response that was written is that of an answer to the input at the history that the desk
+  -- showed, and the desk shows the history after that answer
+  pub answered : clean new → WhenAnswered result (λ answered.
+      IfSome input (λ b. ForEachShown (shows old) (λ owner cs. (told : Answer)
+      × Responds held holds told answered
+      × AnswersDueOrOutage (shows new owner) (failed new) cs (AnswersInput owner cs b) told)))
+  -- an input without bytes is ignored: nothing is written, and the desk shows the same history
+  pub nothing : clean new → WhenNothing result (IfSome input (λ b.
+      ForEachShown (shows old) (λ owner cs. (b ≡ []) × Keeps held holds × shows new owner cs)))
+  -- if the request wasn't read, nothing is written, and the desk shows the same history
+  pub unread : clean new → WhenUnread result (Keeps held holds × StillShows (shows old) (shows new))
+  -- if the writer failed, it has a prefix of the response to such an answer, and the desk shows the
+  -- history after that answer
+  pub unwritten : clean new → WhenUnwritten result
+      (IfSome input (λ b. ForEachShown (shows old) (λ owner cs. (told : Answer)
+      × AppendsBeginning held holds (response_of told)
+      × AnswersDueOrOutage (shows new owner) (failed new) cs (AnswersInput owner cs b) told)))
+  pub some : IsOfBytes input result
+  -- whatever the desk shows: the bytes that were written are the whole response to an answer, with
+  -- its status and refusal
+  pub response : WhenAnswered result (λ answered. (told : Answer) × Responds held holds told answered)
+  pub poisons : FailsFirst (failed new) result
+  -- a desk that had failed doesn't change, and refuses the input
+  pub closed : failed old → (new ≡ old) × RespondsClosed input held holds result
+  -- a disk that is clean after the exchange was clean before
+  pub before : clean new → clean old

@@ -1,5 +1,5 @@
 -- Reasons why a request isn't known.
-use Rattle.std.specs.Prelude.{◌≡◌, ⊤, ℕ, List, Option, Some, None, Result, Ok, Err, IfSome, IsErr}
+use Rattle.std.specs.Prelude.{⊤, ℕ, List, Option, Some, None, Result, Ok, Err, IfSome, IsErr}
 use Rattle.desk_bytes.specs.Watches.{HasFailed}
 use Rattle.desk_bytes.specs.declared.watch.Watch.{Watch}
 use Rattle.desk_history.specs.Calls.{History}

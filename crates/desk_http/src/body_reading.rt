@@ -23,8 +23,8 @@ pub(crate) fn unread(fault: InputFault) -> Unread
     }
 }
 
-/// Reads the `size` bytes of a body, or gives `None` where the input ends before them. Nothing past them is
-/// asked for. Takes memory for what it reads, as it comes.
+/// Reads the `size` bytes of a body, or gives `None` where the input ends before them. Nothing past
+/// them is asked for. Takes memory for what it reads, as it comes.
 pub(crate) fn read_bytes<R: Read>(
     alloc: Global,
     reader: &mut R,

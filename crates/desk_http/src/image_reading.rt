@@ -9,8 +9,8 @@ use pe_image::{Pieces, PiecesFault, Source};
 use std::alloc::Global;
 use std::io::Read;
 
-/// Reads the `size` bytes of an image into pieces, or gives `None` where the input ends before them. Nothing
-/// past them is asked for. Takes memory for what it reads, as it comes.
+/// Reads the `size` bytes of an image into pieces, or gives `None` where the input ends before
+/// them. Nothing past them is asked for. Takes memory for what it reads, as it comes.
 pub(crate) fn read_image<R: Read>(
     alloc: Global,
     reader: &mut R,

@@ -3,7 +3,6 @@ ghost use Rattle.std.specs.Prelude.{◌≡◌, ◌≢◌, ℕ, List, [], Err, No
 ghost use Rattle.std.specs.Prelude.{IsErr, MatchOption, MatchResult};
 ghost use Rattle.httparse.specs.Grammar.{ReadsRequest, RequestHead};
 ghost use Rattle.desk_bytes.specs.declared.watch.Watch.{Watch as Watching};
-ghost use Rattle.http_requests.specs.heads.Fields.{parts_of};
 ghost use Rattle.http_requests.specs.Fields.{bytes_of};
 ghost use Rattle.http_requests.specs.Wanted as wants;
 ghost use Rattle.desk_calls.specs.Desks.{StillShows, ForEachShown};

@@ -97,8 +97,8 @@ fn send_outage<W: Write>(outage: Outage, writer: &mut W) -> Result<Served, HttpF
     send(outage_response(outage), says, writer)
 }
 
-/// Writes the response to an answer, or NoMemory if memory for its text is refused. It is built whole
-/// before its first byte is written.
+/// Writes the response to an answer, or NoMemory if memory for its text is refused. It is built
+/// whole before its first byte is written.
 pub(crate) fn send_answer<W: Write>(
     alloc: Global,
     answer: Answer,

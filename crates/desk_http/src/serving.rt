@@ -1,5 +1,5 @@
 //! One request and its response.
-ghost use Rattle.std.specs.Prelude.{◌≡◌, ◌≢◌, [], ℕ, List, Err, Ok, Some};
+ghost use Rattle.std.specs.Prelude.{◌≡◌, ◌≢◌, [], Err, Ok, Some};
 ghost use Rattle.std.specs.Prelude.{IfErr, IfOk, IfSome, MatchOption, OnErr};
 ghost use Rattle.desk_calls.specs.Answers.{Serves, store_failed};
 ghost use Rattle.desk_calls.specs.Desks.{StillShows, ForEachShown};
@@ -68,13 +68,13 @@ fn answer_input<D: Answering, R: Read>(
     }
 }
 
-/// Serves one connection: reads a request, asks the desk, and writes the response, which is built whole
-/// before its first byte is written. Nothing after the request is read, and the body only once the
-/// caller is known. Takes memory.
+/// Serves one connection: reads a request, asks the desk, and writes the response, which is built
+/// whole before its first byte is written. Nothing after the request is read, and the body only
+/// once the caller is known. Takes memory.
 ///
-/// If memory for an answer or its text is refused, the response is NoMemory, and an accepted command
-/// stays accepted. If the store fails, the response is Store; if it failed before, Reopen. Each has
-/// status 503.
+/// If memory for an answer or its text is refused, the response is NoMemory, and an accepted
+/// command stays accepted. If the store fails, the response is Store; if it failed before, Reopen.
+/// Each has status 503.
 pub fn serve_one<D: Answering, R: Read, W: Write>(
     alloc: Global,
     routes: &Routes,
@@ -82,24 +82,10 @@ pub fn serve_one<D: Answering, R: Read, W: Write>(
     reader: &mut R,
     writer: &mut W,
 ) -> Result<Served, HttpFault>
-    ensures answered { D.clean desk.new → spec.IsAnswered (D.shows desk.old) (D.shows desk.new)
-        (D.failed desk.new) (R.remaining reader.old)
-        (W.contents writer.old) (W.contents writer.new) result }
-    ensures nothing { D.clean desk.new → spec.IsPassedOver (D.shows desk.old) (D.shows desk.new)
-        (R.remaining reader.old) (W.contents writer.old) (W.contents writer.new) result }
-    ensures unread { D.clean desk.new → spec.IsUnread (D.shows desk.old) (D.shows desk.new)
-        (W.contents writer.old) (W.contents writer.new) result }
-    ensures unwritten { D.clean desk.new → spec.IsUnwritten (D.shows desk.old) (D.shows desk.new)
-        (D.failed desk.new) (R.remaining reader.old)
-        (W.contents writer.old) (W.contents writer.new) result }
+    ensures serves { spec.AnswersOne D.shows D.clean D.failed (R.remaining reader.old)
+        (W.contents writer.old) (W.contents writer.new) desk.old desk.new result }
     ensures stranger { D.clean desk.new → spec.LeavesStrangers (D.shows desk.old)
         (R.remaining reader.old) (R.remaining reader.new) result }
-    ensures some { spec.IsOfBytes (R.remaining reader.old) result }
-    ensures response { spec.HasResponded (W.contents writer.old) (W.contents writer.new) result }
-    ensures poisons { spec.FailsFirst (D.failed desk.new) result }
-    ensures closed { D.failed desk.old → (desk.new ≡ desk.old) × spec.RespondsClosed
-        (R.remaining reader.old) (W.contents writer.old) (W.contents writer.new) result }
-    ensures before { D.clean desk.new → D.clean desk.old }
 {
     let mut watch = Watch::new();
     match answer_input(alloc, routes, desk, reader, &mut watch) {

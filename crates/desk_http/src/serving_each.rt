@@ -32,7 +32,8 @@ fn serve_next<D: Answering, W: Write>(
     writer: &mut W,
 ) -> bool
     ensures next { D.clean desk.new → IsTrue result
-        → ServesNext (D.shows desk.old) (D.shows desk.new) (W.contents writer.old) (W.contents writer.new) input.now }
+        → ServesNext (D.shows desk.old) (D.shows desk.new)
+        (W.contents writer.old) (W.contents writer.new) input.now }
     ensures before { D.clean desk.new → D.clean desk.old }
     ensures closed { D.failed desk.old → desk.new ≡ desk.old }
 {
@@ -44,9 +45,9 @@ fn serve_next<D: Answering, W: Write>(
     }
 }
 
-/// Serves inputs one after another, each as a connection of its own, and writes their responses in that
-/// order. Returns the number of inputs served: all, or those before the first that met a fault or whose
-/// response reports that memory or the store failed. Takes memory.
+/// Serves inputs one after another, each as a connection of its own, and writes their responses in
+/// that order. Returns the number of inputs served: all, or those before the first that met a fault
+/// or whose response reports that memory or the store failed. Takes memory.
 pub fn serve_each<D: Answering, W: Write>(
     alloc: Global,
     routes: &Routes,
@@ -56,7 +57,8 @@ pub fn serve_each<D: Answering, W: Write>(
 ) -> usize
     ensures within { result ≤ length inputs.now }
     ensures all { D.clean desk.new → result ≡ length inputs.now
-        → ServesEach (D.shows desk.old) (D.shows desk.new) (W.contents writer.old) (W.contents writer.new) inputs.now }
+        → ServesEach (D.shows desk.old) (D.shows desk.new)
+        (W.contents writer.old) (W.contents writer.new) inputs.now }
     ensures before { D.clean desk.new → D.clean desk.old }
     ensures closed { D.failed desk.old → desk.new ≡ desk.old }
 {

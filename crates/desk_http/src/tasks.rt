@@ -25,8 +25,8 @@ fn read_command(alloc: Global, asked: JsonAsked, body: &[u8]) -> Result<Command,
     }
 }
 
-/// The task of a command with this body. BadBody where a JSON body doesn't say it. Takes memory where the body
-/// is JSON.
+/// The task of a command with this body. BadBody where a JSON body doesn't say it. Takes memory
+/// where the body is JSON.
 pub(crate) fn task_with_body(
     alloc: Global,
     key: Key,

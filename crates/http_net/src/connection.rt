@@ -1,6 +1,6 @@
 //! One request, from a reader or a connection.
 ghost use Rattle.std.specs.Prelude.{◌≡◌};
-ghost use Rattle.desk_http.specs.Serving as spec;
+ghost use Rattle.desk_http.specs.Serving.{AnswersOne, FailsFirst};
 
 use crate::{Timed, read_off};
 use desk_calls::Answering;
@@ -40,19 +40,8 @@ pub fn answer_connection<D: Answering, R: Read + Drop, W: Write>(
     reader: R,
     writer: &mut W,
 ) -> Result<Served, HttpFault>
-    ensures answered { D.clean desk.new → spec.IsAnswered (D.shows desk.old) (D.shows desk.new)
-        (D.failed desk.new) (R.remaining reader) (W.contents writer.old) (W.contents writer.new) result }
-    ensures nothing { D.clean desk.new → spec.IsPassedOver (D.shows desk.old) (D.shows desk.new)
-        (R.remaining reader) (W.contents writer.old) (W.contents writer.new) result }
-    ensures unread { D.clean desk.new → spec.IsUnread (D.shows desk.old) (D.shows desk.new)
-        (W.contents writer.old) (W.contents writer.new) result }
-    ensures unwritten { D.clean desk.new → spec.IsUnwritten (D.shows desk.old) (D.shows desk.new)
-        (D.failed desk.new) (R.remaining reader) (W.contents writer.old) (W.contents writer.new) result }
-    ensures response { spec.HasResponded (W.contents writer.old) (W.contents writer.new) result }
-    ensures poisons { spec.FailsFirst (D.failed desk.new) result }
-    ensures closed { D.failed desk.old → (desk.new ≡ desk.old) × spec.RespondsClosed
-        (R.remaining reader) (W.contents writer.old) (W.contents writer.new) result }
-    ensures before { D.clean desk.new → D.clean desk.old }
+    ensures serves { AnswersOne D.shows D.clean D.failed (R.remaining reader)
+        (W.contents writer.old) (W.contents writer.new) desk.old desk.new result }
 {
     let Ok(mut reader) = BufReader::new(alloc, reader) else {
         return Err(HttpFault::NoMemory);
@@ -70,7 +59,7 @@ pub(crate) fn serve_stream<C: Clock, D: Answering>(
     stream: &TcpStream,
 ) -> Result<Served, HttpFault>
     ensures before { D.clean desk.new → D.clean desk.old }
-    ensures poisons { spec.FailsFirst (D.failed desk.new) result }
+    ensures poisons { FailsFirst (D.failed desk.new) result }
     ensures closed { D.failed desk.old → desk.new ≡ desk.old }
 {
     let reader = Timed::new(clock, stream);

@@ -6,12 +6,7 @@ pub returns-in-Ok-clause-answered : goal.returns-in-Ok-clause-answered
 returns-in-Ok-clause-answered g c = (
   c.answer_connection.result,
   ap work_of c.in-Ok.ensures.value,
-  record {
-    answered = c.answer_connection.ensures.answered;
-    nothing = c.answer_connection.ensures.nothing;
-    unread = c.answer_connection.ensures.unread;
-    unwritten = c.answer_connection.ensures.unwritten;
-  },
+  c.answer_connection.ensures.serves,
 )
 
 pub returns-in-Ok-clause-done : goal.returns-in-Ok-clause-done
@@ -21,12 +16,7 @@ pub returns-in-Err-clause-answered : goal.returns-in-Err-clause-answered
 returns-in-Err-clause-answered g c = (
   c.answer_connection.result,
   ap Err c.from.ensures ∙ ap work_of c.in-Err.ensures.value,
-  record {
-    answered = c.answer_connection.ensures.answered;
-    nothing = c.answer_connection.ensures.nothing;
-    unread = c.answer_connection.ensures.unread;
-    unwritten = c.answer_connection.ensures.unwritten;
-  },
+  c.answer_connection.ensures.serves,
 )
 
 pub returns-in-Err-clause-named : goal.returns-in-Err-clause-named
