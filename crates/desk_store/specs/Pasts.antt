@@ -18,6 +18,7 @@ pub record Kept : Type 0 where
   pub sizes : KeptSizes
   pub person : Option Person
 
+-- the same, by its parts
 abbrev pub kept : KeptSizes → Option Person → Kept
 kept sizes person = record { sizes = sizes; person = person }
 

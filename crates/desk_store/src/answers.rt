@@ -73,9 +73,6 @@ impl<S: Alter + Drop> Desk<S> {
         ensures reads { ReadsDesk S.Store IsFailure self.old self.new result }
     {
         tables_count_their_history();
-        match self.answer_question(&HowMany) {
-            Ok(counted) => Ok(counted),
-            Err(refusal) => Err(refusal),
-        }
+        self.answer_question(&HowMany)
     }
 }

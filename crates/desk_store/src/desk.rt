@@ -210,10 +210,7 @@ impl<S: Alter + Drop> Desk<S> {
             Ok(acted) => {
                 stop_leaves_what_is_shown(&self.conn);
                 self.sizes = acted.sizes;
-                match result_of(acted.answer) {
-                    Ok(reply) => Ok(reply),
-                    Err(refusal) => Err(refusal),
-                }
+                result_of(acted.answer)
             }
             Err(refusal) => {
                 self.needs_reopening = refusal == Refusal::Store;

@@ -97,8 +97,5 @@ pub fn restart<D: Crash + Drop>(
     ensures named { IfErr result (λ e. (e.0 ≡ Refusal.Version) ⊎ IsReadRefusal e.0) }
     ensures unopened { IfErr result (λ e. e.1 ≡ None → e.0 ≡ Refusal.Store) }
 {
-    match reopen(alloc, crashed(desk.release()), options) {
-        Ok(again) => Ok(again),
-        Err((refusal, left)) => Err((refusal, left)),
-    }
+    reopen(alloc, crashed(desk.release()), options)
 }
