@@ -1,11 +1,10 @@
 //! The report of a desk.
-ghost use Rattle.std.specs.Prelude.{◌≡◌, ◌≢◌, Err, IfErr, IfOk, IsErrOf, false, string_bytes, true};
+ghost use Rattle.std.specs.Prelude.{◌≡◌, IfOk, string_bytes};
 ghost use Rattle.sqlite.specs.Held.{state};
 ghost use Rattle.sqlite.specs.State.{HasCleanDisk};
 ghost use Rattle.desk_exports.specs.Reports as exports;
 ghost use Rattle.store_reads.specs.Failures.{IsFailure};
-ghost use Rattle.store_sql.specs.States.{Spares};
-ghost use Rattle.desk_store.specs.Desks.{ForEachShown, KeepsDesk};
+ghost use Rattle.desk_store.specs.Desks.{ForEachShown, ReadsDesk};
 
 use desk_bytes::Refusal;
 use desk_store::Desk;
@@ -20,17 +19,9 @@ use store_counts::report_is_the_history;
 pub fn report<S: Alter + Drop>(alloc: Global, desk: &mut Desk<S>) -> Result<String, Refusal>
     ensures shown { HasCleanDisk (state S.Store desk.new.conn) → IfOk result (λ text.
         ForEachShown S.Store desk.old (λ _ cs. string_bytes text ≡ exports.report cs)) }
-    ensures same { HasCleanDisk (state S.Store desk.new.conn) → result ≢ Err Refusal.Store
-        → KeepsDesk S.Store desk.old desk.new }
-    ensures spares { Spares S.Store desk.old.conn desk.new.conn }
+    ensures reads { ReadsDesk S.Store IsFailure desk.old desk.new result }
     ensures before { HasCleanDisk (state S.Store desk.new.conn)
         → HasCleanDisk (state S.Store desk.old.conn) }
-    ensures poisons { IsErrOf result Refusal.Store → desk.new.needs_reopening ≡ true }
-    ensures steady { result ≢ Err Refusal.Store
-        → desk.new.needs_reopening ≡ desk.old.needs_reopening }
-    ensures closed { desk.old.needs_reopening ≡ true
-        → (result ≡ Err Refusal.Reopen) × (desk.new ≡ desk.old) }
-    ensures named { desk.old.needs_reopening ≡ false → IfErr result IsFailure }
 {
     report_is_the_history();
     let counts = match desk.counts() {
