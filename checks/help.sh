@@ -6,8 +6,8 @@
 # that is made on the spot, then on inputs that are refused, without arguments, and on files that
 # can't be opened: the status is the one that help says, and a line on standard error names a
 # refusal that help has for it. The version is the newest in CHANGELOG.md, and its kit that of
-# README.md and of `rt version`, if rt is on the PATH. It needs python3 and a port from 20000 to
-# 32000.
+# README.md; the kit's logic is that of `rt version`, if rt is on the PATH (machines may have kits of
+# other names with the same logic). It needs python3 and a port from 20000 to 32000.
 set -eu
 root=$(CDPATH='' cd -- "$(dirname -- "$(readlink -f -- "$0")")/.." && pwd -P)
 if [ $# -gt 0 ]; then
@@ -46,8 +46,9 @@ newest=$(sed -n '/^## /{s/^## \([^ ,]*\).*/\1/p;q}' "$root/CHANGELOG.md")
 [ "$version" = "desk $newest ($kit)" ] || fail "the version is $version, and CHANGELOG.md begins with $newest"
 grep -qF "Proved with \`$kit\`." "$root/README.md" || fail "README.md names another kit than $kit"
 if command -v rt > /dev/null; then
-    [ "$kit" = "$(rt version)" ] || fail "the kit is $(rt version), and crates/cli_grammar/src/help.rt says $kit"
-    compared='its kit is that of rt'
+    here=$(rt version)
+    [ "${kit##* }" = "${here##* }" ] || fail "the kit is $here, and crates/cli_grammar/src/help.rt says $kit"
+    if [ "$kit" = "$here" ]; then compared='its kit is that of rt'; else compared="its kit has the logic of $here"; fi
 else
     compared='no rt, so its kit was compared with README.md alone'
 fi

@@ -5,7 +5,7 @@
 
 /// The program's version, and the kit that proves it: the line of `rt version`, which
 /// checks/help.sh compares.
-pub const VERSION: &str = "0.1.0 (rattle-kit-13f logic dac8208d650f15bf)";
+pub const VERSION: &str = "0.1.0 (rattle-kit-13b logic dac8208d650f15bf)";
 
 /// Each row begins the subcommand's own help.
 pub const DESK: &str = "\
