@@ -5,6 +5,8 @@
 # backticks; an empty second cell stands for a clause without a name. The row claims every one of these clauses of every one of these
 # calls. In docs/PROVED.md a call has its crate in front (`desk_store::Desk::open`); in crates/CRATE/README.md it is a call of CRATE.
 #
+# A table that begins `| Field of RECORD |` has each field of that record of CRATE's specs, once.
+#
 # Fails if a row names a call that CRATE doesn't offer, or a clause that the call doesn't have, and
 # if a clause of a public call of the crates in FULL (each that has a library) isn't claimed in its
 # README, or is claimed there twice. The last line is `N rows, M missing`.
@@ -74,6 +76,35 @@ for path in sorted(glob.glob('crates/*/README.md')):
             for clause in clauses:
                 if (call, clause) not in claimed:
                     say(f'{path}: no row for {clause or "the clause"} of {call}')
+
+# A table of a README that begins `| Field of `RECORD` |`: its rows have each field of the record of the crate's specs, once.
+def fields_of(crate, record):
+    for path in glob.glob(f'crates/{crate}/specs/**/*.antt', recursive=True):
+        found = re.search(rf'^pub record {record} .*\n((?:  .*\n)*)', open(path, encoding='utf-8').read(), re.M)
+        if found:
+            return re.findall(r'^  pub ([a-z_]+) :', found.group(1), re.M)
+    return []
+
+for path in sorted(glob.glob('crates/*/README.md')):
+    crate, record, left = path.split('/')[1], '', []
+    for number, line in enumerate([*open(path, encoding='utf-8'), ''], 1):
+        begins = re.match(r'\| Field of `(\w+)` \|', line)
+        if begins:
+            record = begins.group(1)
+            left = fields_of(crate, record)
+            if not left:
+                say(f'{path}:{number}: {crate} has no record {record}')
+        elif record and line.startswith('| '):
+            rows += 1
+            for field in re.findall(r'`([^`]+)`', line.split('|')[1]):
+                if field in left:
+                    left.remove(field)
+                else:
+                    say(f'{path}:{number}: {record} has no field {field}, or another row has it')
+        elif record and not line.startswith('|'):
+            for field in left:
+                say(f'{path}: no row for {field} of {record}')
+            record = ''
 
 for number, calls, clauses in claims('docs/PROVED.md'):
     rows += 1
