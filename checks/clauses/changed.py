@@ -2,7 +2,7 @@
 import collections
 import sys
 
-from clauses import calls_of, crates
+from clauses import calls_of, crates, facts, records
 
 OLD, NEW = sys.argv[1:3]
 RENAMED = dict(it.split("=") for it in sys.argv[3:])
@@ -22,8 +22,11 @@ def short(call):
 
 
 new = collections.defaultdict(list)
+known = records(NEW)
 for crate, call, kind, name, text in clauses_in(NEW, {}):
     new[short(call), kind, name].append((crate, call, text))
+    for field, tokens in facts(text.split(), known):
+        new[short(call), kind, field].append((crate, call, " ".join(tokens)))
 kept, changed, gone = 0, [], []
 for crate, call, kind, name, text in clauses_in(OLD, RENAMED):
     now = new[short(call), kind, name]

@@ -16,7 +16,11 @@ def plain(text):
 
 
 def words(path):
-    return re.findall(r'[A-Za-z_][A-Za-z_0-9]*|::|->|\S', plain(open(path, encoding='utf-8').read()))
+    return tokens_of(plain(open(path, encoding='utf-8').read()))
+
+
+def tokens_of(text):
+    return re.findall(r'[A-Za-z_][A-Za-z_0-9]*|::|->|\S', text)
 
 
 def end_of(tokens, at):
@@ -108,3 +112,43 @@ def calls_of(crate, root='.'):
             if public and (owner or name) in names:
                 calls.setdefault(f'{owner}::{name}' if owner else name, []).extend(clauses)
     return calls
+
+
+def records(root='.'):
+    """Each record of the specs: its parameters, and its fields with their tokens; refusals are named as in sources."""
+    found = {}
+    for path in sorted(glob.glob(f'{root}/crates/*/specs/**/*.antt', recursive=True)):
+        text = re.sub(r'--[^\n]*', '', open(path, encoding='utf-8').read())
+        aliases = {short: kind for kind, short in re.findall(r'\.(\w+)\.TheVariants as (\w+)', text)}
+        for name, head, body in re.findall(r'^pub record (\w+)(.*) where\n((?:(?:  .*)?\n)*)', text, re.M):
+            given = re.sub(r'\{[^}]*\}', '', head)
+            parameters = [it for names in re.findall(r'\(([^():]*) :', given) for it in names.split()]
+            fields = re.split(r'^  pub (\w+) :', body, flags=re.M)[1:]
+            found[name] = parameters, [
+                (field, [aliases.get(it, it) for it in tokens_of(of)]) for field, of in zip(fields[::2], fields[1::2])
+            ]
+    return found
+
+
+def facts(tokens, known):
+    """If a clause is a record, its fields with the clause's words in place of the parameters: their names and tokens."""
+    if tokens[1:2] == ['.']:
+        tokens = tokens[2:]
+    if not tokens or tokens[0] not in known:
+        return
+    parameters, fields = known[tokens[0]]
+    words_of, at = [], 1
+    while at < len(tokens):
+        after = end_of(tokens, at) if tokens[at] in '({[' else at + 1
+        while after + 1 < len(tokens) and tokens[after] == '.':
+            after += 2
+        words_of.append(tokens[at:after])
+        at = after
+    if len(words_of) == len(parameters):
+        put = dict(zip(parameters, words_of))
+        for name, of in fields:
+            yield name, [
+                word
+                for before, token in zip(['', *of], of)
+                for word in (put[token] if token in put and before != '.' else [token])
+            ]
