@@ -2,7 +2,7 @@
 use Rattle.std.proofs.Common.{◌≡◌, ℕ, Bool, true, false, not, List, [], ◌∷◌, Option, None, Some, Result, filter, refl, sym, ap, subst, ◌∙◌}
 use Rattle.std.specs.Prelude.{IfSome, if◌then◌else◌, bytes_eq}
 use Rattle.std.specs.List.{list_any}
-use Rattle.std.proofs.lemmas.Bool.{and_parts, or_parts}
+use Rattle.std.proofs.lemmas.Bool.{and_parts, not-true, or_parts}
 use Rattle.sqlite.specs.Store as store
 use Rattle.desk_bytes.specs.declared.refusal.Refusal.{Refusal}
 use Rattle.desk_texts.specs.declared.command.Person.{Person}
@@ -54,16 +54,12 @@ none_found p (x ∷ xs) h =
     let parts : (p x ≡ false) × (list_any p xs ≡ false) = or_parts (p x) (list_any p xs) h in
     rw parts.0 (none_found p xs parts.1)
 
-not_true : (b : Bool) → not b ≡ true → b ≡ false
-not_true true h = absurd (let k = h in cc)
-not_true false h = refl
-
 only_named : (p : Person → Bool) (b : Person) (xs : List Person) → are_apart (λ (c d : Person). bytes_eq c.name d.name) xs ≡ true → filter p xs ≡ b ∷ [] → filter (has_name b.name) xs ≡ b ∷ []
 only_named p b [] apart is = absurd (let h = is in cc)
 only_named p b (x ∷ xs) apart is =
     let parts : (not (list_any (has_name x.name) xs) ≡ true) × (are_apart (λ (c d : Person). bytes_eq c.name d.name) xs ≡ true) =
     and_parts (not (list_any (has_name x.name) xs)) (are_apart (λ (c d : Person). bytes_eq c.name d.name) xs) apart in
-    let none : filter (has_name x.name) xs ≡ [] = none_found (has_name x.name) xs (not_true (list_any (has_name x.name) xs) parts.0) in
+    let none : filter (has_name x.name) xs ≡ [] = none_found (has_name x.name) xs (not-true (list_any (has_name x.name) xs) parts.0) in
     let own : filter (has_name x.name) (x ∷ xs) ≡ x ∷ [] = rw (bytes_eq-refl x.name) (ap (λ l. x ∷ l) none) in
     elim (p x) as (λ t. (if t then x ∷ filter p xs else filter p xs) ≡ b ∷ [] → filter (has_name b.name) (x ∷ xs) ≡ b ∷ []) [
       | true ↦ λ at. (let same : x ≡ b = (let h = at in cc) in subst (λ (c : Person). filter (has_name c.name) (x ∷ xs) ≡ c ∷ []) same own)
