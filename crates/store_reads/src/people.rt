@@ -29,8 +29,8 @@ pub fn person_named<S: Alter>(
     Ok(person)
 }
 
-/// A copy of a person who is kept, if the name is theirs. It saves the read of the row while
-/// nothing else is known of the person (`IsOneOf`). Takes memory for the copy.
+/// A copy of the kept person, if the name is theirs. If that person is one of the desk's people
+/// (`IsOneOf`), the row of the name needn't be read. Takes memory for the copy.
 pub fn kept_named(kept: Option<&Person>, name: &str) -> Result<Option<Person>, ReadFault>
     ensures exact { IfOk result (λ person.
         listed person ≡ filter (has_name name.now) (listed (option_copied kept.entry))) }
