@@ -3,7 +3,7 @@
 use Rattle.std.specs.Prelude.{ℕ, ◌+◌, ◌==◌, Bool, List, [], ◌∷◌, length, filter_map, find, Option, Some, None}
 use Rattle.std.specs.Option.{option_map_or}
 use Rattle.desk_texts.specs.Callers.{caller_name}
-use Rattle.desk_texts.specs.Imports.{Imported}
+use Rattle.desk_texts.specs.Imports.{Imported, no_entries}
 use Rattle.desk_texts.specs.declared.command.Call.{Call}
 use Rattle.desk_texts.specs.declared.command.Command.{Command}
 use Rattle.desk_texts.specs.declared.command.Command.TheVariants as command
@@ -18,10 +18,6 @@ use Rattle.desk_history.specs.Calls.{First, History, Item, Second}
 pub record Named : Type 0 where
   pub kind : ProposalKind
   pub entries : Imported
-
--- an import that names nothing
-abbrev pub no_entries : Imported
-no_entries = record { stamp = None; passed = 0; digests = []; certificates = []; components = [] }
 
 -- the entries that a command names to be revoked or raised: four commands name some
 abbrev pub named_by : Command → Option Named

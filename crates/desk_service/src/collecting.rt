@@ -10,9 +10,9 @@ ghost use Rattle.desk_service.specs.ImageFacts.{sbat_bytes, table_bytes};
 use crate::fault::FactsFault;
 use crate::part::read_part;
 use authenticode::{carried, sums};
-use desk_texts::{Carried, Components, Extent, Facts};
-use pe_image::{Layout, Source, gap, layout, sbat_range, table};
-use sbat::components;
+use desk_texts::{Carried, Facts};
+use pe_image::{Layout, Source, layout, lengths, sbat_range, table};
+use sbat::{Components, components};
 use std::alloc::Global;
 
 /// The certificates that an image with this layout carries.
@@ -50,8 +50,7 @@ fn read_components<S: Source>(
     ensures reads { OnlyReads S.content S.failures source.old source.new }
 {
     let text = read_part(alloc, source, sbat_range(layout))?;
-    let found = components(alloc, &text)?;
-    Ok(Components::of(found))
+    Ok(components(alloc, &text)?)
 }
 
 /// The facts of an image that the desk keeps. Each piece of 65,536 bytes of the source is read
@@ -70,12 +69,11 @@ pub fn facts<S: Source>(alloc: Global, source: &mut S) -> Result<Facts, FactsFau
     ensures reads { OnlyReads S.content S.failures source.old source.new }
 {
     let layout = layout(source)?;
-    let extent = Extent::of(source.len(), gap(&layout));
     let hashes = sums(source, &layout)?;
     let carried = read_carried(alloc, source, &layout)?;
     let components = read_components(alloc, source, &layout)?;
     Ok(Facts {
-        extent,
+        extent: lengths(&layout),
         file: hashes.file,
         digest: hashes.digest,
         signing: hashes.signing,

@@ -1,5 +1,5 @@
 -- Entries of one import.
-use Rattle.std.specs.Prelude.{ℕ, ◌+◌, List, Option, length}
+use Rattle.std.specs.Prelude.{ℕ, ◌+◌, List, [], Option, None, length}
 use Rattle.sbat.specs.declared.component.Component.{Component}
 
 -- the stamp of its level, if it has one; how many entries it skips; and the entries that it names,
@@ -10,6 +10,10 @@ pub record Imported : Type 0 where
   pub digests : List (List ℕ)
   pub certificates : List (List ℕ)
   pub components : List Component
+
+-- an import that names nothing
+abbrev pub no_entries : Imported
+no_entries = record { stamp = None; passed = 0; digests = []; certificates = []; components = [] }
 
 -- own: skipped entries count as those that are named
 abbrev pub named_count : ℕ → List (List ℕ) → List (List ℕ) → List Component → ℕ

@@ -3,7 +3,6 @@ pub mod Carrying
 pub mod Certificates
 pub mod CommandTexts
 pub mod Commands
-pub mod Extents
 pub mod Formed
 pub mod Forms
 pub mod Imports

@@ -1,20 +1,8 @@
 //! Copies of commands and of their parts.
-ghost use Rattle.std.specs.Prelude.{◌≡◌, IfOk};
+ghost use Rattle.std.specs.Prelude.{◌≡◌};
 
 use crate::{Ballot, Call, Command, Person, Raise, Reply, ReturnedFile, Submission};
-use sbat::Component;
-use std::alloc::{AllocError, Global};
-
-/// Copies of components. Takes memory for them.
-pub(crate) fn copies(alloc: Global, components: &[Component]) -> Result<Vec<Component>, AllocError>
-    ensures { IfOk result (λ copied. copied.items ≡ components.now) }
-{
-    let mut copied = Vec::with_capacity(alloc, components.len())?;
-    for component in components {
-        copied.push(component.clone()?)?;
-    }
-    Ok(copied)
-}
+use std::alloc::AllocError;
 
 impl Clone for Person {
     ghost is_clone = { λ person copy. copy ≡ person };

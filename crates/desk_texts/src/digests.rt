@@ -1,10 +1,10 @@
 //! The digests that an import names.
-ghost use Rattle.std.specs.Prelude.{◌≡◌, ◌<◌, ◌≤◌, ℕ, List, MatchOption, length};
+ghost use Rattle.std.specs.Prelude.{◌≡◌, ◌<◌, ◌≤◌, ◌∷◌, [], ℕ, IfOk, List, MatchOption, length};
 ghost use Rattle.desk_texts.specs.Forms.{most_imported};
 
 use crate::import::MOST_IMPORTED;
 use desk_bytes::Digest;
-use std::alloc::AllocError;
+use std::alloc::{AllocError, Global};
 use std::marker::Model;
 
 /// Digests in the order of an import, repeats kept, at most `MOST_IMPORTED`. A contract sees the
@@ -23,12 +23,21 @@ impl Model for Digests {
 }
 
 impl Digests {
-    /// Digests within the limit.
-    pub fn of(digests: Vec<Digest>) -> Digests
-        requires { length digests.items ≤ most_imported }
-        ensures { result ≡ digests.items }
+    /// No digests.
+    pub(crate) fn none(alloc: Global) -> Digests
+        ensures { result ≡ [] }
     {
+        let digests = Vec::new(alloc);
         Digests { digests }
+    }
+
+    /// One digest. Takes memory for it.
+    pub(crate) fn one(alloc: Global, digest: Digest) -> Result<Digests, AllocError>
+        ensures { IfOk result (λ digests. digests ≡ digest ∷ []) }
+    {
+        let mut digests = Vec::new(alloc);
+        digests.push(digest)?;
+        Ok(Digests { digests })
     }
 
     /// The digests, or `None` if there are more than `MOST_IMPORTED`.
@@ -39,7 +48,7 @@ impl Digests {
         if MOST_IMPORTED < digests.len() {
             return None;
         }
-        Some(Digests::of(digests))
+        Some(Digests { digests })
     }
 
     /// The digests.

@@ -2,9 +2,9 @@
 ghost use Rattle.std.specs.Prelude.{◌≡◌};
 
 use crate::carried::Carried;
-use crate::components::Components;
-use crate::extent::Extent;
 use desk_bytes::Digest;
+use pe_image::Extent;
+use sbat::Components;
 use std::alloc::AllocError;
 
 /// The facts of an image that the desk keeps: the lengths of its file and of its gap, the SHA-256

@@ -1,11 +1,13 @@
 //! Entries of one import.
-ghost use Rattle.std.specs.Prelude.{◌≡◌, ◌<◌, ◌≤◌, MatchOption};
+ghost use Rattle.std.specs.Prelude.{◌≡◌, ◌<◌, ◌≤◌, ◌∷◌, [], IfOk, MatchOption, Some, bytes_eq, true};
+ghost use Rattle.sbat.specs.Fields.{sbat};
 ghost use Rattle.desk_texts.specs.Forms.{most_imported};
-ghost use Rattle.desk_texts.specs.Imports.{Imported, named_count};
+ghost use Rattle.desk_texts.specs.Imports.{Imported, named_count, no_entries};
 
-use crate::{Digests, ImportedComponents};
+use crate::{Digests, ImportedComponents, Raise};
+use desk_bytes::Digest;
 use sbat::Stamp;
-use std::alloc::AllocError;
+use std::alloc::{AllocError, Global};
 use std::marker::Model;
 
 /// The most entries of one import, including those that it skips.
@@ -43,30 +45,54 @@ impl Model for Import {
 }
 
 impl Import {
-    /// The import of these entries, within the limit.
-    pub fn of(
-        stamp: Option<Stamp>,
-        passed: u64,
-        digests: Digests,
-        certificates: Digests,
-        components: ImportedComponents,
-    ) -> Import
-        requires { named_count passed digests certificates components ≤ most_imported }
-        ensures { result ≡ record {
-          stamp = stamp;
-          passed = passed;
-          digests = digests;
-          certificates = certificates;
-          components = components;
-        } }
+    /// One digest of an image. Takes memory for it.
+    pub fn of_digest(alloc: Global, digest: Digest) -> Result<Import, AllocError>
+        ensures { IfOk result (λ import. import ≡ record no_entries { digests = digest ∷ [] }) }
     {
-        Import {
-            stamp,
-            passed,
+        let digests = Digests::one(alloc, digest)?;
+        Ok(Import {
+            stamp: None,
+            passed: 0,
             digests,
+            certificates: Digests::none(alloc),
+            components: ImportedComponents::none(alloc),
+        })
+    }
+
+    /// One digest of a certificate. Takes memory for it.
+    pub fn of_certificate(alloc: Global, digest: Digest) -> Result<Import, AllocError>
+        ensures { IfOk result (λ import. import ≡ record no_entries { certificates = digest ∷ [] }) }
+    {
+        let certificates = Digests::one(alloc, digest)?;
+        Ok(Import {
+            stamp: None,
+            passed: 0,
+            digests: Digests::none(alloc),
             certificates,
+            components: ImportedComponents::none(alloc),
+        })
+    }
+
+    /// One component with its generation, and the stamp of the level that requires it, or `None` if
+    /// the component is named `sbat`. Takes memory for a copy of the component.
+    pub fn of_raise(alloc: Global, raise: &Raise) -> Result<Option<Import>, AllocError>
+        ensures { IfOk result (λ found. MatchOption found
+            (bytes_eq raise.now.component.name sbat ≡ true)
+            (λ import. import ≡ record no_entries {
+              stamp = Some raise.now.stamp;
+              components = raise.now.component ∷ [];
+            })) }
+    {
+        let Some(components) = ImportedComponents::one(alloc, &raise.component)? else {
+            return Ok(None);
+        };
+        Ok(Some(Import {
+            stamp: Some(raise.stamp),
+            passed: 0,
+            digests: Digests::none(alloc),
+            certificates: Digests::none(alloc),
             components,
-        }
+        }))
     }
 
     /// The import of these, or `None` if they are more than `MOST_IMPORTED` entries in all.
@@ -97,7 +123,13 @@ impl Import {
         if room < passed {
             return None;
         }
-        Some(Import::of(stamp, passed, digests, certificates, components))
+        Some(Import {
+            stamp,
+            passed,
+            digests,
+            certificates,
+            components,
+        })
     }
 
     /// The stamp of the level that it names, if it names one.

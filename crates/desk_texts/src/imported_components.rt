@@ -1,12 +1,13 @@
 //! The components that an import names.
-ghost use Rattle.std.specs.Prelude.{◌≡◌, ◌<◌, ◌≤◌, ◌⊎◌, List, MatchOption, false, length, true};
+ghost use Rattle.std.specs.Prelude.{◌≡◌, ◌<◌, ◌≤◌, ◌⊎◌, ◌∷◌, [], IfOk, List, MatchOption};
+ghost use Rattle.std.specs.Prelude.{bytes_eq, false, length, true};
+ghost use Rattle.sbat.specs.Fields.{sbat};
 ghost use Rattle.desk_texts.specs.Forms.{most_imported};
 ghost use Rattle.desk_texts.specs.Raising.{names_no_sbat};
 
-use crate::copying::copies;
 use crate::import::MOST_IMPORTED;
 use sbat::Component;
-use std::alloc::AllocError;
+use std::alloc::{AllocError, Global};
 use std::marker::Model;
 
 /// Components in the order of an import, repeats kept, at most `MOST_IMPORTED`, none of them named
@@ -40,13 +41,30 @@ fn is_without_sbat(components: &[Component]) -> bool
 }
 
 impl ImportedComponents {
-    /// Components within the limit, none of them named `sbat`.
-    pub fn of(components: Vec<Component>) -> ImportedComponents
-        requires few { length components.items ≤ most_imported }
-        requires other { names_no_sbat components.items ≡ true }
-        ensures { result ≡ components.items }
+    /// No components.
+    pub(crate) fn none(alloc: Global) -> ImportedComponents
+        ensures { result ≡ [] }
     {
+        let components = Vec::new(alloc);
         ImportedComponents { components }
+    }
+
+    /// One component, or `None` if it is named `sbat`. Takes memory for a copy of it.
+    pub(crate) fn one(
+        alloc: Global,
+        component: &Component,
+    ) -> Result<Option<ImportedComponents>, AllocError>
+        ensures { IfOk result (λ found. MatchOption found
+            (bytes_eq component.now.name sbat ≡ true)
+            (λ components. components ≡ component.now ∷ [])) }
+    {
+        if component.name.is_sbat() {
+            return Ok(None);
+        }
+        let copy = component.clone()?;
+        let mut components = Vec::new(alloc);
+        components.push(copy)?;
+        Ok(Some(ImportedComponents { components }))
     }
 
     /// The components, or `None` if there are more than `MOST_IMPORTED` or one is named `sbat`.
@@ -61,7 +79,7 @@ impl ImportedComponents {
         if !is_without_sbat(&components) {
             return None;
         }
-        Some(ImportedComponents::of(components))
+        Some(ImportedComponents { components })
     }
 
     /// The components.
@@ -87,7 +105,7 @@ impl Clone for ImportedComponents {
 
     /// A copy. Takes memory for its components.
     fn clone(&self) -> Result<ImportedComponents, AllocError> {
-        let components = copies(*self.components.allocator(), &self.components)?;
+        let components = self.components.clone()?;
         Ok(ImportedComponents { components })
     }
 }

@@ -42,7 +42,7 @@ end-by_table : (f : List ℕ) → end_by (table_of f) (length f) ≡ image_end f
 end-by_table f = elim (has_table f) as (λ b. end_by (if b then Some (span (table_offset f) (table_offset f + table_size f)) else None) (length f) ≡ (if b then table_offset f else length f)) [ true ↦ refl | false ↦ refl ]
 
 -- the places that were read part by part are those of the file
-pub places-read : (f : List ℕ) (checksum_read : Span) (z size end between last : ℕ) (entry_read table_read text_read : Option Span) (ss : List Span)
+pub places-read : (f : List ℕ) (checksum_read : Span) (z size end between last size_read : ℕ) (entry_read table_read text_read : Option Span) (ss : List Span)
     → checksum_read ≡ span (pe_signature_offset f + 88) (pe_signature_offset f + 88 + 4)
     → entry_read ≡ certificate_directory_of f
     → z ≡ size_of_headers f
@@ -51,11 +51,12 @@ pub places-read : (f : List ℕ) (checksum_read : Span) (z size end between last
     → end ≡ sections_end f
     → table_read ≡ table_of f
     → last ≡ end_by table_read (length f)
+    → size_read ≡ length f
     → between ≡ end - size
     → text_read ≡ text_at (sbat_section (headers f))
-    → record { checksum = checksum_read; certificate_directory = entry_read; headers_end = z; sections = ss; sum_of_bytes_hashed = size; image_end = last; gap = between; table = table_read; sbat = text_read } ≡ places_of f
+    → record { checksum = checksum_read; certificate_directory = entry_read; headers_end = z; sections = ss; sum_of_bytes_hashed = size; image_end = last; length = size_read; gap = between; table = table_read; sbat = text_read } ≡ places_of f
 unfolding places_of
-places-read f checksum_read z size end between last entry_read table_read text_read ss at has above sections sized reaches table lasts left text =
+places-read f checksum_read z size end between last size_read entry_read table_read text_read ss at has above sections sized reaches table lasts long left text =
     let until : last ≡ image_end f = lasts ∙ ap (λ t. end_by t (length f)) table ∙ end-by_table f in
     let sum : pe_signature_offset f + 88 ≡ checksum_offset f = omega arith in
     cc

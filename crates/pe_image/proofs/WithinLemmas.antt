@@ -1,5 +1,5 @@
 -- Bounds of a layout that the checks give.
-use Rattle.std.proofs.Common.{◌≡◌, ◌+◌, ◌≤◌, ◌<◌, ◌==◌, ◌++◌, ℕ, true, false, if◌then◌else◌, List, [], ◌∷◌, length, min, map, filter, find, Some, None, IfSome, nat_lt, nat_le, refl, sym, subst, ◌∙◌, inl, inr, arith}
+use Rattle.std.proofs.Common.{◌≡◌, ◌+◌, ◌-◌, ◌≤◌, ◌<◌, ◌==◌, ◌++◌, ℕ, true, false, if◌then◌else◌, List, [], ◌∷◌, length, min, map, filter, find, Some, None, IfSome, nat_lt, nat_le, refl, sym, subst, ◌∙◌, inl, inr, arith}
 use Rattle.std.specs.List.{list_all}
 use Rattle.std.proofs.lemmas.Bool.{leb-true, and_from, and_parts, cases_lt}
 use Rattle.std.proofs.lemmas.Bool.Decides.{nat_tests}
@@ -7,7 +7,7 @@ use Rattle.std.proofs.lemmas.List.Elements.{All-append, All-filter}
 use Rattle.std.proofs.lemmas.List.Sums.{AllPass-from_list_all}
 use Rattle.pe_image.specs.Checks.{IsLaid}
 use Rattle.pe_image.specs.Headers.{is_raw, raw_of, span_of}
-use Rattle.pe_image.specs.Image.{checksum_offset, has_certificate_directory, has_table, certificate_directory_offset, headers, size_of_headers, raw, sum_of_bytes_hashed, image_end, table_offset, table_size}
+use Rattle.pe_image.specs.Image.{checksum_offset, has_certificate_directory, has_table, certificate_directory_offset, headers, size_of_headers, raw, sum_of_bytes_hashed, image_end, sections_end, table_offset, table_size}
 use Rattle.pe_image.specs.Sbat.{is_sbat, sbat_section, text_at, text_size}
 use Rattle.pe_image.specs.declared.header.Header.{Header}
 use Rattle.pe_image.specs.Places.{Places, places_of, spans_of, table_of, IsLayoutOf}
@@ -141,6 +141,13 @@ parts-within f laid =
       sbat = sbat-within (length f) (headers f) p.ends;
       gap = omega (arith, end);
     }
+
+-- the gap of an image that is accepted is no longer than it
+pub gap-within : (f : List ℕ) (size end between : ℕ) → IsLaid f → size ≡ sum_of_bytes_hashed f → end ≡ sections_end f → between ≡ end - size → between ≤ length f
+unfolding places_of
+gap-within f size end between laid sized reaches left =
+    let gap : sections_end f - sum_of_bytes_hashed f ≤ length f = (parts-within f laid).gap in
+    omega (arith, gap, sized, reaches, left)
 
 -- the places of an image that is accepted are its layout
 pub layout-of : (f : List ℕ) (p : Places) → IsLaid f → p ≡ places_of f → IsLayoutOf f p

@@ -1,4 +1,5 @@
 pub mod Checks
+pub mod Extents
 pub mod Faults
 pub mod Hashed
 pub mod Headers

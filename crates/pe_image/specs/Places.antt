@@ -15,6 +15,7 @@ pub record Places : Type 0 where
   pub sections : List Span
   pub sum_of_bytes_hashed : ℕ
   pub image_end : ℕ
+  pub length : ℕ
   pub gap : ℕ
   pub table : Option Span
   pub sbat : Option Span
@@ -42,6 +43,7 @@ places_of f = record {
   sections = in_order (raw f);
   sum_of_bytes_hashed = image.sum_of_bytes_hashed f;
   image_end = image.image_end f;
+  length = length f;
   gap = image.gap f;
   table = table_of f;
   sbat = text_at (sbat_section (headers f));

@@ -5,7 +5,7 @@ ghost use Rattle.pe_image.specs.Sources.{OnlyReads};
 ghost use Rattle.pe_image.specs.Steps.Front.{IsFront};
 
 use crate::fault::LayoutFault;
-use crate::optional::{Directories, Extent, read_directories, read_extent, read_fixed_size};
+use crate::optional::{Directories, HeaderExtent, read_directories, read_extent, read_fixed_size};
 use crate::source::Source;
 use crate::start::read_start;
 
@@ -14,7 +14,7 @@ use crate::start::read_start;
 pub(crate) struct Front {
     pub(crate) pe_signature: u64,
     pub(crate) directories: Directories,
-    pub(crate) extent: Extent,
+    pub(crate) extent: HeaderExtent,
 }
 
 /// The headers before the sections.

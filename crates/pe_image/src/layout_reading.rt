@@ -6,6 +6,7 @@ ghost use Rattle.pe_image.specs.Checks.{checks, IsRefused};
 ghost use Rattle.pe_image.specs.Sources.{OnlyReads};
 
 use crate::certificates::read_table;
+use crate::extent::Extent;
 use crate::fault::LayoutFault;
 use crate::field::{CHECKSUM, CHECKSUM_SIZE};
 use crate::front::read_front;
@@ -70,6 +71,7 @@ pub fn layout<S: Source>(source: &mut S) -> Result<Layout, LayoutFault>
     let table = read_table(source, directory, measured.end)?;
     let sbat = find_text(&headers[..count])?;
     let checksum = front.pe_signature + CHECKSUM;
+    let gap = measured.end.saturating_sub(measured.size);
     Ok(Layout {
         checksum: Span::new(checksum, checksum + CHECKSUM_SIZE),
         certificate_directory: directory,
@@ -77,7 +79,7 @@ pub fn layout<S: Source>(source: &mut S) -> Result<Layout, LayoutFault>
         sections,
         sum_of_bytes_hashed: measured.size,
         image_end: end_of(table, length),
-        gap: measured.end.saturating_sub(measured.size),
+        extent: Extent::of(length, gap),
         table,
         sbat,
     })

@@ -2,7 +2,7 @@
 ghost use Rattle.std.specs.Prelude.{◌≡◌, None, OnOk, IfOk, IfErr};
 ghost use Rattle.pe_image.specs.Checks.{first_of, magic_checks, size_checks, header_checks, IsRefused};
 ghost use Rattle.pe_image.specs.Sources.{OnlyReads};
-ghost use Rattle.pe_image.specs.Steps.Front.{IsStart, IsFixedSize, AreDirectories, IsExtent};
+ghost use Rattle.pe_image.specs.Steps.Front.{IsStart, IsFixedSize, AreDirectories, IsHeaderExtent};
 
 use crate::fault::LayoutFault;
 use crate::field::{
@@ -107,7 +107,7 @@ pub(crate) fn read_directories<S: Source>(
 
 /// The number of sections, and the offset where the headers end.
 #[derive(Clone, Copy, Debug)]
-pub(crate) struct Extent {
+pub(crate) struct HeaderExtent {
     pub(crate) count: usize,
     pub(crate) headers_end: u64,
 }
@@ -118,12 +118,12 @@ pub(crate) fn read_extent<S: Source>(
     source: &mut S,
     pe_signature: u64,
     directories: Directories,
-) -> Result<Extent, LayoutFault>
+) -> Result<HeaderExtent, LayoutFault>
     requires start { IsStart (S.content source.old) pe_signature }
     requires directories { AreDirectories (S.content source.old) directories }
 
     ensures ok { OnOk result (first_of (header_checks (S.content source.old)) ≡ None) }
-    ensures exact { IfOk result (λ extent. IsExtent (S.content source.old) extent) }
+    ensures exact { IfOk result (λ extent. IsHeaderExtent (S.content source.old) extent) }
 
     ensures err { IfErr result (IsRefused (header_checks (S.content source.old))
         (S.failures source.old) (S.failures source.new)) }
@@ -144,7 +144,7 @@ pub(crate) fn read_extent<S: Source>(
     if headers_end < table_end || length < headers_end {
         return Err(LayoutFault::Headers);
     }
-    Ok(Extent {
+    Ok(HeaderExtent {
         count: usize::from(count),
         headers_end,
     })

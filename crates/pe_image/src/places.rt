@@ -2,6 +2,7 @@
 ghost use Rattle.std.specs.Prelude.{◌≡◌};
 ghost use Rattle.pe_image.specs.Places.{Places};
 
+use crate::extent::Extent;
 use crate::sections::Sections;
 use crate::span::Span;
 use std::marker::Model;
@@ -15,7 +16,7 @@ pub struct Layout {
     pub(crate) sections: Sections,
     pub(crate) sum_of_bytes_hashed: u64,
     pub(crate) image_end: u64,
-    pub(crate) gap: u64,
+    pub(crate) extent: Extent,
     pub(crate) table: Option<Span>,
     pub(crate) sbat: Option<Span>,
 }
@@ -30,17 +31,25 @@ impl Model for Layout {
       sections = l.sections;
       sum_of_bytes_hashed = l.sum_of_bytes_hashed;
       image_end = l.image_end;
-      gap = l.gap;
+      length = l.extent.length;
+      gap = l.extent.gap;
       table = l.table;
       sbat = l.sbat;
     } };
+}
+
+/// The length of the file, and of its gap.
+pub fn lengths(layout: &Layout) -> Extent
+    ensures { result ≡ record { length = layout.now.length; gap = layout.now.gap } }
+{
+    layout.extent
 }
 
 /// The number of bytes before the sections' end that are in no header and in no section.
 pub fn gap(layout: &Layout) -> u64
     ensures { result ≡ layout.now.gap }
 {
-    layout.gap
+    layout.extent.gap()
 }
 
 /// The span of the certificate table, if the image has one.

@@ -4,6 +4,7 @@ ghost use Rattle.desk_bytes.specs.Limits.{most_components};
 ghost use Rattle.sbat.specs.Refusals.{IsComponents, RefusesComponents};
 
 use crate::component::Component;
+use crate::component_list::Components;
 use crate::fault::SbatFault;
 use crate::name::NameFault;
 use crate::row::read_image_row;
@@ -28,8 +29,8 @@ fn keep(found: &mut Vec<Component>, component: Component) -> Result<(), AllocErr
 ///
 /// The first wrong line is returned as Row with its number. TooLong, for more than 256 components,
 /// comes only if no line is wrong.
-pub fn components(alloc: Global, text: &[u8]) -> Result<Vec<Component>, SbatFault>
-    ensures exact { IfOk result (λ found. IsComponents text.now found.items) }
+pub fn components(alloc: Global, text: &[u8]) -> Result<Components, SbatFault>
+    ensures exact { IfOk result (IsComponents text.now) }
 
     ensures first { IfErr result (RefusesComponents text.now) }
 {
@@ -45,8 +46,8 @@ pub fn components(alloc: Global, text: &[u8]) -> Result<Vec<Component>, SbatFaul
             Err(NameFault::NoMemory) => return Err(SbatFault::NoMemory),
         }
     }
-    if found.len() > MOST_COMPONENTS {
-        return Err(SbatFault::TooLong);
+    match Components::new(found) {
+        Some(components) => Ok(components),
+        None => Err(SbatFault::TooLong),
     }
-    Ok(found)
 }

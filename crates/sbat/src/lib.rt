@@ -2,6 +2,7 @@
 #![tactic(auto)]
 
 mod component;
+mod component_list;
 mod digits;
 mod fault;
 mod field;
@@ -17,6 +18,7 @@ mod stamp;
 mod text;
 
 pub use component::Component;
+pub use component_list::Components;
 pub use digits::{are_digits, decimal};
 pub use fault::SbatFault;
 pub use generation::Generation;

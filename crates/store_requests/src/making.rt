@@ -9,11 +9,9 @@ ghost use Rattle.store_requests.specs.Steps.{IsMadeOf, digests_of, shown_row};
 use crate::parts::Parts;
 use desk_bytes::Digest;
 use desk_history::{RequestCertificateRow, RequestComponentRow, RequestRow, ReturnRow, VoteRow};
-use desk_texts::{
-    Carried, Components, Extent, Facts, RequestNumber, ShownRequest, ShownReturn, ShownVote,
-    ShownVotes,
-};
-use sbat::Component;
+use desk_texts::{Carried, Facts, RequestNumber, ShownRequest, ShownReturn, ShownVote, ShownVotes};
+use pe_image::Extent;
+use sbat::{Component, Components};
 use std::alloc::Global;
 use store_reads::ReadFault;
 

@@ -1,9 +1,8 @@
 //! Proposals to revoke and to raise the level, and their confirmation.
-ghost use Rattle.std.specs.Prelude.{◌≡◌, ◌≤◌, ◌+◌, [], ◌∷◌, IfErr, IsTrue, MatchOption, Some, find, length, option_copied, true};
+ghost use Rattle.std.specs.Prelude.{◌≡◌, ◌≤◌, ◌+◌, [], ◌∷◌, IfErr, IsTrue, MatchOption, Some, find, option_copied};
 ghost use Rattle.std.specs.List.{list_any};
 ghost use Rattle.desk_texts.specs.Callers.{caller_name};
 ghost use Rattle.desk_texts.specs.Forms.{greatest_number};
-ghost use Rattle.desk_texts.specs.Raising.{names_no_sbat};
 ghost use Rattle.desk_texts.specs.declared.command.Command.{Command as CommandValue};
 ghost use Rattle.desk_texts.specs.declared.command.Command.TheVariants as Command;
 ghost use Rattle.desk_texts.specs.declared.reply.Reply.TheVariants as replies;
@@ -15,7 +14,7 @@ ghost use Rattle.desk_rules.specs.Shown.{is_proposal_row};
 ghost use Rattle.desk_rules.specs.Views.{seen_standing};
 
 use super::imports::{enforce, taken};
-use super::{one, push};
+use super::one;
 use crate::rows::open_proposal;
 use crate::view::{Changes, View};
 use desk_bytes::{Digest, Refusal};
@@ -23,10 +22,10 @@ use desk_history::{
     ProposalRow, Standing, Write, confirm_by, drop_by, is_above, is_later, refuse_if,
 };
 use desk_texts::{
-    Caller, Digests, GREATEST_NUMBER, Import, ImportedComponents, ListedKind, ProposalKind,
-    ProposalNumber, ProposalOutcome, ProposalState, Raise, Reply,
+    Caller, GREATEST_NUMBER, Import, ListedKind, ProposalKind, ProposalNumber, ProposalOutcome,
+    ProposalState, Raise, Reply,
 };
-use sbat::{Component, Stamp};
+use sbat::Component;
 use std::alloc::Global;
 
 /// The number after this many proposals, if there is one.
@@ -37,29 +36,6 @@ fn number_after(proposals: u64) -> Option<ProposalNumber>
         return None;
     }
     ProposalNumber::new(proposals + 1)
-}
-
-/// The import of these: at most one entry, which isn't `sbat`.
-fn entry_of(
-    stamp: Option<Stamp>,
-    digests: Vec<Digest>,
-    certificates: Vec<Digest>,
-    components: Vec<Component>,
-) -> Import
-    requires few { length digests.items + length certificates.items + length components.items ≤ 1 }
-    requires other { names_no_sbat components.items ≡ true }
-    ensures { result ≡ record {
-      stamp = stamp;
-      passed = 0;
-      digests = digests.items;
-      certificates = certificates.items;
-      components = components.items;
-    } }
-{
-    let digests = Digests::of(digests);
-    let certificates = Digests::of(certificates);
-    let components = ImportedComponents::of(components);
-    Import::of(stamp, 0, digests, certificates, components)
 }
 
 impl View {
@@ -190,9 +166,7 @@ pub(crate) fn propose_digest(
     ensures exact { spec.DecidesOwn view.now caller.now (Command.RevokeDigest digest) result }
     ensures only { IfErr result (λ refusal. IsTrue (may_answer refusal)) }
 {
-    let mut digests = Vec::new(alloc);
-    push(&mut digests, digest)?;
-    let named = entry_of(None, digests, Vec::new(alloc), Vec::new(alloc));
+    let named = Import::of_digest(alloc, digest)?;
     propose(alloc, view, caller, ProposalKind::Digest, named)
 }
 
@@ -206,9 +180,7 @@ pub(crate) fn propose_certificate(
     ensures exact { spec.DecidesOwn view.now caller.now (Command.RevokeCertificate digest) result }
     ensures only { IfErr result (λ refusal. IsTrue (may_answer refusal)) }
 {
-    let mut certificates = Vec::new(alloc);
-    push(&mut certificates, digest)?;
-    let named = entry_of(None, Vec::new(alloc), certificates, Vec::new(alloc));
+    let named = Import::of_certificate(alloc, digest)?;
     propose(alloc, view, caller, ProposalKind::Certificate, named)
 }
 
@@ -222,18 +194,9 @@ pub(crate) fn propose_level(
     ensures exact { spec.DecidesOwn view.now caller.now (Command.RaiseLevel raise.now) result }
     ensures only { IfErr result (λ refusal. IsTrue (may_answer refusal)) }
 {
-    if raise.component.name.is_sbat() {
+    let Some(named) = Import::of_raise(alloc, raise)? else {
         return Err(Refusal::NotHigher);
-    }
-    let component = raise.component.clone()?;
-    let mut components = Vec::new(alloc);
-    push(&mut components, component)?;
-    let named = entry_of(
-        Some(raise.stamp),
-        Vec::new(alloc),
-        Vec::new(alloc),
-        components,
-    );
+    };
     propose(alloc, view, caller, ProposalKind::Level, named)
 }
 

@@ -5,7 +5,7 @@ use Rattle.pe_image.specs.Image.{pe_signature_offset, fixed_size, sections_begin
 use Rattle.pe_image.specs.Places.{certificate_directory_of}
 use Rattle.pe_image.specs.declared.front.Front.{Front}
 use Rattle.pe_image.specs.declared.optional.Directories.{Directories}
-use Rattle.pe_image.specs.declared.optional.Extent.{Extent}
+use Rattle.pe_image.specs.declared.optional.HeaderExtent.{HeaderExtent}
 
 -- the signature's offset, in a file that isn't too long
 pub record IsStart (f : List ℕ) (pe_signature : ℕ) : Type 0 where
@@ -29,7 +29,7 @@ pub record AreDirectories (f : List ℕ) (directories : Directories) : Type 0 wh
   pub fields : pe_signature_offset f + 120 ≤ length f
 
 -- the number of sections, and the offset where the headers end, after the section table
-pub record IsExtent (f : List ℕ) (extent : Extent) : Type 0 where
+pub record IsHeaderExtent (f : List ℕ) (extent : HeaderExtent) : Type 0 where
   pub count : extent.count ≡ number_of_sections f
   pub few : extent.count ≤ 96
   pub end : extent.headers_end ≡ size_of_headers f
@@ -40,4 +40,4 @@ pub record IsExtent (f : List ℕ) (extent : Extent) : Type 0 where
 pub record IsFront (f : List ℕ) (front : Front) : Type 0 where
   pub start : IsStart f front.pe_signature
   pub directories : AreDirectories f front.directories
-  pub extent : IsExtent f front.extent
+  pub extent : IsHeaderExtent f front.extent

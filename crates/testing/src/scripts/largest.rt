@@ -1,10 +1,10 @@
 //! The largest commands that a desk accepts.
 use desk_bytes::Digest;
 use desk_texts::{
-    Carried, Certificate, Command, Components, Digests, Extent, Facts, Import, ImportedComponents,
-    Submission, Title,
+    Carried, Certificate, Command, Digests, Facts, Import, ImportedComponents, Submission, Title,
 };
-use sbat::{Component, ComponentName, Generation};
+use pe_image::Extent;
+use sbat::{Component, ComponentName, Components, Generation};
 use std::alloc::Global;
 
 /// This many different digests: the number's two bytes, little-endian, and 30 zero bytes.

@@ -2,11 +2,12 @@
 use crate::scripts::largest;
 use desk_bytes::Digest;
 use desk_texts::{
-    Ballot, Call, Caller, Carried, Certificate, Command, Components, Digests, Extent, Facts,
-    Import, ImportedComponents, Key, ListedKind, Listing, Note, Person, PersonName, ProposalNumber,
-    Raise, RequestNumber, ReturnedFile, Role, Submission, Title, Vote,
+    Ballot, Call, Caller, Carried, Certificate, Command, Digests, Facts, Import,
+    ImportedComponents, Key, ListedKind, Listing, Note, Person, PersonName, ProposalNumber, Raise,
+    RequestNumber, ReturnedFile, Role, Submission, Title, Vote,
 };
-use sbat::{Component, ComponentName, Generation, Stamp};
+use pe_image::Extent;
+use sbat::{Component, ComponentName, Components, Generation, Stamp};
 use std::alloc::Global;
 use std::str::SplitWhitespace;
 

@@ -2,12 +2,13 @@
 use desk_bytes::Digest;
 use desk_history::{Below, Verdict};
 use desk_texts::{
-    Carried, Components, Confirmation, Counts, Extent, Facts, Note, Outcome, PersonName, Proposal,
-    ProposalNumber, ProposalState, Reply, RequestNumber, ShownRequest, ShownReturn, ShownVote,
-    ShownVotes, State, Title, Vote,
+    Carried, Confirmation, Counts, Facts, Note, Outcome, PersonName, Proposal, ProposalNumber,
+    ProposalState, Reply, RequestNumber, ShownRequest, ShownReturn, ShownVote, ShownVotes, State,
+    Title, Vote,
 };
 use http_responses::{RequestsText, proposals_json, reply_json, request_json, verdict_json};
-use sbat::{Component, ComponentName, Generation};
+use pe_image::Extent;
+use sbat::{Component, ComponentName, Components, Generation};
 use std::alloc::Global;
 use std::test::Fail;
 

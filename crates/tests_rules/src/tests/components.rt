@@ -139,7 +139,7 @@ pub fn of_components(alloc: Global, told: &mut String, input: &str) -> Result<()
     let text = unbarred(alloc, input)?;
     match components(alloc, &text) {
         Err(fault) => refuse(told, fault.refusal(), fault.place()),
-        Ok(found) => tell_components(told, &found),
+        Ok(found) => tell_components(told, found.as_slice()),
     }
 }
 

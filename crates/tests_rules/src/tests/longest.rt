@@ -1,7 +1,8 @@
 //! The submission of the longest text.
 use desk_bytes::Digest;
-use desk_texts::{Carried, Command, Components, Extent, Facts, Submission, Title, command_text};
-use sbat::{Component, ComponentName, Generation};
+use desk_texts::{Carried, Command, Facts, Submission, Title, command_text};
+use pe_image::Extent;
+use sbat::{Component, ComponentName, Components, Generation};
 use std::alloc::{AllocError, Global};
 use std::test::Fail;
 

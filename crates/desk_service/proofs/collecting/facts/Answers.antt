@@ -1,10 +1,11 @@
 use Rattle.std.proofs.Common.{rules}
-use Rattle.desk_service.proofs.PlacesLemmas.{gap_placed}
+use Rattle.desk_service.proofs.PlacesLemmas.{gap_placed, length_placed}
 use Rattle.desk_service.proofs.collecting.facts.Goals as goal
 
 -- nothing that is read changes the content, so each part speaks of the same file
 pub returns-clause-exact : goal.returns-clause-exact
 returns-clause-exact g c =
+    let long = length_placed _ _ c.in_ok-layout.ensures.exact.places in
     let gap = gap_placed _ _ c.in_ok-layout.ensures.exact.places in
     record {
       laid = search rules;

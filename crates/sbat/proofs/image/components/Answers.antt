@@ -1,4 +1,5 @@
-use Rattle.std.proofs.Common.{arith, rules}
+use Rattle.std.proofs.Common.{◌≡◌, ◌≤◌, ◌∙◌, Ok, ap, length, sym, arith, rules}
+use Rattle.desk_bytes.specs.Limits.{most_components}
 use Rattle.desk_bytes.specs.Lines.{line_of}
 use Rattle.sbat.proofs.RowLemmas.{Reading-ends, Reading-long, Reading-next}
 use Rattle.sbat.proofs.image.components.Goals as goal
@@ -7,10 +8,11 @@ pub loop-line-preserved : goal.loop-line-preserved
 loop-line-preserved c =
     Reading-next _ _ (line_of c.in-Some.line) _ _ _ _ (search rules) c.loop-line.invariant c.in-Some.ensures.steps c.in-Ok.ensures.ok
 
-pub returns-then-len-gt-MOST_COMPONENTS-clause-first : goal.returns-then-len-gt-MOST_COMPONENTS-clause-first
-returns-then-len-gt-MOST_COMPONENTS-clause-first c =
-    Reading-long _ _ _ c.loop-line.invariant c.in-None.ensures.steps.0 (omega arith)
+pub returns-in-None-new-clause-first : goal.returns-in-None-new-clause-first
+returns-in-None-new-clause-first c =
+    Reading-long _ _ _ c.loop-line.invariant c.in-None.ensures.steps.0 (search rules)
 
-pub returns-clause-exact : goal.returns-clause-exact
-returns-clause-exact c =
-    (Reading-ends _ _ _ c.loop-line.invariant c.in-None.ensures.steps.0 (omega arith), omega arith)
+pub returns-in-Some-new-clause-exact : goal.returns-in-Some-new-clause-exact
+returns-in-Some-new-clause-exact c =
+    let few : length c.in-Some-new.components ≤ most_components = search rules in
+    (Reading-ends _ _ _ c.loop-line.invariant c.in-None.ensures.steps.0 (search rules) ∙ ap Ok (sym c.in-Some-new.ensures), few)

@@ -1,6 +1,6 @@
 //! Lengths of an image's file.
 ghost use Rattle.std.specs.Prelude.{◌≡◌, ◌⊎◌, ◌<◌, ◌≤◌, MatchOption};
-ghost use Rattle.desk_texts.specs.Extents.{Lengths};
+ghost use Rattle.pe_image.specs.Extents.{Lengths};
 ghost use Rattle.desk_bytes.specs.Limits.{longest_image};
 
 use desk_bytes::LONGEST_IMAGE;
@@ -27,7 +27,7 @@ impl Model for Extent {
 impl Extent {
     /// The lengths of a file of at most `LONGEST_IMAGE` bytes and of its gap, which is no longer
     /// than the file.
-    pub fn of(length: u64, gap: u64) -> Extent
+    pub(crate) fn of(length: u64, gap: u64) -> Extent
         requires inside { gap ≤ length }
         requires few { length ≤ longest_image }
         ensures { result ≡ record { length = length; gap = gap } }

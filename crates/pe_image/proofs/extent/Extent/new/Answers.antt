@@ -1,5 +1,5 @@
 use Rattle.std.proofs.Common.{rules}
-use Rattle.desk_texts.proofs.extent.Extent.new.Goals as goal
+use Rattle.pe_image.proofs.extent.Extent.new.Goals as goal
 
 pub of-requires-clause-inside : goal.of-requires-clause-inside
 of-requires-clause-inside c = search rules

@@ -2,9 +2,8 @@
 ghost use Rattle.std.specs.Prelude.{◌≡◌, ◌<◌, ◌≤◌, List, length, MatchOption};
 ghost use Rattle.desk_bytes.specs.Limits.{most_components};
 
-use crate::copying::copies;
+use crate::component::Component;
 use desk_bytes::MOST_COMPONENTS;
-use sbat::Component;
 use std::alloc::AllocError;
 use std::marker::Model;
 
@@ -28,14 +27,6 @@ impl Model for Components {
 }
 
 impl Components {
-    /// Components within the limit.
-    pub fn of(items: Vec<Component>) -> Components
-        requires { length items.items ≤ most_components }
-        ensures { result ≡ items.items }
-    {
-        Components { items }
-    }
-
     /// The components, or `None` if there are more than `MOST_COMPONENTS`.
     pub fn new(items: Vec<Component>) -> Option<Components>
         ensures { MatchOption result (most_components < length items.items)
@@ -44,7 +35,7 @@ impl Components {
         if MOST_COMPONENTS < items.len() {
             return None;
         }
-        Some(Components::of(items))
+        Some(Components { items })
     }
 
     /// The components.
@@ -61,7 +52,7 @@ impl Clone for Components {
 
     /// A copy. Takes memory for its components.
     fn clone(&self) -> Result<Components, AllocError> {
-        let items = copies(*self.items.allocator(), &self.items)?;
+        let items = self.items.clone()?;
         Ok(Components { items })
     }
 }

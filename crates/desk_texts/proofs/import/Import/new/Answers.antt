@@ -1,5 +1,0 @@
-use Rattle.std.proofs.Common.{rules}
-use Rattle.desk_texts.proofs.import.Import.new.Goals as goal
-
-pub of-requires : goal.of-requires
-of-requires c = search rules
