@@ -173,7 +173,7 @@ fn count_of(alloc: Global, count: usize, behind: &str) -> Result<usize, SbatFaul
     let Ok(text) = rows_of(alloc, count, behind) else {
         return Err(SbatFault::NoMemory);
     };
-    Ok(components(alloc, text.as_bytes())?.len())
+    Ok(components(alloc, text.as_bytes())?.as_slice().len())
 }
 
 #[test]
