@@ -70,7 +70,7 @@ fn hash_image<S: Source>(source: &mut S, layout: &Layout) -> Result<Sha256, Read
 }
 
 /// The number of bytes that a length lacks to a multiple of 8.
-fn missing(length: u64) -> usize
+fn padding_size(length: u64) -> usize
     ensures value { result ≡ padding_of length }
     ensures few { result < 8 }
 {
@@ -83,7 +83,7 @@ pub(crate) fn pad(hasher: &mut Sha256, layout: &Layout, size: u64)
         → Holds256 hasher.old (hashed_bytes f) → Holds256 hasher.new (signed_bytes f) }
 {
     if table(layout).is_none() {
-        hasher.update(&[0; 8][..missing(size)]);
+        hasher.update(&[0; 8][..padding_size(size)]);
     }
 }
 

@@ -18,7 +18,7 @@ const FIRST_OWN: u8 = 0xa0;
 
 /// The element at the front, which must have this tag, and the bytes after it.
 #[tactic(auto, unfolding(crate::specs::SignedData::tagged))]
-fn tagged(tag: u8, bytes: &[u8]) -> Option<(Element<'_>, &[u8])>
+fn element_with_tag(tag: u8, bytes: &[u8]) -> Option<(Element<'_>, &[u8])>
     ensures { MatchOption result (spec.tagged tag bytes.now ≡ None)
         (λ p. spec.tagged tag bytes.now ≡ Some (part_of p.0 p.1.now)) }
 {
@@ -40,7 +40,7 @@ fn certificate_set(bytes: &[u8]) -> Option<&[u8]>
 {
     match bytes {
         [FIRST_OWN, ..] => {
-            let (found, _) = tagged(FIRST_OWN, bytes)?;
+            let (found, _) = element_with_tag(FIRST_OWN, bytes)?;
             Some(found.content)
         }
         _ => Some(&[]),
@@ -53,12 +53,12 @@ pub(crate) fn certificates(body: &[u8]) -> Option<&[u8]>
     ensures { MatchOption result (spec.certificates_of body.now ≡ None)
         (λ b. spec.certificates_of body.now ≡ Some b.now) }
 {
-    let (info, _) = tagged(SEQUENCE, body)?;
-    let (_, after_type) = tagged(OBJECT_IDENTIFIER, info.content)?;
-    let (content, _) = tagged(FIRST_OWN, after_type)?;
-    let (signed, _) = tagged(SEQUENCE, content.content)?;
-    let (_, after_version) = tagged(INTEGER, signed.content)?;
-    let (_, after_digests) = tagged(SET, after_version)?;
-    let (_, after_info) = tagged(SEQUENCE, after_digests)?;
+    let (info, _) = element_with_tag(SEQUENCE, body)?;
+    let (_, after_type) = element_with_tag(OBJECT_IDENTIFIER, info.content)?;
+    let (content, _) = element_with_tag(FIRST_OWN, after_type)?;
+    let (signed, _) = element_with_tag(SEQUENCE, content.content)?;
+    let (_, after_version) = element_with_tag(INTEGER, signed.content)?;
+    let (_, after_digests) = element_with_tag(SET, after_version)?;
+    let (_, after_info) = element_with_tag(SEQUENCE, after_digests)?;
     certificate_set(after_info)
 }

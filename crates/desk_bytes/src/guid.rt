@@ -40,7 +40,7 @@ impl From<[u8; 16]> for Guid {
 }
 
 /// The bytes reordered from storage order to text order, or back.
-fn swapped(bytes: &[u8; 16]) -> [u8; 16]
+fn swap_groups(bytes: &[u8; 16]) -> [u8; 16]
     ensures { result ≡ spec.swapped bytes.now }
 {
     let mut other = *bytes;
@@ -98,14 +98,14 @@ impl Guid {
             first[0], first[1], first[2], first[3], second[0], second[1], third[0], third[1],
             fourth[0], fourth[1], fifth[0], fifth[1], fifth[2], fifth[3], fifth[4], fifth[5],
         ];
-        Ok(Guid(swapped(&bytes)))
+        Ok(Guid(swap_groups(&bytes)))
     }
 
     /// The text in lower case.
     pub fn text(&self, alloc: Global) -> Result<String, AllocError>
         ensures { IfOk result (λ text. string_bytes text ≡ text_of self.now) }
     {
-        let bytes = swapped(&self.0);
+        let bytes = swap_groups(&self.0);
         let mut text = hex::encode(alloc, &bytes[..4])?;
         push_group(alloc, &mut text, &bytes[4..6])?;
         push_group(alloc, &mut text, &bytes[6..8])?;

@@ -20,6 +20,6 @@ pub trait Standing {
         ensures { result ≡ (standing self.now).listed kind digest };
 
     /// The generation that the level requires of the component of this name.
-    fn required(&self, name: &ComponentName) -> Option<Generation>
+    fn required_generation(&self, name: &ComponentName) -> Option<Generation>
         ensures { result ≡ (standing self.now).required name.now };
 }

@@ -72,7 +72,11 @@ fn first_below<S: Standing>(lists: &S, components: &[Component]) -> Option<Below
 {
     for place in 0..components.len() {
         let component = &components[place];
-        if let Some(below) = lack_at(place, component.generation, lists.required(&component.name)) {
+        if let Some(below) = lack_at(
+            place,
+            component.generation,
+            lists.required_generation(&component.name),
+        ) {
             return Some(below);
         }
     }
@@ -103,7 +107,10 @@ fn has_below<S: Standing>(lists: &S, components: &[Component]) -> bool
     ensures { result ≡ list_any (spec.is_below (S.standing lists.now)) components.now }
 {
     for component in components {
-        if is_less(component.generation, lists.required(&component.name)) {
+        if is_less(
+            component.generation,
+            lists.required_generation(&component.name),
+        ) {
             return true;
         }
     }

@@ -19,7 +19,7 @@ use std::alloc::Global;
 
 impl View {
     /// The minute of the caller's earlier call with this key.
-    fn earlier(&self, caller: &Caller, key: &Key) -> Option<&Minute>
+    fn earlier_minute(&self, caller: &Caller, key: &Key) -> Option<&Minute>
         ensures { option_copied result
             ≡ find (has_key (caller_name caller.now) key.now) self.now.calls.items }
     {
@@ -96,7 +96,7 @@ pub fn decide(
         return Err(Refusal::UnknownCaller);
     }
     let text = text_of(alloc, command)?;
-    if let Some(minute) = view.earlier(caller, key) {
+    if let Some(minute) = view.earlier_minute(caller, key) {
         return repeat(alloc, minute, &text);
     }
     if !view.may_give(caller, command) {

@@ -35,7 +35,7 @@ pub(crate) fn push<T: Drop>(items: &mut Vec<T>, item: T) -> Result<(), AllocErro
 }
 
 /// The changes of one write.
-fn one(alloc: Global, reply: Reply, write: Write) -> Result<Changes, Refusal>
+fn one_write(alloc: Global, reply: Reply, write: Write) -> Result<Changes, Refusal>
     ensures { Gives result reply (write ∷ []) }
 {
     let mut writes = Vec::new(alloc);
@@ -44,7 +44,7 @@ fn one(alloc: Global, reply: Reply, write: Write) -> Result<Changes, Refusal>
 }
 
 /// The changes of two writes.
-fn two(alloc: Global, reply: Reply, first: Write, second: Write) -> Result<Changes, Refusal>
+fn two_writes(alloc: Global, reply: Reply, first: Write, second: Write) -> Result<Changes, Refusal>
     ensures { Gives result reply (first ∷ second ∷ []) }
 {
     let mut writes = Vec::new(alloc);

@@ -31,7 +31,7 @@ pub(crate) fn row_of<'a>(rows: &'a [Component], name: &ComponentName) -> Option<
 
 impl ListView {
     /// The revoked digests of this kind.
-    fn revoked(&self, kind: ListedKind) -> &[Digest]
+    fn revocations(&self, kind: ListedKind) -> &[Digest]
         ensures { result.now ≡ spec.seen_revoked self.now kind }
     {
         match kind {
@@ -52,7 +52,7 @@ impl Standing for ListView {
     ghost standing = { spec.seen_standing };
 
     fn is_revoked(&self, kind: ListedKind, digest: Digest) -> bool {
-        self.revoked(kind).iter().any(|row| digest == *row)
+        self.revocations(kind).iter().any(|row| digest == *row)
     }
 
     fn is_listed(&self, kind: ListedKind, digest: Digest) -> bool {
@@ -61,7 +61,7 @@ impl Standing for ListView {
             .any(|row| is_same(kind, row.kind) && digest == row.digest)
     }
 
-    fn required(&self, name: &ComponentName) -> Option<Generation> {
+    fn required_generation(&self, name: &ComponentName) -> Option<Generation> {
         if name.is_sbat() {
             Generation::new(1)
         } else {

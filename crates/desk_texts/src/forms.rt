@@ -132,7 +132,7 @@ pub(crate) fn parted_at_space(text: &[u8]) -> Option<(&[u8], &[u8])>
 }
 
 /// An owned copy of the text. Takes memory for it.
-fn held(alloc: Global, text: &[u8]) -> Result<String, TextFault>
+fn owned_text(alloc: Global, text: &[u8]) -> Result<String, TextFault>
     requires { list_all (spec.is_between 32 126) text.now ≡ true }
     ensures { MatchResult result (λ held. string_bytes held ≡ text.now)
         (λ fault. fault ≡ TextFault.NoMemory) }
@@ -151,7 +151,7 @@ pub(crate) fn held_in_form(alloc: Global, has_form: bool, text: &[u8]) -> Result
     ensures only { has_form ≡ false → result ≡ Err TextFault.Form }
 {
     if has_form {
-        held(alloc, text)
+        owned_text(alloc, text)
     } else {
         Err(TextFault::Form)
     }

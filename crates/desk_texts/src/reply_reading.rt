@@ -81,7 +81,7 @@ fn confirmation_of(text: &[u8]) -> Option<Confirmation>
 }
 
 /// A review's reply.
-fn reviewed(text: &[u8]) -> Option<Outcome>
+fn read_reviewed(text: &[u8]) -> Option<Outcome>
     ensures found { IfSome result (λ o. IsReply (Reviewed o)
         × (text.now ≡ reply_text_of (Reviewed o))) }
     ensures only { IfNone result ((o : Outcome) → IsReply (Reviewed o)
@@ -91,7 +91,7 @@ fn reviewed(text: &[u8]) -> Option<Outcome>
 }
 
 /// An import's reply.
-fn imported(text: &[u8]) -> Option<Counts>
+fn read_imported(text: &[u8]) -> Option<Counts>
     ensures found { IfSome result (λ c. IsReply (Imported c)
         × (text.now ≡ reply_text_of (Imported c))) }
     ensures only { IfNone result ((c : Counts) → IsReply (Imported c)
@@ -101,7 +101,7 @@ fn imported(text: &[u8]) -> Option<Counts>
 }
 
 /// A confirmation's reply.
-fn confirmed(text: &[u8]) -> Option<Confirmation>
+fn read_confirmed(text: &[u8]) -> Option<Confirmation>
     ensures found { IfSome result (λ c. IsReply (Confirmed c)
         × (text.now ≡ reply_text_of (Confirmed c))) }
     ensures only { IfNone result ((c : Confirmation) → IsReply (Confirmed c)
@@ -140,16 +140,16 @@ fn without_name(text: &[u8]) -> Option<Reply>
     if let Some(request) = number_behind(b"returned ", text) {
         return Some(Reply::Returned(RequestNumber::of(request)));
     }
-    if let Some(outcome) = reviewed(text) {
+    if let Some(outcome) = read_reviewed(text) {
         return Some(Reply::Reviewed(outcome));
     }
-    if let Some(counts) = imported(text) {
+    if let Some(counts) = read_imported(text) {
         return Some(Reply::Imported(counts));
     }
     if let Some(proposal) = number_behind(b"proposed ", text) {
         return Some(Reply::Proposed(ProposalNumber::of(proposal)));
     }
-    if let Some(confirmation) = confirmed(text) {
+    if let Some(confirmation) = read_confirmed(text) {
         return Some(Reply::Confirmed(confirmation));
     }
     if let Some(proposal) = number_behind(b"dropped ", text) {

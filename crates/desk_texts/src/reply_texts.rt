@@ -7,7 +7,7 @@ ghost use Rattle.desk_texts.specs.declared.reply.Reply.TheVariants.{Confirmed, R
 use crate::reply::{Confirmation, Counts, Outcome, Reply};
 use std::alloc::{AllocError, Global};
 
-fn reviewed(alloc: Global, outcome: Outcome) -> Result<String, AllocError>
+fn reviewed_text(alloc: Global, outcome: Outcome) -> Result<String, AllocError>
     ensures { IfOk result (λ text. string_bytes text ≡ reply_text_of (Reviewed outcome)) }
 {
     let request = outcome.request.value();
@@ -15,7 +15,7 @@ fn reviewed(alloc: Global, outcome: Outcome) -> Result<String, AllocError>
     format!(in alloc; "reviewed {request} {state}")
 }
 
-fn imported(alloc: Global, counts: Counts) -> Result<String, AllocError>
+fn imported_text(alloc: Global, counts: Counts) -> Result<String, AllocError>
     ensures { IfOk result (λ text. string_bytes text ≡ reply_text_of (Imported counts)) }
 {
     let Counts {
@@ -27,7 +27,7 @@ fn imported(alloc: Global, counts: Counts) -> Result<String, AllocError>
     format!(in alloc; "imported {digests} {certificates} {components} {passed}")
 }
 
-fn confirmed(alloc: Global, confirmation: Confirmation) -> Result<String, AllocError>
+fn confirmed_text(alloc: Global, confirmation: Confirmation) -> Result<String, AllocError>
     ensures { IfOk result (λ text. string_bytes text ≡ reply_text_of (Confirmed confirmation)) }
 {
     let proposal = confirmation.proposal.value();
@@ -41,7 +41,7 @@ fn confirmed(alloc: Global, confirmation: Confirmation) -> Result<String, AllocE
 }
 
 /// A word and the number of a request or a proposal.
-fn numbered(alloc: Global, word: &str, number: u64) -> Result<String, AllocError>
+fn numbered_text(alloc: Global, word: &str, number: u64) -> Result<String, AllocError>
     ensures { IfOk result (λ text. string_bytes text ≡ spaced (word.now ∷ decimal number ∷ [])) }
 {
     format!(in alloc; "{word} {number}")
@@ -57,17 +57,17 @@ pub fn reply_text(alloc: Global, reply: &Reply) -> Result<String, AllocError>
             let name = name.as_str();
             format!(in alloc; "added {name}")
         }
-        Reply::Submitted(request) => numbered(alloc, "submitted", request.value()),
-        Reply::Reviewed(outcome) => reviewed(alloc, *outcome),
-        Reply::Withdrawn(request) => numbered(alloc, "withdrawn", request.value()),
-        Reply::Returned(request) => numbered(alloc, "returned", request.value()),
+        Reply::Submitted(request) => numbered_text(alloc, "submitted", request.value()),
+        Reply::Reviewed(outcome) => reviewed_text(alloc, *outcome),
+        Reply::Withdrawn(request) => numbered_text(alloc, "withdrawn", request.value()),
+        Reply::Returned(request) => numbered_text(alloc, "returned", request.value()),
         Reply::Listed => String::from_str(alloc, "listed"),
         Reply::Unlisted => String::from_str(alloc, "unlisted"),
         Reply::Revoked => String::from_str(alloc, "revoked"),
         Reply::Raised => String::from_str(alloc, "raised"),
-        Reply::Imported(counts) => imported(alloc, *counts),
-        Reply::Proposed(proposal) => numbered(alloc, "proposed", proposal.value()),
-        Reply::Confirmed(confirmation) => confirmed(alloc, *confirmation),
-        Reply::Dropped(proposal) => numbered(alloc, "dropped", proposal.value()),
+        Reply::Imported(counts) => imported_text(alloc, *counts),
+        Reply::Proposed(proposal) => numbered_text(alloc, "proposed", proposal.value()),
+        Reply::Confirmed(confirmation) => confirmed_text(alloc, *confirmation),
+        Reply::Dropped(proposal) => numbered_text(alloc, "dropped", proposal.value()),
     }
 }

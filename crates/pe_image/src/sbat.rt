@@ -27,7 +27,7 @@ fn count_named(headers: &[Header]) -> usize
 
 /// The first section with the name `.sbat`.
 #[tactic(auto, unfolding(crate::specs::Sbat::sbat_section))]
-fn named(headers: &[Header]) -> Option<Header>
+fn first_named(headers: &[Header]) -> Option<Header>
     ensures { result ≡ sbat_section headers.now }
 {
     for header in headers {
@@ -59,7 +59,7 @@ pub(crate) fn find_text(headers: &[Header]) -> Result<Option<Span>, LayoutFault>
     if 1 < count_named(headers) {
         return Err(LayoutFault::TwoSbat);
     }
-    let Some(header) = named(headers) else {
+    let Some(header) = first_named(headers) else {
         return Ok(None);
     };
     let size = u64::from(size_of_text(header));

@@ -122,7 +122,7 @@ pub(crate) struct SoFar {
 
 impl SoFar {
     /// The generation of the name so far.
-    fn present(&self, name: &ComponentName) -> Option<Generation>
+    fn generation(&self, name: &ComponentName) -> Option<Generation>
         ensures { result ≡ get self.now.level.generations name.now }
     {
         self.level.generation_of(name.as_str().as_bytes())
@@ -145,7 +145,7 @@ fn has_risen(before: &Level, so_far: &SoFar, name: &ComponentName) -> bool
         (get before.now.generations name.now) }
 {
     rose(
-        so_far.present(name),
+        so_far.generation(name),
         before.generation_of(name.as_str().as_bytes()),
     )
 }
@@ -162,12 +162,12 @@ fn take_in(before: &Level, component: &Component, so_far: &mut SoFar) -> Result<
     ensures count { OnOk result (so_far.new.names ≤ so_far.old.names + 1) }
     ensures err { IfErr result (λ refusal. refusal ≡ Refusal.NoMemory) }
 {
-    if !is_above(component.generation, so_far.present(&component.name)) {
+    if !is_above(component.generation, so_far.generation(&component.name)) {
         return Ok(());
     }
     so_far.names += u64::from(!has_risen(before, so_far, &component.name));
     let row = component.clone()?;
-    let write = put(so_far.present(&component.name), row);
+    let write = put(so_far.generation(&component.name), row);
     push(&mut so_far.writes, write)?;
     so_far.level.raise(component)?;
     Ok(())
@@ -201,7 +201,7 @@ fn take_all(
 }
 
 /// The changes that the named components make.
-pub(crate) fn taken(alloc: Global, view: &View, named: &Import) -> Result<SoFar, Refusal>
+pub(crate) fn take_named(alloc: Global, view: &View, named: &Import) -> Result<SoFar, Refusal>
     ensures ok { IfOk result (λ so_far. spec.HasTakenAll view.now named.now so_far) }
     ensures err { IfErr result (λ refusal. refusal ≡ Refusal.NoMemory) }
 {

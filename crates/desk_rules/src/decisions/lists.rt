@@ -5,7 +5,7 @@ ghost use Rattle.desk_history.specs.declared.write.Write.TheVariants as puts;
 ghost use Rattle.desk_rules.specs.DecisionSteps.{Decided};
 ghost use Rattle.desk_rules.specs.Views.{seen_standing};
 
-use super::one;
+use super::one_write;
 use crate::rows::{certificate_entry, digest_entry};
 use crate::view::{Changes, View};
 use desk_bytes::{Digest, Refusal};
@@ -25,7 +25,7 @@ pub(crate) fn list_digest(alloc: Global, view: &View, digest: Digest) -> Result<
         return Err(Refusal::AlreadyListed);
     }
     let entry = digest_entry(alloc, digest);
-    one(alloc, Reply::Listed, Write::List(entry))
+    one_write(alloc, Reply::Listed, Write::List(entry))
 }
 
 /// Lists the certificate.
@@ -52,7 +52,7 @@ pub(crate) fn list_certificate(
         return Err(Refusal::AlreadyListed);
     }
     let entry = certificate_entry(alloc, certificate)?;
-    one(alloc, Reply::Listed, Write::List(entry))
+    one_write(alloc, Reply::Listed, Write::List(entry))
 }
 
 /// Takes the entry off the list.
@@ -65,5 +65,5 @@ pub(crate) fn unlist(alloc: Global, view: &View, listing: Listing) -> Result<Cha
     if !view.lists.is_listed(listing.kind, listing.digest) {
         return Err(Refusal::NotThere);
     }
-    one(alloc, Reply::Unlisted, Write::Unlist(listing))
+    one_write(alloc, Reply::Unlisted, Write::Unlist(listing))
 }

@@ -7,7 +7,7 @@ ghost use Rattle.desk_history.specs.Refusals.{add_refusal as refusal_of, is_one_
 ghost use Rattle.desk_history.specs.declared.write.Write.TheVariants.{Person as PutPerson};
 ghost use Rattle.desk_texts.specs.declared.reply.Reply.TheVariants.{Added};
 
-use super::one;
+use super::one_write;
 use crate::view::{Changes, View};
 use desk_bytes::{Digest, Refusal};
 use desk_history::{Write, is_for, is_for_console, refuse_if};
@@ -84,5 +84,5 @@ pub(crate) fn add_person(alloc: Global, view: &View, person: &Person) -> Result<
     }
     let name = person.name.clone()?;
     let row = person.clone()?;
-    one(alloc, Reply::Added(name), Write::Person(row))
+    one_write(alloc, Reply::Added(name), Write::Person(row))
 }

@@ -13,8 +13,8 @@ ghost use Rattle.desk_rules.specs.DecisionSteps as spec;
 ghost use Rattle.desk_rules.specs.Shown.{is_proposal_row};
 ghost use Rattle.desk_rules.specs.Views.{seen_standing};
 
-use super::imports::{enforce, taken};
-use super::one;
+use super::imports::{enforce, take_named};
+use super::one_write;
 use crate::rows::open_proposal;
 use crate::view::{Changes, View};
 use desk_bytes::{Digest, Refusal};
@@ -133,7 +133,7 @@ fn propose_as(
         return Err(refusal);
     }
     let row = open_proposal(alloc, number, caller, kind, named)?;
-    one(alloc, Reply::Proposed(number), Write::Propose(row))
+    one_write(alloc, Reply::Proposed(number), Write::Propose(row))
 }
 
 /// Proposes the named entries as the next proposal.
@@ -149,7 +149,7 @@ fn propose(
         → spec.DecidesOwn view.now caller.now command result }
     ensures only { IfErr result (λ refusal. IsTrue (may_answer refusal)) }
 {
-    let so_far = taken(alloc, view, &named)?;
+    let so_far = take_named(alloc, view, &named)?;
     match number_after(view.sizes.proposals) {
         None => Err(Refusal::Full),
         Some(number) => propose_as(alloc, view, number, caller, kind, named, so_far.names),
@@ -233,7 +233,7 @@ pub(crate) fn confirm(
     if let Some(refusal) = confirm_by(row.state, is_own, None) {
         return Err(refusal);
     }
-    let so_far = taken(alloc, view, &row.named)?;
+    let so_far = take_named(alloc, view, &row.named)?;
     if let Some(refusal) = view.force_refusal(row.kind, &row.named, so_far.names) {
         return Err(refusal);
     }
@@ -254,7 +254,7 @@ pub(crate) fn drop_proposal(
         return Err(refusal);
     }
     let state = ProposalState::Dropped;
-    one(
+    one_write(
         alloc,
         Reply::Dropped(proposal),
         Write::ProposalState(ProposalOutcome { proposal, state }),

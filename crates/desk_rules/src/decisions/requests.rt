@@ -8,7 +8,7 @@ ghost use Rattle.desk_rules.specs.Shown.{is_request_row};
 ghost use Rattle.desk_texts.specs.declared.reply.Reply.TheVariants as replies;
 ghost use Rattle.desk_history.specs.declared.write.Write.TheVariants as puts;
 
-use super::{one, two};
+use super::{one_write, two_writes};
 use crate::rows::{return_row, vote_row};
 use crate::view::{Changes, View};
 use desk_bytes::Refusal;
@@ -155,7 +155,7 @@ pub(crate) fn review(
     let request = ballot.request;
     let state = view.state_after(ballot);
     let row = vote_row(alloc, caller, ballot)?;
-    two(
+    two_writes(
         alloc,
         Reply::Reviewed(Outcome { request, state }),
         Write::Vote(row),
@@ -179,7 +179,7 @@ pub(crate) fn withdraw(
         return Err(refusal);
     }
     let state = State::Withdrawn;
-    one(
+    one_write(
         alloc,
         Reply::Withdrawn(request),
         Write::State(Outcome { request, state }),
@@ -204,7 +204,7 @@ pub(crate) fn return_file(
     let request = returned_file.request;
     let row = return_row(alloc, caller, returned_file)?;
     let state = State::Signed;
-    two(
+    two_writes(
         alloc,
         Reply::Returned(request),
         Write::Return(row),

@@ -59,7 +59,7 @@ fn push_items<T: JsonText>(alloc: Global, text: &mut Vec<u8>, items: &[T]) -> Re
 }
 
 /// The array of the items in the text, each after a comma. Takes memory for its brackets.
-pub(crate) fn bracketed(mut text: Vec<u8>) -> Result<Vec<u8>, AllocError>
+pub(crate) fn in_brackets(mut text: Vec<u8>) -> Result<Vec<u8>, AllocError>
     ensures { IfOk result (λ whole. whole.items ≡ spec.bracketed text.items) }
 {
     if text.is_empty() {
@@ -80,5 +80,5 @@ pub(crate) fn array_text<T: JsonText>(alloc: Global, items: &[T]) -> Result<Vec<
 {
     let mut text = Vec::new(alloc);
     push_items(alloc, &mut text, items)?;
-    bracketed(text)
+    in_brackets(text)
 }

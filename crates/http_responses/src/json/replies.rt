@@ -16,7 +16,7 @@ fn word(alloc: Global, word: &str) -> Result<Value, AllocError>
 }
 
 /// A word, and the request that it is about.
-fn numbered(alloc: Global, word: &str, request: RequestNumber) -> Result<Value, AllocError>
+fn request_value(alloc: Global, word: &str, request: RequestNumber) -> Result<Value, AllocError>
     ensures { IfOk result (λ v. view v ≡ spec.numbered_data word.now request) }
 {
     let number = request.value();
@@ -24,7 +24,7 @@ fn numbered(alloc: Global, word: &str, request: RequestNumber) -> Result<Value, 
 }
 
 /// The state of a request after a review.
-fn reviewed(alloc: Global, outcome: Outcome) -> Result<Value, AllocError>
+fn review_value(alloc: Global, outcome: Outcome) -> Result<Value, AllocError>
     ensures { IfOk result (λ v. view v ≡ spec.reviewed_data outcome) }
 {
     let number = outcome.request.value();
@@ -33,7 +33,7 @@ fn reviewed(alloc: Global, outcome: Outcome) -> Result<Value, AllocError>
 }
 
 /// What an import changed.
-fn imported(alloc: Global, counts: Counts) -> Result<Value, AllocError>
+fn import_value(alloc: Global, counts: Counts) -> Result<Value, AllocError>
     ensures { IfOk result (λ v. view v ≡ spec.imported_data counts) }
 {
     let Counts {
@@ -60,7 +60,7 @@ fn of_proposal(alloc: Global, word: &str, proposal: ProposalNumber) -> Result<Va
 }
 
 /// What a proposal changed when it was confirmed.
-fn confirmed(alloc: Global, confirmation: Confirmation) -> Result<Value, AllocError>
+fn confirmation_value(alloc: Global, confirmation: Confirmation) -> Result<Value, AllocError>
     ensures { IfOk result (λ v. view v ≡ spec.confirmed_data confirmation) }
 {
     let number = confirmation.proposal.value();
@@ -86,17 +86,17 @@ fn value_of(alloc: Global, reply: &Reply) -> Result<Option<Value>, AllocError>
 {
     let value = match reply {
         Reply::Added(_) => return Ok(None),
-        Reply::Submitted(request) => numbered(alloc, "submitted", *request)?,
-        Reply::Reviewed(outcome) => reviewed(alloc, *outcome)?,
-        Reply::Withdrawn(request) => numbered(alloc, "withdrawn", *request)?,
-        Reply::Returned(request) => numbered(alloc, "returned", *request)?,
+        Reply::Submitted(request) => request_value(alloc, "submitted", *request)?,
+        Reply::Reviewed(outcome) => review_value(alloc, *outcome)?,
+        Reply::Withdrawn(request) => request_value(alloc, "withdrawn", *request)?,
+        Reply::Returned(request) => request_value(alloc, "returned", *request)?,
         Reply::Listed => word(alloc, "listed")?,
         Reply::Unlisted => word(alloc, "unlisted")?,
         Reply::Revoked => word(alloc, "revoked")?,
         Reply::Raised => word(alloc, "raised")?,
-        Reply::Imported(counts) => imported(alloc, *counts)?,
+        Reply::Imported(counts) => import_value(alloc, *counts)?,
         Reply::Proposed(proposal) => of_proposal(alloc, "proposed", *proposal)?,
-        Reply::Confirmed(confirmation) => confirmed(alloc, *confirmation)?,
+        Reply::Confirmed(confirmation) => confirmation_value(alloc, *confirmation)?,
         Reply::Dropped(proposal) => of_proposal(alloc, "dropped", *proposal)?,
     };
     Ok(Some(value))

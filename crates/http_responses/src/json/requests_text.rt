@@ -5,7 +5,7 @@ ghost use Rattle.desk_texts.specs.declared.shown.ShownRequest.{ShownRequest};
 ghost use Rattle.http_responses.specs.json.Arrays.{after_commas};
 ghost use Rattle.http_responses.specs.json.Requests.{request_data, requests_data};
 
-use crate::json::arrays::{bracketed, push_item};
+use crate::json::arrays::{in_brackets, push_item};
 use desk_texts::ShownRequest;
 use http_server::Log;
 use std::alloc::{AllocError, Global};
@@ -57,6 +57,6 @@ impl RequestsText {
     pub fn into_text(self) -> Result<Vec<u8>, AllocError>
         ensures { IfOk result (λ text. text.items ≡ compact_text (requests_data self)) }
     {
-        bracketed(self.text)
+        in_brackets(self.text)
     }
 }

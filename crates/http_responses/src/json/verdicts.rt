@@ -11,7 +11,7 @@ use serde_json::{Value, json};
 use std::alloc::{AllocError, Global};
 
 /// A verdict of one word.
-fn said(alloc: Global, word: &str) -> Result<Value, AllocError>
+fn one_word(alloc: Global, word: &str) -> Result<Value, AllocError>
     ensures { IfOk result (λ v. view v ≡ spec.said word.now) }
 {
     json!(in alloc; {"verdict": word})
@@ -42,16 +42,16 @@ fn value_of(
         (λ value. option_map view value ≡ spec.verdict_data components.now verdict) }
 {
     let value = match verdict {
-        Verdict::DbxDigest => said(alloc, "dbx-digest")?,
-        Verdict::DbxCertificate => said(alloc, "dbx-certificate")?,
-        Verdict::NotListed => said(alloc, "not-listed")?,
+        Verdict::DbxDigest => one_word(alloc, "dbx-digest")?,
+        Verdict::DbxCertificate => one_word(alloc, "dbx-certificate")?,
+        Verdict::NotListed => one_word(alloc, "not-listed")?,
         Verdict::Sbat(Below { place, needs }) => {
             let Some(component) = components.get(place) else {
                 return Ok(None);
             };
             below(alloc, needs, component)?
         }
-        Verdict::Allowed => said(alloc, "allowed")?,
+        Verdict::Allowed => one_word(alloc, "allowed")?,
     };
     Ok(Some(value))
 }

@@ -7,7 +7,7 @@ use Rattle.desk_bytes.proofs.guid.Guid.parse.Goals as goal
 pub returns-clause-ok : goal.returns-clause-ok
 returns-clause-ok c =
     let text = c.as_bytes-text.result.now in
-    let is : c.swapped.result ≡ swapped (joined c.in_ok-first.first c.in_ok-second.second c.in_ok-third.third c.in_ok-fourth.fourth c.in_ok-fifth.fifth) = c.swapped.ensures in
+    let is : c.swap_groups.result ≡ swapped (joined c.in_ok-first.first c.in_ok-second.second c.in_ok-third.third c.in_ok-fourth.fourth c.in_ok-fifth.fifth) = c.swap_groups.ensures in
     let g = groups_joined c.in_ok-first.first c.in_ok-second.second c.in_ok-third.third c.in_ok-fourth.fourth c.in_ok-fifth.fifth
     (search rules) (search rules) (search rules) (search rules) (search rules) in
     let whole : IsGuidText text (swapped (joined c.in_ok-first.first c.in_ok-second.second c.in_ok-third.third c.in_ok-fourth.fourth c.in_ok-fifth.fifth)) = record {
@@ -23,4 +23,4 @@ returns-clause-ok c =
       fourth = decoded (decode_of (slice_range text 19 23)) _ _ c.in_ok-fourth.ensures g.fourth;
       fifth = decoded (decode_of (slice_range text 24 36)) _ _ c.in_ok-fifth.ensures g.fifth;
     } in
-    subst (λ t. IsGuidText t c.swapped.result) c.as_bytes-text.ensures.value (rw is whole)
+    subst (λ t. IsGuidText t c.swap_groups.result) c.as_bytes-text.ensures.value (rw is whole)

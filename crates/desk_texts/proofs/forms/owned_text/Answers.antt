@@ -1,6 +1,6 @@
 use Rattle.std.proofs.lemmas.Str.{IsUtf8-from_ascii}
 use Rattle.desk_texts.proofs.FormLemmas.{printable-ascii}
-use Rattle.desk_texts.proofs.forms.held.Goals as goal
+use Rattle.desk_texts.proofs.forms.owned_text.Goals as goal
 
 -- printable text is ASCII
 pub returns-in_default : goal.returns-in_default
