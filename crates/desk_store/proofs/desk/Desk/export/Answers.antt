@@ -8,7 +8,7 @@ pub returns-in-Ok-clause-same : goal.returns-in-Ok-clause-same
 returns-in-Ok-clause-same g c clean other owner cs was =
     let old = c.args.self.now in
     let new : Desk _ = record c.args.self.now { conn = c.export.new.conn } in
-    reads_shown g.S.Store old new (c.in-Ok.ensures.spares owner cs was.shows) was.usable c.in-Ok.ensures.same refl refl owner cs was
+    reads_shown g.S.Store old new (c.in-Ok.ensures.spares owner cs was.shows) was.usable c.in-Ok.ensures.same refl refl refl owner cs was
 
 pub returns-in-Err-clause-same : goal.returns-in-Err-clause-same
 returns-in-Err-clause-same g c clean other owner cs was =
@@ -16,7 +16,7 @@ returns-in-Err-clause-same g c clean other owner cs was =
     let new : Desk _ = record c.args.self.now { conn = c.export.new.conn; needs_reopening = c.eq-self.result } in
     let differs : c.in-Err.failure ≢ refusals.Store = λ is. other (ap Err is) in
     let usable : c.eq-self.result ≡ false = (let e = c.eq-self.ensures in search (rules, e, differs)) in
-    reads_shown g.S.Store old new (c.in-Err.ensures.spares owner cs was.shows) usable c.in-Err.ensures.same refl refl owner cs was
+    reads_shown g.S.Store old new (c.in-Err.ensures.spares owner cs was.shows) usable c.in-Err.ensures.same refl refl refl owner cs was
 
 pub returns-in-Ok-clause-spares : goal.returns-in-Ok-clause-spares
 returns-in-Ok-clause-spares g c owner cs was = c.in-Ok.ensures.spares owner cs was.shows
