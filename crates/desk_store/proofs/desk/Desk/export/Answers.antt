@@ -1,4 +1,7 @@
-use Rattle.std.proofs.Common.{◌≡◌, ◌≢◌, Err, false, rules, refl, ap}
+use Rattle.std.proofs.Common.{◌≡◌, ◌≢◌, Err, false, rules, refl, ap, subst}
+use Rattle.std.specs.Io.KnownBytes.{Appends}
+use Rattle.desk_bytes.specs.Output.{AppendsBeginning}
+use Rattle.desk_exports.specs.Exports.{exported}
 use Rattle.desk_bytes.specs.declared.refusal.Refusal.TheVariants as refusals
 use Rattle.desk_store.specs.declared.desk.Desk.{Desk}
 use Rattle.desk_store.proofs.DeskLemmas.{reads_shown}
@@ -25,4 +28,10 @@ pub returns-in-Err-clause-spares : goal.returns-in-Err-clause-spares
 returns-in-Err-clause-spares g c owner cs was = c.in-Err.ensures.spares owner cs was.shows
 
 pub returns-in-Ok-clause-ok : goal.returns-in-Ok-clause-ok
-returns-in-Ok-clause-ok g c = search rules
+returns-in-Ok-clause-ok g c clean owner cs was =
+    subst (λ o. Appends (g.W.Write.contents c.args.writer.now) (g.W.Write.contents c.export.new.writer) (exported c.args.what o cs)) was.own (c.in-Ok.ensures.ok clean owner cs was.shows)
+
+pub returns-in-Err-clause-beginning : goal.returns-in-Err-clause-beginning
+returns-in-Err-clause-beginning g c clean owner cs was =
+    subst (λ o. AppendsBeginning (g.W.Write.contents c.args.writer.now) (g.W.Write.contents c.export.new.writer) (exported c.args.what o cs)) was.own
+    (c.in-Err.ensures.beginning clean owner cs was.shows)
