@@ -22,12 +22,13 @@ use Rattle.desk_store.proofs.OpeningLemmas.{still_leaves}
 
 -- a read that keeps the sizes and the person
 pub reads_shown : {S : Type 0} (g : store.Ghosts S) (old new : Desk S) → Survives (state g old.conn) (state g new.conn) (λ _. ⊥) → new.needs_reopening ≡ false
-    → ((owner : List ℕ) (cs : History) → ShowsHistory (state g old.conn) owner cs → ShowsHistory (state g new.conn) owner cs) → new.sizes ≡ old.sizes → new.kept_person ≡ old.kept_person
+    → ((owner : List ℕ) (cs : History) → ShowsHistory (state g old.conn) owner cs → ShowsHistory (state g new.conn) owner cs) → new.owner ≡ old.owner → new.sizes ≡ old.sizes → new.kept_person ≡ old.kept_person
     → (owner : List ℕ) (cs : History) → ShowsDesk g old owner cs → ShowsDesk g new owner cs
-reads_shown g old new s usable same sizes person owner cs was = record {
+reads_shown g old new s usable same own sizes person owner cs was = record {
   usable = usable;
   history = was.history;
   shows = same owner cs was.shows;
+  own = own ∙ was.own;
   sizes = rw sizes was.sizes;
   person = rw person was.person;
   left = still_leaves (λ db. HoldsHistory db owner cs) (state g old.conn) (state g new.conn) s was.left;
@@ -57,12 +58,13 @@ module _ {S : Type 0} (g : store.Ghosts S) (old new : Desk S) (c : Call) (taken 
   -- a call that commits nothing and changes no history
   pub stays_shown : Survives (state g old.conn) (state g new.conn) (λ _. ⊥) → new.needs_reopening ≡ false
       → ((owner : List ℕ) (cs : History) → ShowsHistory (state g old.conn) owner cs → ShowsHistory (state g new.conn) owner cs)
-      → ((p : Past (kept old.sizes taken)) → ShowsHistory (state g old.conn) p.owner p.calls → AreRight new.sizes (tables p.owner p.calls)) → new.kept_person ≡ None
+      → ((p : Past (kept old.sizes taken)) → ShowsHistory (state g old.conn) p.owner p.calls → AreRight new.sizes (tables p.owner p.calls)) → new.owner ≡ old.owner → new.kept_person ≡ None
       → (owner : List ℕ) (cs : History) → ShowsDesk g old owner cs → ShowsDesk g new owner cs
-  stays_shown s usable same right none owner cs was = record {
+  stays_shown s usable same right own none owner cs was = record {
     usable = usable;
     history = was.history;
     shows = same owner cs was.shows;
+    own = own ∙ was.own;
     sizes = right (past owner cs was) was.shows;
     person = rw none tt;
     left = still_leaves (λ db. HoldsHistory db owner cs) (state g old.conn) (state g new.conn) s was.left;
@@ -79,9 +81,9 @@ module _ {S : Type 0} (g : store.Ghosts S) (old new : Desk S) (c : Call) (taken 
   -- the desk after a call that was answered
   pub goes_on : (acted : Acted) → Runs (kept old.sizes taken) c acted (state g old.conn) (state g new.conn) → Survives (state g old.conn) (state g new.conn) (LeavesNext (state g old.conn) (kept old.sizes taken) c)
       → ((owner : List ℕ) (cs : History) → ShowsHistory (state g new.conn) owner cs → IsTrue (state g new.conn).is_open → LeavesHistory (state g new.conn) owner cs)
-      → IsCall c → new.sizes ≡ acted.sizes → new.kept_person ≡ None → new.needs_reopening ≡ old.needs_reopening
+      → IsCall c → new.owner ≡ old.owner → new.sizes ≡ acted.sizes → new.kept_person ≡ None → new.needs_reopening ≡ old.needs_reopening
       → (owner : List ℕ) (cs : History) → ShowsDesk g old owner cs → (answer cs c ≡ acted.answer) × ShowsDesk g new owner (next cs c)
-  goes_on acted runs s law formed sizes none same owner cs was =
+  goes_on acted runs s law formed own sizes none same owner cs was =
       let it = runs.answered (past owner cs was) was.shows in
       let shows = runs.shown (past owner cs was) was.shows in (
         it.exact,
@@ -89,6 +91,7 @@ module _ {S : Type 0} (g : store.Ghosts S) (old new : Desk S) (c : Call) (taken 
           usable = same ∙ was.usable;
           history = next_history cs c was.history formed;
           shows = shows;
+          own = own ∙ was.own;
           sizes = rw sizes it.right;
           person = rw none tt;
           left = elim (is_accepted (answer cs c)) as (λ b. is_accepted (answer cs c) ≡ b → LeavesHistory (state g new.conn) owner (next cs c)) [

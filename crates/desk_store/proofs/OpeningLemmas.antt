@@ -28,8 +28,10 @@ use Rattle.store_schema.specs.Columns.{by_first, columns_after, names_of}
 use Rattle.store_schema.specs.Tables.{desk}
 use Rattle.store_schema.specs.declared.selecting.TheConstants.{SELECT_DESK}
 use Rattle.store_schema.proofs.SelectFacts.{select_desk, select_first_desk}
-use Rattle.desk_store.specs.Rows.{AreOf, AreOfNone, ReadsAs, desk_columns}
-use Rattle.desk_store.specs.Steps.{AreShownAs, AreShownAsNone, IsDeskSchema, ReadsInside, RefusesColumns, RefusesText, SeesRows, ShowsRows, TellsOpen, UnreadInside}
+use Rattle.desk_store.specs.Rows.{AreBy, AreOfNone, ReadsBy, desk_columns}
+use Rattle.desk_store.specs.Steps.{AreShownAs, AreShownAsNone, IsDeskSchema, IsOwnerOf, ReadsInside, RefusesColumns, RefusesText, SeesRows, ShowsRows, TellsOpen, UnreadInside}
+use Rattle.desk_store.specs.declared.opening.OwnRow.{OwnRow}
+use Rattle.desk_store.proofs.VersionLemmas.{one_owner}
 
 pub unchanged_keeps : (old new : State) → IsUnchanged old new → KeepsCommit old new
 unchanged_keeps old new same = record { was_open = λ _. same.0.was_open; committed = λ _. same.0.committed_is }
@@ -70,11 +72,12 @@ selected old mid new answer same selects schema c rows of_desk sees has =
     (record { inside = same.0.mode ∙ sees.inside; holds = subst (λ (d : Database). Holds schema d c) (sym same.0.now_is) sees.holds }) has
 
 -- where one answer reads as a desk, each does
-pub read_alike : (rows answer : List Row) (version : ℕ) → IsSelected desk [] (by_first 1 desk) (columns_after 1 desk) [] rows answer → AreOf rows version → ReadsAs answer version
-read_alike rows answer version it other =
+pub read_alike : (rows answer : List Row) (version : ℕ) (owner : List ℕ) → IsSelected desk [] (by_first 1 desk) (columns_after 1 desk) [] rows answer → AreBy rows version owner
+    → ReadsBy answer version owner
+read_alike rows answer version owner it other =
     let reads = other.2 in
     let same = IsPermutation-trans _ _ _ (IsPermutation-sym _ _ other.1.same) it.same in
-    (reads.0, reads.1, reads.2, reads.3, one_permutation (desk_columns reads.0 version reads.1) answer (subst (λ l. IsPermutation l answer) reads.4 same))
+    (reads.0, reads.1, reads.2, one_permutation (desk_columns owner version reads.0) answer (subst (λ l. IsPermutation l answer) reads.3 same))
 
 -- where the store hasn't the tables of a desk it shows no rows of them
 pub no_rows : (s : State) (refusal : Refusal) → RefusesColumns s refusal → refusal ≡ refusals.NotADesk → (schema : Schema) (c : Contents) → IsDeskSchema schema → Sees schema s c → ⊥
@@ -96,13 +99,21 @@ module _ {S : Type 0} (g : store.Ghosts S) (old : Held S) where
   shown_before : (of_rows : List Row → Type 0) → HasCleanDisk (state g old) → IsTrue begun.is_open → SeesRows begun of_rows → ShowsRows (state g old) (λ _ rows. of_rows rows)
   shown_before of_rows clean live sees schema c rows of_desk shows has = sees schema c rows of_desk (record { inside = refl; holds = (shows.holds clean live).0 }) has
 
-  pub read_before : (result : Result ℕ Refusal) → HasCleanDisk (state g old) → TellsOpen begun result → ReadsInside begun result → IfOk result (AreShownAs (state g old))
-  read_before (Ok version) clean live reads = shown_before (λ rows. AreOf rows version) clean live reads
+  pub read_before : (result : Result OwnRow Refusal) → HasCleanDisk (state g old) → TellsOpen begun result → ReadsInside begun result
+      → IfOk result (λ own. AreShownAs (state g old) own.version)
+  read_before (Ok own) clean live reads = λ schema c rows of_desk shows has.
+      let it = shown_before (λ rows. AreBy rows own.version own.owner) clean live reads schema c rows of_desk shows has in
+      (it.0, it.1, (own.owner, it.2))
   read_before (Err refusal) clean live reads = tt
 
-  pub unread_before : (result : Result ℕ Refusal) → HasCleanDisk (state g old) → TellsOpen begun result → UnreadInside begun result
+  pub owner_before : (result : Result OwnRow Refusal) → HasCleanDisk (state g old) → TellsOpen begun result → ReadsInside begun result
+      → IfOk result (λ own. IsOwnerOf (state g old) own.owner)
+  owner_before (Ok own) clean live reads = one_owner (state g old) own.version own.owner (shown_before (λ rows. AreBy rows own.version own.owner) clean live reads)
+  owner_before (Err refusal) clean live reads = tt
+
+  pub unread_before : (result : Result OwnRow Refusal) → HasCleanDisk (state g old) → TellsOpen begun result → UnreadInside begun result
       → IfErr result (λ refusal. refusal ≡ refusals.NotADesk → AreShownAsNone (state g old))
-  unread_before (Ok version) clean live unread = tt
+  unread_before (Ok own) clean live unread = tt
   unread_before (Err refusal) clean live unread = λ is. shown_before AreOfNone clean (live is) (unread is)
 
 -- a stop leaves what it left before

@@ -24,6 +24,7 @@ module _ {S : Type 0} (g : store.Ghosts S) (desk : Desk S) where
     usable = was.usable;
     history = was.history;
     shows = was.shows;
+    own = was.own;
     sizes = was.sizes;
     person = one;
     left = was.left;

@@ -12,18 +12,31 @@ use Rattle.store_schema.specs.Tables.{desk}
 abbrev pub desk_columns : List ℕ → ℕ → ℕ → Row
 desk_columns owner version stamp = Int (pos 1) ∷ Text (codes "boot-desk") ∷ Int (pos version) ∷ Blob owner ∷ Int (pos stamp) ∷ []
 
--- the bytes of a GUID
-abbrev pub IsGuid : Value → Type 0
-IsGuid value = (guid : List ℕ) × (value ≡ Blob guid) × (length guid ≡ 16)
+-- the value is the bytes of this GUID
+abbrev pub IsGuid : Value → List ℕ → Type 0
+IsGuid value guid = (value ≡ Blob guid) × (length guid ≡ 16)
 
--- own: the answer is one row, which reads as that of a desk of this version: the owner has 16
--- bytes, the stamp ten digits
+-- own: the answer is one row, which reads as that of a desk of this version with this owner: the
+-- owner has 16 bytes, the stamp ten digits
+abbrev pub ReadsBy : List Row → ℕ → List ℕ → Type 0
+ReadsBy answer version owner = (stamp : ℕ) × (length owner ≡ 16) × (is_stamp stamp ≡ true) × (answer ≡ desk_columns owner version stamp ∷ [])
+
+-- it reads as that of a desk of this version
 abbrev pub ReadsAs : List Row → ℕ → Type 0
-ReadsAs answer version = (owner : List ℕ) × (stamp : ℕ) × (length owner ≡ 16) × (is_stamp stamp ≡ true) × (answer ≡ desk_columns owner version stamp ∷ [])
+ReadsAs answer version = (owner : List ℕ) × ReadsBy answer version owner
 
--- a SELECT of whole rows shows these rows of the table `desk` as those of a desk of this version
+-- a SELECT of whole rows of the table `desk`, which has these rows, gives an answer of which this
+-- holds
+abbrev pub AreSelected : List Row → (List Row → Type 0) → Type 0
+AreSelected rows told = (answer : List Row) × IsSelected desk [] (by_first 1 desk) (columns_after 1 desk) [] rows answer × told answer
+
+-- it shows them as those of a desk of this version
 abbrev pub AreOf : List Row → ℕ → Type 0
-AreOf rows version = (answer : List Row) × IsSelected desk [] (by_first 1 desk) (columns_after 1 desk) [] rows answer × ReadsAs answer version
+AreOf rows version = AreSelected rows (λ answer. ReadsAs answer version)
+
+-- it shows them as those of a desk of this version with this owner
+abbrev pub AreBy : List Row → ℕ → List ℕ → Type 0
+AreBy rows version owner = AreSelected rows (λ answer. ReadsBy answer version owner)
 
 -- it shows them as those of no desk
 abbrev pub AreOfNone : List Row → Type 0

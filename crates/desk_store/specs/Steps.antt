@@ -10,14 +10,16 @@ use Rattle.sqlite.specs.declared.error.Error.TheVariants.{SqlInputError}
 use Rattle.sqlite_resolve.specs.declared.error.CompileError.{CompileError}
 use Rattle.desk_bytes.specs.declared.refusal.Refusal.{Refusal}
 use Rattle.desk_bytes.specs.declared.refusal.Refusal.TheVariants as refusals
+use Rattle.desk_history.specs.Calls.{History}
 use Rattle.store_reads.specs.Failures.{IsFailure}
 use Rattle.store_sql.specs.Contents.{Contents}
 use Rattle.store_sql.specs.States.{Sees, Shows}
 use Rattle.store_schema.specs.Tables.{desk_schema, first_schema, no_schema}
-use Rattle.store_schema.specs.rows.Histories.{rows_of}
+use Rattle.store_schema.specs.rows.Histories.{ShowsFirst, ShowsHistory, rows_of}
 use Rattle.store_migration.specs.Migrations.{Migrates}
 use Rattle.store_migration.specs.Names.{takes_a_name}
-use Rattle.desk_store.specs.Rows.{AreOf, AreOfNone}
+use Rattle.desk_store.specs.Rows.{AreBy, AreOf, AreOfNone}
+use Rattle.desk_store.specs.declared.opening.OwnRow.{OwnRow}
 
 -- in a sound store without tables the desk's tables are made, with the rows of a desk without
 -- calls; nothing is committed
@@ -43,8 +45,8 @@ RefusesColumns s refusal = IsFailure refusal ⊎ ((refusal ≡ refusals.NotADesk
 abbrev pub IsReadRefusal : Refusal → Type 0
 IsReadRefusal refusal = (refusal ≡ refusals.NotADesk) ⊎ IsFailure refusal
 
--- the store is open if a version was read, or if there is no desk
-abbrev pub TellsOpen : State → Result ℕ Refusal → Type 0
+-- the store is open if a desk's row was read, or if there is no desk
+abbrev pub TellsOpen : State → Result OwnRow Refusal → Type 0
 TellsOpen s result = MatchResult result (λ _. IsTrue s.is_open) (λ refusal. refusal ≡ refusals.NotADesk → IsTrue s.is_open)
 
 -- inside a transaction: this holds of the rows of the table `desk`, whichever version the tables
@@ -53,12 +55,12 @@ abbrev pub SeesRows : State → (List Row → Type 0) → Type 0
 SeesRows s told =
     (schema : Schema) (c : Contents) (rows : List Row) → IsDeskSchema schema → Sees schema s c → slice_get c 0 ≡ Some rows → told rows
 
--- the rows read as those of a desk of this version
-abbrev pub ReadsInside : State → Result ℕ Refusal → Type 0
-ReadsInside s result = IfOk result (λ version. SeesRows s (λ rows. AreOf rows version))
+-- the rows read as those of a desk of this version with this owner
+abbrev pub ReadsInside : State → Result OwnRow Refusal → Type 0
+ReadsInside s result = IfOk result (λ own. SeesRows s (λ rows. AreBy rows own.version own.owner))
 
 -- if there is no desk, the rows read as those of none
-abbrev pub UnreadInside : State → Result ℕ Refusal → Type 0
+abbrev pub UnreadInside : State → Result OwnRow Refusal → Type 0
 UnreadInside s result = IfErr result (λ refusal. refusal ≡ refusals.NotADesk → SeesRows s AreOfNone)
 
 -- outside: this holds of the tables and of the rows of `desk`, whichever version the tables have
@@ -84,6 +86,10 @@ abbrev pub AreShownTaken : State → Type 0
 AreShownTaken s = ShowsRows s (λ schema rows. AreOf rows 1 × IsTrue (takes_a_name schema))
 
 -- ---- the desk that an opening finds, by the connection before it
+
+-- the owner of each history that it shows, in either version
+abbrev pub IsOwnerOf : State → List ℕ → Type 0
+IsOwnerOf s owner = (o : List ℕ) (cs : History) → ShowsFirst s o cs ⊎ ShowsHistory s o cs → owner ≡ o
 
 -- a desk of version 2, or one of version 1 with the names free
 abbrev pub FindsKnown : State → Type 0

@@ -35,12 +35,13 @@ use std::alloc::Global;
 use store_sql::stop_leaves_what_is_shown;
 use store_views::KeptSizes;
 
-/// A desk in a store. It has the connection, the sizes of its tables that it has counted, and the
-/// person whom `person_of` found, for the next call.
+/// A desk in a store. It has the connection, the owner of each entry that it exports, the sizes of
+/// its tables that it has counted, and the person whom `person_of` found, for the next call.
 #[derive(Drop)]
 pub struct Desk<S: Alter> {
     pub(crate) alloc: Global,
     pub(crate) conn: Connection<S>,
+    pub(crate) owner: Guid,
     pub(crate) sizes: KeptSizes,
     pub(crate) kept_person: Option<Person>,
     pub(crate) needs_reopening: bool,
@@ -83,6 +84,7 @@ impl<S: Alter + Drop> Desk<S> {
                 Ok(Desk {
                     alloc,
                     conn,
+                    owner: *owner,
                     sizes: KeptSizes::unknown(),
                     kept_person: None,
                     needs_reopening: false,
@@ -153,12 +155,13 @@ impl<S: Alter + Drop> Desk<S> {
         stop_leaves_what_is_shown(&conn);
         lives_keep_what_was_answered();
         match bring_up(&mut conn) {
-            Ok(()) => {
+            Ok(owner) => {
                 stop_leaves_what_is_shown(&conn);
                 keys_stand_once();
                 Ok(Desk {
                     alloc,
                     conn,
+                    owner,
                     sizes: KeptSizes::unknown(),
                     kept_person: None,
                     needs_reopening: false,

@@ -16,8 +16,7 @@ use std::io::Write;
 use store_exports::export;
 
 impl<S: Alter + Drop> Desk<S> {
-    /// Writes an export. Each row is written as the store gives it. Takes memory for the desk's own
-    /// row and for one row of the export.
+    /// Writes an export. Each row is written as the store gives it. Takes memory for one row.
     ///
     /// `Write`: the writer failed. `NoMemory`: memory was refused. `Store`: the store failed, or
     /// isn't as a desk left it. After each the writer holds a prefix of the export, which may be
@@ -45,7 +44,7 @@ impl<S: Alter + Drop> Desk<S> {
         if self.needs_reopening {
             return Err(Refusal::Reopen);
         }
-        match export(self.alloc, &mut self.conn, what, writer) {
+        match export(self.alloc, &mut self.conn, what, self.owner, writer) {
             Ok(()) => Ok(()),
             Err(failure) => {
                 self.needs_reopening = failure == Refusal::Store;

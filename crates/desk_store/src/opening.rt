@@ -9,12 +9,13 @@ ghost use Rattle.desk_history.specs.Calls.{History};
 ghost use Rattle.store_sql.specs.States.{CommitsNothing, Spares};
 ghost use Rattle.store_schema.specs.rows.Histories.{HoldsFirst, HoldsHistory, ShowsFirst, ShowsHistory};
 ghost use Rattle.store_migration.specs.Migrations.{KeepsShown};
-ghost use Rattle.desk_store.specs.Rows.{IsGuid, ReadsAs};
+ghost use Rattle.desk_store.specs.Rows.{IsGuid, ReadsBy};
 ghost use Rattle.desk_store.specs.Steps.{AreShownAs, AreShownAsNone, Brings, FindsKnown, FindsNone};
-ghost use Rattle.desk_store.specs.Steps.{FindsOther, IsReadRefusal, ReadsInside, RefusesColumns};
-ghost use Rattle.desk_store.specs.Steps.{RefusesText, TellsOpen, UnreadInside};
+ghost use Rattle.desk_store.specs.Steps.{FindsOther, IsOwnerOf, IsReadRefusal, ReadsInside};
+ghost use Rattle.desk_store.specs.Steps.{RefusesColumns, RefusesText, TellsOpen, UnreadInside};
+ghost use Rattle.desk_store.specs.declared.opening.OwnRow.{OwnRow as Own};
 
-use desk_bytes::Refusal;
+use desk_bytes::{Guid, Refusal};
 use sbat::Stamp;
 use sqlite::types::ValueRef;
 use sqlite::{Alter, Connection, Error, Row, Transaction};
@@ -25,6 +26,13 @@ use store_writes::{MARK, VERSION};
 
 /// The version of the files of desks with one officer.
 const FIRST_VERSION: u64 = 1;
+
+/// The version and the owner in the desk's own row.
+#[derive(Clone, Copy)]
+struct OwnRow {
+    version: u64,
+    owner: Guid,
+}
 
 /// The natural number in a column.
 fn number_at(row: &Row, at: usize) -> Option<u64>
@@ -53,23 +61,26 @@ fn has_mark(row: &Row, at: usize) -> bool
     }
 }
 
-/// Whether a column has the bytes of a GUID.
-fn has_guid(row: &Row, at: usize) -> bool
-    ensures found { (guid : List ℕ) → at < length row.now → column row.now at ≡ Blob guid
-        → length guid ≡ 16 → IsTrue result }
-    ensures read { IsTrue result → IsGuid (column row.now at) }
+/// The GUID in a column.
+fn guid_at(row: &Row, at: usize) -> Option<Guid>
+    ensures found { (guid : List ℕ) → at < length row.now → IsGuid (column row.now at) guid
+        → result ≡ Some guid }
+    ensures read { IfSome result (IsGuid (column row.now at)) }
 {
     match row.get_ref(at) {
-        Ok(ValueRef::Blob(bytes)) => bytes.len() == 16,
-        _ => false,
+        Ok(ValueRef::Blob(bytes)) => match <[u8; 16]>::try_from(bytes) {
+            Ok(bytes) => Some(Guid::from(bytes)),
+            Err(_) => None,
+        },
+        _ => None,
     }
 }
 
-/// The version in the only row, if it reads as a desk's: the id 1, the mark, a version, an owner
-/// of 16 bytes, a stamp of ten digits.
-fn version_in(rows: &[Row]) -> Option<u64>
-    ensures found { (version : ℕ) → ReadsAs rows.now version → result ≡ Some version }
-    ensures read { IfSome result (ReadsAs rows.now) }
+/// The version and the owner in the only row, if it reads as a desk's: the id 1, the mark, a
+/// version, an owner of 16 bytes, a stamp of ten digits.
+fn own_row_in(rows: &[Row]) -> Option<OwnRow>
+    ensures found { (own : Own) → ReadsBy rows.now own.version own.owner → result ≡ Some own }
+    ensures read { IfSome result (λ own. ReadsBy rows.now own.version own.owner) }
 {
     let [row] = rows else {
         return None;
@@ -79,10 +90,11 @@ fn version_in(rows: &[Row]) -> Option<u64>
     }
     let id = number_at(row, 0)?;
     let version = number_at(row, 2)?;
+    let owner = guid_at(row, 3)?;
     let stamp = number_at(row, 4)?;
     let _stamp = Stamp::new(stamp)?;
-    if id == 1 && has_mark(row, 1) && has_guid(row, 3) {
-        Some(version)
+    if id == 1 && has_mark(row, 1) {
+        Some(OwnRow { version, owner })
     } else {
         None
     }
@@ -121,8 +133,8 @@ fn ask_columns<S: Alter>(tx: &mut Transaction<'_, S>) -> Result<(), Refusal>
     Err(StoreFault::from(error).refusal())
 }
 
-/// The version of the desk, from its row. `NotADesk`: no such row reads as a desk's.
-fn version_of<S: Alter>(tx: &mut Transaction<'_, S>) -> Result<u64, Refusal>
+/// The version and the owner of the desk, from its row. `NotADesk`: no such row reads as a desk's.
+fn own_row_of<S: Alter>(tx: &mut Transaction<'_, S>) -> Result<OwnRow, Refusal>
     ensures same_reference { tx.new.conn.ghost_name ≡ tx.old.conn.ghost_name }
     ensures open { HasCleanDisk (state S.Store tx.new.conn.now)
         → TellsOpen (state S.Store tx.old.conn.now) result }
@@ -141,8 +153,8 @@ fn version_of<S: Alter>(tx: &mut Transaction<'_, S>) -> Result<u64, Refusal>
         Err(refusal) => return Err(refusal),
     }
     match select(tx, SELECT_DESK, &[]) {
-        Ok(rows) => match version_in(&rows) {
-            Some(version) => Ok(version),
+        Ok(rows) => match own_row_in(&rows) {
+            Some(own) => Ok(own),
             None => Err(Refusal::NotADesk),
         },
         Err(error) => Err(StoreFault::from(error).refusal()),
@@ -150,13 +162,15 @@ fn version_of<S: Alter>(tx: &mut Transaction<'_, S>) -> Result<u64, Refusal>
 }
 
 /// The same, outside a transaction. It commits nothing.
-fn read_version<S: Alter>(conn: &mut Connection<S>) -> Result<u64, Refusal>
+fn read_own_row<S: Alter>(conn: &mut Connection<S>) -> Result<OwnRow, Refusal>
     requires outside { conn.old.in_transaction ≡ false }
     ensures outside { conn.new.in_transaction ≡ false }
     ensures shown { HasCleanDisk (state S.Store conn.new)
         → KeepsShown (state S.Store conn.old) (state S.Store conn.new) }
     ensures read { HasCleanDisk (state S.Store conn.new)
-        → IfOk result (AreShownAs (state S.Store conn.old)) }
+        → IfOk result (λ own. AreShownAs (state S.Store conn.old) own.version) }
+    ensures owner { HasCleanDisk (state S.Store conn.new)
+        → IfOk result (λ own. IsOwnerOf (state S.Store conn.old) own.owner) }
     ensures unread { HasCleanDisk (state S.Store conn.new) → IfErr result (λ e.
         e ≡ Refusal.NotADesk → AreShownAsNone (state S.Store conn.old)) }
     ensures open { HasCleanDisk (state S.Store conn.new)
@@ -165,17 +179,18 @@ fn read_version<S: Alter>(conn: &mut Connection<S>) -> Result<u64, Refusal>
     ensures survives { Spares S.Store conn.old conn.new }
 {
     let mut tx = conn.transaction();
-    let read = version_of(&mut tx);
+    let read = own_row_of(&mut tx);
     tx.rollback();
     read
 }
 
-/// Finds a desk of version 2, or migrates one of version 1, by one commit, the last call.
+/// Finds a desk of version 2, or migrates one of version 1, by one commit, the last call. Returns
+/// the desk's owner.
 ///
 /// `NotADesk`: no row reads as a desk's, or a name that version 2 adds is taken. `Version`: the
 /// desk is of another version. `NoMemory`: nothing was committed. `Store`: nothing was, or
 /// everything.
-pub(crate) fn bring_up<S: Alter>(conn: &mut Connection<S>) -> Result<(), Refusal>
+pub(crate) fn bring_up<S: Alter>(conn: &mut Connection<S>) -> Result<Guid, Refusal>
     requires outside { conn.old.in_transaction ≡ false }
     ensures outside { conn.new.in_transaction ≡ false }
     ensures second { HasCleanDisk (state S.Store conn.new) → (owner : List ℕ) (cs : History)
@@ -188,6 +203,8 @@ pub(crate) fn bring_up<S: Alter>(conn: &mut Connection<S>) -> Result<(), Refusal
 
     ensures read { HasCleanDisk (state S.Store conn.new)
         → OnOk result (FindsKnown (state S.Store conn.old)) }
+    ensures owner { HasCleanDisk (state S.Store conn.new)
+        → IfOk result (IsOwnerOf (state S.Store conn.old)) }
     ensures other { HasCleanDisk (state S.Store conn.new) → IfErr result (λ e.
         e ≡ Refusal.Version → FindsOther (state S.Store conn.old)) }
     ensures unread { HasCleanDisk (state S.Store conn.new) → IfErr result (λ e.
@@ -205,18 +222,18 @@ pub(crate) fn bring_up<S: Alter>(conn: &mut Connection<S>) -> Result<(), Refusal
     ensures survives { Survives (state S.Store conn.old) (state S.Store conn.new)
         (Brings (state S.Store conn.old)) }
 {
-    let version = match read_version(conn) {
-        Ok(version) => version,
+    let own = match read_own_row(conn) {
+        Ok(own) => own,
         Err(refusal) => return Err(refusal),
     };
-    if version == u64::from(VERSION) {
-        return Ok(());
+    if own.version == u64::from(VERSION) {
+        return Ok(own.owner);
     }
-    if version != FIRST_VERSION {
+    if own.version != FIRST_VERSION {
         return Err(Refusal::Version);
     }
     match migrate(conn) {
-        Ok(()) => Ok(()),
+        Ok(()) => Ok(own.owner),
         Err(refusal) => Err(refusal),
     }
 }

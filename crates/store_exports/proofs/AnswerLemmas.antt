@@ -64,7 +64,7 @@ module _ {X : Type 0} (at : ℕ) (table : Table) (text : List ℕ) (terms : List
       let ys = lists table terms params item p tested (by_first ordered table) rest shown shows (part (tables owner cs)) answer it in
       ys.2 ∙ ap (map shown) (order owner cs ys.0 ys.1 ys.3)
 
-  pub writes : (new : State) (before after : Option (List ℕ)) → WritesAnswer (IsPart shown bytes) text params s new before after → WritesOf s before after (λ _ cs. flat_map bytes (wanted cs))
+  pub writes : (new : State) (before after : Option (List ℕ)) → WritesAnswer (IsPart shown bytes) text params s new before after → WritesOf s before after (λ cs. flat_map bytes (wanted cs))
   writes new before after w owner cs was =
       let held : Holds desk_schema s.now (contents (tables owner cs)) = (was.holds (clean owner cs was) w.live).0 in
       let it = (w.exact desk_schema at table terms (by_first ordered table) rest names means held.listed).1 (contents (tables owner cs)) (map item (part (tables owner cs))) held (has (tables owner cs)) in
@@ -83,7 +83,7 @@ module _ {X : Type 0} (at : ℕ) (table : Table) (text : List ℕ) (terms : List
   joined : (ahead behind : List X) (cs : History) → wanted cs ≡ ahead ++ behind → flat_map bytes ahead ++ flat_map bytes behind ≡ flat_map bytes (wanted cs)
   joined ahead behind cs is = sym (flat_map-append bytes ahead behind) ∙ ap (flat_map bytes) (sym is)
 
-  pub begins : (before after : Option (List ℕ)) → WritesFirst (IsPart shown bytes) text params s before after → BeginsOf s before after (λ _ cs. flat_map bytes (wanted cs))
+  pub begins : (before after : Option (List ℕ)) → WritesFirst (IsPart shown bytes) text params s before after → BeginsOf s before after (λ cs. flat_map bytes (wanted cs))
   begins before after w owner cs was = elim w.ends [
     | inl same ↦ elim w.begins [
       | inl none ↦
@@ -110,6 +110,6 @@ module _ {X : Type 0} (at : ℕ) (table : Table) (text : List ℕ) (terms : List
         (AppendsBeginning-before w.mid after (bytes one.0) (flat_map bytes (one.1 ++ it.1)) mine))
   ]
 
-  pub told : ((new : State) (before after : Option (List ℕ)) → WritesAnswer (IsPart shown bytes) text params s new before after → WritesOf s before after (λ _ cs. flat_map bytes (wanted cs)))
-      × ((before after : Option (List ℕ)) → WritesFirst (IsPart shown bytes) text params s before after → BeginsOf s before after (λ _ cs. flat_map bytes (wanted cs)))
+  pub told : ((new : State) (before after : Option (List ℕ)) → WritesAnswer (IsPart shown bytes) text params s new before after → WritesOf s before after (λ cs. flat_map bytes (wanted cs)))
+      × ((before after : Option (List ℕ)) → WritesFirst (IsPart shown bytes) text params s before after → BeginsOf s before after (λ cs. flat_map bytes (wanted cs)))
   told = (writes, begins)

@@ -18,13 +18,13 @@ module _ {S X E : Type 0} (g : store.Ghosts S) (head : ℕ → List ℕ) (entry 
     (some : (ds : List (List ℕ)) (n : ℕ) → 1 ≤ n → n ≡ length ds → head n ++ flat_map entry ds ≡ parts ds)
     (what : Counted) (ds : History → List (List ℕ)) (sized : (owner : List ℕ) (cs : History) → counted what (tables owner cs) ≡ length (ds cs))
     (a b : Held S) (stays : StaysOf (state g a) (state g b)) (spared : Survives (state g a) (state g b) (λ _. ⊥)) (n : ℕ) (size : HasCleanDisk (state g b) → IsSizeOf (state g a) what n) where
-  pub empty : (x : Option (List ℕ)) (v : X) → n ≡ 0 → Exports {E = E} g a b x x (Ok v) (λ _ cs. parts (ds cs))
-  empty x v zero = nothing g a b x v (λ _ cs. parts (ds cs)) stays spared (λ clean owner cs was. none (ds cs) (sym zero ∙ size clean owner cs was ∙ sized owner cs))
+  pub empty : (x : Option (List ℕ)) (v : X) → n ≡ 0 → Exports {E = E} g a b x x (Ok v) (λ cs. parts (ds cs))
+  empty x v zero = nothing g a b x v (λ cs. parts (ds cs)) stays spared (λ clean owner cs was. none (ds cs) (sym zero ∙ size clean owner cs was ∙ sized owner cs))
 
-  pub head_stopped : (x y : Option (List ℕ)) (e : E) → 1 ≤ n → AppendsBeginning x y (head n) → Exports {X = X} g a b x y (Err e) (λ _ cs. parts (ds cs))
-  head_stopped x y e more begun = stopped_read g a b x y e (λ _ cs. parts (ds cs)) stays spared
+  pub head_stopped : (x y : Option (List ℕ)) (e : E) → 1 ≤ n → AppendsBeginning x y (head n) → Exports {X = X} g a b x y (Err e) (λ cs. parts (ds cs))
+  head_stopped x y e more begun = stopped_read g a b x y e (λ cs. parts (ds cs)) stays spared
       (λ clean owner cs was. subst (AppendsBeginning x y) (some (ds cs) n more (size clean owner cs was ∙ sized owner cs)) (AppendsBeginning-before x y (head n) (flat_map entry (ds cs)) begun))
 
-  pub whole : (c : Held S) (x y z : Option (List ℕ)) (r : Result X E) → 1 ≤ n → Appends x y (head n) → Exports g b c y z r (λ _ cs. flat_map entry (ds cs)) → Exports g a c x z r (λ _ cs. parts (ds cs))
-  whole c x y z r more put it = after_read g a b c x z r (λ _ cs. head n ++ flat_map entry (ds cs)) (λ _ cs. parts (ds cs)) stays spared
-      (λ clean owner cs was. some (ds cs) n more (size clean owner cs was ∙ sized owner cs)) (after_write g b c x y z r (head n) (λ _ cs. flat_map entry (ds cs)) put it)
+  pub whole : (c : Held S) (x y z : Option (List ℕ)) (r : Result X E) → 1 ≤ n → Appends x y (head n) → Exports g b c y z r (λ cs. flat_map entry (ds cs)) → Exports g a c x z r (λ cs. parts (ds cs))
+  whole c x y z r more put it = after_read g a b c x z r (λ cs. head n ++ flat_map entry (ds cs)) (λ cs. parts (ds cs)) stays spared
+      (λ clean owner cs was. some (ds cs) n more (size clean owner cs was ∙ sized owner cs)) (after_write g b c x y z r (head n) (λ cs. flat_map entry (ds cs)) put it)

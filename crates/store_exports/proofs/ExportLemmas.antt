@@ -28,8 +28,8 @@ one_digest x y h = cc
 -- a query's answer writes these bytes of each history, and a part of it a beginning of them
 abbrev pub Told : {X : Type 0} → (X → Row) → (X → List ℕ) → List ℕ → Row → State → (History → List X) → Type 1
 Told shown bytes text params s wanted =
-    ((new : State) (before after : Option (List ℕ)) → WritesAnswer (IsPart shown bytes) text params s new before after → WritesOf s before after (λ _ cs. flat_map bytes (wanted cs)))
-    × ((before after : Option (List ℕ)) → WritesFirst (IsPart shown bytes) text params s before after → BeginsOf s before after (λ _ cs. flat_map bytes (wanted cs)))
+    ((new : State) (before after : Option (List ℕ)) → WritesAnswer (IsPart shown bytes) text params s new before after → WritesOf s before after (λ cs. flat_map bytes (wanted cs)))
+    × ((before after : Option (List ℕ)) → WritesFirst (IsPart shown bytes) text params s before after → BeginsOf s before after (λ cs. flat_map bytes (wanted cs)))
 
 module _ (s : State) (clean : (owner : List ℕ) (cs : History) → ShowsHistory s owner cs → HasCleanDisk s) where
   pub tells_digests : (by : List ℕ) → Told digest_values (sha256_entry_bytes by) SELECT_REVOKED_DIGESTS.now [] s (revoked kinds.Digest)

@@ -27,8 +27,8 @@ spares_then a b c one two = survives_then a b c (λ _. ⊥) (λ _. ⊥) (λ _. �
 
 module _ {S X E : Type 0} (g : store.Ghosts S) where
   -- a read came before, which may determine the bytes
-  pub after_read : (a b c : Held S) (x y : Option (List ℕ)) (r : Result X E) (f h : List ℕ → History → List ℕ) → StaysOf (state g a) (state g b) → Survives (state g a) (state g b) (λ _. ⊥)
-      → (HasCleanDisk (state g b) → (owner : List ℕ) (cs : History) → ShowsHistory (state g a) owner cs → f owner cs ≡ h owner cs) → Exports g b c x y r f → Exports g a c x y r h
+  pub after_read : (a b c : Held S) (x y : Option (List ℕ)) (r : Result X E) (f h : History → List ℕ) → StaysOf (state g a) (state g b) → Survives (state g a) (state g b) (λ _. ⊥)
+      → (HasCleanDisk (state g b) → (owner : List ℕ) (cs : History) → ShowsHistory (state g a) owner cs → f cs ≡ h cs) → Exports g b c x y r f → Exports g a c x y r h
   after_read a b c x y r f h stays spared same it = record {
     wrote = λ clean. go r clean (it.wrote clean);
     same = λ owner cs was. it.same owner cs (stays owner cs was);
@@ -45,27 +45,27 @@ module _ {S X E : Type 0} (g : store.Ghosts S) where
       go (Err e) clean w = λ owner cs was. subst (AppendsBeginning x y) (same (late clean owner cs was) owner cs was) (w owner cs (stays owner cs was))
 
   -- bytes were written before
-  pub after_write : (a c : Held S) (x y z : Option (List ℕ)) (r : Result X E) (bs : List ℕ) (f : List ℕ → History → List ℕ) → Appends x y bs → Exports g a c y z r f
-      → Exports g a c x z r (λ owner cs. bs ++ f owner cs)
+  pub after_write : (a c : Held S) (x y z : Option (List ℕ)) (r : Result X E) (bs : List ℕ) (f : History → List ℕ) → Appends x y bs → Exports g a c y z r f
+      → Exports g a c x z r (λ cs. bs ++ f cs)
   after_write a c x y z r bs f put it = record { wrote = λ clean. go r (it.wrote clean); same = it.same; spares = it.spares; clean = it.clean }
     where
       go : (r : Result X E) → MatchResult r (λ _. WritesOf (state g a) y z f) (λ _. BeginsOf (state g a) y z f)
-          → MatchResult r (λ _. WritesOf (state g a) x z (λ owner cs. bs ++ f owner cs)) (λ _. BeginsOf (state g a) x z (λ owner cs. bs ++ f owner cs))
-      go (Ok v) w = λ owner cs was. Appends-trans x y z bs (f owner cs) put (w owner cs was)
-      go (Err e) w = λ owner cs was. AppendsBeginning-after x y z bs (f owner cs) put (w owner cs was)
+          → MatchResult r (λ _. WritesOf (state g a) x z (λ cs. bs ++ f cs)) (λ _. BeginsOf (state g a) x z (λ cs. bs ++ f cs))
+      go (Ok v) w = λ owner cs was. Appends-trans x y z bs (f cs) put (w owner cs was)
+      go (Err e) w = λ owner cs was. AppendsBeginning-after x y z bs (f cs) put (w owner cs was)
 
   -- the same bytes in other words
-  pub same_bytes : (a c : Held S) (x y : Option (List ℕ)) (r : Result X E) (f h : List ℕ → History → List ℕ) → ((owner : List ℕ) (cs : History) → f owner cs ≡ h owner cs) → Exports g a c x y r f
+  pub same_bytes : (a c : Held S) (x y : Option (List ℕ)) (r : Result X E) (f h : History → List ℕ) → ((cs : History) → f cs ≡ h cs) → Exports g a c x y r f
       → Exports g a c x y r h
   same_bytes a c x y r f h same it = record { wrote = λ clean. go r (it.wrote clean); same = it.same; spares = it.spares; clean = it.clean }
     where
       go : (r : Result X E) → MatchResult r (λ _. WritesOf (state g a) x y f) (λ _. BeginsOf (state g a) x y f) → MatchResult r (λ _. WritesOf (state g a) x y h) (λ _. BeginsOf (state g a) x y h)
-      go (Ok v) w = λ owner cs was. subst (Appends x y) (same owner cs) (w owner cs was)
-      go (Err e) w = λ owner cs was. subst (AppendsBeginning x y) (same owner cs) (w owner cs was)
+      go (Ok v) w = λ owner cs was. subst (Appends x y) (same cs) (w owner cs was)
+      go (Err e) w = λ owner cs was. subst (AppendsBeginning x y) (same cs) (w owner cs was)
 
   -- another step came before, which wrote all
-  pub after_step : {Y F : Type 0} (a b c : Held S) (x y z : Option (List ℕ)) (v : Y) (r : Result X E) (f h : List ℕ → History → List ℕ) → Exports {E = F} g a b x y (Ok v) f → Exports g b c y z r h
-      → Exports g a c x z r (λ owner cs. f owner cs ++ h owner cs)
+  pub after_step : {Y F : Type 0} (a b c : Held S) (x y z : Option (List ℕ)) (v : Y) (r : Result X E) (f h : History → List ℕ) → Exports {E = F} g a b x y (Ok v) f → Exports g b c y z r h
+      → Exports g a c x z r (λ cs. f cs ++ h cs)
   after_step a b c x y z v r f h one two = record {
     wrote = λ clean. go r clean (two.wrote clean);
     same = λ owner cs was. two.same owner cs (one.same owner cs was);
@@ -77,30 +77,30 @@ module _ {S X E : Type 0} (g : store.Ghosts S) where
       late clean owner cs was = two.clean clean
 
       go : (r : Result X E) → HasCleanDisk (state g c) → MatchResult r (λ _. WritesOf (state g b) y z h) (λ _. BeginsOf (state g b) y z h)
-          → MatchResult r (λ _. WritesOf (state g a) x z (λ owner cs. f owner cs ++ h owner cs)) (λ _. BeginsOf (state g a) x z (λ owner cs. f owner cs ++ h owner cs))
+          → MatchResult r (λ _. WritesOf (state g a) x z (λ cs. f cs ++ h cs)) (λ _. BeginsOf (state g a) x z (λ cs. f cs ++ h cs))
       go (Ok w) clean did = λ owner cs was.
-          Appends-trans x y z (f owner cs) (h owner cs) (one.wrote (late clean owner cs was) owner cs was) (did owner cs (one.same owner cs was))
+          Appends-trans x y z (f cs) (h cs) (one.wrote (late clean owner cs was) owner cs was) (did owner cs (one.same owner cs was))
       go (Err e) clean did = λ owner cs was.
-          AppendsBeginning-after x y z (f owner cs) (h owner cs) (one.wrote (late clean owner cs was) owner cs was) (did owner cs (one.same owner cs was))
+          AppendsBeginning-after x y z (f cs) (h cs) (one.wrote (late clean owner cs was) owner cs was) (did owner cs (one.same owner cs was))
 
   -- a step stopped, and no other came
-  pub stopped : {Y F : Type 0} (a c : Held S) (x y : Option (List ℕ)) (d : F) (e : E) (f h : List ℕ → History → List ℕ) → Exports {X = Y} g a c x y (Err d) f
-      → Exports {X = X} g a c x y (Err e) (λ owner cs. f owner cs ++ h owner cs)
+  pub stopped : {Y F : Type 0} (a c : Held S) (x y : Option (List ℕ)) (d : F) (e : E) (f h : History → List ℕ) → Exports {X = Y} g a c x y (Err d) f
+      → Exports {X = X} g a c x y (Err e) (λ cs. f cs ++ h cs)
   stopped a c x y d e f h it = record {
-    wrote = λ clean owner cs was. AppendsBeginning-before x y (f owner cs) (h owner cs) (it.wrote clean owner cs was);
+    wrote = λ clean owner cs was. AppendsBeginning-before x y (f cs) (h cs) (it.wrote clean owner cs was);
     same = it.same;
     spares = it.spares;
     clean = it.clean;
   }
 
   -- a read stopped, or a write after it
-  pub stopped_read : (a b : Held S) (x y : Option (List ℕ)) (e : E) (f : List ℕ → History → List ℕ) → StaysOf (state g a) (state g b) → Survives (state g a) (state g b) (λ _. ⊥)
+  pub stopped_read : (a b : Held S) (x y : Option (List ℕ)) (e : E) (f : History → List ℕ) → StaysOf (state g a) (state g b) → Survives (state g a) (state g b) (λ _. ⊥)
       → (HasCleanDisk (state g b) → BeginsOf (state g a) x y f) → Exports {X = X} g a b x y (Err e) f
   stopped_read a b x y e f stays spared begins = record { wrote = begins; same = stays; spares = λ _ _ _. spared; clean = λ end. omega (arith, spared.clean, end) }
 
   -- a read found that nothing is to be written
-  pub nothing : (a b : Held S) (x : Option (List ℕ)) (v : X) (f : List ℕ → History → List ℕ) → StaysOf (state g a) (state g b) → Survives (state g a) (state g b) (λ _. ⊥)
-      → (HasCleanDisk (state g b) → (owner : List ℕ) (cs : History) → ShowsHistory (state g a) owner cs → f owner cs ≡ []) → Exports {E = E} g a b x x (Ok v) f
+  pub nothing : (a b : Held S) (x : Option (List ℕ)) (v : X) (f : History → List ℕ) → StaysOf (state g a) (state g b) → Survives (state g a) (state g b) (λ _. ⊥)
+      → (HasCleanDisk (state g b) → (owner : List ℕ) (cs : History) → ShowsHistory (state g a) owner cs → f cs ≡ []) → Exports {E = E} g a b x x (Ok v) f
   nothing a b x v f stays spared none = record {
     wrote = λ clean owner cs was. subst (Appends x x) (sym (none clean owner cs was)) (Appends-nil x);
     same = stays;
@@ -112,7 +112,7 @@ module _ {S X E : Type 0} (g : store.Ghosts S) where
   pub of_rows : {Y : Type 0} (shown : Y → Row) (bytes : Y → List ℕ) (text : List ℕ) (params : Row) (wanted : History → List Y) (a b : Held S) (x y : Option (List ℕ)) (r : Result X E)
       → IsPlain (understood desk_schema text)
       → (((owner : List ℕ) (cs : History) → ShowsHistory (state g a) owner cs → HasCleanDisk (state g a)) → Told shown bytes text params (state g a) wanted)
-      → PutsRows g (IsPart shown bytes) text params a b x y r → Exports g a b x y r (λ _ cs. flat_map bytes (wanted cs))
+      → PutsRows g (IsPart shown bytes) text params a b x y r → Exports g a b x y r (λ cs. flat_map bytes (wanted cs))
   of_rows shown bytes text params wanted a b x y r plain told it = record {
     wrote = λ clean. go r clean (it.wrote clean);
     same = λ owner cs was. it.same desk_schema (rows_of owner cs) plain was;
@@ -125,7 +125,7 @@ module _ {S X E : Type 0} (g : store.Ghosts S) where
 
       go : (r : Result X E) → HasCleanDisk (state g b)
           → MatchResult r (λ _. WritesAnswer (IsPart shown bytes) text params (state g a) (state g b) x y) (λ _. WritesFirst (IsPart shown bytes) text params (state g a) x y)
-          → MatchResult r (λ _. WritesOf (state g a) x y (λ _ cs. flat_map bytes (wanted cs))) (λ _. BeginsOf (state g a) x y (λ _ cs. flat_map bytes (wanted cs)))
+          → MatchResult r (λ _. WritesOf (state g a) x y (λ cs. flat_map bytes (wanted cs))) (λ _. BeginsOf (state g a) x y (λ cs. flat_map bytes (wanted cs)))
       go (Ok v) clean did = (told (early clean)).0 (state g b) x y did
       go (Err e) clean did = (told (early clean)).1 x y did
 

@@ -13,12 +13,12 @@ use Rattle.store_reads.specs.declared.counts.Counted.{Counted}
 use Rattle.store_sql.specs.States.{Spares}
 
 -- the bytes of each history that the connection showed are written
-abbrev pub WritesOf : State → Option (List ℕ) → Option (List ℕ) → (List ℕ → History → List ℕ) → Type 0
-WritesOf old before after bytes = (owner : List ℕ) (cs : History) → ShowsHistory old owner cs → Appends before after (bytes owner cs)
+abbrev pub WritesOf : State → Option (List ℕ) → Option (List ℕ) → (History → List ℕ) → Type 0
+WritesOf old before after bytes = (owner : List ℕ) (cs : History) → ShowsHistory old owner cs → Appends before after (bytes cs)
 
 -- a prefix of them is written
-abbrev pub BeginsOf : State → Option (List ℕ) → Option (List ℕ) → (List ℕ → History → List ℕ) → Type 0
-BeginsOf old before after bytes = (owner : List ℕ) (cs : History) → ShowsHistory old owner cs → AppendsBeginning before after (bytes owner cs)
+abbrev pub BeginsOf : State → Option (List ℕ) → Option (List ℕ) → (History → List ℕ) → Type 0
+BeginsOf old before after bytes = (owner : List ℕ) (cs : History) → ShowsHistory old owner cs → AppendsBeginning before after (bytes cs)
 
 -- the connection still shows each history that it showed
 abbrev pub StaysOf : State → State → Type 0
@@ -30,7 +30,7 @@ SparesOf g old new = (owner : List ℕ) (cs : History) → ShowsHistory (state g
 
 -- A step of an export: on a clean disk it wrote these bytes, or, if it failed, a prefix of them;
 -- and its effect on the connection
-pub record Exports {S X E : Type 0} (g : Ghosts S) (old new : Held S) (before after : Option (List ℕ)) (result : Result X E) (bytes : List ℕ → History → List ℕ) : Type 0 where
+pub record Exports {S X E : Type 0} (g : Ghosts S) (old new : Held S) (before after : Option (List ℕ)) (result : Result X E) (bytes : History → List ℕ) : Type 0 where
   pub wrote : HasCleanDisk (state g new) → MatchResult result (λ _. WritesOf (state g old) before after bytes) (λ _. BeginsOf (state g old) before after bytes)
   pub same : StaysOf (state g old) (state g new)
   pub spares : SparesOf g old new
@@ -40,7 +40,6 @@ pub record Exports {S X E : Type 0} (g : Ghosts S) (old new : Held S) (before af
 abbrev pub IsSizeOf : State → Counted → ℕ → Type 0
 IsSizeOf old what n = (owner : List ℕ) (cs : History) → ShowsHistory old owner cs → n ≡ counted what (tables owner cs)
 
--- the owner and the stamp are those of each such history
-abbrev pub AreOwn : State → List ℕ → ℕ → Type 0
-AreOwn old owner stamp =
-    (o : List ℕ) (cs : History) → ShowsHistory old o cs → (owner ≡ (tables o cs).desk.owner) × (stamp ≡ (tables o cs).desk.stamp)
+-- the number is the stamp of each such history
+abbrev pub IsStampOf : State → ℕ → Type 0
+IsStampOf old n = (owner : List ℕ) (cs : History) → ShowsHistory old owner cs → n ≡ (tables owner cs).desk.stamp

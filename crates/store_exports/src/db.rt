@@ -8,7 +8,7 @@ ghost use Rattle.desk_exports.specs.Exports.{db, entries_of};
 ghost use Rattle.store_exports.specs.Exporting.{Exports};
 
 use crate::fault::ExportFault;
-use crate::heads::{head_count, own, size};
+use crate::heads::{head_count, size};
 use crate::listed_forms::{ListedCertificate, ListedDigest};
 use crate::taking::put_rows;
 use desk_bytes::Guid;
@@ -29,7 +29,7 @@ fn put_digest_list<S: Alter, W: Write>(
 ) -> Result<(), ExportFault>
     ensures { Exports S.Store conn.old conn.new
         (W.contents writer.old) (W.contents writer.new) result
-        (λ _ cs. sha256_parts owner (map (λ e. e.digest) (entries_of kinds.Digest cs))) }
+        (λ cs. sha256_parts owner (map (λ e. e.digest) (entries_of kinds.Digest cs))) }
 {
     let counted = size(conn, Counted::ListedOf(ListedKind::Digest))?;
     if counted == 0 {
@@ -51,7 +51,7 @@ fn put_certificates<S: Alter, W: Write>(
 ) -> Result<(), ExportFault>
     ensures { Exports S.Store conn.old conn.new
         (W.contents writer.old) (W.contents writer.new) result
-        (λ _ cs. flat_map (λ e. spelling (x509_row owner e.body))
+        (λ cs. flat_map (λ e. spelling (x509_row owner e.body))
         (entries_of kinds.Certificate cs)) }
 {
     let form = ListedCertificate { owner };
@@ -63,12 +63,12 @@ fn put_certificates<S: Alter, W: Write>(
 pub(crate) fn put_db<S: Alter, W: Write>(
     alloc: Global,
     conn: &mut Connection<S>,
+    owner: Guid,
     writer: &mut W,
 ) -> Result<(), ExportFault>
     ensures { Exports S.Store conn.old conn.new
-        (W.contents writer.old) (W.contents writer.new) result db }
+        (W.contents writer.old) (W.contents writer.new) result (db owner) }
 {
-    let row = own(alloc, conn)?;
-    put_digest_list(alloc, conn, row.owner, writer)?;
-    put_certificates(alloc, conn, row.owner, writer)
+    put_digest_list(alloc, conn, owner, writer)?;
+    put_certificates(alloc, conn, owner, writer)
 }

@@ -6,7 +6,7 @@ ghost use Rattle.store_exports.specs.Exporting.{Exports};
 
 use crate::fault::ExportFault;
 use crate::forms::{RevokedCertificate, RevokedDigest};
-use crate::heads::{head_count, own, size};
+use crate::heads::{head_count, size};
 use crate::taking::put_rows;
 use desk_bytes::Guid;
 use siglist::{sha256_head, x509_sha256_head};
@@ -25,7 +25,7 @@ fn put_digest_list<S: Alter, W: Write>(
 ) -> Result<(), ExportFault>
     ensures { Exports S.Store conn.old conn.new
         (W.contents writer.old) (W.contents writer.new) result
-        (λ _ cs. sha256_parts owner (revoked kinds.Digest cs)) }
+        (λ cs. sha256_parts owner (revoked kinds.Digest cs)) }
 {
     let counted = size(conn, Counted::RevokedDigests)?;
     if counted == 0 {
@@ -46,7 +46,7 @@ fn put_certificate_list<S: Alter, W: Write>(
 ) -> Result<(), ExportFault>
     ensures { Exports S.Store conn.old conn.new
         (W.contents writer.old) (W.contents writer.new) result
-        (λ _ cs. x509_sha256_parts owner (revoked kinds.Certificate cs)) }
+        (λ cs. x509_sha256_parts owner (revoked kinds.Certificate cs)) }
 {
     let counted = size(conn, Counted::RevokedCertificates)?;
     if counted == 0 {
@@ -62,12 +62,12 @@ fn put_certificate_list<S: Alter, W: Write>(
 pub(crate) fn put_dbx<S: Alter, W: Write>(
     alloc: Global,
     conn: &mut Connection<S>,
+    owner: Guid,
     writer: &mut W,
 ) -> Result<(), ExportFault>
     ensures { Exports S.Store conn.old conn.new
-        (W.contents writer.old) (W.contents writer.new) result dbx }
+        (W.contents writer.old) (W.contents writer.new) result (dbx owner) }
 {
-    let row = own(alloc, conn)?;
-    put_digest_list(alloc, conn, row.owner, writer)?;
-    put_certificate_list(alloc, conn, row.owner, writer)
+    put_digest_list(alloc, conn, owner, writer)?;
+    put_certificate_list(alloc, conn, owner, writer)
 }

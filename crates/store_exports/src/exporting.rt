@@ -11,7 +11,7 @@ use crate::dbx::put_dbx;
 use crate::fault::ExportFault;
 use crate::level::put_level;
 use crate::lines::put_minutes;
-use desk_bytes::Refusal;
+use desk_bytes::{Guid, Refusal};
 use desk_exports::Export;
 use sqlite::{Alter, Connection};
 use std::alloc::Global;
@@ -22,21 +22,23 @@ fn put<S: Alter, W: Write>(
     alloc: Global,
     conn: &mut Connection<S>,
     what: Export,
+    owner: Guid,
     writer: &mut W,
 ) -> Result<(), ExportFault>
     ensures { Exports S.Store conn.old conn.new
-        (W.contents writer.old) (W.contents writer.new) result (exported what) }
+        (W.contents writer.old) (W.contents writer.new) result (exported what owner) }
 {
     match what {
-        Export::Db => put_db(alloc, conn, writer),
-        Export::Dbx => put_dbx(alloc, conn, writer),
+        Export::Db => put_db(alloc, conn, owner, writer),
+        Export::Dbx => put_dbx(alloc, conn, owner, writer),
         Export::Level => put_level(alloc, conn, writer),
         Export::Minutes => put_minutes(alloc, conn, writer),
     }
 }
 
-/// Writes an export. Each row is written as the store gives it, and none is kept. Takes memory for
-/// the desk's own row and for one row of the export; the minutes take no memory except the store's.
+/// Writes an export, with this owner in each entry of dbx and db. Each row is written as the store
+/// gives it, and none is kept. Takes memory for one row; the minutes take no memory except the
+/// store's.
 ///
 /// `Write`: the writer failed. `NoMemory`: memory was refused, to the desk or to the store.
 /// `Store`: the store failed, or isn't as a desk left it. After each the writer holds a prefix of
@@ -45,21 +47,22 @@ pub fn export<S: Alter, W: Write>(
     alloc: Global,
     conn: &mut Connection<S>,
     what: Export,
+    owner: Guid,
     writer: &mut W,
 ) -> Result<(), Refusal>
     ensures ok { HasCleanDisk (state S.Store conn.new)
         → OnOk result (WritesOf (state S.Store conn.old)
-        (W.contents writer.old) (W.contents writer.new) (exported what)) }
+        (W.contents writer.old) (W.contents writer.new) (exported what owner)) }
     ensures beginning { HasCleanDisk (state S.Store conn.new)
         → OnErr result (BeginsOf (state S.Store conn.old)
-        (W.contents writer.old) (W.contents writer.new) (exported what)) }
+        (W.contents writer.old) (W.contents writer.new) (exported what owner)) }
     ensures named { IfErr result IsExportFailure }
 
     ensures same { StaysOf (state S.Store conn.old) (state S.Store conn.new) }
     ensures spares { SparesOf S.Store conn.old conn.new }
     ensures clean { HasCleanDisk (state S.Store conn.new) → HasCleanDisk (state S.Store conn.old) }
 {
-    match put(alloc, conn, what, writer) {
+    match put(alloc, conn, what, owner, writer) {
         Ok(()) => Ok(()),
         Err(fault) => Err(fault.refusal()),
     }

@@ -4,7 +4,7 @@ ghost use Rattle.store_exports.specs.Exporting.{Exports};
 
 use crate::fault::ExportFault;
 use crate::forms::LevelLine;
-use crate::heads::own;
+use crate::heads::own_stamp;
 use crate::taking::put_rows;
 use sbat::level_head;
 use sqlite::{Alter, Connection};
@@ -19,9 +19,9 @@ pub(crate) fn put_level<S: Alter, W: Write>(
     writer: &mut W,
 ) -> Result<(), ExportFault>
     ensures { Exports S.Store conn.old conn.new
-        (W.contents writer.old) (W.contents writer.new) result (λ _ cs. level cs) }
+        (W.contents writer.old) (W.contents writer.new) result level }
 {
-    let row = own(alloc, conn)?;
-    level_head(row.stamp, writer)?;
+    let stamp = own_stamp(alloc, conn)?;
+    level_head(stamp, writer)?;
     put_rows(alloc, conn, SELECT_COMPONENTS, &[], &LevelLine, writer)
 }

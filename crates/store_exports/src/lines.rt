@@ -119,7 +119,7 @@ pub(crate) fn put_minutes<S: Alter, W: Write>(
     writer: &mut W,
 ) -> Result<(), ExportFault>
     ensures { Exports S.Store conn.old conn.new
-        (W.contents writer.old) (W.contents writer.new) result (λ _ cs. minutes_text cs) }
+        (W.contents writer.old) (W.contents writer.new) result minutes_text }
 {
     put_rows(alloc, conn, SELECT_CALLS, &[], &MinuteLine, writer)
 }

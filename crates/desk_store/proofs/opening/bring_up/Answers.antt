@@ -27,91 +27,99 @@ returns-in-Err-clause-looked g c clean (inr is) = absurd (never_version c.in-Err
 pub returns-in-Err-clause-survives : goal.returns-in-Err-clause-survives
 returns-in-Err-clause-survives g c =
     let old = state g.S.Store c.args.conn.now in
-    leaves_more (Brings old) old (state g.S.Store c.read_version.new.conn) c.in-Err.ensures.survives
+    leaves_more (Brings old) old (state g.S.Store c.read_own_row.new.conn) c.in-Err.ensures.survives
 
 -- ---- version 2
 
-pub returns-then-version-from-clause-second : goal.returns-then-version-from-clause-second
-returns-then-version-from-clause-second g c clean owner cs shows = c.in-Ok.ensures.shown clean desk_schema (rows_of owner cs) shows
+pub returns-then-own-from-clause-second : goal.returns-then-own-from-clause-second
+returns-then-own-from-clause-second g c clean owner cs shows = c.in-Ok.ensures.shown clean desk_schema (rows_of owner cs) shows
 
-pub returns-then-version-from-clause-first : goal.returns-then-version-from-clause-first
-returns-then-version-from-clause-first g c clean owner cs early =
-    let two : c.in-Ok.version ≡ 2 = search rules in
-    let one = first_version (state g.S.Store c.args.conn.now) owner cs c.in-Ok.version (c.in-Ok.ensures.read clean) early in
+pub returns-then-own-from-clause-first : goal.returns-then-own-from-clause-first
+returns-then-own-from-clause-first g c clean owner cs early =
+    let two : c.in-Ok.own.version ≡ 2 = search rules in
+    let one = first_version (state g.S.Store c.args.conn.now) owner cs c.in-Ok.own.version (c.in-Ok.ensures.read clean) early in
     absurd (omega (arith, one, two))
 
-pub returns-then-version-from-clause-read : goal.returns-then-version-from-clause-read
-returns-then-version-from-clause-read g c clean =
-    let two : c.in-Ok.version ≡ 2 = search rules in
+pub returns-then-own-from-clause-read : goal.returns-then-own-from-clause-read
+returns-then-own-from-clause-read g c clean =
+    let two : c.in-Ok.own.version ≡ 2 = search rules in
     inl (subst (AreShownAs (state g.S.Store c.args.conn.now)) two (c.in-Ok.ensures.read clean))
 
-pub returns-then-version-from-clause-survives : goal.returns-then-version-from-clause-survives
-returns-then-version-from-clause-survives g c =
+pub returns-then-own-from-clause-owner : goal.returns-then-own-from-clause-owner
+returns-then-own-from-clause-owner g c clean = c.in-Ok.ensures.owner clean
+
+pub returns-then-own-from-clause-survives : goal.returns-then-own-from-clause-survives
+returns-then-own-from-clause-survives g c =
     let old = state g.S.Store c.args.conn.now in
-    leaves_more (Brings old) old (state g.S.Store c.read_version.new.conn) c.in-Ok.ensures.survives
+    leaves_more (Brings old) old (state g.S.Store c.read_own_row.new.conn) c.in-Ok.ensures.survives
 
 -- ---- another version
 
-pub returns-then-version-ne-FIRST_VERSION-clause-second : goal.returns-then-version-ne-FIRST_VERSION-clause-second
-returns-then-version-ne-FIRST_VERSION-clause-second g c clean owner cs shows = c.in-Ok.ensures.shown clean desk_schema (rows_of owner cs) shows
+pub returns-then-own-ne-FIRST_VERSION-clause-second : goal.returns-then-own-ne-FIRST_VERSION-clause-second
+returns-then-own-ne-FIRST_VERSION-clause-second g c clean owner cs shows = c.in-Ok.ensures.shown clean desk_schema (rows_of owner cs) shows
 
-pub returns-then-version-ne-FIRST_VERSION-clause-other : goal.returns-then-version-ne-FIRST_VERSION-clause-other
-returns-then-version-ne-FIRST_VERSION-clause-other g c clean is =
-    let one : c.in-Ok.version ≢ 1 = search rules in
-    let two : c.in-Ok.version ≢ 2 = search rules in
-    (c.in-Ok.version, one, two, c.in-Ok.ensures.read clean)
+pub returns-then-own-ne-FIRST_VERSION-clause-other : goal.returns-then-own-ne-FIRST_VERSION-clause-other
+returns-then-own-ne-FIRST_VERSION-clause-other g c clean is =
+    let one : c.in-Ok.own.version ≢ 1 = search rules in
+    let two : c.in-Ok.own.version ≢ 2 = search rules in
+    (c.in-Ok.own.version, one, two, c.in-Ok.ensures.read clean)
 
-pub returns-then-version-ne-FIRST_VERSION-clause-looked : goal.returns-then-version-ne-FIRST_VERSION-clause-looked
-returns-then-version-ne-FIRST_VERSION-clause-looked g c clean is = c.in-Ok.ensures.open clean
+pub returns-then-own-ne-FIRST_VERSION-clause-looked : goal.returns-then-own-ne-FIRST_VERSION-clause-looked
+returns-then-own-ne-FIRST_VERSION-clause-looked g c clean is = c.in-Ok.ensures.open clean
 
-pub returns-then-version-ne-FIRST_VERSION-clause-survives : goal.returns-then-version-ne-FIRST_VERSION-clause-survives
-returns-then-version-ne-FIRST_VERSION-clause-survives g c =
+pub returns-then-own-ne-FIRST_VERSION-clause-survives : goal.returns-then-own-ne-FIRST_VERSION-clause-survives
+returns-then-own-ne-FIRST_VERSION-clause-survives g c =
     let old = state g.S.Store c.args.conn.now in
-    leaves_more (Brings old) old (state g.S.Store c.read_version.new.conn) c.in-Ok.ensures.survives
+    leaves_more (Brings old) old (state g.S.Store c.read_own_row.new.conn) c.in-Ok.ensures.survives
 
 -- ---- version 1, migrated
 
 pub returns-in-Ok-migrate-clause-second : goal.returns-in-Ok-migrate-clause-second
 returns-in-Ok-migrate-clause-second g c clean owner cs shows =
-    let one : c.in-Ok.version ≡ 1 = search rules in
-    let late : HasCleanDisk (state g.S.Store c.read_version.new.conn) = omega (arith, c.in-Ok-migrate.ensures.survives.clean, clean) in
-    let two = second_version (state g.S.Store c.args.conn.now) owner cs c.in-Ok.version (c.in-Ok.ensures.read late) shows in
+    let one : c.in-Ok.own.version ≡ 1 = search rules in
+    let late : HasCleanDisk (state g.S.Store c.read_own_row.new.conn) = omega (arith, c.in-Ok-migrate.ensures.survives.clean, clean) in
+    let two = second_version (state g.S.Store c.args.conn.now) owner cs c.in-Ok.own.version (c.in-Ok.ensures.read late) shows in
     absurd (omega (arith, one, two))
 
 pub returns-in-Ok-migrate-clause-first : goal.returns-in-Ok-migrate-clause-first
 returns-in-Ok-migrate-clause-first g c clean owner cs early =
-    let late : HasCleanDisk (state g.S.Store c.read_version.new.conn) = omega (arith, c.in-Ok-migrate.ensures.survives.clean, clean) in
+    let late : HasCleanDisk (state g.S.Store c.read_own_row.new.conn) = omega (arith, c.in-Ok-migrate.ensures.survives.clean, clean) in
     let there = c.in-Ok.ensures.shown late first_schema (first_rows_of owner cs) early.1 in
     let did = c.in-Ok-migrate.ensures.ok clean in
     (did.0, did.1 owner cs (early.0, there))
 
 pub returns-in-Ok-migrate-clause-read : goal.returns-in-Ok-migrate-clause-read
 returns-in-Ok-migrate-clause-read g c clean =
-    let one : c.in-Ok.version ≡ 1 = search rules in
-    let mid = state g.S.Store c.read_version.new.conn in
+    let one : c.in-Ok.own.version ≡ 1 = search rules in
+    let mid = state g.S.Store c.read_own_row.new.conn in
     let late : HasCleanDisk mid = omega (arith, c.in-Ok-migrate.ensures.survives.clean, clean) in
-    inr (free_there (state g.S.Store c.args.conn.now) mid c.in-Ok.version (c.in-Ok.ensures.read late) one (c.in-Ok.ensures.shown late) late
+    inr (free_there (state g.S.Store c.args.conn.now) mid c.in-Ok.own.version (c.in-Ok.ensures.read late) one (c.in-Ok.ensures.shown late) late
     (c.in-Ok-migrate.ensures.was_open clean) c.in-Ok-migrate.ensures.free)
+
+pub returns-in-Ok-migrate-clause-owner : goal.returns-in-Ok-migrate-clause-owner
+returns-in-Ok-migrate-clause-owner g c clean =
+    let late : HasCleanDisk (state g.S.Store c.read_own_row.new.conn) = omega (arith, c.in-Ok-migrate.ensures.survives.clean, clean) in
+    c.in-Ok.ensures.owner late
 
 pub returns-in-Ok-migrate-clause-open : goal.returns-in-Ok-migrate-clause-open
 returns-in-Ok-migrate-clause-open g c clean =
-    let late : HasCleanDisk (state g.S.Store c.read_version.new.conn) = omega (arith, c.in-Ok-migrate.ensures.survives.clean, clean) in
+    let late : HasCleanDisk (state g.S.Store c.read_own_row.new.conn) = omega (arith, c.in-Ok-migrate.ensures.survives.clean, clean) in
     c.in-Ok.ensures.open late
 
 pub returns-in-Ok-migrate-clause-survives : goal.returns-in-Ok-migrate-clause-survives
 returns-in-Ok-migrate-clause-survives g c =
-    let one : c.in-Ok.version ≡ 1 = search rules in
+    let one : c.in-Ok.own.version ≡ 1 = search rules in
     let old = state g.S.Store c.args.conn.now in
-    brought_left old (state g.S.Store c.read_version.new.conn) (state g.S.Store c.migrate.new.conn) c.in-Ok.ensures.survives c.in-Ok-migrate.ensures.survives
+    brought_left old (state g.S.Store c.read_own_row.new.conn) (state g.S.Store c.migrate.new.conn) c.in-Ok.ensures.survives c.in-Ok-migrate.ensures.survives
     (λ late. subst (AreShownAs old) one (c.in-Ok.ensures.read late)) c.in-Ok.ensures.shown
 
 -- ---- version 1, refused
 
 pub returns-in-Err-migrate-clause-second : goal.returns-in-Err-migrate-clause-second
 returns-in-Err-migrate-clause-second g c clean owner cs shows =
-    let one : c.in-Ok.version ≡ 1 = search rules in
-    let late : HasCleanDisk (state g.S.Store c.read_version.new.conn) = omega (arith, c.in-Err-migrate.ensures.survives.clean, clean) in
-    let two = second_version (state g.S.Store c.args.conn.now) owner cs c.in-Ok.version (c.in-Ok.ensures.read late) shows in
+    let one : c.in-Ok.own.version ≡ 1 = search rules in
+    let late : HasCleanDisk (state g.S.Store c.read_own_row.new.conn) = omega (arith, c.in-Err-migrate.ensures.survives.clean, clean) in
+    let two = second_version (state g.S.Store c.args.conn.now) owner cs c.in-Ok.own.version (c.in-Ok.ensures.read late) shows in
     absurd (omega (arith, one, two))
 
 pub returns-in-Err-migrate-clause-other : goal.returns-in-Err-migrate-clause-other
@@ -119,29 +127,29 @@ returns-in-Err-migrate-clause-other g c clean is = absurd (never_version c.in-Er
 
 pub returns-in-Err-migrate-clause-unread : goal.returns-in-Err-migrate-clause-unread
 returns-in-Err-migrate-clause-unread g c clean is =
-    let one : c.in-Ok.version ≡ 1 = search rules in
-    let mid = state g.S.Store c.read_version.new.conn in
+    let one : c.in-Ok.own.version ≡ 1 = search rules in
+    let mid = state g.S.Store c.read_own_row.new.conn in
     let late : HasCleanDisk mid = omega (arith, c.in-Err-migrate.ensures.survives.clean, clean) in
     let taken = c.in-Err-migrate.ensures.taken clean is in
-    inr (taken_there (state g.S.Store c.args.conn.now) mid c.in-Ok.version (c.in-Ok.ensures.read late) one (c.in-Ok.ensures.shown late) late taken.0 taken.1)
+    inr (taken_there (state g.S.Store c.args.conn.now) mid c.in-Ok.own.version (c.in-Ok.ensures.read late) one (c.in-Ok.ensures.shown late) late taken.0 taken.1)
 
 pub returns-in-Err-migrate-clause-looked : goal.returns-in-Err-migrate-clause-looked
 returns-in-Err-migrate-clause-looked g c clean is =
-    let late : HasCleanDisk (state g.S.Store c.read_version.new.conn) = omega (arith, c.in-Err-migrate.ensures.survives.clean, clean) in
+    let late : HasCleanDisk (state g.S.Store c.read_own_row.new.conn) = omega (arith, c.in-Err-migrate.ensures.survives.clean, clean) in
     c.in-Ok.ensures.open late
 
 pub returns-in-Err-migrate-clause-kept : goal.returns-in-Err-migrate-clause-kept
 returns-in-Err-migrate-clause-kept g c clean other schema contents shows =
-    let late : HasCleanDisk (state g.S.Store c.read_version.new.conn) = omega (arith, c.in-Err-migrate.ensures.survives.clean, clean) in
+    let late : HasCleanDisk (state g.S.Store c.read_own_row.new.conn) = omega (arith, c.in-Err-migrate.ensures.survives.clean, clean) in
     c.in-Err-migrate.ensures.kept clean other schema contents (c.in-Ok.ensures.shown late schema contents shows)
 
 pub returns-in-Err-migrate-clause-unwritten : goal.returns-in-Err-migrate-clause-unwritten
 returns-in-Err-migrate-clause-unwritten g c other =
-    and_then (λ _. ⊥) (state g.S.Store c.args.conn.now) (state g.S.Store c.read_version.new.conn) (state g.S.Store c.migrate.new.conn) c.in-Ok.ensures.survives (c.in-Err-migrate.ensures.unwritten other)
+    and_then (λ _. ⊥) (state g.S.Store c.args.conn.now) (state g.S.Store c.read_own_row.new.conn) (state g.S.Store c.migrate.new.conn) c.in-Ok.ensures.survives (c.in-Err-migrate.ensures.unwritten other)
 
 pub returns-in-Err-migrate-clause-survives : goal.returns-in-Err-migrate-clause-survives
 returns-in-Err-migrate-clause-survives g c =
-    let one : c.in-Ok.version ≡ 1 = search rules in
+    let one : c.in-Ok.own.version ≡ 1 = search rules in
     let old = state g.S.Store c.args.conn.now in
-    brought_left old (state g.S.Store c.read_version.new.conn) (state g.S.Store c.migrate.new.conn) c.in-Ok.ensures.survives c.in-Err-migrate.ensures.survives
+    brought_left old (state g.S.Store c.read_own_row.new.conn) (state g.S.Store c.migrate.new.conn) c.in-Ok.ensures.survives c.in-Err-migrate.ensures.survives
     (λ late. subst (AreShownAs old) one (c.in-Ok.ensures.read late)) c.in-Ok.ensures.shown

@@ -45,7 +45,7 @@ returns-in_err-sha256_head g c =
     let owner = c.args.owner in
     let p = err_from_is_err_and c.from_residual-in_err-sha256_head.result c.from_residual-in_err-sha256_head.ensures.1 in
     let more : 1 ≤ c.in_ok-count.count = search rules in
-    subst (λ r. Exports g.S.Store old mid (g.W.Write.contents c.args.writer.now) (g.W.Write.contents c.sha256_head.new.writer) r (λ _ cs. sha256_parts owner (map (λ e. e.digest) (entries_of kinds.Digest cs)))) (sym p.1)
+    subst (λ r. Exports g.S.Store old mid (g.W.Write.contents c.args.writer.now) (g.W.Write.contents c.sha256_head.new.writer) r (λ cs. sha256_parts owner (map (λ e. e.digest) (entries_of kinds.Digest cs)))) (sym p.1)
     (head_stopped g.S.Store sha256_head_bytes (sha256_entry_bytes owner) (sha256_parts owner) (sha256-none owner) (sha256-some owner) (what.ListedOf kinds.Digest) (λ cs. map (λ e. e.digest) (entries_of kinds.Digest cs))
     (λ _ cs. sized cs) old mid c.in_ok-counted.ensures.same c.in_ok-counted.ensures.survives c.in_ok-count.count
     (λ clean by cs was. c.in_ok-count.ensures.0 ∙ c.in_ok-counted.ensures.ok clean by cs was)
@@ -64,7 +64,7 @@ returns g c =
     (λ clean by cs was. c.in_ok-count.ensures.0 ∙ c.in_ok-counted.ensures.ok clean by cs was)
     c.put_rows.new.conn (g.W.Write.contents c.args.writer.now) head all c.put_rows.result more c.in_ok-sha256_head.ensures.ok
     (same_bytes g.S.Store mid c.put_rows.new.conn head all c.put_rows.result
-    (λ _ cs. flat_map (λ e. sha256_entry_bytes owner e.digest) (entries_of kinds.Digest cs)) (λ _ cs. flat_map (sha256_entry_bytes owner) (map (λ e. e.digest) (entries_of kinds.Digest cs)))
-    (λ _ cs. by_digest owner (entries_of kinds.Digest cs))
+    (λ cs. flat_map (λ e. sha256_entry_bytes owner e.digest) (entries_of kinds.Digest cs)) (λ cs. flat_map (sha256_entry_bytes owner) (map (λ e. e.digest) (entries_of kinds.Digest cs)))
+    (λ cs. by_digest owner (entries_of kinds.Digest cs))
     (of_rows g.S.Store entry_values (λ e. sha256_entry_bytes owner e.digest) SELECT_LISTED_OF.now (Text (kind_text kinds.Digest) ∷ []) (entries_of kinds.Digest) mid c.put_rows.new.conn head all c.put_rows.result
     facts.select_listed_of.plain (λ clean. tells_listed_digests (state g.S.Store mid) clean owner) (rw (c.params-to_sql.ensures, c.text-kind.ensures) at c.put_rows.ensures)))

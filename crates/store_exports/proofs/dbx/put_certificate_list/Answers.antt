@@ -25,7 +25,7 @@ returns-in_err-x509_sha256_head g c =
     let owner = c.args.owner in
     let p = err_from_is_err_and c.from_residual-in_err-x509_sha256_head.result c.from_residual-in_err-x509_sha256_head.ensures.1 in
     let more : 1 ≤ c.in_ok-count.count = search rules in
-    subst (λ r. Exports g.S.Store old mid (g.W.Write.contents c.args.writer.now) (g.W.Write.contents c.x509_sha256_head.new.writer) r (λ _ cs. x509_sha256_parts owner (revoked kinds.Certificate cs))) (sym p.1)
+    subst (λ r. Exports g.S.Store old mid (g.W.Write.contents c.args.writer.now) (g.W.Write.contents c.x509_sha256_head.new.writer) r (λ cs. x509_sha256_parts owner (revoked kinds.Certificate cs))) (sym p.1)
     (head_stopped g.S.Store x509_sha256_head_bytes (x509_sha256_entry_bytes owner) (x509_sha256_parts owner) (x509-none owner) (x509-some owner) what.RevokedCertificates (revoked kinds.Certificate)
     (λ _ cs. sym (length_ascending (λ t. t) (distinct (revocations kinds.Certificate cs)))) old mid c.in_ok-counted.ensures.same c.in_ok-counted.ensures.survives c.in_ok-count.count
     (λ clean by cs was. c.in_ok-count.ensures.0 ∙ c.in_ok-counted.ensures.ok clean by cs was)

@@ -28,8 +28,8 @@ returns-in_err-count g c =
     let owner = c.args.owner in
     let had = g.W.Write.contents c.args.writer.now in
     let p = err_from_is_err_and c.from_residual-in_err-count.result c.from_residual-in_err-count.ensures.1 in
-    subst (λ r. Exports g.S.Store old mid had had r (λ _ cs. sha256_parts owner (revoked kinds.Digest cs))) (sym p.1)
-    (stopped_read g.S.Store old mid had had p.0 (λ _ cs. sha256_parts owner (revoked kinds.Digest cs)) c.in_ok-counted.ensures.same c.in_ok-counted.ensures.survives
+    subst (λ r. Exports g.S.Store old mid had had r (λ cs. sha256_parts owner (revoked kinds.Digest cs))) (sym p.1)
+    (stopped_read g.S.Store old mid had had p.0 (λ cs. sha256_parts owner (revoked kinds.Digest cs)) c.in_ok-counted.ensures.same c.in_ok-counted.ensures.survives
     (λ clean by cs was. AppendsBeginning-none had had (sha256_parts owner (revoked kinds.Digest cs)) (Appends-nil had)))
 
 pub returns-in_err-sha256_head : goal.returns-in_err-sha256_head
@@ -39,7 +39,7 @@ returns-in_err-sha256_head g c =
     let owner = c.args.owner in
     let p = err_from_is_err_and c.from_residual-in_err-sha256_head.result c.from_residual-in_err-sha256_head.ensures.1 in
     let more : 1 ≤ c.in_ok-count.count = search rules in
-    subst (λ r. Exports g.S.Store old mid (g.W.Write.contents c.args.writer.now) (g.W.Write.contents c.sha256_head.new.writer) r (λ _ cs. sha256_parts owner (revoked kinds.Digest cs))) (sym p.1)
+    subst (λ r. Exports g.S.Store old mid (g.W.Write.contents c.args.writer.now) (g.W.Write.contents c.sha256_head.new.writer) r (λ cs. sha256_parts owner (revoked kinds.Digest cs))) (sym p.1)
     (head_stopped g.S.Store sha256_head_bytes (sha256_entry_bytes owner) (sha256_parts owner) (sha256-none owner) (sha256-some owner) what.RevokedDigests (revoked kinds.Digest)
     (λ _ cs. sym (length_ascending (λ t. t) (distinct (revocations kinds.Digest cs)))) old mid c.in_ok-counted.ensures.same c.in_ok-counted.ensures.survives c.in_ok-count.count
     (λ clean by cs was. c.in_ok-count.ensures.0 ∙ c.in_ok-counted.ensures.ok clean by cs was)

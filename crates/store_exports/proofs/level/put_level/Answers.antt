@@ -24,27 +24,27 @@ is_level n cs is =
 pub returns-in_err-level_head : goal.returns-in_err-level_head
 returns-in_err-level_head g c =
     let old = c.args.conn.now in
-    let mid = c.own.new.conn in
-    let n = c.in_ok-row.row.stamp in
+    let mid = c.own_stamp.new.conn in
+    let n = c.in_ok-stamp.stamp in
     let x = g.W.Write.contents c.args.writer.now in
     let y = g.W.Write.contents c.level_head.new.writer in
     let p = err_from_is_err_and c.from_residual-in_err-level_head.result c.from_residual-in_err-level_head.ensures.1 in
-    subst (λ r. Exports g.S.Store old mid x y r (λ _ cs. level cs)) (sym p.1)
-    (stopped_read g.S.Store old mid x y p.0 (λ _ cs. level cs) c.in_ok-row.ensures.same c.in_ok-row.ensures.survives
-    (λ clean owner cs was. subst (AppendsBeginning x y) (is_level n cs (c.in_ok-row.ensures.ok clean owner cs was).1)
+    subst (λ r. Exports g.S.Store old mid x y r level) (sym p.1)
+    (stopped_read g.S.Store old mid x y p.0 level c.in_ok-stamp.ensures.same c.in_ok-stamp.ensures.survives
+    (λ clean owner cs was. subst (AppendsBeginning x y) (is_level n cs (c.in_ok-stamp.ensures.ok clean owner cs was))
     (AppendsBeginning-before x y (head_text n) (flat_map (λ x. row_text x.name x.generation) (level_components cs)) c.in_err-level_head.ensures.err)))
 
 pub returns : goal.returns
 returns g c =
     let old = c.args.conn.now in
-    let mid = c.own.new.conn in
+    let mid = c.own_stamp.new.conn in
     let end = c.put_rows.new.conn in
-    let n = c.in_ok-row.row.stamp in
+    let n = c.in_ok-stamp.stamp in
     let x = g.W.Write.contents c.args.writer.now in
     let y = g.W.Write.contents c.level_head.new.writer in
     let z = g.W.Write.contents c.put_rows.new.writer in
-    after_read g.S.Store old mid end x z c.put_rows.result (λ _ cs. head_text n ++ flat_map (λ x. row_text x.name x.generation) (level_components cs)) (λ _ cs. level cs)
-    c.in_ok-row.ensures.same c.in_ok-row.ensures.survives (λ clean owner cs was. is_level n cs (c.in_ok-row.ensures.ok clean owner cs was).1)
-    (after_write g.S.Store mid end x y z c.put_rows.result (head_text n) (λ _ cs. flat_map (λ x. row_text x.name x.generation) (level_components cs)) c.in_ok-level_head.ensures.ok
+    after_read g.S.Store old mid end x z c.put_rows.result (λ cs. head_text n ++ flat_map (λ x. row_text x.name x.generation) (level_components cs)) level
+    c.in_ok-stamp.ensures.same c.in_ok-stamp.ensures.survives (λ clean owner cs was. is_level n cs (c.in_ok-stamp.ensures.ok clean owner cs was))
+    (after_write g.S.Store mid end x y z c.put_rows.result (head_text n) (λ cs. flat_map (λ x. row_text x.name x.generation) (level_components cs)) c.in_ok-level_head.ensures.ok
     (of_rows g.S.Store component_values (λ x. row_text x.name x.generation) SELECT_COMPONENTS.now [] level_components mid end y z c.put_rows.result
     facts.select_components.plain (tells_components (state g.S.Store mid)) c.put_rows.ensures))

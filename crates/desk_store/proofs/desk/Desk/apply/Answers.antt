@@ -23,7 +23,7 @@ returns-in-Ok-clause-ok g c clean =
     let new : Desk _ = record c.args.self.now { conn = c.run.new.conn; sizes = c.in-Ok.acted.sizes; kept_person = c.take-kept_person.new.self } in
     IfOk-weaker c.result_of.result _ (Replies g.S.Store old new call) (λ reply is owner cs was.
     let it = goes_on g.S.Store old new call taken is_taken c.in-Ok.acted (c.in-Ok.ensures.ok clean) c.in-Ok.ensures.survives
-    (λ o h shows live. c.stop_leaves_what_is_shown.ensures desk_schema (rows_of o h) shows live) c.call_is_formed.ensures refl c.take-kept_person.ensures.after refl owner cs was in
+    (λ o h shows live. c.stop_leaves_what_is_shown.ensures desk_schema (rows_of o h) shows live) c.call_is_formed.ensures refl refl c.take-kept_person.ensures.after refl owner cs was in
     (ap reply_in it.0 ∙ is, it.1)) c.result_of.ensures.ok
 
 pub returns-in-Ok-clause-refused : goal.returns-in-Ok-clause-refused
@@ -35,7 +35,7 @@ returns-in-Ok-clause-refused g c clean =
     let new : Desk _ = record c.args.self.now { conn = c.run.new.conn; sizes = c.in-Ok.acted.sizes; kept_person = c.take-kept_person.new.self } in
     IfErr-weaker c.result_of.result _ (Refuses g.S.Store old new call) (λ refusal is no_store owner cs was.
     let it = goes_on g.S.Store old new call taken is_taken c.in-Ok.acted (c.in-Ok.ensures.ok clean) c.in-Ok.ensures.survives
-    (λ o h shows live. c.stop_leaves_what_is_shown.ensures desk_schema (rows_of o h) shows live) c.call_is_formed.ensures refl c.take-kept_person.ensures.after refl owner cs was in
+    (λ o h shows live. c.stop_leaves_what_is_shown.ensures desk_schema (rows_of o h) shows live) c.call_is_formed.ensures refl refl c.take-kept_person.ensures.after refl owner cs was in
     let exact = it.0 ∙ is in
     (λ _. exact, subst (λ (h : History). ShowsDesk g.S.Store new owner h) (next_same cs call (ap is_accepted exact)) it.1)) c.result_of.ensures.err
 
@@ -48,7 +48,7 @@ returns-clause-refused g c clean no_store owner cs was =
     let new : Desk _ = record c.args.self.now { conn = c.run.new.conn; kept_person = c.take-kept_person.new.self; needs_reopening = c.eq-self.result } in
     let usable : c.eq-self.result ≡ false = (let e = c.eq-self.ensures in search (rules, e, no_store)) in (
       λ no_memory. elim c.in-Err.ensures.failed [ inl memory ↦ absurd (no_memory memory) | inr store ↦ absurd (no_store store) ],
-      stays_shown g.S.Store old new call taken is_taken (c.in-Err.ensures.unwritten no_store) usable (c.in-Err.ensures.err clean no_store) (λ p _. p.right) c.take-kept_person.ensures.after owner cs was,
+      stays_shown g.S.Store old new call taken is_taken (c.in-Err.ensures.unwritten no_store) usable (c.in-Err.ensures.err clean no_store) (λ p _. p.right) refl c.take-kept_person.ensures.after owner cs was,
     )
 
 pub returns-in-Ok-clause-stopped : goal.returns-in-Ok-clause-stopped

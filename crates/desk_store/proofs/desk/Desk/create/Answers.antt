@@ -18,6 +18,7 @@ returns-in-Ok-clause-ok g c clean =
       usable = refl;
       history = record { legal = refl; formed = All-nil IsItem };
       shows = shows;
+      own = refl;
       sizes = unknown_are_right c.unknown.result (tables owner []) c.unknown.ensures;
       person = tt;
       left = c.stop_leaves_what_is_shown.ensures desk_schema (rows_of owner []) shows made.0;

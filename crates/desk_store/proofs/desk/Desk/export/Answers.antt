@@ -1,4 +1,7 @@
-use Rattle.std.proofs.Common.{◌≡◌, ◌≢◌, Err, false, rules, refl, ap}
+use Rattle.std.proofs.Common.{◌≡◌, ◌≢◌, Err, false, rules, refl, ap, subst}
+use Rattle.std.specs.Io.KnownBytes.{Appends}
+use Rattle.desk_bytes.specs.Output.{AppendsBeginning}
+use Rattle.desk_exports.specs.Exports.{exported}
 use Rattle.desk_bytes.specs.declared.refusal.Refusal.TheVariants as refusals
 use Rattle.desk_store.specs.declared.desk.Desk.{Desk}
 use Rattle.desk_store.proofs.DeskLemmas.{reads_shown}
@@ -8,7 +11,7 @@ pub returns-in-Ok-clause-same : goal.returns-in-Ok-clause-same
 returns-in-Ok-clause-same g c clean other owner cs was =
     let old = c.args.self.now in
     let new : Desk _ = record c.args.self.now { conn = c.export.new.conn } in
-    reads_shown g.S.Store old new (c.in-Ok.ensures.spares owner cs was.shows) was.usable c.in-Ok.ensures.same refl refl owner cs was
+    reads_shown g.S.Store old new (c.in-Ok.ensures.spares owner cs was.shows) was.usable c.in-Ok.ensures.same refl refl refl owner cs was
 
 pub returns-in-Err-clause-same : goal.returns-in-Err-clause-same
 returns-in-Err-clause-same g c clean other owner cs was =
@@ -16,7 +19,7 @@ returns-in-Err-clause-same g c clean other owner cs was =
     let new : Desk _ = record c.args.self.now { conn = c.export.new.conn; needs_reopening = c.eq-self.result } in
     let differs : c.in-Err.failure ≢ refusals.Store = λ is. other (ap Err is) in
     let usable : c.eq-self.result ≡ false = (let e = c.eq-self.ensures in search (rules, e, differs)) in
-    reads_shown g.S.Store old new (c.in-Err.ensures.spares owner cs was.shows) usable c.in-Err.ensures.same refl refl owner cs was
+    reads_shown g.S.Store old new (c.in-Err.ensures.spares owner cs was.shows) usable c.in-Err.ensures.same refl refl refl owner cs was
 
 pub returns-in-Ok-clause-spares : goal.returns-in-Ok-clause-spares
 returns-in-Ok-clause-spares g c owner cs was = c.in-Ok.ensures.spares owner cs was.shows
@@ -25,4 +28,10 @@ pub returns-in-Err-clause-spares : goal.returns-in-Err-clause-spares
 returns-in-Err-clause-spares g c owner cs was = c.in-Err.ensures.spares owner cs was.shows
 
 pub returns-in-Ok-clause-ok : goal.returns-in-Ok-clause-ok
-returns-in-Ok-clause-ok g c = search rules
+returns-in-Ok-clause-ok g c clean owner cs was =
+    subst (λ o. Appends (g.W.Write.contents c.args.writer.now) (g.W.Write.contents c.export.new.writer) (exported c.args.what o cs)) was.own (c.in-Ok.ensures.ok clean owner cs was.shows)
+
+pub returns-in-Err-clause-beginning : goal.returns-in-Err-clause-beginning
+returns-in-Err-clause-beginning g c clean owner cs was =
+    subst (λ o. AppendsBeginning (g.W.Write.contents c.args.writer.now) (g.W.Write.contents c.export.new.writer) (exported c.args.what o cs)) was.own
+    (c.in-Err.ensures.beginning clean owner cs was.shows)

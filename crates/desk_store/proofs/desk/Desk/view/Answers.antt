@@ -13,6 +13,7 @@ returns-in-Ok-clause-reads g c = record {
         usable = it.usable;
         history = it.history;
         shows = it.shows;
+        own = it.own;
         sizes = (c.in-Ok.ensures.shown clean owner cs was was.sizes).1;
         person = it.person;
         left = it.left;

@@ -2,8 +2,9 @@ use Rattle.std.proofs.Common.{◌≡◌, Some, sym, subst, ◌∙◌, arith}
 use Rattle.sqlite.specs.Held.{state}
 use Rattle.sqlite.specs.State.{HasCleanDisk, IsUnchanged}
 use Rattle.desk_store.proofs.OpeningLemmas.{no_rows, open_there, read_alike, selected}
-use Rattle.desk_store.specs.Rows.{ReadsAs}
-use Rattle.desk_store.proofs.opening.version_of.Goals as goal
+use Rattle.desk_store.specs.Rows.{ReadsBy}
+use Rattle.desk_store.specs.declared.opening.OwnRow.{OwnRow}
+use Rattle.desk_store.proofs.opening.own_row_of.Goals as goal
 
 pub returns-in-Some-clause-open : goal.returns-in-Some-clause-open
 returns-in-Some-clause-open g c clean =
@@ -28,7 +29,7 @@ returns-in-Some-clause-read g c clean inside schema contents rows of_desk sees h
     let same : IsUnchanged old mid = c.in-Ok.ensures.same late in (
       answer,
       selected old mid new answer same (c.in-Ok-select.ensures.value clean (same.0.mode ∙ inside)) schema contents rows of_desk sees has,
-      subst (λ l. ReadsAs l c.in-Some.version) c.deref.ensures.value c.in-Some.ensures.read,
+      subst (λ l. ReadsBy l c.in-Some.own.version c.in-Some.own.owner) c.deref.ensures.value c.in-Some.ensures.read,
     )
 
 pub returns-in-Err-clause-unread : goal.returns-in-Err-clause-unread
@@ -44,7 +45,8 @@ returns-in-Ok-select-clause-unread g c clean inside is schema contents rows of_d
     let late : HasCleanDisk mid = omega (arith, c.in-Ok-select.ensures.survives.clean, clean) in
     let same : IsUnchanged old mid = c.in-Ok.ensures.same late in
     let it = selected old mid new answer same (c.in-Ok-select.ensures.value clean (same.0.mode ∙ inside)) schema contents rows of_desk sees has in
-    let told : c.version_in.result ≡ Some version =
-    c.version_in.ensures.found version (subst (λ l. ReadsAs l version) (sym c.deref.ensures.value) (read_alike rows answer version it other)) in
+    let own : OwnRow = record { version = version; owner = other.2.0 } in
+    let told : c.own_row_in.result ≡ Some own =
+    c.own_row_in.ensures.found own (subst (λ l. ReadsBy l version other.2.0) (sym c.deref.ensures.value) (read_alike rows answer version other.2.0 it (other.0, other.1, other.2.1))) in
     let none = c.in-None.is in
     cc
