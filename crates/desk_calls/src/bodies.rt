@@ -48,7 +48,7 @@ pub(crate) fn submission(alloc: Global, title: Title, image: Pieces) -> Result<C
 }
 
 /// The command that returns the signed image of a request.
-pub(crate) fn returned(
+pub(crate) fn returned_file(
     alloc: Global,
     request: RequestNumber,
     image: Pieces,

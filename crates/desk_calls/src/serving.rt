@@ -7,7 +7,7 @@ ghost use Rattle.desk_calls.specs.Desks.{StillShows, ForEachShown, person_with};
 
 use crate::answering::Answering;
 use crate::answers::Answer;
-use crate::bodies::{command_of, returned, submission};
+use crate::bodies::{command_of, returned_file, submission};
 use crate::call::{Call, Task};
 use crate::reading::{judge, show};
 use crate::refusing::outage;
@@ -60,7 +60,12 @@ fn answer_image<D: Answering>(
 {
     match asked {
         ImageAsked::Submit(key, title) => take(desk, name, &key, submission(alloc, title, image)),
-        ImageAsked::Return(key, number) => take(desk, name, &key, returned(alloc, number, image)),
+        ImageAsked::Return(key, number) => take(
+            desk,
+            name,
+            &key,
+            returned_file(alloc, number, image),
+        ),
         ImageAsked::Verdict => judge(alloc, desk, image),
     }
 }

@@ -12,7 +12,7 @@ use std::alloc::Global;
 use std::io::Read;
 
 /// The fault of an input that has no limit of its own.
-pub(crate) fn unread(fault: InputFault) -> Unread
+pub(crate) fn unread_of(fault: InputFault) -> Unread
     ensures own { IsOwn result }
     ensures input { IsOfInput result }
     ensures device { (watch : Watching) → watches.HasCause watch fault → HasCause watch result }
@@ -38,6 +38,6 @@ pub(crate) fn read_bytes<R: Read>(
 {
     match read_body(alloc, reader, watch, size) {
         Ok(body) => Ok(body),
-        Err(fault) => Err(unread(fault)),
+        Err(fault) => Err(unread_of(fault)),
     }
 }

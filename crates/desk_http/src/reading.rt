@@ -12,18 +12,18 @@ ghost use Rattle.desk_http.specs.Refused.{refused_by_head};
 ghost use Rattle.desk_http.specs.Unread.{CanCome, HasCause, IsKnownOfClosed, WhenAsked};
 
 use crate::asking::ask;
-use crate::body_reading::unread;
+use crate::body_reading::unread_of;
 use crate::served::{Due, Unread};
 use desk_bytes::Watch;
 use desk_calls::{Answering, caller};
 use desk_texts::Person;
-use http_requests::{Begun, ParsedHead, Routes, Wanted, WantedFault, read_head, wanted};
+use http_requests::{Begun, ParsedHead, Routes, Wanted, WantedFault, check_head, read_head};
 use http_responses::{Outage, Refused};
 use std::alloc::Global;
 use std::io::Read;
 
 /// The refusal of a head that has this fault.
-fn refused(fault: WantedFault) -> Refused
+fn refusal_of_head(fault: WantedFault) -> Refused
     ensures refused { result ≡ refused_by_head fault }
     ensures no_store { result ≢ Refused.Unavailable Outage.Store }
 {
@@ -119,9 +119,9 @@ fn ask_by_head<D: Answering, R: Read>(
         → R.remaining reader.new ≡ R.remaining reader.old) }
     ensures device { IfErr result (HasCause watch.new) }
 {
-    match wanted(routes, head) {
+    match check_head(routes, head) {
         Ok(wanted) => ask_as(alloc, desk, &wanted, reader, watch),
-        Err(fault) => Ok(Err(refused(fault))),
+        Err(fault) => Ok(Err(refusal_of_head(fault))),
     }
 }
 
@@ -152,7 +152,7 @@ pub(crate) fn read_due<D: Answering, R: Read>(
         Ok(Begun::Head(head)) => head,
         Ok(Begun::Nothing) => return Ok(None),
         Ok(Begun::NoHead) => return Ok(Some(Err(Refused::BadHead))),
-        Err(fault) => return Err(unread(fault)),
+        Err(fault) => return Err(unread_of(fault)),
     };
     let due = ask_by_head(alloc, routes, desk, &head, reader, watch);
     drop(head);

@@ -29,4 +29,4 @@ pub use resource::{Methods, Resource};
 pub use route::{CommandRoute, GetRoute, ImageRoute, PostRoute, Route};
 pub use routing::Routes;
 pub use want::Wanted;
-pub use wanting::wanted;
+pub use wanting::check_head;

@@ -46,7 +46,7 @@ impl Resource {
     }
 
     /// The route of GET, if it has one.
-    fn got(self) -> Option<Route>
+    fn get_route(self) -> Option<Route>
         ensures { result ≡ spec.got self }
     {
         match self {
@@ -56,7 +56,7 @@ impl Resource {
     }
 
     /// The route of POST, if it has one.
-    fn posted(self) -> Option<Route>
+    fn post_route(self) -> Option<Route>
         ensures { result ≡ spec.posted self }
     {
         match self {
@@ -71,9 +71,9 @@ impl Resource {
         ensures { result ≡ spec.route_of self method.now }
     {
         if method == b"GET".as_slice() {
-            self.got()
+            self.get_route()
         } else if method == b"POST".as_slice() {
-            self.posted()
+            self.post_route()
         } else {
             None
         }

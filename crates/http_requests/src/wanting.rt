@@ -57,7 +57,7 @@ fn size(route: Route, length: Option<u64>) -> Result<usize, WantedFault>
 }
 
 /// What the parts of a head ask for.
-fn wanted_by<'b>(routes: &Routes, head: &Head<'b>) -> Result<Wanted<'b>, WantedFault>
+fn check_parts<'b>(routes: &Routes, head: &Head<'b>) -> Result<Wanted<'b>, WantedFault>
     ensures { spec.Gives (spec.wanted_of (parts.shown head.now)) result }
 {
     let fields = checked_fields(head)?;
@@ -83,9 +83,9 @@ fn wanted_by<'b>(routes: &Routes, head: &Head<'b>) -> Result<Wanted<'b>, WantedF
 /// field that counts comes once at most and Content-Length has 1 to 10 digits; the target is a path
 /// of the table; the path has the method; POST has a Content-Length and GET has none above 0; the
 /// length is within the route's limit. Who calls isn't looked at.
-pub fn wanted<'b>(routes: &Routes, head: &'b ParsedHead) -> Result<Wanted<'b>, WantedFault>
+pub fn check_head<'b>(routes: &Routes, head: &'b ParsedHead) -> Result<Wanted<'b>, WantedFault>
     ensures { (h : RequestHead) (rest : List ℕ) → ReadsRequest head.now h rest
         → spec.Gives (spec.wanted_of (parts_of h)) result }
 {
-    wanted_by(routes, &head.parts())
+    check_parts(routes, &head.parts())
 }

@@ -6,7 +6,7 @@ ghost use Rattle.http_requests.specs.bodies.Members as spec;
 use serde_json::Value;
 
 /// The value of an object with this one key.
-pub(crate) fn one<'v>(value: &'v Value, key: &str) -> Option<&'v Value>
+pub(crate) fn one_member<'v>(value: &'v Value, key: &str) -> Option<&'v Value>
     ensures { option_map (λ v. view v.now) result ≡ spec.one_of key.now (view value.now) }
 {
     let Value::Object(members) = value else {
@@ -21,7 +21,10 @@ pub(crate) fn one<'v>(value: &'v Value, key: &str) -> Option<&'v Value>
 }
 
 /// The values of an object with these two keys, in ascending order.
-pub(crate) fn two<'v>(value: &'v Value, keys: (&str, &str)) -> Option<(&'v Value, &'v Value)>
+pub(crate) fn two_members<'v>(
+    value: &'v Value,
+    keys: (&str, &str),
+) -> Option<(&'v Value, &'v Value)>
     ensures { option_map (λ v. (view v.0.now, view v.1.now)) result
         ≡ spec.two_of keys.entry.0.now keys.entry.1.now (view value.now) }
 {
@@ -38,7 +41,7 @@ pub(crate) fn two<'v>(value: &'v Value, keys: (&str, &str)) -> Option<(&'v Value
 }
 
 /// The values of an object with these three keys, in ascending order.
-pub(crate) fn three<'v>(
+pub(crate) fn three_members<'v>(
     value: &'v Value,
     keys: (&str, &str, &str),
 ) -> Option<(&'v Value, &'v Value, &'v Value)>

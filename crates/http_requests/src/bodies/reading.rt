@@ -4,7 +4,7 @@ ghost use Rattle.serde_json.specs.View.{view};
 ghost use Rattle.http_requests.specs.bodies.Bodies as spec;
 
 use crate::BodyFault;
-use crate::bodies::members::{one, three, two};
+use crate::bodies::members::{one_member, three_members, two_members};
 use crate::bodies::values::{component, digest, generation, kind, note, parse, stamp, vote};
 use desk_bytes::Digest;
 use desk_texts::{Ballot, Listing, Raise, RequestNumber};
@@ -17,7 +17,7 @@ fn review_in(alloc: Global, request: RequestNumber, value: &Value) -> Result<Bal
     ensures ok { IfOk result (λ ballot. spec.review_in request (view value.now) ≡ Some ballot) }
     ensures err { IfErr result (spec.Refuses (spec.review_in request (view value.now))) }
 {
-    let Some((said, word)) = two(value, ("note", "vote")) else {
+    let Some((said, word)) = two_members(value, ("note", "vote")) else {
         return Err(BodyFault::BadBody);
     };
     let Some(vote) = vote(word) else {
@@ -36,7 +36,7 @@ fn digest_in(value: &Value) -> Result<Digest, BodyFault>
     ensures ok { IfOk result (λ body. spec.digest_object (view value.now) ≡ Some body) }
     ensures err { IfErr result (spec.Refuses (spec.digest_object (view value.now))) }
 {
-    let Some(text) = one(value, "digest") else {
+    let Some(text) = one_member(value, "digest") else {
         return Err(BodyFault::BadBody);
     };
     digest(text).ok_or(BodyFault::BadBody)
@@ -47,7 +47,7 @@ fn unlist_in(value: &Value) -> Result<Listing, BodyFault>
     ensures ok { IfOk result (λ entry. spec.unlist_in (view value.now) ≡ Some entry) }
     ensures err { IfErr result (spec.Refuses (spec.unlist_in (view value.now))) }
 {
-    let Some((text, word)) = two(value, ("digest", "kind")) else {
+    let Some((text, word)) = two_members(value, ("digest", "kind")) else {
         return Err(BodyFault::BadBody);
     };
     let (Some(digest), Some(kind)) = (digest(text), kind(word)) else {
@@ -61,7 +61,8 @@ fn level_in(alloc: Global, value: &Value) -> Result<Raise, BodyFault>
     ensures ok { IfOk result (λ raise. spec.level_in (view value.now) ≡ Some raise) }
     ensures err { IfErr result (spec.Refuses (spec.level_in (view value.now))) }
 {
-    let Some((name, least, time)) = three(value, ("component", "generation", "stamp")) else {
+    let Some((name, least, time)) = three_members(value, ("component", "generation", "stamp"))
+    else {
         return Err(BodyFault::BadBody);
     };
     let (Some(generation), Some(stamp)) = (generation(least), stamp(time)) else {

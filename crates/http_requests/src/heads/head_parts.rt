@@ -19,7 +19,7 @@ fn is_named(found: &[u8], name: &str) -> bool
 }
 
 /// What is given under a name, with one more field of that name.
-fn another<'b>(given: Given<'b>, value: &'b [u8]) -> Given<'b>
+fn with_another<'b>(given: Given<'b>, value: &'b [u8]) -> Given<'b>
     ensures { occurrence result ≡ with_another (occurrence given.entry) value.now }
 {
     match given {
@@ -29,7 +29,7 @@ fn another<'b>(given: Given<'b>, value: &'b [u8]) -> Given<'b>
 }
 
 /// What the fields at these spans give under a name.
-fn given<'b>(bytes: &'b [u8], spans: &[HeaderSpan], name: &str) -> Given<'b>
+fn value_given<'b>(bytes: &'b [u8], spans: &[HeaderSpan], name: &str) -> Given<'b>
     requires { All (IsHeaderWithin (length bytes.now)) spans.now }
     ensures { occurrence result
         ≡ occurrence_of (values_named name.now (map (header_bytes bytes.now) spans.now)) }
@@ -37,7 +37,7 @@ fn given<'b>(bytes: &'b [u8], spans: &[HeaderSpan], name: &str) -> Given<'b>
     let mut given = Given::Missing;
     for span in spans {
         if is_named(span.name.of(bytes), name) {
-            given = another(given, span.value.of(bytes));
+            given = with_another(given, span.value.of(bytes));
         }
     }
     given
@@ -65,11 +65,11 @@ pub(crate) fn parts_at<'b>(bytes: &'b [u8], spans: &HeadSpans) -> Head<'b>
     Head {
         method: spans.request.method.of(bytes),
         target: text_at(bytes, spans.request.path),
-        transfer_encoding: given(bytes, fields, "Transfer-Encoding"),
-        content_length: given(bytes, fields, "Content-Length"),
-        desk_token: given(bytes, fields, "Desk-Token"),
-        desk_key: given(bytes, fields, "Desk-Key"),
-        desk_title: given(bytes, fields, "Desk-Title"),
-        desk_stamp: given(bytes, fields, "Desk-Stamp"),
+        transfer_encoding: value_given(bytes, fields, "Transfer-Encoding"),
+        content_length: value_given(bytes, fields, "Content-Length"),
+        desk_token: value_given(bytes, fields, "Desk-Token"),
+        desk_key: value_given(bytes, fields, "Desk-Key"),
+        desk_title: value_given(bytes, fields, "Desk-Title"),
+        desk_stamp: value_given(bytes, fields, "Desk-Stamp"),
     }
 }

@@ -3,8 +3,8 @@ use desk_bytes::{Refusal, Watch};
 use desk_texts::{Command, ProposalNumber, RequestNumber};
 use http_requests::{
     AskedFault, Begun, BytesAsked, CommandAsked, ImageAsked, JsonAsked, KeyedAsked, ParsedHead,
-    PostRoute, ReadAsked, Route, Routes, Wanted, command_asked, image_asked, read_asked, read_head,
-    wanted,
+    PostRoute, ReadAsked, Route, Routes, Wanted, check_head, command_asked, image_asked,
+    read_asked, read_head,
 };
 use sbat::Stamp;
 use std::alloc::Global;
@@ -191,7 +191,7 @@ fn outcome(alloc: Global, routes: &Routes, bytes: &[u8]) -> &'static str {
     let Some(head) = parsed(alloc, bytes) else {
         return Refusal::BadHead.name();
     };
-    let wanted = match wanted(routes, &head) {
+    let wanted = match check_head(routes, &head) {
         Ok(wanted) => wanted,
         Err(fault) => return fault.refusal().name(),
     };
@@ -287,7 +287,7 @@ fn gives_the_values_of_fields(rt: HostRuntime) -> Result<(), Fail> {
     let routes = Routes::new(rt.alloc())?;
     let bytes = bytes_of(rt.alloc(), CSV)?;
     let head = parsed(rt.alloc(), bytes.as_slice()).ok_or("a head")?;
-    let wanted = wanted(&routes, &head).ok().ok_or("what it asks for")?;
+    let wanted = check_head(&routes, &head).ok().ok_or("what it asks for")?;
     assert!(rt; wanted.size == 42, "the length");
     assert!(rt; wanted.token == Some(b"a b".as_slice()), "the token");
     assert!(rt; wanted.title.is_none(), "no title");
@@ -299,7 +299,7 @@ fn asked_by(alloc: Global, head: &str) -> Option<Asked> {
     let routes = Routes::new(alloc).ok()?;
     let bytes = bytes_of(alloc, head).ok()?;
     let head = parsed(alloc, bytes.as_slice())?;
-    let wanted = wanted(&routes, &head).ok()?;
+    let wanted = check_head(&routes, &head).ok()?;
     ask(alloc, &wanted).ok()
 }
 

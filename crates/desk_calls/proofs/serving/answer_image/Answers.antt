@@ -11,7 +11,7 @@ returns-in-Submit-clause-served g c clean owner cs was =
 pub returns-in-Return-clause-served : goal.returns-in-Return-clause-served
 returns-in-Return-clause-served g c clean owner cs was =
     serves_as (g.D.Answering.shows c.take-in-Return.new.desk owner) (g.D.Answering.failed c.take-in-Return.new.desk) cs (λ x. AnswersImage cs c.args.name x c.args.image) c.args.asked _ c.take-in-Return.result c.in-Return.is
-    (serves_read (g.D.Answering.shows c.take-in-Return.new.desk owner) (g.D.Answering.failed c.take-in-Return.new.desk) cs c.args.name c.in-Return.key _ _ c.take-in-Return.result c.returned.ensures.reads
+    (serves_read (g.D.Answering.shows c.take-in-Return.new.desk owner) (g.D.Answering.failed c.take-in-Return.new.desk) cs c.args.name c.in-Return.key _ _ c.take-in-Return.result c.returned_file.ensures.reads
     (c.take-in-Return.ensures.served clean owner cs was))
 
 pub returns-in-Verdict-clause-served : goal.returns-in-Verdict-clause-served
@@ -27,7 +27,7 @@ returns-in-Submit-clause-closed g c was =
 pub returns-in-Return-clause-closed : goal.returns-in-Return-clause-closed
 returns-in-Return-clause-closed g c was =
     let shut = c.take-in-Return.ensures.closed was in
-    (closed_as (λ x owner cs. AnswersImage cs c.args.name x c.args.image) c.args.asked _ c.take-in-Return.result c.in-Return.is (closed_read c.args.name c.in-Return.key _ _ c.take-in-Return.result c.returned.ensures.reads shut.0), shut.1)
+    (closed_as (λ x owner cs. AnswersImage cs c.args.name x c.args.image) c.args.asked _ c.take-in-Return.result c.in-Return.is (closed_read c.args.name c.in-Return.key _ _ c.take-in-Return.result c.returned_file.ensures.reads shut.0), shut.1)
 
 pub returns-in-Verdict-clause-closed : goal.returns-in-Verdict-clause-closed
 returns-in-Verdict-clause-closed g c was =

@@ -12,8 +12,8 @@ returns-in-Ok-clause-asked g c = λ h q reads clean.
 
 pub returns-in-Err-clause-asked : goal.returns-in-Err-clause-asked
 returns-in-Err-clause-asked g c = λ h q reads clean.
-    refused_is_due (wanted_of (parts_of h)) c.in-Err.fault c.refused.result (g.R.Read.remaining c.args.reader.now) (g.D.Answering.shows c.args.desk.now)
-    (c.in-Err.ensures h q reads) c.refused.ensures.refused
+    refused_is_due (wanted_of (parts_of h)) c.in-Err.fault c.refusal_of_head.result (g.R.Read.remaining c.args.reader.now) (g.D.Answering.shows c.args.desk.now)
+    (c.in-Err.ensures h q reads) c.refusal_of_head.ensures.refused
 
 pub returns-in-Ok-clause-closed : goal.returns-in-Ok-clause-closed
 returns-in-Ok-clause-closed g c was =
@@ -22,4 +22,4 @@ returns-in-Ok-clause-closed g c was =
 
 pub returns-in-Err-clause-closed : goal.returns-in-Err-clause-closed
 returns-in-Err-clause-closed g c was =
-    (refl, closed_refuse c.args.head.now c.in-Err.fault c.refused.result c.refused.ensures.refused c.in-Err.ensures)
+    (refl, closed_refuse c.args.head.now c.in-Err.fault c.refusal_of_head.result c.refusal_of_head.ensures.refused c.in-Err.ensures)

@@ -48,4 +48,4 @@ returns-in-Err-due-clause-some g c =
     (rw c.in-Ok-Head.field-0-is at c.in-Ok-Head.ensures.found))
 
 pub returns-in-Err-clause-device : goal.returns-in-Err-clause-device
-returns-in-Err-clause-device g c = c.unread.ensures.device c.read_head.new.watch c.in-Err.ensures.device
+returns-in-Err-clause-device g c = c.unread_of.ensures.device c.read_head.new.watch c.in-Err.ensures.device

@@ -1,7 +1,7 @@
 use Rattle.std.proofs.Common.{◌≡◌, map, take}
 use Rattle.httparse.specs.Spans.{header_bytes}
 use Rattle.http_requests.specs.heads.Fields.{occurrence, occurrence_of, values_named}
-use Rattle.http_requests.proofs.heads.head_parts.given.Given as goal
+use Rattle.http_requests.proofs.heads.head_parts.value_given.Given as goal
 
 abbrev pub invariant-loop-span : goal.invariant-loop-span
 invariant-loop-span l =
