@@ -291,7 +291,7 @@ fn with_lists<'a>(alloc: Global, command: Command<'a>) -> Result<Command<'a>, Al
 }
 
 /// The command without its subcommands.
-fn bare<'a>(alloc: Global) -> Result<Command<'a>, AllocError>
+fn bare_command<'a>(alloc: Global) -> Result<Command<'a>, AllocError>
     ensures { IfOk result (λ c. app_of c ≡ spec.bare_app) }
 {
     Command::new(alloc, "desk")
@@ -307,7 +307,7 @@ fn bare<'a>(alloc: Global) -> Result<Command<'a>, AllocError>
 pub fn desk_command<'a>(alloc: Global) -> Result<Command<'a>, AllocError>
     ensures { IfOk result (λ c. app_of c ≡ desk_app) }
 {
-    let command = with_keeping(alloc, bare(alloc)?)?;
+    let command = with_keeping(alloc, bare_command(alloc)?)?;
     let command = with_requests(alloc, command)?;
     let command = with_images(alloc, command)?;
     let command = with_exports(alloc, command)?;

@@ -78,7 +78,7 @@ fn line_at<'a>(name: &'a str, matches: &ArgMatches<'a>) -> Option<Words<'a>>
 }
 
 /// The result of `clap`, as a subcommand with its words.
-fn met<'a>(matches: &ArgMatches<'a>) -> Option<Words<'a>>
+fn subcommand_words<'a>(matches: &ArgMatches<'a>) -> Option<Words<'a>>
     ensures { option_map line_of result ≡ option_and_then line_in (subcommand_rows_of matches.now) }
 {
     let (name, found) = matches.subcommand()?;
@@ -101,6 +101,6 @@ pub fn words<'a>(alloc: Global, given: &'a [String]) -> Result<Words<'a>, WordsF
             }
             Err(WordsFault::Refused(error))
         }
-        Ok(matches) => met(&matches).ok_or(WordsFault::Missing),
+        Ok(matches) => subcommand_words(&matches).ok_or(WordsFault::Missing),
     }
 }

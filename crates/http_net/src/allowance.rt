@@ -46,7 +46,7 @@ impl Allowance {
     }
 
     /// What is left at an instant; `None` where nothing is.
-    pub(crate) fn left(self, now: Instant) -> Option<Duration>
+    pub(crate) fn rest_at(self, now: Instant) -> Option<Duration>
         ensures { MatchOption result (spec.left_of self now ≡ 0)
             (λ left. (0 < as_nanos left) × (as_nanos left ≡ spec.left_of self now)) }
     {
@@ -54,7 +54,7 @@ impl Allowance {
     }
 
     /// The allowance once so many bytes more came or went.
-    pub(crate) fn counted(self, bytes: usize) -> Allowance
+    pub(crate) fn after_bytes(self, bytes: usize) -> Allowance
         ensures { result ≡ spec.counted self bytes }
     {
         Allowance {

@@ -8,7 +8,7 @@ use desk_http::{Answered, HttpFault, Served};
 use http_responses::{Outage, Refused};
 
 /// The refusal after which the desk has to be opened again, where a response says so.
-fn lasting(answered: Answered) -> Option<Refusal>
+fn lasting_refusal(answered: Answered) -> Option<Refusal>
     ensures value { result ≡ spec.lasting answered.refused }
     ensures named { IfSome result IsLasting }
 {
@@ -23,12 +23,12 @@ fn lasting(answered: Answered) -> Option<Refusal>
 }
 
 /// What ends the program that serves one connection after another.
-pub(crate) fn ending(served: Result<Served, HttpFault>) -> Option<Refusal>
+pub(crate) fn ending_refusal(served: Result<Served, HttpFault>) -> Option<Refusal>
     ensures { result ≡ spec.ending_of served }
 {
     match served {
         Ok(Served::Nothing) => None,
-        Ok(Served::Answered(answered)) => lasting(answered),
+        Ok(Served::Answered(answered)) => lasting_refusal(answered),
         Err(HttpFault::Read | HttpFault::Write | HttpFault::NoMemory) => None,
     }
 }
@@ -41,7 +41,7 @@ pub fn outcome(served: Result<Served, HttpFault>) -> Result<(), Refusal>
 {
     match served {
         Ok(Served::Nothing) => Ok(()),
-        Ok(Served::Answered(answered)) => match lasting(answered) {
+        Ok(Served::Answered(answered)) => match lasting_refusal(answered) {
             None => Ok(()),
             Some(refusal) => Err(refusal),
         },

@@ -6,7 +6,7 @@ ghost use Rattle.http_net.specs.Wire.{IsOneRequest};
 
 use crate::connection::serve_stream;
 use crate::peers::Peers;
-use crate::served::ending;
+use crate::served::ending_refusal;
 use desk_bytes::Refusal;
 use desk_calls::Answering;
 use desk_http::{HttpFault, Served};
@@ -65,7 +65,7 @@ fn serve_peers<D: Answering, P: Peers<D>>(
         let Some(served) = peers.serve_next(alloc, desk) else {
             return Err(Refusal::Read);
         };
-        match ending(served) {
+        match ending_refusal(served) {
             Some(refusal) => return Err(refusal),
             None => {}
         }

@@ -68,7 +68,7 @@ impl<C: Clock, S> Timed<C, S> {
     {
         let allowance = Allowance::at_call(self.allowance, now);
         self.allowance = Some(allowance);
-        match allowance.left(now) {
+        match allowance.rest_at(now) {
             Some(left) => Ok(left),
             None => Err(io::Error::from(ErrorKind::TimedOut)),
         }
@@ -80,7 +80,7 @@ impl<C: Clock, S> Timed<C, S> {
             ≡ Some (spec.counted (spec.at_call self.old.allowance now) bytes) }
         ensures stream { self.new.stream ≡ self.old.stream }
     {
-        self.allowance = Some(Allowance::at_call(self.allowance, now).counted(bytes));
+        self.allowance = Some(Allowance::at_call(self.allowance, now).after_bytes(bytes));
     }
 }
 

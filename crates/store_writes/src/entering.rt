@@ -5,7 +5,7 @@ ghost use Rattle.desk_history.specs.declared.write.Write.TheVariants as writes;
 ghost use Rattle.store_sql.specs.States.{CommitsNothing, Spares, StaysInside};
 ghost use Rattle.store_writes.specs.Steps.{Begins, Founds, Steps, unmigrated, with_migrated};
 
-use crate::stored::stored;
+use crate::stored::integer_value;
 use desk_bytes::Guid;
 use desk_history::Minute;
 use desk_texts::{Person, reply_text};
@@ -48,7 +48,7 @@ pub fn put_migrated<S: Alter>(tx: &mut Transaction<'_, S>, calls: u64) -> Result
     ensures kept { CommitsNothing S.Store tx.old.conn.now tx.new.conn.now }
     ensures survives { Spares S.Store tx.old.conn.now tx.new.conn.now }
 {
-    let calls = stored(calls)?;
+    let calls = integer_value(calls)?;
     insert(tx, INSERT_MIGRATED, params![1u32, &calls])?;
     Ok(())
 }
@@ -105,7 +105,7 @@ pub(crate) fn put_call<S: Alter>(
     ensures kept { CommitsNothing S.Store tx.old.conn.now tx.new.conn.now }
     ensures survives { Spares S.Store tx.old.conn.now tx.new.conn.now }
 {
-    let number = stored(minute.number)?;
+    let number = integer_value(minute.number)?;
     let Ok(reply) = reply_text(alloc, &minute.reply) else {
         return Err(StoreFault::NoMemory);
     };

@@ -9,7 +9,7 @@ ghost use Rattle.store_sql.specs.States.{DoesInside, CommitsNothing, Moves, Spar
 ghost use Rattle.store_schema.specs.Tables.{desk_schema};
 ghost use Rattle.store_writes.specs.Steps.{Steps, contents_with, item_columns, with_item};
 
-use crate::stored::stored;
+use crate::stored::integer_value;
 use desk_history::ProposalRow;
 use desk_texts::{Import, ItemKind, ProposalNumber};
 use sbat::Stamp;
@@ -35,8 +35,8 @@ fn insert_item<S: Alter>(
     ensures kept { CommitsNothing S.Store tx.old.conn.now tx.new.conn.now }
     ensures survives { Spares S.Store tx.old.conn.now tx.new.conn.now }
 {
-    let proposal = stored(proposal.value())?;
-    let place = stored(place)?;
+    let proposal = integer_value(proposal.value())?;
+    let place = integer_value(place)?;
     insert(
         tx,
         INSERT_PROPOSAL_ITEM,
@@ -144,9 +144,9 @@ pub(crate) fn put_proposal<S: Alter>(
     ensures kept { CommitsNothing S.Store tx.old.conn.now tx.new.conn.now }
     ensures survives { Spares S.Store tx.old.conn.now tx.new.conn.now }
 {
-    let number = stored(proposal.number.value())?;
-    let stamp = stored(stamp_number(proposal.named.stamp()))?;
-    let passed = stored(proposal.named.passed())?;
+    let number = integer_value(proposal.number.value())?;
+    let stamp = integer_value(stamp_number(proposal.named.stamp()))?;
+    let passed = integer_value(proposal.named.passed())?;
     put_items(tx, proposal.number, &proposal.named)?;
     insert(
         tx,

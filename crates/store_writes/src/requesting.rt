@@ -5,7 +5,7 @@ ghost use Rattle.desk_history.specs.declared.write.Write.TheVariants as writes;
 ghost use Rattle.store_sql.specs.States.{CommitsNothing, Spares, StaysInside};
 ghost use Rattle.store_writes.specs.Steps.{Steps};
 
-use crate::stored::stored;
+use crate::stored::integer_value;
 use desk_history::{RequestCertificateRow, RequestComponentRow, RequestRow, ReturnRow, VoteRow};
 use sqlite::{Alter, Transaction, params};
 use store_schema::{
@@ -26,9 +26,9 @@ pub(crate) fn put_request<S: Alter>(
     ensures kept { CommitsNothing S.Store tx.old.conn.now tx.new.conn.now }
     ensures survives { Spares S.Store tx.old.conn.now tx.new.conn.now }
 {
-    let number = stored(request.number.value())?;
-    let length = stored(request.length)?;
-    let gap = stored(request.gap)?;
+    let number = integer_value(request.number.value())?;
+    let length = integer_value(request.length)?;
+    let gap = integer_value(request.gap)?;
     insert(
         tx,
         INSERT_REQUEST,
@@ -59,7 +59,7 @@ pub(crate) fn put_request_certificate<S: Alter>(
     ensures kept { CommitsNothing S.Store tx.old.conn.now tx.new.conn.now }
     ensures survives { Spares S.Store tx.old.conn.now tx.new.conn.now }
 {
-    let request = stored(certificate.request.value())?;
+    let request = integer_value(certificate.request.value())?;
     insert(
         tx,
         INSERT_REQUEST_CERTIFICATE,
@@ -80,8 +80,8 @@ pub(crate) fn put_request_component<S: Alter>(
     ensures kept { CommitsNothing S.Store tx.old.conn.now tx.new.conn.now }
     ensures survives { Spares S.Store tx.old.conn.now tx.new.conn.now }
 {
-    let request = stored(component.request.value())?;
-    let place = stored(component.place)?;
+    let request = integer_value(component.request.value())?;
+    let place = integer_value(component.place)?;
     insert(
         tx,
         INSERT_REQUEST_COMPONENT,
@@ -107,7 +107,7 @@ pub(crate) fn put_vote<S: Alter>(
     ensures kept { CommitsNothing S.Store tx.old.conn.now tx.new.conn.now }
     ensures survives { Spares S.Store tx.old.conn.now tx.new.conn.now }
 {
-    let request = stored(vote.request.value())?;
+    let request = integer_value(vote.request.value())?;
     insert(
         tx,
         INSERT_VOTE,
@@ -133,8 +133,8 @@ pub(crate) fn put_return<S: Alter>(
     ensures kept { CommitsNothing S.Store tx.old.conn.now tx.new.conn.now }
     ensures survives { Spares S.Store tx.old.conn.now tx.new.conn.now }
 {
-    let request = stored(returned.request.value())?;
-    let length = stored(returned.length)?;
+    let request = integer_value(returned.request.value())?;
+    let length = integer_value(returned.length)?;
     insert(
         tx,
         INSERT_RETURN,

@@ -6,7 +6,7 @@ ghost use Rattle.store_sql.specs.States.{CommitsNothing, Spares, StaysInside};
 ghost use Rattle.store_writes.specs.Steps.{Steps, with_version};
 
 use crate::entering::VERSION;
-use crate::stored::stored;
+use crate::stored::integer_value;
 use desk_texts::{Outcome, ProposalOutcome};
 use sbat::{Component, Stamp};
 use sqlite::{Alter, Transaction, params};
@@ -27,7 +27,7 @@ pub(crate) fn set_state<S: Alter>(
     ensures kept { CommitsNothing S.Store tx.old.conn.now tx.new.conn.now }
     ensures survives { Spares S.Store tx.old.conn.now tx.new.conn.now }
 {
-    let number = stored(outcome.request.value())?;
+    let number = integer_value(outcome.request.value())?;
     update(tx, UPDATE_STATE, params![&number, outcome.state.text()])?;
     Ok(())
 }
@@ -64,7 +64,7 @@ pub(crate) fn set_stamp<S: Alter>(
     ensures kept { CommitsNothing S.Store tx.old.conn.now tx.new.conn.now }
     ensures survives { Spares S.Store tx.old.conn.now tx.new.conn.now }
 {
-    let number = stored(stamp.value())?;
+    let number = integer_value(stamp.value())?;
     update(tx, UPDATE_STAMP, params![&number])?;
     Ok(())
 }
@@ -81,7 +81,7 @@ pub(crate) fn set_proposal_state<S: Alter>(
     ensures kept { CommitsNothing S.Store tx.old.conn.now tx.new.conn.now }
     ensures survives { Spares S.Store tx.old.conn.now tx.new.conn.now }
 {
-    let number = stored(outcome.proposal.value())?;
+    let number = integer_value(outcome.proposal.value())?;
     update(
         tx,
         UPDATE_PROPOSAL_STATE,

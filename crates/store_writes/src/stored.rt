@@ -6,7 +6,7 @@ use sqlite::types::Value;
 use store_sql::StoreFault;
 
 /// The number as an integer of SQL; `Store` above 2^63 - 1, the greatest of those.
-pub(crate) fn stored(number: u64) -> Result<Value, StoreFault>
+pub(crate) fn integer_value(number: u64) -> Result<Value, StoreFault>
     ensures value { IfOk result (λ value. value ≡ Int (pos number)) }
     ensures only { OnErr result (9223372036854775807 < number) }
 {

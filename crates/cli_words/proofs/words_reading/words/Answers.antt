@@ -18,8 +18,8 @@ returns-else-eq c = record {
 pub returns-in-Ok-try_get_matches_from : goal.returns-in-Ok-try_get_matches_from
 returns-in-Ok-try_get_matches_from c =
     let whole = no_fault _ (map string_bytes c.args.given.now) c.in-Ok.ensures c.in-Ok-try_get_matches_from.ensures.kinds in
-    let said = c.met.ensures ∙ line_met _ _ _ c.in-Ok.ensures c.in-Ok-try_get_matches_from.ensures.matches in
+    let said = c.subcommand_words.ensures ∙ line_met _ _ _ c.in-Ok.ensures c.in-Ok-try_get_matches_from.ensures.matches in
     record {
-      exact = line_given (map string_bytes c.args.given.now) c.met.result c.ok_or.result c.ok_or.ensures.value whole said;
-      taken = λ line spells. line_kept line c.met.result c.ok_or.result c.ok_or.ensures.value (said ∙ line_read line _ spells);
+      exact = line_given (map string_bytes c.args.given.now) c.subcommand_words.result c.ok_or.result c.ok_or.ensures.value whole said;
+      taken = λ line spells. line_kept line c.subcommand_words.result c.ok_or.result c.ok_or.ensures.value (said ∙ line_read line _ spells);
     }
