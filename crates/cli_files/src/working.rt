@@ -20,7 +20,7 @@ ghost use Rattle.cli_commands.specs.Faults.{IsAddingRefusal, IsWritingRefusal};
 use crate::file::read_image;
 use cli_commands::{add, judge, write_export};
 use cli_lines::{Ending, Fault, Outcome};
-use cli_opening::{ended, make, open};
+use cli_opening::{close_after, make, open};
 use desk_bytes::{Guid, Refusal};
 use desk_exports::Export;
 use desk_service::facts;
@@ -44,7 +44,7 @@ pub fn make_desk(rt: &HostRuntime, path: &str, owner: &Guid) -> Ending
     ensures closing { IfSome result.closing (IsRow IsClosingRefusal) }
 {
     match make(rt, path, owner) {
-        Ok(desk) => ended(desk, Ok(Outcome::Done)),
+        Ok(desk) => close_after(desk, Ok(Outcome::Done)),
         Err(refusal) => Ending::without_desk(refusal),
     }
 }
@@ -65,7 +65,7 @@ fn add_at<D: Disk + Drop, W: Write>(
     ensures let_go { IfErr result.work (λ fault. IsLasting fault.refusal → result.closing ≡ None) }
 {
     let work = add(alloc, &mut desk, key, person, writer);
-    ended(desk, work)
+    close_after(desk, work)
 }
 
 /// Adds a person to the desk in a file, as the console's call under this key, and writes the
@@ -142,7 +142,7 @@ fn judge_at<D: Disk + Drop, W: Write>(
     ensures let_go { IfErr result.work (λ fault. IsLasting fault.refusal → result.closing ≡ None) }
 {
     let work = judge_file(rt, &mut desk, file, writer);
-    ended(desk, work)
+    close_after(desk, work)
 }
 
 /// Writes the verdict of the desk in a file on the image in another: `allowed`, or `refused` and
@@ -182,7 +182,7 @@ fn export_at<D: Disk + Drop, W: Write>(
     ensures let_go { IfErr result.work (λ fault. IsLasting fault.refusal → result.closing ≡ None) }
 {
     let work = write_export(&mut desk, what, writer);
-    ended(desk, work)
+    close_after(desk, work)
 }
 
 /// Writes an export of the desk in a file. The faults of the desk's file are those of `add_person`.

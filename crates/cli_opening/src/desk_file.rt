@@ -138,7 +138,7 @@ fn needs_reopening(work: &Result<Outcome, Fault>) -> bool
 
 /// Closes the desk after its work. A desk that failed is dropped: its next opening finds what it
 /// stored.
-pub fn ended<D: Disk + Drop>(desk: Desk<FileStore<D>>, work: Result<Outcome, Fault>) -> Ending
+pub fn close_after<D: Disk + Drop>(desk: Desk<FileStore<D>>, work: Result<Outcome, Fault>) -> Ending
     ensures work { result.work ≡ work }
     ensures closed { Ends D.Disk desk result }
     ensures closing { IfSome result.closing (IsRow IsClosingRefusal) }

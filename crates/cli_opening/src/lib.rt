@@ -6,5 +6,5 @@ mod desk_file;
 mod laws;
 
 pub use connecting::connect;
-pub use desk_file::{FileDesk, ended, make, open};
+pub use desk_file::{FileDesk, close_after, make, open};
 pub use laws::a_failed_close_is_a_device;

@@ -11,7 +11,7 @@ ghost use Rattle.cli_requests.specs.Works.{AnswersOnce, Serves, ServesPort, Work
 ghost use Rattle.desk_http.specs.Serving.{AnswersOne};
 
 use cli_lines::{Ending, Fault, Outcome};
-use cli_opening::{ended, open};
+use cli_opening::{close_after, open};
 use desk_answers::OpenDesk;
 use desk_bytes::Refusal;
 use desk_calls::Answering;
@@ -59,7 +59,7 @@ fn answer_at<D: Disk + Drop, R: Read + Drop, W: Write>(
 {
     let mut desk = OpenDesk::new(desk);
     let work = answer_one(alloc, routes, &mut desk, reader, writer);
-    ended(desk.into_desk(), work)
+    close_after(desk.into_desk(), work)
 }
 
 /// Answers one request of the reader by this table of paths, for the desk in a file; if the reader
@@ -145,7 +145,7 @@ fn serve_at<D: Disk + Drop>(
 {
     let mut desk = OpenDesk::new(desk);
     let work = serve_all(rt, routes, &mut desk, port, count);
-    ended(desk.into_desk(), work)
+    close_after(desk.into_desk(), work)
 }
 
 /// Serves `count` connections at this port of 127.0.0.1 by this table of paths, one request each,

@@ -16,7 +16,7 @@ use std::process::ExitCode;
 pub const MISUSED: u8 = 2;
 
 /// Puts a buffer before a writer.
-fn buffered<W: Write + Drop>(alloc: Global, writer: W) -> Result<BufWriter<W>, Fault> {
+fn buffered_writer<W: Write + Drop>(alloc: Global, writer: W) -> Result<BufWriter<W>, Fault> {
     BufWriter::new(alloc, writer).map_err(|_| Fault::from(Refusal::NoMemory))
 }
 
@@ -32,7 +32,7 @@ fn pack_through<R: Read, W: Write + Drop>(
     reader: &mut R,
     writer: W,
 ) -> Result<(), Fault> {
-    let mut out = buffered(alloc, writer)?;
+    let mut out = buffered_writer(alloc, writer)?;
     pack(alloc, owner, reader, &mut out)?;
     flush(&mut out)
 }
@@ -47,7 +47,7 @@ fn run_pack(rt: &HostRuntime, owner: &str) -> Result<(), Stop> {
 /// Prints the ranges of an image's file.
 fn run_ranges(rt: &HostRuntime, file: &str) -> Result<(), Stop> {
     let mut image = read_image(rt, file)?;
-    let mut out = buffered(rt.alloc(), rt.stdout())?;
+    let mut out = buffered_writer(rt.alloc(), rt.stdout())?;
     print_ranges(&mut image, &mut out)?;
     flush(&mut out)?;
     Ok(())
@@ -57,7 +57,7 @@ fn run_ranges(rt: &HostRuntime, file: &str) -> Result<(), Stop> {
 fn run_facts(rt: &HostRuntime, file: &str) -> Result<(), Stop> {
     let mut image = read_image(rt, file)?;
     let found = facts(rt.alloc(), &mut image).map_err(Fault::from)?;
-    let mut out = buffered(rt.alloc(), rt.stdout())?;
+    let mut out = buffered_writer(rt.alloc(), rt.stdout())?;
     print_facts(&found, &mut out).map_err(Fault::from)?;
     flush(&mut out)?;
     Ok(())
@@ -66,7 +66,7 @@ fn run_facts(rt: &HostRuntime, file: &str) -> Result<(), Stop> {
 /// Prints the signature lists in a file.
 fn run_list(rt: &HostRuntime, file: &str) -> Result<(), Stop> {
     let bytes = read_file(rt, file)?;
-    let mut out = buffered(rt.alloc(), rt.stdout())?;
+    let mut out = buffered_writer(rt.alloc(), rt.stdout())?;
     print_list(rt.alloc(), &bytes, &mut out)?;
     flush(&mut out)?;
     Ok(())
@@ -87,7 +87,7 @@ fn run_person(rt: &HostRuntime, words: PersonWords<'_>) -> Result<Ending, Stop> 
         key,
     } = words;
     let (key, person) = person_from(rt.alloc(), name, role, key, &mut rt.stdin())?;
-    let mut out = buffered(rt.alloc(), rt.stdout())?;
+    let mut out = buffered_writer(rt.alloc(), rt.stdout())?;
     Ok(add_person(rt, db, &key, person, &mut out))
 }
 
@@ -117,13 +117,13 @@ fn run_answer(rt: &HostRuntime, db: &str) -> Result<Ending, Stop> {
 
 /// Prints a verdict.
 fn run_verdict(rt: &HostRuntime, db: &str, file: &str) -> Result<Ending, Stop> {
-    let mut out = buffered(rt.alloc(), rt.stdout())?;
+    let mut out = buffered_writer(rt.alloc(), rt.stdout())?;
     Ok(judge_image(rt, db, file, &mut out))
 }
 
 /// Writes an export.
 fn run_export(rt: &HostRuntime, db: &str, what: Export) -> Result<Ending, Stop> {
-    let mut out = buffered(rt.alloc(), rt.stdout())?;
+    let mut out = buffered_writer(rt.alloc(), rt.stdout())?;
     Ok(export_from(rt, db, what, &mut out))
 }
 

@@ -90,7 +90,7 @@ pub(crate) fn holder<S: Alter>(
 }
 
 /// The call of this caller's name with this key.
-pub(crate) fn earlier<S: Alter>(
+pub(crate) fn earlier_call<S: Alter>(
     alloc: Global,
     tx: &mut Transaction<'_, S>,
     caller: &str,

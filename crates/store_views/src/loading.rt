@@ -34,7 +34,7 @@ pub(crate) struct CallRows {
 }
 
 /// The person whom the command adds.
-fn added(command: &Command) -> Option<&Person>
+fn person_added(command: &Command) -> Option<&Person>
     ensures { option_copied result ≡ added_by command.now }
 {
     match command {
@@ -142,7 +142,7 @@ fn people_of<S: Alter>(
     let own = keyed::caller(alloc, tx, kept_person, caller.name())?;
     let mut people = Vec::new(alloc);
     push_some(&mut people, own)?;
-    let Some(person) = added(command) else {
+    let Some(person) = person_added(command) else {
         return Ok(people);
     };
     let namesake = keyed::person(alloc, tx, person.name.as_str())?;
@@ -170,7 +170,7 @@ fn calls_of<S: Alter>(
     ensures kept { CommitsNothing S.Store tx.old.conn.now tx.new.conn.now }
     ensures survives { Spares S.Store tx.old.conn.now tx.new.conn.now }
 {
-    let earlier = keyed::earlier(alloc, tx, caller.name(), key)?;
+    let earlier = keyed::earlier_call(alloc, tx, caller.name(), key)?;
     let mut calls = Vec::new(alloc);
     push_some(&mut calls, earlier)?;
     Ok(calls)

@@ -39,7 +39,7 @@ struct Seen {
 
 /// The rows and sizes that the call needs, with the sizes that are known and the person who is
 /// kept. The desk's own row comes first, so that only an open store gives Ok.
-fn see<S: Alter>(
+fn rows_and_sizes<S: Alter>(
     alloc: Global,
     tx: &mut Transaction<'_, S>,
     sizes: KeptSizes,
@@ -114,7 +114,7 @@ pub fn view<S: Alter>(
 {
     minutes_are_readable();
     stamps_are_above_none();
-    match see(alloc, tx, *sizes, kept_person, caller, key, command) {
+    match rows_and_sizes(alloc, tx, *sizes, kept_person, caller, key, command) {
         Ok(seen) => {
             *sizes = seen.sizes;
             Ok(seen.view)

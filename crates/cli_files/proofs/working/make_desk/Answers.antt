@@ -6,19 +6,19 @@ use Rattle.cli_files.proofs.working.make_desk.Goals as goal
 
 pub returns-in-Ok-clause-made : goal.returns-in-Ok-clause-made
 returns-in-Ok-clause-made c =
-    made_desk c.args.owner.now c.ended.result c.in-Ok.desk c.in-Ok.ensures.made c.ended.ensures.closed
+    made_desk c.args.owner.now c.close_after.result c.in-Ok.desk c.in-Ok.ensures.made c.close_after.ensures.closed
 
 pub returns-in-Ok-clause-done : goal.returns-in-Ok-clause-done
-returns-in-Ok-clause-done c = rw c.ended.ensures.work refl
+returns-in-Ok-clause-done c = rw c.close_after.ensures.work refl
 
 pub returns-in-Ok-clause-named : goal.returns-in-Ok-clause-named
-returns-in-Ok-clause-named c = rw c.ended.ensures.work tt
+returns-in-Ok-clause-named c = rw c.close_after.ensures.work tt
 
 pub returns-in-Ok-clause-first : goal.returns-in-Ok-clause-first
-returns-in-Ok-clause-first c = rw c.ended.ensures.work tt
+returns-in-Ok-clause-first c = rw c.close_after.ensures.work tt
 
 pub returns-in-Ok-clause-closing : goal.returns-in-Ok-clause-closing
-returns-in-Ok-clause-closing c = c.ended.ensures.closing
+returns-in-Ok-clause-closing c = c.close_after.ensures.closing
 
 -- no desk was made
 

@@ -11,7 +11,7 @@ use Rattle.store_views.proofs.loading.calls_of.Goals as goal
 pub returns-clause-value : goal.returns-clause-value
 returns-clause-value g c clean inside =
     let first = state g.S.Store c.args.tx.now.conn.now in
-    let last = state g.S.Store c.earlier.new.tx.conn.now in
+    let last = state g.S.Store c.earlier_call.new.tx.conn.now in
     let caller = caller_name c.args.caller.now in
     let key = c.args.key.now in
     let found = c.in_ok-earlier.earlier in

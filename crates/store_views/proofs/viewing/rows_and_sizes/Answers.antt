@@ -10,7 +10,7 @@ use Rattle.desk_rules.specs.Shown.{is_proposal_row}
 use Rattle.desk_rules.specs.Views.{ShowsLists}
 use Rattle.store_views.specs.lists.Lists.{HoldsNoOther}
 use Rattle.store_views.proofs.NamedLemmas.{keys_same}
-use Rattle.store_views.proofs.viewing.see.Goals as goal
+use Rattle.store_views.proofs.viewing.rows_and_sizes.Goals as goal
 
 pub returns-clause-value : goal.returns-clause-value
 returns-clause-value g c clean inside =

@@ -1,6 +1,6 @@
 use Rattle.std.proofs.Common.{refl}
 use Rattle.cli_opening.proofs.EndingLemmas.{never_both, not_lasting, nothing_told}
-use Rattle.cli_opening.proofs.desk_file.ended.Goals as goal
+use Rattle.cli_opening.proofs.desk_file.close_after.Goals as goal
 
 pub returns-then-needs_reopening-clause-closed : goal.returns-then-needs_reopening-clause-closed
 returns-then-needs_reopening-clause-closed g c = λ usable none.

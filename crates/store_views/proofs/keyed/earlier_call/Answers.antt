@@ -1,5 +1,5 @@
 use Rattle.std.proofs.Common.{rules}
-use Rattle.store_views.proofs.keyed.earlier.Goals as goal
+use Rattle.store_views.proofs.keyed.earlier_call.Goals as goal
 
 pub returns-in_default-clause-value : goal.returns-in_default-clause-value
 returns-in_default-clause-value g c = search rules
