@@ -76,6 +76,15 @@ pub(super) fn exports<S: Alter + Drop>(alloc: Global, desk: &mut Desk<S>) -> Opt
     Some(bytes)
 }
 
+/// Whether these are all exports of the desk, which is then dropped.
+pub(super) fn exports_these<S: Alter + Drop>(
+    alloc: Global,
+    mut desk: Desk<S>,
+    wanted: &[u8],
+) -> Option<bool> {
+    Some(exports(alloc, &mut desk)?.as_slice() == wanted)
+}
+
 /// Whether the desk refuses an image for a revocation, of its `digest` or a `certificate`: that
 /// word, and the image.
 pub(super) fn bars<S: Alter + Drop>(
@@ -90,5 +99,27 @@ pub(super) fn bars<S: Alter + Drop>(
         Ok(Verdict::DbxCertificate) => Some(revoked == "certificate"),
         Ok(_) => Some(false),
         Err(_) => None,
+    }
+}
+
+/// Whether a desk that is then dropped refuses that image.
+pub(super) fn is_barred<S: Alter + Drop>(
+    alloc: Global,
+    mut desk: Desk<S>,
+    barred: &str,
+) -> Option<bool> {
+    bars(alloc, &mut desk, barred)
+}
+
+/// The desk, if it refuses that image.
+pub(super) fn if_it_bars<S: Alter + Drop>(
+    alloc: Global,
+    mut desk: Desk<S>,
+    barred: &str,
+) -> Option<Desk<S>> {
+    if bars(alloc, &mut desk, barred)? {
+        Some(desk)
+    } else {
+        None
     }
 }

@@ -1,7 +1,8 @@
 //! One call of a desk, with a file that stops at each of its calls in turn.
 use super::asking::{answered, answers, exports, is_closed, parted};
 use super::disks::{
-    Goal, NEVER, Stopping, Stops, Which, bytes_of, calls_to, files, new_desk, opened,
+    Goal, NEVER, Stopping, Stops, Which, after_crash, bytes_of, calls_to, close_connection, files,
+    new_desk, opened,
 };
 use super::selects::all_rows;
 use super::*;
@@ -78,6 +79,17 @@ fn is_answered<S: Alter + Drop>(
     None
 }
 
+/// Whether the desk's exports are those after the call, or before it if it may be missing.
+fn has_exports<S: Alter + Drop>(
+    alloc: Global,
+    desk: &mut Desk<S>,
+    wanted: &Wanted,
+    may_miss: bool,
+) -> Option<bool> {
+    let found = exports(alloc, desk)?;
+    Some(wanted.is_found(found.as_slice(), may_miss))
+}
+
 /// Whether a desk that was opened again has the call, or lacks it if it may be missing; and whether
 /// the call then gets its answer, and the desk exports the same as with it.
 fn goes_on<S: Alter + Drop>(
@@ -86,15 +98,11 @@ fn goes_on<S: Alter + Drop>(
     wanted: &Wanted,
     may_miss: bool,
 ) -> Option<bool> {
-    let found = exports(alloc, desk)?;
-    if !wanted.is_found(found.as_slice(), may_miss) {
-        return Some(false);
-    }
-    if !answers(alloc, desk, wanted.line, wanted.answer.as_str())? {
-        return Some(false);
-    }
-    let found = exports(alloc, desk)?;
-    Some(wanted.is_found(found.as_slice(), false))
+    Some(
+        has_exports(alloc, desk, wanted, may_miss)?
+            && answers(alloc, desk, wanted.line, wanted.answer.as_str())?
+            && has_exports(alloc, desk, wanted, false)?,
+    )
 }
 
 /// Whether the desk's tables have the rows of one acceptance.
@@ -103,19 +111,34 @@ fn has_rows<S: Alter + Drop>(alloc: Global, desk: Desk<S>, wanted: &Wanted) -> O
     Some(all_rows(alloc, &mut conn)? == wanted.rows)
 }
 
-/// Whether the desk goes on after a crash, and its tables then are those of one acceptance.
+/// Whether a desk that was opened again goes on, and its tables then are those of one acceptance.
+fn is_whole<S: Alter + Drop>(
+    alloc: Global,
+    mut desk: Desk<S>,
+    wanted: &Wanted,
+    may_miss: bool,
+) -> Option<bool> {
+    Some(goes_on(alloc, &mut desk, wanted, may_miss)? && has_rows(alloc, desk, wanted)?)
+}
+
+/// The same of a desk after a crash.
 fn outlives<D: Crash + Drop>(
     alloc: Global,
     desk: Desk<FileStore<D>>,
     wanted: &Wanted,
     may_miss: bool,
 ) -> Option<bool> {
-    match restart(alloc, desk, OPTIONS) {
-        Ok(mut again) => {
-            Some(goes_on(alloc, &mut again, wanted, may_miss)? && has_rows(alloc, again, wanted)?)
-        }
-        Err(_) => None,
-    }
+    is_whole(alloc, after_crash(alloc, desk)?, wanted, may_miss)
+}
+
+/// The desk once it was given the call, and whether that was answered as without a stop.
+fn ask<S: Alter + Drop>(
+    alloc: Global,
+    mut desk: Desk<S>,
+    wanted: &Wanted,
+) -> Option<(Desk<S>, bool)> {
+    let is_answered = is_answered(alloc, &mut desk, wanted)?;
+    Some((desk, is_answered))
 }
 
 /// The outcome of the call at this desk; `None` if the desk that is opened after a crash isn't as
@@ -125,12 +148,11 @@ fn outcome<D: Crash + Drop>(
     desk: Desk<FileStore<D>>,
     wanted: &Wanted,
 ) -> Option<Ended> {
-    let mut desk = desk;
-    let is_whole = is_answered(alloc, &mut desk, wanted)?;
-    if !outlives(alloc, desk, wanted, !is_whole)? {
+    let (desk, is_answered) = ask(alloc, desk, wanted)?;
+    if !outlives(alloc, desk, wanted, !is_answered)? {
         return None;
     }
-    Some(if is_whole {
+    Some(if is_answered {
         Ended::Answered
     } else {
         Ended::Stopped
@@ -188,24 +210,24 @@ fn given<'a, S: Alter + Drop>(
     })
 }
 
-/// The call of a line at the desk of the files without a stop, and the files after it.
-fn played<'a, D: Disk + Drop>(
+/// The call of a line at the desk, and the connection after it.
+fn played<'a, S: Alter + Drop>(
     alloc: Global,
-    files: Files<D>,
+    mut desk: Desk<S>,
     line: &'a str,
-) -> Option<(Wanted<'a>, Files<D>)> {
-    let mut desk = opened(alloc, files).ok()?;
+) -> Option<(Wanted<'a>, Connection<S>)> {
     let mut wanted = given(alloc, &mut desk, line)?;
     let mut conn = desk.release();
     wanted.rows = all_rows(alloc, &mut conn)?;
-    Some((wanted, conn.close_files().ok()?))
+    Some((wanted, conn))
 }
 
 /// The database file after the call of a line, which is stopped at each call of the log and then at
 /// each of the database file.
 fn outlived<D: Stopping>(alloc: Global, bytes: &[u8], line: &str) -> Option<Vec<u8>> {
     let whole: Files<D> = files(alloc, bytes, NEVER)?;
-    let (wanted, left) = played(alloc, whole, line)?;
+    let (wanted, conn) = played(alloc, opened(alloc, whole).ok()?, line)?;
+    let left = close_connection(conn)?;
     for which in [Which::Log, Which::Db] {
         if stopped::<D>(alloc, bytes, &wanted, which)? == 0 {
             return None;

@@ -1,9 +1,9 @@
 //! A series of lives of one desk that cross the change of version: openings of version 1 that are
 //! stopped, and lives of version 2.
-use super::asking::bars;
+use super::asking::if_it_bars;
 use super::disks::{
-    Goal, NEVER, Stopping, Stops, Which, bytes_of, calls_to, crashed, files, files_of, reopened,
-    with_stops,
+    Goal, NEVER, Stopping, Stops, Which, bytes_of, calls_to, close, crashed, files, release,
+    reopened, with_stops,
 };
 use super::first_version::first_file;
 use super::lives::{outlived, whole};
@@ -29,7 +29,7 @@ fn after_opening<D: Stopping>(
 ) -> Option<(bool, Files<D>)> {
     let next = with_stops(alloc, &left, stops)?;
     match reopened(alloc, next) {
-        Ok(desk) => Some((false, crashed(files_of(desk.release())))),
+        Ok(desk) => Some((false, crashed(release(desk)))),
         Err((Refusal::Store, Some(files))) => Some((true, files)),
         Err((Refusal::Store, None)) => Some((true, left)),
         Err(_) => None,
@@ -54,11 +54,8 @@ fn after_openings<D: Stopping>(alloc: Global, bytes: &[u8], which: Which) -> Opt
 /// The database file of the desk that is opened after them, which bars the image.
 fn opened_at_last<D: Stopping>(alloc: Global, bytes: &[u8], which: Which) -> Option<Vec<u8>> {
     let left: Files<D> = after_openings(alloc, bytes, which)?;
-    let mut desk = reopened(alloc, left).ok()?;
-    if !bars(alloc, &mut desk, REVOKED)? {
-        return None;
-    }
-    bytes_of(alloc, &desk.close().ok()?)
+    let desk = if_it_bars(alloc, reopened(alloc, left).ok()?, REVOKED)?;
+    bytes_of(alloc, &close(desk)?)
 }
 
 /// Lives all lives, and compares the exports at their end.

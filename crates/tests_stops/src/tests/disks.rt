@@ -1,5 +1,5 @@
 //! Files that stop, and the desks in them.
-use super::losing::done;
+use super::losing::does_once;
 use super::*;
 
 /// One of the two files.
@@ -99,15 +99,39 @@ pub(super) fn files_of<D: Disk + Drop>(conn: Connection<FileStore<D>>) -> Files<
     conn.into_store().close()
 }
 
+/// The files of the connection, once it is closed.
+pub(super) fn close_connection<D: Disk + Drop>(conn: Connection<FileStore<D>>) -> Option<Files<D>> {
+    conn.close_files().ok()
+}
+
+/// The desk in the connection's store, or the refusal and the connection.
+pub(super) fn open<S: Alter + Drop>(
+    alloc: Global,
+    conn: Connection<S>,
+) -> Result<Desk<S>, (Refusal, Connection<S>)> {
+    if !conn.is_autocommit() {
+        return Err((Refusal::Reopen, conn));
+    }
+    Desk::open(alloc, conn)
+}
+
+/// A new desk in the connection's store, or the refusal and the connection.
+fn make<S: Alter + Drop>(
+    alloc: Global,
+    conn: Connection<S>,
+) -> Result<Desk<S>, (Refusal, Connection<S>)> {
+    if !conn.is_autocommit() {
+        return Err((Refusal::Reopen, conn));
+    }
+    Desk::create(alloc, conn, &Guid::from(OWNER))
+}
+
 /// The desk of the connection, or its files.
 fn found<D: Disk + Drop>(
     alloc: Global,
     conn: Connection<FileStore<D>>,
 ) -> Result<Desk<FileStore<D>>, Files<D>> {
-    if !conn.is_autocommit() {
-        return Err(files_of(conn));
-    }
-    match Desk::open(alloc, conn) {
+    match open(alloc, conn) {
         Ok(desk) => Ok(desk),
         Err((_, conn)) => Err(files_of(conn)),
     }
@@ -118,10 +142,7 @@ fn founded<D: Disk + Drop>(
     alloc: Global,
     conn: Connection<FileStore<D>>,
 ) -> Result<Desk<FileStore<D>>, Files<D>> {
-    if !conn.is_autocommit() {
-        return Err(files_of(conn));
-    }
-    match Desk::create(alloc, conn, &Guid::from(OWNER)) {
+    match make(alloc, conn) {
         Ok(desk) => Ok(desk),
         Err((_, conn)) => Err(files_of(conn)),
     }
@@ -161,6 +182,24 @@ pub(super) fn made<D: Disk + Drop>(
     }
 }
 
+/// The files of the desk, once it is closed.
+pub(super) fn close<D: Disk + Drop>(desk: Desk<FileStore<D>>) -> Option<Files<D>> {
+    desk.close().ok()
+}
+
+/// The files of the desk as it is.
+pub(super) fn release<D: Disk + Drop>(desk: Desk<FileStore<D>>) -> Files<D> {
+    files_of(desk.release())
+}
+
+/// The desk that is opened after the machine stopped.
+pub(super) fn after_crash<D: Crash + Drop>(
+    alloc: Global,
+    desk: Desk<FileStore<D>>,
+) -> Option<Desk<FileStore<D>>> {
+    restart(alloc, desk, OPTIONS).ok()
+}
+
 /// The files after the machine stopped.
 pub(super) fn crashed<D: Crash>(files: Files<D>) -> Files<D> {
     let Files { mut log, mut db } = files;
@@ -173,7 +212,7 @@ pub(super) fn crashed<D: Crash>(files: Files<D>) -> Files<D> {
 pub(super) fn new_desk<D: Stopping>(alloc: Global) -> Option<Vec<u8>> {
     let empty: Files<D> = files(alloc, b"", NEVER)?;
     let desk = made(alloc, empty).ok()?;
-    bytes_of(alloc, &desk.close().ok()?)
+    bytes_of(alloc, &close(desk)?)
 }
 
 /// A goal for files that don't stop earlier.
@@ -196,19 +235,21 @@ fn answers_in<D: Disk + Drop>(
     told: &str,
 ) -> Option<bool> {
     match opened(alloc, files) {
-        Ok(desk) => {
-            let (_, is_done) = done(alloc, desk, request, told)?;
-            Some(is_done)
-        }
+        Ok(desk) => does_once(alloc, desk, request, told),
         Err(_) => Some(false),
     }
+}
+
+/// Whether there is a value, which is then dropped.
+fn is_there<T: Drop, E: Drop>(outcome: Result<T, E>) -> bool {
+    outcome.is_ok()
 }
 
 /// Whether the files reach the goal.
 fn reaches<D: Disk + Drop>(alloc: Global, files: Files<D>, goal: Goal<'_>) -> Option<bool> {
     match goal {
-        Goal::Connection => Some(connected(alloc, files).is_ok()),
-        Goal::Desk => Some(opened(alloc, files).is_ok()),
+        Goal::Connection => Some(is_there(connected(alloc, files))),
+        Goal::Desk => Some(is_there(opened(alloc, files))),
         Goal::Call { request, told } => answers_in(alloc, files, request, told),
     }
 }

@@ -1,7 +1,7 @@
 //! A file of version 1, of a desk of one officer, made in SQL: six people, and an import of 300
 //! digests.
 use super::asking::parted;
-use super::disks::{NEVER, Stopping, bytes_of, connected, files};
+use super::disks::{NEVER, Stopping, bytes_of, close_connection, connected, files};
 use super::selects::execute;
 use super::*;
 use std::alloc::AllocError;
@@ -109,11 +109,15 @@ fn fill<S: Alter + Drop>(alloc: Global, conn: &mut Connection<S>) -> Option<()> 
     Some(())
 }
 
+/// The connection once they were made.
+fn with_tables<S: Alter + Drop>(alloc: Global, mut conn: Connection<S>) -> Option<Connection<S>> {
+    fill(alloc, &mut conn)?;
+    Some(conn)
+}
+
 /// The files in which they were made, closed.
 fn filled<D: Disk + Drop>(alloc: Global, files: Files<D>) -> Option<Files<D>> {
-    let mut conn = connected(alloc, files).ok()?;
-    fill(alloc, &mut conn)?;
-    conn.close_files().ok()
+    close_connection(with_tables(alloc, connected(alloc, files).ok()?)?)
 }
 
 /// The bytes of the file.

@@ -1,6 +1,9 @@
 //! Ten lives of a desk; in each one call is answered Ok and the next is stopped.
-use super::asking::{bars, does, does_each, exports, is_closed, parted};
-use super::disks::{Goal, NEVER, Stopping, Stops, Which, bytes_of, calls_to, files, made, opened};
+use super::asking::{bars, does, does_each, exports, is_barred, is_closed, parted};
+use super::disks::{
+    Goal, NEVER, Stopping, Stops, Which, after_crash, bytes_of, calls_to, close, files, made,
+    opened,
+};
 use super::losing::{add_officer, done};
 use super::*;
 
@@ -55,13 +58,18 @@ fn is_begun<S: Alter + Drop>(alloc: Global, desk: &mut Desk<S>) -> Option<bool> 
     does_each(alloc, desk, BEFORE)
 }
 
+/// The desk, given the calls before the lives.
+fn begin<S: Alter + Drop>(alloc: Global, mut desk: Desk<S>) -> Option<Desk<S>> {
+    if is_begun(alloc, &mut desk)? {
+        Some(desk)
+    } else {
+        None
+    }
+}
+
 /// The files of a new desk that was given the calls before the lives.
 fn begun<D: Disk + Drop>(alloc: Global, files: Files<D>) -> Option<Files<D>> {
-    let mut desk = made(alloc, files).ok()?;
-    if !is_begun(alloc, &mut desk)? {
-        return None;
-    }
-    desk.close().ok()
+    close(begin(alloc, made(alloc, files).ok()?)?)
 }
 
 /// The database file of that desk.
@@ -76,15 +84,11 @@ fn is_stopped<S: Alter + Drop>(alloc: Global, desk: &mut Desk<S>, told: &str) ->
     Some(!is_done && is_closed(desk))
 }
 
-/// The desk that is opened after a life, with its first call answered and the second stopped.
-fn lived<D: Crash + Drop>(
-    alloc: Global,
-    desk: Desk<FileStore<D>>,
-    life: Life<'_>,
-) -> Option<Desk<FileStore<D>>> {
+/// The desk, with the first call of the life answered and the second stopped.
+fn live_on<S: Alter + Drop>(alloc: Global, desk: Desk<S>, life: Life<'_>) -> Option<Desk<S>> {
     let (mut desk, is_done) = done(alloc, desk, life.request, life.first)?;
     if is_done && is_stopped(alloc, &mut desk, life.second)? {
-        restart(alloc, desk, OPTIONS).ok()
+        Some(desk)
     } else {
         None
     }
@@ -104,6 +108,20 @@ fn goes_on<S: Alter + Drop>(
     )
 }
 
+/// The desk, if it goes on so.
+fn if_it_goes_on<S: Alter + Drop>(
+    alloc: Global,
+    mut desk: Desk<S>,
+    life: Life<'_>,
+    barred: &str,
+) -> Option<Desk<S>> {
+    if goes_on(alloc, &mut desk, life, barred)? {
+        Some(desk)
+    } else {
+        None
+    }
+}
+
 /// The files after a life over these files. The desk that is opened after it bars the image and
 /// gives both calls their answers.
 fn after<D: Crash + Drop>(
@@ -112,19 +130,16 @@ fn after<D: Crash + Drop>(
     life: Life<'_>,
     barred: &str,
 ) -> Option<Files<D>> {
-    let desk = opened(alloc, files).ok()?;
-    let mut desk = lived(alloc, desk, life)?;
-    if !goes_on(alloc, &mut desk, life, barred)? {
-        return None;
-    }
-    desk.close().ok()
+    let stopped = live_on(alloc, opened(alloc, files).ok()?, life)?;
+    let desk = after_crash(alloc, stopped)?;
+    close(if_it_goes_on(alloc, desk, life, barred)?)
 }
 
 /// Whether the desk in this file bars the image.
 fn holds<D: Stopping>(alloc: Global, bytes: &[u8], barred: &str) -> Option<bool> {
     let all: Files<D> = files(alloc, bytes, NEVER)?;
     match opened(alloc, all) {
-        Ok(mut desk) => bars(alloc, &mut desk, barred),
+        Ok(desk) => is_barred(alloc, desk, barred),
         Err(_) => None,
     }
 }
@@ -168,11 +183,11 @@ fn play<S: Alter + Drop>(alloc: Global, desk: &mut Desk<S>, lives: &str) -> Opti
 /// The desk's exports after the calls of all lives.
 fn exports_after<S: Alter + Drop>(
     alloc: Global,
-    desk: &mut Desk<S>,
+    mut desk: Desk<S>,
     lives: &str,
 ) -> Option<Vec<u8>> {
-    if play(alloc, desk, lives)? {
-        exports(alloc, desk)
+    if play(alloc, &mut desk, lives)? {
+        exports(alloc, &mut desk)
     } else {
         None
     }
@@ -182,7 +197,7 @@ fn exports_after<S: Alter + Drop>(
 pub(super) fn whole<D: Stopping>(alloc: Global, bytes: &[u8], lives: &str) -> Option<Vec<u8>> {
     let all: Files<D> = files(alloc, bytes, NEVER)?;
     match opened(alloc, all) {
-        Ok(mut desk) => exports_after(alloc, &mut desk, lives),
+        Ok(desk) => exports_after(alloc, desk, lives),
         Err(_) => None,
     }
 }

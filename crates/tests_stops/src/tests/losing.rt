@@ -11,6 +11,11 @@ use std::io;
 use std::io::{ErrorKind, Write};
 use testing::bytes_of;
 
+/// Whether the response says that the call was accepted.
+fn accepts(response: &[u8]) -> bool {
+    response.starts_with(b"HTTP/1.1 200 OK")
+}
+
 /// A writer that fails at its first byte, and whether the response to be written says that the call
 /// was accepted.
 #[derive(Drop)]
@@ -20,7 +25,7 @@ struct Losing {
 
 impl Write for Losing {
     fn write(&mut self, buf: &[u8]) -> io::Result<usize> {
-        self.is_accepted = buf.starts_with(b"HTTP/1.1 200 OK");
+        self.is_accepted = accepts(buf);
         Err(io::Error::from(ErrorKind::BrokenPipe))
     }
 
@@ -61,6 +66,17 @@ pub(super) fn done<S: Alter + Drop>(
     let mut desk = desk;
     let is_done = does(alloc, &mut desk, told)?;
     Some((desk, is_done))
+}
+
+/// Whether the call has that answer, of a desk that is then dropped.
+pub(super) fn does_once<S: Alter + Drop>(
+    alloc: Global,
+    desk: Desk<S>,
+    request: &str,
+    told: &str,
+) -> Option<bool> {
+    let (_, is_done) = done(alloc, desk, request, told)?;
+    Some(is_done)
 }
 
 /// Adds an officer with a token, under the name as the key.

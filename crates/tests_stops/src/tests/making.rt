@@ -1,6 +1,6 @@
 //! The making of a desk, with a file that stops at each of its calls in turn.
-use super::asking::exports;
-use super::disks::{Stopping, Stops, Which, crashed, files, made, opened};
+use super::asking::exports_these;
+use super::disks::{Stopping, Stops, Which, after_crash, crashed, files, made, opened};
 use super::*;
 
 /// The desk of the files of a machine that stopped while one was made: the one in them, or else a
@@ -15,14 +15,15 @@ fn at_last<D: Crash + Drop>(alloc: Global, files: Files<D>) -> Option<Desk<FileS
 /// Whether a desk is made in the files at once. After a crash it is there; otherwise there is one
 /// or none, and then one is made. It exports the level of a new desk, and nothing else.
 fn is_made<D: Crash + Drop>(alloc: Global, files: Files<D>) -> Option<bool> {
-    let (is_whole, mut desk) = match made(alloc, files) {
-        Ok(desk) => (true, restart(alloc, desk, OPTIONS).ok()?),
+    let (is_whole, desk) = match made(alloc, files) {
+        Ok(desk) => (true, after_crash(alloc, desk)?),
         Err(files) => (false, at_last(alloc, files)?),
     };
-    if exports(alloc, &mut desk)?.as_slice() != NEW_LEVEL {
-        return None;
+    if exports_these(alloc, desk, NEW_LEVEL)? {
+        Some(is_whole)
+    } else {
+        None
     }
-    Some(is_whole)
 }
 
 /// How often a desk wasn't made at once if the file stops after 0, 1, 2 .. calls, until it was made

@@ -1,12 +1,12 @@
 //! The file of version 1, opened by a desk: its first opening and the next, files that are refused,
 //! and stops within the opening.
-use super::asking::{does_each, exports};
+use super::asking::{does_each, exports, exports_these};
 use super::disks::{
-    Goal, NEVER, Stopping, Stops, Which, bytes_of, calls_to, connected, crashed, files, files_of,
-    opened, reopened,
+    Goal, NEVER, Stopping, Stops, Which, bytes_of, calls_to, close, close_connection, connected,
+    crashed, files, files_of, open, opened, release, reopened,
 };
 use super::first_version::{first_exports, first_file};
-use super::selects::{ADDED, TABLES, VERSION, execute, selected};
+use super::selects::{ADDED, TABLES, VERSION, after_text, rows_of, selected};
 use super::*;
 
 /// Calls to its desk, and the answers: an earlier key gets its reply, and revoked digests are
@@ -47,8 +47,7 @@ struct Original {
 
 /// The rows of the twelve tables in these files.
 fn rows_in<D: Disk + Drop>(alloc: Global, files: Files<D>) -> Option<String> {
-    let mut conn = connected(alloc, files).ok()?;
-    selected(alloc, &mut conn, TABLES)
+    rows_of(alloc, connected(alloc, files).ok()?)
 }
 
 impl Original {
@@ -86,21 +85,30 @@ impl Original {
     }
 }
 
+/// The version that the connection's tables are of, and the connection.
+fn with_version<S: Alter + Drop>(
+    alloc: Global,
+    mut conn: Connection<S>,
+    original: &Original,
+) -> Option<(u64, Connection<S>)> {
+    let version = original.version(alloc, &mut conn)?;
+    Some((version, conn))
+}
+
 /// The version that the files are of, and the files.
 fn found<D: Disk + Drop>(
     alloc: Global,
     files: Files<D>,
     original: &Original,
 ) -> Option<(u64, Files<D>)> {
-    let mut conn = connected(alloc, files).ok()?;
-    let version = original.version(alloc, &mut conn)?;
+    let (version, conn) = with_version(alloc, connected(alloc, files).ok()?, original)?;
     Some((version, files_of(conn)))
 }
 
 /// Whether the files open, and the desk in them has the exports of the file's.
 fn is_there<D: Crash + Drop>(alloc: Global, files: Files<D>, original: &Original) -> Option<bool> {
-    let mut desk = reopened(alloc, files).ok()?;
-    Some(exports(alloc, &mut desk)? == original.exports)
+    let desk = reopened(alloc, files).ok()?;
+    exports_these(alloc, desk, original.exports.as_slice())
 }
 
 /// The version that a stop left in these files, if the next opening succeeds.
@@ -125,7 +133,7 @@ enum Ended {
 /// How the opening of the desk in these files ends; `None` if it doesn't end as it should.
 fn ending<D: Crash + Drop>(alloc: Global, files: Files<D>, original: &Original) -> Option<Ended> {
     match reopened(alloc, files) {
-        Ok(desk) => match left(alloc, crashed(files_of(desk.release())), original)? {
+        Ok(desk) => match left(alloc, crashed(release(desk)), original)? {
             2 => Some(Ended::Opened),
             _ => None,
         },
@@ -192,8 +200,9 @@ fn a_stopped_opening_leaves_version_1_or_2(rt: HostRuntime) -> Result<(), Fail> 
 }
 
 /// Whether the desk exports this, and gives the answers of the calls.
-fn goes_on<S: Alter + Drop>(alloc: Global, desk: &mut Desk<S>, wanted: &[u8]) -> Option<bool> {
-    Some(exports(alloc, desk)?.as_slice() == wanted && does_each(alloc, desk, ASKED)?)
+fn goes_on<S: Alter + Drop>(alloc: Global, mut desk: Desk<S>, wanted: &[u8]) -> Option<bool> {
+    let exported = exports(alloc, &mut desk)?;
+    Some(exported.as_slice() == wanted && does_each(alloc, &mut desk, ASKED)?)
 }
 
 /// Whether both have the same bytes.
@@ -210,7 +219,7 @@ fn touched<D: Stopping>(alloc: Global, bytes: &[u8]) -> Option<Files<D>> {
 /// The files of this file once its desk was opened, and released without a call.
 fn looked_at<D: Stopping>(alloc: Global, bytes: &[u8]) -> Option<Files<D>> {
     let whole: Files<D> = files(alloc, bytes, NEVER)?;
-    Some(files_of(opened(alloc, whole).ok()?.release()))
+    Some(release(opened(alloc, whole).ok()?))
 }
 
 /// Whether the opening of the desk in this file writes anything.
@@ -223,14 +232,14 @@ fn writes<D: Stopping>(alloc: Global, bytes: &[u8]) -> Option<bool> {
 /// The file once its desk was opened and closed.
 fn migrated<D: Stopping>(alloc: Global, bytes: &[u8]) -> Option<Vec<u8>> {
     let whole: Files<D> = files(alloc, bytes, NEVER)?;
-    bytes_of(alloc, &opened(alloc, whole).ok()?.close().ok()?)
+    bytes_of(alloc, &close(opened(alloc, whole).ok()?)?)
 }
 
 /// Whether the desk in this file goes on.
 fn holds<D: Stopping>(alloc: Global, bytes: &[u8], wanted: &[u8]) -> Option<bool> {
     let whole: Files<D> = files(alloc, bytes, NEVER)?;
     match opened(alloc, whole) {
-        Ok(mut desk) => goes_on(alloc, &mut desk, wanted),
+        Ok(desk) => goes_on(alloc, desk, wanted),
         Err(_) => None,
     }
 }
@@ -262,20 +271,15 @@ fn a_file_of_version_1_is_opened_and_goes_on(rt: HostRuntime) -> Result<(), Fail
 /// The file once this text in SQL was executed in it.
 fn altered<D: Stopping>(alloc: Global, bytes: &[u8], text: &str) -> Option<Vec<u8>> {
     let whole: Files<D> = files(alloc, bytes, NEVER)?;
-    let mut conn = connected(alloc, whole).ok()?;
-    execute(&mut conn, text)?;
-    bytes_of(alloc, &conn.close_files().ok()?)
+    let conn = after_text(connected(alloc, whole).ok()?, text)?;
+    bytes_of(alloc, &close_connection(conn)?)
 }
 
 /// The refusal of opening the desk in this file, and the files after it; `a desk` if it is opened.
 fn refusal_of<D: Stopping>(alloc: Global, bytes: &[u8]) -> Option<(&'static str, Files<D>)> {
     let whole: Files<D> = files(alloc, bytes, NEVER)?;
-    let conn = connected(alloc, whole).ok()?;
-    if !conn.is_autocommit() {
-        return None;
-    }
-    match Desk::open(alloc, conn) {
-        Ok(desk) => Some(("a desk", files_of(desk.release()))),
+    match open(alloc, connected(alloc, whole).ok()?) {
+        Ok(desk) => Some(("a desk", release(desk))),
         Err((refusal, conn)) => Some((refusal.name(), files_of(conn))),
     }
 }

@@ -32,6 +32,15 @@ pub(super) fn execute<S: Alter + Drop>(conn: &mut Connection<S>, text: &str) -> 
     Some(())
 }
 
+/// The connection once the text was executed.
+pub(super) fn after_text<S: Alter + Drop>(
+    mut conn: Connection<S>,
+    text: &str,
+) -> Option<Connection<S>> {
+    execute(&mut conn, text)?;
+    Some(conn)
+}
+
 /// The one text that a SELECT gives, or none.
 fn text_of<S: Alter + Drop>(conn: &mut Connection<S>, select: &str) -> Option<Option<String>> {
     conn.query_row(select, &[]).ok()?.get(0).ok()
@@ -51,6 +60,11 @@ pub(super) fn selected<S: Alter + Drop>(
         text.push('\n').ok()?;
     }
     Some(text)
+}
+
+/// The rows of the tables that both versions have.
+pub(super) fn rows_of<S: Alter + Drop>(alloc: Global, mut conn: Connection<S>) -> Option<String> {
+    selected(alloc, &mut conn, TABLES)
 }
 
 /// The rows of all tables of version 2.
