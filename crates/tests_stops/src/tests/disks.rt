@@ -240,16 +240,11 @@ fn answers_in<D: Disk + Drop>(
     }
 }
 
-/// Whether there is a value, which is then dropped.
-fn is_there<T: Drop, E: Drop>(outcome: Result<T, E>) -> bool {
-    outcome.is_ok()
-}
-
 /// Whether the files reach the goal.
 fn reaches<D: Disk + Drop>(alloc: Global, files: Files<D>, goal: Goal<'_>) -> Option<bool> {
     match goal {
-        Goal::Connection => Some(is_there(connected(alloc, files))),
-        Goal::Desk => Some(is_there(opened(alloc, files))),
+        Goal::Connection => Some(connected(alloc, files).is_ok()),
+        Goal::Desk => Some(opened(alloc, files).is_ok()),
         Goal::Call { request, told } => answers_in(alloc, files, request, told),
     }
 }
