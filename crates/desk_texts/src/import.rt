@@ -61,7 +61,8 @@ impl Import {
 
     /// One digest of a certificate. Takes memory for it.
     pub fn of_certificate(alloc: Global, digest: Digest) -> Result<Import, AllocError>
-        ensures { IfOk result (λ import. import ≡ record no_entries { certificates = digest ∷ [] }) }
+        ensures { IfOk result (λ import.
+            import ≡ record no_entries { certificates = digest ∷ [] }) }
     {
         let certificates = Digests::one(alloc, digest)?;
         Ok(Import {
