@@ -70,16 +70,14 @@ fn listing(body: Octets) -> Result<Command, Refused>
 {
     tbs_is_read();
     let bytes = body.into_vec();
-    if LONGEST_CERTIFICATE < bytes.len() {
-        return Err(Refused::TooLong);
-    }
     let digest = match tbs(&bytes) {
         Ok(inner) => token_digest(inner),
+        Err(_) if LONGEST_CERTIFICATE < bytes.len() => return Err(Refused::TooLong),
         Err(_) => return Err(Refused::Der),
     };
     match Certificate::new(bytes, digest) {
         Some(certificate) => Ok(Command::ListCertificate(certificate)),
-        None => unreachable!(),
+        None => Err(Refused::TooLong),
     }
 }
 

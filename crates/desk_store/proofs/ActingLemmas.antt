@@ -20,8 +20,8 @@ use Rattle.desk_rules.specs.Shown.{Shows}
 use Rattle.desk_rules.specs.declared.view.Changes.{Changes as Decided}
 use Rattle.desk_rules.specs.declared.view.View.{View}
 use Rattle.store_reads.specs.People.{IsOneOf}
-use Rattle.store_views.specs.sizes.Sizes.{AreRight, Follows}
-use Rattle.store_views.specs.declared.sizes.kept.KeptSizes.{KeptSizes}
+use Rattle.store_views.specs.figures.Figures.{AreCurrent, StayCurrent}
+use Rattle.store_views.specs.declared.figures.KeptFigures.{KeptFigures}
 use Rattle.store_sql.specs.States.{Changes, Sees}
 use Rattle.store_schema.specs.Tables.{desk_schema}
 use Rattle.desk_store.specs.Acts.{Acts}
@@ -49,17 +49,17 @@ next_history cs c history formed = record {
 
 -- the effect of a call, accepted or not, by a view that shows the tables
 module _ (k : Kept) (c : Call) where
-  -- the reads that made a view: it shows the tables, and the counted sizes are right
-  pub record Viewed (v : View) (counted : KeptSizes) (first read : State) : Type 0 where
+  -- the reads that made a view: it shows the tables, and the figures are current
+  pub record Viewed (v : View) (counted : KeptFigures) (first read : State) : Type 0 where
     pub is_open : IsTrue read.is_open
     pub changed : Changes desk_schema contents first read (λ t. t)
     pub shown : (owner : List ℕ) (cs : History) → IsHistory cs → Sees desk_schema first (contents (tables owner cs))
-        → IsOneOf k.person (people cs) → AreRight k.sizes (tables owner cs) → Shows v (tables owner cs) c × AreRight counted (tables owner cs)
+        → IsOneOf k.person (people cs) → AreCurrent k.figures (tables owner cs) → Shows v (tables owner cs) c × AreCurrent counted (tables owner cs)
 
   -- a call that isn't accepted
-  pub acts_not : (v : View) (counted : KeptSizes) (first read : State) (given : Answer) → Viewed v counted first read → is_accepted given ≡ false
+  pub acts_not : (v : View) (counted : KeptFigures) (first read : State) (given : Answer) → Viewed v counted first read → is_accepted given ≡ false
       → ((owner : List ℕ) (cs : History) → IsTrue (is_legal cs) → Shows v (tables owner cs) c → answer cs c ≡ given)
-      → Acts k c (record { answer = given; sizes = counted }) first read
+      → Acts k c (record { answer = given; figures = counted }) first read
   acts_not v counted first read given viewed out told =
       let exact : (p : Past k) → Sees desk_schema first (before k p) → answer p.calls c ≡ given =
       λ p sees. told p.owner p.calls p.history.legal (viewed.shown p.owner p.calls p.history sees p.person p.right).0 in
@@ -74,7 +74,7 @@ module _ (k : Kept) (c : Call) where
         };
         answered = λ p sees. record {
           exact = exact p sees;
-          right = subst (λ (cs : History). AreRight counted (tables p.owner cs)) (sym (same p sees)) (viewed.shown p.owner p.calls p.history sees p.person p.right).1;
+          right = subst (λ (cs : History). AreCurrent counted (tables p.owner cs)) (sym (same p sees)) (viewed.shown p.owner p.calls p.history sees p.person p.right).1;
         };
       }
 
@@ -89,10 +89,10 @@ module _ (k : Kept) (c : Call) where
   ]
 
   -- an accepted call, once its rows are written
-  pub acts_accepted : (v : View) (counted later : KeptSizes) (first read last : State) (d : Decided) → Viewed v counted first read
+  pub acts_accepted : (v : View) (counted later : KeptFigures) (first read last : State) (d : Decided) → Viewed v counted first read
       → length d.writes.items ≢ 0 → ((owner : List ℕ) (cs : History) → IsTrue (is_legal cs) → Shows v (tables owner cs) c → rules.Decides d owner cs c)
-      → Changes desk_schema contents read last (all_written d.writes.items) → Follows counted c.command d.writes.items later
-      → Acts k c (record { answer = Accepted d.reply; sizes = later }) first last
+      → Changes desk_schema contents read last (all_written d.writes.items) → StayCurrent counted c.command d.writes.items later
+      → Acts k c (record { answer = Accepted d.reply; figures = later }) first last
   acts_accepted v counted later first read last d viewed some told wrote follows =
       let said : (p : Past k) → Sees desk_schema first (before k p) → rules.Decides d p.owner p.calls c =
       λ p sees. told p.owner p.calls p.history.legal (viewed.shown p.owner p.calls p.history sees p.person p.right).0 in
@@ -114,7 +114,7 @@ module _ (k : Kept) (c : Call) where
             let made : all_written d.writes.items (tables p.owner p.calls) ≡ tables p.owner (item c ∷ p.calls) = (said p sees).made ∙ ap (tables p.owner) joined in
             record {
               exact = exact p sees;
-              right = subst (λ (cs : History). AreRight later (tables p.owner cs)) (sym joined)
+              right = subst (λ (cs : History). AreCurrent later (tables p.owner cs)) (sym joined)
                   (follows p.owner p.calls c legal refl made (viewed.shown p.owner p.calls p.history sees p.person p.right).1).0;
             });
       }

@@ -11,7 +11,7 @@ use Rattle.desk_history.specs.Runs.{is_accepted}
 use Rattle.store_sql.proofs.CommitLemmas.{Worked, undone_shows}
 use Rattle.store_sql.proofs.StopLemmas.{holds_all, shows_all, tables_of}
 use Rattle.store_schema.specs.Tables.{desk_schema}
-use Rattle.desk_store.specs.Acts.{Acts, AnswersWithSizes, LeavesNext, Runs}
+use Rattle.desk_store.specs.Acts.{Acts, AnswersWithFigures, LeavesNext, Runs}
 use Rattle.store_schema.specs.rows.Histories.{ShowsHistory, rows_of}
 use Rattle.desk_store.specs.Pasts.{Kept, Past, after, before}
 use Rattle.desk_store.specs.declared.acting.Acted.{Acted}
@@ -19,7 +19,7 @@ use Rattle.desk_store.proofs.ActingLemmas.{next_same}
 
 module _ {S : Type 0} (g : store.Ghosts S) (old last : Held S) (k : Kept) (c : Call) (acted : Acted) (did : Worked g old last (Acts k c acted)) where
   -- the answer inside the transaction, for the history that the connection shows before it
-  told : HasCleanDisk (state g last) → (p : Past k) → ShowsHistory (state g old) p.owner p.calls → AnswersWithSizes c acted p
+  told : HasCleanDisk (state g last) → (p : Past k) → ShowsHistory (state g old) p.owner p.calls → AnswersWithFigures c acted p
   told late p shows =
       let acts = did.value late in
       acts.answered p (record { inside = refl; holds = (shows.holds (omega (arith, did.spares.clean, late)) (acts.turned.kept.was_open (did.inside late).0)).0 })

@@ -9,7 +9,7 @@ use Rattle.desk_texts.specs.declared.command.Person.{Person}
 use Rattle.desk_history.specs.Calls.{History}
 use Rattle.desk_history.specs.Runs.{answer, is_accepted, next}
 use Rattle.desk_history.specs.Tables.{tables}
-use Rattle.store_views.specs.sizes.Sizes.{AreRight}
+use Rattle.store_views.specs.figures.Figures.{AreCurrent}
 use Rattle.store_sql.specs.States.{Leaves}
 use Rattle.desk_store.specs.Acts.{LeavesNext, Runs}
 use Rattle.desk_store.specs.Desks.{ShowsDesk}
@@ -20,16 +20,16 @@ use Rattle.desk_store.specs.declared.desk.Desk.{Desk}
 use Rattle.desk_store.proofs.ActingLemmas.{next_history, next_same}
 use Rattle.desk_store.proofs.OpeningLemmas.{still_leaves}
 
--- a read that keeps the sizes and the person
+-- a read that keeps the figures and the person
 pub reads_shown : {S : Type 0} (g : store.Ghosts S) (old new : Desk S) → Survives (state g old.conn) (state g new.conn) (λ _. ⊥) → new.needs_reopening ≡ false
-    → ((owner : List ℕ) (cs : History) → ShowsHistory (state g old.conn) owner cs → ShowsHistory (state g new.conn) owner cs) → new.owner ≡ old.owner → new.sizes ≡ old.sizes → new.kept_person ≡ old.kept_person
+    → ((owner : List ℕ) (cs : History) → ShowsHistory (state g old.conn) owner cs → ShowsHistory (state g new.conn) owner cs) → new.owner ≡ old.owner → new.figures ≡ old.figures → new.kept_person ≡ old.kept_person
     → (owner : List ℕ) (cs : History) → ShowsDesk g old owner cs → ShowsDesk g new owner cs
-reads_shown g old new s usable same own sizes person owner cs was = record {
+reads_shown g old new s usable same own figures person owner cs was = record {
   usable = usable;
   history = was.history;
   shows = same owner cs was.shows;
   own = own ∙ was.own;
-  sizes = rw sizes was.sizes;
+  figures = rw figures was.figures;
   person = rw person was.person;
   left = still_leaves (λ db. HoldsHistory db owner cs) (state g old.conn) (state g new.conn) s was.left;
 }
@@ -37,11 +37,11 @@ reads_shown g old new s usable same own sizes person owner cs was = record {
 -- a call for which the desk's person was taken
 module _ {S : Type 0} (g : store.Ghosts S) (old new : Desk S) (c : Call) (taken : Option Person) (is : taken ≡ old.kept_person) where
   -- the history that the desk shows before the call
-  abbrev pub past : (owner : List ℕ) (cs : History) → ShowsDesk g old owner cs → Past (kept old.sizes taken)
-  past owner cs was = record { owner = owner; calls = cs; history = was.history; right = was.sizes; person = rw is was.person }
+  abbrev pub past : (owner : List ℕ) (cs : History) → ShowsDesk g old owner cs → Past (kept old.figures taken)
+  past owner cs was = record { owner = owner; calls = cs; history = was.history; right = was.figures; person = rw is was.person }
 
   -- a call that isn't accepted commits nothing
-  pub spares : Survives (state g old.conn) (state g new.conn) (LeavesNext (state g old.conn) (kept old.sizes taken) c)
+  pub spares : Survives (state g old.conn) (state g new.conn) (LeavesNext (state g old.conn) (kept old.figures taken) c)
       → (owner : List ℕ) (cs : History) → ShowsDesk g old owner cs → is_accepted (answer cs c) ≡ false → Survives (state g old.conn) (state g new.conn) (λ _. ⊥)
   spares s owner cs was out = record {
     clean = s.clean;
@@ -58,20 +58,20 @@ module _ {S : Type 0} (g : store.Ghosts S) (old new : Desk S) (c : Call) (taken 
   -- a call that commits nothing and changes no history
   pub stays_shown : Survives (state g old.conn) (state g new.conn) (λ _. ⊥) → new.needs_reopening ≡ false
       → ((owner : List ℕ) (cs : History) → ShowsHistory (state g old.conn) owner cs → ShowsHistory (state g new.conn) owner cs)
-      → ((p : Past (kept old.sizes taken)) → ShowsHistory (state g old.conn) p.owner p.calls → AreRight new.sizes (tables p.owner p.calls)) → new.owner ≡ old.owner → new.kept_person ≡ None
+      → ((p : Past (kept old.figures taken)) → ShowsHistory (state g old.conn) p.owner p.calls → AreCurrent new.figures (tables p.owner p.calls)) → new.owner ≡ old.owner → new.kept_person ≡ None
       → (owner : List ℕ) (cs : History) → ShowsDesk g old owner cs → ShowsDesk g new owner cs
   stays_shown s usable same right own none owner cs was = record {
     usable = usable;
     history = was.history;
     shows = same owner cs was.shows;
     own = own ∙ was.own;
-    sizes = right (past owner cs was) was.shows;
+    figures = right (past owner cs was) was.shows;
     person = rw none tt;
     left = still_leaves (λ db. HoldsHistory db owner cs) (state g old.conn) (state g new.conn) s was.left;
   }
 
   -- the history after a stop
-  pub stopped : Survives (state g old.conn) (state g new.conn) (LeavesNext (state g old.conn) (kept old.sizes taken) c)
+  pub stopped : Survives (state g old.conn) (state g new.conn) (LeavesNext (state g old.conn) (kept old.figures taken) c)
       → (owner : List ℕ) (cs : History) → ShowsDesk g old owner cs → Leaves (state g new.conn) (λ db. HoldsLeft db owner cs c)
   stopped s owner cs was clean db may = elim (s.crash clean db may) [
     | inl before ↦ (cs, inl refl, was.left (omega (arith, s.clean, clean)) db before)
@@ -79,11 +79,11 @@ module _ {S : Type 0} (g : store.Ghosts S) (old new : Desk S) (c : Call) (taken 
   ]
 
   -- the desk after a call that was answered
-  pub goes_on : (acted : Acted) → Runs (kept old.sizes taken) c acted (state g old.conn) (state g new.conn) → Survives (state g old.conn) (state g new.conn) (LeavesNext (state g old.conn) (kept old.sizes taken) c)
+  pub goes_on : (acted : Acted) → Runs (kept old.figures taken) c acted (state g old.conn) (state g new.conn) → Survives (state g old.conn) (state g new.conn) (LeavesNext (state g old.conn) (kept old.figures taken) c)
       → ((owner : List ℕ) (cs : History) → ShowsHistory (state g new.conn) owner cs → IsTrue (state g new.conn).is_open → LeavesHistory (state g new.conn) owner cs)
-      → IsCall c → new.owner ≡ old.owner → new.sizes ≡ acted.sizes → new.kept_person ≡ None → new.needs_reopening ≡ old.needs_reopening
+      → IsCall c → new.owner ≡ old.owner → new.figures ≡ acted.figures → new.kept_person ≡ None → new.needs_reopening ≡ old.needs_reopening
       → (owner : List ℕ) (cs : History) → ShowsDesk g old owner cs → (answer cs c ≡ acted.answer) × ShowsDesk g new owner (next cs c)
-  goes_on acted runs s law formed own sizes none same owner cs was =
+  goes_on acted runs s law formed own figures none same owner cs was =
       let it = runs.answered (past owner cs was) was.shows in
       let shows = runs.shown (past owner cs was) was.shows in (
         it.exact,
@@ -92,7 +92,7 @@ module _ {S : Type 0} (g : store.Ghosts S) (old new : Desk S) (c : Call) (taken 
           history = next_history cs c was.history formed;
           shows = shows;
           own = own ∙ was.own;
-          sizes = rw sizes it.right;
+          figures = rw figures it.right;
           person = rw none tt;
           left = elim (is_accepted (answer cs c)) as (λ b. is_accepted (answer cs c) ≡ b → LeavesHistory (state g new.conn) owner (next cs c)) [
             | true ↦ λ accepted. law owner (next cs c) shows (runs.is_open (ap is_accepted (sym it.exact) ∙ accepted))

@@ -1,5 +1,5 @@
 mod FoundingLemmas
-mod SizeLemmas
+mod FigureLemmas
 mod StampLemmas
 mod OpeningLemmas
 mod VersionLemmas

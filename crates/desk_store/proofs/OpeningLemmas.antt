@@ -5,12 +5,10 @@ use Rattle.std.specs.List.Sorted.{IsPermutation}
 use Rattle.sqlite.proofs.Callers.{one_permutation}
 use Rattle.sqlite.specs.declared.error.Error.{Error}
 use Rattle.sqlite.specs.declared.error.Error.TheVariants.{SqlInputError}
-use Rattle.std.specs.Prelude.{IfErr, IfOk}
 use Rattle.sqlite.specs.Store as store
 use Rattle.sqlite.specs.Effect.{Database}
 use Rattle.sqlite.specs.Held.{Held, state}
 use Rattle.sqlite.specs.Given.{IsPlain}
-use Rattle.sqlite.specs.Listing.{understood}
 use Rattle.sqlite.specs.Order.{Row}
 use Rattle.sqlite.specs.Schema.{Schema}
 use Rattle.sqlite.specs.State.{State, HasCleanDisk, IsNotRun, IsUnchanged, KeepsCommit, Survives, store_error}
@@ -29,9 +27,9 @@ use Rattle.store_schema.specs.Tables.{desk}
 use Rattle.store_schema.specs.declared.selecting.TheConstants.{SELECT_DESK}
 use Rattle.store_schema.proofs.SelectFacts.{select_desk, select_first_desk}
 use Rattle.desk_store.specs.Rows.{AreBy, AreOfNone, ReadsBy, desk_columns}
-use Rattle.desk_store.specs.Steps.{AreShownAs, AreShownAsNone, IsDeskSchema, IsOwnerOf, ReadsInside, RefusesColumns, RefusesText, SeesRows, ShowsRows, TellsOpen, UnreadInside}
+use Rattle.desk_store.specs.Steps.{IsDeskSchema, RefusesColumns, RefusesText, SeesRows, ShowsRows, TellsInside, TellsOutside}
 use Rattle.desk_store.specs.declared.opening.OwnRow.{OwnRow}
-use Rattle.desk_store.proofs.VersionLemmas.{one_owner}
+use Rattle.desk_store.proofs.VersionLemmas.{one_own}
 
 pub unchanged_keeps : (old new : State) → IsUnchanged old new → KeepsCommit old new
 unchanged_keeps old new same = record { was_open = λ _. same.0.was_open; committed = λ _. same.0.committed_is }
@@ -72,12 +70,11 @@ selected old mid new answer same selects schema c rows of_desk sees has =
     (record { inside = same.0.mode ∙ sees.inside; holds = subst (λ (d : Database). Holds schema d c) (sym same.0.now_is) sees.holds }) has
 
 -- where one answer reads as a desk, each does
-pub read_alike : (rows answer : List Row) (version : ℕ) (owner : List ℕ) → IsSelected desk [] (by_first 1 desk) (columns_after 1 desk) [] rows answer → AreBy rows version owner
-    → ReadsBy answer version owner
-read_alike rows answer version owner it other =
+pub read_alike : (rows answer : List Row) (own : OwnRow) → IsSelected desk [] (by_first 1 desk) (columns_after 1 desk) [] rows answer → AreBy rows own → ReadsBy answer own
+read_alike rows answer own it other =
     let reads = other.2 in
     let same = IsPermutation-trans _ _ _ (IsPermutation-sym _ _ other.1.same) it.same in
-    (reads.0, reads.1, reads.2, one_permutation (desk_columns owner version reads.0) answer (subst (λ l. IsPermutation l answer) reads.3 same))
+    (reads.0, reads.1, one_permutation (desk_columns own.owner own.version own.stamp) answer (subst (λ l. IsPermutation l answer) reads.2 same))
 
 -- where the store hasn't the tables of a desk it shows no rows of them
 pub no_rows : (s : State) (refusal : Refusal) → RefusesColumns s refusal → refusal ≡ refusals.NotADesk → (schema : Schema) (c : Contents) → IsDeskSchema schema → Sees schema s c → ⊥
@@ -99,22 +96,21 @@ module _ {S : Type 0} (g : store.Ghosts S) (old : Held S) where
   shown_before : (of_rows : List Row → Type 0) → HasCleanDisk (state g old) → IsTrue begun.is_open → SeesRows begun of_rows → ShowsRows (state g old) (λ _ rows. of_rows rows)
   shown_before of_rows clean live sees schema c rows of_desk shows has = sees schema c rows of_desk (record { inside = refl; holds = (shows.holds clean live).0 }) has
 
-  pub read_before : (result : Result OwnRow Refusal) → HasCleanDisk (state g old) → TellsOpen begun result → ReadsInside begun result
-      → IfOk result (λ own. AreShownAs (state g old) own.version)
-  read_before (Ok own) clean live reads = λ schema c rows of_desk shows has.
-      let it = shown_before (λ rows. AreBy rows own.version own.owner) clean live reads schema c rows of_desk shows has in
-      (it.0, it.1, (own.owner, it.2))
-  read_before (Err refusal) clean live reads = tt
-
-  pub owner_before : (result : Result OwnRow Refusal) → HasCleanDisk (state g old) → TellsOpen begun result → ReadsInside begun result
-      → IfOk result (λ own. IsOwnerOf (state g old) own.owner)
-  owner_before (Ok own) clean live reads = one_owner (state g old) own.version own.owner (shown_before (λ rows. AreBy rows own.version own.owner) clean live reads)
-  owner_before (Err refusal) clean live reads = tt
-
-  pub unread_before : (result : Result OwnRow Refusal) → HasCleanDisk (state g old) → TellsOpen begun result → UnreadInside begun result
-      → IfErr result (λ refusal. refusal ≡ refusals.NotADesk → AreShownAsNone (state g old))
-  unread_before (Ok own) clean live unread = tt
-  unread_before (Err refusal) clean live unread = λ is. shown_before AreOfNone clean (live is) (unread is)
+  pub told_before : (result : Result OwnRow Refusal) → HasCleanDisk (state g old) → TellsInside begun result → TellsOutside (state g old) result
+  told_before (Ok own) clean told =
+      let shown = shown_before (λ rows. AreBy rows own) clean told.is_open told.read in
+      record {
+        is_open = told.is_open;
+        read = λ schema c rows of_desk shows has. let it = shown schema c rows of_desk shows has in (it.0, it.1, (own.owner, own.stamp, it.2));
+        own = one_own (state g old) own shown;
+        unread = tt;
+      }
+  told_before (Err refusal) clean told = record {
+    is_open = told.is_open;
+    read = tt;
+    own = tt;
+    unread = λ is. shown_before AreOfNone clean (told.is_open is) (told.unread is);
+  }
 
 -- a stop leaves what it left before
 pub still_leaves : (P : Trees → Type 0) (old new : State) → Survives old new (λ _. ⊥) → Leaves old P → Leaves new P

@@ -25,7 +25,7 @@ module _ {S : Type 0} (g : store.Ghosts S) (desk : Desk S) where
     history = was.history;
     shows = was.shows;
     own = was.own;
-    sizes = was.sizes;
+    figures = was.figures;
     person = one;
     left = was.left;
   }

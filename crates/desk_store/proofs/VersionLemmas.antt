@@ -22,7 +22,8 @@ use Rattle.store_migration.specs.Migrations.{KeepsShown, Migrates}
 use Rattle.store_migration.specs.Names.{takes_a_name}
 use Rattle.store_migration.proofs.NameLemmas.{none_taken}
 use Rattle.desk_store.specs.Rows.{AreBy, AreOf, desk_columns}
-use Rattle.desk_store.specs.Steps.{AreShownAs, AreShownFree, AreShownTaken, Brings, FindsNone, FindsOther, IsOwnerOf, IsReadRefusal, ShowsRows}
+use Rattle.desk_store.specs.Steps.{AreShownAs, AreShownFree, AreShownTaken, Brings, FindsNone, FindsOther, IsOwnOf, IsReadRefusal, ShowsRows}
+use Rattle.desk_store.specs.declared.opening.OwnRow.{OwnRow}
 use Rattle.desk_store.proofs.StampLemmas.{stamp_is_formed}
 
 -- the row of a desk of this version with this owner and history
@@ -34,7 +35,7 @@ reads_as : (owner : List ℕ) (version : ℕ) (cs : History) → length owner �
 reads_as owner version cs long history = (
   desk_columns owner version (stamp cs) ∷ [],
   record { same = IsPermutation-refl (desk_columns owner version (stamp cs) ∷ []); sorted = λ i d from below. absurd (omega (arith, below)) },
-  (owner, (stamp cs, long, stamp_is_formed cs history.formed, refl)),
+  (owner, stamp cs, (long, stamp_is_formed cs history.formed, refl)),
 )
 
 same_version : (a b : List ℕ) (n m s t : ℕ) → ◌≡◌ {A = List Row} (desk_columns a n s ∷ []) (desk_columns b m t ∷ []) → m ≡ n
@@ -43,24 +44,27 @@ same_version a b n m s t e = cc
 same_owner : (a b : List ℕ) (n m s t : ℕ) → ◌≡◌ {A = List Row} (desk_columns a n s ∷ []) (desk_columns b m t ∷ []) → b ≡ a
 same_owner a b n m s t e = cc
 
+same_stamp : (a b : List ℕ) (n m s t : ℕ) → ◌≡◌ {A = List Row} (desk_columns a n s ∷ []) (desk_columns b m t ∷ []) → t ≡ s
+same_stamp a b n m s t e = cc
+
 -- and of no other
 reads_as_one : (owner : List ℕ) (n : ℕ) (cs : History) (version : ℕ) → AreOf (desk_row owner n cs) version → version ≡ n
 reads_as_one owner n cs version it =
     let answer = one_permutation (desk_columns owner n (stamp cs)) it.0 it.1.same in
     let reads = it.2 in
-    same_version owner reads.0 n version (stamp cs) reads.1.0 (sym answer ∙ reads.1.3)
+    same_version owner reads.0 n version (stamp cs) reads.1 (sym answer ∙ reads.2.2)
 
--- nor of another owner
-reads_by_one : (owner : List ℕ) (n : ℕ) (cs : History) (version : ℕ) (by : List ℕ) → AreBy (desk_row owner n cs) version by → by ≡ owner
-reads_by_one owner n cs version by it =
+-- nor of another owner or with another stamp
+reads_by_one : (owner : List ℕ) (n : ℕ) (cs : History) (own : OwnRow) → AreBy (desk_row owner n cs) own → (own.owner ≡ owner) × (own.stamp ≡ stamp cs)
+reads_by_one owner n cs own it =
     let answer = one_permutation (desk_columns owner n (stamp cs)) it.0 it.1.same in
-    let reads = it.2 in
-    same_owner owner by n version (stamp cs) reads.0 (sym answer ∙ reads.3)
+    let same = sym answer ∙ it.2.2 in
+    (same_owner owner own.owner n own.version (stamp cs) own.stamp same, same_stamp owner own.owner n own.version (stamp cs) own.stamp same)
 
--- the owner that was read is that of each history that is shown
-pub one_owner : (s : State) (version : ℕ) (owner : List ℕ) → ShowsRows s (λ _ rows. AreBy rows version owner) → IsOwnerOf s owner
-one_owner s version owner reads o cs (inl early) = reads_by_one o 1 cs version owner (reads first_schema (first_rows_of o cs) (desk_row o 1 cs) (inl refl) early.1 refl)
-one_owner s version owner reads o cs (inr shows) = reads_by_one o 2 cs version owner (reads desk_schema (rows_of o cs) (desk_row o 2 cs) (inr refl) shows refl)
+-- what was read is that of each history that is shown
+pub one_own : (s : State) (own : OwnRow) → ShowsRows s (λ _ rows. AreBy rows own) → IsOwnOf s own
+one_own s own reads o cs (inl early) = reads_by_one o 1 cs own (reads first_schema (first_rows_of o cs) (desk_row o 1 cs) (inl refl) early.1 refl)
+one_own s own reads o cs (inr shows) = reads_by_one o 2 cs own (reads desk_schema (rows_of o cs) (desk_row o 2 cs) (inr refl) shows refl)
 
 module _ (s : State) (owner : List ℕ) (cs : History) where
   -- the tables of a history of version 2 read as those of version 2

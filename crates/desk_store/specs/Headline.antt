@@ -16,7 +16,7 @@
 --   desk_store    Desks                             the history that a desk shows
 --   desk_exports  all                               its exports
 --   desk_store    Headline                          this file
-use Rattle.std.specs.Prelude.{◌≡◌, ◌≢◌, ◌⊎◌, ℕ, Bool, not, All, List, [], IsTrue}
+use Rattle.std.specs.Prelude.{◌≢◌, ◌⊎◌, ℕ, Bool, not, All, List, [], IsTrue}
 use Rattle.std.specs.List.{list_all}
 use Rattle.sqlite.specs.Store.{Ghosts}
 use Rattle.sqlite.specs.Held.{Held, state}

@@ -7,6 +7,7 @@ use Rattle.sbat.specs.Fields.{is_stamp}
 use Rattle.store_sql.specs.Effects.{IsSelected}
 use Rattle.store_schema.specs.Columns.{by_first, columns_after}
 use Rattle.store_schema.specs.Tables.{desk}
+use Rattle.desk_store.specs.declared.opening.OwnRow.{OwnRow}
 
 -- own: the columns of the desk's row: id, mark, version, owner, stamp
 abbrev pub desk_columns : List ℕ → ℕ → ℕ → Row
@@ -16,14 +17,13 @@ desk_columns owner version stamp = Int (pos 1) ∷ Text (codes "boot-desk") ∷ 
 abbrev pub IsGuid : Value → List ℕ → Type 0
 IsGuid value guid = (value ≡ Blob guid) × (length guid ≡ 16)
 
--- own: the answer is one row, which reads as that of a desk of this version with this owner: the
--- owner has 16 bytes, the stamp ten digits
-abbrev pub ReadsBy : List Row → ℕ → List ℕ → Type 0
-ReadsBy answer version owner = (stamp : ℕ) × (length owner ≡ 16) × (is_stamp stamp ≡ true) × (answer ≡ desk_columns owner version stamp ∷ [])
+-- own: the answer is one row, which reads as a desk's: the owner has 16 bytes, the stamp ten digits
+abbrev pub ReadsBy : List Row → OwnRow → Type 0
+ReadsBy answer own = (length own.owner ≡ 16) × (is_stamp own.stamp ≡ true) × (answer ≡ desk_columns own.owner own.version own.stamp ∷ [])
 
 -- it reads as that of a desk of this version
 abbrev pub ReadsAs : List Row → ℕ → Type 0
-ReadsAs answer version = (owner : List ℕ) × ReadsBy answer version owner
+ReadsAs answer version = (owner : List ℕ) × (stamp : ℕ) × ReadsBy answer (record { version = version; owner = owner; stamp = stamp })
 
 -- a SELECT of whole rows of the table `desk`, which has these rows, gives an answer of which this
 -- holds
@@ -34,9 +34,9 @@ AreSelected rows told = (answer : List Row) × IsSelected desk [] (by_first 1 de
 abbrev pub AreOf : List Row → ℕ → Type 0
 AreOf rows version = AreSelected rows (λ answer. ReadsAs answer version)
 
--- it shows them as those of a desk of this version with this owner
-abbrev pub AreBy : List Row → ℕ → List ℕ → Type 0
-AreBy rows version owner = AreSelected rows (λ answer. ReadsBy answer version owner)
+-- it shows them as those of a desk of this version, owner and stamp
+abbrev pub AreBy : List Row → OwnRow → Type 0
+AreBy rows own = AreSelected rows (λ answer. ReadsBy answer own)
 
 -- it shows them as those of no desk
 abbrev pub AreOfNone : List Row → Type 0

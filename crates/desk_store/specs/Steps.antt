@@ -11,6 +11,7 @@ use Rattle.sqlite_resolve.specs.declared.error.CompileError.{CompileError}
 use Rattle.desk_bytes.specs.declared.refusal.Refusal.{Refusal}
 use Rattle.desk_bytes.specs.declared.refusal.Refusal.TheVariants as refusals
 use Rattle.desk_history.specs.Calls.{History}
+use Rattle.desk_history.specs.Level.{stamp}
 use Rattle.store_reads.specs.Failures.{IsFailure}
 use Rattle.store_sql.specs.Contents.{Contents}
 use Rattle.store_sql.specs.States.{Sees, Shows}
@@ -55,13 +56,19 @@ abbrev pub SeesRows : State → (List Row → Type 0) → Type 0
 SeesRows s told =
     (schema : Schema) (c : Contents) (rows : List Row) → IsDeskSchema schema → Sees schema s c → slice_get c 0 ≡ Some rows → told rows
 
--- the rows read as those of a desk of this version with this owner
+-- the rows read as those of a desk of this version, owner and stamp
 abbrev pub ReadsInside : State → Result OwnRow Refusal → Type 0
-ReadsInside s result = IfOk result (λ own. SeesRows s (λ rows. AreBy rows own.version own.owner))
+ReadsInside s result = IfOk result (λ own. SeesRows s (λ rows. AreBy rows own))
 
 -- if there is no desk, the rows read as those of none
 abbrev pub UnreadInside : State → Result OwnRow Refusal → Type 0
 UnreadInside s result = IfErr result (λ refusal. refusal ≡ refusals.NotADesk → SeesRows s AreOfNone)
+
+-- all of this
+pub record TellsInside (s : State) (result : Result OwnRow Refusal) : Type 0 where
+  pub is_open : TellsOpen s result
+  pub read : ReadsInside s result
+  pub unread : UnreadInside s result
 
 -- outside: this holds of the tables and of the rows of `desk`, whichever version the tables have
 abbrev pub ShowsRows : State → (Schema → List Row → Type 0) → Type 0
@@ -87,9 +94,16 @@ AreShownTaken s = ShowsRows s (λ schema rows. AreOf rows 1 × IsTrue (takes_a_n
 
 -- ---- the desk that an opening finds, by the connection before it
 
--- the owner of each history that it shows, in either version
-abbrev pub IsOwnerOf : State → List ℕ → Type 0
-IsOwnerOf s owner = (o : List ℕ) (cs : History) → ShowsFirst s o cs ⊎ ShowsHistory s o cs → owner ≡ o
+-- the owner and the stamp are those of each history that it shows, in either version
+abbrev pub IsOwnOf : State → OwnRow → Type 0
+IsOwnOf s own = (owner : List ℕ) (cs : History) → ShowsFirst s owner cs ⊎ ShowsHistory s owner cs → (own.owner ≡ owner) × (own.stamp ≡ stamp cs)
+
+-- what was read of the desk's row, or that there is none, by the connection before
+pub record TellsOutside (s : State) (result : Result OwnRow Refusal) : Type 0 where
+  pub is_open : TellsOpen s result
+  pub read : IfOk result (λ own. AreShownAs s own.version)
+  pub own : IfOk result (IsOwnOf s)
+  pub unread : IfErr result (λ refusal. refusal ≡ refusals.NotADesk → AreShownAsNone s)
 
 -- a desk of version 2, or one of version 1 with the names free
 abbrev pub FindsKnown : State → Type 0

@@ -17,14 +17,14 @@ use desk_rules::decide;
 use desk_texts::{Caller, Command, Key, Person, Reply};
 use sqlite::{Alter, Connection, Transaction};
 use std::alloc::Global;
-use store_views::{KeptSizes, view};
+use store_views::{KeptFigures, view};
 use store_writes::{failed_commit, write_all};
 
-/// The outcome of a call: its answer, and the sizes of the tables after it, if they are known.
+/// The outcome of a call: its answer, and the figures after it.
 #[derive(Drop)]
 pub(crate) struct Acted {
     pub(crate) answer: Answer,
-    pub(crate) sizes: KeptSizes,
+    pub(crate) figures: KeptFigures,
 }
 
 /// Whether the call was accepted, and so has rows to commit.
@@ -55,7 +55,7 @@ pub(crate) fn result_of(answer: Answer) -> Result<Reply, Refusal>
 fn act<S: Alter>(
     alloc: Global,
     tx: &mut Transaction<'_, S>,
-    sizes: KeptSizes,
+    figures: KeptFigures,
     kept_person: Option<&Person>,
     caller: &Caller,
     key: &Key,
@@ -63,7 +63,7 @@ fn act<S: Alter>(
 ) -> Result<Acted, Refusal>
     ensures same_reference { tx.new.conn.ghost_name ≡ tx.old.conn.ghost_name }
     ensures value { DoesInside S.Store tx.old.conn.now tx.new.conn.now result
-        (Acts (kept sizes (option_copied kept_person.entry))
+        (Acts (kept figures (option_copied kept_person.entry))
         (called caller.now key.now command.now)) }
     ensures inside { StaysInside S.Store tx.old.conn.now tx.new.conn.now result }
     ensures named { IfOk result (λ acted. IsNamed acted.answer) }
@@ -71,8 +71,8 @@ fn act<S: Alter>(
     ensures kept { CommitsNothing S.Store tx.old.conn.now tx.new.conn.now }
     ensures survives { Spares S.Store tx.old.conn.now tx.new.conn.now }
 {
-    let mut sizes = sizes;
-    let view = match view(alloc, tx, &mut sizes, kept_person, caller, key, command) {
+    let mut figures = figures;
+    let view = match view(alloc, tx, &mut figures, kept_person, caller, key, command) {
         Ok(view) => view,
         Err(failure) => return Err(failure),
     };
@@ -84,20 +84,20 @@ fn act<S: Alter>(
             }
             return Ok(Acted {
                 answer: Answer::Refused(refusal),
-                sizes,
+                figures,
             });
         }
     };
     if changes.writes.is_empty() {
         return Ok(Acted {
             answer: Answer::Repeated(changes.reply),
-            sizes,
+            figures,
         });
     }
     match write_all(alloc, tx, &changes.writes) {
         Ok(()) => Ok(Acted {
             answer: Answer::Accepted(changes.reply),
-            sizes: sizes.after(command, &changes.writes),
+            figures: figures.after(command, &changes.writes),
         }),
         Err(fault) => Err(fault.refusal()),
     }
@@ -109,14 +109,14 @@ fn act<S: Alter>(
 pub(crate) fn run<S: Alter>(
     alloc: Global,
     conn: &mut Connection<S>,
-    sizes: KeptSizes,
+    figures: KeptFigures,
     kept_person: Option<&Person>,
     caller: &Caller,
     key: &Key,
     command: &Command,
 ) -> Result<Acted, Refusal>
     ensures ok { HasCleanDisk (state S.Store conn.new) → IfOk result (λ acted.
-        Runs (kept sizes (option_copied kept_person.entry))
+        Runs (kept figures (option_copied kept_person.entry))
         (called caller.now key.now command.now) acted
         (state S.Store conn.old) (state S.Store conn.new)) }
     ensures err { HasCleanDisk (state S.Store conn.new) → IfErr result (λ e. e ≢ Refusal.Store
@@ -126,14 +126,14 @@ pub(crate) fn run<S: Alter>(
     ensures failed { IfErr result IsFailure }
     ensures unwritten { IfErr result (λ e. e ≢ Refusal.Store → Spares S.Store conn.old conn.new) }
     ensures survives { Survives (state S.Store conn.old) (state S.Store conn.new)
-        (LeavesNext (state S.Store conn.old) (kept sizes (option_copied kept_person.entry))
+        (LeavesNext (state S.Store conn.old) (kept figures (option_copied kept_person.entry))
         (called caller.now key.now command.now)) }
 {
     if !conn.is_autocommit() {
         return Err(Refusal::Store);
     }
     let mut tx = conn.transaction();
-    let acted = match act(alloc, &mut tx, sizes, kept_person, caller, key, command) {
+    let acted = match act(alloc, &mut tx, figures, kept_person, caller, key, command) {
         Ok(acted) => acted,
         Err(failure) => return Err(failure),
     };

@@ -19,7 +19,7 @@ use sqlite::Alter;
 use store_counts::{Counts, tables_count_their_history};
 
 /// A copy of the person, if there is one and memory for it.
-fn copied(person: Option<&Person>) -> Option<Person>
+fn copy_of(person: Option<&Person>) -> Option<Person>
     ensures { IfSome result (λ copy. option_copied person.entry ≡ Some copy) }
 {
     match person?.clone() {
@@ -44,7 +44,7 @@ impl<S: Alter + Drop> Desk<S> {
             Ok(found) => found,
             Err(refusal) => return Err(refusal),
         };
-        self.kept_person = copied(found.as_ref());
+        self.kept_person = copy_of(found.as_ref());
         Ok(found)
     }
 

@@ -30,19 +30,21 @@ use desk_bytes::{Guid, Refusal};
 use desk_history::{keys_stand_once, lives_keep_what_was_answered};
 use desk_rules::{ListView, View};
 use desk_texts::{Caller, Command, Facts, Key, Person, Reply, call_is_formed};
+use sbat::Stamp;
 use sqlite::{Alter, Connection};
 use std::alloc::Global;
 use store_sql::stop_leaves_what_is_shown;
-use store_views::KeptSizes;
+use store_views::KeptFigures;
 
-/// A desk in a store. It has the connection, the owner of each entry that it exports, the sizes of
-/// its tables that it has counted, and the person whom `person_of` found, for the next call.
+/// A desk in a store. It has the connection, the owner of each entry that it exports, the level's
+/// stamp with the sizes of its tables that it has counted, and the person whom `person_of` found, for
+/// the next call.
 #[derive(Drop)]
 pub struct Desk<S: Alter> {
     pub(crate) alloc: Global,
     pub(crate) conn: Connection<S>,
     pub(crate) owner: Guid,
-    pub(crate) sizes: KeptSizes,
+    pub(crate) figures: KeptFigures,
     pub(crate) kept_person: Option<Person>,
     pub(crate) needs_reopening: bool,
 }
@@ -85,7 +87,7 @@ impl<S: Alter + Drop> Desk<S> {
                     alloc,
                     conn,
                     owner: *owner,
-                    sizes: KeptSizes::unknown(),
+                    figures: KeptFigures::of_stamp(Stamp::original()),
                     kept_person: None,
                     needs_reopening: false,
                 })
@@ -155,14 +157,14 @@ impl<S: Alter + Drop> Desk<S> {
         stop_leaves_what_is_shown(&conn);
         lives_keep_what_was_answered();
         match bring_up(&mut conn) {
-            Ok(owner) => {
+            Ok(own) => {
                 stop_leaves_what_is_shown(&conn);
                 keys_stand_once();
                 Ok(Desk {
                     alloc,
                     conn,
-                    owner,
-                    sizes: KeptSizes::unknown(),
+                    owner: own.owner,
+                    figures: KeptFigures::of_stamp(own.stamp),
                     kept_person: None,
                     needs_reopening: false,
                 })
@@ -204,7 +206,7 @@ impl<S: Alter + Drop> Desk<S> {
         match run(
             self.alloc,
             &mut self.conn,
-            self.sizes,
+            self.figures,
             kept_person.as_ref(),
             caller,
             key,
@@ -212,7 +214,7 @@ impl<S: Alter + Drop> Desk<S> {
         ) {
             Ok(acted) => {
                 stop_leaves_what_is_shown(&self.conn);
-                self.sizes = acted.sizes;
+                self.figures = acted.figures;
                 result_of(acted.answer)
             }
             Err(refusal) => {
@@ -234,14 +236,14 @@ impl<S: Alter + Drop> Desk<S> {
         ensures reads { ReadsDesk S.Store IsFailure self.old self.new result }
     {
         let question = RowsFor {
-            sizes: self.sizes,
+            figures: self.figures,
             caller,
             key,
             command,
         };
         match self.answer_question(&question) {
             Ok(viewed) => {
-                self.sizes = viewed.sizes;
+                self.figures = viewed.figures;
                 Ok(viewed.view)
             }
             Err(failure) => Err(failure),

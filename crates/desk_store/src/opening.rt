@@ -10,9 +10,9 @@ ghost use Rattle.store_sql.specs.States.{CommitsNothing, Spares};
 ghost use Rattle.store_schema.specs.rows.Histories.{HoldsFirst, HoldsHistory, ShowsFirst, ShowsHistory};
 ghost use Rattle.store_migration.specs.Migrations.{KeepsShown};
 ghost use Rattle.desk_store.specs.Rows.{IsGuid, ReadsBy};
-ghost use Rattle.desk_store.specs.Steps.{AreShownAs, AreShownAsNone, Brings, FindsKnown, FindsNone};
-ghost use Rattle.desk_store.specs.Steps.{FindsOther, IsOwnerOf, IsReadRefusal, ReadsInside};
-ghost use Rattle.desk_store.specs.Steps.{RefusesColumns, RefusesText, TellsOpen, UnreadInside};
+ghost use Rattle.desk_store.specs.Steps.{Brings, FindsKnown, FindsNone, FindsOther, IsOwnOf};
+ghost use Rattle.desk_store.specs.Steps.{IsReadRefusal, RefusesColumns, RefusesText};
+ghost use Rattle.desk_store.specs.Steps.{TellsInside, TellsOutside};
 ghost use Rattle.desk_store.specs.declared.opening.OwnRow.{OwnRow as Own};
 
 use desk_bytes::{Guid, Refusal};
@@ -27,11 +27,12 @@ use store_writes::{MARK, VERSION};
 /// The version of the files of desks with one officer.
 const FIRST_VERSION: u64 = 1;
 
-/// The version and the owner in the desk's own row.
+/// The version, the owner and the stamp in the desk's own row.
 #[derive(Clone, Copy)]
-struct OwnRow {
-    version: u64,
-    owner: Guid,
+pub(crate) struct OwnRow {
+    pub(crate) version: u64,
+    pub(crate) owner: Guid,
+    pub(crate) stamp: Stamp,
 }
 
 /// The natural number in a column.
@@ -76,11 +77,11 @@ fn guid_at(row: &Row, at: usize) -> Option<Guid>
     }
 }
 
-/// The version and the owner in the only row, if it reads as a desk's: the id 1, the mark, a
-/// version, an owner of 16 bytes, a stamp of ten digits.
+/// What the only row holds, if it reads as a desk's: the id 1, the mark, a version, an owner of 16
+/// bytes, a stamp of ten digits.
 fn own_row_in(rows: &[Row]) -> Option<OwnRow>
-    ensures found { (own : Own) → ReadsBy rows.now own.version own.owner → result ≡ Some own }
-    ensures read { IfSome result (λ own. ReadsBy rows.now own.version own.owner) }
+    ensures found { (own : Own) → ReadsBy rows.now own → result ≡ Some own }
+    ensures read { IfSome result (ReadsBy rows.now) }
 {
     let [row] = rows else {
         return None;
@@ -92,9 +93,13 @@ fn own_row_in(rows: &[Row]) -> Option<OwnRow>
     let version = number_at(row, 2)?;
     let owner = guid_at(row, 3)?;
     let stamp = number_at(row, 4)?;
-    let _stamp = Stamp::new(stamp)?;
+    let stamp = Stamp::new(stamp)?;
     if id == 1 && has_mark(row, 1) {
-        Some(OwnRow { version, owner })
+        Some(OwnRow {
+            version,
+            owner,
+            stamp,
+        })
     } else {
         None
     }
@@ -133,17 +138,12 @@ fn ask_columns<S: Alter>(tx: &mut Transaction<'_, S>) -> Result<(), Refusal>
     Err(StoreFault::from(error).refusal())
 }
 
-/// The version and the owner of the desk, from its row. `NotADesk`: no such row reads as a desk's.
+/// What the desk's own row holds. `NotADesk`: no such row reads as a desk's.
 fn own_row_of<S: Alter>(tx: &mut Transaction<'_, S>) -> Result<OwnRow, Refusal>
     ensures same_reference { tx.new.conn.ghost_name ≡ tx.old.conn.ghost_name }
-    ensures open { HasCleanDisk (state S.Store tx.new.conn.now)
-        → TellsOpen (state S.Store tx.old.conn.now) result }
-    ensures read { HasCleanDisk (state S.Store tx.new.conn.now)
+    ensures told { HasCleanDisk (state S.Store tx.new.conn.now)
         → IsTrue (state S.Store tx.old.conn.now).in_transaction
-        → ReadsInside (state S.Store tx.old.conn.now) result }
-    ensures unread { HasCleanDisk (state S.Store tx.new.conn.now)
-        → IsTrue (state S.Store tx.old.conn.now).in_transaction
-        → UnreadInside (state S.Store tx.old.conn.now) result }
+        → TellsInside (state S.Store tx.old.conn.now) result }
     ensures named { IfErr result IsReadRefusal }
     ensures kept { CommitsNothing S.Store tx.old.conn.now tx.new.conn.now }
     ensures survives { Spares S.Store tx.old.conn.now tx.new.conn.now }
@@ -167,14 +167,8 @@ fn read_own_row<S: Alter>(conn: &mut Connection<S>) -> Result<OwnRow, Refusal>
     ensures outside { conn.new.in_transaction ≡ false }
     ensures shown { HasCleanDisk (state S.Store conn.new)
         → KeepsShown (state S.Store conn.old) (state S.Store conn.new) }
-    ensures read { HasCleanDisk (state S.Store conn.new)
-        → IfOk result (λ own. AreShownAs (state S.Store conn.old) own.version) }
-    ensures owner { HasCleanDisk (state S.Store conn.new)
-        → IfOk result (λ own. IsOwnerOf (state S.Store conn.old) own.owner) }
-    ensures unread { HasCleanDisk (state S.Store conn.new) → IfErr result (λ e.
-        e ≡ Refusal.NotADesk → AreShownAsNone (state S.Store conn.old)) }
-    ensures open { HasCleanDisk (state S.Store conn.new)
-        → TellsOpen (state S.Store conn.old) result }
+    ensures told { HasCleanDisk (state S.Store conn.new)
+        → TellsOutside (state S.Store conn.old) result }
     ensures named { IfErr result IsReadRefusal }
     ensures survives { Spares S.Store conn.old conn.new }
 {
@@ -185,12 +179,12 @@ fn read_own_row<S: Alter>(conn: &mut Connection<S>) -> Result<OwnRow, Refusal>
 }
 
 /// Finds a desk of version 2, or migrates one of version 1, by one commit, the last call. Returns
-/// the desk's owner.
+/// what its row held before.
 ///
 /// `NotADesk`: no row reads as a desk's, or a name that version 2 adds is taken. `Version`: the
 /// desk is of another version. `NoMemory`: nothing was committed. `Store`: nothing was, or
 /// everything.
-pub(crate) fn bring_up<S: Alter>(conn: &mut Connection<S>) -> Result<Guid, Refusal>
+pub(crate) fn bring_up<S: Alter>(conn: &mut Connection<S>) -> Result<OwnRow, Refusal>
     requires outside { conn.old.in_transaction ≡ false }
     ensures outside { conn.new.in_transaction ≡ false }
     ensures second { HasCleanDisk (state S.Store conn.new) → (owner : List ℕ) (cs : History)
@@ -203,8 +197,8 @@ pub(crate) fn bring_up<S: Alter>(conn: &mut Connection<S>) -> Result<Guid, Refus
 
     ensures read { HasCleanDisk (state S.Store conn.new)
         → OnOk result (FindsKnown (state S.Store conn.old)) }
-    ensures owner { HasCleanDisk (state S.Store conn.new)
-        → IfOk result (IsOwnerOf (state S.Store conn.old)) }
+    ensures own { HasCleanDisk (state S.Store conn.new)
+        → IfOk result (IsOwnOf (state S.Store conn.old)) }
     ensures other { HasCleanDisk (state S.Store conn.new) → IfErr result (λ e.
         e ≡ Refusal.Version → FindsOther (state S.Store conn.old)) }
     ensures unread { HasCleanDisk (state S.Store conn.new) → IfErr result (λ e.
@@ -227,13 +221,13 @@ pub(crate) fn bring_up<S: Alter>(conn: &mut Connection<S>) -> Result<Guid, Refus
         Err(refusal) => return Err(refusal),
     };
     if own.version == u64::from(VERSION) {
-        return Ok(own.owner);
+        return Ok(own);
     }
     if own.version != FIRST_VERSION {
         return Err(Refusal::Version);
     }
     match migrate(conn) {
-        Ok(()) => Ok(own.owner),
+        Ok(()) => Ok(own),
         Err(refusal) => Err(refusal),
     }
 }

@@ -13,7 +13,7 @@ ghost use Rattle.desk_rules.specs.Shown.{Shows};
 ghost use Rattle.desk_rules.specs.Views.{ShowsLists, keys_of};
 ghost use Rattle.store_requests.specs.Lists.{HoldsShown};
 ghost use Rattle.store_requests.specs.Telling.{IsOfficerRefusal, IsReaderRefusal, IsRequestRefusal};
-ghost use Rattle.store_views.specs.sizes.Sizes.{AreRight};
+ghost use Rattle.store_views.specs.figures.Figures.{AreCurrent};
 ghost use Rattle.desk_texts.specs.declared.caller.Caller.TheVariants as callers;
 ghost use Rattle.store_views.specs.Named.{HoldsNoRowBeyond};
 
@@ -29,7 +29,7 @@ use std::marker::PhantomData;
 use store_counts::{Counts, counts};
 use store_reads::person_of_token;
 use store_requests::{RequestList, proposals_of, request, requests_of};
-use store_views::{KeptSizes, list_view, view};
+use store_views::{KeptFigures, list_view, view};
 
 /// Who has the token of this SHA-256?
 #[derive(Drop)]
@@ -105,28 +105,28 @@ impl<'a> Question for ListsFor<'a> {
     }
 }
 
-/// Which rows does a decision on this call need, where these sizes are known?
+/// Which rows does a decision on this call need, where these figures are kept?
 #[derive(Drop)]
 pub(crate) struct RowsFor<'a> {
-    pub(crate) sizes: KeptSizes,
+    pub(crate) figures: KeptFigures,
     pub(crate) caller: &'a Caller,
     pub(crate) key: &'a Key,
     pub(crate) command: &'a Command,
 }
 
-/// The rows that a decision on a call needs, and the sizes that are known since they were read.
+/// The rows that a decision on a call needs, and the figures since they were read.
 #[derive(Drop)]
 pub(crate) struct Viewed {
     pub(crate) view: View,
-    pub(crate) sizes: KeptSizes,
+    pub(crate) figures: KeptFigures,
 }
 
 impl<'a> Question for RowsFor<'a> {
     type Answer = Viewed;
 
-    ghost tells = { λ q viewed owner cs. AreRight q.sizes (tables owner cs)
+    ghost tells = { λ q viewed owner cs. AreCurrent q.figures (tables owner cs)
         → Shows viewed.view (tables owner cs) (called q.caller.now q.key.now q.command.now)
-        × AreRight viewed.sizes (tables owner cs) };
+        × AreCurrent viewed.figures (tables owner cs) };
 
     ghost bounds = { λ q viewed. HoldsNoRowBeyond viewed.view
         (called q.caller.now q.key.now q.command.now) };
@@ -136,17 +136,17 @@ impl<'a> Question for RowsFor<'a> {
         alloc: Global,
         tx: &mut Transaction<'_, S>,
     ) -> Result<Viewed, Refusal> {
-        let mut sizes = self.sizes;
+        let mut figures = self.figures;
         match view(
             alloc,
             tx,
-            &mut sizes,
+            &mut figures,
             None,
             self.caller,
             self.key,
             self.command,
         ) {
-            Ok(view) => Ok(Viewed { view, sizes }),
+            Ok(view) => Ok(Viewed { view, figures }),
             Err(failure) => Err(failure),
         }
     }

@@ -21,6 +21,13 @@ impl Model for Stamp {
 }
 
 impl Stamp {
+    /// The stamp of the first level, 2021030218 (shim's SBAT.md).
+    pub fn original() -> Stamp
+        ensures { result ≡ 2021030218 }
+    {
+        Stamp(2_021_030_218)
+    }
+
     /// The stamp of that number, if it is in range.
     pub fn new(number: u64) -> Option<Stamp>
         ensures { result ≡ (if is_stamp number then Some number else None) }

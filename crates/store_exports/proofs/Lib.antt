@@ -7,5 +7,5 @@ pub mod ExportLemmas
 pub mod PartLemmas
 pub mod StepLemmas
 pub mod CountedLemmas
-pub mod HeadLemmas
+pub mod StampLemmas
 pub mod ListedLemmas

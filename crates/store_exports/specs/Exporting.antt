@@ -1,10 +1,14 @@
 -- The bytes of a desk's export, and its effect on the connection.
-use Rattle.std.specs.Prelude.{◌≡◌, ℕ, List, Option, Result, MatchResult}
+use Rattle.std.specs.Prelude.{◌≡◌, ℕ, List, map, Option, Result, MatchResult}
 use Rattle.std.specs.Io.KnownBytes.{Appends}
 use Rattle.sqlite.specs.Held.{Held, state}
 use Rattle.sqlite.specs.State.{State, HasCleanDisk}
 use Rattle.sqlite.specs.Store.{Ghosts}
 use Rattle.desk_bytes.specs.Output.{AppendsBeginning}
+use Rattle.sbat.specs.Writing.{level_lines}
+use Rattle.desk_exports.specs.Exports.{db, dbx, level_components, minutes_text}
+use Rattle.desk_exports.specs.declared.export.Export.{Export}
+use Rattle.desk_exports.specs.declared.export.Export.TheVariants as exports
 use Rattle.desk_history.specs.Calls.{History}
 use Rattle.desk_history.specs.Tables.{tables}
 use Rattle.store_schema.specs.rows.Histories.{ShowsHistory}
@@ -40,6 +44,15 @@ pub record Exports {S X E : Type 0} (g : Ghosts S) (old new : Held S) (before af
 abbrev pub IsSizeOf : State → Counted → ℕ → Type 0
 IsSizeOf old what n = (owner : List ℕ) (cs : History) → ShowsHistory old owner cs → n ≡ counted what (tables owner cs)
 
--- the number is the stamp of each such history
-abbrev pub IsStampOf : State → ℕ → Type 0
-IsStampOf old n = (owner : List ℕ) (cs : History) → ShowsHistory old owner cs → n ≡ (tables owner cs).desk.stamp
+-- ---- the bytes, by the owner and the stamp that an open desk keeps
+
+-- the text of the level with this stamp
+abbrev pub level_with : ℕ → History → List ℕ
+level_with stamp cs = level_lines stamp (map (λ x. (x.name, x.generation)) (level_components cs))
+
+-- an export with this owner and this stamp
+abbrev pub exported_with : Export → List ℕ → ℕ → History → List ℕ
+exported_with exports.Db owner stamp cs = db owner cs
+exported_with exports.Dbx owner stamp cs = dbx owner cs
+exported_with exports.Level owner stamp cs = level_with stamp cs
+exported_with exports.Minutes owner stamp cs = minutes_text cs

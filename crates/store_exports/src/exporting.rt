@@ -2,8 +2,8 @@
 ghost use Rattle.std.specs.Prelude.{IfErr, OnErr, OnOk};
 ghost use Rattle.sqlite.specs.Held.{state};
 ghost use Rattle.sqlite.specs.State.{HasCleanDisk};
-ghost use Rattle.desk_exports.specs.Exports.{exported};
 ghost use Rattle.store_exports.specs.Exporting.{BeginsOf, Exports, SparesOf, StaysOf, WritesOf};
+ghost use Rattle.store_exports.specs.Exporting.{exported_with};
 ghost use Rattle.store_exports.specs.Faults.{IsExportFailure};
 
 use crate::db::put_db;
@@ -13,6 +13,7 @@ use crate::level::put_level;
 use crate::lines::put_minutes;
 use desk_bytes::{Guid, Refusal};
 use desk_exports::Export;
+use sbat::Stamp;
 use sqlite::{Alter, Connection};
 use std::alloc::Global;
 use std::io::Write;
@@ -23,21 +24,22 @@ fn put<S: Alter, W: Write>(
     conn: &mut Connection<S>,
     what: Export,
     owner: Guid,
+    stamp: Stamp,
     writer: &mut W,
 ) -> Result<(), ExportFault>
     ensures { Exports S.Store conn.old conn.new
-        (W.contents writer.old) (W.contents writer.new) result (exported what owner) }
+        (W.contents writer.old) (W.contents writer.new) result (exported_with what owner stamp) }
 {
     match what {
         Export::Db => put_db(alloc, conn, owner, writer),
         Export::Dbx => put_dbx(alloc, conn, owner, writer),
-        Export::Level => put_level(alloc, conn, writer),
+        Export::Level => put_level(alloc, conn, stamp, writer),
         Export::Minutes => put_minutes(alloc, conn, writer),
     }
 }
 
-/// Writes an export, with this owner in each entry of dbx and db. Each row is written as the store
-/// gives it, and none is kept. Takes memory for one row; the minutes take no memory except the
+/// Writes an export, with this owner in each entry of dbx and db, and this stamp in the level. Each
+/// row is written as the store gives it, and none is kept. Takes memory for one row; the minutes take no memory except the
 /// store's.
 ///
 /// `Write`: the writer failed. `NoMemory`: memory was refused, to the desk or to the store.
@@ -48,21 +50,22 @@ pub fn export<S: Alter, W: Write>(
     conn: &mut Connection<S>,
     what: Export,
     owner: Guid,
+    stamp: Stamp,
     writer: &mut W,
 ) -> Result<(), Refusal>
     ensures ok { HasCleanDisk (state S.Store conn.new)
         → OnOk result (WritesOf (state S.Store conn.old)
-        (W.contents writer.old) (W.contents writer.new) (exported what owner)) }
+        (W.contents writer.old) (W.contents writer.new) (exported_with what owner stamp)) }
     ensures beginning { HasCleanDisk (state S.Store conn.new)
         → OnErr result (BeginsOf (state S.Store conn.old)
-        (W.contents writer.old) (W.contents writer.new) (exported what owner)) }
+        (W.contents writer.old) (W.contents writer.new) (exported_with what owner stamp)) }
     ensures named { IfErr result IsExportFailure }
 
     ensures same { StaysOf (state S.Store conn.old) (state S.Store conn.new) }
     ensures spares { SparesOf S.Store conn.old conn.new }
     ensures clean { HasCleanDisk (state S.Store conn.new) → HasCleanDisk (state S.Store conn.old) }
 {
-    match put(alloc, conn, what, owner, writer) {
+    match put(alloc, conn, what, owner, stamp, writer) {
         Ok(()) => Ok(()),
         Err(fault) => Err(fault.refusal()),
     }

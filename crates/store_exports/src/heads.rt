@@ -1,16 +1,14 @@
-//! Reads before the rows of an export: its stamp, and the number of rows.
+//! The number of rows of a list, before they are written.
 ghost use Rattle.std.specs.Prelude.{◌≡◌, ◌≤◌, IfOk};
 ghost use Rattle.sqlite.specs.Held.{state};
 ghost use Rattle.sqlite.specs.State.{HasCleanDisk};
 ghost use Rattle.siglist.specs.Writing.{most_digests};
 ghost use Rattle.store_sql.specs.States.{Spares};
-ghost use Rattle.store_exports.specs.Exporting.{IsSizeOf, IsStampOf, StaysOf};
+ghost use Rattle.store_exports.specs.Exporting.{IsSizeOf, StaysOf};
 
 use crate::fault::ExportFault;
-use sbat::Stamp;
 use sqlite::{Alter, Connection};
-use std::alloc::Global;
-use store_reads::{Counted, ReadFault, count, own_row};
+use store_reads::{Counted, ReadFault, count};
 
 /// The most digests of a list.
 const MOST_DIGESTS: u64 = 1_000_000;
@@ -29,29 +27,6 @@ pub(crate) fn size<S: Alter>(conn: &mut Connection<S>, what: Counted) -> Result<
     let read = count(&mut tx, what);
     tx.rollback();
     read
-}
-
-/// The stamp of the desk's level, from the desk's own row. It commits nothing. Takes memory for the
-/// row.
-pub(crate) fn own_stamp<S: Alter>(
-    alloc: Global,
-    conn: &mut Connection<S>,
-) -> Result<Stamp, ReadFault>
-    ensures ok { HasCleanDisk (state S.Store conn.new)
-        → IfOk result (IsStampOf (state S.Store conn.old)) }
-    ensures same { StaysOf (state S.Store conn.old) (state S.Store conn.new) }
-    ensures survives { Spares S.Store conn.old conn.new }
-{
-    if !conn.is_autocommit() {
-        return Err(ReadFault::Store);
-    }
-    let mut tx = conn.transaction();
-    let read = own_row(alloc, &mut tx);
-    tx.rollback();
-    match read {
-        Ok(row) => Ok(row.stamp),
-        Err(fault) => Err(fault),
-    }
 }
 
 /// The size of a list, as its head gives it. `Read`: it has more digests than a list may have.

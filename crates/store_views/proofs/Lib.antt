@@ -6,6 +6,7 @@ mod ShownLemmas
 mod StepLemmas
 pub mod ListedLemmas
 pub mod SizeLemmas
+mod FigureLemmas
 mod FindLemmas
 mod LearningLemmas
 mod NamedLemmas

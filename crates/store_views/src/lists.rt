@@ -8,5 +8,5 @@ mod naming;
 mod reading;
 mod viewing;
 
-pub use viewing::list_view;
+pub use naming::list_view;
 pub(crate) use viewing::lists_asked;

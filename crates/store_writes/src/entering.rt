@@ -9,7 +9,7 @@ use crate::stored::integer_value;
 use desk_bytes::Guid;
 use desk_history::Minute;
 use desk_texts::{Person, reply_text};
-use sbat::Component;
+use sbat::{Component, Stamp};
 use sqlite::{Alter, Transaction, params};
 use std::alloc::Global;
 use store_schema::{INSERT_CALL, INSERT_COMPONENT, INSERT_DESK, INSERT_MIGRATED, INSERT_PERSON};
@@ -21,10 +21,7 @@ pub const MARK: &str = "boot-desk";
 /// The version of the tables.
 pub const VERSION: u32 = 2;
 
-/// The stamp of shim's first level.
-const FIRST_STAMP: u32 = 2021030218;
-
-/// Inserts the desk's own row into tables without rows.
+/// Inserts the desk's own row into tables without rows: its stamp is that of shim's first level.
 fn put_own<S: Alter>(tx: &mut Transaction<'_, S>, owner: &Guid) -> Result<(), StoreFault>
     ensures same_reference { tx.new.conn.ghost_name ≡ tx.old.conn.ghost_name }
     ensures value { Founds S.Store tx.old.conn.now tx.new.conn.now result (unmigrated owner.now) }
@@ -32,10 +29,11 @@ fn put_own<S: Alter>(tx: &mut Transaction<'_, S>, owner: &Guid) -> Result<(), St
     ensures kept { CommitsNothing S.Store tx.old.conn.now tx.new.conn.now }
     ensures survives { Spares S.Store tx.old.conn.now tx.new.conn.now }
 {
+    let stamp = integer_value(Stamp::original().value())?;
     insert(
         tx,
         INSERT_DESK,
-        params![1u32, MARK, VERSION, owner.as_bytes(), FIRST_STAMP],
+        params![1u32, MARK, VERSION, owner.as_bytes(), &stamp],
     )?;
     Ok(())
 }

@@ -3,7 +3,7 @@ ghost use Rattle.std.specs.Prelude.{◌≡◌, IfOk, IfSome, filter};
 ghost use Rattle.desk_history.specs.Writes.{is_named};
 ghost use Rattle.store_views.specs.lists.Gathering.{listings_of, revocations_of};
 ghost use Rattle.store_reads.specs.Reads.{ReadsTables, listed};
-ghost use Rattle.store_sql.specs.States.{DoesInside, CommitsNothing, Spares};
+ghost use Rattle.store_sql.specs.States.{DoesInside, CommitsNothing, Spares, StaysInside};
 
 use desk_bytes::Digest;
 use desk_texts::{ListedKind, Listing};
@@ -24,6 +24,7 @@ pub(crate) fn find_listed<S: Alter>(
         (λ row. ReadsTables (λ t. listings_of kind t digest.now ≡ listed row)) }
     ensures only { IfOk result (λ row. IfSome row
         (λ x. x ≡ record { kind = kind; digest = digest.now })) }
+    ensures inside { StaysInside S.Store tx.old.conn.now tx.new.conn.now result }
     ensures kept { CommitsNothing S.Store tx.old.conn.now tx.new.conn.now }
     ensures survives { Spares S.Store tx.old.conn.now tx.new.conn.now }
 {

@@ -1,9 +1,9 @@
 //! The rows of many keys, key by key.
-ghost use Rattle.std.specs.Prelude.{◌≡◌, [], All, IfOk, IsTrue, OnOk, map};
+ghost use Rattle.std.specs.Prelude.{◌≡◌, ◌<◌, [], All, IfOk, IsTrue, OnOk, length, map};
 ghost use Rattle.desk_history.specs.Calls.{is_among};
 ghost use Rattle.store_views.specs.lists.Gathering.{Gathers, PutsOnly, levels_of, listings_of, revocations_of};
 ghost use Rattle.store_reads.specs.Reads.{ReadsTables};
-ghost use Rattle.store_sql.specs.States.{DoesInside, CommitsNothing, Spares};
+ghost use Rattle.store_sql.specs.States.{DoesInside, CommitsNothing, Spares, StaysInside};
 
 use crate::lists::finding::{find_component, find_listed, find_revoked};
 use crate::pushing::push_some;
@@ -28,6 +28,8 @@ pub(crate) fn gather_listed<S: Alter>(
     ensures only { OnOk result (PutsOnly
         (λ x. (x.kind ≡ kind) × IsTrue (is_among digests.now x.digest))
         rows.old.items rows.new.items) }
+    ensures inside { 0 < length digests.now
+        → StaysInside S.Store tx.old.conn.now tx.new.conn.now result }
     ensures kept { CommitsNothing S.Store tx.old.conn.now tx.new.conn.now }
     ensures survives { Spares S.Store tx.old.conn.now tx.new.conn.now }
 {

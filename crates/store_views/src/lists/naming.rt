@@ -6,7 +6,7 @@ ghost use Rattle.store_views.specs.lists.Gathering.{listed_keys, revoked_keys, s
 ghost use Rattle.store_views.specs.lists.Lists.{HoldsNoOther};
 ghost use Rattle.store_reads.specs.Reads.{ReadsTables};
 ghost use Rattle.desk_rules.specs.Views.{ShowsLists, keys_of};
-ghost use Rattle.store_sql.specs.States.{DoesInside, CommitsNothing, Spares};
+ghost use Rattle.store_sql.specs.States.{DoesInside, CommitsNothing, Spares, StaysInside};
 
 use crate::lists::keys::Digests;
 use crate::lists::reading::rows_of;
@@ -132,9 +132,11 @@ pub(crate) fn submission_view<S: Alter>(
     barring_view(alloc, tx, revoked, facts.components.as_slice())
 }
 
-/// The rows that an image's facts name: its listed entries, revoked entries, and components of the
-/// level.
-pub(crate) fn image_view<S: Alter>(
+/// The rows of the lists that an image's facts name: the listed entry of its digest and those of
+/// the certificates that it carries, the revocations of its two digests and of these certificates,
+/// and the level's components that it names. Takes memory for them. Costs one keyed statement for
+/// each. The digest is looked up whatever the facts name, so that only an open store gives Ok.
+pub fn list_view<S: Alter>(
     alloc: Global,
     tx: &mut Transaction<'_, S>,
     facts: &Facts,
@@ -143,6 +145,7 @@ pub(crate) fn image_view<S: Alter>(
     ensures value { DoesInside S.Store tx.old.conn.now tx.new.conn.now result
         (λ view. ReadsTables (λ t. ShowsLists view t (keys_of facts.now))) }
     ensures only { IfOk result (λ view. HoldsNoOther view (keys_of facts.now)) }
+    ensures inside { StaysInside S.Store tx.old.conn.now tx.new.conn.now result }
     ensures kept { CommitsNothing S.Store tx.old.conn.now tx.new.conn.now }
     ensures survives { Spares S.Store tx.old.conn.now tx.new.conn.now }
 {

@@ -1,11 +1,11 @@
 //! The rows of the lists for keys of every kind.
-ghost use Rattle.std.specs.Prelude.{◌≡◌, All, IfOk, IsTrue};
+ghost use Rattle.std.specs.Prelude.{◌≡◌, ◌<◌, All, IfOk, IsTrue, length};
 ghost use Rattle.desk_history.specs.Calls.{is_among};
 ghost use Rattle.store_views.specs.lists.Gathering.{ShowsListed, keys_of, entry_keys};
 ghost use Rattle.store_views.specs.lists.Lists.{HoldsNoOther};
 ghost use Rattle.store_reads.specs.Reads.{ReadsTables};
 ghost use Rattle.desk_rules.specs.Views.{ShowsLists, keys_for};
-ghost use Rattle.store_sql.specs.States.{DoesInside, CommitsNothing, Spares};
+ghost use Rattle.store_sql.specs.States.{DoesInside, CommitsNothing, Spares, StaysInside};
 
 use crate::lists::gathering::{gather_components, gather_listed, gather_revoked};
 use crate::lists::keys::Digests;
@@ -28,6 +28,8 @@ fn listings<S: Alter>(
     ensures only { IfOk result (λ rows. All
         (λ row. IsTrue (is_among (keys_for (entry_keys listed.entry) row.kind) row.digest))
         rows.items) }
+    ensures inside { 0 < length (entry_keys listed.entry).digests
+        → StaysInside S.Store tx.old.conn.now tx.new.conn.now result }
     ensures kept { CommitsNothing S.Store tx.old.conn.now tx.new.conn.now }
     ensures survives { Spares S.Store tx.old.conn.now tx.new.conn.now }
 {
@@ -57,6 +59,8 @@ pub(crate) fn rows_of<S: Alter>(
         (keys_of listed.entry revoked.entry named.now))) }
     ensures only { IfOk result (λ view.
         HoldsNoOther view (keys_of listed.entry revoked.entry named.now)) }
+    ensures inside { 0 < length (entry_keys listed.entry).digests
+        → StaysInside S.Store tx.old.conn.now tx.new.conn.now result }
     ensures kept { CommitsNothing S.Store tx.old.conn.now tx.new.conn.now }
     ensures survives { Spares S.Store tx.old.conn.now tx.new.conn.now }
 {

@@ -1,43 +1,21 @@
-//! The rows of the lists that an image's facts or a command name.
+//! The rows of the lists that a command names.
 ghost use Rattle.std.specs.Prelude.{◌≡◌, IfOk, option_copied};
 ghost use Rattle.store_views.specs.lists.Lists.{HoldsNoOther};
 ghost use Rattle.store_reads.specs.Reads.{ReadsTables};
 ghost use Rattle.desk_rules.specs.Keys.{keys_with};
-ghost use Rattle.desk_rules.specs.Views.{ShowsLists, keys_of};
-ghost use Rattle.store_sql.specs.States.{DoesInside, CommitsNothing, Spares, StaysInside};
+ghost use Rattle.desk_rules.specs.Views.{ShowsLists};
+ghost use Rattle.store_sql.specs.States.{DoesInside, CommitsNothing, Spares};
 
 use crate::lists::keys::Digests;
-use crate::lists::naming::{image_view, import_view, listed_view, revoked_view, submission_view};
+use crate::lists::naming::{import_view, list_view, listed_view, revoked_view, submission_view};
 use crate::lists::reading::rows_of;
 use desk_history::ProposalRow;
 use desk_rules::ListView;
-use desk_texts::{Command, Facts, ListedKind};
+use desk_texts::{Command, ListedKind};
 use sqlite::{Alter, Transaction};
 use std::alloc::Global;
 use std::slice;
-use store_reads::{ReadFault, own_row};
-
-/// The rows of the lists that an image's facts name: the listed entry of its digest and those of
-/// the certificates that it carries, the revocations of its two digests and of these certificates,
-/// and the level's components that it names. Takes memory for them. Costs one keyed statement for
-/// each, after one for the desk's own row: so only an open store gives Ok, whatever the facts name.
-pub fn list_view<S: Alter>(
-    alloc: Global,
-    tx: &mut Transaction<'_, S>,
-    facts: &Facts,
-) -> Result<ListView, ReadFault>
-    ensures same_reference { tx.new.conn.ghost_name ≡ tx.old.conn.ghost_name }
-    ensures value { DoesInside S.Store tx.old.conn.now tx.new.conn.now result
-        (λ view. ReadsTables (λ t. ShowsLists view t (keys_of facts.now))) }
-    ensures only { IfOk result (λ view. HoldsNoOther view (keys_of facts.now)) }
-    ensures inside { StaysInside S.Store tx.old.conn.now tx.new.conn.now result }
-    ensures kept { CommitsNothing S.Store tx.old.conn.now tx.new.conn.now }
-    ensures survives { Spares S.Store tx.old.conn.now tx.new.conn.now }
-{
-    own_row(alloc, tx)?;
-    let view = image_view(alloc, tx, facts)?;
-    Ok(view)
-}
+use store_reads::ReadFault;
 
 /// The rows of the lists that the command names, or, for a Confirm, those that its proposal, of
 /// this row, names. Takes memory for them. Costs one keyed statement for each key.
@@ -61,7 +39,7 @@ pub(crate) fn lists_asked<S: Alter>(
             rows_of(alloc, tx, Digests::none(), Digests::none(), &[])
         }
         Command::Submit(submission) => submission_view(alloc, tx, &submission.facts),
-        Command::Return(returned) => image_view(alloc, tx, &returned.facts),
+        Command::Return(returned) => list_view(alloc, tx, &returned.facts),
         Command::ListCertificate(certificate) => {
             listed_view(alloc, tx, ListedKind::Certificate, certificate.tbs())
         }

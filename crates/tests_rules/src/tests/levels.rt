@@ -105,7 +105,7 @@ fn generation_of(level: &Level, name: &[u8]) -> u32 {
 
 #[test]
 fn keeps_the_greater_generation(rt: HostRuntime) -> Result<(), Fail> {
-    let stamp = Stamp::new(2_021_030_218).ok_or("the stamp")?;
+    let stamp = Stamp::original();
     let mut level = Level::new(rt.alloc(), stamp);
     raise(rt.alloc(), &mut level, 10)?;
     raise(rt.alloc(), &mut level, 9)?;

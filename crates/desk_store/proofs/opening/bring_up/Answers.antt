@@ -18,10 +18,10 @@ pub returns-in-Err-clause-other : goal.returns-in-Err-clause-other
 returns-in-Err-clause-other g c clean is = absurd (never_version c.in-Err.refusal is c.in-Err.ensures.named)
 
 pub returns-in-Err-clause-unread : goal.returns-in-Err-clause-unread
-returns-in-Err-clause-unread g c clean is = inl (c.in-Err.ensures.unread clean is)
+returns-in-Err-clause-unread g c clean is = inl ((c.in-Err.ensures.told clean).unread is)
 
 pub returns-in-Err-clause-looked : goal.returns-in-Err-clause-looked
-returns-in-Err-clause-looked g c clean (inl is) = c.in-Err.ensures.open clean is
+returns-in-Err-clause-looked g c clean (inl is) = (c.in-Err.ensures.told clean).is_open is
 returns-in-Err-clause-looked g c clean (inr is) = absurd (never_version c.in-Err.refusal is c.in-Err.ensures.named)
 
 pub returns-in-Err-clause-survives : goal.returns-in-Err-clause-survives
@@ -37,16 +37,16 @@ returns-then-own-from-clause-second g c clean owner cs shows = c.in-Ok.ensures.s
 pub returns-then-own-from-clause-first : goal.returns-then-own-from-clause-first
 returns-then-own-from-clause-first g c clean owner cs early =
     let two : c.in-Ok.own.version ≡ 2 = search rules in
-    let one = first_version (state g.S.Store c.args.conn.now) owner cs c.in-Ok.own.version (c.in-Ok.ensures.read clean) early in
+    let one = first_version (state g.S.Store c.args.conn.now) owner cs c.in-Ok.own.version (c.in-Ok.ensures.told clean).read early in
     absurd (omega (arith, one, two))
 
 pub returns-then-own-from-clause-read : goal.returns-then-own-from-clause-read
 returns-then-own-from-clause-read g c clean =
     let two : c.in-Ok.own.version ≡ 2 = search rules in
-    inl (subst (AreShownAs (state g.S.Store c.args.conn.now)) two (c.in-Ok.ensures.read clean))
+    inl (subst (AreShownAs (state g.S.Store c.args.conn.now)) two (c.in-Ok.ensures.told clean).read)
 
-pub returns-then-own-from-clause-owner : goal.returns-then-own-from-clause-owner
-returns-then-own-from-clause-owner g c clean = c.in-Ok.ensures.owner clean
+pub returns-then-own-from-clause-own : goal.returns-then-own-from-clause-own
+returns-then-own-from-clause-own g c clean = (c.in-Ok.ensures.told clean).own
 
 pub returns-then-own-from-clause-survives : goal.returns-then-own-from-clause-survives
 returns-then-own-from-clause-survives g c =
@@ -62,10 +62,10 @@ pub returns-then-own-ne-FIRST_VERSION-clause-other : goal.returns-then-own-ne-FI
 returns-then-own-ne-FIRST_VERSION-clause-other g c clean is =
     let one : c.in-Ok.own.version ≢ 1 = search rules in
     let two : c.in-Ok.own.version ≢ 2 = search rules in
-    (c.in-Ok.own.version, one, two, c.in-Ok.ensures.read clean)
+    (c.in-Ok.own.version, one, two, (c.in-Ok.ensures.told clean).read)
 
 pub returns-then-own-ne-FIRST_VERSION-clause-looked : goal.returns-then-own-ne-FIRST_VERSION-clause-looked
-returns-then-own-ne-FIRST_VERSION-clause-looked g c clean is = c.in-Ok.ensures.open clean
+returns-then-own-ne-FIRST_VERSION-clause-looked g c clean is = (c.in-Ok.ensures.told clean).is_open
 
 pub returns-then-own-ne-FIRST_VERSION-clause-survives : goal.returns-then-own-ne-FIRST_VERSION-clause-survives
 returns-then-own-ne-FIRST_VERSION-clause-survives g c =
@@ -78,7 +78,7 @@ pub returns-in-Ok-migrate-clause-second : goal.returns-in-Ok-migrate-clause-seco
 returns-in-Ok-migrate-clause-second g c clean owner cs shows =
     let one : c.in-Ok.own.version ≡ 1 = search rules in
     let late : HasCleanDisk (state g.S.Store c.read_own_row.new.conn) = omega (arith, c.in-Ok-migrate.ensures.survives.clean, clean) in
-    let two = second_version (state g.S.Store c.args.conn.now) owner cs c.in-Ok.own.version (c.in-Ok.ensures.read late) shows in
+    let two = second_version (state g.S.Store c.args.conn.now) owner cs c.in-Ok.own.version (c.in-Ok.ensures.told late).read shows in
     absurd (omega (arith, one, two))
 
 pub returns-in-Ok-migrate-clause-first : goal.returns-in-Ok-migrate-clause-first
@@ -93,25 +93,25 @@ returns-in-Ok-migrate-clause-read g c clean =
     let one : c.in-Ok.own.version ≡ 1 = search rules in
     let mid = state g.S.Store c.read_own_row.new.conn in
     let late : HasCleanDisk mid = omega (arith, c.in-Ok-migrate.ensures.survives.clean, clean) in
-    inr (free_there (state g.S.Store c.args.conn.now) mid c.in-Ok.own.version (c.in-Ok.ensures.read late) one (c.in-Ok.ensures.shown late) late
+    inr (free_there (state g.S.Store c.args.conn.now) mid c.in-Ok.own.version (c.in-Ok.ensures.told late).read one (c.in-Ok.ensures.shown late) late
     (c.in-Ok-migrate.ensures.was_open clean) c.in-Ok-migrate.ensures.free)
 
-pub returns-in-Ok-migrate-clause-owner : goal.returns-in-Ok-migrate-clause-owner
-returns-in-Ok-migrate-clause-owner g c clean =
+pub returns-in-Ok-migrate-clause-own : goal.returns-in-Ok-migrate-clause-own
+returns-in-Ok-migrate-clause-own g c clean =
     let late : HasCleanDisk (state g.S.Store c.read_own_row.new.conn) = omega (arith, c.in-Ok-migrate.ensures.survives.clean, clean) in
-    c.in-Ok.ensures.owner late
+    (c.in-Ok.ensures.told late).own
 
 pub returns-in-Ok-migrate-clause-open : goal.returns-in-Ok-migrate-clause-open
 returns-in-Ok-migrate-clause-open g c clean =
     let late : HasCleanDisk (state g.S.Store c.read_own_row.new.conn) = omega (arith, c.in-Ok-migrate.ensures.survives.clean, clean) in
-    c.in-Ok.ensures.open late
+    (c.in-Ok.ensures.told late).is_open
 
 pub returns-in-Ok-migrate-clause-survives : goal.returns-in-Ok-migrate-clause-survives
 returns-in-Ok-migrate-clause-survives g c =
     let one : c.in-Ok.own.version ≡ 1 = search rules in
     let old = state g.S.Store c.args.conn.now in
     brought_left old (state g.S.Store c.read_own_row.new.conn) (state g.S.Store c.migrate.new.conn) c.in-Ok.ensures.survives c.in-Ok-migrate.ensures.survives
-    (λ late. subst (AreShownAs old) one (c.in-Ok.ensures.read late)) c.in-Ok.ensures.shown
+    (λ late. subst (AreShownAs old) one (c.in-Ok.ensures.told late).read) c.in-Ok.ensures.shown
 
 -- ---- version 1, refused
 
@@ -119,7 +119,7 @@ pub returns-in-Err-migrate-clause-second : goal.returns-in-Err-migrate-clause-se
 returns-in-Err-migrate-clause-second g c clean owner cs shows =
     let one : c.in-Ok.own.version ≡ 1 = search rules in
     let late : HasCleanDisk (state g.S.Store c.read_own_row.new.conn) = omega (arith, c.in-Err-migrate.ensures.survives.clean, clean) in
-    let two = second_version (state g.S.Store c.args.conn.now) owner cs c.in-Ok.own.version (c.in-Ok.ensures.read late) shows in
+    let two = second_version (state g.S.Store c.args.conn.now) owner cs c.in-Ok.own.version (c.in-Ok.ensures.told late).read shows in
     absurd (omega (arith, one, two))
 
 pub returns-in-Err-migrate-clause-other : goal.returns-in-Err-migrate-clause-other
@@ -131,12 +131,12 @@ returns-in-Err-migrate-clause-unread g c clean is =
     let mid = state g.S.Store c.read_own_row.new.conn in
     let late : HasCleanDisk mid = omega (arith, c.in-Err-migrate.ensures.survives.clean, clean) in
     let taken = c.in-Err-migrate.ensures.taken clean is in
-    inr (taken_there (state g.S.Store c.args.conn.now) mid c.in-Ok.own.version (c.in-Ok.ensures.read late) one (c.in-Ok.ensures.shown late) late taken.0 taken.1)
+    inr (taken_there (state g.S.Store c.args.conn.now) mid c.in-Ok.own.version (c.in-Ok.ensures.told late).read one (c.in-Ok.ensures.shown late) late taken.0 taken.1)
 
 pub returns-in-Err-migrate-clause-looked : goal.returns-in-Err-migrate-clause-looked
 returns-in-Err-migrate-clause-looked g c clean is =
     let late : HasCleanDisk (state g.S.Store c.read_own_row.new.conn) = omega (arith, c.in-Err-migrate.ensures.survives.clean, clean) in
-    c.in-Ok.ensures.open late
+    (c.in-Ok.ensures.told late).is_open
 
 pub returns-in-Err-migrate-clause-kept : goal.returns-in-Err-migrate-clause-kept
 returns-in-Err-migrate-clause-kept g c clean other schema contents shows =
@@ -152,4 +152,4 @@ returns-in-Err-migrate-clause-survives g c =
     let one : c.in-Ok.own.version ≡ 1 = search rules in
     let old = state g.S.Store c.args.conn.now in
     brought_left old (state g.S.Store c.read_own_row.new.conn) (state g.S.Store c.migrate.new.conn) c.in-Ok.ensures.survives c.in-Err-migrate.ensures.survives
-    (λ late. subst (AreShownAs old) one (c.in-Ok.ensures.read late)) c.in-Ok.ensures.shown
+    (λ late. subst (AreShownAs old) one (c.in-Ok.ensures.told late).read) c.in-Ok.ensures.shown

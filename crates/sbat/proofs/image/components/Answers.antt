@@ -1,4 +1,4 @@
-use Rattle.std.proofs.Common.{◌≡◌, ◌≤◌, ◌∙◌, Ok, ap, length, sym, arith, rules}
+use Rattle.std.proofs.Common.{◌≤◌, ◌∙◌, Ok, ap, length, sym, rules}
 use Rattle.desk_bytes.specs.Limits.{most_components}
 use Rattle.desk_bytes.specs.Lines.{line_of}
 use Rattle.sbat.proofs.RowLemmas.{Reading-ends, Reading-long, Reading-next}

@@ -3,7 +3,6 @@ use Rattle.std.specs.Prelude.{find, option_copied}
 use Rattle.sqlite.specs.Held.{state}
 use Rattle.sqlite.specs.State.{HasCleanDisk}
 use Rattle.store_schema.specs.rows.Contents.{contents}
-use Rattle.desk_history.specs.Tables.{DeskRow}
 use Rattle.store_sql.proofs.StopLemmas.{changes_then}
 use Rattle.store_schema.specs.Tables.{desk_schema}
 use Rattle.desk_rules.specs.Shown.{is_proposal_row}
@@ -15,29 +14,24 @@ use Rattle.store_views.proofs.viewing.rows_and_sizes.Goals as goal
 pub returns-clause-value : goal.returns-clause-value
 returns-clause-value g c clean inside =
     let s0 = state g.S.Store c.args.tx.now.conn.now in
-    let s1 = state g.S.Store c.own_row.new.tx.conn.now in
-    let s2 = state g.S.Store c.rows_of_call.new.tx.conn.now in
-    let s3 = state g.S.Store c.lists_asked.new.tx.conn.now in
-    let s4 = state g.S.Store c.learn.new.tx.conn.now in
-    let c3 : HasCleanDisk s3 = omega (arith, c.in_ok-known.ensures.survives.clean, clean) in
-    let c2 : HasCleanDisk s2 = omega (arith, c.in_ok-lists.ensures.survives.clean, c3) in
-    let c1 : HasCleanDisk s1 = omega (arith, c.in_ok-rows.ensures.survives.clean, c2) in
-    let a = c.in_ok-own.ensures.value c1 inside in
-    let b = c.in_ok-rows.ensures.value c2 a.kept.inside in
-    let d = c.in_ok-lists.ensures.value c3 b.kept.inside in
+    let s1 = state g.S.Store c.rows_of_call.new.tx.conn.now in
+    let s2 = state g.S.Store c.lists_asked.new.tx.conn.now in
+    let s3 = state g.S.Store c.learn.new.tx.conn.now in
+    let c2 : HasCleanDisk s2 = omega (arith, c.in_ok-known.ensures.survives.clean, clean) in
+    let c1 : HasCleanDisk s1 = omega (arith, c.in_ok-lists.ensures.survives.clean, c2) in
+    let b = c.in_ok-rows.ensures.value c1 inside in
+    let d = c.in_ok-lists.ensures.value c2 b.kept.inside in
     let e = c.in_ok-known.ensures.value clean d.kept.inside in
     record {
-      kept = changes_then desk_schema contents s0 s1 s4 (λ t. t) (λ t. t) a.kept
-          (changes_then desk_schema contents s1 s2 s4 (λ t. t) (λ t. t) b.kept (changes_then desk_schema contents s2 s3 s4 (λ t. t) (λ t. t) d.kept e.kept));
-      tells = λ t sees back kept right.
-          let sees1 = a.kept.value t sees in
-          let sees2 = b.kept.value t sees1 in
-          let sees3 = d.kept.value t sees2 in
-          let rows = b.tells t sees1 back kept in
-          let known = e.tells t sees3 right in
+      kept = changes_then desk_schema contents s0 s1 s3 (λ t. t) (λ t. t) b.kept (changes_then desk_schema contents s1 s2 s3 (λ t. t) (λ t. t) d.kept e.kept);
+      tells = λ t sees back kept current.
+          let sees1 = b.kept.value t sees in
+          let sees2 = d.kept.value t sees1 in
+          let rows = b.tells t sees back kept in
+          let known = e.tells t sees2 current.sizes in
           let told = c.sizes.ensures t c.args.command.now known c.in_ok-known.ensures.learnt.enough in (
             record {
-              stamp = ap (λ (row : DeskRow). row.stamp) (a.tells t sees);
+              stamp = current.stamp;
               count = told.calls;
               sizes = told.sizes;
               caller = rows.people.caller;
@@ -49,7 +43,7 @@ returns-clause-value g c clean inside =
               proposal = rows.proposal;
               lists = subst (λ k. ShowsLists c.in_ok-lists.lists t k)
                   (keys_same c.args.command.now (option_copied c.named_row-proposal.result) (λ k. find (is_proposal_row k) t.proposals) (λ k named. c.named_row-proposal.ensures k named ∙ (ap (λ l. find (is_proposal_row k) l) c.deref.ensures.value ∙ rows.proposal k named)))
-                  (d.tells t sees2);
+                  (d.tells t sees1);
             },
             known,
           );

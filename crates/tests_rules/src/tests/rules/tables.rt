@@ -3,9 +3,8 @@ use super::*;
 
 /// The tables of a new desk.
 pub(super) fn new_tables(alloc: Global) -> Result<View, Fail> {
-    let stamp = Stamp::new(2_021_030_218).ok_or("a stamp")?;
     Ok(View {
-        stamp,
+        stamp: Stamp::original(),
         sizes: NONE,
         people: Vec::new(alloc),
         calls: Vec::new(alloc),

@@ -20,7 +20,7 @@ returns-in-Ok-clause-ok g c clean =
     let call = called c.args.caller.now c.args.key.now c.args.command.now in
     let taken = option_copied c.as_ref.result in
     let is_taken : taken ≡ c.args.self.now.kept_person = c.as_ref.ensures.value ∙ c.take-kept_person.ensures.value in
-    let new : Desk _ = record c.args.self.now { conn = c.run.new.conn; sizes = c.in-Ok.acted.sizes; kept_person = c.take-kept_person.new.self } in
+    let new : Desk _ = record c.args.self.now { conn = c.run.new.conn; figures = c.in-Ok.acted.figures; kept_person = c.take-kept_person.new.self } in
     IfOk-weaker c.result_of.result _ (Replies g.S.Store old new call) (λ reply is owner cs was.
     let it = goes_on g.S.Store old new call taken is_taken c.in-Ok.acted (c.in-Ok.ensures.ok clean) c.in-Ok.ensures.survives
     (λ o h shows live. c.stop_leaves_what_is_shown.ensures desk_schema (rows_of o h) shows live) c.call_is_formed.ensures refl refl c.take-kept_person.ensures.after refl owner cs was in
@@ -32,7 +32,7 @@ returns-in-Ok-clause-refused g c clean =
     let call = called c.args.caller.now c.args.key.now c.args.command.now in
     let taken = option_copied c.as_ref.result in
     let is_taken : taken ≡ c.args.self.now.kept_person = c.as_ref.ensures.value ∙ c.take-kept_person.ensures.value in
-    let new : Desk _ = record c.args.self.now { conn = c.run.new.conn; sizes = c.in-Ok.acted.sizes; kept_person = c.take-kept_person.new.self } in
+    let new : Desk _ = record c.args.self.now { conn = c.run.new.conn; figures = c.in-Ok.acted.figures; kept_person = c.take-kept_person.new.self } in
     IfErr-weaker c.result_of.result _ (Refuses g.S.Store old new call) (λ refusal is no_store owner cs was.
     let it = goes_on g.S.Store old new call taken is_taken c.in-Ok.acted (c.in-Ok.ensures.ok clean) c.in-Ok.ensures.survives
     (λ o h shows live. c.stop_leaves_what_is_shown.ensures desk_schema (rows_of o h) shows live) c.call_is_formed.ensures refl refl c.take-kept_person.ensures.after refl owner cs was in
@@ -57,7 +57,7 @@ returns-in-Ok-clause-stopped g c =
     let call = called c.args.caller.now c.args.key.now c.args.command.now in
     let taken = option_copied c.as_ref.result in
     let is_taken : taken ≡ c.args.self.now.kept_person = c.as_ref.ensures.value ∙ c.take-kept_person.ensures.value in
-    let new : Desk _ = record c.args.self.now { conn = c.run.new.conn; sizes = c.in-Ok.acted.sizes; kept_person = c.take-kept_person.new.self } in
+    let new : Desk _ = record c.args.self.now { conn = c.run.new.conn; figures = c.in-Ok.acted.figures; kept_person = c.take-kept_person.new.self } in
     stopped g.S.Store old new call taken is_taken c.in-Ok.ensures.survives
 
 pub returns-in-Ok-clause-spares : goal.returns-in-Ok-clause-spares
@@ -66,7 +66,7 @@ returns-in-Ok-clause-spares g c =
     let call = called c.args.caller.now c.args.key.now c.args.command.now in
     let taken = option_copied c.as_ref.result in
     let is_taken : taken ≡ c.args.self.now.kept_person = c.as_ref.ensures.value ∙ c.take-kept_person.ensures.value in
-    let new : Desk _ = record c.args.self.now { conn = c.run.new.conn; sizes = c.in-Ok.acted.sizes; kept_person = c.take-kept_person.new.self } in
+    let new : Desk _ = record c.args.self.now { conn = c.run.new.conn; figures = c.in-Ok.acted.figures; kept_person = c.take-kept_person.new.self } in
     spares g.S.Store old new call taken is_taken c.in-Ok.ensures.survives
 
 pub returns-clause-stopped : goal.returns-clause-stopped

@@ -5,7 +5,7 @@ use Rattle.desk_history.specs.Formed.{IsItem}
 use Rattle.desk_history.specs.Tables.{tables}
 use Rattle.store_schema.specs.Tables.{desk_schema, no_schema}
 use Rattle.store_schema.specs.rows.Histories.{rows_of}
-use Rattle.desk_store.proofs.SizeLemmas.{unknown_are_right}
+use Rattle.desk_store.proofs.FigureLemmas.{stamp_is_current}
 use Rattle.desk_store.proofs.desk.Desk.create.Goals as goal
 
 pub returns-in-Ok-clause-ok : goal.returns-in-Ok-clause-ok
@@ -19,7 +19,7 @@ returns-in-Ok-clause-ok g c clean =
       history = record { legal = refl; formed = All-nil IsItem };
       shows = shows;
       own = refl;
-      sizes = unknown_are_right c.unknown.result (tables owner []) c.unknown.ensures;
+      figures = stamp_is_current c.of_stamp.result (tables owner []) c.original.result c.of_stamp.ensures.told c.of_stamp.ensures.unknown c.original.ensures;
       person = tt;
       left = c.stop_leaves_what_is_shown.ensures desk_schema (rows_of owner []) shows made.0;
     }

@@ -1,11 +1,20 @@
-use Rattle.std.proofs.Common.{◌≡◌, ◌≢◌, Err, false, rules, refl, ap, subst}
+use Rattle.std.proofs.Common.{◌≡◌, ◌≢◌, ℕ, List, Err, false, rules, refl, ap, subst, ◌∙◌}
 use Rattle.std.specs.Io.KnownBytes.{Appends}
 use Rattle.desk_bytes.specs.Output.{AppendsBeginning}
+use Rattle.desk_history.specs.Calls.{History}
+use Rattle.desk_history.specs.Level.{stamp}
 use Rattle.desk_exports.specs.Exports.{exported}
+use Rattle.desk_exports.specs.declared.export.Export.{Export}
+use Rattle.store_exports.specs.Exporting.{exported_with}
+use Rattle.store_exports.proofs.StampLemmas.{exported_by_stamp}
 use Rattle.desk_bytes.specs.declared.refusal.Refusal.TheVariants as refusals
 use Rattle.desk_store.specs.declared.desk.Desk.{Desk}
 use Rattle.desk_store.proofs.DeskLemmas.{reads_shown}
 use Rattle.desk_store.proofs.desk.Desk.export.Goals as goal
+
+-- with the owner and the stamp that the desk keeps, an export is that of the history
+of_desk : (what : Export) (kept owner : List ℕ) (now : ℕ) (cs : History) → kept ≡ owner → now ≡ stamp cs → exported_with what kept now cs ≡ exported what owner cs
+of_desk what kept owner now cs own is = exported_by_stamp what kept now cs is ∙ ap (λ o. exported what o cs) own
 
 pub returns-in-Ok-clause-same : goal.returns-in-Ok-clause-same
 returns-in-Ok-clause-same g c clean other owner cs was =
@@ -29,9 +38,12 @@ returns-in-Err-clause-spares g c owner cs was = c.in-Err.ensures.spares owner cs
 
 pub returns-in-Ok-clause-ok : goal.returns-in-Ok-clause-ok
 returns-in-Ok-clause-ok g c clean owner cs was =
-    subst (λ o. Appends (g.W.Write.contents c.args.writer.now) (g.W.Write.contents c.export.new.writer) (exported c.args.what o cs)) was.own (c.in-Ok.ensures.ok clean owner cs was.shows)
+    let desk = c.args.self.now in
+    subst (Appends (g.W.Write.contents c.args.writer.now) (g.W.Write.contents c.export.new.writer)) (of_desk c.args.what desk.owner owner desk.figures.stamp cs was.own was.figures.stamp)
+    (c.in-Ok.ensures.ok clean owner cs was.shows)
 
 pub returns-in-Err-clause-beginning : goal.returns-in-Err-clause-beginning
 returns-in-Err-clause-beginning g c clean owner cs was =
-    subst (λ o. AppendsBeginning (g.W.Write.contents c.args.writer.now) (g.W.Write.contents c.export.new.writer) (exported c.args.what o cs)) was.own
+    let desk = c.args.self.now in
+    subst (AppendsBeginning (g.W.Write.contents c.args.writer.now) (g.W.Write.contents c.export.new.writer)) (of_desk c.args.what desk.owner owner desk.figures.stamp cs was.own was.figures.stamp)
     (c.in-Err.ensures.beginning clean owner cs was.shows)

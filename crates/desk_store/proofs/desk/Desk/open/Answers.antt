@@ -11,7 +11,7 @@ use Rattle.store_schema.specs.Tables.{desk_schema, first_schema}
 use Rattle.desk_store.specs.Headline.{HoldsLives}
 use Rattle.desk_store.proofs.OpeningLemmas.{still_leaves}
 use Rattle.desk_store.proofs.ReopeningLemmas.{no_failure, no_version, not_missing}
-use Rattle.desk_store.proofs.SizeLemmas.{unknown_are_right}
+use Rattle.desk_store.proofs.FigureLemmas.{stamp_is_current}
 use Rattle.desk_store.proofs.VersionLemmas.{first_fails, second_fails, second_spared}
 use Rattle.desk_store.proofs.desk.Desk.open.Goals as goal
 
@@ -19,12 +19,13 @@ pub returns-in-Ok-clause-ok : goal.returns-in-Ok-clause-ok
 returns-in-Ok-clause-ok g c clean owner cs history shows left =
     let old = state g.S.Store c.args.conn in
     let new = state g.S.Store c.bring_up.new.conn in
+    let own = c.in-Ok.ensures.own clean owner cs (inr shows) in
     record {
       usable = refl;
       history = history;
       shows = c.in-Ok.ensures.second clean owner cs shows;
-      own = c.in-Ok.ensures.owner clean owner cs (inr shows);
-      sizes = unknown_are_right c.unknown.result (tables owner cs) c.unknown.ensures;
+      own = own.0;
+      figures = stamp_is_current c.of_stamp.result (tables owner cs) c.in-Ok.own.stamp c.of_stamp.ensures.told c.of_stamp.ensures.unknown own.1;
       person = tt;
       left = still_leaves (λ db. HoldsHistory db owner cs) old new (second_spared old owner cs new c.in-Ok.ensures.survives shows) left;
     }
@@ -32,12 +33,13 @@ returns-in-Ok-clause-ok g c clean owner cs history shows left =
 pub returns-in-Ok-clause-migrated : goal.returns-in-Ok-clause-migrated
 returns-in-Ok-clause-migrated g c clean owner cs history early =
     let made = c.in-Ok.ensures.first clean owner cs early in
+    let own = c.in-Ok.ensures.own clean owner cs (inl early) in
     record {
       usable = refl;
       history = history;
       shows = made.1;
-      own = c.in-Ok.ensures.owner clean owner cs (inl early);
-      sizes = unknown_are_right c.unknown.result (tables owner cs) c.unknown.ensures;
+      own = own.0;
+      figures = stamp_is_current c.of_stamp.result (tables owner cs) c.in-Ok.own.stamp c.of_stamp.ensures.told c.of_stamp.ensures.unknown own.1;
       person = tt;
       left = c.stop_leaves_what_is_shown-in-Ok.ensures desk_schema (rows_of owner cs) made.1 made.0;
     }

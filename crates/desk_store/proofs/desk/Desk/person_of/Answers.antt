@@ -10,8 +10,8 @@ pub returns-clause-reads : goal.returns-clause-reads
 returns-clause-reads g c =
     let it = c.in-Ok.ensures in
     record {
-      same = λ clean other owner cs was. with_person g.S.Store c.answer_question.new.self c.copied.result owner cs
-          (found_is_one owner cs c.args.token.now c.in-Ok.found c.copied.result was.history (it.shown clean owner cs was) (search rules))
+      same = λ clean other owner cs was. with_person g.S.Store c.answer_question.new.self c.copy_of.result owner cs
+          (found_is_one owner cs c.args.token.now c.in-Ok.found c.copy_of.result was.history (it.shown clean owner cs was) (search rules))
           (it.reads.same clean (λ is. absurd (cc)) owner cs was);
       spares = it.reads.spares;
       poisons = search rules;

@@ -1,4 +1,4 @@
-use Rattle.std.proofs.Common.{sym, subst, ◌≡◌, Ok, Err, rules}
+use Rattle.std.proofs.Common.{sym, subst, Ok, Err, rules}
 use Rattle.desk_history.specs.People.{people}
 use Rattle.desk_history.specs.Shown.{IsGiven, IsShown, request_for}
 use Rattle.store_reads.specs.Failures.{IsFailure}

@@ -2,9 +2,9 @@ use Rattle.std.proofs.Common.{rules}
 use Rattle.desk_store.proofs.desk.Desk.view.Goals as goal
 
 pub returns-in-Ok-clause-shown : goal.returns-in-Ok-clause-shown
-returns-in-Ok-clause-shown g c clean owner cs was = (c.in-Ok.ensures.shown clean owner cs was was.sizes).0
+returns-in-Ok-clause-shown g c clean owner cs was = (c.in-Ok.ensures.shown clean owner cs was was.figures).0
 
--- the sizes that were counted are right of the same history
+-- the figures that were counted are right of the same history
 pub returns-in-Ok-clause-reads : goal.returns-in-Ok-clause-reads
 returns-in-Ok-clause-reads g c = record {
   same = λ clean other owner cs was.
@@ -14,7 +14,7 @@ returns-in-Ok-clause-reads g c = record {
         history = it.history;
         shows = it.shows;
         own = it.own;
-        sizes = (c.in-Ok.ensures.shown clean owner cs was was.sizes).1;
+        figures = (c.in-Ok.ensures.shown clean owner cs was was.figures).1;
         person = it.person;
         left = it.left;
       };

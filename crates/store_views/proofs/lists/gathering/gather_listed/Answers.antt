@@ -28,4 +28,12 @@ loop-digest-preserved g c =
       puts_next (λ x. (x.kind ≡ c.args.kind) × IsTrue (is_among keys x.digest)) start was is c.in_ok-row.row c.in_ok-push_some.ensures
           (is_listing_found c.args.kind keys key
           (is_key keys c.loop-digest.digest-index key c.loop-digest-test.true c.digest-item.is) c.in_ok-row.row did.only) before.3,
+      λ clean inside _.
+          let late : HasCleanDisk mid = omega (arith, did.survives.clean, clean) in
+          (did.inside clean (before.2 late inside).kept.inside).0,
     )
+
+pub returns-clause-inside : goal.returns-clause-inside
+returns-clause-inside g c some clean inside =
+    let stood = c.loop-digest.invariant in
+    (stood.4 clean inside (omega (arith, some, c.loop-digest-test.false)), (stood.2 clean inside).kept.inside)

@@ -1,4 +1,4 @@
-use Rattle.std.proofs.Common.{◌≡◌, take, IsTrue}
+use Rattle.std.proofs.Common.{◌≡◌, ◌<◌, take, IsTrue}
 use Rattle.sqlite.specs.Held.{state}
 use Rattle.sqlite.specs.State.{HasCleanDisk, Survives}
 use Rattle.desk_history.specs.Calls.{is_among}
@@ -14,3 +14,4 @@ invariant-loop-digest g l =
     × (HasCleanDisk now → IsTrue first.in_transaction
     → ReadsTables (Gathers (listings_of l.fn.kind) (take l.digest-index l.digests) l.fn.rows.items l.rows.items) first now)
     × PutsOnly (λ x. (x.kind ≡ l.fn.kind) × IsTrue (is_among l.digests x.digest)) l.fn.rows.items l.rows.items
+    × (HasCleanDisk now → IsTrue first.in_transaction → 0 < l.digest-index → IsTrue now.is_open)

@@ -30,3 +30,13 @@ returns-clause-value g c clean inside =
 pub returns-clause-only : goal.returns-clause-only
 returns-clause-only g c =
     only_listed (entry_keys c.args.listed) c.new-rows.result.items c.gather_listed.new.rows.items c.gather_listed-2.new.rows.items c.new-rows.ensures.items c.in_ok-gather_listed.ensures.only c.in_ok-gather_listed-2.ensures.only
+
+pub returns-clause-inside : goal.returns-clause-inside
+returns-clause-inside g c some clean inside =
+    let mid = state g.S.Store c.gather_listed.new.tx.conn.now in
+    let one = c.in_ok-gather_listed.ensures in
+    let two = c.in_ok-gather_listed-2.ensures in
+    let late : HasCleanDisk mid = omega (arith, two.survives.clean, clean) in
+    let a = one.inside some late inside in
+    let b = two.value clean a.1 in
+    (b.kept.is_open a.0, b.kept.inside)

@@ -40,3 +40,20 @@ returns-clause-value g c clean inside =
           (gathered_revoked kinds.Certificate c.args.revoked.certificates.now c.new-certificates.result.items c.gather_revoked-2.new.rows.items c.new-certificates.ensures.items t (e.tells t sees2))
           (gathered_components c.args.named.now c.new-components.result.items c.gather_components.new.rows.items c.new-components.ensures.items t (f.tells t sees3));
     }
+
+pub returns-clause-inside : goal.returns-clause-inside
+returns-clause-inside g c some clean inside =
+    let at1 = state g.S.Store c.listings.new.tx.conn.now in
+    let at2 = state g.S.Store c.gather_revoked.new.tx.conn.now in
+    let at3 = state g.S.Store c.gather_revoked-2.new.tx.conn.now in
+    let images = c.in_ok-gather_revoked.ensures in
+    let certificates = c.in_ok-gather_revoked-2.ensures in
+    let components = c.in_ok-gather_components.ensures in
+    let clean3 : HasCleanDisk at3 = omega (arith, components.survives.clean, clean) in
+    let clean2 : HasCleanDisk at2 = omega (arith, certificates.survives.clean, clean3) in
+    let clean1 : HasCleanDisk at1 = omega (arith, images.survives.clean, clean2) in
+    let a = c.in_ok-listed.ensures.inside some clean1 inside in
+    let d = images.value clean2 a.1 in
+    let e = certificates.value clean3 d.kept.inside in
+    let f = components.value clean e.kept.inside in
+    (f.kept.is_open (e.kept.is_open (d.kept.is_open a.0)), f.kept.inside)
