@@ -43,7 +43,7 @@ for crate in $(below); do
     grep "^$crate:" "$root/crates.txt" >> "$room/crates.txt"
 done
 cp "$root/bench/desk/main.rt.txt" "$room/crates/desk_bench/src/main.rt"
-echo 'desk_bench: cli_opening desk_store desk_rules desk_texts sbat desk_bytes sqlite' >> "$room/crates.txt"
+echo 'desk_bench: cli_opening desk_store desk_rules desk_texts pe_image sbat desk_bytes sqlite' >> "$room/crates.txt"
 (cd "$room/crates/desk_bench" && rt run > "$room/build.log" 2>&1) || true
 program="$room/crates/desk_bench/out/desk_bench"
 test -x "$program" || { tail -20 "$room/build.log" >&2; exit 1; }

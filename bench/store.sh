@@ -7,13 +7,13 @@ set -eu
 root=$(CDPATH='' cd -- "$(dirname -- "$(readlink -f -- "$0")")/.." && pwd -P)
 room=${STORE_BENCH_ROOM:-${TMPDIR:-/tmp}/desk_store_bench}
 mkdir -p "$room/crates/store_bench"
-for crate in desk_bytes sbat desk_texts desk_history store_sql store_schema; do
+for crate in desk_bytes pe_image sbat desk_texts desk_history store_sql store_schema; do
     mkdir -p "$room/crates/$crate"
     (cd "$root/crates/$crate" && tar -cf - --exclude=out --exclude=must-fail .) | (cd "$room/crates/$crate" && tar -xf -)
 done
 mkdir -p "$room/crates/store_bench/src"
 cp "$root/bench/store/main.rt.txt" "$room/crates/store_bench/src/main.rt"
-grep -E '^(desk_bytes|sbat|desk_texts|desk_history|store_sql|store_schema):' "$root/crates.txt" > "$room/crates.txt"
+grep -E '^(desk_bytes|pe_image|sbat|desk_texts|desk_history|store_sql|store_schema):' "$root/crates.txt" > "$room/crates.txt"
 echo 'store_bench: store_schema store_sql sqlite' >> "$room/crates.txt"
 (cd "$room/crates/store_bench" && rt run > "$room/build.log" 2>&1) || true
 program="$room/crates/store_bench/out/store_bench"

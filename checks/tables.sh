@@ -17,7 +17,7 @@ else
     trap 'exit 1' HUP INT TERM
 fi
 mkdir -p "$room/crates"
-below="desk_bytes sbat desk_texts desk_history store_sql store_schema store_writes"
+below="desk_bytes pe_image sbat desk_texts desk_history store_sql store_schema store_writes"
 : > "$room/crates.txt"
 for crate in $below; do
     rm -rf "$room/crates/$crate"
