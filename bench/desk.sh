@@ -9,17 +9,23 @@
 #            shell, which commits the same rows one call at a time under WAL and synchronous=FULL
 #   open     beside the shell's PRAGMA integrity_check of the same file
 #   memory   the most that the process had
-# The program is built in a room of its own ($DESK_BENCH_ROOM, kept between runs) from copies of the
-# crates and their build outputs; the program alone took 21 processor minutes. The desks are in
+# The program is built from copies of the crates and their build outputs, in a room of its own; if
+# $DESK_BENCH_ROOM names a folder, that is the room, and it is kept for the next run. The program
+# alone took 21 processor minutes. The desks are in
 # $DESK_BENCH_DISK, a folder on the disk to be measured (TMPDIR or /tmp). A folder $DESK_BENCH_KEPT
 # keeps the filled desks for the next run.
 set -eu
-root=$(CDPATH='' cd -- "$(dirname -- "$(readlink -f -- "$0")")/.." && pwd -P)
-room=${DESK_BENCH_ROOM:-${TMPDIR:-/tmp}/desk_bench}
+. "$(dirname -- "$(readlink -f -- "$0")")/../checks/common.sh"
+needs python3 rt sqlite3
+if [ -n "${DESK_BENCH_ROOM:-}" ]; then
+    at=$DESK_BENCH_ROOM
+else
+    enter_room
+    at=$room
+fi
 disk=${DESK_BENCH_DISK:-${TMPDIR:-/tmp}}
-command -v sqlite3 > /dev/null || { echo 'bench/desk.sh: sqlite3 is needed' >&2; exit 1; }
-mkdir -p "$room/crates/desk_bench/src"
-: > "$room/crates.txt"
+mkdir -p "$at/crates/desk_bench/src"
+: > "$at/crates.txt"
 # The crates that these two depend on, at any depth.
 below() {
     awk '
@@ -35,18 +41,22 @@ below() {
     ' "$root/crates.txt"
 }
 for crate in $(below); do
-    mkdir -p "$room/crates/$crate"
-    (cd "$root/crates/$crate" && tar -cf - --exclude=out --exclude=must-fail .) | (cd "$room/crates/$crate" && tar -xf -)
-    if [ -d "$root/crates/$crate/out" ] && [ ! -d "$room/crates/$crate/out" ]; then
-        cp -a "$root/crates/$crate/out" "$room/crates/$crate/"
+    mkdir -p "$at/crates/$crate"
+    # (a file that is gone here goes there, too)
+    rm -rf "$at/crates/$crate/src" "$at/crates/$crate/specs" "$at/crates/$crate/proofs"
+    (cd "$root/crates/$crate" && tar -cf - --exclude=out --exclude=must-fail .) | (cd "$at/crates/$crate" && tar -xf -)
+    if [ -d "$root/crates/$crate/out" ] && [ ! -d "$at/crates/$crate/out" ]; then
+        cp -a "$root/crates/$crate/out" "$at/crates/$crate/"
     fi
-    grep "^$crate:" "$root/crates.txt" >> "$room/crates.txt"
+    grep "^$crate:" "$root/crates.txt" >> "$at/crates.txt"
 done
-cp "$root/bench/desk/main.rt.txt" "$room/crates/desk_bench/src/main.rt"
-echo 'desk_bench: cli_opening desk_store desk_rules desk_texts pe_image sbat desk_bytes sqlite' >> "$room/crates.txt"
-(cd "$room/crates/desk_bench" && rt run > "$room/build.log" 2>&1) || true
-program="$room/crates/desk_bench/out/desk_bench"
-test -x "$program" || { tail -20 "$room/build.log" >&2; exit 1; }
+cp "$root/bench/desk/main.rt.txt" "$at/crates/desk_bench/src/main.rt"
+echo 'desk_bench: cli_opening desk_store desk_rules desk_texts pe_image sbat desk_bytes sqlite' >> "$at/crates.txt"
+# The run itself has no words, and fails; what counts is that a program was built now.
+program=$at/crates/desk_bench/out/desk_bench
+rm -f "$program" "$program.stamp"
+(cd "$at/crates/desk_bench" && rt run > "$at/build.log" 2>&1) || :
+[ -x "$program" ] || fail "no program: $(tail -n 20 "$at/build.log")"
 # As ./desk runs the program, unless the variable is set: with `glibc.malloc.hugetlb=0` it is
 # without large pages.
 GLIBC_TUNABLES=${GLIBC_TUNABLES:-glibc.malloc.hugetlb=1}
@@ -56,4 +66,4 @@ if [ "${1:-}" = instructions ]; then
     measure=instructions
     shift
 fi
-exec python3 "$root/bench/desk/$measure.py" "$program" "$disk" "$@"
+within 86400 python3 "$root/bench/desk/$measure.py" "$program" "$disk" "$@"

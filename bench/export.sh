@@ -9,15 +9,10 @@
 # the desk's file. Not part of the gate: it needs sqlite3, xxd, python3 and a C compiler, for a
 # malloc that counts.
 set -eu
-root=$(CDPATH='' cd -- "$(dirname -- "$(readlink -f -- "$0")")/.." && pwd -P)
-if [ $# -gt 0 ]; then
-    program=$(readlink -f -- "$1")
-else
-    "$root/desk" --version > /dev/null
-    program=$root/crates/desk/out/desk
-fi
-room=$(mktemp -d)
-trap 'rm -rf "$room"' EXIT
+. "$(dirname -- "$(readlink -f -- "$0")")/../checks/common.sh"
+needs cc python3 sqlite3 xxd
+find_program "$@"
+enter_room
 
 cat > "$room/count.c" << 'C'
 #define _GNU_SOURCE

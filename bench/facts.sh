@@ -8,11 +8,10 @@
 # file and 8 MiB. Not part of the gate.
 set -eu
 other=${1:-}
-root=$(CDPATH='' cd -- "$(dirname -- "$(readlink -f -- "$0")")/.." && pwd -P)
-"$root/desk" --version > /dev/null
-program=$root/crates/desk/out/desk
-room=$(mktemp -d)
-trap 'rm -rf "$room"' EXIT
+. "$(dirname -- "$(readlink -f -- "$0")")/../checks/common.sh"
+needs openssl python3 sha256sum
+find_program
+enter_room
 python3 - "$room/image.efi" << 'PYTHON'
 import random
 import struct

@@ -12,14 +12,7 @@
 # request or a proposal more bytes of the file than packaging/README.md says. Not part of the gate:
 # it needs python3 and sqlite3, and takes two minutes.
 set -eu
-root=$(CDPATH='' cd -- "$(dirname -- "$(readlink -f -- "$0")")/.." && pwd -P)
-if [ -n "${DESK_BENCH_PROGRAM:-}" ]; then
-    program=$(readlink -f -- "$DESK_BENCH_PROGRAM")
-else
-    "$root/desk" --version > /dev/null
-    program=$root/crates/desk/out/desk
-fi
-for tool in python3 sqlite3; do
-    command -v "$tool" > /dev/null || { echo "bench/growth.sh: $tool is needed" >&2; exit 1; }
-done
+. "$(dirname -- "$(readlink -f -- "$0")")/../checks/common.sh"
+needs python3 sqlite3
+find_program ${DESK_BENCH_PROGRAM:+"$DESK_BENCH_PROGRAM"}
 PYTHONPATH=$root/checks/requests exec python3 -B "$root/bench/growth/growth.py" "$program" "$@"

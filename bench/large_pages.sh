@@ -6,15 +6,10 @@
 # that always or never gives large pages shows no difference. Not part of the gate: it needs sqlite3
 # and python3.
 set -eu
-root=$(CDPATH='' cd -- "$(dirname -- "$(readlink -f -- "$0")")/.." && pwd -P)
-if [ $# -gt 0 ]; then
-    program=$(readlink -f -- "$1")
-else
-    "$root/desk" --version > /dev/null
-    program=$root/crates/desk/out/desk
-fi
-room=$(mktemp -d)
-trap 'rm -rf "$room"' EXIT
+. "$(dirname -- "$(readlink -f -- "$0")")/../checks/common.sh"
+needs python3 sqlite3
+find_program "$@"
+enter_room
 for desk in small large; do
     "$program" init "$room/$desk.db" 00112233-4455-6677-8899-aabbccddeeff
 done

@@ -2,9 +2,10 @@
 # Times `desk pack` against `sort -u` followed by `xxd -r -p` on the same lines, in one run.
 # Prints, for 10,000 and 100,000 lines, the least of 7 rounds of each in milliseconds and their ratio.
 set -eu
-root=$(CDPATH='' cd -- "$(dirname -- "$(readlink -f -- "$0")")/.." && pwd -P)
-"$root/desk" --version > /dev/null
-exec python3 - "$root/crates/desk/out/desk" <<'PYTHON'
+. "$(dirname -- "$(readlink -f -- "$0")")/../checks/common.sh"
+needs python3 sort xxd
+find_program
+exec python3 - "$program" <<'PYTHON'
 import hashlib, os, subprocess, sys, tempfile, time
 
 DESK = sys.argv[1]

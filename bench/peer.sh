@@ -9,10 +9,10 @@
 # back, and all pages are in memory. Not part of the gate: it needs a C compiler and SQLite's
 # library with its header (Debian: libsqlite3-dev).
 set -eu
-root=$(CDPATH='' cd -- "$(dirname -- "$(readlink -f -- "$0")")/.." && pwd -P)
+. "$(dirname -- "$(readlink -f -- "$0")")/../checks/common.sh"
+needs cc
 [ $# -gt 0 ] || set -- 1000 10000 100000
-room=$(mktemp -d)
-trap 'rm -rf "$room"' EXIT
+enter_room
 cc -O2 -Wall -Wextra -o "$room/peer" "$root/bench/desk/peer.c" -lsqlite3
 for size in "$@"; do
     "$room/peer" fill "$room/$size.db" "$size"

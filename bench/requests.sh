@@ -9,14 +9,7 @@
 # 16,000 line ends takes more than three times the instructions of one with a field as long. Not part
 # of the gate: it needs valgrind and python3. The three sizes took two minutes of one processor.
 set -eu
-root=$(CDPATH='' cd -- "$(dirname -- "$(readlink -f -- "$0")")/.." && pwd -P)
-if [ -n "${DESK_BENCH_PROGRAM:-}" ]; then
-    program=$(readlink -f -- "$DESK_BENCH_PROGRAM")
-else
-    "$root/desk" --version > /dev/null
-    program=$root/crates/desk/out/desk
-fi
-for tool in callgrind_control python3 valgrind; do
-    command -v "$tool" > /dev/null || { echo "bench/requests.sh: $tool is needed" >&2; exit 1; }
-done
+. "$(dirname -- "$(readlink -f -- "$0")")/../checks/common.sh"
+needs callgrind_control python3 valgrind
+find_program ${DESK_BENCH_PROGRAM:+"$DESK_BENCH_PROGRAM"}
 PYTHONPATH=$root/checks/requests exec python3 -B "$root/bench/requests/instructions.py" "$program" "$@"

@@ -16,24 +16,16 @@
 # from 20000 on, and ends after half an hour at most. Not part of the gate: it needs python3,
 # sqlite3 and xxd.
 set -eu
-root=$(CDPATH='' cd -- "$(dirname -- "$(readlink -f -- "$0")")/.." && pwd -P)
-if [ $# -gt 0 ]; then
-    program=$(readlink -f -- "$1")
-else
-    "$root/desk" --version > /dev/null
-    program=$root/crates/desk/out/desk
-fi
-for tool in python3 sqlite3 xxd; do
-    command -v "$tool" > /dev/null || { echo "bench/serve.sh: $tool is needed" >&2; exit 1; }
-done
-room=$(mktemp -d)
+. "$(dirname -- "$(readlink -f -- "$0")")/../checks/common.sh"
+needs python3 sqlite3 xxd
+find_program "$@"
+enter_room
 # The process that is being timed ends with this script.
-leave() {
+leave_serving() {
     if [ -s "$room/live" ]; then kill "$(cat "$room/live")" 2> /dev/null || :; fi
-    rm -rf "$room"
+    leave
 }
-trap leave EXIT
-trap 'exit 1' HUP INT TERM
+trap leave_serving EXIT
 
 # ---- a desk of two officers, and an image of 128 MiB: its one section is as long as the file allows
 
