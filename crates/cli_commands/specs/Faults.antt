@@ -3,6 +3,7 @@ use Rattle.std.specs.Prelude.{◌≡◌, ◌⊎◌}
 use Rattle.desk_bytes.specs.declared.refusal.Refusal.{Refusal}
 use Rattle.desk_bytes.specs.declared.refusal.Refusal.TheVariants as refusals
 use Rattle.desk_store.specs.Desks.{IsCallRefusal}
+use Rattle.desk_store.specs.Impacts.{IsImpactRefusal}
 use Rattle.store_exports.specs.Faults.{IsExportFailure}
 
 -- the refusals that stop a call of the console, or its line
@@ -12,3 +13,7 @@ IsAddingRefusal refusal = (refusal ≡ refusals.Reopen) ⊎ (IsCallRefusal refus
 -- the refusals that stop an export
 abbrev pub IsWritingRefusal : Refusal → Type 0
 IsWritingRefusal refusal = (refusal ≡ refusals.Reopen) ⊎ IsExportFailure refusal
+
+-- the refusals that stop an impact, or its lines
+abbrev pub IsForetellingRefusal : Refusal → Type 0
+IsForetellingRefusal refusal = (refusal ≡ refusals.Reopen) ⊎ (IsImpactRefusal refusal ⊎ (refusal ≡ refusals.Write))

@@ -1,5 +1,12 @@
 -- The lines of a subcommand over a desk's file, and the outcomes of its work.
-use Rattle.std.specs.Prelude.{ℕ, List, [], ◌++◌, Option, None, Some, codes}
+use Rattle.std.specs.Prelude.{◌≡◌, ℕ, List, [], ◌++◌, Option, None, Some, Result, Ok, Err, codes, if◌then◌else◌, map}
+use Rattle.std.specs.List.{flat_map, list_any}
+use Rattle.desk_bytes.specs.declared.refusal.Refusal.{Refusal}
+use Rattle.desk_texts.specs.declared.caller.Caller.TheVariants as callers
+use Rattle.desk_history.specs.Impact.{Impact}
+use Rattle.desk_history.specs.ImpactShown.{impact_for, shown_barred}
+use Rattle.desk_history.specs.declared.impact.ShownImpact.{ShownImpact}
+use Rattle.cli_lines.specs.ImpactLines.{barred_line, dbx_line}
 use Rattle.desk_history.specs.Calls.{History}
 use Rattle.desk_history.specs.Runs.{answer, reply_in}
 use Rattle.desk_history.specs.declared.finding.Verdict.{Verdict}
@@ -35,3 +42,28 @@ outcome_of DbxDigest = Refused
 outcome_of DbxCertificate = Refused
 outcome_of NotListed = Refused
 outcome_of (Sbat below) = Refused
+
+-- own: the impact refuses the Confirm if it would bar an image that is allowed now
+abbrev pub impact_outcome : Impact → Outcome
+impact_outcome w = if list_any (λ b. b.allowed) w.bars then Refused else Done
+
+-- the same of an impact as it is shown
+abbrev pub shown_outcome : ShownImpact → Outcome
+shown_outcome shown = if list_any (λ b. b.is_allowed) shown.bars.items then Refused else Done
+
+-- the lines of an impact, or none if it is refused
+abbrev pub lines_of_impact : Result Impact Refusal → List ℕ
+lines_of_impact (Ok w) = flat_map barred_line (map shown_barred w.bars) ++ dbx_line w.dbx
+lines_of_impact (Err refusal) = []
+
+-- own: the lines that a desk of this history writes for the impact of a proposal
+abbrev pub foretold_lines : ℕ → List ℕ → History → List ℕ
+foretold_lines k owner cs = lines_of_impact (impact_for cs callers.Console k)
+
+-- the impact of the proposal has this outcome
+abbrev pub Foretells : ℕ → Outcome → List ℕ → History → Type 0
+Foretells k outcome owner cs = (w : Impact) × (impact_for cs callers.Console k ≡ Ok w) × (outcome ≡ impact_outcome w)
+
+-- it is refused so
+abbrev pub RefusesImpact : ℕ → Refusal → List ℕ → History → Type 0
+RefusesImpact k refusal owner cs = impact_for cs callers.Console k ≡ Err refusal

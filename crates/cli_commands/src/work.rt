@@ -9,7 +9,7 @@ ghost use Rattle.desk_history.specs.Verdicts as verdicts;
 ghost use Rattle.desk_history.specs.declared.finding.Verdict.{Verdict};
 ghost use Rattle.cli_lines.specs.Faults.{IsRow, row_of};
 ghost use Rattle.cli_lines.specs.VerdictLines.{verdict_line};
-ghost use Rattle.desk_rules.specs.Decisions.{called};
+ghost use Rattle.desk_history.specs.Called.{called};
 ghost use Rattle.store_sql.specs.States.{Spares};
 ghost use Rattle.desk_store.specs.Desks.{ForEachShown, KeepsDesk, MayStop, Replies};
 ghost use Rattle.desk_store.specs.Exports.{SparesDesk, Writes, WritesBeginning};

@@ -9,7 +9,7 @@ use Rattle.cli_files.specs.Faults.{IsImageFault, IsJudgingFault, IsUnreadRefusal
 use Rattle.cli_opening.specs.Faults.{IsOfOpening, IsOpeningRefusal}
 use Rattle.desk_history.specs.DecisionRefusals.{may_answer}
 use Rattle.cli_lines.specs.Faults.{IsRow, of_facts}
-use Rattle.cli_commands.specs.Faults.{IsAddingRefusal, IsWritingRefusal}
+use Rattle.cli_commands.specs.Faults.{IsAddingRefusal, IsForetellingRefusal, IsWritingRefusal}
 use Rattle.cli_lines.specs.declared.ending.Outcome.{Outcome}
 
 -- what any work may end with
@@ -26,6 +26,9 @@ adding_apart refusal (inr (inr w)) opening = told_apart refusal (inr w) opening
 
 pub writing_apart : {X : Type 0} (refusal : Refusal) → IsWritingRefusal refusal → IsOfOpening refusal → X
 writing_apart refusal writing opening = grind arith
+
+pub foretelling_apart : {X : Type 0} (refusal : Refusal) → IsForetellingRefusal refusal → IsOfOpening refusal → X
+foretelling_apart refusal foretelling opening = grind arith
 
 pub unread_apart : {X : Type 0} (refusal : Refusal) → IsUnreadRefusal refusal → IsOfOpening refusal → X
 unread_apart refusal unread opening = grind arith

@@ -24,8 +24,8 @@ use Rattle.desk_store.specs.declared.desk.Desk.{Desk}
 use Rattle.desk_texts.specs.declared.facts.Facts.{Facts}
 use Rattle.cli_opening.specs.Closing.{Ends}
 use Rattle.cli_opening.specs.Opening.{IsMade}
-use Rattle.cli_files.specs.Works.{Exports, Judges, JudgesImage, MakesDesk, Reads, StopsVerdict}
-use Rattle.cli_commands.specs.Works.{outcome_of}
+use Rattle.cli_files.specs.Works.{Exports, Judges, JudgesImage, MakesDesk, Reads, StopsVerdict, WritesImpact}
+use Rattle.cli_commands.specs.Works.{Foretells, RefusesImpact, foretold_lines, outcome_of}
 use Rattle.cli_lines.specs.declared.ending.Ending.{Ending}
 use Rattle.cli_lines.specs.declared.ending.Outcome.{Outcome}
 
@@ -90,6 +90,25 @@ module _ {D : Type 0} (g : Ghosts D) (desk left : Desk (FileStore D g)) (ending 
       → OnOk w (ForEachShown over_files desk (Writes before after (exported what)))
       × OnErr w (ForEachShown over_files desk (WritesBeginning before after (exported what))) in
       reads P same spares (λ clean. (ok clean, beginning clean)) ended
+
+  -- the impact of a proposal
+  pub foretells : (k : ℕ) (before after : Option (List ℕ))
+      → (HasCleanDisk (file_state left.conn) → work ≢ Err (row_of refusals.Store) → KeepsDesk over_files desk left)
+      → SparesDesk over_files desk left
+      → (HasCleanDisk (file_state left.conn) → OnOk work (ForEachShown over_files desk (Writes before after (foretold_lines k))))
+      → (HasCleanDisk (file_state left.conn) → IfOk work (λ outcome. ForEachShown over_files desk (Foretells k outcome)))
+      → (HasCleanDisk (file_state left.conn) → OnErr work (ForEachShown over_files desk (WritesBeginning before after (foretold_lines k))))
+      → (HasCleanDisk (file_state left.conn) → IfErr work (λ fault. fault ≢ row_of refusals.NoMemory → fault ≢ row_of refusals.Store
+      → fault ≢ row_of refusals.Write → ForEachShown over_files desk (RefusesImpact k fault.refusal)))
+      → Ends g left ending → WritesImpact g k before after ending desk
+  foretells k before after same spares ok exact beginning refused ended =
+      let P : Result Outcome Fault → Desk (FileStore D g) → Type 0 = λ w l. HasCleanDisk (file_state l.conn)
+      → OnOk w (ForEachShown over_files desk (Writes before after (foretold_lines k)))
+      × IfOk w (λ outcome. ForEachShown over_files desk (Foretells k outcome))
+      × OnErr w (ForEachShown over_files desk (WritesBeginning before after (foretold_lines k)))
+      × IfErr w (λ fault. fault ≢ row_of refusals.NoMemory → fault ≢ row_of refusals.Store
+      → fault ≢ row_of refusals.Write → ForEachShown over_files desk (RefusesImpact k fault.refusal)) in
+      reads P same spares (λ clean. (ok clean, exact clean, beginning clean, refused clean)) ended
 
   -- a verdict on an image
   pub judges : (before after : Option (List ℕ))

@@ -15,7 +15,7 @@ use Rattle.desk_history.specs.declared.finding.Verdict.{Verdict}
 use Rattle.cli_lines.specs.Faults.{row_of}
 use Rattle.cli_lines.specs.VerdictLines.{verdict_line}
 use Rattle.cli_lines.specs.declared.fault.Fault.{Fault}
-use Rattle.desk_rules.specs.Decisions.{called}
+use Rattle.desk_history.specs.Called.{called}
 use Rattle.desk_service.specs.ImageFacts.{IsFactsOf}
 use Rattle.desk_store.specs.Desks.{ForEachShown, KeepsDesk, MayStop, Replies}
 use Rattle.desk_store.specs.Exports.{SparesDesk, Writes, WritesBeginning}
@@ -28,7 +28,7 @@ use Rattle.desk_texts.specs.declared.facts.Facts.{Facts}
 use Rattle.desk_texts.specs.declared.reply.Reply.{Reply}
 use Rattle.cli_opening.specs.Closing.{Ends}
 use Rattle.cli_opening.specs.Opening.{IsMade}
-use Rattle.cli_commands.specs.Works.{outcome_of, reply_line}
+use Rattle.cli_commands.specs.Works.{Foretells, RefusesImpact, foretold_lines, outcome_of, reply_line}
 use Rattle.cli_lines.specs.declared.ending.Ending.{Ending}
 use Rattle.cli_lines.specs.declared.ending.Outcome.{Outcome}
 
@@ -82,6 +82,16 @@ module _ {D : Type 0} (g : Ghosts D) where
   abbrev pub Judges : Option (List ℕ) → Option (List ℕ) → Ending → Desk (FileStore D g) → Type 0
   Judges before after ending desk = Reads desk ending (λ left. IfOk ending.work (JudgesImage over_files desk left before after)
       × IfErr ending.work (StopsVerdict over_files desk left before after))
+
+  -- the impact of the proposal of this number was written, or a prefix of it, and the outcome is its
+  -- own; or the refusal is, except for the device's and the writer's
+  abbrev pub WritesImpact : ℕ → Option (List ℕ) → Option (List ℕ) → Ending → Desk (FileStore D g) → Type 0
+  WritesImpact k before after ending desk = Reads desk ending (λ left. HasCleanDisk (file_state left.conn)
+      → OnOk ending.work (ForEachShown over_files desk (Writes before after (foretold_lines k)))
+      × IfOk ending.work (λ outcome. ForEachShown over_files desk (Foretells k outcome))
+      × OnErr ending.work (ForEachShown over_files desk (WritesBeginning before after (foretold_lines k)))
+      × IfErr ending.work (λ fault. fault ≢ row_of refusals.NoMemory → fault ≢ row_of refusals.Store
+      → fault ≢ row_of refusals.Write → ForEachShown over_files desk (RefusesImpact k fault.refusal)))
 
   -- the desk answered a call of the console: the line of its reply was written, a stop leaves the
   -- history before the call or the one after it, and the desk is closed

@@ -2,7 +2,9 @@
 #![tactic(auto)]
 
 mod file;
+mod foretelling;
 mod working;
 
 pub use file::{read_file, read_image};
+pub use foretelling::foretell_from;
 pub use working::{add_person, export_from, judge_image, make_desk};

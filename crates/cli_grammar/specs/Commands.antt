@@ -32,9 +32,10 @@ bare_app = on_top (λ s. record s {
 -- with the subcommands that make and keep a desk
 abbrev pub with_keeping : App → App
 with_keeping app =
-    with_subcommand (with_subcommand (with_subcommand app
+    with_subcommand (with_subcommand (with_subcommand (with_subcommand app
     (subcommand_shape (codes "init") 2))
     (subcommand_shape (codes "person") 4))
+    (subcommand_shape (codes "enrol") 4))
     (subcommand_shape (codes "minutes") 1)
 
 -- with the subcommands that take requests
@@ -51,6 +52,10 @@ with_images app =
     (subcommand_shape (codes "facts") 1))
     (subcommand_shape (codes "ranges") 1))
     (subcommand_shape (codes "verdict") 2)
+
+-- with the subcommand for a proposal
+abbrev pub with_proposals : App → App
+with_proposals app = with_subcommand app (subcommand_shape (codes "impact") 2)
 
 -- with the subcommands that publish a desk's decisions
 abbrev pub with_exports : App → App
@@ -69,4 +74,5 @@ with_lists app =
 
 -- own: the program's command, its subcommands in the order of help
 abbrev pub desk_app : App
-desk_app = with_lists (with_exports (with_images (with_requests (with_keeping bare_app))))
+desk_app =
+    with_lists (with_exports (with_proposals (with_images (with_requests (with_keeping bare_app)))))

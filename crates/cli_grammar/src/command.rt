@@ -115,30 +115,57 @@ fn with_init<'a>(alloc: Global, command: Command<'a>) -> Result<Command<'a>, All
     )
 }
 
+/// The name of a new person.
+fn name<'a>() -> Shown<'a> {
+    Shown {
+        name: "NAME",
+        help: "1 to 32 of a to z, 0 to 9 and -, the first a letter",
+    }
+}
+
+/// The role of a new person.
+fn role<'a>() -> Shown<'a> {
+    Shown {
+        name: "ROLE",
+        help: "submitter, reviewer, officer or signer",
+    }
+}
+
+/// The key of a call.
+fn key<'a>() -> Shown<'a> {
+    Shown {
+        name: "KEY",
+        help: "1 to 64 visible characters of ASCII, a new one for each call",
+    }
+}
+
 /// The command with `person`.
 fn with_person<'a>(alloc: Global, command: Command<'a>) -> Result<Command<'a>, AllocError>
     ensures { IfOk result (λ c. app_of c
         ≡ with_subcommand (app_of command.entry) (subcommand_shape (codes "person") 4)) }
 {
-    let name = Shown {
-        name: "NAME",
-        help: "1 to 32 of a to z, 0 to 9 and -, the first a letter",
-    };
-    let role = Shown {
-        name: "ROLE",
-        help: "submitter, reviewer, officer or signer",
-    };
-    let key = Shown {
-        name: "KEY",
-        help: "1 to 64 visible characters of ASCII, a new one for each call",
-    };
     with_one_more(
         alloc,
         command,
         "person",
         "Adds a person to a desk, with the token on standard input",
         help::PERSON,
-        &[db(), name, role, key],
+        &[db(), name(), role(), key()],
+    )
+}
+
+/// The command with `enrol`.
+fn with_enrol<'a>(alloc: Global, command: Command<'a>) -> Result<Command<'a>, AllocError>
+    ensures { IfOk result (λ c. app_of c
+        ≡ with_subcommand (app_of command.entry) (subcommand_shape (codes "enrol") 4)) }
+{
+    with_one_more(
+        alloc,
+        command,
+        "enrol",
+        "Adds a person to a desk, with the token's SHA-256 on standard input",
+        help::ENROL,
+        &[db(), name(), role(), key()],
     )
 }
 
@@ -148,6 +175,7 @@ fn with_keeping<'a>(alloc: Global, command: Command<'a>) -> Result<Command<'a>, 
 {
     let command = with_init(alloc, command)?;
     let command = with_person(alloc, command)?;
+    let command = with_enrol(alloc, command)?;
     with_one_more(
         alloc,
         command,
@@ -234,6 +262,24 @@ fn with_images<'a>(alloc: Global, command: Command<'a>) -> Result<Command<'a>, A
     with_verdict(alloc, command)
 }
 
+/// The command with the subcommand for a proposal.
+fn with_proposals<'a>(alloc: Global, command: Command<'a>) -> Result<Command<'a>, AllocError>
+    ensures { IfOk result (λ c. app_of c ≡ spec.with_proposals (app_of command.entry)) }
+{
+    let number = Shown {
+        name: "NUMBER",
+        help: "The number of the proposal",
+    };
+    with_one_more(
+        alloc,
+        command,
+        "impact",
+        "Prints the images that the Confirm of a proposal would bar",
+        help::IMPACT,
+        &[db(), number],
+    )
+}
+
 /// The command with the subcommands that publish a desk's decisions.
 fn with_exports<'a>(alloc: Global, command: Command<'a>) -> Result<Command<'a>, AllocError>
     ensures { IfOk result (λ c. app_of c ≡ spec.with_exports (app_of command.entry)) }
@@ -310,6 +356,7 @@ pub fn desk_command<'a>(alloc: Global) -> Result<Command<'a>, AllocError>
     let command = with_keeping(alloc, bare_command(alloc)?)?;
     let command = with_requests(alloc, command)?;
     let command = with_images(alloc, command)?;
+    let command = with_proposals(alloc, command)?;
     let command = with_exports(alloc, command)?;
     with_lists(alloc, command)
 }

@@ -5,7 +5,7 @@
 
 /// The program's version, and the kit that proves it: the line of `rt version`, which
 /// checks/help.sh compares.
-pub const VERSION: &str = "0.1.0 (rattle-kit-13b logic dac8208d650f15bf)";
+pub const VERSION: &str = "0.1.0 (rattle-kit-13f logic dac8208d650f15bf)";
 
 /// Each row begins the subcommand's own help.
 pub const DESK: &str = "\
@@ -16,6 +16,7 @@ Usage: desk <COMMAND>
 Make and keep a desk:
   init     Makes a desk without calls in a file
   person   Adds a person to a desk, with the token on standard input
+  enrol    Adds a person to a desk, with the token's SHA-256 on standard input
   minutes  Prints the accepted calls of a desk
 
 Take requests:
@@ -26,6 +27,9 @@ Look at an image:
   facts    Prints the digests, certificates and SBAT components of an EFI image
   ranges   Prints the ranges of an EFI image that Authenticode hashes
   verdict  Prints whether a desk allows an EFI image, or why it refuses it
+
+Look at a proposal:
+  impact   Prints the images that the Confirm of a proposal would bar
 
 Publish what a desk decided:
   db       Writes what a desk allows as signature lists (db)
@@ -73,6 +77,24 @@ Exit status:
      the token is taken; 36 Full, the desk has as many people as it may;
      43 NotADesk, DB holds no desk; 44 Version, it holds one of another version
   2  an argument or the token is missing or wrong
+  3  a device failed: 45 File, DB is missing or in use";
+
+pub const ENROL: &str = "\
+The first line of standard input is the SHA-256 of the token, 64 hexadecimal
+digits, alone or followed by a space and anything, as sha256sum writes it. So
+nobody but its owner knows the token, which has 16 to 128 visible characters of
+ASCII; a desk can't check that here. KEY names the call, as for `person`, which
+does the same with the token itself. Prints `added NAME`.
+
+Example:
+  desk enrol desk.db olga officer k1 < olga.sha256
+
+Exit status:
+  0  the person is added
+  1  refused: 22 KeyReused, KEY named another call; 35 NameTaken, the name or
+     the token is taken; 36 Full, the desk has as many people as it may;
+     43 NotADesk, DB holds no desk; 44 Version, it holds one of another version
+  2  an argument or the token's SHA-256 is missing or wrong
   3  a device failed: 45 File, DB is missing or in use";
 
 pub const MINUTES: &str = "\
@@ -164,6 +186,26 @@ Exit status:
      holds one of another version
   2  an argument is missing or wrong
   3  a device failed: 45 File, DB is missing or in use, or FILE can't be opened";
+
+pub const IMPACT: &str = "\
+Prints a line for each image that another officer's Confirm of the proposal
+would bar and that isn't barred now: its request, `submitted` or `returned`, the
+request's state, the submitter, `allowed` or `refused` (the verdict now), the
+rule (`dbx-digest`, `dbx-certificate`, or `sbat NAME HAS NEEDS`) and the title,
+separated by tabs. Then `dbx N`: the length of dbx in bytes after the Confirm.
+The desk knows the images that were submitted or returned to it, and no others.
+
+Example:
+  desk impact desk.db 1
+
+Exit status:
+  0  no image that is allowed now would be barred
+  1  at least one would be; or refused, as the Confirm would be: 37
+     NoSuchProposal, 39 ProposalClosed, 30 AlreadyRevoked, 31 NotHigher,
+     32 StampNotLater, 36 Full; or 43 NotADesk, DB holds no desk; 44 Version, it
+     holds one of another version
+  2  an argument is missing or wrong
+  3  a device failed: 45 File, DB is missing or in use";
 
 pub const DB: &str = "\
 Writes signature lists to standard output: one of all digests that are listed,

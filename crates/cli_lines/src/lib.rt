@@ -4,6 +4,7 @@
 mod ending;
 mod facts_lines;
 mod fault;
+mod impact_lines;
 mod list_lines;
 mod printing;
 mod range_lines;
@@ -13,6 +14,7 @@ mod verdict_lines;
 pub use ending::{Ending, Outcome};
 pub use facts_lines::print_facts;
 pub use fault::Fault;
+pub use impact_lines::print_impact;
 pub use list_lines::{MOST_BYTES, print_list};
 pub use printing::{print_fault, put_fault};
 pub use range_lines::print_ranges;

@@ -12,7 +12,7 @@ use Rattle.clap.specs.declared.error.kind.ErrorKind.TheVariants.{OutOfMemory}
 use Rattle.clap.specs.declared.parser.matches.ArgMatches.{ArgMatches}
 use Rattle.clap.proofs.OnLiterals.{clap_on_literals}
 use Rattle.cli_grammar.specs.Commands.{desk_app}
-use Rattle.cli_words.specs.Lines.{ReadsWords, IsPlainWord, Line, Spells, Takes, answer, db, dbx, facts, init, level, line_found, line_in, line_of, list, minutes, pack, person, ranges, serve, subcommand_name, verdict, words_after}
+use Rattle.cli_words.specs.Lines.{ReadsWords, IsPlainWord, Line, Spells, Takes, answer, db, dbx, enrol, facts, impact, init, level, line_found, line_in, line_of, list, minutes, pack, person, ranges, serve, subcommand_name, verdict, words_after}
 use Rattle.cli_words.specs.declared.line.Words.{Words}
 use Rattle.cli_words.specs.declared.line.WordsFault.{WordsFault}
 use Rattle.cli_words.specs.declared.line.WordsFault.TheVariants.{Missing}
@@ -24,11 +24,13 @@ begins : (line : Line) → Begins (subcommand_name line) (leaf (subcommand_name 
 unfolding clap_on_literals
 begins (init path owner) = record { walks = refl; passes = refl; found = refl }
 begins (person path name role key) = record { walks = refl; passes = refl; found = refl }
+begins (enrol path name role key) = record { walks = refl; passes = refl; found = refl }
 begins (serve path port count) = record { walks = refl; passes = refl; found = refl }
 begins (answer path) = record { walks = refl; passes = refl; found = refl }
 begins (facts file) = record { walks = refl; passes = refl; found = refl }
 begins (ranges file) = record { walks = refl; passes = refl; found = refl }
 begins (verdict path file) = record { walks = refl; passes = refl; found = refl }
+begins (impact path number) = record { walks = refl; passes = refl; found = refl }
 begins (db path) = record { walks = refl; passes = refl; found = refl }
 begins (dbx path) = record { walks = refl; passes = refl; found = refl }
 begins (level path) = record { walks = refl; passes = refl; found = refl }
@@ -39,11 +41,13 @@ begins (minutes path) = record { walks = refl; passes = refl; found = refl }
 takes_words : (line : Line) → All IsPlainWord (words_after line) → TakesWords (subcommand_name line) (words_after line)
 takes_words (init path owner) plain = takes_two (codes "init") path owner plain
 takes_words (person path name role key) plain = takes_four (codes "person") path name role key plain
+takes_words (enrol path name role key) plain = takes_four (codes "enrol") path name role key plain
 takes_words (serve path port count) plain = takes_three (codes "serve") path port count plain
 takes_words (answer path) plain = takes_one (codes "answer") path plain
 takes_words (facts file) plain = takes_one (codes "facts") file plain
 takes_words (ranges file) plain = takes_one (codes "ranges") file plain
 takes_words (verdict path file) plain = takes_two (codes "verdict") path file plain
+takes_words (impact path number) plain = takes_two (codes "impact") path number plain
 takes_words (db path) plain = takes_one (codes "db") path plain
 takes_words (dbx path) plain = takes_one (codes "dbx") path plain
 takes_words (level path) plain = takes_one (codes "level") path plain
@@ -54,11 +58,13 @@ takes_words (minutes path) plain = takes_one (codes "minutes") path plain
 reads_back : (line : Line) → line_in (subcommand_name line, rows_from 0 (words_after line)) ≡ Some line
 reads_back (init path owner) = refl
 reads_back (person path name role key) = refl
+reads_back (enrol path name role key) = refl
 reads_back (serve path port count) = refl
 reads_back (answer path) = refl
 reads_back (facts file) = refl
 reads_back (ranges file) = refl
 reads_back (verdict path file) = refl
+reads_back (impact path number) = refl
 reads_back (db path) = refl
 reads_back (dbx path) = refl
 reads_back (level path) = refl

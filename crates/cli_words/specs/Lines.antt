@@ -14,12 +14,14 @@ use Rattle.cli_words.specs.declared.line.WordsFault.TheVariants.{Missing, NoMemo
 pub data Line : Type 0 where
   init : Text → Text → Line
   person : Text → Text → Text → Text → Line
+  enrol : Text → Text → Text → Text → Line
   minutes : Text → Line
   serve : Text → Text → Text → Line
   answer : Text → Line
   facts : Text → Line
   ranges : Text → Line
   verdict : Text → Text → Line
+  impact : Text → Text → Line
   db : Text → Line
   dbx : Text → Line
   level : Text → Line
@@ -30,12 +32,14 @@ pub data Line : Type 0 where
 abbrev pub words_of : Line → Text × List Text
 words_of (init path owner) = (codes "init", path ∷ owner ∷ [])
 words_of (person path name role key) = (codes "person", path ∷ name ∷ role ∷ key ∷ [])
+words_of (enrol path name role key) = (codes "enrol", path ∷ name ∷ role ∷ key ∷ [])
 words_of (minutes path) = (codes "minutes", path ∷ [])
 words_of (serve path port count) = (codes "serve", path ∷ port ∷ count ∷ [])
 words_of (answer path) = (codes "answer", path ∷ [])
 words_of (facts file) = (codes "facts", file ∷ [])
 words_of (ranges file) = (codes "ranges", file ∷ [])
 words_of (verdict path file) = (codes "verdict", path ∷ file ∷ [])
+words_of (impact path number) = (codes "impact", path ∷ number ∷ [])
 words_of (db path) = (codes "db", path ∷ [])
 words_of (dbx path) = (codes "dbx", path ∷ [])
 words_of (level path) = (codes "level", path ∷ [])
@@ -54,12 +58,14 @@ words_after line = (words_of line).1
 abbrev pub line_of : Words → Line
 line_of (said.Init path owner) = init path.now owner.now
 line_of (said.Person words) = person words.db.now words.name.now words.role.now words.key.now
+line_of (said.Enrol words) = enrol words.db.now words.name.now words.role.now words.key.now
 line_of (said.Minutes path) = minutes path.now
 line_of (said.Serve words) = serve words.db.now words.port.now words.count.now
 line_of (said.Answer path) = answer path.now
 line_of (said.Facts file) = facts file.now
 line_of (said.Ranges file) = ranges file.now
 line_of (said.Verdict path file) = verdict path.now file.now
+line_of (said.Impact path number) = impact path.now number.now
 line_of (said.Db path) = db path.now
 line_of (said.Dbx path) = dbx path.now
 line_of (said.Level path) = level path.now
@@ -79,11 +85,11 @@ abbrev pub serve_in : List Row → Option Line
 serve_in rows =
     with_word rows 0 (λ path. with_word rows 1 (λ port. with_word rows 2 (λ count. Some (serve path port count))))
 
--- the line of `person`
-abbrev pub person_in : List Row → Option Line
-person_in rows =
+-- the line of a subcommand of four words, from its rows
+abbrev pub four_in : (Text → Text → Text → Text → Line) → List Row → Option Line
+four_in line rows =
     with_word rows 0 (λ path. with_word rows 1 (λ name. with_word rows 2 (λ role. with_word rows 3 (λ key.
-    Some (person path name role key)))))
+    Some (line path name role key)))))
 
 -- the line of the subcommand of that name with its word, if it has one word
 abbrev pub of_one_word : Text → Text → Option Line
@@ -103,9 +109,11 @@ of_one_word name word =
 abbrev pub line_in : Text × List Row → Option Line
 line_in (name, rows) =
     if bytes_eq name (codes "init") then two_in init rows
-    else if bytes_eq name (codes "person") then person_in rows
+    else if bytes_eq name (codes "person") then four_in person rows
+    else if bytes_eq name (codes "enrol") then four_in enrol rows
     else if bytes_eq name (codes "serve") then serve_in rows
     else if bytes_eq name (codes "verdict") then two_in verdict rows
+    else if bytes_eq name (codes "impact") then two_in impact rows
     else with_word rows 0 (of_one_word name)
 
 -- a plain word, not an option: it isn't empty and doesn't begin with a hyphen (45)

@@ -6,5 +6,7 @@ mod values;
 mod words_reading;
 
 pub use line::{PersonWords, ServeWords, Words, WordsFault};
-pub use values::{Place, Stop, Word, owner_from, person_from, place_from};
+pub use values::{
+    Place, Stop, Word, enrolled_from, owner_from, person_from, place_from, proposal_from,
+};
 pub use words_reading::words;

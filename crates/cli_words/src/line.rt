@@ -4,7 +4,7 @@ ghost use Rattle.cli_words.specs.Lines.{line_of, of_one_word};
 
 use clap::Error;
 
-/// The words of `person`.
+/// The words of `person` or `enrol`.
 #[derive(Clone, Copy, Debug, PartialEq, Eq)]
 pub struct PersonWords<'a> {
     pub db: &'a str,
@@ -28,6 +28,8 @@ pub enum Words<'a> {
     Init { db: &'a str, owner: &'a str },
     /// Adds a person to the desk in a file.
     Person(PersonWords<'a>),
+    /// Adds a person, of whose token the SHA-256 is given, to the desk in a file.
+    Enrol(PersonWords<'a>),
     /// Prints the minutes of the desk in this file.
     Minutes { db: &'a str },
     /// Serves requests to the desk in a file, one connection after another.
@@ -40,6 +42,8 @@ pub enum Words<'a> {
     Ranges { file: &'a str },
     /// Prints the verdict of the desk in this file on an image's file.
     Verdict { db: &'a str, file: &'a str },
+    /// Prints what the Confirm of a proposal to the desk in this file would bar.
+    Impact { db: &'a str, number: &'a str },
     /// Writes the list of allowed images of the desk in this file.
     Db { db: &'a str },
     /// Writes the list of revoked images of the desk in this file.

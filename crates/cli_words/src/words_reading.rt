@@ -1,9 +1,9 @@
 //! The reading of the program's words.
 ghost use Rattle.std.specs.Prelude.{◌≡◌, ◌<◌, length, map, option_and_then, option_map, string_bytes};
-ghost use Rattle.clap.specs.Words.{first_of, found_of, rows_of, subcommand_rows_of};
+ghost use Rattle.clap.specs.Words.{Text, first_of, found_of, rows_of, subcommand_rows_of};
 ghost use Rattle.cli_grammar.specs.Commands.{id_of, ids};
 ghost use Rattle.cli_words.specs.Lines.{ReadsWords, Line, Spells, Takes, line_in, line_of};
-ghost use Rattle.cli_words.specs.Lines.{init, person_in, serve_in, two_in, verdict};
+ghost use Rattle.cli_words.specs.Lines.{enrol, four_in, impact, init, person, serve_in, two_in, verdict};
 
 use crate::line::{PersonWords, ServeWords, Words, WordsFault};
 use clap::ArgMatches;
@@ -29,20 +29,42 @@ fn init_at<'a>(matches: &ArgMatches<'a>) -> Option<Words<'a>>
     Some(Words::Init { db, owner })
 }
 
-/// `person` with its words.
-fn person_at<'a>(matches: &ArgMatches<'a>) -> Option<Words<'a>>
-    ensures { option_map line_of result ≡ person_in (rows_of (found_of matches.now)) }
+/// The words of `person` or `enrol`.
+fn person_words_at<'a>(matches: &ArgMatches<'a>) -> Option<PersonWords<'a>>
+    ensures { (line : Text → Text → Text → Text → Line)
+        → option_map (λ w. line w.db.now w.name.now w.role.now w.key.now) result
+        ≡ four_in line (rows_of (found_of matches.now)) }
 {
     let db = word_at(matches, 0)?;
     let name = word_at(matches, 1)?;
     let role = word_at(matches, 2)?;
     let key = word_at(matches, 3)?;
-    Some(Words::Person(PersonWords {
+    Some(PersonWords {
         db,
         name,
         role,
         key,
-    }))
+    })
+}
+
+/// `person` with its words.
+fn person_at<'a>(matches: &ArgMatches<'a>) -> Option<Words<'a>>
+    ensures { option_map line_of result ≡ four_in person (rows_of (found_of matches.now)) }
+{
+    match person_words_at(matches) {
+        Some(words) => Some(Words::Person(words)),
+        None => None,
+    }
+}
+
+/// `enrol` with its words.
+fn enrol_at<'a>(matches: &ArgMatches<'a>) -> Option<Words<'a>>
+    ensures { option_map line_of result ≡ four_in enrol (rows_of (found_of matches.now)) }
+{
+    match person_words_at(matches) {
+        Some(words) => Some(Words::Enrol(words)),
+        None => None,
+    }
 }
 
 /// `serve` with its words.
@@ -64,6 +86,15 @@ fn verdict_at<'a>(matches: &ArgMatches<'a>) -> Option<Words<'a>>
     Some(Words::Verdict { db, file })
 }
 
+/// `impact` with its words.
+fn impact_at<'a>(matches: &ArgMatches<'a>) -> Option<Words<'a>>
+    ensures { option_map line_of result ≡ two_in impact (rows_of (found_of matches.now)) }
+{
+    let db = word_at(matches, 0)?;
+    let number = word_at(matches, 1)?;
+    Some(Words::Impact { db, number })
+}
+
 /// The subcommand of this name, with its words.
 fn line_at<'a>(name: &'a str, matches: &ArgMatches<'a>) -> Option<Words<'a>>
     ensures { option_map line_of result ≡ line_in (name.now, rows_of (found_of matches.now)) }
@@ -71,8 +102,10 @@ fn line_at<'a>(name: &'a str, matches: &ArgMatches<'a>) -> Option<Words<'a>>
     match name {
         "init" => init_at(matches),
         "person" => person_at(matches),
+        "enrol" => enrol_at(matches),
         "serve" => serve_at(matches),
         "verdict" => verdict_at(matches),
+        "impact" => impact_at(matches),
         _ => Words::from_one(name, word_at(matches, 0)?),
     }
 }

@@ -1,8 +1,13 @@
 //! The work of each line of words.
-use cli_files::{add_person, export_from, judge_image, make_desk, read_file, read_image};
+use cli_files::{
+    add_person, export_from, foretell_from, judge_image, make_desk, read_file, read_image,
+};
 use cli_lines::{Ending, Fault, print_ending, print_facts, print_fault, print_list, print_ranges};
 use cli_requests::{answer_from, serve_from};
-use cli_words::{PersonWords, ServeWords, Stop, Words, owner_from, person_from, place_from};
+use cli_words::{
+    PersonWords, ServeWords, Stop, Words, enrolled_from, owner_from, person_from, place_from,
+    proposal_from,
+};
 use desk_bytes::{Guid, Refusal, WriteFailed};
 use desk_exports::Export;
 use desk_service::facts;
@@ -91,6 +96,19 @@ fn run_person(rt: &HostRuntime, words: PersonWords<'_>) -> Result<Ending, Stop> 
     Ok(add_person(rt, db, &key, person, &mut out))
 }
 
+/// Adds a person, of whose token the first line of the standard input has the SHA-256.
+fn run_enrol(rt: &HostRuntime, words: PersonWords<'_>) -> Result<Ending, Stop> {
+    let PersonWords {
+        db,
+        name,
+        role,
+        key,
+    } = words;
+    let (key, person) = enrolled_from(rt.alloc(), name, role, key, &mut rt.stdin())?;
+    let mut out = buffered_writer(rt.alloc(), rt.stdout())?;
+    Ok(add_person(rt, db, &key, person, &mut out))
+}
+
 /// The table of paths.
 fn paths(alloc: Global) -> Result<Routes, Fault> {
     Routes::new(alloc).map_err(|_| Fault::from(Refusal::NoMemory))
@@ -119,6 +137,13 @@ fn run_answer(rt: &HostRuntime, db: &str) -> Result<Ending, Stop> {
 fn run_verdict(rt: &HostRuntime, db: &str, file: &str) -> Result<Ending, Stop> {
     let mut out = buffered_writer(rt.alloc(), rt.stdout())?;
     Ok(judge_image(rt, db, file, &mut out))
+}
+
+/// Prints the impact of a proposal.
+fn run_impact(rt: &HostRuntime, db: &str, number: &str) -> Result<Ending, Stop> {
+    let number = proposal_from(number)?;
+    let mut out = buffered_writer(rt.alloc(), rt.stdout())?;
+    Ok(foretell_from(rt, db, number, &mut out))
 }
 
 /// Writes an export.
@@ -165,11 +190,13 @@ pub fn run(rt: &HostRuntime, line: Words<'_>) -> ExitCode {
     match line {
         Words::Init { db, owner } => status_of_ending(rt, run_init(rt, db, owner)),
         Words::Person(words) => status_of_ending(rt, run_person(rt, words)),
+        Words::Enrol(words) => status_of_ending(rt, run_enrol(rt, words)),
         Words::Serve(words) => status_of_ending(rt, run_serve(rt, words)),
         Words::Answer { db } => status_of_ending(rt, run_answer(rt, db)),
         Words::Facts { file } => status_of(rt, run_facts(rt, file)),
         Words::Ranges { file } => status_of(rt, run_ranges(rt, file)),
         Words::Verdict { db, file } => status_of_ending(rt, run_verdict(rt, db, file)),
+        Words::Impact { db, number } => status_of_ending(rt, run_impact(rt, db, number)),
         Words::Db { db } => status_of_ending(rt, run_export(rt, db, Export::Db)),
         Words::Dbx { db } => status_of_ending(rt, run_export(rt, db, Export::Dbx)),
         Words::Level { db } => status_of_ending(rt, run_export(rt, db, Export::Level)),

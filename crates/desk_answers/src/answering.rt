@@ -10,11 +10,13 @@ use crate::open_desk::OpenDesk;
 use crate::reporting::report;
 use crate::written_requests::WrittenRequests;
 use desk_bytes::{Digest, Refusal};
-use desk_calls::{Answering, Octets, ShownProposals};
+use desk_calls::{Answering, Octets, ShownPeople, ShownProposals};
 use desk_exports::Export;
-use desk_history::Verdict;
+use desk_history::{ProposalRow, ShownImpact, Verdict};
 use desk_store::Desk;
-use desk_texts::{Caller, Command, Facts, Key, Person, Reply, RequestNumber, ShownRequest};
+use desk_texts::{
+    Caller, Command, Facts, Key, Person, ProposalNumber, Reply, RequestNumber, ShownRequest,
+};
 use http_responses::RequestsText;
 use sqlite::Alter;
 use std::alloc::Global;
@@ -90,6 +92,32 @@ impl<S: Alter + Drop> Answering for OpenDesk<S> {
     fn proposals(&mut self, caller: &Caller) -> Result<ShownProposals, Refusal> {
         match self.desk.proposals(caller) {
             Ok(proposals) => Ok(ShownProposals::new(proposals)),
+            Err(refusal) => Err(refusal),
+        }
+    }
+
+    fn proposal(
+        &mut self,
+        caller: &Caller,
+        number: ProposalNumber,
+    ) -> Result<ProposalRow, Refusal> {
+        self.desk.proposal(caller, number)
+    }
+
+    fn impact(&mut self, caller: &Caller, number: ProposalNumber) -> Result<ShownImpact, Refusal> {
+        self.desk.impact(caller, number)
+    }
+
+    fn people(&mut self, caller: &Caller) -> Result<ShownPeople, Refusal> {
+        match self.desk.people(caller) {
+            Ok(people) => Ok(ShownPeople::new(people)),
+            Err(refusal) => Err(refusal),
+        }
+    }
+
+    fn minutes_from(&mut self, caller: &Caller, from: u64) -> Result<Octets, Refusal> {
+        match self.desk.minutes_from(caller, from) {
+            Ok(lines) => Ok(Octets::new(lines)),
             Err(refusal) => Err(refusal),
         }
     }

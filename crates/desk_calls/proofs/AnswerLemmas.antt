@@ -1,19 +1,22 @@
 -- The step from the result of a desk to the answer.
-use Rattle.std.proofs.Common.{◌≡◌, ◌≢◌, inl, inr, ℕ, List, [], Some, None, Result, Ok, Err, refl, sym, ap, subst}
+use Rattle.std.proofs.Common.{◌≡◌, ◌≢◌, inl, inr, ℕ, List, [], Some, None, Result, Ok, Err, MatchResult, refl, sym, ap, subst}
 use Rattle.desk_bytes.specs.declared.refusal.Refusal.{Refusal}
 use Rattle.desk_bytes.specs.declared.refusal.Refusal.TheVariants as refusals
 use Rattle.desk_texts.specs.declared.command.Command.{Command}
 use Rattle.desk_texts.specs.declared.facts.Facts.{Facts}
 use Rattle.desk_texts.specs.declared.reply.Reply.{Reply}
 use Rattle.desk_history.specs.Calls.{History}
+use Rattle.desk_history.specs.Impact.{Impact}
+use Rattle.desk_history.specs.ImpactShown.{ShowsImpact}
 use Rattle.desk_history.specs.Runs as runs
 use Rattle.desk_history.specs.declared.answer.Answer as ruling
 use Rattle.desk_history.specs.declared.answer.Answer.TheVariants as ruled
+use Rattle.desk_history.specs.declared.impact.ShownImpact.{ShownImpact}
 use Rattle.http_responses.specs.Refusals.{refused_of}
 use Rattle.http_responses.specs.declared.outage.Outage.TheVariants as outage
 use Rattle.http_responses.specs.declared.refused.Refused.{Refused}
 use Rattle.http_responses.specs.declared.refused.Refused.TheVariants as refused
-use Rattle.desk_calls.specs.Answers.{IsClosed, IsRead, IsReadAndTaken, IsRefusal, IsRuled, IsTaken, Judges, Serves, call_of}
+use Rattle.desk_calls.specs.Answers.{IsClosed, IsRead, IsReadAndTaken, IsRefusal, IsRuled, IsTaken, Judges, Serves, ShowsImpactOf, call_of}
 use Rattle.desk_calls.specs.Bodies.{Gives, ReadsFacts, RefusesImage}
 use Rattle.desk_calls.specs.Desks.{IsOutage}
 use Rattle.desk_calls.specs.declared.answers.Answer.{Answer}
@@ -82,6 +85,13 @@ serves_same after failed cs name key x y a e h = subst (λ read. Serves after fa
 pub serves_as : {A : Type 0} → (after : History → Type 0) (failed : Type 0) (cs : History) (due : A → Answer → History → Type 0) (x y : A) (a : Answer)
     → x ≡ y → Serves after failed cs (due y) a → Serves after failed cs (due x) a
 serves_as after failed cs due x y a e h = subst (λ z. Serves after failed cs (due z) a) (sym e) h
+
+-- a shown impact is the answer
+pub serves_impact : (after : History → Type 0) (failed : Type 0) (cs : History) (k : ℕ) (due : Result Impact Refusal) (shown : ShownImpact)
+    → MatchResult due (λ w. ShowsImpact w shown) (λ _. ⊥) → after cs
+    → Serves after failed cs (IsRead cs (ShowsImpactOf k due)) (answer.Impact k shown)
+serves_impact after failed cs k (Ok w) shown given still = inl (cs, ((shown, given, refl), refl), still)
+serves_impact after failed cs k (Err refusal) shown given still = absurd given
 
 -- ---- a desk that has failed
 

@@ -10,7 +10,7 @@ use Rattle.http_responses.specs.declared.outage.Outage.TheVariants as outage
 use Rattle.http_responses.specs.declared.refused.Refused.{Refused}
 use Rattle.http_responses.specs.declared.refused.Refused.TheVariants as refused
 use Rattle.desk_calls.specs.Bodies.{RefusesAs}
-use Rattle.desk_calls.specs.Desks.{IsOutage, IsReadingRefusal}
+use Rattle.desk_calls.specs.Desks.{IsImpactRefusal, IsOfficersRefusal, IsOutage, IsProposalRefusal, IsReadingRefusal}
 
 -- two refusals are one or differ, by the tags of the enum
 same_or_not : (x y : Refusal) (flag : Bool) → sameb the_type x y ≡ flag → (x ≡ y) ⊎ (x ≢ y)
@@ -99,6 +99,24 @@ told_reading r (inl e) = subst (λ x. IsSome (refused_of x)) (sym e) refl
 told_reading r (inr (inl e)) = subst (λ x. IsSome (refused_of x)) (sym e) refl
 told_reading r (inr (inr (inl e))) = subst (λ x. IsSome (refused_of x)) (sym e) refl
 told_reading r (inr (inr (inr e))) = told_outage r e
+
+-- and of a request to read one proposal
+pub told_proposal : (r : Refusal) → IsProposalRefusal r → IsSome (refused_of r)
+told_proposal r (inl e) = subst (λ x. IsSome (refused_of x)) (sym e) refl
+told_proposal r (inr (inl e)) = subst (λ x. IsSome (refused_of x)) (sym e) refl
+told_proposal r (inr (inr (inl e))) = subst (λ x. IsSome (refused_of x)) (sym e) refl
+told_proposal r (inr (inr (inr e))) = told_outage r e
+
+-- and of one that officers alone may give
+pub told_officers : (r : Refusal) → IsOfficersRefusal r → IsSome (refused_of r)
+told_officers r (inl e) = subst (λ x. IsSome (refused_of x)) (sym e) refl
+told_officers r (inr (inl e)) = subst (λ x. IsSome (refused_of x)) (sym e) refl
+told_officers r (inr (inr e)) = told_outage r e
+
+-- and of one to read an impact
+pub told_impact : (r : Refusal) → IsImpactRefusal r → IsSome (refused_of r)
+told_impact r (inl by_rules) = told_by_rules r by_rules
+told_impact r (inr e) = told_outage r e
 
 tells_same : (x y : Refused) → Some x ≡ Some y → RefusesAs (refusal_of x) (place_of x) y
 tells_same x y e = let same : x ≡ y = cc in record { of = ap refusal_of (sym same); at = ap place_of (sym same) }

@@ -10,6 +10,10 @@ use Rattle.desk_texts.specs.declared.facts.Facts.{Facts}
 use Rattle.desk_texts.specs.declared.role.Role.{Role}
 use Rattle.desk_texts.specs.declared.shown.ShownRequest.{ShownRequest}
 use Rattle.desk_history.specs.Calls.{History}
+use Rattle.desk_history.specs.Impact.{Impact}
+use Rattle.desk_history.specs.ImpactShown.{ShowsImpact, impact_for}
+use Rattle.desk_history.specs.PeopleShown.{ShowsPeople, people_for}
+use Rattle.desk_history.specs.ProposalShown.{proposal_for}
 use Rattle.desk_history.specs.Proposals.{Proposal}
 use Rattle.desk_history.specs.Roles.{is_officer}
 use Rattle.desk_history.specs.Runs as runs
@@ -17,7 +21,11 @@ use Rattle.desk_history.specs.Shown.{AreShown, IsShown, Whole, proposals_for, re
 use Rattle.desk_history.specs.Verdicts.{verdict}
 use Rattle.desk_history.specs.declared.answer.Answer as ruling
 use Rattle.desk_history.specs.declared.answer.Answer.TheVariants as ruled
+use Rattle.desk_history.specs.declared.impact.ShownImpact.{ShownImpact}
+use Rattle.desk_history.specs.declared.rows.ProposalRow.{ProposalRow}
+use Rattle.desk_history.specs.declared.shown_person.ShownPerson.{ShownPerson}
 use Rattle.desk_exports.specs.Exports as exports
+use Rattle.desk_exports.specs.MinutesShown.{minutes_for}
 use Rattle.desk_exports.specs.Reports.{report}
 use Rattle.http_requests.specs.declared.ask.ImageAsked.{ImageAsked}
 use Rattle.http_requests.specs.declared.ask.ImageAsked.TheVariants as asked
@@ -28,7 +36,7 @@ use Rattle.http_responses.specs.declared.refused.Refused.{Refused}
 use Rattle.http_responses.specs.declared.refused.Refused.TheVariants as refused
 use Rattle.desk_service.specs.ImageFacts.{IsFactsOf}
 use Rattle.desk_calls.specs.Bodies.{ReadsBytes, ReadsImage, RefusesImage, RefusesAs}
-use Rattle.desk_calls.specs.Desks.{called}
+use Rattle.desk_history.specs.Called.{called}
 use Rattle.desk_calls.specs.declared.answers.Answer.{Answer}
 use Rattle.desk_calls.specs.declared.answers.Answer.TheVariants as answer
 use Rattle.desk_calls.specs.declared.call.Call.{Call}
@@ -84,6 +92,26 @@ abbrev pub ShowsProposals : History → Result (List Proposal) Refusal → Answe
 ShowsProposals cs (Ok ps) a = a ≡ answer.Proposals (map (shown_proposal cs) ps)
 ShowsProposals cs (Err refusal) a = IsRefusal refusal a
 
+-- a proposal is shown with all that it names, or the due refusal is given
+abbrev pub ShowsProposal : Result ProposalRow Refusal → Answer → Type 0
+ShowsProposal (Ok row) a = a ≡ answer.Proposal row
+ShowsProposal (Err refusal) a = IsRefusal refusal a
+
+-- the impact of the proposal k is shown, or the due refusal is given
+abbrev pub ShowsImpactOf : ℕ → Result Impact Refusal → Answer → Type 0
+ShowsImpactOf k (Ok w) a = (shown : ShownImpact) × ShowsImpact w shown × (a ≡ answer.Impact k shown)
+ShowsImpactOf k (Err refusal) a = IsRefusal refusal a
+
+-- people are shown, or the due refusal is given
+abbrev pub ShowsEverybody : Result (List Person) Refusal → Answer → Type 0
+ShowsEverybody (Ok ps) a = (shown : List ShownPerson) × ShowsPeople ps shown × (a ≡ answer.People shown)
+ShowsEverybody (Err refusal) a = IsRefusal refusal a
+
+-- minutes are shown, or the due refusal is given
+abbrev pub ShowsMinutes : Result (List ℕ) Refusal → Answer → Type 0
+ShowsMinutes (Ok lines) a = a ≡ answer.Minutes lines
+ShowsMinutes (Err refusal) a = IsRefusal refusal a
+
 -- the verdict on an image, or the refusal of the image. own: it needs neither role nor key
 abbrev pub Judges : History → List ℕ → Answer → Type 0
 Judges cs image a =
@@ -101,10 +129,14 @@ abbrev pub ShowsAsked : List ℕ → History → Person → ReadAsked → Answer
 ShowsAsked owner cs p read.Requests a = ShowsRequests (requests_for cs (callers.Person p.name)) a
 ShowsAsked owner cs p (read.Request number) a = ShowsRequest (request_for cs (callers.Person p.name) number) a
 ShowsAsked owner cs p read.Proposals a = ShowsProposals cs (proposals_for cs (callers.Person p.name)) a
+ShowsAsked owner cs p (read.Proposal number) a = ShowsProposal (proposal_for cs (callers.Person p.name) number) a
+ShowsAsked owner cs p (read.Impact number) a = ShowsImpactOf number (impact_for cs (callers.Person p.name) number) a
 ShowsAsked owner cs p read.Dbx a = a ≡ answer.Dbx (exports.dbx owner cs)
 ShowsAsked owner cs p read.Db a = a ≡ answer.Db (exports.db owner cs)
 ShowsAsked owner cs p read.Level a = a ≡ answer.Level (exports.level cs)
 ShowsAsked owner cs p read.Report a = a ≡ report_to p.role cs
+ShowsAsked owner cs p (read.Minutes from) a = ShowsMinutes (minutes_for cs (callers.Person p.name) from) a
+ShowsAsked owner cs p read.People a = ShowsEverybody (people_for cs (callers.Person p.name)) a
 
 -- The desk that shows the history gives this answer to a request with an image by the person of
 -- this name, and then shows `later`.

@@ -1,12 +1,10 @@
 -- The histories that a desk shows, and refusals, for any kind of desk.
-use Rattle.std.specs.Prelude.{◌≡◌, ◌≢◌, ◌⊎◌, ℕ, List, Option, Result, Err, IfErr, IsErrOf, find}
+use Rattle.std.specs.Prelude.{◌≡◌, ◌≢◌, ◌⊎◌, ℕ, List, Option, Result, Err, IfErr, IsErrOf, IsTrue, find}
 use Rattle.desk_bytes.specs.declared.refusal.Refusal.{Refusal}
 use Rattle.desk_bytes.specs.declared.refusal.Refusal.TheVariants as refusals
-use Rattle.desk_texts.specs.declared.caller.Caller.{Caller}
-use Rattle.desk_texts.specs.declared.command.Call.{Call}
-use Rattle.desk_texts.specs.declared.command.Command.{Command}
 use Rattle.desk_texts.specs.declared.command.Person.{Person}
 use Rattle.desk_history.specs.Calls.{History}
+use Rattle.desk_history.specs.DecisionRefusals.{may_answer}
 use Rattle.desk_history.specs.People.{has_token, people}
 
 -- this holds of each owner and history that a desk shows
@@ -21,10 +19,6 @@ StillShows before after = (owner : List ℕ) (cs : History) → before owner cs 
 abbrev pub person_with : List ℕ → History → Option Person
 person_with token cs = find (has_token token) (people cs)
 
--- the call of a command, by its parts
-abbrev pub called : Caller → List ℕ → Command → Call
-called caller key command = record { caller = caller; key = key; command = command }
-
 -- own: the desk can't answer
 abbrev pub IsOutage : Refusal → Type 0
 IsOutage refusal = (refusal ≡ refusals.NoMemory) ⊎ ((refusal ≡ refusals.Store) ⊎ (refusal ≡ refusals.Reopen))
@@ -33,6 +27,19 @@ IsOutage refusal = (refusal ≡ refusals.NoMemory) ⊎ ((refusal ≡ refusals.St
 abbrev pub IsReadingRefusal : Refusal → Type 0
 IsReadingRefusal refusal =
     (refusal ≡ refusals.NotYourRole) ⊎ ((refusal ≡ refusals.UnknownCaller) ⊎ ((refusal ≡ refusals.NoSuchRequest) ⊎ IsOutage refusal))
+
+-- own: the refusals of a read of one proposal
+abbrev pub IsProposalRefusal : Refusal → Type 0
+IsProposalRefusal refusal =
+    (refusal ≡ refusals.NotYourRole) ⊎ ((refusal ≡ refusals.UnknownCaller) ⊎ ((refusal ≡ refusals.NoSuchProposal) ⊎ IsOutage refusal))
+
+-- own: the refusals of a read that officers alone may do
+abbrev pub IsOfficersRefusal : Refusal → Type 0
+IsOfficersRefusal refusal = (refusal ≡ refusals.NotYourRole) ⊎ ((refusal ≡ refusals.UnknownCaller) ⊎ IsOutage refusal)
+
+-- own: the refusals of a read of an impact: those of an officer's Confirm, or an outage
+abbrev pub IsImpactRefusal : Refusal → Type 0
+IsImpactRefusal refusal = IsTrue (may_answer refusal) ⊎ IsOutage refusal
 
 -- own: a call of a desk, whatever it asks for, and its failures. `shows` says what a desk shows,
 -- `clean` that its disk has returned what was written, `failed` that its store failed, `may_come`

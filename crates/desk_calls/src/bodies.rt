@@ -4,8 +4,8 @@ ghost use Rattle.desk_texts.specs.declared.command.Command.TheVariants as comman
 ghost use Rattle.desk_calls.specs.Bodies as spec;
 
 use crate::octets::Octets;
-use crate::refusing::{NO_MEMORY, of_facts, of_import};
-use desk_bytes::{Refusal, tbs};
+use crate::refusing::{of_facts, of_import};
+use desk_bytes::tbs;
 use desk_service::{facts, import_csv, import_dbx, import_level, tbs_is_read, token_digest};
 use desk_texts::{
     Certificate, Command, Facts, LONGEST_CERTIFICATE, RequestNumber, ReturnedFile, Submission,
@@ -26,12 +26,7 @@ pub(crate) fn read_facts(alloc: Global, image: Pieces) -> Result<Facts, Refused>
     let mut source = image;
     match facts(alloc, &mut source) {
         Ok(found) => Ok(found),
-        Err(fault) => {
-            if fault.refusal() == Refusal::NoMemory {
-                return Err(NO_MEMORY);
-            }
-            Err(of_facts(fault))
-        }
+        Err(fault) => Err(of_facts(fault)),
     }
 }
 
@@ -88,12 +83,7 @@ fn from_dbx(alloc: Global, body: &Octets) -> Result<Command, Refused>
 {
     match import_dbx(alloc, body.as_slice()) {
         Ok(command) => Ok(command),
-        Err(fault) => {
-            if fault.refusal() == Refusal::NoMemory {
-                return Err(NO_MEMORY);
-            }
-            Err(of_import(fault))
-        }
+        Err(fault) => Err(of_import(fault)),
     }
 }
 
@@ -104,12 +94,7 @@ fn from_csv(alloc: Global, body: &Octets, stamp: Option<Stamp>) -> Result<Comman
 {
     match import_csv(alloc, body.as_slice(), stamp) {
         Ok(command) => Ok(command),
-        Err(fault) => {
-            if fault.refusal() == Refusal::NoMemory {
-                return Err(NO_MEMORY);
-            }
-            Err(of_import(fault))
-        }
+        Err(fault) => Err(of_import(fault)),
     }
 }
 
@@ -120,12 +105,7 @@ fn from_level(alloc: Global, body: &Octets) -> Result<Command, Refused>
 {
     match import_level(alloc, body.as_slice()) {
         Ok(command) => Ok(command),
-        Err(fault) => {
-            if fault.refusal() == Refusal::NoMemory {
-                return Err(NO_MEMORY);
-            }
-            Err(of_import(fault))
-        }
+        Err(fault) => Err(of_import(fault)),
     }
 }
 

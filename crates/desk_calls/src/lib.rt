@@ -10,6 +10,7 @@ mod octets;
 mod reading;
 mod refusing;
 mod serving;
+mod shown_people;
 mod shown_proposals;
 mod taking;
 
@@ -19,4 +20,5 @@ pub use call::{Call, Task};
 pub use laws::{refusals_change_nothing, submitters_are_answered_by_own};
 pub use octets::Octets;
 pub use serving::{answer, caller};
+pub use shown_people::ShownPeople;
 pub use shown_proposals::ShownProposals;

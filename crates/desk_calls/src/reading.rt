@@ -1,7 +1,11 @@
 //! Calls that read a desk.
 ghost use Rattle.std.specs.Prelude.{◌≡◌, ℕ, List};
 ghost use Rattle.desk_exports.specs.Exports as exports;
+ghost use Rattle.desk_exports.specs.MinutesShown.{minutes_for};
 ghost use Rattle.desk_history.specs.Calls.{History};
+ghost use Rattle.desk_history.specs.ImpactShown.{impact_for};
+ghost use Rattle.desk_history.specs.PeopleShown.{people_for};
+ghost use Rattle.desk_history.specs.ProposalShown.{proposal_for};
 ghost use Rattle.desk_history.specs.Shown as shown;
 ghost use Rattle.desk_texts.specs.declared.caller.Caller.TheVariants as callers;
 ghost use Rattle.desk_calls.specs.Answers as spec;
@@ -11,7 +15,7 @@ use crate::answers::Answer;
 use crate::bodies::read_facts;
 use crate::refusing::without_place;
 use desk_exports::Export;
-use desk_texts::{Caller, Person, PersonName, RequestNumber, Role};
+use desk_texts::{Caller, Person, PersonName, ProposalNumber, RequestNumber, Role};
 use http_requests::ReadAsked;
 use http_responses::Refused;
 use pe_image::Pieces;
@@ -61,6 +65,38 @@ fn proposals<D: Answering>(desk: &mut D, name: PersonName) -> Answer
 {
     match desk.proposals(&Caller::Person(name)) {
         Ok(proposals) => Answer::Proposals(proposals),
+        Err(refusal) => Answer::Refused(without_place(refusal)),
+    }
+}
+
+/// The proposal of this number, for an officer of this name.
+fn proposal<D: Answering>(desk: &mut D, name: PersonName, number: ProposalNumber) -> Answer
+    ensures served { D.clean desk.new → (owner : List ℕ) (cs : History)
+        → D.shows desk.old owner cs
+        → spec.Serves (D.shows desk.new owner) (D.failed desk.new) cs (spec.IsRead cs
+        (spec.ShowsProposal (proposal_for cs (callers.Person name) number))) result }
+    ensures before { D.clean desk.new → D.clean desk.old }
+    ensures poisons { result ≡ spec.store_failed → D.failed desk.new }
+    ensures closed { D.failed desk.old → (result ≡ spec.reopened) × (desk.new ≡ desk.old) }
+{
+    match desk.proposal(&Caller::Person(name), number) {
+        Ok(proposal) => Answer::Proposal(proposal),
+        Err(refusal) => Answer::Refused(without_place(refusal)),
+    }
+}
+
+/// The impact of the proposal of this number, for an officer of this name.
+fn impact<D: Answering>(desk: &mut D, name: PersonName, number: ProposalNumber) -> Answer
+    ensures served { D.clean desk.new → (owner : List ℕ) (cs : History)
+        → D.shows desk.old owner cs
+        → spec.Serves (D.shows desk.new owner) (D.failed desk.new) cs (spec.IsRead cs
+        (spec.ShowsImpactOf number (impact_for cs (callers.Person name) number))) result }
+    ensures before { D.clean desk.new → D.clean desk.old }
+    ensures poisons { result ≡ spec.store_failed → D.failed desk.new }
+    ensures closed { D.failed desk.old → (result ≡ spec.reopened) × (desk.new ≡ desk.old) }
+{
+    match desk.impact(&Caller::Person(name), number) {
+        Ok(impact) => Answer::Impact(number, impact),
         Err(refusal) => Answer::Refused(without_place(refusal)),
     }
 }
@@ -157,6 +193,38 @@ fn report<D: Answering>(alloc: Global, desk: &mut D, role: Role) -> Answer
     }
 }
 
+/// All people, for an officer of this name.
+fn people<D: Answering>(desk: &mut D, name: PersonName) -> Answer
+    ensures served { D.clean desk.new → (owner : List ℕ) (cs : History)
+        → D.shows desk.old owner cs
+        → spec.Serves (D.shows desk.new owner) (D.failed desk.new) cs (spec.IsRead cs
+        (spec.ShowsEverybody (people_for cs (callers.Person name)))) result }
+    ensures before { D.clean desk.new → D.clean desk.old }
+    ensures poisons { result ≡ spec.store_failed → D.failed desk.new }
+    ensures closed { D.failed desk.old → (result ≡ spec.reopened) × (desk.new ≡ desk.old) }
+{
+    match desk.people(&Caller::Person(name)) {
+        Ok(people) => Answer::People(people),
+        Err(refusal) => Answer::Refused(without_place(refusal)),
+    }
+}
+
+/// The lines of the minutes from this number on, for an officer of this name.
+fn minutes<D: Answering>(desk: &mut D, name: PersonName, from: u64) -> Answer
+    ensures served { D.clean desk.new → (owner : List ℕ) (cs : History)
+        → D.shows desk.old owner cs
+        → spec.Serves (D.shows desk.new owner) (D.failed desk.new) cs (spec.IsRead cs
+        (spec.ShowsMinutes (minutes_for cs (callers.Person name) from))) result }
+    ensures before { D.clean desk.new → D.clean desk.old }
+    ensures poisons { result ≡ spec.store_failed → D.failed desk.new }
+    ensures closed { D.failed desk.old → (result ≡ spec.reopened) × (desk.new ≡ desk.old) }
+{
+    match desk.minutes_from(&Caller::Person(name), from) {
+        Ok(lines) => Answer::Minutes(lines),
+        Err(refusal) => Answer::Refused(without_place(refusal)),
+    }
+}
+
 /// The answer to a person's read.
 pub(crate) fn show<D: Answering>(
     alloc: Global,
@@ -178,9 +246,13 @@ pub(crate) fn show<D: Answering>(
         ReadAsked::Requests => requests(desk, name),
         ReadAsked::Request(number) => request(desk, name, number),
         ReadAsked::Proposals => proposals(desk, name),
+        ReadAsked::Proposal(number) => proposal(desk, name, number),
+        ReadAsked::Impact(number) => impact(desk, name, number),
         ReadAsked::Dbx => dbx(alloc, desk),
         ReadAsked::Db => db(alloc, desk),
         ReadAsked::Level => level(alloc, desk),
         ReadAsked::Report => report(alloc, desk, role),
+        ReadAsked::Minutes(from) => minutes(desk, name, from),
+        ReadAsked::People => people(desk, name),
     }
 }

@@ -1,5 +1,5 @@
 //! Faults of bodies and refusals of a desk, as refusals of a request.
-ghost use Rattle.std.specs.Prelude.{◌≡◌, ◌≢◌, IsSome, None, Some};
+ghost use Rattle.std.specs.Prelude.{◌≡◌, ◌≢◌, ◌⊎◌, IsSome, None, Some};
 ghost use Rattle.authenticode.specs.Faults as carried;
 ghost use Rattle.pe_image.specs.Faults as layout;
 ghost use Rattle.sbat.specs.Refusals as sbat_faults;
@@ -113,6 +113,8 @@ fn of_lists(fault: ListsFault) -> Refused
 pub(crate) fn of_facts(fault: FactsFault) -> Refused
     requires { facts.refusal_of fault ≢ Refusal.Read }
     ensures tells { RefusesAs (facts.refusal_of fault) (facts.place_of fault) result }
+    ensures own { (result ≡ Refused.Unavailable Outage.NoMemory)
+        ⊎ (facts.refusal_of fault ≢ Refusal.NoMemory) }
     ensures no_store { result ≢ Refused.Unavailable Outage.Store }
 {
     match fault {
@@ -127,6 +129,8 @@ pub(crate) fn of_facts(fault: FactsFault) -> Refused
 /// The refusal of an import.
 pub(crate) fn of_import(fault: ImportFault) -> Refused
     ensures tells { RefusesAs (imports.refusal_of fault) (imports.place_of fault) result }
+    ensures own { (result ≡ Refused.Unavailable Outage.NoMemory)
+        ⊎ (imports.refusal_of fault ≢ Refusal.NoMemory) }
     ensures no_store { result ≢ Refused.Unavailable Outage.Store }
 {
     match fault {

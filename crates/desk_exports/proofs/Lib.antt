@@ -1,3 +1,6 @@
+pub mod LengthLemmas
+pub mod MinuteLemmas
+pub mod MinutePartLemmas
 pub mod OrderLemmas
 pub mod PartLemmas
 pub mod SpellingLemmas

@@ -48,7 +48,7 @@ within n m most same h small = let at_most : m ≤ most = grind (arith, nat_test
 -- ---- dbx
 
 -- a digest has 32 bytes
-abbrev HasSize : List ℕ → Type 0
+abbrev pub HasSize : List ℕ → Type 0
 HasSize digest = length digest ≡ 32
 
 sized : (ds : List (List ℕ)) → All IsDigest ds → AllByRecursion HasSize ds
@@ -60,7 +60,7 @@ once_sized (d ∷ ds) h =
     let rest : AllByRecursion HasSize (distinct ds) = once_sized ds h.1 in
     elim (is_among ds d) as (λ b. AllByRecursion HasSize (if b then distinct ds else d ∷ distinct ds)) [ true ↦ rest | false ↦ (h.0, rest) ]
 
-revoked_sized : (kind : ListedKind) (cs : History) → All IsItem cs → AllByRecursion HasSize (revoked kind cs)
+pub revoked_sized : (kind : ListedKind) (cs : History) → All IsItem cs → AllByRecursion HasSize (revoked kind cs)
 revoked_sized kind cs h =
     let all = revocations kind cs in
     all_moved HasSize (distinct all) (revoked kind cs) (sort_moved (λ text. text) (distinct all)) (once_sized all (sized all (revocations_are_digests kind cs h)))

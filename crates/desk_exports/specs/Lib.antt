@@ -1,4 +1,6 @@
 pub mod Exports
+pub mod Laws
+pub mod MinutesShown
 pub mod Orders
 pub mod Reports
 pub mod Worked

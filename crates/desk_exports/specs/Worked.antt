@@ -4,6 +4,7 @@ use Rattle.desk_texts.specs.declared.command.Command.TheVariants as command
 use Rattle.desk_texts.specs.declared.role.Role.TheVariants as roles
 use Rattle.desk_history.specs.Calls.{History, item}
 use Rattle.desk_history.specs.Worked.{by, digest, imported, officers_added, people_added, person, raise}
+use Rattle.desk_history.specs.Worked.Impact as impact
 use Rattle.desk_history.specs.Worked.Imports.{listed_history}
 use Rattle.desk_history.specs.Worked.Levels as levels
 use Rattle.desk_history.specs.Worked.Proposals as proposals
@@ -50,6 +51,10 @@ ExportsProposals =
     × (length (dbx owner proposals.after_confirmation) ≡ 76)
     × (dbx owner proposals.import_history ≡ aa_list ++ bb_list)
     × (length (dbx owner proposals.import_history) ≡ 168)
+
+-- dbx has the length that the impact of a proposal foretold, and had 76 bytes before
+abbrev pub ExportsImpact : Type 0
+ExportsImpact = (length (dbx owner impact.before) ≡ 76) × (length (dbx owner impact.confirmation) ≡ 216)
 
 -- digests revoked in another order, one of them twice
 abbrev unordered : History

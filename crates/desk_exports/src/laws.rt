@@ -14,6 +14,8 @@ ghost use Rattle.desk_history.specs.Listing.{listed};
 ghost use Rattle.desk_history.specs.Revocations.{is_revoked, revocations};
 ghost use Rattle.desk_history.specs.Tables.{level_rows};
 ghost use Rattle.desk_exports.specs.Exports.{db, db_lists, dbx, dbx_lists, entries_of, level, level_components, revoked};
+ghost use Rattle.desk_exports.specs.Laws as law;
+ghost use Rattle.desk_exports.specs.MinutesShown as shown;
 ghost use Rattle.desk_exports.specs.Orders.{IsInOrder};
 ghost use Rattle.desk_exports.specs.Worked as worked;
 
@@ -56,12 +58,34 @@ pub fn exports_are_in_order()
         → IsInOrder (λ x. x.name) (level_rows (generations cs)) (level_components cs) }
 {}
 
+/// In bytes, dbx has the length that the numbers of revoked digests and certificates give it; after
+/// a Confirm, the one that the impact of its proposal said.
+pub fn lengths_come_true()
+    ensures dbx { law.DbxHasLength }
+    ensures confirmed { law.LengthComesTrue }
+{}
+
+/// The minutes of a later history begin with those of an earlier one.
+pub fn minutes_go_on()
+    ensures { law.MinutesGoOn }
+{}
+
+/// The minutes come in parts of at most 1,000 lines. Whoever holds their first lines and adds the
+/// part after them holds the first lines again; where that part is empty, all of the minutes. As the
+/// history goes on, the first lines stay.
+pub fn minutes_come_in_parts()
+    ensures joined { shown.PartsJoin }
+    ensures all { shown.PartsEnd }
+    ensures later { shown.FirstLinesStay }
+{}
+
 /// Exports of worked histories are those that were written by hand.
 pub fn exports_are_written()
     ensures nothing { worked.ExportsNothing }
     ensures db { worked.ExportsDb }
     ensures import { worked.ExportsImport }
     ensures proposals { worked.ExportsProposals }
+    ensures impact { worked.ExportsImpact }
     ensures order { worked.ExportsInOrder }
     ensures levels { worked.ExportsLevels }
     ensures minutes { worked.ExportsMinutes }

@@ -8,4 +8,5 @@ mod laws;
 pub use export::Export;
 pub use laws::{
     exports_are_in_order, exports_are_spelt, exports_are_their_parts, exports_are_written,
+    lengths_come_true, minutes_come_in_parts, minutes_go_on,
 };

@@ -25,7 +25,7 @@ use Rattle.desk_history.proofs.ProposalLemmas.{entries_of}
 use Rattle.desk_history.proofs.RefusalLemmas.{no_refusal}
 use Rattle.desk_history.proofs.RunLemmas.{IsNewest, newest}
 
-no_some : {X A : Type 0} (x : X) → None ≡ Some x → A
+pub no_some : {X A : Type 0} (x : X) → None ≡ Some x → A
 no_some x e = cc
 
 some_same : {X : Type 0} (x y : X) → Some x ≡ Some y → x ≡ y
@@ -176,7 +176,7 @@ next_missing : (k : ℕ) (ps : List Proposal) (c : Call) (o : Option Named) → 
 next_missing k ps c None before h = before h
 next_missing k ps c (Some named) before h = rw (number_above k (length ps + 1) (omega arith)) (before (omega arith))
 
-missing : (k : ℕ) (cs : History) → length (proposals cs) < k → proposal cs k ≡ None
+pub missing : (k : ℕ) (cs : History) → length (proposals cs) < k → proposal cs k ≡ None
 missing k [] h = refl
 missing k (i ∷ cs) h = next_missing k (proposals cs) i.call (proposed_by i) (missing k cs) h
 
@@ -187,7 +187,7 @@ next_more ps c (Some named) = omega arith
 abbrev is_of : ℕ → ProposalOutcome → Bool
 is_of k o = k == o.proposal
 
-clash : {A : Type 0} → true ≡ false → A
+pub clash : {A : Type 0} → true ≡ false → A
 clash e = cc
 
 -- another number than that of a proposal that is there

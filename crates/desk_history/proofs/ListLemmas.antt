@@ -98,3 +98,6 @@ number_is k n h = grind (arith, nat_tests)
 -- a number isn't a smaller one
 pub number_above : (n m : ℕ) → m < n → (n == m) ≡ false
 number_above n m h = grind (arith, nat_tests)
+
+pub number_itself : (k : ℕ) → (k == k) ≡ true
+number_itself k = grind (arith, nat_tests)

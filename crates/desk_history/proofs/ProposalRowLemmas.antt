@@ -18,6 +18,7 @@ use Rattle.desk_texts.specs.declared.proposal.ProposalState.{ProposalState}
 use Rattle.desk_texts.specs.declared.proposal.ProposalState.TheVariants as states
 use Rattle.desk_history.specs.Calls.{History, item}
 use Rattle.desk_history.specs.Forces.{forced}
+use Rattle.desk_history.specs.Impact.{another_refusal}
 use Rattle.desk_history.specs.Level.{is_sbat, is_above, level, raises_some, stamp}
 use Rattle.desk_history.specs.Proposals.{Named, Proposal, is_proposal, named_by, proposal, proposal_state, proposals}
 use Rattle.desk_history.specs.Refusals.{confirm_by, confirm_refusal, drop_by, drop_refusal, force_refusal, import_refusal, is_later, own_refusal, refuse_if}
@@ -139,6 +140,16 @@ row_refused owner cs name k row h =
     ap (λ o. confirm_refusal cs o (proposal_state cs k) name) r.there
     ∙ ap (confirm_by (proposal_state cs k) (bytes_eq r.of.officer name)) (refused_by-is cs r.of.command r.of.named names)
     ∙ ap (λ (q : ProposalRow). confirm_by q.state (bytes_eq q.officer name) (refused_by cs q.kind q.named)) (sym r.is)
+
+-- and so is that of another officer
+pub another_refused : (owner : List ℕ) (cs : History) (k : ℕ) (row : ProposalRow) → find (is_proposal_row k) (tables owner cs).proposals ≡ Some row
+    → another_refusal cs (proposal cs k) (proposal_state cs k) ≡ confirm_by row.state false (refused_by cs row.kind row.named)
+another_refused owner cs k row h =
+    let r = its_row owner cs k row h in
+    let names : named_by r.of.command ≡ Some r.of.named = subst (λ o. IfSome o HasNames) r.there (found_named cs k) in
+    ap (λ o. another_refusal cs o (proposal_state cs k)) r.there
+    ∙ ap (confirm_by (proposal_state cs k) false) (refused_by-is cs r.of.command r.of.named names)
+    ∙ ap (λ (q : ProposalRow). confirm_by q.state false (refused_by cs q.kind q.named)) (sym r.is)
 
 -- a Drop likewise
 pub row_dropped : (owner : List ℕ) (cs : History) (name : List ℕ) (k : ℕ) (row : ProposalRow) → find (is_proposal_row k) (tables owner cs).proposals ≡ Some row

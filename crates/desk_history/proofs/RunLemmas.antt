@@ -200,14 +200,18 @@ all_seven true true false e f g h i k = no_parts k
 all_seven true false d e f g h i k = no_parts k
 all_seven false b d e f g h i k = no_parts k
 
--- and so does each legal one
-pub legal_parts : (cs : History) → is_legal cs ≡ true → Within cs
-legal_parts cs h =
+-- that is so of one within what a desk may hold
+pub within_parts : (cs : History) → is_within cs ≡ true → Within cs
+within_parts cs h =
     let seven : All7 (nat_le (length (people cs)) most_people) (nat_le (length (requests cs)) most_requests) (nat_le (length (proposals cs)) most_proposals) (nat_le (length (listed cs)) most_listed) (nat_le (length (distinct (revocations kinds.Digest cs))) most_revoked_digests) (nat_le (length (distinct (revocations kinds.Certificate cs))) most_revoked_certificates) (nat_le (length (names (generations cs))) most_level_components) =
     all_seven (nat_le (length (people cs)) most_people) (nat_le (length (requests cs)) most_requests) (nat_le (length (proposals cs)) most_proposals) (nat_le (length (listed cs)) most_listed)
     (nat_le (length (distinct (revocations kinds.Digest cs))) most_revoked_digests) (nat_le (length (distinct (revocations kinds.Certificate cs))) most_revoked_certificates)
-    (nat_le (length (names (generations cs))) most_level_components) (nat_le (length cs) most_calls) (legal_within cs h) in
+    (nat_le (length (names (generations cs))) most_level_components) (nat_le (length cs) most_calls) h in
     record { people = seven.first; requests = seven.second; proposals = seven.third; listed = seven.fourth; digests = seven.fifth; certificates = seven.sixth; components = seven.seventh }
+
+-- and of each legal one
+pub legal_parts : (cs : History) → is_legal cs ≡ true → Within cs
+legal_parts cs h = within_parts cs (legal_within cs h)
 
 -- a legal history has room for a proposal's number
 pub legal_proposals : (cs : History) → is_legal cs ≡ true → length (proposals cs) ≤ 100000

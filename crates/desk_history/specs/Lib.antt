@@ -1,8 +1,14 @@
+pub mod Called
 pub mod Calls
 pub mod DecisionRefusals
+pub mod Files
 pub mod Forces
 pub mod FormLaws
 pub mod Formed
+pub mod Images
+pub mod Impact
+pub mod ImpactLaws
+pub mod ImpactShown
 pub mod Items
 pub mod Laws
 pub mod Level
@@ -10,7 +16,9 @@ pub mod Limits
 pub mod Listing
 pub mod Lives
 pub mod People
+pub mod PeopleShown
 pub mod ProposalLaws
+pub mod ProposalShown
 pub mod Proposals
 pub mod Refusals
 pub mod Replies

@@ -19,12 +19,14 @@ use Rattle.desk_history.specs.Calls.{History, item}
 use Rattle.desk_history.specs.declared.answer.Answer.{Answer}
 use Rattle.desk_history.specs.declared.answer.Answer.TheVariants.{Accepted, Refused}
 pub mod FirstRules
+pub mod Impact
 pub mod Imports
 pub mod Keys
 pub mod Levels
 pub mod Proposals
 pub mod Returns
 pub mod Reviews
+pub mod Rivals
 pub mod Showing
 
 -- a call and its answer
@@ -155,7 +157,7 @@ imported stamp passed digests certificates components =
     })
 
 -- these counts of new digests, new certificates, raised names and skipped entries
-abbrev numbers : ℕ → ℕ → ℕ → ℕ → Counts
+abbrev pub numbers : ℕ → ℕ → ℕ → ℕ → Counts
 numbers digests certificates components passed =
     record { digests = digests; certificates = certificates; components = components; passed = passed }
 

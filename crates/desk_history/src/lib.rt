@@ -4,23 +4,34 @@
 #![tactic(auto)]
 
 mod answer;
+mod barring;
+mod file_words;
 mod finding;
 mod form_laws;
+mod impact;
+mod impact_laws;
 mod laws;
 mod limits;
 mod proposal_laws;
 mod rows;
 mod rules;
+mod shown_person;
 mod standing;
 mod verdicts;
 mod worked;
 mod write;
 
 pub use answer::Answer;
+pub use barring::rule_of;
 pub use finding::{Below, Verdict};
 pub use form_laws::{
     all_rows_stand_once, answered_calls_stand, callers_are_told, level_has_no_sbat,
     lives_keep_what_was_answered, minutes_are_readable, minutes_differ, series_leave_histories,
+};
+pub use impact::{BarredImage, File, Rule, ShownImpact};
+pub use impact_laws::{
+    confirms_are_foretold, each_rule_bars, entries_bar_alone, images_are_all, images_have_requests,
+    impacts_come_true, impacts_last, listed_is_allowed,
 };
 pub use laws::{
     allows_exactly, answers_are_kept, answers_have_histories, keys_stand_once,
@@ -32,8 +43,8 @@ pub use limits::{
     MOST_REVOKED_CERTIFICATES, MOST_REVOKED_DIGESTS,
 };
 pub use proposal_laws::{
-    first_rules_close_none, next_proposal_is_open, proposals_close_once,
-    two_officers_put_into_force,
+    first_rules_close_none, next_proposal_is_open, proposals_are_shown, proposals_close_once,
+    proposals_stay, two_officers_put_into_force,
 };
 pub use rows::{
     CommandText, Entry, EntryBody, Minute, ProposalItem, ProposalItemRow, ProposalRow,
@@ -43,10 +54,12 @@ pub use rules::{
     confirm_by, drop_by, image_refusal, is_above, is_for, is_for_console, is_later, is_same,
     refuse_if, return_by, review_by, withdraw_by,
 };
+pub use shown_person::ShownPerson;
 pub use standing::Standing;
 pub use verdicts::{bars, lists_image, verdict_of};
 pub use worked::{
-    first_rules_are_answered, imports_are_answered, keys_are_answered, levels_are_answered,
-    proposals_are_answered, requests_are_shown, returns_are_answered, reviews_are_answered,
+    first_rules_are_answered, impacts_are_shown, imports_are_answered, keys_are_answered,
+    levels_are_answered, proposals_are_answered, requests_are_shown, returns_are_answered,
+    reviews_are_answered,
 };
 pub use write::Write;

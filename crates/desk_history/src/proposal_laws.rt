@@ -1,5 +1,6 @@
 //! Laws of proposals, one clause for each function.
 ghost use Rattle.desk_history.specs.ProposalLaws as law;
+ghost use Rattle.desk_history.specs.ProposalShown as shown;
 
 /// By the second rules, one officer proposes the entries that are put into force, and another
 /// confirms them.
@@ -20,4 +21,14 @@ pub fn proposals_close_once()
 /// The next proposal is open.
 pub fn next_proposal_is_open()
     ensures { law.NextIsOpen }
+{}
+
+/// A proposal is shown with all that its call names.
+pub fn proposals_are_shown()
+    ensures { shown.ShownAsProposed }
+{}
+
+/// No later call changes what a proposal names.
+pub fn proposals_stay()
+    ensures { shown.ProposalsStay }
 {}

@@ -10,7 +10,7 @@ use desk_texts::{Facts, ListedKind};
 use sbat::{Component, Generation};
 
 /// True if the image's digest, or the one that a signature of it would hold, is revoked.
-fn has_revoked_digest<S: Standing>(lists: &S, facts: &Facts) -> bool
+pub(crate) fn has_revoked_digest<S: Standing>(lists: &S, facts: &Facts) -> bool
     ensures { result ≡ spec.has_revoked_digest (S.standing lists.now) facts.now }
 {
     lists.is_revoked(ListedKind::Digest, facts.digest)
@@ -18,7 +18,7 @@ fn has_revoked_digest<S: Standing>(lists: &S, facts: &Facts) -> bool
 }
 
 /// True if one of the certificates is revoked.
-fn has_revoked<S: Standing>(lists: &S, certificates: &[Digest]) -> bool
+pub(crate) fn has_revoked<S: Standing>(lists: &S, certificates: &[Digest]) -> bool
     ensures { result
         ≡ list_any ((S.standing lists.now).revoked ListedKind.Certificate) certificates.now }
 {

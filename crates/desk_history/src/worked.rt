@@ -1,11 +1,13 @@
 //! Worked histories: each function's clauses give the results that the definitions have for one.
 ghost use Rattle.desk_history.specs.Worked.FirstRules as first;
+ghost use Rattle.desk_history.specs.Worked.Impact as impact;
 ghost use Rattle.desk_history.specs.Worked.Imports as imports;
 ghost use Rattle.desk_history.specs.Worked.Keys as keys;
 ghost use Rattle.desk_history.specs.Worked.Levels as levels;
 ghost use Rattle.desk_history.specs.Worked.Proposals as proposals;
 ghost use Rattle.desk_history.specs.Worked.Returns as returns;
 ghost use Rattle.desk_history.specs.Worked.Reviews as reviews;
+ghost use Rattle.desk_history.specs.Worked.Rivals as rivals;
 ghost use Rattle.desk_history.specs.Worked.Showing as showing;
 
 /// Two votes of yes approve a request, and one of no rejects another.
@@ -69,4 +71,15 @@ pub fn first_rules_are_answered()
 pub fn requests_are_shown()
     ensures each { showing.TellsRequests }
     ensures all { showing.TellsAll }
+{}
+
+/// An import bars images by a digest, by a certificate and by a component, and one of them was
+/// barred before: its impact, its Confirm, and impacts that are refused.
+pub fn impacts_are_shown()
+    ensures answers { impact.AnswersBefore }
+    ensures images { impact.KeepsImages }
+    ensures shown { impact.ShowsImpact }
+    ensures comes_true { impact.ComesTrue }
+    ensures refused { rivals.RefusesImpact }
+    ensures proposal { rivals.ShowsProposal }
 {}

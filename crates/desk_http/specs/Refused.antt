@@ -21,4 +21,5 @@ abbrev pub refused_by_fields : AskedFault → Refused
 refused_by_fields asked.BadField = refused.BadField
 refused_by_fields asked.NoSuchRequest = refused.NoSuchRequest
 refused_by_fields asked.NoSuchProposal = refused.NoSuchProposal
+refused_by_fields asked.NoRoute = refused.NoRoute
 refused_by_fields asked.NoMemory = refused.Unavailable outage.NoMemory

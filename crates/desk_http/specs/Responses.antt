@@ -3,10 +3,13 @@ use Rattle.std.specs.Prelude.{ℕ, List, [], Option, Some, None, Vec}
 use Rattle.std.specs.declared.alloc.Global.{Global}
 use Rattle.serde_json.specs.Data.{Data}
 use Rattle.serde_json.specs.Written.{compact_text}
+use Rattle.http_responses.specs.json.Impacts.{impact_data}
+use Rattle.http_responses.specs.json.People.{people_data}
 use Rattle.http_responses.specs.json.Proposals.{proposals_data}
 use Rattle.http_responses.specs.json.Replies.{reply_data}
 use Rattle.http_responses.specs.json.Requests.{request_data, requests_data}
 use Rattle.http_responses.specs.json.Verdicts.{verdict_data}
+use Rattle.http_responses.specs.json.WholeProposals.{whole_proposal_data}
 use Rattle.http_responses.specs.Refusals as refusals
 use Rattle.http_responses.specs.Responses.{response_text}
 use Rattle.http_responses.specs.declared.content.Content.{Content}
@@ -15,7 +18,7 @@ use Rattle.http_responses.specs.declared.refused.Refused.{Refused as Refusal}
 use Rattle.http_responses.specs.declared.status.Status.{Status}
 use Rattle.http_responses.specs.declared.status.Status.TheVariants as status
 use Rattle.desk_calls.specs.declared.answers.Answer.{Answer}
-use Rattle.desk_calls.specs.declared.answers.Answer.TheVariants.{Reply, Request, Requests, Proposals, Verdict, Dbx, Db, Level, Report, Refused}
+use Rattle.desk_calls.specs.declared.answers.Answer.TheVariants.{Reply, Request, Requests, Proposals, Proposal, Impact, Verdict, Dbx, Db, Level, Report, People, Minutes, Refused}
 use Rattle.desk_http.specs.declared.served.Answered.{Answered}
 
 -- its status: 200 unless it is a refusal (RFC 9110, section 15.3.1)
@@ -24,11 +27,15 @@ status_of (Reply reply) = status.Ok
 status_of (Request shown) = status.Ok
 status_of (Requests shown) = status.Ok
 status_of (Proposals shown) = status.Ok
+status_of (Proposal row) = status.Ok
+status_of (Impact number shown) = status.Ok
 status_of (Verdict verdict facts) = status.Ok
 status_of (Dbx bytes) = status.Ok
 status_of (Db bytes) = status.Ok
 status_of (Level text) = status.Ok
 status_of (Report text) = status.Ok
+status_of (People shown) = status.Ok
+status_of (Minutes text) = status.Ok
 status_of (Refused refused) = refusals.status_of refused
 
 -- the content of its body
@@ -37,11 +44,15 @@ content_of (Reply reply) = content.Json
 content_of (Request shown) = content.Json
 content_of (Requests shown) = content.Json
 content_of (Proposals shown) = content.Json
+content_of (Proposal row) = content.Json
+content_of (Impact number shown) = content.Json
 content_of (Verdict verdict facts) = content.Json
 content_of (Dbx bytes) = content.Bytes
 content_of (Db bytes) = content.Bytes
 content_of (Level text) = content.Text
 content_of (Report text) = content.Text
+content_of (People shown) = content.Json
+content_of (Minutes text) = content.Text
 content_of (Refused refused) = content.Json
 
 -- the text of a JSON value, if there is one
@@ -61,11 +72,15 @@ body_of (Reply reply) = text_or_none (reply_data reply)
 body_of (Request shown) = compact_text (request_data shown)
 body_of (Requests shown) = compact_text (requests_data shown)
 body_of (Proposals shown) = compact_text (proposals_data shown)
+body_of (Proposal row) = compact_text (whole_proposal_data row)
+body_of (Impact number shown) = compact_text (impact_data number shown)
 body_of (Verdict verdict facts) = text_or_none (verdict_data facts.components verdict)
 body_of (Dbx bytes) = bytes
 body_of (Db bytes) = bytes
 body_of (Level text) = text
 body_of (Report text) = text
+body_of (People shown) = compact_text (people_data shown)
+body_of (Minutes text) = text
 body_of (Refused refused) = compact_text (refusals.refused_data refused)
 
 -- the whole response
@@ -78,11 +93,15 @@ refused_of (Reply reply) = None
 refused_of (Request shown) = None
 refused_of (Requests shown) = None
 refused_of (Proposals shown) = None
+refused_of (Proposal row) = None
+refused_of (Impact number shown) = None
 refused_of (Verdict verdict facts) = None
 refused_of (Dbx bytes) = None
 refused_of (Db bytes) = None
 refused_of (Level text) = None
 refused_of (Report text) = None
+refused_of (People shown) = None
+refused_of (Minutes text) = None
 refused_of (Refused refused) = Some refused
 
 -- the outcome in its response: the status, and the refusal of the request

@@ -36,6 +36,7 @@ fn refuse(fault: AskedFault) -> Result<Due, Unread>
         AskedFault::BadField => Ok(Err(Refused::BadField)),
         AskedFault::NoSuchRequest => Ok(Err(Refused::NoSuchRequest)),
         AskedFault::NoSuchProposal => Ok(Err(Refused::NoSuchProposal)),
+        AskedFault::NoRoute => Ok(Err(Refused::NoRoute)),
         AskedFault::NoMemory => Err(Unread::Outage(Outage::NoMemory)),
     }
 }

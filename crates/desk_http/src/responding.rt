@@ -13,8 +13,8 @@ use crate::{Answered, HttpFault, Served};
 use desk_bytes::put;
 use desk_calls::Answer;
 use http_responses::{
-    Content, Outage, Refused, Status, outage_response, proposals_json, refused_response,
-    reply_json, request_json, response, verdict_json,
+    Content, Outage, Refused, Status, impact_json, outage_response, people_json, proposal_json,
+    proposals_json, refused_response, reply_json, request_json, response, verdict_json,
 };
 use std::alloc::{AllocError, Global};
 use std::io::Write;
@@ -41,6 +41,10 @@ fn response_to(alloc: Global, answer: Answer) -> Result<Vec<u8>, AllocError>
         Answer::Proposals(shown) => {
             json_response(alloc, Some(proposals_json(alloc, shown.as_slice())?))
         }
+        Answer::Proposal(shown) => json_response(alloc, Some(proposal_json(alloc, &shown)?)),
+        Answer::Impact(number, shown) => {
+            json_response(alloc, Some(impact_json(alloc, number, &shown)?))
+        }
         Answer::Verdict(verdict, facts) => {
             json_response(alloc, verdict_json(alloc, verdict, &facts)?)
         }
@@ -48,6 +52,10 @@ fn response_to(alloc: Global, answer: Answer) -> Result<Vec<u8>, AllocError>
         Answer::Db(bytes) => response(alloc, Status::Ok, Content::Bytes, bytes.into_vec()),
         Answer::Level(text) => response(alloc, Status::Ok, Content::Text, text.into_vec()),
         Answer::Report(text) => response(alloc, Status::Ok, Content::Text, text.into_vec()),
+        Answer::People(shown) => {
+            json_response(alloc, Some(people_json(alloc, shown.as_slice())?))
+        }
+        Answer::Minutes(text) => response(alloc, Status::Ok, Content::Text, text.into_vec()),
         Answer::Refused(refused) => refused_response(alloc, refused),
     }
 }
@@ -64,11 +72,15 @@ fn outage_in(answer: &Answer) -> Option<Outage>
         | Answer::Request(_)
         | Answer::Requests(_)
         | Answer::Proposals(_)
+        | Answer::Proposal(_)
+        | Answer::Impact(_, _)
         | Answer::Verdict(_, _)
         | Answer::Dbx(_)
         | Answer::Db(_)
         | Answer::Level(_)
-        | Answer::Report(_) => None,
+        | Answer::Report(_)
+        | Answer::People(_)
+        | Answer::Minutes(_) => None,
     }
 }
 

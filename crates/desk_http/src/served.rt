@@ -26,11 +26,15 @@ impl Answered {
             | Answer::Request(_)
             | Answer::Requests(_)
             | Answer::Proposals(_)
+            | Answer::Proposal(_)
+            | Answer::Impact(_, _)
             | Answer::Verdict(_, _)
             | Answer::Dbx(_)
             | Answer::Db(_)
             | Answer::Level(_)
-            | Answer::Report(_) => Answered {
+            | Answer::Report(_)
+            | Answer::People(_)
+            | Answer::Minutes(_) => Answered {
                 status: Status::Ok,
                 refused: None,
             },

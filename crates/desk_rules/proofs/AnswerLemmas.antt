@@ -1,6 +1,6 @@
 -- The refusals of a decision: its own alone, whatever the view shows.
-use Rattle.std.proofs.Common.{◌≡◌, ℕ, Bool, true, false, not, ◌&&◌, ◌||◌, List, [], ◌∷◌, Option, Some, None, Ok, Err, Result, refl, sym, subst, inl, inr}
-use Rattle.std.specs.Prelude.{if◌then◌else◌, IfErr, IsTrue, bytes_eq, codes, find, nat_lt}
+use Rattle.std.proofs.Common.{◌≡◌, ℕ, Bool, true, false, not, ◌||◌, List, [], ◌∷◌, Option, Some, None, Ok, Err, Result, refl, sym, subst, inl, inr}
+use Rattle.std.specs.Prelude.{if◌then◌else◌, IfErr, IsTrue, bytes_eq, codes, find}
 use Rattle.std.specs.List.{list_any}
 use Rattle.std.specs.Option.{option_map_or}
 use Rattle.desk_bytes.specs.declared.refusal.Refusal.{Refusal}
@@ -14,9 +14,7 @@ use Rattle.desk_texts.specs.declared.command.Submission.{Submission}
 use Rattle.desk_texts.specs.declared.facts.Facts.{Facts}
 use Rattle.desk_texts.specs.Imports.{Imported}
 use Rattle.desk_texts.specs.declared.kind.ListedKind.{ListedKind}
-use Rattle.desk_texts.specs.declared.kind.ListedKind.TheVariants as kinds
 use Rattle.desk_texts.specs.declared.proposal.ProposalKind.{ProposalKind}
-use Rattle.desk_texts.specs.declared.proposal.ProposalKind.TheVariants as proposed
 use Rattle.desk_texts.specs.declared.proposal.ProposalState.{ProposalState}
 use Rattle.desk_texts.specs.declared.reply.Reply.{Reply}
 use Rattle.desk_texts.specs.declared.reply.Reply.TheVariants as replies
@@ -31,16 +29,17 @@ use Rattle.desk_history.specs.declared.rows.RequestRow.{RequestRow}
 use Rattle.desk_history.specs.declared.write.Write.{Write}
 use Rattle.desk_history.specs.declared.write.Write.TheVariants as writes
 use Rattle.desk_history.specs.People.{has_name, has_token}
-use Rattle.desk_history.specs.Refusals.{add_refusal, confirm_by, drop_by, image_refusal, is_closed, is_later, refuse_if, return_by, review_by, withdraw_by}
+use Rattle.desk_history.specs.Refusals.{add_refusal, confirm_by, drop_by, image_refusal, is_closed, refuse_if, return_by, review_by, withdraw_by}
 use Rattle.desk_history.specs.DecisionRefusals.{may_answer}
 use Rattle.desk_history.specs.Requests.{is_vote_of, votes_on}
 use Rattle.desk_history.specs.Runs.{repeated}
 use Rattle.desk_history.specs.Verdicts.{bars, lists_image}
 use Rattle.desk_rules.specs.declared.view.Changes.{Changes}
 use Rattle.desk_rules.specs.declared.view.View.{View}
-use Rattle.desk_rules.specs.DecisionSteps.{AppendsCallRow, Decided, Repeats, drop_refusal_in, force_refusal_in, is_lower_in, outcome_after, return_refusal_in, returned_file_row, review_refusal_in, submission_writes, vote_row, withdraw_refusal_in}
+use Rattle.desk_rules.specs.DecisionSteps.{AppendsCallRow, Decided, Repeats, drop_refusal_in, force_refusal_in, outcome_after, return_refusal_in, returned_file_row, review_refusal_in, submission_writes, vote_row, withdraw_refusal_in}
 use Rattle.desk_rules.specs.Shown.{is_proposal_row, is_request_row}
 use Rattle.desk_rules.specs.Views.{seen_standing}
+use Rattle.desk_rules.proofs.ForeseenRefusals.{force_foreseen, may_be_answered}
 
 none_some : {A : Type 0} {r : Refusal} → None ≡ Some r → A
 none_some h = cc
@@ -86,15 +85,8 @@ return_only states.Rejected digest signing x barred listed r h = given refusals.
 return_only states.Withdrawn digest signing x barred listed r h = given refusals.WrongState r refl h
 return_only states.Signed digest signing x barred listed r h = given refusals.WrongState r refl h
 
-raise_parts : (low : Bool) (early : Bool) (r : Refusal) → (if low then Some refusals.NotHigher else refuse_if early refusals.StampNotLater) ≡ Some r → may_answer r ≡ true
-raise_parts true early r h = given refusals.NotHigher r refl h
-raise_parts false early r h = refuse_only early refusals.StampNotLater r refl h
-
 pub force_only : (v : View) (kind : ProposalKind) (n : Imported) (names : ℕ) (r : Refusal) → force_refusal_in v kind n names ≡ Some r → may_answer r ≡ true
-force_only v proposed.Digest n names r h = refuse_only (list_any ((seen_standing v.lists).revoked kinds.Digest) n.digests) refusals.AlreadyRevoked r refl h
-force_only v proposed.Certificate n names r h = refuse_only (list_any ((seen_standing v.lists).revoked kinds.Certificate) n.certificates) refusals.AlreadyRevoked r refl h
-force_only v proposed.Level n names r h = raise_parts (list_any (is_lower_in v.lists.components.items) n.components) (not (is_later v.stamp n.stamp)) r h
-force_only v proposed.Import n names r h = refuse_only (nat_lt 0 names && not (is_later v.stamp n.stamp)) refusals.StampNotLater r refl h
+force_only v kind n names r h = may_be_answered r (force_foreseen v kind n names r h)
 
 drop_only : (s : ProposalState) (r : Refusal) → drop_by s ≡ Some r → may_answer r ≡ true
 drop_only s r h = refuse_only (is_closed s) refusals.ProposalClosed r refl h

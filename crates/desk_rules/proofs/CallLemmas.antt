@@ -22,7 +22,8 @@ use Rattle.desk_history.specs.declared.answer.Answer.TheVariants.{Accepted, Refu
 use Rattle.desk_rules.specs.declared.view.Changes.{Changes}
 use Rattle.desk_rules.specs.declared.view.View.{View}
 use Rattle.desk_rules.specs.DecisionSteps.{AppendsCallRow, IsCommandStep, RefusesOwn, Repeats}
-use Rattle.desk_rules.specs.Decisions.{Decides, RefusesCall, called}
+use Rattle.desk_rules.specs.Decisions.{Decides, RefusesCall}
+use Rattle.desk_history.specs.Called.{called}
 use Rattle.desk_rules.specs.Shown.{Shows}
 use Rattle.desk_history.specs.Limits.{is_within}
 use Rattle.desk_history.specs.Refusals.{is_known, is_one_of, is_theirs, may_give, own_refusal, refusal, refuse_if}

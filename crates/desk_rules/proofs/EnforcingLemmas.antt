@@ -18,7 +18,6 @@ use Rattle.desk_texts.specs.declared.proposal.ProposalKind.{ProposalKind}
 use Rattle.desk_texts.specs.declared.proposal.ProposalKind.TheVariants as proposed
 use Rattle.desk_texts.specs.declared.proposal.ProposalState.TheVariants as states
 use Rattle.desk_texts.specs.declared.reply.Counts.{Counts}
-use Rattle.desk_texts.specs.declared.reply.Reply.TheVariants as replies
 use Rattle.desk_history.specs.declared.rows.ProposalRow.{ProposalRow}
 use Rattle.desk_history.specs.declared.write.Write.{Write}
 use Rattle.desk_history.specs.declared.write.Write.TheVariants as writes
@@ -26,7 +25,7 @@ use Rattle.desk_history.specs.Calls.{History, is_among, distinct, item}
 use Rattle.desk_history.specs.Forces.{InForce, enforced_by, forced, nothing}
 use Rattle.desk_history.specs.Level.{generations, greatest, is_above, is_sbat, names, raises, raises_some, stamp}
 use Rattle.desk_history.specs.Refusals.{is_later, refuse_if}
-use Rattle.desk_history.specs.Replies.{minutes, raised_count, reply}
+use Rattle.desk_history.specs.Replies.{counted, minutes, raised_count}
 use Rattle.desk_history.specs.Revocations.{is_revoked, revocations}
 use Rattle.desk_history.specs.Tables.{Tables, level_rows, tables}
 use Rattle.desk_history.specs.Writes.{all_written, written}
@@ -34,11 +33,11 @@ use Rattle.desk_history.proofs.LevelLemmas.{all_raise_so, others_reversed}
 use Rattle.desk_history.proofs.ListLemmas.{bytes_eq-refl}
 use Rattle.desk_history.proofs.ProposalRowLemmas.{confirm_rows, is_lower, refused_by}
 use Rattle.desk_history.proofs.WriteLemmas.{written-append}
+use Rattle.desk_rules.specs.declared.decisions.imports.Enforced.{Enforced}
 use Rattle.desk_rules.specs.declared.decisions.imports.SoFar.{SoFar}
-use Rattle.desk_rules.specs.declared.view.Changes.{Changes}
 use Rattle.desk_rules.specs.declared.view.View.{View}
 use Rattle.desk_rules.specs.DecisionSteps.{force_refusal_in, is_lower_in, revocation_writes}
-use Rattle.desk_rules.specs.Decisions.{called}
+use Rattle.desk_history.specs.Called.{called}
 use Rattle.desk_rules.specs.ImportSteps.{AreNew, HasTaken, HasTakenAll, PutsIntoForce, stamp_writes}
 use Rattle.desk_rules.specs.Room.{takes_off}
 use Rattle.desk_rules.specs.Keys.{import_keys}
@@ -85,8 +84,8 @@ stamp_kept : (n : ℕ) (o : Option ℕ) → list_any takes_off (stamp_writes n o
 stamp_kept n None = refl
 stamp_kept n (Some s) = elim (nat_lt 0 n) as (λ b. list_any takes_off (if b then writes.Stamp s ∷ [] else []) ≡ false) [ true ↦ refl | false ↦ refl ]
 
-counted : (new rows : List (List ℕ)) → length new ≡ length (reverse new ++ rows) - length rows
-counted new rows = omega (arith, length-append (reverse new) rows, length-reverse new)
+count_new : (new rows : List (List ℕ)) → length new ≡ length (reverse new ++ rows) - length rows
+count_new new rows = omega (arith, length-append (reverse new) rows, length-reverse new)
 
 -- a component refused by its name is refused at any generation
 named_lower : (same : Bool) (n first : ℕ) (named : Option ℕ) → (same || not (is_above n named)) ≡ (same || not (is_above n (if same then Some first else named)))
@@ -153,7 +152,11 @@ module _ (v : View) (i : Imported) (owner : List ℕ) (cs : History) (lists : Sh
     proposals = rows;
   }
 
-  -- and the numbers of that
+  -- these numbers, and as many entries skipped as are named
+  abbrev counts_with : ℕ → ℕ → ℕ → Counts
+  counts_with digests certificates components = record { digests = digests; certificates = certificates; components = components; passed = i.passed }
+
+  -- the numbers of what is put into force
   abbrev counts_of : Option Imported → Counts
   counts_of o = record {
     digests = length (distinct ((option_map_or forced o nothing).digests ++ revocations kinds.Digest cs)) - length (distinct (revocations kinds.Digest cs));
@@ -162,22 +165,24 @@ module _ (v : View) (i : Imported) (owner : List ℕ) (cs : History) (lists : Sh
     passed = option_map_or (λ n. n.passed) o 0;
   }
 
-  module _ (caller : Caller) (key : List ℕ) (k : ℕ) (enforced : enforced_by cs (item (called caller key (command.Confirm k))) ≡ Some i) (changes : Changes) (made : PutsIntoForce v i k s changes) where
+  module _ (caller : Caller) (key : List ℕ) (k : ℕ) (enforced : enforced_by cs (item (called caller key (command.Confirm k))) ≡ Some i) (done : Enforced) (made : PutsIntoForce v i k s done) where
     first : distinct (reverse i.digests ++ revocations kinds.Digest cs) ≡ reverse made.digests ++ distinct (revocations kinds.Digest cs)
     first = digest_rows made.digests made.new_digests
 
     second : distinct (reverse i.certificates ++ revocations kinds.Certificate cs) ≡ reverse made.certificates ++ distinct (revocations kinds.Certificate cs)
     second = certificate_rows made.certificates made.new_certificates
 
-    pub says : changes.reply ≡ reply cs (called caller key (command.Confirm k))
+    pub says : done.counts ≡ counted cs (item (called caller key (command.Confirm k)))
     says =
-        made.replied
-        ∙ (ap (λ n. replies.Confirmed (record { proposal = k; counts = record { digests = n; certificates = length made.certificates; components = s.names; passed = i.passed } })) (counted made.digests (distinct (revocations kinds.Digest cs)) ∙ ap (λ r. length r - length (distinct (revocations kinds.Digest cs))) (sym first))
-        ∙ (ap (λ n. replies.Confirmed (record { proposal = k; counts = record { digests = length (distinct (reverse i.digests ++ revocations kinds.Digest cs)) - length (distinct (revocations kinds.Digest cs)); certificates = n; components = s.names; passed = i.passed } })) (counted made.certificates (distinct (revocations kinds.Certificate cs)) ∙ ap (λ r. length r - length (distinct (revocations kinds.Certificate cs))) (sym second))
-        ∙ (ap (λ n. replies.Confirmed (record { proposal = k; counts = record { digests = length (distinct (reverse i.digests ++ revocations kinds.Digest cs)) - length (distinct (revocations kinds.Digest cs)); certificates = length (distinct (reverse i.certificates ++ revocations kinds.Certificate cs)) - length (distinct (revocations kinds.Certificate cs)); components = n; passed = i.passed } })) (sym raised)
-        ∙ ap (λ o. replies.Confirmed (record { proposal = k; counts = counts_of o })) (sym enforced))))
+        let digests : List (List ℕ) = distinct (revocations kinds.Digest cs) in
+        let certificates : List (List ℕ) = distinct (revocations kinds.Certificate cs) in
+        made.counts
+        ∙ (ap (λ n. counts_with n (length made.certificates) s.names) (count_new made.digests digests ∙ ap (λ r. length r - length digests) (sym first))
+        ∙ (ap (λ n. counts_with (length (distinct (reverse i.digests ++ revocations kinds.Digest cs)) - length digests) n s.names) (count_new made.certificates certificates ∙ ap (λ r. length r - length certificates) (sym second))
+        ∙ (ap (λ n. counts_with (length (distinct (reverse i.digests ++ revocations kinds.Digest cs)) - length digests) (length (distinct (reverse i.certificates ++ revocations kinds.Certificate cs)) - length certificates) n) (sym raised)
+        ∙ ap (λ o. counts_of o) (sym enforced))))
 
-    pub puts : all_written changes.writes.items (tables owner cs) ≡ record (tables owner (item (called caller key (command.Confirm k)) ∷ cs)) { calls = minutes cs }
+    pub puts : all_written done.writes.items (tables owner cs) ≡ record (tables owner (item (called caller key (command.Confirm k)) ∷ cs)) { calls = minutes cs }
     puts =
         let t : Tables = record (tables owner cs) { components = level_rows (reverse i.components ++ generations cs) } in
         let u : Tables = record t { revoked_digests = distinct (reverse i.digests ++ revocations kinds.Digest cs) } in
@@ -201,7 +206,7 @@ module _ (v : View) (i : Imported) (owner : List ℕ) (cs : History) (lists : Sh
         ∙ (ap (λ rows. with_force (forced i) rows) (confirm_rows owner cs caller key k)
         ∙ ap (λ o. with_force (option_map_or forced o nothing) (tables owner (item (called caller key (command.Confirm k)) ∷ cs)).proposals) (sym enforced))))
 
-    pub kept : list_any takes_off changes.writes.items ≡ false
+    pub kept : list_any takes_off done.writes.items ≡ false
     kept =
         let digests : List Write = revocation_writes kinds.Digest made.digests in
         let certificates : List Write = revocation_writes kinds.Certificate made.certificates in

@@ -129,6 +129,18 @@ or_else_none (Some n) = refl
 ties_same : (q x : List ℕ) → ties q x ≡ bytes_eq q x
 ties_same q x = is_eq-slice_cmp q x
 
+greater_turned : (o : Option ℕ) (g : ℕ) → greater o g ≡ greater_of g o
+greater_turned None g = refl
+greater_turned (Some m) g = omega arith
+
+-- a component that is raised is one more
+pub greatest_more : (m : Generations) (x : Component) (seen : List Component) (q : List ℕ) → get m q ≡ greatest seen q → get (raised m x) q ≡ greatest (x ∷ seen) q
+greatest_more m x seen q before =
+    get-raised m x q
+    ∙ (ap (λ b. cond b (Some (greater (get m q) x.generation)) (get m q)) (ties_same q x.name)
+    ∙ (ap (λ o. cond (bytes_eq q x.name) (Some (greater o x.generation)) o) before
+    ∙ ap (λ n. cond (bytes_eq q x.name) (Some n) (greatest seen q)) (greater_turned (greatest seen q) x.generation)))
+
 -- a new name has its row's generation
 pub row_taken : (m : Generations) (row : Component) → get m row.name ≡ None → (q : List ℕ) → get (raised m row) q ≡ or_else (get m q) (generation_in (row ∷ []) q)
 row_taken m row none q =
@@ -177,10 +189,6 @@ module _ (asked old seen : List Component) (x : Component) (s : SoFar) (is_asked
         kept = before.kept;
       }
 
-  greater_turned : (o : Option ℕ) (g : ℕ) → greater o g ≡ greater_of g o
-  greater_turned None g = refl
-  greater_turned (Some m) g = omega arith
-
   pub takes_above : (prev : Generations) → get prev x.name ≡ greatest old x.name → is_above x.generation (get s.level.generations x.name) ≡ true → (after : SoFar) →
       after.level.generations ≡ raised s.level.generations x → after.writes.items ≡ s.writes.items ++ put_of (get s.level.generations x.name) x ∷ [] →
       after.names ≡ s.names + one_if (not (rose (get s.level.generations x.name) (get prev x.name))) → HasTaken asked old (x ∷ seen) after
@@ -191,11 +199,7 @@ module _ (asked old seen : List Component) (x : Component) (s : SoFar) (is_asked
       names_rose old seen x.name ∙ (ap (λ o. rose o (greatest old x.name)) (sym current) ∙ ap (λ o. rose (get s.level.generations x.name) o) (sym was)) in
       record {
         other = before.other;
-        level = λ q h.
-            ap (λ m. get m q) leveled ∙ (get-raised s.level.generations x q
-            ∙ (ap (λ b. cond b (Some (greater (get s.level.generations q) x.generation)) (get s.level.generations q)) (ties_same q x.name)
-            ∙ (ap (λ o. cond (bytes_eq q x.name) (Some (greater o x.generation)) o) (before.level q h)
-            ∙ ap (λ n. cond (bytes_eq q x.name) (Some n) (greatest (seen ++ old) q)) (greater_turned (greatest (seen ++ old) q) x.generation))));
+        level = λ q h. ap (λ m. get m q) leveled ∙ greatest_more s.level.generations x (seen ++ old) q (before.level q h);
         count =
             ap (λ b. length (distinct (map (λ (y : Component). y.name) (cond b (x ∷ filter (is_raise old) seen) (filter (is_raise old) seen))))) raises
             ∙ (ap (λ b. length (if b then distinct (raised_names old seen) else x.name ∷ distinct (raised_names old seen))) risen

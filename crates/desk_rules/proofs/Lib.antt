@@ -2,6 +2,9 @@ pub mod AnswerLemmas
 pub mod CallLemmas
 pub mod DecisionLemmas
 pub mod EnforcingLemmas
+pub mod EntryLemmas
+pub mod ForeseeingLemmas
+pub mod ForeseenRefusals
 pub mod ImportDigests
 pub mod ImportLemmas
 pub mod LevelDecisions

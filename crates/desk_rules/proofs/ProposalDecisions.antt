@@ -1,5 +1,5 @@
 -- Proposals in a view that shows a history, and tables after their writes.
-use Rattle.std.proofs.Common.{◌≡◌, ℕ, ◌+◌, ◌≤◌, Bool, true, false, IfSome, List, [], ◌∷◌, length, Option, Some, None, Ok, Err, Result, refl, sym, ◌∙◌, ap, subst, inl, inr, arith}
+use Rattle.std.proofs.Common.{◌≡◌, ◌⊎◌, ℕ, ◌+◌, ◌≤◌, Bool, true, false, IfSome, List, [], ◌∷◌, length, Option, Some, None, Ok, Err, Result, refl, sym, ◌∙◌, ap, subst, inl, inr, arith}
 use Rattle.std.specs.Prelude.{IfErr, IfOk, bytes_eq, find, option_map}
 use Rattle.std.specs.Option.{option_map_or}
 use Rattle.std.proofs.lemmas.List.{length-map}
@@ -17,21 +17,23 @@ use Rattle.desk_history.specs.declared.rows.ProposalRow.{ProposalRow}
 use Rattle.desk_history.specs.declared.write.Write.TheVariants as writes
 use Rattle.desk_history.specs.Calls.{History, item}
 use Rattle.desk_history.specs.Forces.{enforced_by}
+use Rattle.desk_history.specs.Impact.{another_refusal}
 use Rattle.desk_history.specs.Proposals.{Named, Proposal, named_by, proposal, proposal_state, proposals}
-use Rattle.desk_history.specs.Refusals.{confirm_by, drop_by, drop_refusal, force_refusal, own_refusal}
+use Rattle.desk_history.specs.Refusals.{confirm_by, confirm_refusal, drop_by, drop_refusal, force_refusal, own_refusal}
 use Rattle.desk_history.specs.Replies.{minutes, reply}
 use Rattle.desk_history.specs.Runs.{is_legal}
 use Rattle.desk_history.specs.Tables.{proposal_row, tables}
 use Rattle.desk_history.proofs.ClosingLemmas.{next_is_open}
-use Rattle.desk_history.proofs.ProposalRowLemmas.{drop_rows, refused_by, refused_by-is, row_refused, table_found}
+use Rattle.desk_history.proofs.ProposalRowLemmas.{another_refused, drop_rows, refused_by, refused_by-is, row_refused, table_found}
 use Rattle.desk_history.proofs.RunLemmas.{legal_proposals}
+use Rattle.desk_rules.specs.declared.decisions.imports.Enforced.{Enforced}
 use Rattle.desk_rules.specs.declared.decisions.imports.SoFar.{SoFar}
 use Rattle.desk_rules.specs.declared.view.Changes.{Changes}
 use Rattle.desk_rules.specs.declared.view.LimitedTable.TheVariants as counted
 use Rattle.desk_rules.specs.declared.view.View.{View}
 use Rattle.desk_rules.specs.DecisionSteps.{Decided, DecidesOwn, IsCommandStep, MatchesOwn, RefusesOwn, drop_refusal_in, force_refusal_in, open_row}
-use Rattle.desk_rules.specs.Decisions.{called}
-use Rattle.desk_rules.specs.ImportSteps.{HasTakenAll, PutsIntoForce}
+use Rattle.desk_history.specs.Called.{called}
+use Rattle.desk_rules.specs.ImportSteps.{ConfirmsAnother, HasTakenAll, IsConfirmed, PutsIntoForce}
 use Rattle.desk_rules.specs.Keys.{import_keys, row_keys}
 use Rattle.desk_rules.specs.Shown.{Shows, is_proposal_row, keys_asked, may_put}
 use Rattle.desk_rules.specs.Views.{ShowsLists}
@@ -103,8 +105,14 @@ early states.Open false refused r h = absurd cc
 early states.Confirmed own refused r h = h
 early states.Dropped own refused r h = h
 
--- every other is refused as its command
-late : (state : ProposalState) (own : Bool) (refused : Option Refusal) → confirm_by state own None ≡ None → confirm_by state own refused ≡ refused
+-- every other is open
+pub open_one : (state : ProposalState) (own : Bool) → confirm_by state own None ≡ None → state ≡ states.Open
+open_one states.Open own h = refl
+open_one states.Confirmed own h = absurd cc
+open_one states.Dropped own h = absurd cc
+
+-- and another officer's, so that it is refused as its command
+late : (state : ProposalState) (own : Bool) (refused : Option Refusal) → confirm_by state own None ≡ None → confirm_by state own refused ≡ confirm_by state false refused
 late states.Open true refused h = absurd cc
 late states.Open false refused h = refl
 late states.Confirmed own refused h = absurd cc
@@ -115,53 +123,89 @@ missing None s h = refl
 missing (Some p) s h = cc
 
 module _ (v : View) (caller : Caller) (k : ℕ) (owner : List ℕ) (cs : History) (key : List ℕ) (shown : Shows v (tables owner cs) (called caller key (command.Confirm k))) where
+  abbrev another : Option Refusal
+  another = another_refusal cs (proposal cs k) (proposal_state cs k)
+
   -- a proposal that isn't there
+  gone : find (is_proposal_row k) v.proposals.items ≡ None → proposal cs k ≡ None
+  gone none = missing (proposal cs k) (proposal_state cs k) (sym (table_found owner cs k) ∙ (sym (shown.proposal k refl) ∙ none))
+
   pub confirms_none : find (is_proposal_row k) v.proposals.items ≡ None → RefusesOwn refusals.NoSuchProposal cs (called caller key (command.Confirm k))
-  confirms_none none =
-      let gone : proposal cs k ≡ None = missing (proposal cs k) (proposal_state cs k) (sym (table_found owner cs k) ∙ (sym (shown.proposal k refl) ∙ none)) in
-      inl (none_refused gone)
-    where
-      none_refused : proposal cs k ≡ None → own_refusal cs (caller_name caller) (command.Confirm k) ≡ Some refusals.NoSuchProposal
-      none_refused gone = rw gone refl
+  confirms_none none = inl (ap (λ o. confirm_refusal cs o (proposal_state cs k) (caller_name caller)) (gone none))
+
+  pub another_none : find (is_proposal_row k) v.proposals.items ≡ None → another ≡ Some refusals.NoSuchProposal
+  another_none none = ap (λ o. another_refusal cs o (proposal_state cs k)) (gone none)
 
   module _ (row : ProposalRow) (found : find (is_proposal_row k) v.proposals.items ≡ Some row) where
     there : find (is_proposal_row k) (tables owner cs).proposals ≡ Some row
     there = sym (shown.proposal k refl) ∙ found
+
+    another_is : another ≡ confirm_by row.state false (refused_by cs row.kind row.named)
+    another_is = another_refused owner cs k row there
 
     -- a proposal that is closed, or the caller's own
     pub refuses_early : (r : Refusal) → confirm_by row.state (bytes_eq row.officer (caller_name caller)) None ≡ Some r → RefusesOwn r cs (called caller key (command.Confirm k))
     refuses_early r h =
         inl (row_refused owner cs (caller_name caller) k row there ∙ early row.state (bytes_eq row.officer (caller_name caller)) (refused_by cs row.kind row.named) r h)
 
-    -- another officer's open one, of which the components make this
-    module _ (open_to : confirm_by row.state (bytes_eq row.officer (caller_name caller)) None ≡ None) (s : SoFar) (taken : HasTakenAll v row.named s) where
+    pub another_early : (r : Refusal) → confirm_by row.state false None ≡ Some r → another ≡ Some r
+    another_early r h = another_is ∙ early row.state false (refused_by cs row.kind row.named) r h
+
+    -- an open one, of which the components make this
+    module _ (is_open : row.state ≡ states.Open) (s : SoFar) (taken : HasTakenAll v row.named s) where
       lists_seen : ShowsLists v.lists (tables owner cs) (import_keys row.named)
       lists_seen = subst (λ o. ShowsLists v.lists (tables owner cs) (row_keys o)) there shown.lists
 
-      refusal_is : force_refusal_in v row.kind row.named s.names ≡ own_refusal cs (caller_name caller) (command.Confirm k)
+      refusal_is : force_refusal_in v row.kind row.named s.names ≡ another
       refusal_is =
           force_seen v row.named owner cs lists_seen shown.stamp s taken row.kind
-          ∙ sym (late row.state (bytes_eq row.officer (caller_name caller)) (refused_by cs row.kind row.named) open_to)
-          ∙ sym (row_refused owner cs (caller_name caller) k row there)
+          ∙ (ap (λ state. confirm_by state false (refused_by cs row.kind row.named)) (sym is_open)
+          ∙ sym another_is)
 
       enforced : enforced_by cs (item (called caller key (command.Confirm k))) ≡ Some row.named
       enforced = entries_by (proposal_state cs k) (proposal cs k) ∙ ap (λ o. option_map (λ (q : ProposalRow). q.named) o) (sym (table_found owner cs k) ∙ there)
 
-      pub refuses_confirm : (r : Refusal) → force_refusal_in v row.kind row.named s.names ≡ Some r → RefusesOwn r cs (called caller key (command.Confirm k))
-      refuses_confirm r h = inl (sym refusal_is ∙ h)
+      pub refuses_force : (r : Refusal) → force_refusal_in v row.kind row.named s.names ≡ Some r → another ≡ Some r
+      refuses_force r h = sym refusal_is ∙ h
 
-      step : force_refusal_in v row.kind row.named s.names ≡ None → (changes : Changes) → PutsIntoForce v row.named k s changes → IsCommandStep changes owner cs (called caller key (command.Confirm k))
-      step fine changes made = record {
-        accepted = sym refusal_is ∙ fine;
-        replied = says v row.named owner cs lists_seen shown.stamp s taken caller key k enforced changes made;
-        made = puts v row.named owner cs lists_seen shown.stamp s taken caller key k enforced changes made;
-        listed = inl (kept v row.named owner cs lists_seen shown.stamp s taken caller key k enforced changes made);
+      pub forces : force_refusal_in v row.kind row.named s.names ≡ None → (e : Enforced) → PutsIntoForce v row.named k s e → IsConfirmed e owner cs caller key k
+      forces fine e made = record {
+        free = sym refusal_is ∙ fine;
+        counts = says v row.named owner cs lists_seen shown.stamp s taken caller key k enforced e made;
+        made = puts v row.named owner cs lists_seen shown.stamp s taken caller key k enforced e made;
+        kept = kept v row.named owner cs lists_seen shown.stamp s taken caller key k enforced e made;
       }
 
-      pub confirms : force_refusal_in v row.kind row.named s.names ≡ None → (result : Result Changes Refusal) →
-          IfOk result (λ changes. PutsIntoForce v row.named k s changes) → IfErr result (λ r. r ≡ refusals.NoMemory) → MatchesOwn owner cs (called caller key (command.Confirm k)) result
-      confirms fine (Ok changes) made failed = step fine changes made
-      confirms fine (Err r) made failed = inr failed
+    -- the caller's Confirm of an open one of another officer
+    module _ (open_to : confirm_by row.state (bytes_eq row.officer (caller_name caller)) None ≡ None) where
+      as_another : own_refusal cs (caller_name caller) (command.Confirm k) ≡ another
+      as_another =
+          row_refused owner cs (caller_name caller) k row there
+          ∙ (late row.state (bytes_eq row.officer (caller_name caller)) (refused_by cs row.kind row.named) open_to
+          ∙ sym another_is)
+
+      pub refuses_confirm : (r : Refusal) → (another ≡ Some r) ⊎ (r ≡ refusals.NoMemory) → (result : Result Changes Refusal) → result ≡ Err r → MatchesOwn owner cs (called caller key (command.Confirm k)) result
+      refuses_confirm r why result is = subst (λ (out : Result Changes Refusal). MatchesOwn owner cs (called caller key (command.Confirm k)) out) (sym is) (because why)
+        where
+          because : (another ≡ Some r) ⊎ (r ≡ refusals.NoMemory) → RefusesOwn r cs (called caller key (command.Confirm k))
+          because (inl h) = inl (as_another ∙ h)
+          because (inr e) = inr e
+
+      pub confirms : (e : Enforced) → IsConfirmed e owner cs caller key k → (changes : Changes) → changes ≡ record { reply = replies.Confirmed (record { proposal = k; counts = e.counts }); writes = e.writes } →
+          IsCommandStep changes owner cs (called caller key (command.Confirm k))
+      confirms e done changes is = subst (λ (c : Changes). IsCommandStep c owner cs (called caller key (command.Confirm k))) (sym is) (record {
+        accepted = as_another ∙ done.free;
+        replied = ap (λ n. replies.Confirmed (record { proposal = k; counts = n })) done.counts;
+        made = done.made;
+        listed = inl done.kept;
+      })
+
+-- another officer's Confirm, of an open proposal
+pub puts_in : (v : View) (k : ℕ) (row : ProposalRow) (s : SoFar) → HasTakenAll v row.named s → (result : Result Enforced Refusal)
+    → force_refusal_in v row.kind row.named s.names ≡ None → IfOk result (λ e. PutsIntoForce v row.named k s e) → IfErr result (λ r. r ≡ refusals.NoMemory)
+    → find (is_proposal_row k) v.proposals.items ≡ Some row → row.state ≡ states.Open → ConfirmsAnother v k result
+puts_in v k row s taken (Ok e) fine made failed found is_open owner cs caller key shown = forces v caller k owner cs key shown row found is_open s taken fine e made
+puts_in v k row s taken (Err r) fine made failed found is_open owner cs caller key shown = inr failed
 
 -- ---- a Drop
 

@@ -29,7 +29,7 @@ use Rattle.desk_history.specs.Writes.{set_state}
 use Rattle.desk_rules.specs.declared.view.Changes.{Changes}
 use Rattle.desk_rules.specs.declared.view.View.{View}
 use Rattle.desk_rules.specs.DecisionSteps.{Decided, MatchesOwn, returned_file_row, outcome_after, return_refusal_in, review_refusal_in, withdraw_refusal_in, state_after, state_with, vote_row}
-use Rattle.desk_rules.specs.Decisions.{called}
+use Rattle.desk_history.specs.Called.{called}
 use Rattle.desk_rules.specs.Shown.{Shows, is_request_row}
 use Rattle.desk_history.specs.Refusals.{image_refusal, return_by, return_refusal, review_by, review_refusal, withdraw_by, withdraw_refusal}
 use Rattle.desk_history.specs.Verdicts.{bars, is_barred, lists_image, standing, stands_in_db}

@@ -9,11 +9,13 @@ use Rattle.desk_texts.specs.declared.facts.Facts.{Facts}
 use Rattle.desk_texts.specs.declared.kind.ListedKind.{ListedKind}
 use Rattle.desk_texts.specs.declared.kind.ListedKind.TheVariants as kinds
 use Rattle.desk_history.specs.Calls.{History, is_among}
+use Rattle.desk_history.specs.Impact.{component_rule, first_rule, rule_at}
 use Rattle.desk_history.specs.Level.{generations, greater_of, greatest, is_sbat, names}
 use Rattle.desk_history.specs.Revocations.{revocations}
 use Rattle.desk_history.specs.Tables.{level_row, level_rows, tables}
 use Rattle.desk_history.specs.Writes.{is_named}
 use Rattle.desk_history.specs.declared.finding.Verdict.{Verdict}
+use Rattle.desk_history.specs.declared.impact.Rule.TheVariants as rules
 use Rattle.desk_rules.specs.declared.list_view.ListView.{ListView}
 use Rattle.desk_history.specs.Verdicts.{Standing, bars, first_below, has_revoked_certificate, has_revoked_digest, is_below, is_less, lack_at, lists_image, standing, verdict, verdict_by, verdict_on}
 use Rattle.desk_rules.specs.Views.{EntryKeys, Keys, ShowsLists, component_names, generation_in, keys_for, keys_of, listed_keys, revoked_keys, seen_standing}
@@ -93,6 +95,12 @@ module _ (s u : Standing) where
       ap (λ o. option_or (lack_at place x.generation o) (first_below s (place + 1) xs)) (each x.name (or_left (bytes_eq x.name x.name) (is_among (map (λ x. x.name) xs) x.name) (bytes_eq-refl x.name)))
       ∙ ap (λ b. option_or (lack_at place x.generation (u.required x.name)) b) (first_alike (place + 1) xs (λ n h. each n (or_right (bytes_eq n x.name) (is_among (map (λ x. x.name) xs) n) h)))
 
+  component_alike : (xs : List Component) → ((name : List ℕ) → IsTrue (is_among (map (λ x. x.name) xs) name) → s.required name ≡ u.required name) → component_rule s xs ≡ component_rule u xs
+  component_alike [] each = refl
+  component_alike (x ∷ xs) each =
+      ap (λ o. option_or (rule_at x o) (component_rule s xs)) (each x.name (or_left (bytes_eq x.name x.name) (is_among (map (λ x. x.name) xs) x.name) (bytes_eq-refl x.name)))
+      ∙ ap (λ o. option_or (rule_at x (u.required x.name)) o) (component_alike xs (λ n h. each n (or_right (bytes_eq n x.name) (is_among (map (λ x. x.name) xs) n) h)))
+
   module _ (x : Facts) where
     own_digest : (rest : List (List ℕ)) → IsTrue (is_among (x.digest ∷ rest) x.digest)
     own_digest rest = or_left (bytes_eq x.digest x.digest) (is_among rest x.digest) (bytes_eq-refl x.digest)
@@ -120,6 +128,12 @@ module _ (s u : Standing) where
           ap (λ b. b || has_revoked_certificate s x || list_any (is_below s) x.components) digest_alike
           ∙ (ap (λ b. has_revoked_digest u x || b || list_any (is_below s) x.components) certificate_alike
           ∙ ap (λ b. has_revoked_digest u x || has_revoked_certificate u x || b) (below_alike x.components agree.required))
+
+      pub rule_alike : first_rule s x ≡ first_rule u x
+      rule_alike =
+          ap (λ b. if b then Some rules.Digest else (if has_revoked_certificate s x then Some rules.Certificate else component_rule s x.components)) digest_alike
+          ∙ (ap (λ b. if has_revoked_digest u x then Some rules.Digest else (if b then Some rules.Certificate else component_rule s x.components)) certificate_alike
+          ∙ ap (λ o. if has_revoked_digest u x then Some rules.Digest else (if has_revoked_certificate u x then Some rules.Certificate else o)) (component_alike x.components agree.required))
 
       pub verdict_alike : ListAlike s u (listed_keys x) → verdict_on s x ≡ verdict_on u x
       verdict_alike listing =

@@ -28,7 +28,7 @@ use Rattle.desk_history.specs.Writes.{all_written}
 use Rattle.desk_rules.specs.declared.view.Changes.{Changes}
 use Rattle.desk_rules.specs.declared.view.View.{View}
 use Rattle.desk_rules.specs.DecisionSteps.{Decided, MatchesOwn, submission_writes}
-use Rattle.desk_rules.specs.Decisions.{called}
+use Rattle.desk_history.specs.Called.{called}
 use Rattle.desk_rules.specs.Keys.{keys_named}
 use Rattle.desk_rules.specs.Shown.{Shows}
 use Rattle.desk_rules.specs.declared.view.LimitedTable.TheVariants as counted

@@ -40,7 +40,7 @@ use Rattle.desk_history.specs.Writes.{all_written}
 use Rattle.desk_history.specs.declared.answer.Answer.TheVariants.{Refused, Repeated}
 use Rattle.desk_rules.specs.declared.view.Changes.{Changes}
 use Rattle.desk_rules.specs.declared.view.View.{View}
-use Rattle.desk_rules.specs.Decisions.{called}
+use Rattle.desk_history.specs.Called.{called}
 use Rattle.desk_rules.specs.Room.{IsRoomed, has_room}
 use Rattle.desk_history.specs.Refusals.{drop_by, image_refusal, import_refusal, is_later, own_refusal, refuse_if, return_by, review_by, withdraw_by}
 use Rattle.desk_history.specs.Runs.{is_legal, repeated}

@@ -2,9 +2,7 @@
 use Rattle.std.specs.Prelude.{◌≡◌, ◌⊎◌, ℕ, List, [], Result, MatchResult, IsTrue}
 use Rattle.desk_bytes.specs.declared.refusal.Refusal.{Refusal}
 use Rattle.desk_bytes.specs.declared.refusal.Refusal.TheVariants as refusals
-use Rattle.desk_texts.specs.declared.caller.Caller.{Caller}
 use Rattle.desk_texts.specs.declared.command.Call.{Call}
-use Rattle.desk_texts.specs.declared.command.Command.{Command}
 use Rattle.desk_history.specs.Calls.{History}
 use Rattle.desk_history.specs.Tables.{tables}
 use Rattle.desk_history.specs.Writes.{all_written}
@@ -13,10 +11,6 @@ use Rattle.desk_rules.specs.declared.view.Changes.{Changes}
 use Rattle.desk_rules.specs.declared.view.View.{View}
 use Rattle.desk_history.specs.Runs.{answer, is_legal, next}
 use Rattle.desk_rules.specs.Shown.{Shows}
-
--- the call, by its parts
-abbrev pub called : Caller → List ℕ → Command → Call
-called caller key command = record { caller = caller; key = key; command = command }
 
 -- the answer to the call after this history, and the tables of the history that it leaves
 pub record Decides (changes : Changes) (owner : List ℕ) (cs : History) (c : Call) : Type 0 where

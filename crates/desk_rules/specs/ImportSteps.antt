@@ -1,25 +1,33 @@
 -- Words of the steps that put named entries into force.
-use Rattle.std.specs.Prelude.{◌≡◌, ℕ, Bool, true, false, if◌then◌else◌, IsTrue, List, [], ◌∷◌, ◌++◌, Option, Some, None, filter, length, map, nat_lt, reverse}
+use Rattle.std.specs.Prelude.{◌≡◌, ◌⊎◌, ℕ, Bool, true, false, if◌then◌else◌, IsTrue, List, [], ◌∷◌, ◌++◌, Option, Some, None, Result, MatchResult, filter, length, map, nat_lt, reverse}
 use Rattle.std.specs.FinMap.{get}
 use Rattle.std.specs.List.{list_any}
 use Rattle.sbat.specs.declared.component.Component.{Component}
 use Rattle.sbat.specs.Levels.{Generations}
+use Rattle.desk_bytes.specs.declared.refusal.Refusal.{Refusal}
+use Rattle.desk_bytes.specs.declared.refusal.Refusal.TheVariants as refusals
 use Rattle.desk_texts.specs.Imports.{Imported}
 use Rattle.desk_texts.specs.Raising.{names_no_sbat}
+use Rattle.desk_texts.specs.declared.caller.Caller.{Caller}
+use Rattle.desk_texts.specs.declared.command.Command.TheVariants as command
 use Rattle.desk_texts.specs.declared.kind.ListedKind.TheVariants as kinds
 use Rattle.desk_texts.specs.declared.proposal.ProposalState.TheVariants as states
-use Rattle.desk_texts.specs.declared.reply.Reply.TheVariants as replies
 use Rattle.desk_history.specs.declared.write.Write.{Write}
 use Rattle.desk_history.specs.declared.write.Write.TheVariants as writes
-use Rattle.desk_history.specs.Calls.{is_among, distinct}
+use Rattle.desk_history.specs.Calls.{History, distinct, is_among, item}
+use Rattle.desk_history.specs.Impact.{another_refusal}
 use Rattle.desk_history.specs.Level.{greatest, is_above, is_sbat}
-use Rattle.desk_history.specs.Tables.{Tables, level_rows}
+use Rattle.desk_history.specs.Proposals.{proposal, proposal_state}
+use Rattle.desk_history.specs.Replies.{counted, minutes}
+use Rattle.desk_history.specs.Tables.{Tables, level_rows, tables}
 use Rattle.desk_history.specs.Writes.{all_written}
+use Rattle.desk_rules.specs.declared.decisions.imports.Enforced.{Enforced}
 use Rattle.desk_rules.specs.declared.decisions.imports.SoFar.{SoFar}
-use Rattle.desk_rules.specs.declared.view.Changes.{Changes}
 use Rattle.desk_rules.specs.declared.view.View.{View}
 use Rattle.desk_rules.specs.DecisionSteps.{revocation_writes}
+use Rattle.desk_history.specs.Called.{called}
 use Rattle.desk_rules.specs.Room.{takes_off}
+use Rattle.desk_rules.specs.Shown.{Shows}
 use Rattle.desk_rules.specs.Views.{generation_in}
 
 -- the rows with those of the named that they lack, the last first
@@ -77,16 +85,30 @@ HasTakenAll v n s =
     (old : List Component) → ((q : List ℕ) → IsTrue (is_among (map (λ x. x.name) n.components) q) → generation_in v.lists.components.items q ≡ greatest old q)
     → HasTaken n.components old (reverse n.components) s
 
--- The changes put the entries of proposal k into force; `s` is the changes that its components
--- make. In order: its new digests, its new certificates, the generations, the stamp if some rose,
--- and last the proposal's state.
-pub record PutsIntoForce (v : View) (n : Imported) (k : ℕ) (s : SoFar) (changes : Changes) : Type 0 where
+-- These counts and writes put the entries of proposal k into force; `s` is the changes that its
+-- components make. In order: its new digests, its new certificates, the generations, the stamp if
+-- some rose, and last the proposal's state.
+pub record PutsIntoForce (v : View) (n : Imported) (k : ℕ) (s : SoFar) (e : Enforced) : Type 0 where
   pub digests : List (List ℕ)
   pub certificates : List (List ℕ)
   pub new_digests : AreNew v.lists.revoked_digests.items n.digests digests
   pub new_certificates : AreNew v.lists.revoked_certificates.items n.certificates certificates
-  pub replied : changes.reply ≡ replies.Confirmed (record {
-    proposal = k;
-    counts = record { digests = length digests; certificates = length certificates; components = s.names; passed = n.passed };
-  })
-  pub wrote : changes.writes.items ≡ (((s.writes.items ++ revocation_writes kinds.Digest digests) ++ revocation_writes kinds.Certificate certificates) ++ stamp_writes s.names n.stamp) ++ writes.ProposalState (record { proposal = k; state = states.Confirmed }) ∷ []
+  pub counts : e.counts ≡ record { digests = length digests; certificates = length certificates; components = s.names; passed = n.passed }
+  pub wrote : e.writes.items ≡ (((s.writes.items ++ revocation_writes kinds.Digest digests) ++ revocation_writes kinds.Certificate certificates) ++ stamp_writes s.names n.stamp) ++ writes.ProposalState (record { proposal = k; state = states.Confirmed }) ∷ []
+
+-- Another officer can confirm the proposal k, but for the desk's limits. A Confirm of it has these
+-- counts, and the writes make the tables of the history with it, except for the call's own row;
+-- they take no entry off the list.
+pub record IsConfirmed (e : Enforced) (owner : List ℕ) (cs : History) (caller : Caller) (key : List ℕ) (k : ℕ) : Type 0 where
+  pub free : another_refusal cs (proposal cs k) (proposal_state cs k) ≡ None
+  pub counts : e.counts ≡ counted cs (item (called caller key (command.Confirm k)))
+  pub made : all_written e.writes.items (tables owner cs) ≡ record (tables owner (item (called caller key (command.Confirm k)) ∷ cs)) { calls = minutes cs }
+  pub kept : list_any takes_off e.writes.items ≡ false
+
+-- on each history that the view shows for a Confirm of the proposal k, the result is that of another
+-- officer's Confirm, or its refusal; or memory ran out
+abbrev pub ConfirmsAnother : View → ℕ → Result Enforced Refusal → Type 0
+ConfirmsAnother v k result =
+    (owner : List ℕ) (cs : History) (caller : Caller) (key : List ℕ) → Shows v (tables owner cs) (called caller key (command.Confirm k))
+    → MatchResult result (λ e. IsConfirmed e owner cs caller key k)
+    (λ refusal. (another_refusal cs (proposal cs k) (proposal_state cs k) ≡ Some refusal) ⊎ (refusal ≡ refusals.NoMemory))

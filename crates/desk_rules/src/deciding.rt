@@ -1,6 +1,7 @@
 //! Decisions over a view: the caller, the call's key, the caller's role, the command, and room for
 //! its writes.
 ghost use Rattle.std.specs.Prelude.{◌≡◌, ◌+◌, find, option_copied, IfErr, IsTrue, MatchResult};
+ghost use Rattle.desk_history.specs.Called.{called};
 ghost use Rattle.desk_history.specs.DecisionRefusals.{may_answer};
 ghost use Rattle.desk_texts.specs.Callers.{caller_name};
 ghost use Rattle.desk_texts.specs.CommandTexts.{text_of as canonical_text};
@@ -8,6 +9,7 @@ ghost use Rattle.desk_history.specs.Runs.{has_key};
 ghost use Rattle.desk_rules.specs.DecisionSteps as steps;
 ghost use Rattle.desk_rules.specs.Decisions as spec;
 
+use crate::call_ref::CallRef;
 use crate::decisions::{decide_own, push};
 use crate::room::has_room;
 use crate::rows::minute;
@@ -19,10 +21,11 @@ use std::alloc::Global;
 
 impl View {
     /// The minute of the caller's earlier call with this key.
-    fn earlier_minute(&self, caller: &Caller, key: &Key) -> Option<&Minute>
+    fn earlier_minute(&self, call: &CallRef<'_>) -> Option<&Minute>
         ensures { option_copied result
-            ≡ find (has_key (caller_name caller.now) key.now) self.now.calls.items }
+            ≡ find (has_key (caller_name call.now.caller) call.now.key) self.now.calls.items }
     {
+        let (caller, key) = (call.caller, call.key);
         let is_same = |row: &&Minute| caller.name() == row.caller.name()
             && key.as_str() == row.key.as_str();
         self.calls.iter().find(is_same)
@@ -54,14 +57,13 @@ fn repeat(alloc: Global, minute: &Minute, text: &CommandText) -> Result<Changes,
 fn join(
     view: &View,
     own: Changes,
-    caller: &Caller,
-    key: &Key,
+    call: &CallRef<'_>,
     text: CommandText,
 ) -> Result<Changes, Refusal>
     ensures { steps.AppendsCallRow result view.now own (record {
       number = view.now.sizes.calls + 1;
-      caller = caller.now;
-      key = key.now;
+      caller = call.now.caller;
+      key = call.now.key;
       text = text;
       reply = own.reply;
     }) }
@@ -69,7 +71,7 @@ fn join(
     if !has_room(&view.sizes, &own.writes) {
         return Err(Refusal::Full);
     }
-    let row = minute(view.sizes.calls + 1, caller, key, text, &own.reply)?;
+    let row = minute(view.sizes.calls + 1, call, text, &own.reply)?;
     let mut writes = own.writes;
     push(&mut writes, Write::Call(row))?;
     Ok(Changes {
@@ -89,19 +91,24 @@ pub fn decide(
     key: &Key,
     command: &Command,
 ) -> Result<Changes, Refusal>
-    ensures exact { spec.DecidesCall view.now (spec.called caller.now key.now command.now) result }
+    ensures exact { spec.DecidesCall view.now (called caller.now key.now command.now) result }
     ensures only { IfErr result (λ refusal. IsTrue (may_answer refusal)) }
 {
+    let call = CallRef {
+        caller,
+        key,
+        command,
+    };
     if !view.is_known(caller) {
         return Err(Refusal::UnknownCaller);
     }
     let text = text_of(alloc, command)?;
-    if let Some(minute) = view.earlier_minute(caller, key) {
+    if let Some(minute) = view.earlier_minute(&call) {
         return repeat(alloc, minute, &text);
     }
     if !view.may_give(caller, command) {
         return Err(Refusal::NotYourRole);
     }
     let own = decide_own(alloc, view, caller, command)?;
-    join(view, own, caller, key, text)
+    join(view, own, &call, text)
 }

@@ -17,8 +17,10 @@ use crate::view::{Changes, View};
 use desk_bytes::Refusal;
 use desk_history::Write;
 use desk_texts::{Caller, Command, GREATEST_NUMBER, Reply, RequestNumber, Submission};
+pub(crate) use imports::set_of;
 use lists::{list_certificate, list_digest, unlist};
 use people::add_person;
+pub(crate) use proposals::confirm_another;
 use proposals::{
     confirm, drop_proposal, propose_certificate, propose_digest, propose_import, propose_level,
 };

@@ -5,14 +5,15 @@ ghost use Rattle.desk_history.specs.Requests.{request_of};
 ghost use Rattle.desk_history.specs.Tables.{request_row};
 ghost use Rattle.desk_rules.specs.DecisionSteps as spec;
 
+use crate::call_ref::CallRef;
 use desk_bytes::{Digest, Refusal};
 use desk_history::{
     CommandText, Entry, EntryBody, Minute, ProposalRow, RequestComponentRow, RequestRow, ReturnRow,
     VoteRow,
 };
 use desk_texts::{
-    Ballot, Caller, Certificate, Import, Key, ListedKind, ProposalKind, ProposalNumber,
-    ProposalState, Reply, RequestNumber, ReturnedFile, State, Submission,
+    Ballot, Caller, Certificate, Import, ListedKind, ProposalKind, ProposalNumber, ProposalState,
+    Reply, RequestNumber, ReturnedFile, State, Submission,
 };
 use sbat::Component;
 use std::alloc::Global;
@@ -20,23 +21,22 @@ use std::alloc::Global;
 /// The minute of a call. Takes memory for it.
 pub(crate) fn minute(
     number: u64,
-    caller: &Caller,
-    key: &Key,
+    call: &CallRef<'_>,
     text: CommandText,
     reply: &Reply,
 ) -> Result<Minute, Refusal>
     ensures { MatchResult result (λ row. row ≡ record {
       number = number;
-      caller = caller.now;
-      key = key.now;
+      caller = call.now.caller;
+      key = call.now.key;
       text = text;
       reply = reply.now;
     }) (λ refusal. refusal ≡ Refusal.NoMemory) }
 {
     Ok(Minute {
         number,
-        caller: caller.clone()?,
-        key: key.clone()?,
+        caller: call.caller.clone()?,
+        key: call.key.clone()?,
         text,
         reply: reply.clone()?,
     })

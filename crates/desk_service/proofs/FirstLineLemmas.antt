@@ -7,7 +7,7 @@ use Rattle.desk_bytes.proofs.LineLemmas.{HasNoLf, lines_of-crlf, lines_of-last, 
 use Rattle.desk_bytes.specs.Lines.{lines_of}
 use Rattle.desk_service.specs.Tokens.{IsTextOf, PassesTokens, first_line, first_of}
 
-HasNoLf-tail : (b : ℕ) (bs : List ℕ) → HasNoLf (b ∷ bs) → HasNoLf bs
+pub HasNoLf-tail : (b : ℕ) (bs : List ℕ) → HasNoLf (b ∷ bs) → HasNoLf bs
 HasNoLf-tail b bs h = record { at = λ k l. h.at (suc k) (omega arith) }
 
 HasNoLf-cons : (b : ℕ) (bs : List ℕ) → eqb b 10 ≡ false → HasNoLf bs → HasNoLf (b ∷ bs)
@@ -23,7 +23,7 @@ HasNoLf-front (x ∷ xs) b h =
     HasNoLf-cons x xs (h.at 0 (omega arith)) (HasNoLf-front xs b (HasNoLf-tail x (xs ++ b ∷ []) h))
 
 -- a line that its first LF ends is the text's first
-first_line-ended : (line text rest : List ℕ) → HasNoLf line → IsTextOf line text → text ≡ first_line (line ++ 10 ∷ rest)
+pub first_line-ended : (line text rest : List ℕ) → HasNoLf line → IsTextOf line text → text ≡ first_line (line ++ 10 ∷ rest)
 first_line-ended line text rest h is = elim is [
   | inl cr ↦
       let front = HasNoLf-front text 13 (subst HasNoLf cr h) in
@@ -60,7 +60,7 @@ length-onto b (line ∷ lines) = refl
 
 -- two bytes that are no LF: the first of them belongs to the first line, as the second is no LF
 -- after a CR
-lines_of-onto : (b c : ℕ) (text : List ℕ) → eqb b 10 ≡ false → eqb c 10 ≡ false → lines_of (b ∷ c ∷ text) ≡ onto_first b (lines_of (c ∷ text))
+pub lines_of-onto : (b c : ℕ) (text : List ℕ) → eqb b 10 ≡ false → eqb c 10 ≡ false → lines_of (b ∷ c ∷ text) ≡ onto_first b (lines_of (c ∷ text))
 lines_of-onto b c text first next = grind (arith, common_steps, first, next)
 
 -- bytes without an LF are of the first line, but for a CR that is the last of them

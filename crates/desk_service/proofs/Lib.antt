@@ -5,5 +5,6 @@ pub mod LevelLemmas
 pub mod ReadingLemmas
 pub mod TbsLemmas
 pub mod FirstLineLemmas
+pub mod FirstWordLemmas
 pub mod PlacesLemmas
 pub mod TokenLemmas

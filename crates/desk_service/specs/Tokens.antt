@@ -3,6 +3,7 @@ use Rattle.std.specs.Prelude.{◌≡◌, ◌⊎◌, ℕ, ◌+◌, ◌<◌, ◌==
 use Rattle.std.specs.Prelude.{List, [], ◌∷◌, ◌++◌, Option, Some, None, slice_index}
 use Rattle.std.specs.List.{list_all}
 use Rattle.sha2.specs.Sha256.{sha256}
+use Rattle.desk_bytes.specs.Digests.{digest_of}
 use Rattle.desk_bytes.specs.Lines.{lines_of}
 use Rattle.desk_texts.specs.Forms.{is_between}
 
@@ -51,3 +52,25 @@ kept_of line = if is_token line then Some (sha256 line) else None
 -- the SHA-256 of the token in a text, which is its first line, if that is a token
 abbrev pub token_in : List ℕ → Option (List ℕ)
 token_in text = kept_of (first_line text)
+
+-- the byte is a space (32)
+abbrev pub is_space : ℕ → Bool
+is_space b = b == 32
+
+-- the bytes before the first space, or all of them
+abbrev pub before_space : List ℕ → List ℕ
+before_space [] = []
+before_space (b ∷ bs) = if is_space b then [] else b ∷ before_space bs
+
+-- the first line of a text, up to its first space
+abbrev pub first_word : List ℕ → List ℕ
+first_word text = before_space (first_line text)
+
+-- it has more bytes than the digits of a SHA-256
+abbrev pub PassesDigits : List ℕ → Type 0
+PassesDigits text = 64 < length (first_word text)
+
+-- own: the SHA-256 of a token that a text gives: its first line up to a space, 64 hexadecimal digits
+-- of either case, as sha256sum writes it
+abbrev pub given_digest : List ℕ → Option (List ℕ)
+given_digest text = digest_of (first_word text)

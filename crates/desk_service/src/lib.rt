@@ -4,6 +4,7 @@
 
 mod collecting;
 mod fault;
+mod given_token;
 mod hashing;
 mod imports;
 mod part;
@@ -11,5 +12,6 @@ mod token;
 
 pub use collecting::facts;
 pub use fault::FactsFault;
+pub use given_token::read_token_digest;
 pub use imports::{ImportFault, import_csv, import_dbx, import_is_one, import_level, tbs_is_read};
 pub use token::{is_token, read_token, token_digest};

@@ -55,7 +55,7 @@ fn ends_in_cr(line: &[u8]) -> bool
 }
 
 /// The text of a line without its LF: one CR at its end isn't part of the text.
-fn without_cr(line: Vec<u8>) -> Vec<u8>
+pub(crate) fn without_cr(line: Vec<u8>) -> Vec<u8>
     ensures { spec.IsTextOf line.items result.items }
 {
     let mut text = line;
@@ -66,7 +66,7 @@ fn without_cr(line: Vec<u8>) -> Vec<u8>
 }
 
 /// The next byte of an input, `None` at its end. An interrupted read is a fault and isn't retried.
-fn next_byte<R: Read>(reader: &mut R) -> Result<Option<u8>, InputFault>
+pub(crate) fn next_byte<R: Read>(reader: &mut R) -> Result<Option<u8>, InputFault>
     ensures byte { IfOk result (λ found. IfSome found
         (λ b. Consumes (R.remaining reader.old) (R.remaining reader.new) (b ∷ []))) }
     ensures end { IfOk result (λ found. IfNone found

@@ -1,5 +1,5 @@
 -- The step from a view and a decision to the effect of a call inside its transaction.
-use Rattle.std.proofs.Common.{◌≡◌, ◌≢◌, inl, inr, ℕ, List, [], ◌∷◌, length, All, refl, sym, ap, subst, ◌∙◌, arith, IsTrue, true, false}
+use Rattle.std.proofs.Common.{◌≡◌, ◌≢◌, inl, inr, ℕ, List, [], None, ◌∷◌, length, All, refl, sym, ap, subst, ◌∙◌, arith, IsTrue, true, false}
 use Rattle.std.proofs.lemmas.List.Elements.{All-cons}
 use Rattle.sqlite.specs.State.{State}
 use Rattle.desk_texts.specs.Formed.{IsCall}
@@ -7,7 +7,6 @@ use Rattle.desk_texts.specs.declared.command.Call.{Call}
 use Rattle.store_schema.specs.rows.Contents.{contents}
 use Rattle.desk_history.specs.Calls.{History, item}
 use Rattle.desk_history.specs.Formed.{IsHistory, IsItem}
-use Rattle.desk_history.specs.People.{people}
 use Rattle.desk_history.specs.Replies.{minutes}
 use Rattle.desk_history.specs.Runs.{answer, is_accepted, is_legal, next}
 use Rattle.desk_history.specs.Tables.{Tables, tables}
@@ -19,14 +18,14 @@ use Rattle.desk_rules.specs.Decisions as rules
 use Rattle.desk_rules.specs.Shown.{Shows}
 use Rattle.desk_rules.specs.declared.view.Changes.{Changes as Decided}
 use Rattle.desk_rules.specs.declared.view.View.{View}
-use Rattle.store_reads.specs.People.{IsOneOf}
-use Rattle.store_views.specs.figures.Figures.{AreCurrent, StayCurrent}
-use Rattle.store_views.specs.declared.figures.KeptFigures.{KeptFigures}
+use Rattle.store_views.specs.remembered.Current.{IsCurrent, StaysCurrent}
+use Rattle.store_views.specs.declared.remembered.Remembered.{Remembered}
 use Rattle.store_sql.specs.States.{Changes, Sees}
 use Rattle.store_schema.specs.Tables.{desk_schema}
 use Rattle.desk_store.specs.Acts.{Acts}
 use Rattle.store_schema.specs.rows.Histories.{rows_of}
-use Rattle.desk_store.specs.Pasts.{Kept, Past, before}
+use Rattle.desk_store.specs.Pasts.{Past, before}
+use Rattle.desk_store.proofs.RememberedLemmas.{forgets}
 
 no_items : {X : Type 0} (xs : List X) → length xs ≡ 0 → xs ≡ []
 no_items [] h = refl
@@ -48,22 +47,30 @@ next_history cs c history formed = record {
 }
 
 -- the effect of a call, accepted or not, by a view that shows the tables
-module _ (k : Kept) (c : Call) where
-  -- the reads that made a view: it shows the tables, and the figures are current
-  pub record Viewed (v : View) (counted : KeptFigures) (first read : State) : Type 0 where
+module _ (r : Remembered) (c : Call) where
+  -- the reads that made a view: it shows the tables, and what is remembered is current
+  pub record Viewed (v : View) (counted : Remembered) (first read : State) : Type 0 where
     pub is_open : IsTrue read.is_open
     pub changed : Changes desk_schema contents first read (λ t. t)
     pub shown : (owner : List ℕ) (cs : History) → IsHistory cs → Sees desk_schema first (contents (tables owner cs))
-        → IsOneOf k.person (people cs) → AreCurrent k.figures (tables owner cs) → Shows v (tables owner cs) c × AreCurrent counted (tables owner cs)
+        → IsCurrent r (tables owner cs) → Shows v (tables owner cs) c × IsCurrent counted (tables owner cs)
+
+  -- the same, with nobody remembered
+  pub forgetting : (v : View) (counted : Remembered) (first read : State) → Viewed v counted first read → Viewed v (record counted { person = None }) first read
+  forgetting v counted first read viewed = record {
+    is_open = viewed.is_open;
+    changed = viewed.changed;
+    shown = λ owner cs history sees current. (let it = viewed.shown owner cs history sees current in (it.0, forgets counted (tables owner cs) it.1));
+  }
 
   -- a call that isn't accepted
-  pub acts_not : (v : View) (counted : KeptFigures) (first read : State) (given : Answer) → Viewed v counted first read → is_accepted given ≡ false
+  pub acts_not : (v : View) (counted : Remembered) (first read : State) (given : Answer) → Viewed v counted first read → is_accepted given ≡ false
       → ((owner : List ℕ) (cs : History) → IsTrue (is_legal cs) → Shows v (tables owner cs) c → answer cs c ≡ given)
-      → Acts k c (record { answer = given; figures = counted }) first read
+      → Acts r c (record { answer = given; remembered = counted }) first read
   acts_not v counted first read given viewed out told =
-      let exact : (p : Past k) → Sees desk_schema first (before k p) → answer p.calls c ≡ given =
-      λ p sees. told p.owner p.calls p.history.legal (viewed.shown p.owner p.calls p.history sees p.person p.right).0 in
-      let same : (p : Past k) → Sees desk_schema first (before k p) → next p.calls c ≡ p.calls =
+      let exact : (p : Past r) → Sees desk_schema first (before r p) → answer p.calls c ≡ given =
+      λ p sees. told p.owner p.calls p.history.legal (viewed.shown p.owner p.calls p.history sees p.right).0 in
+      let same : (p : Past r) → Sees desk_schema first (before r p) → next p.calls c ≡ p.calls =
       λ p sees. next_same p.calls c (ap is_accepted (exact p sees) ∙ out) in
       record {
         turned = record {
@@ -74,7 +81,7 @@ module _ (k : Kept) (c : Call) where
         };
         answered = λ p sees. record {
           exact = exact p sees;
-          right = subst (λ (cs : History). AreCurrent counted (tables p.owner cs)) (sym (same p sees)) (viewed.shown p.owner p.calls p.history sees p.person p.right).1;
+          right = subst (λ (cs : History). IsCurrent counted (tables p.owner cs)) (sym (same p sees)) (viewed.shown p.owner p.calls p.history sees p.right).1;
         };
       }
 
@@ -89,14 +96,14 @@ module _ (k : Kept) (c : Call) where
   ]
 
   -- an accepted call, once its rows are written
-  pub acts_accepted : (v : View) (counted later : KeptFigures) (first read last : State) (d : Decided) → Viewed v counted first read
+  pub acts_accepted : (v : View) (counted later : Remembered) (first read last : State) (d : Decided) → Viewed v counted first read
       → length d.writes.items ≢ 0 → ((owner : List ℕ) (cs : History) → IsTrue (is_legal cs) → Shows v (tables owner cs) c → rules.Decides d owner cs c)
-      → Changes desk_schema contents read last (all_written d.writes.items) → StayCurrent counted c.command d.writes.items later
-      → Acts k c (record { answer = Accepted d.reply; figures = later }) first last
+      → Changes desk_schema contents read last (all_written d.writes.items) → StaysCurrent counted c.command d.writes.items later
+      → Acts r c (record { answer = Accepted d.reply; remembered = later }) first last
   acts_accepted v counted later first read last d viewed some told wrote follows =
-      let said : (p : Past k) → Sees desk_schema first (before k p) → rules.Decides d p.owner p.calls c =
-      λ p sees. told p.owner p.calls p.history.legal (viewed.shown p.owner p.calls p.history sees p.person p.right).0 in
-      let exact : (p : Past k) → Sees desk_schema first (before k p) → answer p.calls c ≡ Accepted d.reply =
+      let said : (p : Past r) → Sees desk_schema first (before r p) → rules.Decides d p.owner p.calls c =
+      λ p sees. told p.owner p.calls p.history.legal (viewed.shown p.owner p.calls p.history sees p.right).0 in
+      let exact : (p : Past r) → Sees desk_schema first (before r p) → answer p.calls c ≡ Accepted d.reply =
       λ p sees. elim (said p sees).told [ inl accepted ↦ accepted | inr repeated ↦ absurd (some (ap length repeated.1)) ] in
       record {
         turned = record {
@@ -114,7 +121,7 @@ module _ (k : Kept) (c : Call) where
             let made : all_written d.writes.items (tables p.owner p.calls) ≡ tables p.owner (item c ∷ p.calls) = (said p sees).made ∙ ap (tables p.owner) joined in
             record {
               exact = exact p sees;
-              right = subst (λ (cs : History). AreCurrent later (tables p.owner cs)) (sym joined)
-                  (follows p.owner p.calls c legal refl made (viewed.shown p.owner p.calls p.history sees p.person p.right).1).0;
+              right = subst (λ (cs : History). IsCurrent later (tables p.owner cs)) (sym joined)
+                  (follows p.owner p.calls c legal refl made (viewed.shown p.owner p.calls p.history sees p.right).1).0;
             });
       }

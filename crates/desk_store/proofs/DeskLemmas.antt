@@ -1,47 +1,46 @@
 -- The step from the effect of a call on the connection to the history that the desk shows after it.
-use Rattle.std.proofs.Common.{◌≡◌, inl, inr, ℕ, List, Option, None, true, false, refl, sym, ap, subst, ◌∙◌, arith, IsTrue}
+use Rattle.std.proofs.Common.{◌≡◌, inl, inr, ℕ, List, None, true, false, refl, sym, ap, subst, ◌∙◌, arith, IsTrue}
 use Rattle.sqlite.specs.Store as store
 use Rattle.sqlite.specs.Held.{state}
 use Rattle.sqlite.specs.State.{Survives}
 use Rattle.desk_texts.specs.Formed.{IsCall}
 use Rattle.desk_texts.specs.declared.command.Call.{Call}
-use Rattle.desk_texts.specs.declared.command.Person.{Person}
 use Rattle.desk_history.specs.Calls.{History}
 use Rattle.desk_history.specs.Runs.{answer, is_accepted, next}
 use Rattle.desk_history.specs.Tables.{tables}
-use Rattle.store_views.specs.figures.Figures.{AreCurrent}
+use Rattle.store_views.specs.declared.remembered.Remembered.{Remembered}
 use Rattle.store_sql.specs.States.{Leaves}
 use Rattle.desk_store.specs.Acts.{LeavesNext, Runs}
 use Rattle.desk_store.specs.Desks.{ShowsDesk}
 use Rattle.store_schema.specs.rows.Histories.{HoldsHistory, HoldsLeft, LeavesHistory, ShowsHistory}
-use Rattle.desk_store.specs.Pasts.{Past, kept}
+use Rattle.desk_store.specs.Pasts.{Past}
 use Rattle.desk_store.specs.declared.acting.Acted.{Acted}
 use Rattle.desk_store.specs.declared.desk.Desk.{Desk}
 use Rattle.desk_store.proofs.ActingLemmas.{next_history, next_same}
 use Rattle.desk_store.proofs.OpeningLemmas.{still_leaves}
+use Rattle.desk_store.proofs.RememberedLemmas.{forgets}
 
--- a read that keeps the figures and the person
+-- a read that changes nothing of what is remembered
 pub reads_shown : {S : Type 0} (g : store.Ghosts S) (old new : Desk S) → Survives (state g old.conn) (state g new.conn) (λ _. ⊥) → new.needs_reopening ≡ false
-    → ((owner : List ℕ) (cs : History) → ShowsHistory (state g old.conn) owner cs → ShowsHistory (state g new.conn) owner cs) → new.owner ≡ old.owner → new.figures ≡ old.figures → new.kept_person ≡ old.kept_person
+    → ((owner : List ℕ) (cs : History) → ShowsHistory (state g old.conn) owner cs → ShowsHistory (state g new.conn) owner cs) → new.owner ≡ old.owner → new.remembered ≡ old.remembered
     → (owner : List ℕ) (cs : History) → ShowsDesk g old owner cs → ShowsDesk g new owner cs
-reads_shown g old new s usable same own figures person owner cs was = record {
+reads_shown g old new s usable same own remembered owner cs was = record {
   usable = usable;
   history = was.history;
   shows = same owner cs was.shows;
   own = own ∙ was.own;
-  figures = rw figures was.figures;
-  person = rw person was.person;
+  remembered = rw remembered was.remembered;
   left = still_leaves (λ db. HoldsHistory db owner cs) (state g old.conn) (state g new.conn) s was.left;
 }
 
--- a call for which the desk's person was taken
-module _ {S : Type 0} (g : store.Ghosts S) (old new : Desk S) (c : Call) (taken : Option Person) (is : taken ≡ old.kept_person) where
+-- a call for which what the desk remembers was taken
+module _ {S : Type 0} (g : store.Ghosts S) (old new : Desk S) (c : Call) (taken : Remembered) (is : taken ≡ old.remembered) where
   -- the history that the desk shows before the call
-  abbrev pub past : (owner : List ℕ) (cs : History) → ShowsDesk g old owner cs → Past (kept old.figures taken)
-  past owner cs was = record { owner = owner; calls = cs; history = was.history; right = was.figures; person = rw is was.person }
+  abbrev pub past : (owner : List ℕ) (cs : History) → ShowsDesk g old owner cs → Past taken
+  past owner cs was = record { owner = owner; calls = cs; history = was.history; right = rw is was.remembered }
 
   -- a call that isn't accepted commits nothing
-  pub spares : Survives (state g old.conn) (state g new.conn) (LeavesNext (state g old.conn) (kept old.figures taken) c)
+  pub spares : Survives (state g old.conn) (state g new.conn) (LeavesNext (state g old.conn) taken c)
       → (owner : List ℕ) (cs : History) → ShowsDesk g old owner cs → is_accepted (answer cs c) ≡ false → Survives (state g old.conn) (state g new.conn) (λ _. ⊥)
   spares s owner cs was out = record {
     clean = s.clean;
@@ -58,20 +57,19 @@ module _ {S : Type 0} (g : store.Ghosts S) (old new : Desk S) (c : Call) (taken 
   -- a call that commits nothing and changes no history
   pub stays_shown : Survives (state g old.conn) (state g new.conn) (λ _. ⊥) → new.needs_reopening ≡ false
       → ((owner : List ℕ) (cs : History) → ShowsHistory (state g old.conn) owner cs → ShowsHistory (state g new.conn) owner cs)
-      → ((p : Past (kept old.figures taken)) → ShowsHistory (state g old.conn) p.owner p.calls → AreCurrent new.figures (tables p.owner p.calls)) → new.owner ≡ old.owner → new.kept_person ≡ None
+      → new.owner ≡ old.owner → new.remembered ≡ record old.remembered { person = None }
       → (owner : List ℕ) (cs : History) → ShowsDesk g old owner cs → ShowsDesk g new owner cs
-  stays_shown s usable same right own none owner cs was = record {
+  stays_shown s usable same own forgot owner cs was = record {
     usable = usable;
     history = was.history;
     shows = same owner cs was.shows;
     own = own ∙ was.own;
-    figures = right (past owner cs was) was.shows;
-    person = rw none tt;
+    remembered = rw forgot (forgets old.remembered (tables owner cs) was.remembered);
     left = still_leaves (λ db. HoldsHistory db owner cs) (state g old.conn) (state g new.conn) s was.left;
   }
 
   -- the history after a stop
-  pub stopped : Survives (state g old.conn) (state g new.conn) (LeavesNext (state g old.conn) (kept old.figures taken) c)
+  pub stopped : Survives (state g old.conn) (state g new.conn) (LeavesNext (state g old.conn) taken c)
       → (owner : List ℕ) (cs : History) → ShowsDesk g old owner cs → Leaves (state g new.conn) (λ db. HoldsLeft db owner cs c)
   stopped s owner cs was clean db may = elim (s.crash clean db may) [
     | inl before ↦ (cs, inl refl, was.left (omega (arith, s.clean, clean)) db before)
@@ -79,11 +77,11 @@ module _ {S : Type 0} (g : store.Ghosts S) (old new : Desk S) (c : Call) (taken 
   ]
 
   -- the desk after a call that was answered
-  pub goes_on : (acted : Acted) → Runs (kept old.figures taken) c acted (state g old.conn) (state g new.conn) → Survives (state g old.conn) (state g new.conn) (LeavesNext (state g old.conn) (kept old.figures taken) c)
+  pub goes_on : (acted : Acted) → Runs taken c acted (state g old.conn) (state g new.conn) → Survives (state g old.conn) (state g new.conn) (LeavesNext (state g old.conn) taken c)
       → ((owner : List ℕ) (cs : History) → ShowsHistory (state g new.conn) owner cs → IsTrue (state g new.conn).is_open → LeavesHistory (state g new.conn) owner cs)
-      → IsCall c → new.owner ≡ old.owner → new.figures ≡ acted.figures → new.kept_person ≡ None → new.needs_reopening ≡ old.needs_reopening
+      → IsCall c → new.owner ≡ old.owner → new.remembered ≡ acted.remembered → new.needs_reopening ≡ old.needs_reopening
       → (owner : List ℕ) (cs : History) → ShowsDesk g old owner cs → (answer cs c ≡ acted.answer) × ShowsDesk g new owner (next cs c)
-  goes_on acted runs s law formed own figures none same owner cs was =
+  goes_on acted runs s law formed own remembered same owner cs was =
       let it = runs.answered (past owner cs was) was.shows in
       let shows = runs.shown (past owner cs was) was.shows in (
         it.exact,
@@ -92,8 +90,7 @@ module _ {S : Type 0} (g : store.Ghosts S) (old new : Desk S) (c : Call) (taken 
           history = next_history cs c was.history formed;
           shows = shows;
           own = own ∙ was.own;
-          figures = rw figures it.right;
-          person = rw none tt;
+          remembered = rw remembered it.right;
           left = elim (is_accepted (answer cs c)) as (λ b. is_accepted (answer cs c) ≡ b → LeavesHistory (state g new.conn) owner (next cs c)) [
             | true ↦ λ accepted. law owner (next cs c) shows (runs.is_open (ap is_accepted (sym it.exact) ∙ accepted))
             | false ↦ λ out. subst (λ (later : History). LeavesHistory (state g new.conn) owner later) (sym (next_same cs c out)) (λ clean db may. elim (s.crash clean db may) [

@@ -1,6 +1,7 @@
 mod FoundingLemmas
-mod FigureLemmas
+mod RememberedLemmas
 mod StampLemmas
+mod OfficerLemmas
 mod OpeningLemmas
 mod VersionLemmas
 mod ActingLemmas
@@ -13,3 +14,4 @@ mod QuestionLemmas
 mod ReopeningLemmas
 mod LivingLemmas
 mod RestartLemmas
+mod ImpactLemmas

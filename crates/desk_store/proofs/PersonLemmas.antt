@@ -1,4 +1,4 @@
--- The person whom a desk keeps between two calls.
+-- The person whom a desk remembers between two calls.
 use Rattle.std.proofs.Common.{◌≡◌, ℕ, Bool, true, false, not, List, [], ◌∷◌, Option, None, Some, Result, filter, refl, sym, ap, subst, ◌∙◌}
 use Rattle.std.specs.Prelude.{IfSome, if◌then◌else◌, bytes_eq}
 use Rattle.std.specs.List.{list_any}
@@ -17,26 +17,25 @@ use Rattle.desk_store.specs.Desks.{ReadsDesk, ShowsDesk}
 use Rattle.desk_store.specs.declared.desk.Desk.{Desk}
 
 module _ {S : Type 0} (g : store.Ghosts S) (desk : Desk S) where
-  -- a desk that keeps one of its people, or nobody
-  pub with_person : (kept : Option Person) (owner : List ℕ) (cs : History) → IsOneOf kept (people cs) → ShowsDesk g desk owner cs
-      → ShowsDesk g (record desk { kept_person = kept }) owner cs
-  with_person kept owner cs one was = record {
+  -- a desk that remembers one of its people, or nobody
+  pub with_person : (person : Option Person) (owner : List ℕ) (cs : History) → IsOneOf person (people cs) → ShowsDesk g desk owner cs
+      → ShowsDesk g (record desk { remembered = record desk.remembered { person = person } }) owner cs
+  with_person person owner cs one was = record {
     usable = was.usable;
     history = was.history;
     shows = was.shows;
     own = was.own;
-    figures = was.figures;
-    person = one;
+    remembered = record { stamp = was.remembered.stamp; sizes = was.remembered.sizes; person = one };
     left = was.left;
   }
 
   -- a desk whose person was taken
-  pub without_person : (left : Option Person) → left ≡ None → (owner : List ℕ) (cs : History) → ShowsDesk g desk owner cs → ShowsDesk g (record desk { kept_person = left }) owner cs
+  pub without_person : (left : Option Person) → left ≡ None → (owner : List ℕ) (cs : History) → ShowsDesk g desk owner cs → ShowsDesk g (record desk { remembered = record desk.remembered { person = left } }) owner cs
   without_person left none owner cs was = with_person left owner cs (rw none tt) was
 
 module _ {S A : Type 0} (g : store.Ghosts S) (may : Refusal → Type 0) (old new : Desk S) (left : Option Person) (none : left ≡ None) (result : Result A Refusal) where
   -- a call that only reads, of a usable desk whose person was taken
-  pub reads_taken : old.needs_reopening ≡ false → ReadsDesk g may (record old { kept_person = left }) new result → ReadsDesk g may old new result
+  pub reads_taken : old.needs_reopening ≡ false → ReadsDesk g may (record old { remembered = record old.remembered { person = left } }) new result → ReadsDesk g may old new result
   reads_taken usable it = record {
     same = λ clean other owner cs was. it.same clean other owner cs (without_person g old left none owner cs was);
     spares = it.spares;
@@ -71,9 +70,9 @@ only_named p b (x ∷ xs) apart is =
           ] refl)
     ] is
 
--- the person whom a token finds, if one is kept, is the only one of that name
-pub found_is_one : (owner : List ℕ) (cs : History) (token : List ℕ) (found kept : Option Person) → IsHistory cs → filter (has_token token) (people cs) ≡ listed found
-    → IfSome kept (λ p. found ≡ Some p) → IsOneOf kept (people cs)
+-- the person whom a token finds, if one is remembered, is the only one of that name
+pub found_is_one : (owner : List ℕ) (cs : History) (token : List ℕ) (found person : Option Person) → IsHistory cs → filter (has_token token) (people cs) ≡ listed found
+    → IfSome person (λ p. found ≡ Some p) → IsOneOf person (people cs)
 found_is_one owner cs token found None history read is = tt
 found_is_one owner cs token found (Some p) history read is =
     only_named (has_token token) p (people cs) (rows_stand_once owner cs history.legal).names (read ∙ ap listed is)

@@ -8,34 +8,35 @@ use Rattle.desk_history.specs.Runs.{answer, is_accepted, next}
 use Rattle.desk_history.specs.Tables.{tables}
 use Rattle.desk_history.specs.declared.answer.Answer.{Answer}
 use Rattle.desk_history.specs.declared.answer.Answer.TheVariants.{Accepted, Refused, Repeated}
-use Rattle.store_views.specs.figures.Figures.{AreCurrent}
+use Rattle.store_views.specs.remembered.Current.{IsCurrent}
 use Rattle.store_sql.specs.States.{Sees, Turns}
 use Rattle.store_schema.specs.Tables.{desk_schema}
 use Rattle.store_schema.specs.rows.Histories.{HoldsHistory, ShowsHistory}
-use Rattle.desk_store.specs.Pasts.{Kept, Past, after, before}
+use Rattle.store_views.specs.declared.remembered.Remembered.{Remembered}
+use Rattle.desk_store.specs.Pasts.{Past, after, before}
 use Rattle.desk_store.specs.declared.acting.Acted.{Acted}
 
--- the answer is that to the call after this history, and the figures are current for the next
+-- the answer is that to the call after this history, and what is remembered is current for the next
 -- history's tables
-pub record AnswersWithFigures {k : Kept} (c : Call) (acted : Acted) (p : Past k) : Type 0 where
+pub record AnswersCurrently {r : Remembered} (c : Call) (acted : Acted) (p : Past r) : Type 0 where
   pub exact : answer p.calls c ≡ acted.answer
-  pub right : AreCurrent acted.figures (tables p.owner (next p.calls c))
+  pub right : IsCurrent acted.remembered (tables p.owner (next p.calls c))
 
 -- inside a transaction the tables turn into those of the next history, and the call is answered
-pub record Acts (k : Kept) (c : Call) (acted : Acted) (old new : State) : Type 0 where
-  pub turned : Turns desk_schema (before k) (after k c) old new
-  pub answered : (p : Past k) → Sees desk_schema old (before k p) → AnswersWithFigures c acted p
+pub record Acts (r : Remembered) (c : Call) (acted : Acted) (old new : State) : Type 0 where
+  pub turned : Turns desk_schema (before r) (after r c) old new
+  pub answered : (p : Past r) → Sees desk_schema old (before r p) → AnswersCurrently c acted p
 
 -- the same for the connection outside, which is open after an accepted call
-pub record Runs (k : Kept) (c : Call) (acted : Acted) (old new : State) : Type 0 where
+pub record Runs (r : Remembered) (c : Call) (acted : Acted) (old new : State) : Type 0 where
   pub is_open : is_accepted acted.answer ≡ true → IsTrue new.is_open
-  pub answered : (p : Past k) → ShowsHistory old p.owner p.calls → AnswersWithFigures c acted p
-  pub shown : (p : Past k) → ShowsHistory old p.owner p.calls → ShowsHistory new p.owner (next p.calls c)
+  pub answered : (p : Past r) → ShowsHistory old p.owner p.calls → AnswersCurrently c acted p
+  pub shown : (p : Past r) → ShowsHistory old p.owner p.calls → ShowsHistory new p.owner (next p.calls c)
 
 -- only an accepted call leaves anything else: the next history's tables
-abbrev pub LeavesNext : State → Kept → Call → Trees → Type 0
-LeavesNext old k c db =
-    (p : Past k) → ShowsHistory old p.owner p.calls
+abbrev pub LeavesNext : State → Remembered → Call → Trees → Type 0
+LeavesNext old r c db =
+    (p : Past r) → ShowsHistory old p.owner p.calls
     → (is_accepted (answer p.calls c) ≡ true) × HoldsHistory db p.owner (next p.calls c)
 
 -- a refusal that answers the call is one that a decision may give

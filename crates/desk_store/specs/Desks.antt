@@ -10,26 +10,22 @@ use Rattle.desk_texts.specs.declared.reply.Reply.{Reply}
 use Rattle.desk_history.specs.Calls.{History}
 use Rattle.desk_history.specs.DecisionRefusals.{may_answer}
 use Rattle.desk_history.specs.Formed.{IsHistory}
-use Rattle.desk_history.specs.People.{people}
 use Rattle.desk_history.specs.Runs.{answer, is_accepted, next, reply_in}
 use Rattle.desk_history.specs.Tables.{tables}
 use Rattle.desk_history.specs.declared.answer.Answer.TheVariants.{Refused}
-use Rattle.store_reads.specs.People.{IsOneOf}
-use Rattle.store_views.specs.figures.Figures.{AreCurrent}
+use Rattle.store_views.specs.remembered.Current.{IsCurrent}
 use Rattle.store_sql.specs.States.{Leaves, Spares}
 use Rattle.desk_store.specs.declared.desk.Desk.{Desk}
 use Rattle.store_schema.specs.rows.Histories.{HoldsLeft, LeavesHistory, ShowsHistory}
 
--- The desk answers for a history: a desk may have it, the connection shows its tables, the owner, the
--- stamp and the sizes that the desk keeps are right, the person whom it keeps is one of the people,
--- and a stop leaves these tables.
+-- The desk answers for a history: a desk may have it, the connection shows its tables, the desk's
+-- owner is right, what it remembers is current for them, and a stop leaves these tables.
 pub record ShowsDesk {S : Type 0} (g : Ghosts S) (desk : Desk S) (owner : List ℕ) (cs : History) : Type 0 where
   pub usable : desk.needs_reopening ≡ false
   pub history : IsHistory cs
   pub shows : ShowsHistory (state g desk.conn) owner cs
   pub own : desk.owner ≡ owner
-  pub figures : AreCurrent desk.figures (tables owner cs)
-  pub person : IsOneOf desk.kept_person (people cs)
+  pub remembered : IsCurrent desk.remembered (tables owner cs)
   pub left : LeavesHistory (state g desk.conn) owner cs
 
 -- this holds of each owner and history that the desk shows

@@ -10,3 +10,5 @@ pub mod Closed
 pub mod Exports
 pub mod Showing
 pub mod Living
+pub mod Officers
+pub mod Impacts

@@ -11,5 +11,5 @@ use Rattle.store_schema.specs.Tables.{desk_schema}
 -- Nothing changes, and this holds of each history that a desk may have and whose tables the store
 -- holds, with the owner.
 pub record AnswersQuestion (told : List ℕ → History → Type 0) (old new : State) : Type 0 where
-  pub kept : Changes desk_schema contents old new (λ t. t)
+  pub same : Changes desk_schema contents old new (λ t. t)
   pub tells : (owner : List ℕ) (cs : History) → IsHistory cs → Sees desk_schema old (rows_of owner cs) → told owner cs

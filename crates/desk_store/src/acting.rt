@@ -1,30 +1,28 @@
 //! One call, in one transaction.
-ghost use Rattle.std.specs.Prelude.{◌≡◌, ◌≢◌, ℕ, List, Some, IfErr, IfOk, option_copied};
+ghost use Rattle.std.specs.Prelude.{◌≡◌, ◌≢◌, ℕ, List, Some, IfErr, IfOk};
 ghost use Rattle.sqlite.specs.Held.{state};
 ghost use Rattle.sqlite.specs.State.{HasCleanDisk, Survives};
 ghost use Rattle.desk_history.specs.Calls.{History};
 ghost use Rattle.desk_history.specs.Runs as runs;
-ghost use Rattle.desk_rules.specs.Decisions.{called};
 ghost use Rattle.store_sql.specs.States.{DoesInside, CommitsNothing, Spares, StaysInside};
 ghost use Rattle.desk_store.specs.Acts.{Acts, IsNamed, LeavesNext, Runs};
-ghost use Rattle.desk_store.specs.Pasts.{kept};
 ghost use Rattle.store_schema.specs.rows.Histories.{ShowsHistory};
 ghost use Rattle.store_reads.specs.Failures.{IsFailure};
 
 use desk_bytes::Refusal;
 use desk_history::Answer;
-use desk_rules::decide;
-use desk_texts::{Caller, Command, Key, Person, Reply};
+use desk_rules::{CallRef, decide};
+use desk_texts::Reply;
 use sqlite::{Alter, Connection, Transaction};
 use std::alloc::Global;
-use store_views::{KeptFigures, view};
+use store_views::{Remembered, view};
 use store_writes::{failed_commit, write_all};
 
-/// The outcome of a call: its answer, and the figures after it.
+/// The outcome of a call: its answer, and what the desk remembers after it.
 #[derive(Drop)]
 pub(crate) struct Acted {
     pub(crate) answer: Answer,
-    pub(crate) figures: KeptFigures,
+    pub(crate) remembered: Remembered,
 }
 
 /// Whether the call was accepted, and so has rows to commit.
@@ -55,28 +53,25 @@ pub(crate) fn result_of(answer: Answer) -> Result<Reply, Refusal>
 fn act<S: Alter>(
     alloc: Global,
     tx: &mut Transaction<'_, S>,
-    figures: KeptFigures,
-    kept_person: Option<&Person>,
-    caller: &Caller,
-    key: &Key,
-    command: &Command,
+    remembered: Remembered,
+    call: &CallRef<'_>,
 ) -> Result<Acted, Refusal>
     ensures same_reference { tx.new.conn.ghost_name ≡ tx.old.conn.ghost_name }
     ensures value { DoesInside S.Store tx.old.conn.now tx.new.conn.now result
-        (Acts (kept figures (option_copied kept_person.entry))
-        (called caller.now key.now command.now)) }
+        (Acts remembered call.now) }
     ensures inside { StaysInside S.Store tx.old.conn.now tx.new.conn.now result }
     ensures named { IfOk result (λ acted. IsNamed acted.answer) }
     ensures failed { IfErr result IsFailure }
     ensures kept { CommitsNothing S.Store tx.old.conn.now tx.new.conn.now }
     ensures survives { Spares S.Store tx.old.conn.now tx.new.conn.now }
 {
-    let mut figures = figures;
-    let view = match view(alloc, tx, &mut figures, kept_person, caller, key, command) {
+    let mut remembered = remembered;
+    let view = match view(alloc, tx, &mut remembered, call) {
         Ok(view) => view,
         Err(failure) => return Err(failure),
     };
-    let changes = match decide(alloc, &view, caller, key, command) {
+    remembered.person = None;
+    let changes = match decide(alloc, &view, call.caller, call.key, call.command) {
         Ok(changes) => changes,
         Err(refusal) => {
             if refusal == Refusal::NoMemory {
@@ -84,20 +79,20 @@ fn act<S: Alter>(
             }
             return Ok(Acted {
                 answer: Answer::Refused(refusal),
-                figures,
+                remembered,
             });
         }
     };
     if changes.writes.is_empty() {
         return Ok(Acted {
             answer: Answer::Repeated(changes.reply),
-            figures,
+            remembered,
         });
     }
     match write_all(alloc, tx, &changes.writes) {
         Ok(()) => Ok(Acted {
             answer: Answer::Accepted(changes.reply),
-            figures: figures.after(command, &changes.writes),
+            remembered: remembered.after(call.command, &changes.writes),
         }),
         Err(fault) => Err(fault.refusal()),
     }
@@ -109,15 +104,11 @@ fn act<S: Alter>(
 pub(crate) fn run<S: Alter>(
     alloc: Global,
     conn: &mut Connection<S>,
-    figures: KeptFigures,
-    kept_person: Option<&Person>,
-    caller: &Caller,
-    key: &Key,
-    command: &Command,
+    remembered: Remembered,
+    call: &CallRef<'_>,
 ) -> Result<Acted, Refusal>
     ensures ok { HasCleanDisk (state S.Store conn.new) → IfOk result (λ acted.
-        Runs (kept figures (option_copied kept_person.entry))
-        (called caller.now key.now command.now) acted
+        Runs remembered call.now acted
         (state S.Store conn.old) (state S.Store conn.new)) }
     ensures err { HasCleanDisk (state S.Store conn.new) → IfErr result (λ e. e ≢ Refusal.Store
         → (owner : List ℕ) (cs : History) → ShowsHistory (state S.Store conn.old) owner cs
@@ -126,14 +117,13 @@ pub(crate) fn run<S: Alter>(
     ensures failed { IfErr result IsFailure }
     ensures unwritten { IfErr result (λ e. e ≢ Refusal.Store → Spares S.Store conn.old conn.new) }
     ensures survives { Survives (state S.Store conn.old) (state S.Store conn.new)
-        (LeavesNext (state S.Store conn.old) (kept figures (option_copied kept_person.entry))
-        (called caller.now key.now command.now)) }
+        (LeavesNext (state S.Store conn.old) remembered call.now) }
 {
     if !conn.is_autocommit() {
         return Err(Refusal::Store);
     }
     let mut tx = conn.transaction();
-    let acted = match act(alloc, &mut tx, figures, kept_person, caller, key, command) {
+    let acted = match act(alloc, &mut tx, remembered, call) {
         Ok(acted) => acted,
         Err(failure) => return Err(failure),
     };

@@ -29,9 +29,9 @@ fn copy_of(person: Option<&Person>) -> Option<Person>
 }
 
 impl<S: Alter + Drop> Desk<S> {
-    /// The person whose token has this SHA-256, if there is one. The desk keeps the person for the
-    /// next call with a caller, which doesn't look them up again. Takes memory for the row, and for
-    /// the copy that is kept; without that copy the next call reads the row.
+    /// The person whose token has this SHA-256, if there is one. The desk remembers the person for
+    /// the next call with a caller, which doesn't look them up again. Takes memory for the row, and
+    /// for a copy; without that copy the next call reads the row.
     ///
     /// `NoMemory`: memory was refused. `Store`: the store failed, or isn't as a desk left it.
     pub fn person_of(&mut self, token: &Digest) -> Result<Option<Person>, Refusal>
@@ -44,7 +44,7 @@ impl<S: Alter + Drop> Desk<S> {
             Ok(found) => found,
             Err(refusal) => return Err(refusal),
         };
-        self.kept_person = copy_of(found.as_ref());
+        self.remembered.person = copy_of(found.as_ref());
         Ok(found)
     }
 

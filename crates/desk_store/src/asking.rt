@@ -5,6 +5,7 @@ ghost use Rattle.sqlite.specs.State.{HasCleanDisk};
 ghost use Rattle.store_schema.specs.rows.Histories.{ShowsHistory};
 ghost use Rattle.desk_history.specs.Calls.{History};
 ghost use Rattle.desk_history.specs.Formed.{IsHistory};
+ghost use Rattle.store_exports.specs.Exporting.{StaysOf};
 ghost use Rattle.store_reads.specs.Failures.{IsFailure};
 ghost use Rattle.store_sql.specs.States.{DoesInside, CommitsNothing, Spares, StaysInside};
 ghost use Rattle.desk_store.specs.Desks.{ForEachShown, ReadsDesk};
@@ -59,6 +60,7 @@ pub(crate) fn ask<S: Alter, Q: Question>(
         → ShowsHistory (state S.Store conn.old) owner cs
         → ShowsHistory (state S.Store conn.new) owner cs }
     ensures failed { IfErr result IsFailure }
+    ensures stays { StaysOf (state S.Store conn.old) (state S.Store conn.new) }
     ensures survives { Spares S.Store conn.old conn.new }
 {
     if !conn.is_autocommit() {
@@ -80,6 +82,7 @@ impl<S: Alter + Drop> Desk<S> {
             ForEachShown S.Store self.old (Q.Question.tells question.now answer)) }
         ensures bound { IfOk result (Q.Question.bounds question.now) }
         ensures reads { ReadsDesk S.Store IsFailure self.old self.new result }
+        ensures stays { StaysOf (state S.Store self.old.conn) (state S.Store self.new.conn) }
     {
         if self.needs_reopening {
             return Err(Refusal::Reopen);

@@ -9,7 +9,7 @@ ghost use Rattle.store_schema.specs.Tables.{no_schema};
 ghost use Rattle.store_sql.specs.States.{Spares};
 ghost use Rattle.desk_history.specs.Tables.{tables};
 ghost use Rattle.store_views.specs.lists.Lists.{HoldsNoOther};
-ghost use Rattle.desk_rules.specs.Decisions.{called};
+ghost use Rattle.desk_history.specs.Called.{called};
 ghost use Rattle.desk_rules.specs.Shown.{Shows};
 ghost use Rattle.desk_rules.specs.Views.{ShowsLists, keys_of};
 ghost use Rattle.store_views.specs.Named.{HoldsNoRowBeyond};
@@ -28,24 +28,23 @@ use crate::opening::{bring_up, found_is_shown};
 use crate::questions::{ListsFor, RowsFor};
 use desk_bytes::{Guid, Refusal};
 use desk_history::{keys_stand_once, lives_keep_what_was_answered};
-use desk_rules::{ListView, View};
-use desk_texts::{Caller, Command, Facts, Key, Person, Reply, call_is_formed};
+use desk_rules::{CallRef, ListView, View};
+use desk_texts::{Caller, Command, Facts, Key, Reply, call_is_formed};
 use sbat::Stamp;
 use sqlite::{Alter, Connection};
 use std::alloc::Global;
 use store_sql::stop_leaves_what_is_shown;
-use store_views::KeptFigures;
+use store_views::Remembered;
 
-/// A desk in a store. It has the connection, the owner of each entry that it exports, the level's
-/// stamp with the sizes of its tables that it has counted, and the person whom `person_of` found, for
-/// the next call.
+/// A desk in a store. It has the connection, the owner of each entry that it exports, and what it
+/// remembers between calls: the level's stamp, the sizes of its tables that it has counted, and the
+/// person whom `person_of` found, for the next call.
 #[derive(Drop)]
 pub struct Desk<S: Alter> {
     pub(crate) alloc: Global,
     pub(crate) conn: Connection<S>,
     pub(crate) owner: Guid,
-    pub(crate) figures: KeptFigures,
-    pub(crate) kept_person: Option<Person>,
+    pub(crate) remembered: Remembered,
     pub(crate) needs_reopening: bool,
 }
 
@@ -87,8 +86,7 @@ impl<S: Alter + Drop> Desk<S> {
                     alloc,
                     conn,
                     owner: *owner,
-                    figures: KeptFigures::of_stamp(Stamp::original()),
-                    kept_person: None,
+                    remembered: Remembered::of_stamp(Stamp::original()),
                     needs_reopening: false,
                 })
             }
@@ -164,8 +162,7 @@ impl<S: Alter + Drop> Desk<S> {
                     alloc,
                     conn,
                     owner: own.owner,
-                    figures: KeptFigures::of_stamp(own.stamp),
-                    kept_person: None,
+                    remembered: Remembered::of_stamp(own.stamp),
                     needs_reopening: false,
                 })
             }
@@ -202,19 +199,16 @@ impl<S: Alter + Drop> Desk<S> {
             return Err(Refusal::Reopen);
         }
         call_is_formed(caller, key, command);
-        let kept_person = self.kept_person.take();
-        match run(
-            self.alloc,
-            &mut self.conn,
-            self.figures,
-            kept_person.as_ref(),
+        let remembered = self.remembered.take();
+        let call = CallRef {
             caller,
             key,
             command,
-        ) {
+        };
+        match run(self.alloc, &mut self.conn, remembered, &call) {
             Ok(acted) => {
                 stop_leaves_what_is_shown(&self.conn);
-                self.figures = acted.figures;
+                self.remembered = acted.remembered;
                 result_of(acted.answer)
             }
             Err(refusal) => {
@@ -236,14 +230,16 @@ impl<S: Alter + Drop> Desk<S> {
         ensures reads { ReadsDesk S.Store IsFailure self.old self.new result }
     {
         let question = RowsFor {
-            figures: self.figures,
-            caller,
-            key,
-            command,
+            remembered: self.remembered.without_person(),
+            call: CallRef {
+                caller,
+                key,
+                command,
+            },
         };
         match self.answer_question(&question) {
             Ok(viewed) => {
-                self.figures = viewed.figures;
+                self.remembered.sizes = viewed.sizes;
                 Ok(viewed.view)
             }
             Err(failure) => Err(failure),

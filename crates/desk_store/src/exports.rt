@@ -17,7 +17,7 @@ use store_exports::export;
 
 impl<S: Alter + Drop> Desk<S> {
     /// Writes an export. Each row is written as the store gives it; the owner and the stamp are those
-    /// that the desk keeps. Takes memory for one row.
+    /// that the desk has. Takes memory for one row.
     ///
     /// `Write`: the writer failed. `NoMemory`: memory was refused. `Store`: the store failed, or
     /// isn't as a desk left it. After each the writer holds a prefix of the export, which may be
@@ -45,7 +45,7 @@ impl<S: Alter + Drop> Desk<S> {
         if self.needs_reopening {
             return Err(Refusal::Reopen);
         }
-        let stamp = self.figures.stamp;
+        let stamp = self.remembered.stamp;
         match export(self.alloc, &mut self.conn, what, self.owner, stamp, writer) {
             Ok(()) => Ok(()),
             Err(failure) => {

@@ -8,28 +8,26 @@ ghost use Rattle.desk_history.specs.Tables.{tables};
 ghost use Rattle.store_views.specs.lists.Lists.{HoldsNoOther};
 ghost use Rattle.store_reads.specs.People.{IsOneOf};
 ghost use Rattle.store_reads.specs.Reads.{listed};
-ghost use Rattle.desk_rules.specs.Decisions.{called};
 ghost use Rattle.desk_rules.specs.Shown.{Shows};
 ghost use Rattle.desk_rules.specs.Views.{ShowsLists, keys_of};
 ghost use Rattle.store_requests.specs.Lists.{HoldsShown};
 ghost use Rattle.store_requests.specs.Telling.{IsOfficerRefusal, IsReaderRefusal, IsRequestRefusal};
-ghost use Rattle.store_views.specs.figures.Figures.{AreCurrent};
+ghost use Rattle.store_views.specs.remembered.Current.{IsCurrent};
+ghost use Rattle.store_views.specs.sizes.Sizes.{AreRight};
 ghost use Rattle.desk_texts.specs.declared.caller.Caller.TheVariants as callers;
 ghost use Rattle.store_views.specs.Named.{HoldsNoRowBeyond};
 
 use crate::asking::Question;
 use desk_bytes::{Digest, Refusal};
-use desk_rules::{ListView, View};
-use desk_texts::{
-    Caller, Command, Facts, Key, Person, PersonName, Proposal, RequestNumber, ShownRequest,
-};
+use desk_rules::{CallRef, ListView, View};
+use desk_texts::{Facts, Person, PersonName, Proposal, RequestNumber, ShownRequest};
 use sqlite::{Alter, Transaction};
 use std::alloc::Global;
 use std::marker::PhantomData;
 use store_counts::{Counts, counts};
 use store_reads::person_of_token;
 use store_requests::{RequestList, proposals_of, request, requests_of};
-use store_views::{KeptFigures, list_view, view};
+use store_views::{KnownSizes, Remembered, list_view, view};
 
 /// Who has the token of this SHA-256?
 #[derive(Drop)]
@@ -105,58 +103,49 @@ impl<'a> Question for ListsFor<'a> {
     }
 }
 
-/// Which rows does a decision on this call need, where these figures are kept?
+/// Which rows does a decision on this call need, where this is remembered?
 #[derive(Drop)]
 pub(crate) struct RowsFor<'a> {
-    pub(crate) figures: KeptFigures,
-    pub(crate) caller: &'a Caller,
-    pub(crate) key: &'a Key,
-    pub(crate) command: &'a Command,
+    pub(crate) remembered: Remembered,
+    pub(crate) call: CallRef<'a>,
 }
 
-/// The rows that a decision on a call needs, and the figures since they were read.
+/// The rows that a decision on a call needs, and the sizes that are known since they were read.
 #[derive(Drop)]
 pub(crate) struct Viewed {
     pub(crate) view: View,
-    pub(crate) figures: KeptFigures,
+    pub(crate) sizes: KnownSizes,
 }
 
 impl<'a> Question for RowsFor<'a> {
     type Answer = Viewed;
 
-    ghost tells = { λ q viewed owner cs. AreCurrent q.figures (tables owner cs)
-        → Shows viewed.view (tables owner cs) (called q.caller.now q.key.now q.command.now)
-        × AreCurrent viewed.figures (tables owner cs) };
+    ghost tells = { λ q viewed owner cs. IsCurrent q.remembered (tables owner cs)
+        → Shows viewed.view (tables owner cs) q.call × AreRight viewed.sizes (tables owner cs) };
 
-    ghost bounds = { λ q viewed. HoldsNoRowBeyond viewed.view
-        (called q.caller.now q.key.now q.command.now) };
+    ghost bounds = { λ q viewed. HoldsNoRowBeyond viewed.view q.call };
 
     fn read<S: Alter>(
         &self,
         alloc: Global,
         tx: &mut Transaction<'_, S>,
     ) -> Result<Viewed, Refusal> {
-        let mut figures = self.figures;
-        match view(
-            alloc,
-            tx,
-            &mut figures,
-            None,
-            self.caller,
-            self.key,
-            self.command,
-        ) {
-            Ok(view) => Ok(Viewed { view, figures }),
+        let mut remembered = self.remembered.without_person();
+        match view(alloc, tx, &mut remembered, &self.call) {
+            Ok(view) => Ok(Viewed {
+                view,
+                sizes: remembered.sizes,
+            }),
             Err(failure) => Err(failure),
         }
     }
 }
 
-/// What is the person of this name, who may be the one who is kept, shown of the request of this
-/// number?
+/// What is the person of this name, who may be the one who is remembered, shown of the request of
+/// this number?
 #[derive(Drop)]
 pub(crate) struct OneRequest<'a> {
-    pub(crate) kept_person: &'a Option<Person>,
+    pub(crate) person: &'a Option<Person>,
     pub(crate) name: &'a PersonName,
     pub(crate) number: RequestNumber,
 }
@@ -164,7 +153,7 @@ pub(crate) struct OneRequest<'a> {
 impl<'a> Question for OneRequest<'a> {
     type Answer = Result<ShownRequest, Refusal>;
 
-    ghost tells = { λ q given owner cs. IsOneOf q.kept_person.now (people cs)
+    ghost tells = { λ q given owner cs. IsOneOf q.person.now (people cs)
         → GivesRequest cs (callers.Person q.name.now) q.number given };
 
     ghost bounds = { λ _ given. IfErr given IsRequestRefusal };
@@ -174,18 +163,18 @@ impl<'a> Question for OneRequest<'a> {
         alloc: Global,
         tx: &mut Transaction<'_, S>,
     ) -> Result<Result<ShownRequest, Refusal>, Refusal> {
-        match request(alloc, tx, self.kept_person.as_ref(), self.name, self.number) {
+        match request(alloc, tx, self.person.as_ref(), self.name, self.number) {
             Ok(given) => Ok(given),
             Err(fault) => Err(fault.refusal()),
         }
     }
 }
 
-/// Which requests is the person of this name, who may be the one who is kept, shown? They are
+/// Which requests is the person of this name, who may be the one who is remembered, shown? They are
 /// collected into an `L`.
 #[derive(Drop)]
 pub(crate) struct AllRequests<'a, L> {
-    pub(crate) kept_person: &'a Option<Person>,
+    pub(crate) person: &'a Option<Person>,
     pub(crate) name: &'a PersonName,
     pub(crate) list: PhantomData<L>,
 }
@@ -193,7 +182,7 @@ pub(crate) struct AllRequests<'a, L> {
 impl<'a, L: RequestList + Drop> Question for AllRequests<'a, L> {
     type Answer = Result<L, Refusal>;
 
-    ghost tells = { λ q given owner cs. IsOneOf q.kept_person.now (people cs)
+    ghost tells = { λ q given owner cs. IsOneOf q.person.now (people cs)
         → IsGiven (requests_for cs (callers.Person q.name.now)) given
         (HoldsShown L.RequestList.holds) };
 
@@ -204,24 +193,24 @@ impl<'a, L: RequestList + Drop> Question for AllRequests<'a, L> {
         alloc: Global,
         tx: &mut Transaction<'_, S>,
     ) -> Result<Result<L, Refusal>, Refusal> {
-        match requests_of(alloc, tx, self.kept_person.as_ref(), self.name) {
+        match requests_of(alloc, tx, self.person.as_ref(), self.name) {
             Ok(given) => Ok(given),
             Err(fault) => Err(fault.refusal()),
         }
     }
 }
 
-/// Which proposals is the person of this name, who may be the one who is kept, shown?
+/// Which proposals is the person of this name, who may be the one who is remembered, shown?
 #[derive(Drop)]
 pub(crate) struct AllProposals<'a> {
-    pub(crate) kept_person: &'a Option<Person>,
+    pub(crate) person: &'a Option<Person>,
     pub(crate) name: &'a PersonName,
 }
 
 impl<'a> Question for AllProposals<'a> {
     type Answer = Result<Vec<Proposal>, Refusal>;
 
-    ghost tells = { λ q given owner cs. IsOneOf q.kept_person.now (people cs)
+    ghost tells = { λ q given owner cs. IsOneOf q.person.now (people cs)
         → IsGiven (proposals_for cs (callers.Person q.name.now)) given
         (λ ps shown. shown.items ≡ map (shown_proposal cs) ps) };
 
@@ -232,7 +221,7 @@ impl<'a> Question for AllProposals<'a> {
         alloc: Global,
         tx: &mut Transaction<'_, S>,
     ) -> Result<Result<Vec<Proposal>, Refusal>, Refusal> {
-        match proposals_of(alloc, tx, self.kept_person.as_ref(), self.name) {
+        match proposals_of(alloc, tx, self.person.as_ref(), self.name) {
             Ok(given) => Ok(given),
             Err(fault) => Err(fault.refusal()),
         }

@@ -43,9 +43,9 @@ impl<S: Alter + Drop> Desk<S> {
         let Caller::Person(name) = caller else {
             return Err(Refusal::NotYourRole);
         };
-        let kept_person = self.kept_person.take();
+        let person = self.remembered.person.take();
         let question = OneRequest {
-            kept_person: &kept_person,
+            person: &person,
             name,
             number,
         };
@@ -77,9 +77,9 @@ impl<S: Alter + Drop> Desk<S> {
         let Caller::Person(name) = caller else {
             return Err(Refusal::NotYourRole);
         };
-        let kept_person = self.kept_person.take();
+        let person = self.remembered.person.take();
         let question: AllRequests<'_, L> = AllRequests {
-            kept_person: &kept_person,
+            person: &person,
             name,
             list: PhantomData,
         };
@@ -111,9 +111,9 @@ impl<S: Alter + Drop> Desk<S> {
         let Caller::Person(name) = caller else {
             return Err(Refusal::NotYourRole);
         };
-        let kept_person = self.kept_person.take();
+        let person = self.remembered.person.take();
         let question = AllProposals {
-            kept_person: &kept_person,
+            person: &person,
             name,
         };
         match self.answer_question(&question) {

@@ -98,13 +98,13 @@ pub first-append : (xs ys : List ℕ) → eqb (get_or xs 0 45) 45 ≡ false → 
 first-append [] ys h = absurd (cc)
 first-append (x ∷ xs) ys h = h
 
-none_pass : (c : ℕ) (xs : List ℕ) → is_free c xs ≡ true → All (λ b. eqb b c ≡ false) xs
+pub none_pass : (c : ℕ) (xs : List ℕ) → is_free c xs ≡ true → All (λ b. eqb b c ≡ false) xs
 none_pass c [] h = All-nil (λ b. eqb b c ≡ false)
 none_pass c (x ∷ xs) h =
     let parts = both (not (eqb x c)) (is_free c xs) h in
     All-cons (λ b. eqb b c ≡ false) x xs (unequal x c parts.0) (none_pass c xs parts.1)
 
-split_joined : (x : List ℕ) (xs : List (List ℕ)) → All IsItem (x ∷ xs) → slice_split (λ b. eqb b 44) (join_with_byte 44 (x ∷ xs)) ≡ x ∷ xs
+pub split_joined : (x : List ℕ) (xs : List (List ℕ)) → All IsItem (x ∷ xs) → slice_split (λ b. eqb b 44) (join_with_byte 44 (x ∷ xs)) ≡ x ∷ xs
 split_joined x [] h = slice_split_none (λ b. eqb b 44) x (none_pass 44 x (All-head IsItem x [] h).free)
 split_joined x (y ∷ ys) h =
     slice_split_at (λ b. eqb b 44) x 44 (join_with_byte 44 (y ∷ ys)) (none_pass 44 x (All-head IsItem x (y ∷ ys) h).free) refl

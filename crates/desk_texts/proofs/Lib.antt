@@ -1,6 +1,9 @@
+pub mod CommandReadingLemmas
+pub mod FactsReadingLemmas
 pub mod FieldLemmas
 pub mod FormLemmas
 pub mod ItemLemmas
+pub mod ItemReadingLemmas
 pub mod NumberLemmas
 pub mod PartLemmas
 pub mod ReadingLemmas

@@ -30,7 +30,7 @@ use Rattle.desk_texts.proofs.ValueLemmas.{component_name_free, components_free, 
 pub request_small : (n : ℕ) → is_request_number n ≡ true → IsCount n
 request_small n h = let size = number_size n h in omega arith
 
-person_name_free : (name : List ℕ) → is_person_name name ≡ true → is_free 32 name ≡ true
+pub person_name_free : (name : List ℕ) → is_person_name name ≡ true → is_free 32 name ≡ true
 person_name_free name h =
     free-by is_name_byte 32 refl name (both _ (list_all is_name_byte name) h).1
 
@@ -108,7 +108,7 @@ six_fields f h n last rest same =
     let second = fields-more (suc (suc (suc (suc n)))) b two (c ∷ d ∷ e ∷ g ∷ rest) (decimal_free f.extent.gap h.gap) third in
     fields-more (suc (suc (suc (suc (suc n))))) a one (b ∷ c ∷ d ∷ e ∷ g ∷ rest) (decimal_free f.extent.length h.length) second
 
-regrouped : (a b c d e f g t : List ℕ)
+pub regrouped : (a b c d e f g t : List ℕ)
     → (a ++ (32 ∷ (b ++ (32 ∷ (c ++ (32 ∷ (d ++ (32 ∷ (e ++ (32 ∷ (f ++ (32 ∷ g)))))))))))) ++ t
     ≡ a ++ (32 ∷ (b ++ (32 ∷ (c ++ (32 ∷ (d ++ (32 ∷ (e ++ (32 ∷ (f ++ (32 ∷ (g ++ t))))))))))))
 regrouped a b c d e f g t = simp append_assoc

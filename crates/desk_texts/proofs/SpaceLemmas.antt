@@ -6,6 +6,7 @@ use Rattle.std.specs.Result.{OkIff, result_ok}
 use Rattle.std.specs.Str.{IsAscii}
 use Rattle.std.specs.Str.Parse.{ParsesUnsigned}
 use Rattle.std.specs.Cmp.Lexicographic.{pointwise}
+use Rattle.std.proofs.lemmas.Bool.{eq-eqb, eqb-true}
 use Rattle.std.proofs.lemmas.Bool.Decides.{Decides-eqb, nat_tests}
 use Rattle.std.proofs.lemmas.Fmt.{decimal_digit, decimal_nonempty, first_decimal, digits_decimal, decimal-digits_value, digits_value-decimal}
 use Rattle.std.proofs.lemmas.List.{append_cancel_left, take_all, take_rest}
@@ -26,54 +27,65 @@ pub none_fact : {A P : Type 0} (o : Option A) → P → IfNone o P
 none_fact None p = p
 none_fact (Some x) p = tt
 
-space_same : (b : ℕ) → is_space b ≡ true → b ≡ 32
-space_same b h = grind (arith, nat_tests)
+cut : (c : ℕ) (text : List ℕ) (i : ℕ) → i < length text → eqb (get_or text i 0) c ≡ true → text ≡ take i text ++ (c ∷ drop (suc i) text)
+cut c [] i h s = absurd (omega arith)
+cut c (b ∷ bs) zero h s = ap (λ x. x ∷ bs) (eqb-true b c s)
+cut c (b ∷ bs) (suc i) h s = ap (λ t. b ∷ t) (cut c bs i (omega arith) s)
 
-cut : (text : List ℕ) (i : ℕ) → i < length text → is_space (get_or text i 0) ≡ true → text ≡ take i text ++ (32 ∷ drop (suc i) text)
-cut [] i h s = absurd (omega arith)
-cut (b ∷ bs) zero h s = ap (λ x. x ∷ bs) (space_same b s)
-cut (b ∷ bs) (suc i) h s = ap (λ t. b ∷ t) (cut bs i (omega arith) s)
+free_to : (c : ℕ) (text : List ℕ) (i : ℕ) → i ≤ length text → ((k : ℕ) → k < i → eqb (get_or text k 0) c ≡ false) → is_free c (take i text) ≡ true
+free_to c text zero h f = refl
+free_to c [] (suc i) h f = refl
+free_to c (b ∷ bs) (suc i) h f =
+    let first : eqb b c ≡ false = f 0 (omega arith) in
+    joined (not (eqb b c)) (is_free c (take i bs)) (ap not first) (free_to c bs i (omega arith) (λ k less. f (suc k) (omega arith)))
 
-free_to : (text : List ℕ) (i : ℕ) → i ≤ length text → ((k : ℕ) → k < i → is_space (get_or text k 0) ≡ false) → is_free 32 (take i text) ≡ true
-free_to text zero h f = refl
-free_to [] (suc i) h f = refl
-free_to (b ∷ bs) (suc i) h f =
-    let first : is_space b ≡ false = f 0 (omega arith) in
-    joined (not (is_space b)) (is_free 32 (take i bs)) (ap not first) (free_to bs i (omega arith) (λ k less. f (suc k) (omega arith)))
-
--- where the first space was found, the text is cut there
-pub parted_found : (text : List ℕ) (i : ℕ) → position is_space text ≡ Some i
-    → (text ≡ take i text ++ (32 ∷ take (length text - (i + 1)) (drop (i + 1) text))) × (is_free 32 (take i text) ≡ true)
-parted_found text i e =
-    let found = position-Some is_space text i 0 e in
+-- where the first such byte was found, the text is cut there
+pub cut_found : (c : ℕ) (text : List ℕ) (i : ℕ) → position (λ b. eqb b c) text ≡ Some i
+    → (text ≡ take i text ++ (c ∷ take (length text - (i + 1)) (drop (i + 1) text))) × (is_free c (take i text) ≡ true)
+cut_found c text i e =
+    let found = position-Some (λ b. eqb b c) text i 0 e in
     let within = found.0 in
     let rest : drop (suc i) text ≡ take (length text - (i + 1)) (drop (i + 1) text) = ap (λ n. drop n text) (sym (add-one i)) ∙ sym (take_rest text (i + 1)) in
-    (cut text i within found.1 ∙ ap (λ r. take i text ++ (32 ∷ r)) rest, free_to text i (omega arith) found.2)
+    (cut c text i within found.1 ∙ ap (λ r. take i text ++ (c ∷ r)) rest, free_to c text i (omega arith) found.2)
 
 none_is : (b : Bool) (n : ℕ) → cond b (Some n) None ≡ None → b ≡ false
 none_is true n e = absurd (cc)
 none_is false n e = refl
 
 -- where none was found, there is none
-pub parted_none : (text : List ℕ) → position is_space text ≡ None → is_free 32 text ≡ true
-parted_none text e =
-    let past = none_is (ltb (position_or_len is_space text) (length text)) (position_or_len is_space text) e in
-    let all : length text ≤ position_or_len is_space text = grind (arith, nat_tests, past) in
-    let free = free_to text (length text) (omega arith) (λ k less. fails_before_first is_space text k 0 (omega arith)) in
-    ap (is_free 32) (sym (take_all (length text) text (omega arith))) ∙ free
+pub cut_none : (c : ℕ) (text : List ℕ) → position (λ b. eqb b c) text ≡ None → is_free c text ≡ true
+cut_none c text e =
+    let past = none_is (ltb (position_or_len (λ b. eqb b c) text) (length text)) (position_or_len (λ b. eqb b c) text) e in
+    let all : length text ≤ position_or_len (λ b. eqb b c) text = grind (arith, nat_tests, past) in
+    let free = free_to c text (length text) (omega arith) (λ k less. fails_before_first (λ b. eqb b c) text k 0 (omega arith)) in
+    ap (is_free c) (sym (take_all (length text) text (omega arith))) ∙ free
 
--- there is one way to split a text at a space with none before it
+-- there is one way to split a text at a byte with none before it
+pub cut_once : (c : ℕ) (a b d e : List ℕ) → is_free c a ≡ true → is_free c d ≡ true → a ++ (c ∷ b) ≡ d ++ (c ∷ e) → (a ≡ d) × (b ≡ e)
+cut_once c a b d e h k same =
+    (sym (before-is c a b h) ∙ ap (before c) same ∙ before-is c d e k, sym (after-is c a b h) ∙ ap (after c) same ∙ after-is c d e k)
+
+-- the same at a space
+pub parted_found : (text : List ℕ) (i : ℕ) → position is_space text ≡ Some i
+    → (text ≡ take i text ++ (32 ∷ take (length text - (i + 1)) (drop (i + 1) text))) × (is_free 32 (take i text) ≡ true)
+parted_found text i e = cut_found 32 text i e
+
+pub parted_none : (text : List ℕ) → position is_space text ≡ None → is_free 32 text ≡ true
+parted_none text e = cut_none 32 text e
+
 pub parted_once : (a b c d : List ℕ) → is_free 32 a ≡ true → is_free 32 c ≡ true → a ++ (32 ∷ b) ≡ c ++ (32 ∷ d) → (a ≡ c) × (b ≡ d)
-parted_once a b c d h k e =
-    (sym (before-is 32 a b h) ∙ ap (before 32) e ∙ before-is 32 c d k, sym (after-is 32 a b h) ∙ ap (after 32) e ∙ after-is 32 c d k)
+parted_once a b c d h k e = cut_once 32 a b c d h k e
 
 free_apart : (b : Bool) → not b ≡ true → b ≡ true → ⊥
 free_apart b h k = cc
 
--- a text without a space isn't split
+-- a text without the byte isn't split at it
+pub cut_whole : (c : ℕ) (a b : List ℕ) → is_free c (a ++ (c ∷ b)) ≡ true → ⊥
+cut_whole c [] b h = free_apart (eqb c c) (both (not (eqb c c)) (is_free c b) h).0 (eq-eqb c c refl)
+cut_whole c (x ∷ a) b h = cut_whole c a b (both (not (eqb x c)) (is_free c (a ++ (c ∷ b))) h).1
+
 pub free_whole : (a b : List ℕ) → is_free 32 (a ++ (32 ∷ b)) ≡ true → ⊥
-free_whole [] b h = absurd (cc)
-free_whole (x ∷ a) b h = free_whole a b (both (not (eqb x 32)) (is_free 32 (a ++ (32 ∷ b))) h).1
+free_whole a b h = cut_whole 32 a b h
 
 -- ---- numbers
 

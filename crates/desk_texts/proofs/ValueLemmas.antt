@@ -67,7 +67,7 @@ digest_item d h =
       first = first-by is_lower_digit 45 refl (encode_lower d) some (hex_digits d h.bytes);
     }
 
-digest_items : (ds : List (List ℕ)) → All IsDigest ds → All IsItem (map encode_lower ds)
+pub digest_items : (ds : List (List ℕ)) → All IsDigest ds → All IsItem (map encode_lower ds)
 digest_items [] h = All-nil IsItem
 digest_items (d ∷ ds) h =
     All-cons IsItem (encode_lower d) (map encode_lower ds) (digest_item d (All-head IsDigest d ds h)) (digest_items ds (All-tail IsDigest d ds h))
@@ -105,7 +105,7 @@ component_name_free name h = free-by is_name_byte 32 refl name (name_bytes name 
 abbrev pub component_in : List ℕ → Component
 component_in text = record { name = after 58 text; generation = decimal_of (before 58 text) }
 
-colon_free : (n : ℕ) → IsCount n → is_free 58 (decimal n) ≡ true
+pub colon_free : (n : ℕ) → IsCount n → is_free 58 (decimal n) ≡ true
 colon_free n small = free-by is_ascii_digit 58 refl (decimal n) (decimal_digits n small)
 
 component_made : (a b : List ℕ) (m n : ℕ) → a ≡ b → m ≡ n → (let x : Component = record { name = a; generation = m } in let y : Component = record { name = b; generation = n } in x ≡ y)
@@ -135,7 +135,7 @@ component_unspaced c h =
     free-append 32 (decimal c.generation) (58 ∷ c.name) (decimal_free c.generation (generation_small c.generation h.generation))
     (joined _ _ refl (component_name_free c.name h.name))
 
-component_items : (cs : List Component) → All IsComponent cs → All IsItem (map component_text cs)
+pub component_items : (cs : List Component) → All IsComponent cs → All IsItem (map component_text cs)
 component_items [] h = All-nil IsItem
 component_items (c ∷ cs) h =
     All-cons IsItem (component_text c) (map component_text cs) (component_item c (All-head IsComponent c cs h)) (component_items cs (All-tail IsComponent c cs h))

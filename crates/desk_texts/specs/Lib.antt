@@ -8,6 +8,7 @@ pub mod Forms
 pub mod Imports
 pub mod Items
 pub mod Raising
+pub mod Reading
 pub mod ReplyTexts
 pub mod Shown
 pub mod Words

@@ -9,7 +9,7 @@ use crate::{Caller, Command, Counts, Facts, Import, Key, Reply};
 use desk_bytes::Digest;
 use sbat::Component;
 
-fn show_count(number: u64)
+pub(crate) fn show_count(number: u64)
     ensures { IsCount number }
 {}
 
@@ -26,13 +26,13 @@ fn show_bytes(bytes: &[u8])
     ensures { IsBytes bytes.now }
 {}
 
-fn show_digest(digest: &Digest)
+pub(crate) fn show_digest(digest: &Digest)
     ensures { IsDigest digest.now }
 {
     show_bytes(digest.as_bytes());
 }
 
-fn show_digests(digests: &[Digest])
+pub(crate) fn show_digests(digests: &[Digest])
     ensures { All IsDigest digests.now }
 {
     for digest in digests {
@@ -40,14 +40,14 @@ fn show_digests(digests: &[Digest])
     }
 }
 
-fn show_component(component: &Component)
+pub(crate) fn show_component(component: &Component)
     ensures { IsComponent component.now }
 {
     let _name = component.name.as_str();
     let _generation = component.generation.value();
 }
 
-fn show_components(components: &[Component])
+pub(crate) fn show_components(components: &[Component])
     ensures { All IsComponent components.now }
 {
     for component in components {

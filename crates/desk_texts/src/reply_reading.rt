@@ -21,7 +21,7 @@ use crate::{
 use std::alloc::Global;
 
 /// The number after this beginning.
-fn number_behind(beginning: &[u8], text: &[u8]) -> Option<Ordinal>
+pub(crate) fn number_behind(beginning: &[u8], text: &[u8]) -> Option<Ordinal>
     ensures found { IfSome result (λ number. text.now ≡ beginning.now ++ decimal number) }
     ensures only { IfNone result ((number : ℕ) → is_ordinal number ≡ true
         → text.now ≢ beginning.now ++ decimal number) }

@@ -5,6 +5,7 @@ use Rattle.desk_texts.specs.Forms.{is_key, is_title, is_decimal}
 use Rattle.desk_texts.specs.declared.command.Command.TheVariants as command
 use Rattle.desk_texts.specs.declared.fault.TextFault.{TextFault}
 use Rattle.desk_texts.specs.declared.fault.TextFault.TheVariants as text
+use Rattle.http_requests.specs.Targets.{minute_number}
 use Rattle.http_requests.specs.Wanted.{Want}
 use Rattle.http_requests.specs.declared.ask.BytesAsked.TheVariants as bytes
 use Rattle.http_requests.specs.declared.ask.CommandAsked.{CommandAsked}
@@ -22,7 +23,7 @@ use Rattle.http_requests.specs.declared.route.GetRoute.TheVariants as get
 use Rattle.http_requests.specs.declared.route.ImageRoute.{ImageRoute}
 use Rattle.http_requests.specs.declared.route.ImageRoute.TheVariants as posted
 use Rattle.http_requests.specs.declared.fault.AskedFault.{AskedFault}
-use Rattle.http_requests.specs.declared.fault.AskedFault.TheVariants.{BadField, NoSuchRequest, NoSuchProposal, NoMemory}
+use Rattle.http_requests.specs.declared.fault.AskedFault.TheVariants.{BadField, NoSuchRequest, NoSuchProposal, NoRoute, NoMemory}
 
 -- the key that a field gives, if it is one
 abbrev pub key_of : Option (List ℕ) → Option (List ℕ)
@@ -70,8 +71,17 @@ abbrev pub numbered : {A : Type 0} → Option ℕ → (ℕ → A) → Result A A
 numbered None ask = Err NoSuchRequest
 numbered (Some number) ask = Ok (ask number)
 
--- the command with a proposal's number
-abbrev pub of_proposal : Option ℕ → (ℕ → CommandAsked) → Result CommandAsked AskedFault
+-- the number of a minute in the place of {no}: 1 to 7 digits without a leading zero
+abbrev pub minute_in : Want → Option ℕ
+minute_in w = minute_number w.number
+
+-- the request with the number of a minute
+abbrev pub from_minute : Option ℕ → (ℕ → ReadAsked) → Result ReadAsked AskedFault
+from_minute None ask = Err NoRoute
+from_minute (Some number) ask = Ok (ask number)
+
+-- the request with a proposal's number
+abbrev pub of_proposal : {A : Type 0} → Option ℕ → (ℕ → A) → Result A AskedFault
 of_proposal None ask = Err NoSuchProposal
 of_proposal (Some number) ask = Ok (ask number)
 
@@ -80,10 +90,14 @@ abbrev pub read_at : GetRoute → Want → Result ReadAsked AskedFault
 read_at get.Requests w = Ok read.Requests
 read_at get.Request w = numbered (number_in w) (λ number. read.Request number)
 read_at get.Proposals w = Ok read.Proposals
+read_at get.Proposal w = of_proposal (number_in w) (λ number. read.Proposal number)
+read_at get.Impact w = of_proposal (number_in w) (λ number. read.Impact number)
 read_at get.Dbx w = Ok read.Dbx
 read_at get.Db w = Ok read.Db
 read_at get.Level w = Ok read.Level
 read_at get.Report w = Ok read.Report
+read_at get.Minutes w = from_minute (minute_in w) (λ number. read.Minutes number)
+read_at get.People w = Ok read.People
 
 -- the request with an image under a key
 abbrev pub with_image : Option (List ℕ) → (List ℕ → Result ImageAsked AskedFault) → Result ImageAsked AskedFault

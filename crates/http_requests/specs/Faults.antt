@@ -20,4 +20,5 @@ abbrev pub asked_refusal : AskedFault → Refusal
 asked_refusal asked.BadField = refusal.BadField
 asked_refusal asked.NoSuchRequest = refusal.NoSuchRequest
 asked_refusal asked.NoSuchProposal = refusal.NoSuchProposal
+asked_refusal asked.NoRoute = refusal.NoRoute
 asked_refusal asked.NoMemory = refusal.NoMemory

@@ -1,11 +1,12 @@
 -- own: the paths of the desk, as a router of `matchit` keeps them.
-use Rattle.std.specs.Prelude.{ℕ, List, [], codes, Option, option_map, Result, Ok, Err}
+use Rattle.std.specs.Prelude.{ℕ, List, [], codes, Option, Some, option_map, option_and_then, Result, Ok, Err}
 use Rattle.matchit.specs.Rows.{RowsOf}
 use Rattle.matchit.specs.Route.{Scan, parse_route}
 use Rattle.matchit.specs.Order.{placed}
 use Rattle.matchit.specs.Seek.{first}
 use Rattle.matchit.specs.Router.{RouteOf, route_from}
 use Rattle.matchit.specs.declared.error.InsertError.{InsertError}
+use Rattle.http_requests.specs.Targets.{minute_number, number_part}
 use Rattle.http_requests.specs.declared.resource.Resource.{Resource}
 use Rattle.http_requests.specs.declared.resource.Resource.TheVariants.{Get, Post, GetAndPost}
 use Rattle.http_requests.specs.declared.route.GetRoute.{GetRoute}
@@ -56,7 +57,9 @@ unfoldable pub with_proposals : Table → Table
 with_proposals rows =
     added (codes "/proposals/{no}/drop") (post_command command.Drop)
     (added (codes "/proposals/{no}/confirm") (post_command command.Confirm)
-    (added (codes "/proposals") (get read.Proposals) rows))
+    (added (codes "/proposals/{no}/impact") (get read.Impact)
+    (added (codes "/proposals/{no}") (get read.Proposal)
+    (added (codes "/proposals") (get read.Proposals) rows))))
 
 -- the rows and the paths of the lists
 unfoldable pub with_lists : Table → Table
@@ -78,10 +81,26 @@ with_rest rows =
     (added (codes "/level") (GetAndPost read.Level (Command command.RaiseLevel))
     (added (codes "/dbx/certificates") (post_command command.RevokeCertificate) rows)))))
 
+-- the rows and the paths of the minutes and of people
+unfoldable pub with_records : Table → Table
+with_records rows =
+    added (codes "/people") (get read.People)
+    (added (codes "/minutes/{no}") (get read.Minutes) rows)
+
 -- the table
 unfoldable pub table : Table
-table = with_rest (with_lists (with_proposals (with_requests [])))
+table = with_records (with_rest (with_lists (with_proposals (with_requests []))))
 
--- the resource at a request's target, by the definition of `matchit`
-unfoldable pub resource_of : List ℕ → Option Resource
-resource_of target = option_map (λ route. route.value) (first table target)
+-- the resource at a target in the table, by the definition of `matchit`
+unfoldable pub listed_at : List ℕ → Option Resource
+listed_at target = option_map (λ route. route.value) (first table target)
+
+-- a resource at a target; the minutes only from a number on
+abbrev pub with_number : List ℕ → Resource → Option Resource
+with_number target (Get read.Minutes) =
+    option_map (λ number. get read.Minutes) (minute_number (number_part target))
+with_number target resource = Some resource
+
+-- the resource at a request's target
+abbrev pub resource_of : List ℕ → Option Resource
+resource_of target = option_and_then (with_number target) (listed_at target)

@@ -1,25 +1,16 @@
 -- own: the request of a head, or the first of the checks on it that fails.
-use Rattle.std.specs.Prelude.{◌≡◌, ℕ, List, Bool, Option, Some, None, Result, Ok, Err, nat_le, ◌==◌, if◌then◌else◌}
-use Rattle.std.specs.List.{before_first, after_first}
+use Rattle.std.specs.Prelude.{◌≡◌, ℕ, List, Option, Some, None, Result, Ok, Err, nat_le, ◌==◌, if◌then◌else◌}
 use Rattle.http_requests.specs.heads.Fields.{Parts}
 use Rattle.http_requests.specs.Fields.{Values, fields_of, bytes_of}
 use Rattle.http_requests.specs.Paths.{resource_of}
 use Rattle.http_requests.specs.Routes.{route_of, methods_of, limit_of}
+use Rattle.http_requests.specs.Targets.{number_part}
 use Rattle.http_requests.specs.declared.resource.Resource.{Resource}
 use Rattle.http_requests.specs.declared.route.Route.{Route}
 use Rattle.http_requests.specs.declared.route.Route.TheVariants.{Get, Post}
 use Rattle.http_requests.specs.declared.want.Wanted.{Wanted}
 use Rattle.http_requests.specs.declared.fault.WantedFault.{WantedFault}
 use Rattle.http_requests.specs.declared.fault.WantedFault.TheVariants.{BadField, NoRoute, BadMethod, LengthNeeded, TooLarge}
-
--- whether a byte is a slash (47)
-abbrev pub is_slash : ℕ → Bool
-is_slash b = b == 47
-
--- the part of a target between its second slash and the third, or the end: {no} where its path has
--- it
-abbrev pub number_part : List ℕ → List ℕ
-number_part target = before_first is_slash (after_first is_slash (after_first is_slash target))
 
 -- the request of a head: a route, the length of the body, and the fields unchanged
 pub record Want : Type 0 where

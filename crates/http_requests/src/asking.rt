@@ -2,8 +2,10 @@
 ghost use Rattle.std.specs.Prelude.{◌≡◌};
 ghost use Rattle.http_requests.specs.Asked as spec;
 ghost use Rattle.http_requests.specs.Wanted as want;
-ghost use Rattle.http_requests.specs.declared.fault.AskedFault.TheVariants.{BadField, NoSuchProposal, NoSuchRequest};
+ghost use Rattle.http_requests.specs.declared.fault.AskedFault.TheVariants.{BadField, NoRoute};
+ghost use Rattle.http_requests.specs.declared.fault.AskedFault.TheVariants.{NoSuchProposal, NoSuchRequest};
 
+use crate::target::minute_number;
 use crate::{
     AskedFault, BytesAsked, CommandAsked, CommandRoute, GetRoute, ImageAsked, ImageRoute,
     JsonAsked, KeyedAsked, ReadAsked, Wanted,
@@ -83,8 +85,19 @@ fn proposal(wanted: &Wanted<'_>) -> Result<ProposalNumber, AskedFault>
     Ok(number)
 }
 
-/// The request of a GET, or NoSuchRequest if `{no}` isn't 1 to 6 digits without a leading zero. To
-/// be called once the caller is known.
+/// The minute's number in the place of `{no}`.
+fn minute(wanted: &Wanted<'_>) -> Result<u64, AskedFault>
+    ensures { spec.GivesOr NoRoute (spec.minute_in (want.shown wanted.now)) result }
+{
+    match minute_number(wanted.number) {
+        Some(number) => Ok(number),
+        None => Err(AskedFault::NoRoute),
+    }
+}
+
+/// The request of a GET, or NoSuchRequest if `{no}` isn't 1 to 6 digits without a leading zero, and
+/// at a path of proposals NoSuchProposal; at the path of the minutes it is 1 to 7 such digits, or
+/// NoRoute, which `check_head` gives before. To be called once the caller is known.
 pub fn read_asked(route: GetRoute, wanted: &Wanted<'_>) -> Result<ReadAsked, AskedFault>
     ensures { spec.Gives (spec.read_at route (want.shown wanted.now)) result }
 {
@@ -92,10 +105,14 @@ pub fn read_asked(route: GetRoute, wanted: &Wanted<'_>) -> Result<ReadAsked, Ask
         GetRoute::Requests => Ok(ReadAsked::Requests),
         GetRoute::Request => Ok(ReadAsked::Request(number(wanted)?)),
         GetRoute::Proposals => Ok(ReadAsked::Proposals),
+        GetRoute::Proposal => Ok(ReadAsked::Proposal(proposal(wanted)?)),
+        GetRoute::Impact => Ok(ReadAsked::Impact(proposal(wanted)?)),
         GetRoute::Dbx => Ok(ReadAsked::Dbx),
         GetRoute::Db => Ok(ReadAsked::Db),
         GetRoute::Level => Ok(ReadAsked::Level),
         GetRoute::Report => Ok(ReadAsked::Report),
+        GetRoute::Minutes => Ok(ReadAsked::Minutes(minute(wanted)?)),
+        GetRoute::People => Ok(ReadAsked::People),
     }
 }
 

@@ -31,6 +31,8 @@ pub enum AskedFault {
     NoSuchRequest,
     /// The part in the place of `{no}` isn't a proposal's number.
     NoSuchProposal,
+    /// The part in the place of `{no}` isn't a minute's number: `check_head` finds no such path.
+    NoRoute,
     /// Memory was refused.
     NoMemory,
 }
@@ -60,6 +62,7 @@ impl AskedFault {
             AskedFault::BadField => Refusal::BadField,
             AskedFault::NoSuchRequest => Refusal::NoSuchRequest,
             AskedFault::NoSuchProposal => Refusal::NoSuchProposal,
+            AskedFault::NoRoute => Refusal::NoRoute,
             AskedFault::NoMemory => Refusal::NoMemory,
         }
     }

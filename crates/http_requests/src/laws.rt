@@ -24,6 +24,8 @@ pub fn paths_of_requests_are_found()
 /// The paths of proposals are found, even if a part isn't a proposal's number.
 pub fn paths_of_proposals_are_found()
     ensures proposals { resource_of (codes "/proposals") ≡ Some (get read.Proposals) }
+    ensures proposal { resource_of (codes "/proposals/12") ≡ Some (get read.Proposal) }
+    ensures impact { resource_of (codes "/proposals/12/impact") ≡ Some (get read.Impact) }
     ensures confirm { resource_of (codes "/proposals/12/confirm")
         ≡ Some (post_command command.Confirm) }
     ensures drop { resource_of (codes "/proposals/12/drop") ≡ Some (post_command command.Drop) }
@@ -60,11 +62,20 @@ pub fn other_paths_are_found()
     ensures report { resource_of (codes "/report") ≡ Some (get read.Report) }
 {}
 
-/// A path isn't found with a query, with a slash at its end, or with an empty part, and a single
-/// proposal has no path.
+/// The paths of the minutes and of people are found.
+pub fn paths_of_records_are_found()
+    ensures minutes { resource_of (codes "/minutes/12") ≡ Some (get read.Minutes) }
+    ensures last { resource_of (codes "/minutes/1000000") ≡ Some (get read.Minutes) }
+    ensures people { resource_of (codes "/people") ≡ Some (get read.People) }
+{}
+
+/// A path isn't found with a query, with a slash at its end, or with an empty part, and none of the
+/// minutes with a part that isn't a minute's number.
 pub fn no_other_path_is_found()
     ensures query { resource_of (codes "/level?x") ≡ None }
     ensures end { resource_of (codes "/level/") ≡ None }
     ensures no_part { resource_of (codes "/requests/") ≡ None }
-    ensures proposal { resource_of (codes "/proposals/12") ≡ None }
+    ensures no_digit { resource_of (codes "/minutes/x") ≡ None }
+    ensures leading_zero { resource_of (codes "/minutes/012") ≡ None }
+    ensures eight_digits { resource_of (codes "/minutes/12345678") ≡ None }
 {}

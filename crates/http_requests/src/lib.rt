@@ -11,6 +11,7 @@ mod laws;
 mod resource;
 mod route;
 mod routing;
+mod target;
 mod want;
 mod wanting;
 
@@ -23,7 +24,7 @@ pub use heads::{
 };
 pub use laws::{
     no_other_path_is_found, other_paths_are_found, paths_of_lists_are_found,
-    paths_of_proposals_are_found, paths_of_requests_are_found,
+    paths_of_proposals_are_found, paths_of_records_are_found, paths_of_requests_are_found,
 };
 pub use resource::{Methods, Resource};
 pub use route::{CommandRoute, GetRoute, ImageRoute, PostRoute, Route};

@@ -14,7 +14,7 @@ pub enum Route {
     Post(PostRoute),
 }
 
-/// A route of GET. `{no}` stands for a request's number.
+/// A route of GET. `{no}` stands for the number of a request, of a proposal or of a minute.
 #[derive(Clone, Copy, Debug, PartialEq, Eq)]
 pub enum GetRoute {
     /// `/requests`
@@ -23,6 +23,10 @@ pub enum GetRoute {
     Request,
     /// `/proposals`
     Proposals,
+    /// `/proposals/{no}`
+    Proposal,
+    /// `/proposals/{no}/impact`
+    Impact,
     /// `/dbx`
     Dbx,
     /// `/db`
@@ -31,6 +35,10 @@ pub enum GetRoute {
     Level,
     /// `/report`
     Report,
+    /// `/minutes/{no}`
+    Minutes,
+    /// `/people`
+    People,
 }
 
 /// A route of POST, by the content that it takes.

@@ -1,8 +1,10 @@
 //! The table of paths.
 ghost use Rattle.std.specs.Prelude.{◌≡◌, IfOk, OnOk};
-ghost use Rattle.http_requests.specs.Paths.{added, get, post_command, post_image, resource_of};
-ghost use Rattle.http_requests.specs.Paths.{table, with_lists, with_proposals, with_requests, with_rest};
+ghost use Rattle.http_requests.specs.Paths.{added, get, listed_at, post_command, post_image};
+ghost use Rattle.http_requests.specs.Paths.{resource_of, table, with_lists, with_number};
+ghost use Rattle.http_requests.specs.Paths.{with_proposals, with_records, with_requests, with_rest};
 
+use crate::target::{minute_number, number_part};
 use crate::{CommandRoute, GetRoute, ImageRoute, PostRoute, Resource};
 use matchit::{InsertError, Router};
 use std::alloc::{AllocError, Global};
@@ -31,16 +33,40 @@ impl Routes {
         }
     }
 
-    /// The resource of a request's target, if the target is a path of the table. `matchit` matches
-    /// it byte by byte, a query and percent signs included.
-    #[tactic(auto, unfolding(crate::specs::Paths::resource_of))]
-    pub(crate) fn resource_of(&self, target: &str) -> Option<Resource>
-        ensures { result ≡ resource_of target.now }
+    /// The resource at a target in the table. `matchit` matches it byte by byte, a query and
+    /// percent signs included.
+    #[tactic(auto, unfolding(crate::specs::Paths::listed_at))]
+    fn listed_at(&self, target: &str) -> Option<Resource>
+        ensures { result ≡ listed_at target.now }
     {
         match self.router.at(target) {
             Ok(found) => Some(*found.value),
             Err(_) => None,
         }
+    }
+
+    /// The resource of a request's target, if the target is a path of the table, and one of the
+    /// minutes has a minute's number.
+    pub(crate) fn resource_of(&self, target: &str) -> Option<Resource>
+        ensures { result ≡ resource_of target.now }
+    {
+        match self.listed_at(target) {
+            Some(resource) => with_number(target.as_bytes(), resource),
+            None => None,
+        }
+    }
+}
+
+/// The resource at a target, unless it is the minutes and the target has no minute's number.
+fn with_number(target: &[u8], resource: Resource) -> Option<Resource>
+    ensures { result ≡ with_number target.now resource }
+{
+    match resource {
+        Resource::Get(GetRoute::Minutes) => match minute_number(number_part(target)) {
+            Some(_) => Some(resource),
+            None => None,
+        },
+        Resource::Get(_) | Resource::Post(_) | Resource::GetAndPost(_, _) => Some(resource),
     }
 }
 
@@ -53,6 +79,7 @@ fn router(alloc: Global) -> Result<Router<Resource>, InsertError>
     add_proposals(&mut router)?;
     add_lists(&mut router)?;
     add_rest(&mut router)?;
+    add_records(&mut router)?;
     Ok(router)
 }
 
@@ -79,6 +106,8 @@ fn add_proposals(router: &mut Router<Resource>) -> Result<(), InsertError>
     ensures { OnOk result (router.new ≡ with_proposals router.old) }
 {
     add_get(router, "/proposals", GetRoute::Proposals)?;
+    add_get(router, "/proposals/{no}", GetRoute::Proposal)?;
+    add_get(router, "/proposals/{no}/impact", GetRoute::Impact)?;
     add_command(router, "/proposals/{no}/confirm", CommandRoute::Confirm)?;
     add_command(router, "/proposals/{no}/drop", CommandRoute::Drop)?;
     Ok(())
@@ -112,6 +141,15 @@ fn add_rest(router: &mut Router<Resource>) -> Result<(), InsertError>
     add_command(router, "/imports/csv", CommandRoute::ImportCsv)?;
     add_command(router, "/imports/level", CommandRoute::ImportLevel)?;
     add_get(router, "/report", GetRoute::Report)?;
+    Ok(())
+}
+
+/// The paths of the minutes and of people.
+fn add_records(router: &mut Router<Resource>) -> Result<(), InsertError>
+    ensures { OnOk result (router.new ≡ with_records router.old) }
+{
+    add_get(router, "/minutes/{no}", GetRoute::Minutes)?;
+    add_get(router, "/people", GetRoute::People)?;
     Ok(())
 }
 

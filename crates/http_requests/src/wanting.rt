@@ -1,47 +1,13 @@
 //! Checks of a head, in their order.
-ghost use Rattle.std.specs.Prelude.{◌≡◌, ℕ, List, position};
-ghost use Rattle.std.specs.List.{after_first, before_first};
+ghost use Rattle.std.specs.Prelude.{◌≡◌, ℕ, List};
 ghost use Rattle.httparse.specs.Grammar.{ReadsRequest, RequestHead};
 ghost use Rattle.http_requests.specs.heads.Fields.{parts_of};
 ghost use Rattle.http_requests.specs.heads.Fields as parts;
 ghost use Rattle.http_requests.specs.Wanted as spec;
 
 use crate::fields::checked_fields;
+use crate::target::number_part;
 use crate::{Head, ParsedHead, Route, Routes, Wanted, WantedFault};
-
-/// The place of the first slash.
-fn slash(text: &[u8]) -> Option<usize>
-    ensures { result ≡ position spec.is_slash text.now }
-{
-    text.iter().position(|byte| *byte == b'/')
-}
-
-/// What follows the first slash, or nothing.
-fn after_slash(text: &[u8]) -> &[u8]
-    ensures { result.now ≡ after_first spec.is_slash text.now }
-{
-    match slash(text) {
-        Some(place) => &text[place + 1..],
-        None => &[],
-    }
-}
-
-/// The bytes before the first slash, or all.
-fn before_slash(text: &[u8]) -> &[u8]
-    ensures { result.now ≡ before_first spec.is_slash text.now }
-{
-    match slash(text) {
-        Some(place) => &text[..place],
-        None => text,
-    }
-}
-
-/// The part of a target that `{no}` stands for.
-fn number_part(target: &[u8]) -> &[u8]
-    ensures { result.now ≡ spec.number_part target.now }
-{
-    before_slash(after_slash(after_slash(target)))
-}
 
 /// The length of the route's body, where this one is announced.
 fn size(route: Route, length: Option<u64>) -> Result<usize, WantedFault>
@@ -81,8 +47,9 @@ fn check_parts<'b>(routes: &Routes, head: &Head<'b>) -> Result<Wanted<'b>, Wante
 
 /// What a head asks for, or the first check that fails, in this order: no Transfer-Encoding; each
 /// field that counts comes once at most and Content-Length has 1 to 10 digits; the target is a path
-/// of the table; the path has the method; POST has a Content-Length and GET has none above 0; the
-/// length is within the route's limit. Who calls isn't looked at.
+/// of the table, whose minutes have a number of 1 to 7 digits without a leading zero; the path has
+/// the method; POST has a Content-Length and GET has none above 0; the length is within the route's
+/// limit. Who calls isn't looked at.
 pub fn check_head<'b>(routes: &Routes, head: &'b ParsedHead) -> Result<Wanted<'b>, WantedFault>
     ensures { (h : RequestHead) (rest : List ℕ) → ReadsRequest head.now h rest
         → spec.Gives (spec.wanted_of (parts_of h)) result }

@@ -7,17 +7,26 @@ use Rattle.serde_json.specs.declared.value.Value.{Value}
 use Rattle.serde_json.specs.Written.{has_float, items_have_float}
 use Rattle.sbat.specs.declared.component.Component.{Component}
 use Rattle.desk_history.specs.declared.finding.Verdict.{Verdict}
+use Rattle.desk_history.specs.declared.impact.BarredImage.{BarredImage}
+use Rattle.desk_history.specs.declared.impact.Rule.{Rule}
+use Rattle.desk_history.specs.declared.impact.Rule.TheVariants as rules
+use Rattle.desk_history.specs.declared.rows.ProposalRow.{ProposalRow}
 use Rattle.desk_history.specs.declared.finding.Verdict.TheVariants.{Allowed, DbxCertificate, DbxDigest, NotListed, Sbat}
+use Rattle.desk_history.specs.declared.shown_person.ShownPerson.{ShownPerson}
 use Rattle.desk_texts.specs.declared.proposal.Proposal.{Proposal}
+use Rattle.desk_texts.specs.declared.reply.Counts.{Counts}
 use Rattle.desk_texts.specs.declared.reply.Reply.{Reply}
 use Rattle.desk_texts.specs.declared.reply.Reply.TheVariants.{Added, Submitted, Reviewed, Withdrawn, Returned, Listed, Unlisted, Revoked, Raised, Imported, Proposed, Confirmed, Dropped}
 use Rattle.desk_texts.specs.declared.shown.ShownRequest.{ShownRequest}
 use Rattle.desk_texts.specs.declared.shown.ShownReturn.{ShownReturn}
 use Rattle.http_responses.specs.json.Values.{digest_data, component_data}
+use Rattle.http_responses.specs.json.Impacts.{adds_data, barred_data, rule_data}
+use Rattle.http_responses.specs.json.People.{person_data}
 use Rattle.http_responses.specs.json.Proposals.{proposal_data}
 use Rattle.http_responses.specs.json.Replies.{reply_data}
 use Rattle.http_responses.specs.json.Requests.{request_data, returned_data, vote_data}
 use Rattle.http_responses.specs.json.Verdicts.{below_data, verdict_data}
+use Rattle.http_responses.specs.json.WholeProposals.{stamp_data, whole_proposal_data}
 
 -- no item has a float, so the items have none
 no_item_has_float : {X : Type 0} (as_data : X → Data) → ((x : X) → has_float (as_data x) ≡ false)
@@ -39,6 +48,39 @@ request_has_no_float r =
       returned_has_no_float r.returned,
       no_item_has_float vote_data (λ vote. refl) r.votes,
     ) refl
+
+-- a stamp has none
+stamp_has_no_float : (stamp : Option ℕ) → has_float (stamp_data stamp) ≡ false
+stamp_has_no_float None = refl
+stamp_has_no_float (Some stamp) = refl
+
+-- a proposal with all that it names has none
+pub whole_proposal_has_no_float : (p : ProposalRow) → has_float (whole_proposal_data p) ≡ false
+whole_proposal_has_no_float p =
+    rw (
+      no_item_has_float digest_data (λ digest. refl) p.named.certificates,
+      no_item_has_float component_data (λ component. refl) p.named.components,
+      no_item_has_float digest_data (λ digest. refl) p.named.digests,
+      stamp_has_no_float p.named.stamp,
+    ) refl
+
+-- a rule has none
+rule_has_no_float : (rule : Rule) → has_float (rule_data rule) ≡ false
+rule_has_no_float rules.Digest = refl
+rule_has_no_float rules.Certificate = refl
+rule_has_no_float (rules.Component component needed) = refl
+
+-- an image that would be barred has none
+pub barred_has_no_float : (b : BarredImage) → has_float (barred_data b) ≡ false
+barred_has_no_float b = rw (rule_has_no_float b.rule) refl
+
+-- counts have none
+pub adds_have_no_float : (counts : Counts) → has_float (adds_data counts) ≡ false
+adds_have_no_float counts = refl
+
+-- a person has none
+pub person_has_no_float : (p : ShownPerson) → has_float (person_data p) ≡ false
+person_has_no_float p = refl
 
 -- a proposal has none
 pub proposal_has_no_float : (p : Proposal) → has_float (proposal_data p) ≡ false

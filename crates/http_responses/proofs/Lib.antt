@@ -1,4 +1,5 @@
 pub mod ArrayLemmas
 pub mod FloatLemmas
+pub mod ImpactLemmas
 pub mod VerdictLemmas
 pub mod OutageLemmas

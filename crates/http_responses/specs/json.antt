@@ -1,7 +1,11 @@
 pub mod Arrays
+pub mod ImpactPieces
+pub mod Impacts
 pub mod Members
+pub mod People
 pub mod Proposals
 pub mod Replies
 pub mod Requests
 pub mod Values
 pub mod Verdicts
+pub mod WholeProposals

@@ -7,7 +7,7 @@ ghost use Rattle.http_responses.specs.Responses as spec;
 pub enum Content {
     /// Replies, requests, verdicts and refusals.
     Json,
-    /// A level, and the report.
+    /// A level, the report, and minutes.
     Text,
     /// Signature lists: dbx and db.
     Bytes,

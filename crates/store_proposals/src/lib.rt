@@ -7,6 +7,6 @@ mod listing;
 mod naming;
 mod reading;
 
-pub use laws::{items_stand_once, stamps_are_above_none};
+pub use laws::{items_stand_once, proposals_are_listable, stamps_are_above_none};
 pub use listing::proposals;
 pub use reading::proposal_of;

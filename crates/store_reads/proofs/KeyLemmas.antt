@@ -118,3 +118,6 @@ is_of_name name x = only _ _ (text_is x.name name)
 pub is_call : (caller key : List ℕ) (x : CallTexts)
     → passes tables.calls (equals tables.calls (codes "caller") 0 ∷ equals tables.calls (codes "key") 1 ∷ []) (Text caller ∷ Text key ∷ []) (call_row x) ≡ (bytes_eq caller x.caller && bytes_eq key x.key)
 is_call caller key x = both _ _ _ _ (text_is x.caller caller) (text_is x.key key)
+
+pub is_call_numbered : (k : ℕ) (x : CallTexts) → passes tables.calls (equals tables.calls (codes "no") 0 ∷ []) (Int (pos k) ∷ []) (call_row x) ≡ (k == x.number)
+is_call_numbered k x = only _ _ (int_is x.number k)

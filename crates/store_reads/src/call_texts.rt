@@ -7,7 +7,7 @@ use std::marker::Model;
 
 /// A text of a column. A contract sees the list of its bytes.
 #[derive(Debug, Drop)]
-pub(crate) struct ColumnText {
+pub struct ColumnText {
     text: String,
 }
 
@@ -26,20 +26,20 @@ impl ColumnText {
     }
 
     /// Its bytes.
-    pub(crate) fn as_bytes(&self) -> &[u8]
+    pub fn as_bytes(&self) -> &[u8]
         ensures { result.now ≡ self.now }
     {
         self.text.as_bytes()
     }
 }
 
-/// The columns of a call: its number, the caller's name, the key, the text of the command and that
-/// of the reply.
+/// The columns of a call: its number from 1, the caller's name (`console` for the console), the key,
+/// the canonical text of the command, and the text of the reply.
 #[derive(Debug, Drop)]
-pub(crate) struct CallTexts {
-    pub(crate) number: u64,
-    pub(crate) caller: ColumnText,
-    pub(crate) key: Key,
-    pub(crate) text: CommandText,
-    pub(crate) reply: ColumnText,
+pub struct CallTexts {
+    pub number: u64,
+    pub caller: ColumnText,
+    pub key: Key,
+    pub text: CommandText,
+    pub reply: ColumnText,
 }

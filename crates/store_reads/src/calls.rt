@@ -1,6 +1,6 @@
-//! Calls, by caller and key.
-ghost use Rattle.std.specs.Prelude.{◌≡◌, All, IfOk, filter};
-ghost use Rattle.sqlite.specs.declared.types.Value.TheVariants.{Text};
+//! Calls, by caller and key, and by number.
+ghost use Rattle.std.specs.Prelude.{◌≡◌, ◌==◌, All, IfOk, filter, map, pos};
+ghost use Rattle.sqlite.specs.declared.types.Value.TheVariants.{Int, Text};
 ghost use Rattle.sqlite_value.specs.Order.{column};
 ghost use Rattle.desk_texts.specs.Callers.{caller_name};
 ghost use Rattle.desk_texts.specs.ReplyTexts.{reply_text_of};
@@ -18,9 +18,10 @@ use crate::from_row::FromRow;
 use crate::reading::row_of;
 use desk_history::{CommandText, Minute};
 use desk_texts::{Caller, Key, Reply, TextFault};
+use sqlite::types::Value;
 use sqlite::{Alter, Row, Transaction, params};
 use std::alloc::Global;
-use store_schema::SELECT_CALL;
+use store_schema::{SELECT_CALL, SELECT_CALL_NUMBERED};
 
 /// The text in a column. Takes memory for it.
 fn text_at(row: &Row, at: usize) -> Result<ColumnText, ReadFault>
@@ -132,4 +133,36 @@ pub fn call_of<S: Alter>(
     };
     let minute = minute_of(alloc, texts)?;
     Ok(Some(minute))
+}
+
+/// The number of a call as an integer of SQL. `Store`: it is above 2^63 - 1, the greatest of those.
+fn call_key(number: u64) -> Result<Value, ReadFault>
+    ensures { IfOk result (λ key. key ≡ Int (pos number)) }
+{
+    match i64::try_from(number) {
+        Ok(number) => Ok(Value::Int(number)),
+        Err(_) => Err(ReadFault::Store),
+    }
+}
+
+/// The call of a number, if there is one, as its texts: nothing is parsed but the key. Takes memory
+/// for the row.
+///
+/// `Store`: the number is above 2^63 - 1, or the store failed.
+pub fn call_numbered<S: Alter>(
+    alloc: Global,
+    tx: &mut Transaction<'_, S>,
+    number: u64,
+) -> Result<Option<CallTexts>, ReadFault>
+    ensures same_reference { tx.new.conn.ghost_name ≡ tx.old.conn.ghost_name }
+    ensures value { DoesInside S.Store tx.old.conn.now tx.new.conn.now result
+        (λ texts. ReadsTables (λ t. map texts_of (filter (λ m. number == m.number) t.calls)
+        ≡ listed texts)) }
+    ensures inside { StaysInside S.Store tx.old.conn.now tx.new.conn.now result }
+    ensures kept { CommitsNothing S.Store tx.old.conn.now tx.new.conn.now }
+    ensures survives { Spares S.Store tx.old.conn.now tx.new.conn.now }
+{
+    let key = call_key(number)?;
+    let texts = row_of(alloc, tx, SELECT_CALL_NUMBERED, params![&key])?;
+    Ok(texts)
 }

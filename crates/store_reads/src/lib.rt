@@ -20,14 +20,15 @@ mod reading;
 mod request_rows;
 mod requests;
 
-pub use calls::call_of;
+pub use call_texts::{CallTexts, ColumnText};
+pub use calls::{call_numbered, call_of};
 pub use counts::{Counted, count};
 pub use desk_row::{DeskRow, Mark};
 pub use fault::ReadFault;
 pub use from_row::FromRow;
 pub use lists::{component_named, entry_of, revoked_of};
 pub use own::own_row;
-pub use people::{kept_named, person_named, person_of_token};
+pub use people::{kept_named, people_all, person_named, person_of_token};
 pub use proposal_head::ProposalHead;
 pub use proposals::{head_numbered, heads_all, items_of};
 pub use requests::{certificates_of, components_of, request_numbered, return_of, votes_of};

@@ -3,8 +3,12 @@ mod ItemLemmas
 mod ListingLemmas
 mod LoopLemmas
 mod MadeLemmas
+mod MinuteLemmas
 mod NumberLemmas
+mod OfficerLemmas
 mod OrderLemmas
 mod PartLemmas
+mod PeopleLemmas
 mod ProposedLemmas
 mod TellsLemmas
+mod WholeLemmas

@@ -1,7 +1,7 @@
 -- The answer to a person who asks for all proposals.
 use Rattle.std.proofs.Common.{◌≡◌, ◌≢◌, ℕ, ◌+◌, ◌<◌, ◌≤◌, ◌==◌, pos, Bool, true, false, List, [], ◌∷◌, map, filter, length, Option, Some, None, Result, Ok, Err, refl, sym, ap, ap₂, subst, ◌∙◌, arith}
 use Rattle.std.specs.Prelude.{if◌then◌else◌, ok_or, reverse}
-use Rattle.std.specs.List.{All, AllByRecursion, AllZip}
+use Rattle.std.specs.List.{AllByRecursion, AllZip}
 use Rattle.std.specs.List.Sorted.{IsPermutation}
 use Rattle.std.specs.Ordering.{int_cmp, is_lt, ordering_then}
 use Rattle.std.specs.Result.{result_map_both}
@@ -34,8 +34,7 @@ use Rattle.store_reads.specs.ProposalColumns.{head_columns, head_of}
 use Rattle.store_reads.specs.Reads.{AreFound, listed}
 use Rattle.store_reads.specs.declared.proposal_head.ProposalHead.{ProposalHead}
 use Rattle.store_reads.proofs.PartLemmas.{Ascends, one_order}
-use Rattle.store_proposals.specs.Listing.{AreListed, IsShown, shown_row}
-use Rattle.store_proposals.specs.Reading.{IsStamped}
+use Rattle.store_proposals.specs.Listing.{AreListable, AreListed, IsShown, shown_row}
 use Rattle.store_requests.proofs.ItemLemmas.{found_listed}
 use Rattle.store_requests.proofs.OrderLemmas.{Differ, IsOnly, all_only, differ_along, map-reverse, sorted_ascends, turned}
 
@@ -125,11 +124,11 @@ module _ (owner : List ℕ) (cs : History) where
   each_shown (p ∷ ps) alone [] z = absurd z
   each_shown (p ∷ ps) alone (s ∷ given) z = ap₂ ◌∷◌ (one_shown p alone.0 z.0.0 s z.0.1 z.0.2) (each_shown ps alone.1 given z.1)
 
-  are_shown : All IsStamped (tables owner cs).proposals → (given : List ShownProposal) → AreListed given (tables owner cs) → given ≡ map (shown_proposal cs) (reverse (proposals cs))
-  are_shown stamped given it =
+  are_shown : AreListable (tables owner cs).proposals → (given : List ShownProposal) → AreListed given (tables owner cs) → given ≡ map (shown_proposal cs) (reverse (proposals cs))
+  are_shown can given it =
       let ps = proposals cs in
       let alone : AllByRecursion IsAlone (reverse ps) = all-permutation IsAlone ps (reverse ps) (IsPermutation-reverse ps) (all_only (λ (p : Proposal). p.number) ps (newest_first cs)) in
-      each_shown (reverse ps) alone given (subst (λ l. AllZip (IsShown (tables owner cs)) l given) (heads_are it.0 it.1) (it.2 stamped))
+      each_shown (reverse ps) alone given (subst (λ l. AllZip (IsShown (tables owner cs)) l given) (heads_are it.0 it.1) (it.2 can))
 
   -- ---- the answer that is due to the person of a name
 
@@ -157,7 +156,7 @@ module _ (owner : List ℕ) (cs : History) where
     gives_officer p e h given shown = subst (λ d. IsGiven d (Ok given) shows) (sym (due_if p e true h)) shown
 
   pub gives_all : (name : List ℕ) {B : Type 0} (p : Person) → filter (has_name name) (tables owner cs).people ≡ listed (Some p) → is_officer p.role ≡ true
-      → All IsStamped (tables owner cs).proposals → (given : B) (items : B → List ShownProposal) → AreListed (items given) (tables owner cs)
+      → AreListable (tables owner cs).proposals → (given : B) (items : B → List ShownProposal) → AreListed (items given) (tables owner cs)
       → IsGiven (proposals_for cs (callers.Person name)) (Ok given) (λ ps shown. items shown ≡ map (shown_proposal cs) ps)
-  gives_all name p e h stamped given items it =
-      gives_officer name (λ ps shown. items shown ≡ map (shown_proposal cs) ps) p e h given (are_shown stamped (items given) it)
+  gives_all name p e h can given items it =
+      gives_officer name (λ ps shown. items shown ≡ map (shown_proposal cs) ps) p e h given (are_shown can (items given) it)

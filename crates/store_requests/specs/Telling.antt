@@ -1,10 +1,12 @@
 -- The answers about the requests and proposals of a desk's history.
-use Rattle.std.specs.Prelude.{◌≡◌, ◌⊎◌, ℕ, List}
+use Rattle.std.specs.Prelude.{◌≡◌, ◌⊎◌, ⊤, ℕ, List, Result}
 use Rattle.sqlite.specs.State.{State}
 use Rattle.desk_bytes.specs.declared.refusal.Refusal.{Refusal}
 use Rattle.desk_bytes.specs.declared.refusal.Refusal.TheVariants as refusals
+use Rattle.desk_texts.specs.declared.caller.Caller.TheVariants as callers
 use Rattle.desk_history.specs.Calls.{History}
 use Rattle.desk_history.specs.Formed.{IsHistory}
+use Rattle.desk_history.specs.Shown.{IsGiven, officer, reader}
 use Rattle.store_schema.specs.rows.Contents.{contents}
 use Rattle.store_schema.specs.rows.Histories.{rows_of}
 use Rattle.store_sql.specs.States.{Changes, Sees}
@@ -27,3 +29,11 @@ IsRequestRefusal refusal = IsReaderRefusal refusal ⊎ (refusal ≡ refusals.NoS
 -- own: nobody has the name, or the person isn't an officer
 abbrev pub IsOfficerRefusal : Refusal → Type 0
 IsOfficerRefusal refusal = IsReaderRefusal refusal ⊎ (refusal ≡ refusals.NotYourRole)
+
+-- own: nobody has the name, the person isn't an officer, or there is no such proposal
+abbrev pub IsProposalRefusal : Refusal → Type 0
+IsProposalRefusal refusal = IsOfficerRefusal refusal ⊎ (refusal ≡ refusals.NoSuchProposal)
+
+-- the person of this name is an officer, or this is the refusal that is due
+abbrev pub IsOfficer : History → List ℕ → Result (Unit {0}) Refusal → Type 0
+IsOfficer cs name given = IsGiven (officer (reader cs (callers.Person name))) given (λ _ _. ⊤)

@@ -1,15 +1,23 @@
-//! A desk's requests and proposals as a person may see them, read inside a transaction.
+//! A desk's requests, proposals, people and minutes as a person may see them, read inside a
+//! transaction.
 #![tactic(auto)]
 
+mod all_people;
 mod listing;
 mod making;
+mod minute_lines;
+mod officer;
 mod parts;
 mod proposed;
 mod reader;
 mod request_list;
 mod showing;
+mod whole_proposal;
 
+pub use all_people::people_of;
 pub use listing::requests_of;
+pub use minute_lines::minutes_from;
 pub use proposed::proposals_of;
 pub use request_list::RequestList;
 pub use showing::request;
+pub use whole_proposal::proposal_of;

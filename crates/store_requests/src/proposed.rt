@@ -13,11 +13,11 @@ use desk_bytes::Refusal;
 use desk_texts::{Person, PersonName, Proposal, Role};
 use sqlite::{Alter, Transaction};
 use std::alloc::Global;
-use store_proposals::{proposals, stamps_are_above_none};
+use store_proposals::{proposals, proposals_are_listable};
 use store_reads::{ReadFault, own_row};
 
 /// Whether the role is shown proposals.
-fn sees_proposals(role: Role) -> bool
+pub(crate) fn sees_proposals(role: Role) -> bool
     ensures { result ≡ is_officer role }
 {
     match role {
@@ -28,7 +28,7 @@ fn sees_proposals(role: Role) -> bool
 
 /// All proposals, ascending by number, for the person of this name, who must be an officer. The
 /// person isn't looked up if that is `kept_person`, who must be one of the desk's people (`value`).
-/// Takes memory for what is shown of them, and for all items of one at a time.
+/// Takes memory for what is shown of them, and for all items of one import at a time.
 ///
 /// `UnknownCaller`: nobody has the name. `NotYourRole`: the person isn't an officer, and no
 /// proposal is read.
@@ -48,7 +48,7 @@ pub fn proposals_of<S: Alter>(
     ensures kept { CommitsNothing S.Store tx.old.conn.now tx.new.conn.now }
     ensures survives { Spares S.Store tx.old.conn.now tx.new.conn.now }
 {
-    stamps_are_above_none();
+    proposals_are_listable();
     let found = reader_of(alloc, tx, kept_person, name)?;
     let Some(reader) = found else {
         return Ok(Err(Refusal::UnknownCaller));

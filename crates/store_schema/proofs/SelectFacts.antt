@@ -6,7 +6,7 @@ use Rattle.store_sql.specs.Meanings.{SelectsRows}
 use Rattle.store_schema.specs.Columns.{by_first, columns_after, columns_of, names_of}
 use Rattle.store_schema.specs.Named.{equals}
 use Rattle.store_schema.specs.Tables.{desk_schema, first_schema, desk, people, calls, requests, request_certificates, request_components, votes, returns, listed, revoked_digests, revoked_certificates, components, proposals, proposal_items}
-use Rattle.store_schema.specs.declared.selecting.TheConstants.{SELECT_DESK, SELECT_PERSON, SELECT_PERSON_OF_TOKEN, SELECT_CALL, SELECT_CALLS, SELECT_REQUEST, SELECT_REQUEST_CERTIFICATES, SELECT_REQUEST_COMPONENTS, SELECT_VOTES, SELECT_RETURN, SELECT_LISTED, SELECT_LISTED_OF, SELECT_REVOKED_DIGEST, SELECT_REVOKED_DIGESTS, SELECT_REVOKED_CERTIFICATE, SELECT_REVOKED_CERTIFICATES, SELECT_COMPONENT, SELECT_COMPONENTS, SELECT_PROPOSAL, SELECT_PROPOSALS, SELECT_PROPOSAL_ITEMS}
+use Rattle.store_schema.specs.declared.selecting.TheConstants.{SELECT_DESK, SELECT_PERSON, SELECT_PERSON_OF_TOKEN, SELECT_PEOPLE, SELECT_CALL, SELECT_CALL_NUMBERED, SELECT_CALLS, SELECT_REQUEST, SELECT_REQUEST_CERTIFICATES, SELECT_REQUEST_COMPONENTS, SELECT_VOTES, SELECT_RETURN, SELECT_LISTED, SELECT_LISTED_OF, SELECT_REVOKED_DIGEST, SELECT_REVOKED_DIGESTS, SELECT_REVOKED_CERTIFICATE, SELECT_REVOKED_CERTIFICATES, SELECT_COMPONENT, SELECT_COMPONENTS, SELECT_PROPOSAL, SELECT_PROPOSALS, SELECT_PROPOSAL_ITEMS}
 
 pub select_desk : SelectsRows desk_schema 0 desk SELECT_DESK.now [] (by_first 1 desk) (columns_after 1 desk) (names_of desk)
 unfolding understood everything
@@ -25,9 +25,17 @@ pub select_person_of_token : SelectsRows desk_schema 1 people SELECT_PERSON_OF_T
 unfolding understood everything
 select_person_of_token = record { place = refl; means = refl; unlisted = refl; plain = (refl, refl); overlooks = λ _ _ _. refl; passes_over = λ _ _ _. refl }
 
+pub select_people : SelectsRows desk_schema 1 people SELECT_PEOPLE.now [] (by_first 1 people) (columns_after 1 people) (names_of people)
+unfolding understood everything
+select_people = record { place = refl; means = refl; unlisted = refl; plain = (refl, refl); overlooks = λ _ _ _. refl; passes_over = λ _ _ _. refl }
+
 pub select_call : SelectsRows desk_schema 2 calls SELECT_CALL.now (equals calls (codes "caller") 0 ∷ equals calls (codes "key") 1 ∷ []) [] (columns_of calls) (names_of calls)
 unfolding understood everything
 select_call = record { place = refl; means = refl; unlisted = refl; plain = (refl, refl); overlooks = λ _. tt; passes_over = λ _. tt }
+
+pub select_call_numbered : SelectsRows desk_schema 2 calls SELECT_CALL_NUMBERED.now (equals calls (codes "no") 0 ∷ []) [] (columns_of calls) (names_of calls)
+unfolding understood everything
+select_call_numbered = record { place = refl; means = refl; unlisted = refl; plain = (refl, refl); overlooks = λ _. tt; passes_over = λ _. tt }
 
 pub select_calls : SelectsRows desk_schema 2 calls SELECT_CALLS.now [] (by_first 1 calls) (columns_after 1 calls) (names_of calls)
 unfolding understood everything

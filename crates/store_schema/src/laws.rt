@@ -20,11 +20,12 @@ use crate::inserting::{
     INSERT_VOTE,
 };
 use crate::selecting::{
-    SELECT_CALL, SELECT_CALLS, SELECT_COMPONENT, SELECT_COMPONENTS, SELECT_DESK, SELECT_LISTED,
-    SELECT_LISTED_OF, SELECT_PERSON, SELECT_PERSON_OF_TOKEN, SELECT_PROPOSAL,
-    SELECT_PROPOSAL_ITEMS, SELECT_PROPOSALS, SELECT_REQUEST, SELECT_REQUEST_CERTIFICATES,
-    SELECT_REQUEST_COMPONENTS, SELECT_RETURN, SELECT_REVOKED_CERTIFICATE,
-    SELECT_REVOKED_CERTIFICATES, SELECT_REVOKED_DIGEST, SELECT_REVOKED_DIGESTS, SELECT_VOTES,
+    SELECT_CALL, SELECT_CALL_NUMBERED, SELECT_CALLS, SELECT_COMPONENT, SELECT_COMPONENTS,
+    SELECT_DESK, SELECT_LISTED, SELECT_LISTED_OF, SELECT_PEOPLE, SELECT_PERSON,
+    SELECT_PERSON_OF_TOKEN, SELECT_PROPOSAL, SELECT_PROPOSAL_ITEMS, SELECT_PROPOSALS,
+    SELECT_REQUEST, SELECT_REQUEST_CERTIFICATES, SELECT_REQUEST_COMPONENTS, SELECT_RETURN,
+    SELECT_REVOKED_CERTIFICATE, SELECT_REVOKED_CERTIFICATES, SELECT_REVOKED_DIGEST,
+    SELECT_REVOKED_DIGESTS, SELECT_VOTES,
 };
 
 /// The row of the desk: written whole, its stamp and its version set, read, also where the tables
@@ -41,22 +42,26 @@ pub fn desk_statements()
         (columns_after 1 desk) (names_of desk) }
 {}
 
-/// People: put in, found by name and by token, counted.
+/// People: put in, found by name and by token, listed by name, counted.
 pub fn people_statements()
     ensures inserted { InsertsRow desk_schema 1 people INSERT_PERSON.now (values_of people) }
     ensures named { SelectsRows desk_schema 1 people SELECT_PERSON.now
         (equals people (codes "name") 0 ∷ []) [] (columns_of people) (names_of people) }
     ensures by_token { SelectsRows desk_schema 1 people SELECT_PERSON_OF_TOKEN.now
         (equals people (codes "token") 0 ∷ []) [] (columns_of people) (names_of people) }
+    ensures all { SelectsRows desk_schema 1 people SELECT_PEOPLE.now [] (by_first 1 people)
+        (columns_after 1 people) (names_of people) }
     ensures counted { CountsRows desk_schema 1 people COUNT_PEOPLE.now [] (codes "count(*)" ∷ []) }
 {}
 
-/// Calls: put in, found by caller and key, listed by number, counted.
+/// Calls: put in, found by caller and key and by number, listed by number, counted.
 pub fn calls_statements()
     ensures inserted { InsertsRow desk_schema 2 calls INSERT_CALL.now (values_of calls) }
     ensures of_key { SelectsRows desk_schema 2 calls SELECT_CALL.now
         (equals calls (codes "caller") 0 ∷ equals calls (codes "key") 1 ∷ []) [] (columns_of calls)
         (names_of calls) }
+    ensures numbered { SelectsRows desk_schema 2 calls SELECT_CALL_NUMBERED.now
+        (equals calls (codes "no") 0 ∷ []) [] (columns_of calls) (names_of calls) }
     ensures all { SelectsRows desk_schema 2 calls SELECT_CALLS.now [] (by_first 1 calls)
         (columns_after 1 calls) (names_of calls) }
     ensures counted { CountsRows desk_schema 2 calls COUNT_CALLS.now [] (codes "count(*)" ∷ []) }

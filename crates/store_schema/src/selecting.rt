@@ -9,9 +9,16 @@ pub const SELECT_PERSON: &str = "SELECT name, role, token FROM people WHERE name
 /// The person with the digest of a token (`?1`).
 pub const SELECT_PERSON_OF_TOKEN: &str = "SELECT name, role, token FROM people WHERE token = ?1";
 
+/// Every person, by name.
+pub const SELECT_PEOPLE: &str = "SELECT name, role, token FROM people ORDER BY name";
+
 /// The call of a caller (`?1`) with a key (`?2`).
 pub const SELECT_CALL: &str =
     "SELECT no, caller, key, text, reply FROM calls WHERE caller = ?1 AND key = ?2";
+
+/// The call with a number (`?1`).
+pub const SELECT_CALL_NUMBERED: &str =
+    "SELECT no, caller, key, text, reply FROM calls WHERE no = ?1";
 
 /// Every call, by number.
 pub const SELECT_CALLS: &str = "SELECT no, caller, key, text, reply FROM calls ORDER BY no";

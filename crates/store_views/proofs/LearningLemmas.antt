@@ -7,7 +7,7 @@ use Rattle.desk_rules.specs.declared.view.LimitedTable.{LimitedTable}
 use Rattle.desk_rules.specs.declared.view.LimitedTable.TheVariants as counted
 use Rattle.desk_rules.specs.Shown.{is_table, may_put, rows_in}
 use Rattle.store_views.specs.sizes.Sizes.{AreRight, HaveSameOthers, HaveSameRows, known}
-use Rattle.store_views.specs.declared.sizes.kept.KeptSizes.{KeptSizes}
+use Rattle.store_views.specs.declared.sizes.known.KnownSizes.{KnownSizes}
 use Rattle.store_views.specs.Learning.{Learns}
 use Rattle.store_views.specs.Steps.{LearnsCalls, LearnsOf}
 
@@ -70,7 +70,7 @@ stays : (before after : Option ℕ) → ((n : ℕ) → before ≡ Some n → aft
 stays None after f h = absurd (let k = h in cc)
 stays (Some n) after f h = rw (f n refl) refl
 
-module _ (before after : KeptSizes) (t : Tables) (n : ℕ) where
+module _ (before after : KnownSizes) (t : Tables) (n : ℕ) where
   pub right_calls : n ≡ length t.calls → after.calls ≡ Some n → HaveSameRows before after → AreRight before t → AreRight after t
   right_calls counted is same right = record {
     calls = λ m e. some_same m n (sym e ∙ is) ∙ counted;
@@ -96,7 +96,7 @@ other_holds true true e h = refl
 other_holds true false e h = absurd cc
 other_holds false b e h = absurd (let k = h in cc)
 
-module _ (command : Command) (table : LimitedTable) (before : KeptSizes) where
+module _ (command : Command) (table : LimitedTable) (before : KnownSizes) where
   abbrev pub is_lacking : Bool
   is_lacking = may_put command table && not (is_some (known before table))
 
@@ -108,7 +108,7 @@ module _ (command : Command) (table : LimitedTable) (before : KeptSizes) where
     others = λ other h. refl;
   }
 
-  pub learns_size : (after : KeptSizes) (n : ℕ) → is_lacking ≡ true → known after table ≡ Some n → HaveSameOthers table before after → LearnsOf (table ∷ []) command before after
+  pub learns_size : (after : KnownSizes) (n : ℕ) → is_lacking ≡ true → known after table ≡ Some n → HaveSameOthers table before after → LearnsOf (table ∷ []) command before after
   learns_size after n lacking is same =
       let asked = both_hold (may_put command table) (is_some (known before table)) lacking in
       record {
@@ -125,7 +125,7 @@ module _ (command : Command) (table : LimitedTable) (before : KeptSizes) where
       }
 
 module _ (command : Command) where
-  pub learns_none : (sizes : KeptSizes) → LearnsOf [] command sizes sizes
+  pub learns_none : (sizes : KnownSizes) → LearnsOf [] command sizes sizes
   learns_none sizes = record {
     calls = refl;
     enough = All-nil (λ (x : LimitedTable). IsTrue (may_put command x) → IsTrue (is_some (known sizes x)));
@@ -133,7 +133,7 @@ module _ (command : Command) where
     others = λ other h. refl;
   }
 
-  pub learns_next : (tables : List LimitedTable) (i : ℕ) (table : LimitedTable) (a b c : KeptSizes) → i < length tables → table ≡ get_or tables i table
+  pub learns_next : (tables : List LimitedTable) (i : ℕ) (table : LimitedTable) (a b c : KnownSizes) → i < length tables → table ≡ get_or tables i table
       → LearnsOf (take i tables) command a b → LearnsOf (table ∷ []) command b c → LearnsOf (take (i + 1) tables) command a c
   learns_next tables i table a b c low is x y = record {
     calls = x.calls ∙ y.calls;
@@ -150,7 +150,7 @@ module _ (command : Command) where
   abbrev pub all_tables : List LimitedTable
   all_tables = counted.People ∷ counted.Requests ∷ counted.Listed ∷ counted.RevokedDigests ∷ counted.RevokedCertificates ∷ counted.Components ∷ counted.Proposals ∷ []
 
-  pub learns_all : (a b c : KeptSizes) → LearnsCalls a b → LearnsOf all_tables command b c → Learns command a c
+  pub learns_all : (a b c : KnownSizes) → LearnsCalls a b → LearnsOf all_tables command b c → Learns command a c
   learns_all a b c x y = record {
     enough = record { calls = subst (λ o. IsTrue (is_some o)) y.calls x.enough; sizes = each };
     calls = λ n e. sym y.calls ∙ x.kept n e;

@@ -6,7 +6,7 @@ mod ShownLemmas
 mod StepLemmas
 pub mod ListedLemmas
 pub mod SizeLemmas
-mod FigureLemmas
+mod StampLemmas
 mod FindLemmas
 mod LearningLemmas
 mod NamedLemmas

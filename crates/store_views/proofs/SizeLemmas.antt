@@ -29,7 +29,7 @@ use Rattle.desk_rules.specs.declared.view.LimitedTable.TheVariants as counted
 use Rattle.desk_rules.specs.Room.{puts}
 use Rattle.desk_rules.specs.Shown.{rows_in}
 use Rattle.desk_rules.proofs.RoomLemmas.{certificates_step, components_step, digests_step, grows, minutes_length, people_step, proposals_step, requests_step}
-use Rattle.store_views.specs.declared.sizes.kept.KeptSizes.{KeptSizes}
+use Rattle.store_views.specs.declared.sizes.known.KnownSizes.{KnownSizes}
 use Rattle.store_views.specs.sizes.Sizes.{AreRight, Follows, KnowsNoLess, known}
 use Rattle.store_views.specs.sizes.Steps.{listed_after, more, one_less, sizes_after}
 use Rattle.store_views.proofs.ListedLemmas.{Changed, listed_changes}
@@ -91,7 +91,7 @@ last a b d e f g h m all = (and_parts (a && b && d && e && f && g && h) m all).1
 below : (n most : ℕ) → nat_le n most ≡ true → most ≤ 1000000 → n < 18446744073709551616
 below n most h few = grind (arith, nat_tests, h, few)
 
-module _ (owner : List ℕ) (cs : History) (c : Call) (ws : List Write) (k : KeptSizes) (legal : is_legal (item c ∷ cs) ≡ true)
+module _ (owner : List ℕ) (cs : History) (c : Call) (ws : List Write) (k : KnownSizes) (legal : is_legal (item c ∷ cs) ≡ true)
     (made : all_written ws (tables owner cs) ≡ tables owner (item c ∷ cs)) (right : AreRight k (tables owner cs)) where
   at : IsNewest cs (item c)
   at = newest cs (item c) legal
@@ -161,6 +161,6 @@ module _ (owner : List ℕ) (cs : History) (c : Call) (ws : List Write) (k : Kep
     record { calls = calls_go.kept; sizes = λ table. (goes table).kept },
   )
 
-pub follows : (k : KeptSizes) (given : Command) (ws : List Write) → Follows k given ws (sizes_after k given ws)
+pub follows : (k : KnownSizes) (given : Command) (ws : List Write) → Follows k given ws (sizes_after k given ws)
 follows k given ws owner cs c legal same made right =
     subst (λ g. AreRight (sizes_after k g ws) (tables owner (item c ∷ cs)) × KnowsNoLess k (sizes_after k g ws)) same (follows_one owner cs c ws k legal made right)

@@ -4,11 +4,11 @@ use Rattle.desk_texts.specs.declared.command.Command.{Command}
 use Rattle.desk_rules.specs.declared.view.LimitedTable.{LimitedTable}
 use Rattle.desk_rules.specs.Shown.{may_put}
 use Rattle.store_views.specs.sizes.Sizes.{AreEnough, known}
-use Rattle.store_views.specs.declared.sizes.kept.KeptSizes.{KeptSizes}
+use Rattle.store_views.specs.declared.sizes.known.KnownSizes.{KnownSizes}
 
 -- The sizes that the command needs are known after it. Those that were known before, and those that
 -- it doesn't need, don't change.
-pub record Learns (command : Command) (before after : KeptSizes) : Type 0 where
+pub record Learns (command : Command) (before after : KnownSizes) : Type 0 where
   pub enough : AreEnough after command
   pub calls : (n : ℕ) → before.calls ≡ Some n → after.calls ≡ Some n
   pub sizes : (table : LimitedTable) (n : ℕ) → known before table ≡ Some n → known after table ≡ Some n

@@ -2,5 +2,5 @@ pub mod Learning
 pub mod Named
 pub mod Steps
 pub mod lists
-pub mod figures
+pub mod remembered
 pub mod sizes

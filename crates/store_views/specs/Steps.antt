@@ -18,7 +18,7 @@ use Rattle.desk_rules.specs.Keys.{people_named, proposal_named, request_named, t
 use Rattle.desk_rules.specs.Shown.{is_proposal_row, is_request_row, may_put}
 use Rattle.store_proposals.specs.Reading.{IsStamped}
 use Rattle.store_views.specs.sizes.Sizes.{known}
-use Rattle.store_views.specs.declared.sizes.kept.KeptSizes.{KeptSizes}
+use Rattle.store_views.specs.declared.sizes.known.KnownSizes.{KnownSizes}
 use Rattle.store_views.specs.declared.loading.CallRows.{CallRows}
 use Rattle.store_views.specs.Named.{is_named_person}
 
@@ -65,14 +65,14 @@ pub record HoldsNamed (n : CallRows) (c : Call) : Type 0 where
 
 -- the sizes of these tables that the command needs are known; those that were known, and those that
 -- it doesn't need, don't change
-pub record LearnsOf (tables : List LimitedTable) (command : Command) (before after : KeptSizes) : Type 0 where
+pub record LearnsOf (tables : List LimitedTable) (command : Command) (before after : KnownSizes) : Type 0 where
   pub calls : before.calls ≡ after.calls
   pub enough : All (λ table. IsTrue (may_put command table) → IsTrue (is_some (known after table))) tables
   pub sizes : (table : LimitedTable) (n : ℕ) → known before table ≡ Some n → known after table ≡ Some n
   pub others : (table : LimitedTable) → IsTrue (not (may_put command table)) → known after table ≡ known before table
 
 -- the number of calls is known; all else stays
-pub record LearnsCalls (before after : KeptSizes) : Type 0 where
+pub record LearnsCalls (before after : KnownSizes) : Type 0 where
   pub enough : IsTrue (is_some after.calls)
   pub kept : (n : ℕ) → before.calls ≡ Some n → after.calls ≡ Some n
   pub sizes : (table : LimitedTable) → known before table ≡ known after table

@@ -44,22 +44,22 @@ pub(crate) fn person<S: Alter>(
     Ok(Some(person))
 }
 
-/// The person of this name: the one who is kept, or else the row.
+/// The person of this name: the one who is remembered, or else the row.
 pub(crate) fn caller<S: Alter>(
     alloc: Global,
     tx: &mut Transaction<'_, S>,
-    kept_person: Option<&Person>,
+    remembered_person: Option<&Person>,
     name: &str,
 ) -> Result<Option<Person>, ReadFault>
     ensures same_reference { tx.new.conn.ghost_name ≡ tx.old.conn.ghost_name }
     ensures value { DoesInside S.Store tx.old.conn.now tx.new.conn.now result
-        (λ person. ReadsTables (λ t. IsOneOf (option_copied kept_person.entry) t.people
+        (λ person. ReadsTables (λ t. IsOneOf (option_copied remembered_person.entry) t.people
         → filter (has_name name.now) t.people ≡ listed person)) }
     ensures only { IfOk result (λ person. All (λ p. IsTrue (has_name name.now p)) (listed person)) }
     ensures kept { CommitsNothing S.Store tx.old.conn.now tx.new.conn.now }
     ensures survives { Spares S.Store tx.old.conn.now tx.new.conn.now }
 {
-    let Some(person) = kept_named(kept_person, name)? else {
+    let Some(person) = kept_named(remembered_person, name)? else {
         return person(alloc, tx, name);
     };
     Ok(Some(person))

@@ -5,7 +5,6 @@ ghost use Rattle.desk_history.specs.People.{added_by};
 ghost use Rattle.desk_history.specs.Runs.{has_key};
 ghost use Rattle.store_reads.specs.People.{IsOneOf};
 ghost use Rattle.store_reads.specs.Reads.{ReadsTables};
-ghost use Rattle.desk_rules.specs.Decisions.{called};
 ghost use Rattle.desk_rules.specs.Keys as spec;
 ghost use Rattle.desk_rules.specs.Shown.{is_proposal_row};
 ghost use Rattle.store_sql.specs.States.{DoesInside, CommitsNothing, Spares, StaysInside};
@@ -18,6 +17,7 @@ ghost use Rattle.store_views.specs.Steps.{ShowsProposal, ShowsRequest, ShowsVote
 use crate::keyed;
 use crate::pushing::push_some;
 use desk_history::{Minute, ProposalRow, RequestRow, VoteRow};
+use desk_rules::CallRef;
 use desk_texts::{Caller, Command, Key, Person, ProposalNumber, RequestNumber};
 use sqlite::{Alter, Transaction};
 use std::alloc::Global;
@@ -121,25 +121,25 @@ pub(crate) fn named_row<'a>(
     }
 }
 
-/// The people whom the call names: the caller, who isn't read if that is the kept person, and those
-/// who have the name or the token of a person whom the command adds.
+/// The people whom the call names: the caller, who isn't read if that is the remembered person, and
+/// those who have the name or the token of a person whom the command adds.
 fn people_of<S: Alter>(
     alloc: Global,
     tx: &mut Transaction<'_, S>,
-    kept_person: Option<&Person>,
+    remembered_person: Option<&Person>,
     caller: &Caller,
     command: &Command,
 ) -> Result<Vec<Person>, ReadFault>
     ensures same_reference { tx.new.conn.ghost_name ≡ tx.old.conn.ghost_name }
     ensures value { DoesInside S.Store tx.old.conn.now tx.new.conn.now result
-        (λ people. ReadsTables (λ t. IsOneOf (option_copied kept_person.entry) t.people
+        (λ people. ReadsTables (λ t. IsOneOf (option_copied remembered_person.entry) t.people
         → ShowsPeople people.items t (caller_name caller.now) command.now)) }
     ensures only { IfOk result (λ people.
         All (λ p. IsTrue (is_named_person (caller_name caller.now) command.now p)) people.items) }
     ensures kept { CommitsNothing S.Store tx.old.conn.now tx.new.conn.now }
     ensures survives { Spares S.Store tx.old.conn.now tx.new.conn.now }
 {
-    let own = keyed::caller(alloc, tx, kept_person, caller.name())?;
+    let own = keyed::caller(alloc, tx, remembered_person, caller.name())?;
     let mut people = Vec::new(alloc);
     push_some(&mut people, own)?;
     let Some(person) = person_added(command) else {
@@ -248,25 +248,24 @@ fn proposals_of<S: Alter>(
 pub(crate) fn rows_of_call<S: Alter>(
     alloc: Global,
     tx: &mut Transaction<'_, S>,
-    kept_person: Option<&Person>,
-    caller: &Caller,
-    key: &Key,
-    command: &Command,
+    remembered_person: Option<&Person>,
+    call: &CallRef<'_>,
 ) -> Result<CallRows, ReadFault>
     ensures same_reference { tx.new.conn.ghost_name ≡ tx.old.conn.ghost_name }
     ensures value { DoesInside S.Store tx.old.conn.now tx.new.conn.now result
-        (λ rows. ReadsTables (λ t. ReadsBack t → IsOneOf (option_copied kept_person.entry) t.people
-        → ShowsNamed rows t (called caller.now key.now command.now))) }
-    ensures only { IfOk result (λ rows. HoldsNamed rows (called caller.now key.now command.now)) }
+        (λ rows. ReadsTables (λ t. ReadsBack t
+        → IsOneOf (option_copied remembered_person.entry) t.people
+        → ShowsNamed rows t call.now)) }
+    ensures only { IfOk result (λ rows. HoldsNamed rows call.now) }
     ensures inside { StaysInside S.Store tx.old.conn.now tx.new.conn.now result }
     ensures kept { CommitsNothing S.Store tx.old.conn.now tx.new.conn.now }
     ensures survives { Spares S.Store tx.old.conn.now tx.new.conn.now }
 {
-    let people = people_of(alloc, tx, kept_person, caller, command)?;
-    let calls = calls_of(alloc, tx, caller, key)?;
-    let requests = requests_of(alloc, tx, command)?;
-    let votes = votes_of(alloc, tx, command)?;
-    let proposals = proposals_of(alloc, tx, command)?;
+    let people = people_of(alloc, tx, remembered_person, call.caller, call.command)?;
+    let calls = calls_of(alloc, tx, call.caller, call.key)?;
+    let requests = requests_of(alloc, tx, call.command)?;
+    let votes = votes_of(alloc, tx, call.command)?;
+    let proposals = proposals_of(alloc, tx, call.command)?;
     Ok(CallRows {
         people,
         calls,

@@ -1,8 +1,8 @@
 //! Sizes of the tables that a desk's limits count, if they are known: counted once, then carried
 //! from one accepted command to the next.
 
-mod kept;
+mod known;
 mod need;
 
-pub use kept::KeptSizes;
+pub use known::KnownSizes;
 pub use need::may_put;

@@ -9,7 +9,7 @@ ghost use Rattle.store_sql.specs.States.{DoesInside, CommitsNothing, Spares, Sta
 ghost use Rattle.store_views.specs.Learning.{Learns};
 ghost use Rattle.store_views.specs.Steps.{LearnsCalls, LearnsOf};
 
-use crate::{KeptSizes, may_put};
+use crate::{KnownSizes, may_put};
 use desk_rules::LimitedTable;
 use desk_texts::Command;
 use sqlite::{Alter, Transaction};
@@ -43,7 +43,7 @@ fn count_of<S: Alter>(tx: &mut Transaction<'_, S>, table: LimitedTable) -> Resul
 }
 
 /// Whether the command needs the table's size and it isn't known.
-fn is_lacking(sizes: &KeptSizes, command: &Command, table: LimitedTable) -> bool
+fn is_lacking(sizes: &KnownSizes, command: &Command, table: LimitedTable) -> bool
     ensures { result ≡ (spec.may_put command.now table && not (is_some (known sizes.now table))) }
 {
     may_put(command, table) && sizes.size(table).is_none()
@@ -52,10 +52,10 @@ fn is_lacking(sizes: &KeptSizes, command: &Command, table: LimitedTable) -> bool
 /// The sizes, with that of the table if the command needs it.
 fn learn_one<S: Alter>(
     tx: &mut Transaction<'_, S>,
-    sizes: KeptSizes,
+    sizes: KnownSizes,
     command: &Command,
     table: LimitedTable,
-) -> Result<KeptSizes, ReadFault>
+) -> Result<KnownSizes, ReadFault>
     ensures same_reference { tx.new.conn.ghost_name ≡ tx.old.conn.ghost_name }
     ensures value { DoesInside S.Store tx.old.conn.now tx.new.conn.now result
         (λ after. ReadsTables (λ t. AreRight sizes t → AreRight after t)) }
@@ -73,10 +73,10 @@ fn learn_one<S: Alter>(
 /// The sizes, with those of these tables that the command needs.
 fn learn_each<S: Alter>(
     tx: &mut Transaction<'_, S>,
-    sizes: KeptSizes,
+    sizes: KnownSizes,
     command: &Command,
     tables: &[LimitedTable],
-) -> Result<KeptSizes, ReadFault>
+) -> Result<KnownSizes, ReadFault>
     ensures same_reference { tx.new.conn.ghost_name ≡ tx.old.conn.ghost_name }
     ensures value { DoesInside S.Store tx.old.conn.now tx.new.conn.now result
         (λ after. ReadsTables (λ t. AreRight sizes t → AreRight after t)) }
@@ -94,8 +94,8 @@ fn learn_each<S: Alter>(
 /// The sizes, with how many calls there are.
 fn learn_calls<S: Alter>(
     tx: &mut Transaction<'_, S>,
-    sizes: KeptSizes,
-) -> Result<KeptSizes, ReadFault>
+    sizes: KnownSizes,
+) -> Result<KnownSizes, ReadFault>
     ensures same_reference { tx.new.conn.ghost_name ≡ tx.old.conn.ghost_name }
     ensures value { DoesInside S.Store tx.old.conn.now tx.new.conn.now result
         (λ after. ReadsTables (λ t. AreRight sizes t → AreRight after t)) }
@@ -113,9 +113,9 @@ fn learn_calls<S: Alter>(
 /// The sizes, with those that the command needs: unknown ones are counted.
 pub(crate) fn learn<S: Alter>(
     tx: &mut Transaction<'_, S>,
-    sizes: KeptSizes,
+    sizes: KnownSizes,
     command: &Command,
-) -> Result<KeptSizes, ReadFault>
+) -> Result<KnownSizes, ReadFault>
     ensures same_reference { tx.new.conn.ghost_name ≡ tx.old.conn.ghost_name }
     ensures value { DoesInside S.Store tx.old.conn.now tx.new.conn.now result
         (λ after. ReadsTables (λ t. AreRight sizes t → AreRight after t)) }

@@ -4,13 +4,14 @@ ghost use Rattle.desk_calls.specs.Desks.{IsOutage};
 ghost use Rattle.desk_history.specs.DecisionRefusals.{may_answer};
 
 use desk_bytes::{Digest, Refusal};
-use desk_calls::{Answering, Octets, ShownProposals};
+use desk_calls::{Answering, Octets, ShownPeople, ShownProposals};
 use desk_exports::Export;
-use desk_history::Verdict;
+use desk_history::{BarredImage, File, ProposalRow, Rule, ShownImpact, ShownPerson, Verdict};
 use desk_service::token_digest;
 use desk_texts::{
-    Caller, Command, Confirmation, Counts, Facts, Key, Outcome, Person, PersonName, Proposal,
-    ProposalNumber, ProposalState, Reply, RequestNumber, Role, ShownRequest, State, command_text,
+    Caller, Command, Confirmation, Counts, Facts, Import, Key, Outcome, Person, PersonName,
+    Proposal, ProposalKind, ProposalNumber, ProposalState, Reply, RequestNumber, Role,
+    ShownRequest, State, Title, command_text,
 };
 use http_responses::RequestsText;
 use std::alloc::{AllocError, Global};
@@ -132,6 +133,72 @@ fn shown(alloc: Global) -> Option<ShownProposals> {
     Some(ShownProposals::new(proposals))
 }
 
+/// The proposal of this number, of otto's, to revoke one digest.
+fn whole(alloc: Global, number: ProposalNumber) -> Option<ProposalRow> {
+    Some(ProposalRow {
+        number,
+        officer: PersonName::parse(alloc, b"otto").ok()?,
+        kind: ProposalKind::Digest,
+        named: Import::of_digest(alloc, Digest::from([0xaa; 32])).ok()?,
+        state: ProposalState::Open,
+    })
+}
+
+/// One image, which would be barred by its digest.
+fn barred(alloc: Global) -> Option<BarredImage> {
+    Some(BarredImage {
+        request: RequestNumber::new(1)?,
+        file: File::Returned,
+        state: State::Signed,
+        submitter: PersonName::parse(alloc, b"ann").ok()?,
+        title: Title::parse(alloc, b"Boot loader").ok()?,
+        is_allowed: true,
+        rule: Rule::Digest,
+    })
+}
+
+/// The impact of a proposal that would bar it.
+fn impact_of_one(alloc: Global) -> Option<ShownImpact> {
+    let mut bars = Vec::new(alloc);
+    bars.push(barred(alloc)?).ok()?;
+    Some(ShownImpact {
+        bars,
+        adds: Counts {
+            digests: 1,
+            certificates: 0,
+            components: 2,
+            passed: 3,
+        },
+        dbx: 76,
+    })
+}
+
+/// A person of this name and role.
+fn person(alloc: Global, name: &[u8], role: Role) -> Option<ShownPerson> {
+    let name = PersonName::parse(alloc, name).ok()?;
+    Some(ShownPerson { name, role })
+}
+
+/// Two people.
+fn everybody(alloc: Global) -> Option<ShownPeople> {
+    let mut people = Vec::new(alloc);
+    people.push(person(alloc, b"ann", Role::Submitter)?).ok()?;
+    people.push(person(alloc, b"olga", Role::Officer)?).ok()?;
+    Some(ShownPeople::new(people))
+}
+
+/// Two lines of minutes from the first number on, one from the second, and none from then on.
+fn lines_from(alloc: Global, from: u64) -> Result<Octets, AllocError> {
+    let bytes: &[u8] = match from {
+        1 => b"first\nsecond\n",
+        2 => b"second\n",
+        _ => b"",
+    };
+    let mut lines = Vec::new(alloc);
+    lines.extend_from_slice(bytes)?;
+    Ok(Octets::new(lines))
+}
+
 impl Answering for StandIn {
     ghost shows = { λ _ _ _. ⊥ };
 
@@ -217,6 +284,65 @@ impl Answering for StandIn {
             return Err(Refusal::NoMemory);
         }
         shown(self.alloc).ok_or(Refusal::NoMemory)
+    }
+
+    fn proposal(
+        &mut self,
+        caller: &Caller,
+        number: ProposalNumber,
+    ) -> Result<ProposalRow, Refusal> {
+        if self.has_failed {
+            return Err(Refusal::Reopen);
+        }
+        if tell(&mut self.asked, &["proposal", caller.name()]).is_err() {
+            return Err(Refusal::NoMemory);
+        }
+        match number.value() {
+            7 => Err(Refusal::NoSuchProposal),
+            8 => Err(Refusal::NotYourRole),
+            _ => whole(self.alloc, number).ok_or(Refusal::NoMemory),
+        }
+    }
+
+    fn impact(&mut self, caller: &Caller, number: ProposalNumber) -> Result<ShownImpact, Refusal> {
+        if self.has_failed {
+            return Err(Refusal::Reopen);
+        }
+        if tell(&mut self.asked, &["impact", caller.name()]).is_err() {
+            return Err(Refusal::NoMemory);
+        }
+        match number.value() {
+            7 => Err(Refusal::NoSuchProposal),
+            8 => Err(Refusal::NotYourRole),
+            9 => Err(Refusal::ProposalClosed),
+            _ => impact_of_one(self.alloc).ok_or(Refusal::NoMemory),
+        }
+    }
+
+    fn people(&mut self, caller: &Caller) -> Result<ShownPeople, Refusal> {
+        if self.has_failed {
+            return Err(Refusal::Reopen);
+        }
+        if tell(&mut self.asked, &["people", caller.name()]).is_err() {
+            return Err(Refusal::NoMemory);
+        }
+        match everybody(self.alloc) {
+            Some(people) => Ok(people),
+            None => Err(Refusal::NoMemory),
+        }
+    }
+
+    fn minutes_from(&mut self, caller: &Caller, from: u64) -> Result<Octets, Refusal> {
+        if self.has_failed {
+            return Err(Refusal::Reopen);
+        }
+        if tell(&mut self.asked, &["minutes", caller.name()]).is_err() {
+            return Err(Refusal::NoMemory);
+        }
+        match lines_from(self.alloc, from) {
+            Ok(lines) => Ok(lines),
+            Err(AllocError) => Err(Refusal::NoMemory),
+        }
     }
 
     fn export(&mut self, alloc: Global, what: Export) -> Result<Octets, Refusal> {

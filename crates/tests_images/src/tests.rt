@@ -20,6 +20,7 @@ enum Call {
     Carried,
     Digests,
     Facts,
+    Given,
     List,
     Parts,
     Ranges,
@@ -123,6 +124,7 @@ impl Answers for Call {
             Call::List => lines::of_list(alloc, told, input),
             Call::Parts => layouts::of_parts(alloc, told, input),
             Call::Ranges => layouts::of_ranges(alloc, told, input),
+            Call::Given => tokens::of_given(alloc, told, input),
             Call::Token => tokens::of_token(alloc, told, input),
             Call::Words => words::of_words(alloc, told, input),
         }

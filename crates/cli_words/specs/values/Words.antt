@@ -3,7 +3,6 @@ use Rattle.std.specs.Prelude.{◌≡◌, ◌⊎◌, ℕ, List, Option, IfSome, c
 use Rattle.desk_bytes.specs.declared.refusal.Refusal.TheVariants as refusals
 use Rattle.cli_lines.specs.Faults.{row_of}
 use Rattle.cli_lines.specs.declared.fault.Fault.{Fault}
-use Rattle.desk_service.specs.Tokens.{HasNoToken}
 use Rattle.cli_words.specs.declared.values.stop.Stop.{Stop}
 use Rattle.cli_words.specs.declared.values.stop.Stop.TheVariants as stops
 use Rattle.cli_words.specs.declared.values.stop.Word.{Word}
@@ -18,6 +17,7 @@ name_of word.Key = codes "KEY"
 name_of word.Token = codes "TOKEN"
 name_of word.Port = codes "PORT"
 name_of word.Count = codes "COUNT"
+name_of word.Number = codes "NUMBER"
 
 -- own: a fault stops a subcommand as itself
 abbrev pub of_fault : Fault → Stop
@@ -27,8 +27,8 @@ of_fault fault = stops.Fault fault
 abbrev pub StopsBy : Word → Type 0 → Stop → Type 0
 StopsBy w wrong why = ((why ≡ stops.Word w) × wrong) ⊎ (why ≡ stops.Fault (row_of refusals.NoMemory))
 
--- the token stops it, if the first line of the input isn't one, or the input does
-abbrev pub StopsByToken : Option (List ℕ) → Stop → Type 0
-StopsByToken given why =
-    ((why ≡ stops.Word word.Token) × IfSome given HasNoToken)
+-- the token stops it, if the first line of the input has none (`lacks`), or the input does
+abbrev pub StopsByToken : (List ℕ → Type 0) → Option (List ℕ) → Stop → Type 0
+StopsByToken lacks given why =
+    ((why ≡ stops.Word word.Token) × IfSome given lacks)
     ⊎ ((why ≡ stops.Fault (row_of refusals.Read)) ⊎ (why ≡ stops.Fault (row_of refusals.NoMemory)))

@@ -1,10 +1,10 @@
 //! A person, from the words and the standard input.
 ghost use Rattle.std.specs.Prelude.{◌≡◌, ◌≢◌, IfErr, IfOk, IfSome, Some, false, true};
-ghost use Rattle.desk_service.specs.Tokens.{token_in};
+ghost use Rattle.desk_service.specs.Tokens.{HasNoToken, token_in};
 ghost use Rattle.desk_texts.specs.Forms.{is_key, is_person_name};
 ghost use Rattle.desk_texts.specs.Words.{role_text};
 ghost use Rattle.desk_texts.specs.declared.role.Role.{Role};
-ghost use Rattle.cli_words.specs.values.People.{Reads, StopsFirst};
+ghost use Rattle.cli_words.specs.values.People.{Reads, StopsFirst, as_token};
 ghost use Rattle.cli_words.specs.values.Words.{StopsBy, StopsByToken};
 
 use crate::values::stop::{Stop, Word};
@@ -16,7 +16,7 @@ use std::alloc::Global;
 use std::io::Read;
 
 /// The name that a word spells.
-fn name_from(alloc: Global, text: &str) -> Result<PersonName, Stop>
+pub(crate) fn name_from(alloc: Global, text: &str) -> Result<PersonName, Stop>
     ensures ok { IfOk result (λ name. (is_person_name text.now ≡ true) × (name ≡ text.now)) }
     ensures err { IfErr result (StopsBy Word.Name (is_person_name text.now ≡ false)) }
 {
@@ -28,7 +28,7 @@ fn name_from(alloc: Global, text: &str) -> Result<PersonName, Stop>
 }
 
 /// The role that a word names.
-fn role_from(text: &str) -> Result<Role, Stop>
+pub(crate) fn role_from(text: &str) -> Result<Role, Stop>
     ensures ok { IfOk result (λ role. text.now ≡ role_text role) }
     ensures err { IfErr result (StopsBy Word.Role ((role : Role) → text.now ≢ role_text role)) }
 {
@@ -39,7 +39,7 @@ fn role_from(text: &str) -> Result<Role, Stop>
 }
 
 /// The key that a word spells.
-fn key_from(alloc: Global, text: &str) -> Result<Key, Stop>
+pub(crate) fn key_from(alloc: Global, text: &str) -> Result<Key, Stop>
     ensures ok { IfOk result (λ key. (is_key text.now ≡ true) × (key ≡ text.now)) }
     ensures err { IfErr result (StopsBy Word.Key (is_key text.now ≡ false)) }
 {
@@ -54,7 +54,7 @@ fn key_from(alloc: Global, text: &str) -> Result<Key, Stop>
 fn token_from<R: Read>(alloc: Global, reader: &mut R) -> Result<Digest, Stop>
     ensures ok { IfOk result (λ token. IfSome (R.remaining reader.old)
         (λ given. Some token ≡ token_in given)) }
-    ensures err { IfErr result (StopsByToken (R.remaining reader.old)) }
+    ensures err { IfErr result (StopsByToken HasNoToken (R.remaining reader.old)) }
 {
     match read_token(alloc, reader) {
         Ok(Some(token)) => Ok(token),
@@ -75,9 +75,10 @@ pub fn person_from<R: Read>(
     key: &str,
     reader: &mut R,
 ) -> Result<(Key, Person), Stop>
-    ensures ok { IfOk result (λ read. Reads name.now role.now key.now
+    ensures ok { IfOk result (λ read. Reads as_token name.now role.now key.now
         (R.remaining reader.old) read.0 read.1) }
-    ensures first { IfErr result (StopsFirst name.now role.now key.now (R.remaining reader.old)) }
+    ensures first { IfErr result
+        (StopsFirst as_token name.now role.now key.now (R.remaining reader.old)) }
 {
     let name = name_from(alloc, name)?;
     let role = role_from(role)?;

@@ -14,6 +14,7 @@ pub enum Word {
     Token,
     Port,
     Count,
+    Number,
 }
 
 impl Word {
@@ -29,6 +30,7 @@ impl Word {
             Word::Token => "TOKEN",
             Word::Port => "PORT",
             Word::Count => "COUNT",
+            Word::Number => "NUMBER",
         }
     }
 }

@@ -11,12 +11,11 @@ ghost use Rattle.desk_rules.specs.Views.{generation_in};
 
 use super::level::put;
 use super::push;
-use crate::view::{Changes, View};
+use crate::view::View;
 use desk_bytes::{Digest, Refusal};
 use desk_history::{Write, is_above};
 use desk_texts::{
-    Confirmation, Counts, Import, ListedKind, Listing, ProposalNumber, ProposalOutcome,
-    ProposalState, Reply,
+    Counts, Import, ListedKind, Listing, ProposalNumber, ProposalOutcome, ProposalState,
 };
 use sbat::{Component, ComponentName, Generation, Level, Stamp};
 use std::alloc::{AllocError, Global};
@@ -36,7 +35,7 @@ fn note(known: &mut BTreeSet<Digest>, digest: Digest) -> Result<bool, Refusal>
 }
 
 /// The set of the digests.
-fn set_of(alloc: Global, digests: &[Digest]) -> Result<BTreeSet<Digest>, Refusal>
+pub(crate) fn set_of(alloc: Global, digests: &[Digest]) -> Result<BTreeSet<Digest>, Refusal>
     ensures ok { IfOk result (λ known. (q : List ℕ)
         → is_among known.keys q ≡ is_among digests.now q) }
     ensures err { IfErr result (λ refusal. refusal ≡ Refusal.NoMemory) }
@@ -237,6 +236,16 @@ fn put_stamp(writes: &mut Vec<Write>, names: u64, stamp: Option<Stamp>) -> Resul
     Ok(())
 }
 
+/// What the entries of a proposal add when they are put into force, and the rows that this writes,
+/// in order.
+#[derive(Drop)]
+pub(crate) struct Enforced {
+    /// The counts of the reply.
+    pub(crate) counts: Counts,
+    /// The writes, without the call's own.
+    pub(crate) writes: Vec<Write>,
+}
+
 /// Puts the proposal's entries into force. `so_far` is the changes that its components make.
 pub(crate) fn enforce(
     alloc: Global,
@@ -244,9 +253,9 @@ pub(crate) fn enforce(
     named: &Import,
     proposal: ProposalNumber,
     so_far: SoFar,
-) -> Result<Changes, Refusal>
+) -> Result<Enforced, Refusal>
     ensures ok { IfOk result
-        (λ changes. spec.PutsIntoForce view.now named.now proposal so_far changes) }
+        (λ enforced. spec.PutsIntoForce view.now named.now proposal so_far enforced) }
     ensures err { IfErr result (λ refusal. refusal ≡ Refusal.NoMemory) }
 {
     let lists = &view.lists;
@@ -270,6 +279,5 @@ pub(crate) fn enforce(
         components: names,
         passed: named.passed(),
     };
-    let reply = Reply::Confirmed(Confirmation { proposal, counts });
-    Ok(Changes { reply, writes })
+    Ok(Enforced { counts, writes })
 }

@@ -10,10 +10,12 @@ ghost use Rattle.desk_history.specs.DecisionRefusals.{may_answer};
 ghost use Rattle.desk_history.specs.Proposals.{named_by};
 ghost use Rattle.desk_history.specs.declared.write.Write.TheVariants as puts;
 ghost use Rattle.desk_rules.specs.DecisionSteps as spec;
+ghost use Rattle.desk_rules.specs.Foreseen.{may_foresee};
+ghost use Rattle.desk_rules.specs.ImportSteps as steps;
 ghost use Rattle.desk_rules.specs.Shown.{is_proposal_row};
 ghost use Rattle.desk_rules.specs.Views.{seen_standing};
 
-use super::imports::{enforce, take_named};
+use super::imports::{Enforced, enforce, take_named};
 use super::one_write;
 use crate::rows::open_proposal;
 use crate::view::{Changes, View};
@@ -22,8 +24,8 @@ use desk_history::{
     ProposalRow, Standing, Write, confirm_by, drop_by, is_above, is_later, refuse_if,
 };
 use desk_texts::{
-    Caller, GREATEST_NUMBER, Import, ListedKind, ProposalKind, ProposalNumber, ProposalOutcome,
-    ProposalState, Raise, Reply,
+    Caller, Confirmation, GREATEST_NUMBER, Import, ListedKind, ProposalKind, ProposalNumber,
+    ProposalOutcome, ProposalState, Raise, Reply,
 };
 use sbat::Component;
 use std::alloc::Global;
@@ -215,6 +217,43 @@ pub(crate) fn propose_import(
     propose(alloc, view, caller, ProposalKind::Import, named)
 }
 
+/// Puts the entries of the open proposal in this row into force, as a Confirm by another officer
+/// than its proposer does.
+fn put_into_force(
+    alloc: Global,
+    view: &View,
+    row: &ProposalRow,
+    number: ProposalNumber,
+) -> Result<Enforced, Refusal>
+    ensures exact { find (is_proposal_row number) view.now.proposals.items ≡ Some row.now
+        → row.now.state ≡ ProposalState.Open → steps.ConfirmsAnother view.now number result }
+    ensures only { IfErr result (λ refusal. IsTrue (may_foresee refusal)) }
+{
+    let so_far = take_named(alloc, view, &row.named)?;
+    if let Some(refusal) = view.force_refusal(row.kind, &row.named, so_far.names) {
+        return Err(refusal);
+    }
+    enforce(alloc, view, &row.named, number, so_far)
+}
+
+/// Puts the proposal's entries into force, as a Confirm by another officer than its proposer does.
+pub(crate) fn confirm_another(
+    alloc: Global,
+    view: &View,
+    number: ProposalNumber,
+) -> Result<Enforced, Refusal>
+    ensures exact { steps.ConfirmsAnother view.now number result }
+    ensures only { IfErr result (λ refusal. IsTrue (may_foresee refusal)) }
+{
+    let Some(row) = view.proposal(number) else {
+        return Err(Refusal::NoSuchProposal);
+    };
+    if let Some(refusal) = confirm_by(row.state, false, None) {
+        return Err(refusal);
+    }
+    put_into_force(alloc, view, row, number)
+}
+
 /// Puts the proposal's entries into force. They are read only if the proposal is open and not the
 /// caller's own.
 pub(crate) fn confirm(
@@ -233,11 +272,15 @@ pub(crate) fn confirm(
     if let Some(refusal) = confirm_by(row.state, is_own, None) {
         return Err(refusal);
     }
-    let so_far = take_named(alloc, view, &row.named)?;
-    if let Some(refusal) = view.force_refusal(row.kind, &row.named, so_far.names) {
-        return Err(refusal);
-    }
-    enforce(alloc, view, &row.named, number, so_far)
+    let enforced = put_into_force(alloc, view, row, number)?;
+    let confirmation = Confirmation {
+        proposal: number,
+        counts: enforced.counts,
+    };
+    Ok(Changes {
+        reply: Reply::Confirmed(confirmation),
+        writes: enforced.writes,
+    })
 }
 
 /// Drops the proposal.

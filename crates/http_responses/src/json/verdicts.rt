@@ -11,14 +11,18 @@ use serde_json::{Value, json};
 use std::alloc::{AllocError, Global};
 
 /// A verdict of one word.
-fn one_word(alloc: Global, word: &str) -> Result<Value, AllocError>
+pub(crate) fn one_word(alloc: Global, word: &str) -> Result<Value, AllocError>
     ensures { IfOk result (λ v. view v ≡ spec.said word.now) }
 {
     json!(in alloc; {"verdict": word})
 }
 
 /// A component below the level, and the generation that the level asks of it.
-fn below(alloc: Global, level: Generation, component: &Component) -> Result<Value, AllocError>
+pub(crate) fn below(
+    alloc: Global,
+    level: Generation,
+    component: &Component,
+) -> Result<Value, AllocError>
     ensures { IfOk result (λ v. view v ≡ spec.below_data level component.now) }
 {
     let name = component.name.as_str();

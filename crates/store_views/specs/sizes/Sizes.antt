@@ -11,10 +11,10 @@ use Rattle.desk_rules.specs.declared.view.LimitedTable.{LimitedTable}
 use Rattle.desk_rules.specs.declared.view.LimitedTable.TheVariants as counted
 use Rattle.desk_rules.specs.declared.view.Sizes.{Sizes}
 use Rattle.desk_rules.specs.Shown.{is_table, may_put, rows_in, size_in}
-use Rattle.store_views.specs.declared.sizes.kept.KeptSizes.{KeptSizes}
+use Rattle.store_views.specs.declared.sizes.known.KnownSizes.{KnownSizes}
 
 -- the number of rows of the table, if that is known
-abbrev pub known : KeptSizes → LimitedTable → Option ℕ
+abbrev pub known : KnownSizes → LimitedTable → Option ℕ
 known k counted.People = k.people
 known k counted.Requests = k.requests
 known k counted.Listed = k.listed
@@ -24,39 +24,39 @@ known k counted.Components = k.components
 known k counted.Proposals = k.proposals
 
 -- each size that is known is that of the tables
-pub record AreRight (k : KeptSizes) (t : Tables) : Type 0 where
+pub record AreRight (k : KnownSizes) (t : Tables) : Type 0 where
   pub calls : (n : ℕ) → k.calls ≡ Some n → n ≡ length t.calls
   pub sizes : (table : LimitedTable) (n : ℕ) → known k table ≡ Some n → n ≡ rows_in t table
 
 -- no size is known
-pub record IsUnknown (k : KeptSizes) : Type 0 where
+pub record IsUnknown (k : KnownSizes) : Type 0 where
   pub calls : k.calls ≡ None
   pub sizes : (table : LimitedTable) → known k table ≡ None
 
 -- the sizes are the same, except for how many calls there are
-abbrev pub HaveSameRows : KeptSizes → KeptSizes → Type 0
+abbrev pub HaveSameRows : KnownSizes → KnownSizes → Type 0
 HaveSameRows a b = (table : LimitedTable) → known a table ≡ known b table
 
 -- the sizes are the same, except for that of this table
-pub record HaveSameOthers (table : LimitedTable) (a b : KeptSizes) : Type 0 where
+pub record HaveSameOthers (table : LimitedTable) (a b : KnownSizes) : Type 0 where
   pub calls : a.calls ≡ b.calls
   pub others : (other : LimitedTable) → IsTrue (not (is_table table other)) → known a other ≡ known b other
 
 -- the sizes that are known before are known after
-pub record KnowsNoLess (before after : KeptSizes) : Type 0 where
+pub record KnowsNoLess (before after : KnownSizes) : Type 0 where
   pub calls : IsTrue (is_some before.calls) → IsTrue (is_some after.calls)
   pub sizes : (table : LimitedTable) → IsTrue (is_some (known before table)) → IsTrue (is_some (known after table))
 
 -- If the sizes are right for the tables before an accepted call, those after are right for the
 -- tables that any writes of its command make, and none is lost.
-abbrev pub Follows : KeptSizes → Command → List Write → KeptSizes → Type 0
+abbrev pub Follows : KnownSizes → Command → List Write → KnownSizes → Type 0
 Follows before command ws after =
     (owner : List ℕ) (cs : History) (c : Call) → IsTrue (is_legal (item c ∷ cs)) → c.command ≡ command
     → all_written ws (tables owner cs) ≡ tables owner (item c ∷ cs)
     → AreRight before (tables owner cs) → AreRight after (tables owner (item c ∷ cs)) × KnowsNoLess before after
 
 -- the sizes that a command needs are known
-pub record AreEnough (k : KeptSizes) (command : Command) : Type 0 where
+pub record AreEnough (k : KnownSizes) (command : Command) : Type 0 where
   pub calls : IsTrue (is_some k.calls)
   pub sizes : (table : LimitedTable) → IsTrue (may_put command table) → IsTrue (is_some (known k table))
 
@@ -67,5 +67,5 @@ pub record Tell (s : Sizes) (t : Tables) (command : Command) : Type 0 where
 
 -- the known sizes, if they are right for some tables and enough for a command, give it those that
 -- it needs
-abbrev pub TellWhatIsKnown : KeptSizes → Sizes → Type 0
+abbrev pub TellWhatIsKnown : KnownSizes → Sizes → Type 0
 TellWhatIsKnown k s = (t : Tables) (command : Command) → AreRight k t → AreEnough k command → Tell s t command

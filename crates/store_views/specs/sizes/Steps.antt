@@ -5,7 +5,7 @@ use Rattle.desk_texts.specs.declared.command.Command.TheVariants as command
 use Rattle.desk_history.specs.declared.write.Write.{Write}
 use Rattle.desk_rules.specs.declared.view.LimitedTable.TheVariants as counted
 use Rattle.desk_rules.specs.Room.{puts}
-use Rattle.store_views.specs.declared.sizes.kept.KeptSizes.{KeptSizes}
+use Rattle.store_views.specs.declared.sizes.known.KnownSizes.{KnownSizes}
 
 -- `count` more rows, if the sum is a u64
 abbrev pub more : Option ℕ → ℕ → Option ℕ
@@ -35,7 +35,7 @@ listed_after size (command.Confirm _) = size
 listed_after size (command.Drop _) = size
 
 -- the sizes after a command and its writes
-abbrev pub sizes_after : KeptSizes → Command → List Write → KeptSizes
+abbrev pub sizes_after : KnownSizes → Command → List Write → KnownSizes
 sizes_after k given ws = record {
   people = more k.people (count_by (puts counted.People) ws);
   calls = more k.calls 1;

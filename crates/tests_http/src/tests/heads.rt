@@ -75,7 +75,18 @@ NoRoute POST /nowhere HTTP/1.1|Content-Length: 134217729||
 NoRoute GET /requests/007/x HTTP/1.1||
 NoRoute POST /requests/12/review/x HTTP/1.1|Content-Length: 1||
 NoRoute GET /proposals/ HTTP/1.1||
-NoRoute GET /proposals/12 HTTP/1.1||
+NoRoute GET /proposals/12/ HTTP/1.1||
+NoRoute GET /proposals/12/impact/ HTTP/1.1||
+NoRoute GET /minutes HTTP/1.1||
+NoRoute GET /minutes/ HTTP/1.1||
+NoRoute GET /minutes/x HTTP/1.1||
+NoRoute GET /minutes/0 HTTP/1.1||
+NoRoute GET /minutes/012 HTTP/1.1||
+NoRoute GET /minutes/+1 HTTP/1.1||
+NoRoute GET /minutes/12345678 HTTP/1.1||
+NoRoute POST /minutes/x HTTP/1.1||
+NoRoute GET /minutes/1/2 HTTP/1.1||
+NoRoute GET /people/ HTTP/1.1||
 NoRoute POST /proposals//confirm HTTP/1.1|Content-Length: 0||
 BadMethod PUT /level HTTP/1.1||
 BadMethod get /level HTTP/1.1||
@@ -88,6 +99,10 @@ BadMethod PUT /verdict HTTP/1.1|Content-Length: 134217729||
 BadMethod GET /imports/csv HTTP/1.1||
 BadMethod GET /requests/x/review HTTP/1.1||
 BadMethod POST /proposals HTTP/1.1||
+BadMethod POST /proposals/12 HTTP/1.1||
+BadMethod POST /proposals/x/impact HTTP/1.1||
+BadMethod POST /minutes/1 HTTP/1.1||
+BadMethod POST /people HTTP/1.1||
 BadMethod GET /proposals/x/confirm HTTP/1.1||
 BadMethod GET /proposals/x/drop HTTP/1.1||
 LengthNeeded POST /verdict HTTP/1.1||
@@ -124,6 +139,12 @@ NoSuchRequest GET /requests/+7 HTTP/1.1||
 NoSuchRequest GET /requests/1000000 HTTP/1.1||
 NoSuchRequest GET /requests/%31 HTTP/1.1||
 NoSuchRequest POST /requests/07/withdraw HTTP/1.1|Content-Length: 0|Desk-Key: k||
+NoSuchProposal GET /proposals/x HTTP/1.1||
+NoSuchProposal GET /proposals/012 HTTP/1.1||
+NoSuchProposal GET /proposals/1000000 HTTP/1.1||
+NoSuchProposal GET /proposals/confirm HTTP/1.1||
+NoSuchProposal GET /proposals/0/impact HTTP/1.1||
+NoSuchProposal GET /proposals/x/impact HTTP/1.1||
 NoSuchProposal POST /proposals/x/confirm HTTP/1.1|Content-Length: 0|Desk-Key: k||
 NoSuchProposal POST /proposals/0/confirm HTTP/1.1|Content-Length: 0|Desk-Key: k||
 NoSuchProposal POST /proposals/07/confirm HTTP/1.1|Content-Length: 0|Desk-Key: k||
@@ -147,11 +168,16 @@ ImportLevel POST /imports/level HTTP/1.1|Content-Length: 1|Desk-Key: k|Desk-Stam
 Confirm POST /proposals/1/confirm HTTP/1.1|Content-Length: 4194304|Desk-Key: k||
 Drop POST /proposals/999999/drop HTTP/1.1|Content-Length: 0|Desk-Key: k||
 Proposals GET /proposals HTTP/1.1||
+Proposal GET /proposals/999999 HTTP/1.1||
+Impact GET /proposals/1/impact HTTP/1.1||
 Verdict POST /verdict HTTP/1.1|Content-Length: 134217728||
 Dbx GET /dbx HTTP/1.1|Content-Length: 0000000000||
 Db GET /db HTTP/1.1|Desk-Key: a b||
 Level GET /level HTTP/1.1||
 Report GET /report HTTP/1.1||
+Minutes GET /minutes/1 HTTP/1.1||
+Minutes GET /minutes/9999999 HTTP/1.1||
+People GET /people HTTP/1.1||
 Level GET /level HTTP/1.0~~
 Level ~|~GET /level HTTP/1.1~Host: desk~~
 RaiseLevel POST /level HTTP/1.1|CONTENT-LENGTH:\t 7 \t|desk-key:k||
@@ -209,10 +235,14 @@ fn name_of_read(asked: ReadAsked) -> &'static str {
         ReadAsked::Requests => "Requests",
         ReadAsked::Request(_) => "Request",
         ReadAsked::Proposals => "Proposals",
+        ReadAsked::Proposal(_) => "Proposal",
+        ReadAsked::Impact(_) => "Impact",
         ReadAsked::Dbx => "Dbx",
         ReadAsked::Db => "Db",
         ReadAsked::Level => "Level",
         ReadAsked::Report => "Report",
+        ReadAsked::Minutes(_) => "Minutes",
+        ReadAsked::People => "People",
     }
 }
 
@@ -332,26 +362,27 @@ fn asks_for_title(alloc: Global) -> bool {
     }
 }
 
-/// Whether the GET is of the request of this number.
-fn is_request(asked: &ReadAsked, number: u64) -> bool {
-    match asked {
-        ReadAsked::Request(found) => Some(*found) == RequestNumber::new(number),
-        ReadAsked::Requests
-        | ReadAsked::Proposals
-        | ReadAsked::Dbx
-        | ReadAsked::Db
-        | ReadAsked::Level
-        | ReadAsked::Report => false,
+/// The read that a head asks for.
+fn read_by(alloc: Global, head: &str) -> Option<ReadAsked> {
+    let found = asked_by(alloc, head);
+    match &found {
+        Some(Asked::Read(asked)) => Some(*asked),
+        Some(Asked::Image(_) | Asked::Command(_)) | None => None,
     }
 }
 
-/// Whether a head with a number requests the request of that number.
-fn asks_for_number(alloc: Global) -> bool {
-    let found = asked_by(alloc, "GET /requests/120 HTTP/1.1||");
-    match &found {
-        Some(Asked::Read(asked)) => is_request(asked, 120),
-        Some(Asked::Image(_) | Asked::Command(_)) | None => false,
-    }
+/// Whether heads with a number ask for what has that number.
+fn asks_for_number(alloc: Global) -> Option<bool> {
+    let request = ReadAsked::Request(RequestNumber::new(120)?);
+    let proposal = ReadAsked::Proposal(ProposalNumber::new(120)?);
+    let impact = ReadAsked::Impact(ProposalNumber::new(120)?);
+    let minutes = ReadAsked::Minutes(1_000_001);
+    Some(
+        read_by(alloc, "GET /requests/120 HTTP/1.1||") == Some(request)
+            && read_by(alloc, "GET /proposals/120 HTTP/1.1||") == Some(proposal)
+            && read_by(alloc, "GET /proposals/120/impact HTTP/1.1||") == Some(impact)
+            && read_by(alloc, "GET /minutes/1000001 HTTP/1.1||") == Some(minutes),
+    )
 }
 
 /// Whether the command confirms the proposal of this number.
@@ -379,6 +410,6 @@ fn asks_for_proposal(alloc: Global) -> bool {
 fn gives_keys_stamps_titles_and_numbers(rt: HostRuntime) {
     assert!(rt; asks_for_csv(rt.alloc()), "a key and a stamp");
     assert!(rt; asks_for_title(rt.alloc()), "a title");
-    assert!(rt; asks_for_number(rt.alloc()), "a number");
+    assert!(rt; asks_for_number(rt.alloc()) == Some(true), "a number");
     assert!(rt; asks_for_proposal(rt.alloc()), "the number of a proposal");
 }

@@ -1,14 +1,19 @@
-//! Replies, requests, proposals and verdicts in JSON.
+//! Replies, requests, proposals, impacts, people and verdicts in JSON.
 use desk_bytes::Digest;
-use desk_history::{Below, Verdict};
-use desk_texts::{
-    Carried, Confirmation, Counts, Facts, Note, Outcome, PersonName, Proposal, ProposalNumber,
-    ProposalState, Reply, RequestNumber, ShownRequest, ShownReturn, ShownVote, ShownVotes, State,
-    Title, Vote,
+use desk_history::{
+    BarredImage, Below, File, ProposalRow, Rule, ShownImpact, ShownPerson, Verdict,
 };
-use http_responses::{RequestsText, proposals_json, reply_json, request_json, verdict_json};
+use desk_texts::{
+    Carried, Confirmation, Counts, Digests, Facts, Import, ImportedComponents, Note, Outcome,
+    PersonName, Proposal, ProposalKind, ProposalNumber, ProposalState, Reply, RequestNumber, Role,
+    ShownRequest, ShownReturn, ShownVote, ShownVotes, State, Title, Vote,
+};
+use http_responses::{
+    RequestsText, impact_json, people_json, proposal_json, proposals_json, reply_json,
+    request_json, verdict_json,
+};
 use pe_image::Extent;
-use sbat::{Component, ComponentName, Components, Generation};
+use sbat::{Component, ComponentName, Components, Generation, Stamp};
 use std::alloc::Global;
 use std::test::Fail;
 
@@ -196,6 +201,149 @@ fn writes_lists_of_proposals(rt: HostRuntime) -> Result<(), Fail> {
     proposals.push(proposal(rt.alloc(), 999_999, ProposalState::Dropped)?)?;
     let text = proposals_json(rt.alloc(), proposals.as_slice())?;
     assert!(rt; text.as_slice() == PROPOSALS.as_bytes(), "each state");
+    Ok(())
+}
+
+/// A proposal with all that it names, some of it twice.
+const WHOLE: &str =
+    r#"{"certificates":["cccccccccccccccccccccccccccccccccccccccccccccccccccccccccccccccc"],"components":[["shim",4],["grub",4294967295]],"digests":["bbbbbbbbbbbbbbbbbbbbbbbbbbbbbbbbbbbbbbbbbbbbbbbbbbbbbbbbbbbbbbbb","aaaaaaaaaaaaaaaaaaaaaaaaaaaaaaaaaaaaaaaaaaaaaaaaaaaaaaaaaaaaaaaa","bbbbbbbbbbbbbbbbbbbbbbbbbbbbbbbbbbbbbbbbbbbbbbbbbbbbbbbbbbbbbbbb"],"kind":"import","number":999999,"officer":"olga","passed":7,"stamp":2024010100,"state":"dropped"}"#;
+
+/// Three digests, of which two are the same.
+fn digests(alloc: Global) -> Result<Digests, Fail> {
+    let mut digests = Vec::new(alloc);
+    digests.push(Digest::from([0xbb; 32]))?;
+    digests.push(Digest::from([0xaa; 32]))?;
+    digests.push(Digest::from([0xbb; 32]))?;
+    Ok(Digests::new(digests).ok_or("digests")?)
+}
+
+/// One certificate.
+fn certificates(alloc: Global) -> Result<Digests, Fail> {
+    let mut digests = Vec::new(alloc);
+    digests.push(Digest::from([0xcc; 32]))?;
+    Ok(Digests::new(digests).ok_or("certificates")?)
+}
+
+/// Two components.
+fn raised(alloc: Global) -> Result<ImportedComponents, Fail> {
+    let mut components = Vec::new(alloc);
+    components.push(component(alloc, "shim", 4)?)?;
+    components.push(component(alloc, "grub", u32::MAX)?)?;
+    Ok(ImportedComponents::new(components).ok_or("components")?)
+}
+
+/// An import of them all.
+fn import(alloc: Global) -> Result<Import, Fail> {
+    let stamp = Stamp::new(2_024_010_100);
+    let digests = digests(alloc)?;
+    let certificates = certificates(alloc)?;
+    let components = raised(alloc)?;
+    Ok(Import::new(stamp, 7, digests, certificates, components).ok_or("an import")?)
+}
+
+#[test]
+fn writes_a_whole_proposal(rt: HostRuntime) -> Result<(), Fail> {
+    let proposal = ProposalRow {
+        number: ProposalNumber::new(999_999).ok_or("a number")?,
+        officer: PersonName::parse(rt.alloc(), b"olga")?,
+        kind: ProposalKind::Import,
+        named: import(rt.alloc())?,
+        state: ProposalState::Dropped,
+    };
+    let text = proposal_json(rt.alloc(), &proposal)?;
+    assert!(rt; text.as_slice() == WHOLE.as_bytes());
+    Ok(())
+}
+
+/// An impact with an image for each rule.
+const IMPACT: &str =
+    r#"{"adds":{"certificates":2,"components":3,"digests":1},"bars":[{"allowed":true,"by":{"verdict":"dbx-digest"},"file":"submitted","request":1,"state":"open","submitter":"ann","title":" a \"b\" \\ ~"},{"allowed":false,"by":{"verdict":"dbx-certificate"},"file":"returned","request":1,"state":"signed","submitter":"ann","title":" a \"b\" \\ ~"},{"allowed":false,"by":{"component":"shim","generation":4,"level":5,"verdict":"sbat"},"file":"submitted","request":999999,"state":"withdrawn","submitter":"ann","title":" a \"b\" \\ ~"}],"dbx":18446744073709551615,"proposal":999999}"#;
+
+/// An impact without an image.
+const NO_IMPACT: &str =
+    r#"{"adds":{"certificates":0,"components":0,"digests":0},"bars":[],"dbx":0,"proposal":1}"#;
+
+/// An image of ann's that this rule would bar.
+fn barred(
+    alloc: Global,
+    number: u64,
+    file: File,
+    state: State,
+    rule: Rule,
+) -> Result<BarredImage, Fail> {
+    let is_allowed = matches!(rule, Rule::Digest);
+    Ok(BarredImage {
+        request: RequestNumber::new(number).ok_or("a number")?,
+        file,
+        state,
+        submitter: PersonName::parse(alloc, b"ann")?,
+        title: Title::parse(alloc, br#" a "b" \ ~"#)?,
+        is_allowed,
+        rule,
+    })
+}
+
+/// An image for each rule.
+fn bars(alloc: Global) -> Result<Vec<BarredImage>, Fail> {
+    let needed = Generation::new(5).ok_or("a generation")?;
+    let below = Rule::Component(component(alloc, "shim", 4)?, needed);
+    let mut bars = Vec::new(alloc);
+    bars.push(barred(alloc, 1, File::Submitted, State::Open, Rule::Digest)?)?;
+    bars.push(barred(alloc, 1, File::Returned, State::Signed, Rule::Certificate)?)?;
+    bars.push(barred(alloc, 999_999, File::Submitted, State::Withdrawn, below)?)?;
+    Ok(bars)
+}
+
+/// The impact with these images, of so many digests, certificates and components.
+fn impact(bars: Vec<BarredImage>, added: [u64; 3], dbx: u64) -> ShownImpact {
+    let [digests, certificates, components] = added;
+    let passed = 9;
+    ShownImpact {
+        bars,
+        adds: Counts {
+            digests,
+            certificates,
+            components,
+            passed,
+        },
+        dbx,
+    }
+}
+
+#[test]
+fn writes_an_impact(rt: HostRuntime) -> Result<(), Fail> {
+    let number = ProposalNumber::new(999_999).ok_or("a number")?;
+    let shown = impact(bars(rt.alloc())?, [1, 2, 3], u64::MAX);
+    let text = impact_json(rt.alloc(), number, &shown)?;
+    assert!(rt; text.as_slice() == IMPACT.as_bytes(), "each rule");
+    let number = ProposalNumber::new(1).ok_or("a number")?;
+    let shown = impact(Vec::new(rt.alloc()), [0, 0, 0], 0);
+    let text = impact_json(rt.alloc(), number, &shown)?;
+    assert!(rt; text.as_slice() == NO_IMPACT.as_bytes(), "no image");
+    Ok(())
+}
+
+/// A person of each role.
+const PEOPLE: &str =
+    r#"[{"name":"ann","role":"submitter"},{"name":"otto","role":"officer"},{"name":"rita","role":"reviewer"},{"name":"sid","role":"signer"}]"#;
+
+/// A person of this name and role.
+fn person(alloc: Global, name: &str, role: Role) -> Result<ShownPerson, Fail> {
+    let name = PersonName::parse(alloc, name.as_bytes())?;
+    Ok(ShownPerson { name, role })
+}
+
+#[test]
+fn writes_people(rt: HostRuntime) -> Result<(), Fail> {
+    let none = people_json(rt.alloc(), &[])?;
+    assert!(rt; none.as_slice() == b"[]".as_slice(), "none");
+    let mut people = Vec::new(rt.alloc());
+    people.push(person(rt.alloc(), "ann", Role::Submitter)?)?;
+    people.push(person(rt.alloc(), "otto", Role::Officer)?)?;
+    people.push(person(rt.alloc(), "rita", Role::Reviewer)?)?;
+    people.push(person(rt.alloc(), "sid", Role::Signer)?)?;
+    let text = people_json(rt.alloc(), people.as_slice())?;
+    assert!(rt; text.as_slice() == PEOPLE.as_bytes(), "each role");
     Ok(())
 }
 

@@ -1,12 +1,14 @@
 //! The printed lines of facts, of lists and of a fault.
 use super::{Call, check, image, tell_lines};
-use cli_lines::{Fault, MOST_BYTES, print_facts, print_fault, print_list, print_verdict};
+use cli_lines::{
+    Fault, MOST_BYTES, print_facts, print_fault, print_impact, print_list, print_verdict,
+};
 use desk_bytes::{Guid, Refusal, WriteFailed};
-use desk_history::{Below, Verdict};
+use desk_history::{BarredImage, Below, File, Rule, ShownImpact, Verdict};
 use desk_service::facts;
-use desk_texts::Facts;
+use desk_texts::{Counts, Facts, PersonName, RequestNumber, State, Title};
 use pe_image::Bytes;
-use sbat::Generation;
+use sbat::{Component, Generation};
 use siglist::pack;
 use std::alloc::Global;
 use std::io::ErrorKind;
@@ -240,5 +242,79 @@ fn prints_the_line_of_a_verdict(rt: HostRuntime) -> Result<(), Fail> {
     let mut out = Vec::new(rt.alloc());
     print_verdicts(&found, needs, &mut out)?;
     assert!(rt; out.as_slice() == VERDICTS.as_bytes());
+    Ok(())
+}
+
+/// The lines of an impact on three images.
+const IMPACT: &str = "\
+7\tsubmitted\topen\tann\trefused\tdbx-digest\ta loader
+7\treturned\tsigned\tann\tallowed\tdbx-certificate\ta loader
+7\tsubmitted\twithdrawn\tann\trefused\tsbat grub 3 4294967295\ta loader
+dbx 216
+";
+
+/// An image of request 7 that would be barred.
+fn barred(
+    alloc: Global,
+    file: File,
+    state: State,
+    is_allowed: bool,
+    rule: Rule,
+) -> Result<BarredImage, Fail> {
+    Ok(BarredImage {
+        request: RequestNumber::new(7).ok_or("a number")?,
+        file,
+        state,
+        submitter: PersonName::parse(alloc, b"ann")?,
+        title: Title::parse(alloc, b"a loader")?,
+        is_allowed,
+        rule,
+    })
+}
+
+/// The second component of an image, which is below this generation.
+fn component_rule(facts: &Facts, needs: Generation) -> Result<Rule, Fail> {
+    let component: &Component = facts.components.as_slice().get(1).ok_or("a component")?;
+    Ok(Rule::Component(component.clone()?, needs))
+}
+
+/// An impact on three images.
+fn impact_on_three(alloc: Global, by_component: Rule) -> Result<ShownImpact, Fail> {
+    let mut bars = Vec::new(alloc);
+    bars.push(barred(alloc, File::Submitted, State::Open, false, Rule::Digest)?)?;
+    bars.push(barred(
+        alloc,
+        File::Returned,
+        State::Signed,
+        true,
+        Rule::Certificate,
+    )?)?;
+    bars.push(barred(
+        alloc,
+        File::Submitted,
+        State::Withdrawn,
+        false,
+        by_component,
+    )?)?;
+    Ok(ShownImpact {
+        bars,
+        adds: Counts {
+            digests: 1,
+            certificates: 1,
+            components: 1,
+            passed: 0,
+        },
+        dbx: 216,
+    })
+}
+
+#[test]
+fn prints_the_lines_of_an_impact(rt: HostRuntime) -> Result<(), Fail> {
+    let needs = Generation::new(u32::MAX).ok_or("a generation")?;
+    let found = facts(rt.alloc(), &mut Bytes(&image(rt.alloc(), WITH_COMPONENTS)?))?;
+    let impact = impact_on_three(rt.alloc(), component_rule(&found, needs)?)?;
+    let mut out = Vec::new(rt.alloc());
+    print_impact(&impact, &mut out)?;
+    assert!(rt; out.as_slice() == IMPACT.as_bytes());
     Ok(())
 }

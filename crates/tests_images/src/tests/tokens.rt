@@ -1,7 +1,7 @@
 //! Tokens of people.
 use super::{Call, check};
 use desk_bytes::InputFault;
-use desk_service::read_token;
+use desk_service::{read_token, read_token_digest};
 use std::alloc::Global;
 use std::fmt::Write;
 use std::test::Fail;
@@ -41,6 +41,65 @@ pub fn of_token(alloc: Global, told: &mut String, input: &str) -> Result<(), Fai
 #[test]
 fn reads_the_token_in_the_first_line(rt: HostRuntime) -> Result<(), Fail> {
     check(&rt, rt.alloc(), Call::Token, TOKENS)
+}
+
+/// Inputs in hexadecimal, and the SHA-256 that they give, `aa` 32 times. The words before each name
+/// it.
+const GIVEN: &str = "\
+alone: D = aa
+no LF: E = aa
+CR and LF: C = aa
+as sha256sum writes it: S = aa
+a long name: L = aa
+63 digits: F = none
+65 digits: G = none
+66 digits: H = TooLong
+a tab: T = TooLong
+a space first: P = none
+nothing: N = none
+";
+
+/// That input.
+fn given_input<'a>(letter: &str) -> Option<&'a str> {
+    match letter {
+        "D" => Some("AaAaAaAaAaAaAaAaAaAaAaAaAaAaAaAaAaAaAaAaAaAaAaAaAaAaAaAaAaAaAaAa\nbad\n"),
+        "E" => Some("aaaaaaaaaaaaaaaaaaaaaaaaaaaaaaaaaaaaaaaaaaaaaaaaaaaaaaaaaaaaaaaa"),
+        "C" => Some("aaaaaaaaaaaaaaaaaaaaaaaaaaaaaaaaaaaaaaaaaaaaaaaaaaaaaaaaaaaaaaaa\r\n"),
+        "S" => Some("aaaaaaaaaaaaaaaaaaaaaaaaaaaaaaaaaaaaaaaaaaaaaaaaaaaaaaaaaaaaaaaa  -\n"),
+        "L" => Some(
+            "aaaaaaaaaaaaaaaaaaaaaaaaaaaaaaaaaaaaaaaaaaaaaaaaaaaaaaaaaaaaaaaa  /home/olga/\
+             a/path/of/more/bytes/than/any/token/may/have/with/its/line/end/0123456789/token\n",
+        ),
+        "F" => Some("aaaaaaaaaaaaaaaaaaaaaaaaaaaaaaaaaaaaaaaaaaaaaaaaaaaaaaaaaaaaaaa\n"),
+        "G" => Some("aaaaaaaaaaaaaaaaaaaaaaaaaaaaaaaaaaaaaaaaaaaaaaaaaaaaaaaaaaaaaaaaa\n"),
+        "H" => Some("aaaaaaaaaaaaaaaaaaaaaaaaaaaaaaaaaaaaaaaaaaaaaaaaaaaaaaaaaaaaaaaaaa\n"),
+        "T" => Some("aaaaaaaaaaaaaaaaaaaaaaaaaaaaaaaaaaaaaaaaaaaaaaaaaaaaaaaaaaaaaaaa\t-\n"),
+        "P" => Some(" aaaaaaaaaaaaaaaaaaaaaaaaaaaaaaaaaaaaaaaaaaaaaaaaaaaaaaaaaaaaaaaa\n"),
+        "N" => Some(""),
+        _ => None,
+    }
+}
+
+/// Appends the SHA-256 of a token that an input gives, by its first two digits.
+pub fn of_given(alloc: Global, told: &mut String, input: &str) -> Result<(), Fail> {
+    let (_, letter) = input.split_once(": ").ok_or("no name")?;
+    let mut bytes = given_input(letter).ok_or("no input")?.as_bytes();
+    match read_token_digest(alloc, &mut bytes) {
+        Ok(Some(token)) => {
+            if token.as_bytes().iter().any(|byte| *byte != 0xaa) {
+                return Ok(told.push_str("another")?);
+            }
+            told.push_str("aa")?;
+        }
+        Ok(None) => told.push_str("none")?,
+        Err(fault) => told.push_str(fault.refusal().name())?,
+    }
+    Ok(())
+}
+
+#[test]
+fn reads_the_sha256_that_the_first_line_gives(rt: HostRuntime) -> Result<(), Fail> {
+    check(&rt, rt.alloc(), Call::Given, GIVEN)
 }
 
 #[test]

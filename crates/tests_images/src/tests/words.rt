@@ -8,11 +8,13 @@ use std::test::Fail;
 const WORDS: &str = "\
 init a.db 0011 = init of a.db for 0011
 person a.db olga officer k1 = person of a.db: olga officer k1
+enrol a.db olga officer k1 = enrol of a.db: olga officer k1
 serve a.db 80 5 = serve of a.db: 80 5
 answer a.db = answer of a.db
 facts a/b.efi = facts of a/b.efi
 ranges a/b.efi = ranges of a/b.efi
 verdict a.db b.efi = verdict of a.db and b.efi
+impact a.db 7 = impact of a.db: 7
 db a.db = db of a.db
 dbx a.db = dbx of a.db
 level a.db = level of a.db
@@ -24,11 +26,13 @@ minutes a.db = minutes of a.db
 help = Usage: desk <COMMAND>
 help init = Usage: desk init <DB> <OWNER>
 help person = Usage: desk person <DB> <NAME> <ROLE> <KEY>
+help enrol = Usage: desk enrol <DB> <NAME> <ROLE> <KEY>
 help serve = Usage: desk serve <DB> <PORT> <COUNT>
 help answer = Usage: desk answer <DB>
 help facts = Usage: desk facts <FILE>
 help ranges = Usage: desk ranges <FILE>
 help verdict = Usage: desk verdict <DB> <FILE>
+help impact = Usage: desk impact <DB> <NUMBER>
 help db = Usage: desk db <DB>
 help dbx = Usage: desk dbx <DB>
 help level = Usage: desk level <DB>
@@ -36,9 +40,9 @@ help list = Usage: desk list <FILE>
 help pack = Usage: desk pack <OWNER>
 help minutes = Usage: desk minutes <DB>
 pack --help = Usage: desk pack <OWNER>
---version = desk 0.1.0 (rattle-kit-13b logic dac8208d650f15bf)
--V = desk 0.1.0 (rattle-kit-13b logic dac8208d650f15bf)
-pack --version = desk-pack 0.1.0 (rattle-kit-13b logic dac8208d650f15bf)
+--version = desk 0.1.0 (rattle-kit-13f logic dac8208d650f15bf)
+-V = desk 0.1.0 (rattle-kit-13f logic dac8208d650f15bf)
+pack --version = desk-pack 0.1.0 (rattle-kit-13f logic dac8208d650f15bf)
  = mistake
 x = mistake
 unpack x = mistake
@@ -50,6 +54,8 @@ init a.db = mistake
 init a.db 0011 more = mistake
 person a.db olga officer = mistake
 person a.db olga officer k1 more = mistake
+enrol a.db olga officer = mistake
+enrol a.db olga officer k1 more = mistake
 serve a.db 80 = mistake
 serve a.db 80 5 more = mistake
 answer = mistake
@@ -60,6 +66,8 @@ ranges = mistake
 ranges a/b.efi more = mistake
 verdict a.db = mistake
 verdict a.db b.efi more = mistake
+impact a.db = mistake
+impact a.db 7 more = mistake
 db = mistake
 db a.db more = mistake
 dbx = mistake
@@ -88,12 +96,14 @@ fn tell_usage(told: &mut String, text: &str) -> Result<(), AllocError> {
 fn tell_words(told: &mut String, line: Words<'_>) -> Result<(), AllocError> {
     match line {
         Words::Init { db, owner } => write!(told, "init of {db} for {owner}"),
-        Words::Person(words) => tell_person(told, words),
+        Words::Person(words) => tell_person(told, "person", words),
+        Words::Enrol(words) => tell_person(told, "enrol", words),
         Words::Serve(words) => tell_serve(told, words),
         Words::Answer { db } => write!(told, "answer of {db}"),
         Words::Facts { file } => write!(told, "facts of {file}"),
         Words::Ranges { file } => write!(told, "ranges of {file}"),
         Words::Verdict { db, file } => write!(told, "verdict of {db} and {file}"),
+        Words::Impact { db, number } => write!(told, "impact of {db}: {number}"),
         Words::Db { db } => write!(told, "db of {db}"),
         Words::Dbx { db } => write!(told, "dbx of {db}"),
         Words::Level { db } => write!(told, "level of {db}"),
@@ -103,15 +113,19 @@ fn tell_words(told: &mut String, line: Words<'_>) -> Result<(), AllocError> {
     }
 }
 
-/// Appends the words of `person`.
-fn tell_person(told: &mut String, words: PersonWords<'_>) -> Result<(), AllocError> {
+/// Appends the words of `person` or `enrol`.
+fn tell_person(
+    told: &mut String,
+    subcommand: &str,
+    words: PersonWords<'_>,
+) -> Result<(), AllocError> {
     let PersonWords {
         db,
         name,
         role,
         key,
     } = words;
-    write!(told, "person of {db}: ")?;
+    write!(told, "{subcommand} of {db}: ")?;
     write!(told, "{name} {role} {key}")
 }
 

@@ -2,7 +2,7 @@
 use Rattle.std.specs.Prelude.{refl}
 use Rattle.std.specs.Fmt.{digits}
 use Rattle.hex.specs.Hex.{encode_with}
-use Rattle.desk_exports.specs.Worked.{ExportsDb, ExportsImport, ExportsInOrder, ExportsLevels, ExportsMinutes, ExportsNothing, ExportsProposals, ExportsReports}
+use Rattle.desk_exports.specs.Worked.{ExportsDb, ExportsImpact, ExportsImport, ExportsInOrder, ExportsLevels, ExportsMinutes, ExportsNothing, ExportsProposals, ExportsReports}
 use Rattle.desk_exports.proofs.laws.exports_are_written.Goals as goal
 
 nothing_computed : ExportsNothing
@@ -32,6 +32,13 @@ proposals_computed = (refl, refl, refl, refl, refl)
 
 pub returns-clause-proposals : goal.returns-clause-proposals
 returns-clause-proposals c = proposals_computed
+
+impact_computed : ExportsImpact
+unfolding digits encode_with
+impact_computed = (refl, refl)
+
+pub returns-clause-impact : goal.returns-clause-impact
+returns-clause-impact c = impact_computed
 
 order_computed : ExportsInOrder
 unfolding digits encode_with

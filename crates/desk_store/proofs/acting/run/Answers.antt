@@ -1,16 +1,13 @@
 use Rattle.std.proofs.Common.{◌≡◌, ◌≢◌, ◌∙◌, rules, refl, sym, ap, subst, arith, ℕ, List}
-use Rattle.std.specs.Prelude.{option_copied}
 use Rattle.sqlite.specs.Held.{Held, state}
 use Rattle.sqlite.specs.State.{HasCleanDisk, KeepsCommit, Survives}
 use Rattle.desk_bytes.specs.declared.refusal.Refusal.TheVariants as refusals
 use Rattle.desk_history.specs.Calls.{History}
-use Rattle.desk_rules.specs.Decisions.{called}
 use Rattle.desk_store.specs.Acts.{Acts, LeavesNext, Runs}
 use Rattle.store_sql.proofs.CommitLemmas.{begun, failed_leaves, failed_shows, failed_spares, leaves_made, leaves_more, through, undone_shows, worked}
 use Rattle.store_sql.specs.Faults.{refusal_of}
 use Rattle.store_schema.specs.Tables.{desk_schema}
 use Rattle.store_schema.specs.rows.Histories.{ShowsHistory, rows_of}
-use Rattle.desk_store.specs.Pasts.{kept}
 use Rattle.desk_store.proofs.CommitLemmas.{answered, committed, next_trees}
 use Rattle.desk_store.proofs.acting.run.Goals as goal
 
@@ -32,27 +29,27 @@ returns-in-Err-clause-err g c =
 pub returns-in-Ok-commit-clause-ok : goal.returns-in-Ok-commit-clause-ok
 returns-in-Ok-commit-clause-ok g c =
     let old = c.args.conn.now in
-    let call = called c.args.caller.now c.args.key.now c.args.command.now in
+    let call = c.args.call.now in
     let last = c.act.new.tx.conn.now in
     let e = c.in-Ok.ensures in
-    let did = worked g.S.Store old _ last (Acts (kept c.args.figures (option_copied c.args.kept_person)) call c.in-Ok.acted) c.transaction-tx.ensures.begun e.value e.inside e.kept e.survives in
+    let did = worked g.S.Store old _ last (Acts c.args.remembered call c.in-Ok.acted) c.transaction-tx.ensures.begun e.value e.inside e.kept e.survives in
     let same : c.commit.new.self.0 ≡ c.conn-then-is_accepted-1.given.0 = search rules in
-    subst (λ (x : Held _). HasCleanDisk (state g.S.Store x) → Runs (kept c.args.figures (option_copied c.args.kept_person)) call c.in-Ok.acted (state g.S.Store old) (state g.S.Store x)) same
-    (λ clean. committed g.S.Store old last (kept c.args.figures (option_copied c.args.kept_person)) call c.in-Ok.acted did c.commit.new.self.0
+    subst (λ (x : Held _). HasCleanDisk (state g.S.Store x) → Runs c.args.remembered call c.in-Ok.acted (state g.S.Store old) (state g.S.Store x)) same
+    (λ clean. committed g.S.Store old last c.args.remembered call c.in-Ok.acted did c.commit.new.self.0
     (omega (arith, c.in-Ok-commit.ensures.survives.clean, clean)) (c.in-Ok-commit.ensures.ok clean).1)
 
 pub returns-in-Ok-commit-clause-survives : goal.returns-in-Ok-commit-clause-survives
 returns-in-Ok-commit-clause-survives g c =
     let old = c.args.conn.now in
-    let call = called c.args.caller.now c.args.key.now c.args.command.now in
+    let call = c.args.call.now in
     let last = c.act.new.tx.conn.now in
-    let acts = Acts (kept c.args.figures (option_copied c.args.kept_person)) call c.in-Ok.acted in
+    let acts = Acts c.args.remembered call c.in-Ok.acted in
     let e = c.in-Ok.ensures in
     let did = worked g.S.Store old _ last acts c.transaction-tx.ensures.begun e.value e.inside e.kept e.survives in
     let same : c.commit.new.self.0 ≡ c.conn-then-is_accepted-1.given.0 = search rules in
-    subst (λ (x : Held _). Survives (state g.S.Store old) (state g.S.Store x) (LeavesNext (state g.S.Store old) (kept c.args.figures (option_copied c.args.kept_person)) call)) same
-    (leaves_made g.S.Store old last c.commit.new.self.0 acts (LeavesNext (state g.S.Store old) (kept c.args.figures (option_copied c.args.kept_person)) call) did c.in-Ok-commit.ensures.survives
-    (next_trees g.S.Store old last (kept c.args.figures (option_copied c.args.kept_person)) call c.in-Ok.acted did (sym c.is_accepted.ensures ∙ c.if-is_accepted.true)))
+    subst (λ (x : Held _). Survives (state g.S.Store old) (state g.S.Store x) (LeavesNext (state g.S.Store old) c.args.remembered call)) same
+    (leaves_made g.S.Store old last c.commit.new.self.0 acts (LeavesNext (state g.S.Store old) c.args.remembered call) did c.in-Ok-commit.ensures.survives
+    (next_trees g.S.Store old last c.args.remembered call c.in-Ok.acted did (sym c.is_accepted.ensures ∙ c.if-is_accepted.true)))
 
 -- accepted, and the commit failed
 
@@ -60,7 +57,7 @@ pub returns-in-Err-commit-clause-err : goal.returns-in-Err-commit-clause-err
 returns-in-Err-commit-clause-err g c clean other =
     let old = c.args.conn.now in
     let last = c.act.new.tx.conn.now in
-    let acts = Acts (kept c.args.figures (option_copied c.args.kept_person)) (called c.args.caller.now c.args.key.now c.args.command.now) c.in-Ok.acted in
+    let acts = Acts c.args.remembered c.args.call.now c.in-Ok.acted in
     let e = c.in-Ok.ensures in
     let did = worked g.S.Store old _ last acts c.transaction-tx.ensures.begun e.value e.inside e.kept e.survives in
     λ owner cs shows. failed_shows g.S.Store old last c.commit.new.self.0 c.conn-then-is_accepted-1.given.0 c.failed_commit.new.conn acts c.in-Err-commit.error did
@@ -71,7 +68,7 @@ pub returns-in-Err-commit-clause-unwritten : goal.returns-in-Err-commit-clause-u
 returns-in-Err-commit-clause-unwritten g c other =
     let old = c.args.conn.now in
     let last = c.act.new.tx.conn.now in
-    let acts = Acts (kept c.args.figures (option_copied c.args.kept_person)) (called c.args.caller.now c.args.key.now c.args.command.now) c.in-Ok.acted in
+    let acts = Acts c.args.remembered c.args.call.now c.in-Ok.acted in
     let e = c.in-Ok.ensures in
     let did = worked g.S.Store old _ last acts c.transaction-tx.ensures.begun e.value e.inside e.kept e.survives in
     failed_spares g.S.Store old last c.commit.new.self.0 c.conn-then-is_accepted-1.given.0 c.failed_commit.new.conn acts c.in-Err-commit.error did
@@ -82,37 +79,37 @@ returns-in-Err-commit-clause-unwritten g c other =
 pub returns-in-Err-commit-clause-survives : goal.returns-in-Err-commit-clause-survives
 returns-in-Err-commit-clause-survives g c =
     let old = c.args.conn.now in
-    let call = called c.args.caller.now c.args.key.now c.args.command.now in
+    let call = c.args.call.now in
     let last = c.act.new.tx.conn.now in
-    let acts = Acts (kept c.args.figures (option_copied c.args.kept_person)) call c.in-Ok.acted in
+    let acts = Acts c.args.remembered call c.in-Ok.acted in
     let e = c.in-Ok.ensures in
     let did = worked g.S.Store old _ last acts c.transaction-tx.ensures.begun e.value e.inside e.kept e.survives in
     failed_leaves g.S.Store old last c.commit.new.self.0 c.conn-then-is_accepted-1.given.0 c.failed_commit.new.conn acts c.in-Err-commit.error did
     (search rules) c.in-Err-commit.ensures.survives c.in-Err-commit.ensures.err c.failed_commit.ensures.survives
-    (LeavesNext (state g.S.Store old) (kept c.args.figures (option_copied c.args.kept_person)) call)
-    (next_trees g.S.Store old last (kept c.args.figures (option_copied c.args.kept_person)) call c.in-Ok.acted did (sym c.is_accepted.ensures ∙ c.if-is_accepted.true))
+    (LeavesNext (state g.S.Store old) c.args.remembered call)
+    (next_trees g.S.Store old last c.args.remembered call c.in-Ok.acted did (sym c.is_accepted.ensures ∙ c.if-is_accepted.true))
 
 -- not accepted, and rolled back
 pub returns-clause-ok : goal.returns-clause-ok
 returns-clause-ok g c =
     let old = c.args.conn.now in
-    let call = called c.args.caller.now c.args.key.now c.args.command.now in
+    let call = c.args.call.now in
     let last = c.act.new.tx.conn.now in
     let e = c.in-Ok.ensures in
-    let did = worked g.S.Store old _ last (Acts (kept c.args.figures (option_copied c.args.kept_person)) call c.in-Ok.acted) c.transaction-tx.ensures.begun e.value e.inside e.kept e.survives in
+    let did = worked g.S.Store old _ last (Acts c.args.remembered call c.in-Ok.acted) c.transaction-tx.ensures.begun e.value e.inside e.kept e.survives in
     let same : c.rollback.new.self.0 ≡ c.conn-2-1.given.0 = search rules in
-    subst (λ (x : Held _). HasCleanDisk (state g.S.Store x) → Runs (kept c.args.figures (option_copied c.args.kept_person)) call c.in-Ok.acted (state g.S.Store old) (state g.S.Store x)) same
-    (λ clean. answered g.S.Store old last (kept c.args.figures (option_copied c.args.kept_person)) call c.in-Ok.acted did c.rollback.new.self.0 c.rollback.ensures.survives
+    subst (λ (x : Held _). HasCleanDisk (state g.S.Store x) → Runs c.args.remembered call c.in-Ok.acted (state g.S.Store old) (state g.S.Store x)) same
+    (λ clean. answered g.S.Store old last c.args.remembered call c.in-Ok.acted did c.rollback.new.self.0 c.rollback.ensures.survives
     (sym c.is_accepted.ensures ∙ c.if-is_accepted.false) (c.rollback.ensures.undone clean) clean)
 
 pub returns-clause-survives : goal.returns-clause-survives
 returns-clause-survives g c =
     let old = c.args.conn.now in
-    let call = called c.args.caller.now c.args.key.now c.args.command.now in
+    let call = c.args.call.now in
     let end = c.rollback.new.self.0 in
     let e = c.in-Ok.ensures in
-    let did = worked g.S.Store old _ c.act.new.tx.conn.now (Acts (kept c.args.figures (option_copied c.args.kept_person)) call c.in-Ok.acted) c.transaction-tx.ensures.begun e.value e.inside e.kept e.survives in
+    let did = worked g.S.Store old _ c.act.new.tx.conn.now (Acts c.args.remembered call c.in-Ok.acted) c.transaction-tx.ensures.begun e.value e.inside e.kept e.survives in
     let same : c.rollback.new.self.0 ≡ c.conn-2-1.given.0 = search rules in
-    subst (λ (x : Held _). Survives (state g.S.Store old) (state g.S.Store x) (LeavesNext (state g.S.Store old) (kept c.args.figures (option_copied c.args.kept_person)) call)) same
-    (leaves_more (LeavesNext (state g.S.Store old) (kept c.args.figures (option_copied c.args.kept_person)) call) (state g.S.Store old) (state g.S.Store end)
+    subst (λ (x : Held _). Survives (state g.S.Store old) (state g.S.Store x) (LeavesNext (state g.S.Store old) c.args.remembered call)) same
+    (leaves_more (LeavesNext (state g.S.Store old) c.args.remembered call) (state g.S.Store old) (state g.S.Store end)
     (through g.S.Store old c.act.new.tx.conn.now end did.spares c.rollback.ensures.survives))

@@ -7,6 +7,8 @@ use Rattle.desk_history.specs.Calls.{History}
 use Rattle.desk_history.specs.Formed.{IsHistory}
 use Rattle.store_sql.proofs.CommitLemmas.{begun, undone_shows}
 use Rattle.store_schema.specs.Tables.{desk_schema}
+use Rattle.store_exports.specs.Exporting.{StaysOf}
+use Rattle.store_exports.proofs.StepLemmas.{undone}
 use Rattle.desk_store.proofs.QuestionLemmas.{read_told}
 use Rattle.desk_store.proofs.asking.ask.Goals as goal
 
@@ -36,3 +38,14 @@ returns-clause-ok g c =
     same (λ clean. let late : HasCleanDisk (state g.S.Store last) = omega (arith, c.rollback.ensures.survives.clean, clean) in
     read_told g.S.Store old last (g.Q.Question.tells question) c.read-read.result spared late
     ((rw c.transaction-tx.ensures.begun at (did.value late)) refl) ((rw c.transaction-tx.ensures.begun at (did.inside late)) refl))
+
+pub returns-clause-stays : goal.returns-clause-stays
+returns-clause-stays g c =
+    let old = c.args.conn.now in
+    let last = c.read-read.new.tx.conn.now in
+    let did = c.read-read.ensures in
+    let spared : Survives (begun g.S.Store old) (state g.S.Store last) (λ _. ⊥) = rw c.transaction-tx.ensures.begun at did.survives in
+    let kept : HasCleanDisk (state g.S.Store last) → KeepsCommit (begun g.S.Store old) (state g.S.Store last) = λ clean. (rw c.transaction-tx.ensures.begun at (did.kept clean)) refl in
+    let same : c.rollback.new.self.0 ≡ c.conn-1.given.0 = search rules in
+    subst (λ (x : Held _). StaysOf (state g.S.Store old) (state g.S.Store x)) same
+    (undone g.S.Store old last c.rollback.new.self.0 c.rollback.ensures.ended spared c.rollback.ensures.survives kept c.rollback.ensures.undone)

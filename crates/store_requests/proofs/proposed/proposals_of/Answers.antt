@@ -66,5 +66,5 @@ returns-clause-value g c clean inside =
     let yes_ : is_officer reader.role ≡ true = search rules in
     tells_of s0 s2 (λ t. (IsOneOf kept t.people → filter (has_name name) t.people ≡ listed found) × AreListed shown.items t)
     (λ cs. IsOneOf kept (people cs) → IsGiven (proposals_for cs (callers.Person name)) (Ok shown) (λ ps v. v.items ≡ map (shown_proposal cs) ps))
-    (λ owner cs h all known. gives_all owner cs name reader (subst (λ o. filter (has_name name) (people cs) ≡ listed o) some (all.0 known)) yes_ (c.stamps_are_above_none.ensures owner cs h) shown (λ v. v.items) all.1)
+    (λ owner cs h all known. gives_all owner cs name reader (subst (λ o. filter (has_name name) (people cs) ≡ listed o) some (all.0 known)) yes_ (c.proposals_are_listable.ensures owner cs h) shown (λ v. v.items) all.1)
     (tells_then s0 s1 s2 (λ t. IsOneOf kept t.people → filter (has_name name) t.people ≡ listed found) (AreListed shown.items) first second)

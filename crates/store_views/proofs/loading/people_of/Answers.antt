@@ -23,7 +23,7 @@ returns-in_default-clause-value g c clean inside =
     let rows = c.push_some.new.rows.items in
     let is : rows ≡ listed own = subst (λ l. rows ≡ l ++ listed own) c.new-people.ensures.items c.in_ok-push_some.ensures in
     let none : added_by c.args.command.now ≡ None = search (rules, c.person_added.ensures, c.in_default.is) in
-    let kept = option_copied c.args.kept_person in
+    let kept = option_copied c.args.remembered_person in
     tells_so first last (λ t. IsOneOf kept t.people → filter (has_name caller) t.people ≡ listed own) (λ t. IsOneOf kept t.people → ShowsPeople rows t caller c.args.command.now)
     (λ t read known. shows_caller t caller c.args.command.now own (read known) rows none is)
     (subst (λ n. ReadsTables (λ t. IsOneOf kept t.people → filter (has_name n) t.people ≡ listed own) first last) c.name.ensures (c.in_ok-own.ensures.value clean inside))
@@ -43,7 +43,7 @@ returns-clause-value g c clean inside =
     let namesake = c.in_ok-namesake.namesake in
     let holder = c.in_ok-holder.holder in
     let rows = c.push_some-3.new.rows.items in
-    let a = subst (λ n. ReadsTables (λ t. IsOneOf (option_copied c.args.kept_person) t.people → filter (has_name n) t.people ≡ listed own) s0 s1) c.name.ensures (c.in_ok-own.ensures.value c1 inside) in
+    let a = subst (λ n. ReadsTables (λ t. IsOneOf (option_copied c.args.remembered_person) t.people → filter (has_name n) t.people ≡ listed own) s0 s1) c.name.ensures (c.in_ok-own.ensures.value c1 inside) in
     let b = subst (λ n. ReadsTables (λ t. filter (has_name n) t.people ≡ listed namesake) s1 s2) c.as_str.ensures.value (c.in_ok-namesake.ensures.value c2 a.kept.inside) in
     let d = c.in_ok-holder.ensures.value clean b.kept.inside in
     let some : added_by command ≡ Some person = search (rules, c.person_added.ensures, c.in-Some.is) in

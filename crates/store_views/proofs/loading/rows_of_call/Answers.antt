@@ -32,5 +32,14 @@ returns-clause-value g c clean inside =
           let sees2 = b.kept.value t sees1 in
           let sees3 = d.kept.value t sees2 in
           let sees4 = e.kept.value t sees3 in
-          record { people = a.tells t sees known; call = b.tells t sees1 back.calls; request = d.tells t sees2; votes = e.tells t sees3; proposal = f.tells t sees4 back.proposals };
+          rw (← c.call.view_is) (record { people = a.tells t sees known; call = b.tells t sees1 back.calls; request = d.tells t sees2; votes = e.tells t sees3; proposal = f.tells t sees4 back.proposals });
     }
+
+pub returns-clause-only : goal.returns-clause-only
+returns-clause-only g c = rw (← c.call.view_is) (record {
+  people = c.in_ok-people.ensures.only;
+  calls = c.in_ok-calls.ensures.only;
+  requests = c.in_ok-requests.ensures.only;
+  votes = c.in_ok-votes.ensures.only;
+  proposals = c.in_ok-proposals.ensures.only;
+})

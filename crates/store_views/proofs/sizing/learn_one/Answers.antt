@@ -13,10 +13,10 @@ returns-clause-value g c clean inside =
     let counted = c.in_ok-counted.counted in
     tells_so (state g.S.Store c.args.tx.now.conn.now) (state g.S.Store c.count_of.new.tx.conn.now)
     (λ t. counted ≡ rows_in t c.args.table) (λ t. AreRight before t → AreRight after t)
-    (λ t is right. right_size before after t counted c.args.table is c.with_size.ensures.told c.with_size.ensures.kept right)
+    (λ t is right. right_size before after t counted c.args.table is c.with_size.ensures.told c.with_size.ensures.others right)
     (c.in_ok-counted.ensures.value clean inside)
 
 pub returns-clause-learnt : goal.returns-clause-learnt
 returns-clause-learnt g c =
     let lacking : is_lacking c.args.command.now c.args.table c.args.sizes ≡ true = search (rules, c.is_lacking.ensures, c.if-not-is_lacking.false) in
-    learns_size c.args.command.now c.args.table c.args.sizes c.with_size.result c.in_ok-counted.counted lacking c.with_size.ensures.told c.with_size.ensures.kept
+    learns_size c.args.command.now c.args.table c.args.sizes c.with_size.result c.in_ok-counted.counted lacking c.with_size.ensures.told c.with_size.ensures.others

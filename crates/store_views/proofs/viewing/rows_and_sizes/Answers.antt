@@ -1,4 +1,4 @@
-use Rattle.std.proofs.Common.{◌∙◌, ap, arith, subst}
+use Rattle.std.proofs.Common.{◌∙◌, ap, arith, subst, sym}
 use Rattle.std.specs.Prelude.{find, option_copied}
 use Rattle.sqlite.specs.Held.{state}
 use Rattle.sqlite.specs.State.{HasCleanDisk}
@@ -7,6 +7,7 @@ use Rattle.store_sql.proofs.StopLemmas.{changes_then}
 use Rattle.store_schema.specs.Tables.{desk_schema}
 use Rattle.desk_rules.specs.Shown.{is_proposal_row}
 use Rattle.desk_rules.specs.Views.{ShowsLists}
+use Rattle.store_reads.specs.People.{IsOneOf}
 use Rattle.store_views.specs.lists.Lists.{HoldsNoOther}
 use Rattle.store_views.proofs.NamedLemmas.{keys_same}
 use Rattle.store_views.proofs.viewing.rows_and_sizes.Goals as goal
@@ -24,12 +25,12 @@ returns-clause-value g c clean inside =
     let e = c.in_ok-known.ensures.value clean d.kept.inside in
     record {
       kept = changes_then desk_schema contents s0 s1 s3 (λ t. t) (λ t. t) b.kept (changes_then desk_schema contents s1 s2 s3 (λ t. t) (λ t. t) d.kept e.kept);
-      tells = λ t sees back kept current.
+      tells = λ t sees back current. rw (← c.call.view_is) (
           let sees1 = b.kept.value t sees in
           let sees2 = d.kept.value t sees1 in
-          let rows = b.tells t sees back kept in
+          let rows = rw (← c.call.view_is) at b.tells t sees back (subst (λ o. IsOneOf o t.people) (sym c.as_ref.ensures.value) current.person) in
           let known = e.tells t sees2 current.sizes in
-          let told = c.sizes.ensures t c.args.command.now known c.in_ok-known.ensures.learnt.enough in (
+          let told = c.sizes.ensures t c.call.inside.command.now known c.in_ok-known.ensures.learnt.enough in (
             record {
               stamp = current.stamp;
               count = told.calls;
@@ -42,24 +43,27 @@ returns-clause-value g c clean inside =
               votes = rows.votes;
               proposal = rows.proposal;
               lists = subst (λ k. ShowsLists c.in_ok-lists.lists t k)
-                  (keys_same c.args.command.now (option_copied c.named_row-proposal.result) (λ k. find (is_proposal_row k) t.proposals) (λ k named. c.named_row-proposal.ensures k named ∙ (ap (λ l. find (is_proposal_row k) l) c.deref.ensures.value ∙ rows.proposal k named)))
+                  (keys_same c.call.inside.command.now (option_copied c.named_row-proposal.result) (λ k. find (is_proposal_row k) t.proposals) (λ k named. c.named_row-proposal.ensures k named ∙ (ap (λ l. find (is_proposal_row k) l) c.deref.ensures.value ∙ rows.proposal k named)))
                   (d.tells t sees1);
             },
             known,
-          );
+          ));
     }
 
 pub returns-clause-only : goal.returns-clause-only
 returns-clause-only g c =
-    let held = c.in_ok-rows.ensures.only in
-    record {
+    let held = rw (← c.call.view_is) at c.in_ok-rows.ensures.only in
+    rw (← c.call.view_is) (record {
       people = held.people;
       calls = held.calls;
       requests = held.requests;
       votes = held.votes;
       proposals = held.proposals;
       lists = subst (λ k. HoldsNoOther c.in_ok-lists.lists k)
-          (keys_same c.args.command.now (option_copied c.named_row-proposal.result) (λ k. find (is_proposal_row k) c.in_ok-rows.rows.proposals.items)
+          (keys_same c.call.inside.command.now (option_copied c.named_row-proposal.result) (λ k. find (is_proposal_row k) c.in_ok-rows.rows.proposals.items)
           (λ k named. c.named_row-proposal.ensures k named ∙ ap (λ l. find (is_proposal_row k) l) c.deref.ensures.value))
           c.in_ok-lists.ensures.only;
-    }
+    })
+
+pub returns-clause-learnt : goal.returns-clause-learnt
+returns-clause-learnt g c = rw (← c.call.view_is) c.in_ok-known.ensures.learnt

@@ -1,4 +1,4 @@
-use Rattle.desk_rules.specs.Decisions.{called}
+use Rattle.desk_history.specs.Called.{called}
 use Rattle.desk_answers.proofs.DeskLemmas.{refused_rules, refused_same}
 use Rattle.desk_answers.proofs.answering.OpenDeskAnswering.apply.Goals as goal
 

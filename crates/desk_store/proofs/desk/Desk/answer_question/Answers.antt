@@ -12,7 +12,7 @@ returns-in-Ok-clause-reads g c =
     let old = c.args.self.now in
     let new : Desk _ = record c.args.self.now { conn = c.ask.new.conn } in
     record {
-      same = λ clean other owner cs was. reads_shown g.S.Store old new c.in-Ok.ensures.survives was.usable (c.in-Ok.ensures.same clean) refl refl refl owner cs was;
+      same = λ clean other owner cs was. reads_shown g.S.Store old new c.in-Ok.ensures.survives was.usable (c.in-Ok.ensures.same clean) refl refl owner cs was;
       spares = c.in-Ok.ensures.survives;
       poisons = search rules;
       steady = λ other. refl;
@@ -28,7 +28,7 @@ returns-in-Err-clause-reads g c =
       same = λ clean other owner cs was.
           let differs : c.in-Err.failure ≢ refusals.Store = λ is. other (ap Err is) in
           let usable : c.eq-self.result ≡ false = (let e = c.eq-self.ensures in search (rules, e, differs)) in
-          reads_shown g.S.Store old new c.in-Err.ensures.survives usable (c.in-Err.ensures.same clean) refl refl refl owner cs was;
+          reads_shown g.S.Store old new c.in-Err.ensures.survives usable (c.in-Err.ensures.same clean) refl refl owner cs was;
       spares = c.in-Err.ensures.survives;
       poisons = search rules;
       steady = search rules;

@@ -5,7 +5,7 @@ use Rattle.desk_history.specs.Formed.{IsItem}
 use Rattle.desk_history.specs.Tables.{tables}
 use Rattle.store_schema.specs.Tables.{desk_schema, no_schema}
 use Rattle.store_schema.specs.rows.Histories.{rows_of}
-use Rattle.desk_store.proofs.FigureLemmas.{stamp_is_current}
+use Rattle.desk_store.proofs.RememberedLemmas.{stamp_is_current}
 use Rattle.desk_store.proofs.desk.Desk.create.Goals as goal
 
 pub returns-in-Ok-clause-ok : goal.returns-in-Ok-clause-ok
@@ -19,8 +19,7 @@ returns-in-Ok-clause-ok g c clean =
       history = record { legal = refl; formed = All-nil IsItem };
       shows = shows;
       own = refl;
-      figures = stamp_is_current c.of_stamp.result (tables owner []) c.original.result c.of_stamp.ensures.told c.of_stamp.ensures.unknown c.original.ensures;
-      person = tt;
+      remembered = stamp_is_current c.of_stamp.result (tables owner []) c.original.result c.of_stamp.ensures.told c.of_stamp.ensures.unknown c.of_stamp.ensures.nobody c.original.ensures;
       left = c.stop_leaves_what_is_shown.ensures desk_schema (rows_of owner []) shows made.0;
     }
 

@@ -12,15 +12,15 @@ use Rattle.desk_store.specs.declared.desk.Desk.{Desk}
 use Rattle.desk_store.proofs.DeskLemmas.{reads_shown}
 use Rattle.desk_store.proofs.desk.Desk.export.Goals as goal
 
--- with the owner and the stamp that the desk keeps, an export is that of the history
-of_desk : (what : Export) (kept owner : List ℕ) (now : ℕ) (cs : History) → kept ≡ owner → now ≡ stamp cs → exported_with what kept now cs ≡ exported what owner cs
-of_desk what kept owner now cs own is = exported_by_stamp what kept now cs is ∙ ap (λ o. exported what o cs) own
+-- with the owner and the stamp that the desk has, an export is that of the history
+of_desk : (what : Export) (own owner : List ℕ) (now : ℕ) (cs : History) → own ≡ owner → now ≡ stamp cs → exported_with what own now cs ≡ exported what owner cs
+of_desk what own owner now cs same is = exported_by_stamp what own now cs is ∙ ap (λ o. exported what o cs) same
 
 pub returns-in-Ok-clause-same : goal.returns-in-Ok-clause-same
 returns-in-Ok-clause-same g c clean other owner cs was =
     let old = c.args.self.now in
     let new : Desk _ = record c.args.self.now { conn = c.export.new.conn } in
-    reads_shown g.S.Store old new (c.in-Ok.ensures.spares owner cs was.shows) was.usable c.in-Ok.ensures.same refl refl refl owner cs was
+    reads_shown g.S.Store old new (c.in-Ok.ensures.spares owner cs was.shows) was.usable c.in-Ok.ensures.same refl refl owner cs was
 
 pub returns-in-Err-clause-same : goal.returns-in-Err-clause-same
 returns-in-Err-clause-same g c clean other owner cs was =
@@ -28,7 +28,7 @@ returns-in-Err-clause-same g c clean other owner cs was =
     let new : Desk _ = record c.args.self.now { conn = c.export.new.conn; needs_reopening = c.eq-self.result } in
     let differs : c.in-Err.failure ≢ refusals.Store = λ is. other (ap Err is) in
     let usable : c.eq-self.result ≡ false = (let e = c.eq-self.ensures in search (rules, e, differs)) in
-    reads_shown g.S.Store old new (c.in-Err.ensures.spares owner cs was.shows) usable c.in-Err.ensures.same refl refl refl owner cs was
+    reads_shown g.S.Store old new (c.in-Err.ensures.spares owner cs was.shows) usable c.in-Err.ensures.same refl refl owner cs was
 
 pub returns-in-Ok-clause-spares : goal.returns-in-Ok-clause-spares
 returns-in-Ok-clause-spares g c owner cs was = c.in-Ok.ensures.spares owner cs was.shows
@@ -39,11 +39,11 @@ returns-in-Err-clause-spares g c owner cs was = c.in-Err.ensures.spares owner cs
 pub returns-in-Ok-clause-ok : goal.returns-in-Ok-clause-ok
 returns-in-Ok-clause-ok g c clean owner cs was =
     let desk = c.args.self.now in
-    subst (Appends (g.W.Write.contents c.args.writer.now) (g.W.Write.contents c.export.new.writer)) (of_desk c.args.what desk.owner owner desk.figures.stamp cs was.own was.figures.stamp)
+    subst (Appends (g.W.Write.contents c.args.writer.now) (g.W.Write.contents c.export.new.writer)) (of_desk c.args.what desk.owner owner desk.remembered.stamp cs was.own was.remembered.stamp)
     (c.in-Ok.ensures.ok clean owner cs was.shows)
 
 pub returns-in-Err-clause-beginning : goal.returns-in-Err-clause-beginning
 returns-in-Err-clause-beginning g c clean owner cs was =
     let desk = c.args.self.now in
-    subst (AppendsBeginning (g.W.Write.contents c.args.writer.now) (g.W.Write.contents c.export.new.writer)) (of_desk c.args.what desk.owner owner desk.figures.stamp cs was.own was.figures.stamp)
+    subst (AppendsBeginning (g.W.Write.contents c.args.writer.now) (g.W.Write.contents c.export.new.writer)) (of_desk c.args.what desk.owner owner desk.remembered.stamp cs was.own was.remembered.stamp)
     (c.in-Err.ensures.beginning clean owner cs was.shows)

@@ -11,7 +11,7 @@ use Rattle.store_schema.specs.Tables.{desk_schema, first_schema}
 use Rattle.desk_store.specs.Headline.{HoldsLives}
 use Rattle.desk_store.proofs.OpeningLemmas.{still_leaves}
 use Rattle.desk_store.proofs.ReopeningLemmas.{no_failure, no_version, not_missing}
-use Rattle.desk_store.proofs.FigureLemmas.{stamp_is_current}
+use Rattle.desk_store.proofs.RememberedLemmas.{stamp_is_current}
 use Rattle.desk_store.proofs.VersionLemmas.{first_fails, second_fails, second_spared}
 use Rattle.desk_store.proofs.desk.Desk.open.Goals as goal
 
@@ -25,8 +25,7 @@ returns-in-Ok-clause-ok g c clean owner cs history shows left =
       history = history;
       shows = c.in-Ok.ensures.second clean owner cs shows;
       own = own.0;
-      figures = stamp_is_current c.of_stamp.result (tables owner cs) c.in-Ok.own.stamp c.of_stamp.ensures.told c.of_stamp.ensures.unknown own.1;
-      person = tt;
+      remembered = stamp_is_current c.of_stamp.result (tables owner cs) c.in-Ok.own.stamp c.of_stamp.ensures.told c.of_stamp.ensures.unknown c.of_stamp.ensures.nobody own.1;
       left = still_leaves (λ db. HoldsHistory db owner cs) old new (second_spared old owner cs new c.in-Ok.ensures.survives shows) left;
     }
 
@@ -39,8 +38,7 @@ returns-in-Ok-clause-migrated g c clean owner cs history early =
       history = history;
       shows = made.1;
       own = own.0;
-      figures = stamp_is_current c.of_stamp.result (tables owner cs) c.in-Ok.own.stamp c.of_stamp.ensures.told c.of_stamp.ensures.unknown own.1;
-      person = tt;
+      remembered = stamp_is_current c.of_stamp.result (tables owner cs) c.in-Ok.own.stamp c.of_stamp.ensures.told c.of_stamp.ensures.unknown c.of_stamp.ensures.nobody own.1;
       left = c.stop_leaves_what_is_shown-in-Ok.ensures desk_schema (rows_of owner cs) made.1 made.0;
     }
 

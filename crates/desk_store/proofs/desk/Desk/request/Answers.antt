@@ -10,25 +10,25 @@ use Rattle.desk_store.proofs.desk.Desk.request.Goals as goal
 pub returns-in-Ok-clause-shown : goal.returns-in-Ok-clause-shown
 returns-in-Ok-clause-shown g c clean =
     let old = c.args.self.now in
-    let taken = c.take-kept_person in
+    let taken = c.take-person in
     let k = c.args.number in
     given_ok g.S.Store old (λ cs. request_for cs c.args.caller.now k) (λ cs. IsShown) c.in-Ok.given
-    (λ owner cs was. subst (λ who. IsGiven (request_for cs who k) c.in-Ok.given IsShown) (sym c.in-Person.is) (c.in-Ok.ensures.shown clean owner cs (without_person g.S.Store old taken.new.self taken.ensures.after owner cs was) (subst (λ o. IsOneOf o (people cs)) (sym taken.ensures.value) was.person)))
+    (λ owner cs was. subst (λ who. IsGiven (request_for cs who k) c.in-Ok.given IsShown) (sym c.in-Person.is) (c.in-Ok.ensures.shown clean owner cs (without_person g.S.Store old taken.new.self taken.ensures.after owner cs was) (subst (λ o. IsOneOf o (people cs)) (sym taken.ensures.value) was.remembered.person)))
 
 pub returns-in-Ok-clause-refused : goal.returns-in-Ok-clause-refused
 returns-in-Ok-clause-refused g c clean =
     let old = c.args.self.now in
-    let taken = c.take-kept_person in
+    let taken = c.take-person in
     let k = c.args.number in
     given_err g.S.Store old (λ cs. request_for cs c.args.caller.now k) (λ cs. IsShown) c.in-Ok.given
-    (λ owner cs was. subst (λ who. IsGiven (request_for cs who k) c.in-Ok.given IsShown) (sym c.in-Person.is) (c.in-Ok.ensures.shown clean owner cs (without_person g.S.Store old taken.new.self taken.ensures.after owner cs was) (subst (λ o. IsOneOf o (people cs)) (sym taken.ensures.value) was.person)))
+    (λ owner cs was. subst (λ who. IsGiven (request_for cs who k) c.in-Ok.given IsShown) (sym c.in-Person.is) (c.in-Ok.ensures.shown clean owner cs (without_person g.S.Store old taken.new.self taken.ensures.after owner cs was) (subst (λ o. IsOneOf o (people cs)) (sym taken.ensures.value) was.remembered.person)))
 
 pub returns-in-Ok-clause-reads : goal.returns-in-Ok-clause-reads
 returns-in-Ok-clause-reads g c =
-    let it = reads_taken g.S.Store IsFailure c.args.self.now c.answer_question.new.self c.take-kept_person.new.self c.take-kept_person.ensures.after (Ok c.in-Ok.given) c.if-self.false c.in-Ok.ensures.reads in
+    let it = reads_taken g.S.Store IsFailure c.args.self.now c.answer_question.new.self c.take-person.new.self c.take-person.ensures.after (Ok c.in-Ok.given) c.if-self.false c.in-Ok.ensures.reads in
     search (rules, it)
 
 pub returns-clause-reads : goal.returns-clause-reads
 returns-clause-reads g c =
-    let it = reads_taken g.S.Store IsFailure c.args.self.now c.answer_question.new.self c.take-kept_person.new.self c.take-kept_person.ensures.after (Err c.in-Err.failure) c.if-self.false c.in-Err.ensures.reads in
+    let it = reads_taken g.S.Store IsFailure c.args.self.now c.answer_question.new.self c.take-person.new.self c.take-person.ensures.after (Err c.in-Err.failure) c.if-self.false c.in-Err.ensures.reads in
     search (rules, it)

@@ -13,5 +13,5 @@ returns-in-Ok-clause-value g c clean inside =
     let who = callers.Person c.args.self.now.name.now in
     let s0 = state g.S.Store c.args.tx.now.conn.now in
     let s1 = state g.S.Store c.request.new.tx.conn.now in
-    of_history s0 s1 (λ cs. IsOneOf c.args.self.now.kept_person.now (people cs) → GivesRequest cs who c.args.self.now.number c.in-Ok.given)
+    of_history s0 s1 (λ cs. IsOneOf c.args.self.now.person.now (people cs) → GivesRequest cs who c.args.self.now.number c.in-Ok.given)
     (subst (λ kept. TellsOf (λ cs. IsOneOf kept (people cs) → GivesRequest cs who c.args.self.now.number c.in-Ok.given) s0 s1) c.as_ref.ensures.value (c.in-Ok.ensures.value clean inside))

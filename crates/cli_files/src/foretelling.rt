@@ -1,0 +1,63 @@
+//! The impact of a proposal to the desk in a file.
+ghost use Rattle.std.specs.Prelude.{◌≡◌, ◌⊎◌, None, IfErr, IfSome};
+ghost use Rattle.std.specs.Io.KnownBytes.{Keeps};
+ghost use Rattle.cli_lines.specs.Faults.{IsRow};
+ghost use Rattle.cli_files.specs.Works.{WritesImpact};
+ghost use Rattle.cli_commands.specs.Faults.{IsForetellingRefusal};
+ghost use Rattle.cli_opening.specs.Faults.{IsClosingRefusal, IsLasting};
+ghost use Rattle.cli_opening.specs.Faults.{IsOfOpening, IsOpeningRefusal};
+ghost use Rattle.cli_opening.specs.Works.{AtADesk, IsUnopened};
+
+use cli_commands::foretell;
+use cli_lines::Ending;
+use cli_opening::{close_after, open};
+use desk_store::Desk;
+use desk_texts::ProposalNumber;
+use sqlite::{File, FileStore};
+use sqlite_disk::Disk;
+use std::io::Write;
+
+/// Writes the impact of a proposal to an open desk over files, and closes the desk.
+fn foretell_at<D: Disk + Drop, W: Write>(
+    mut desk: Desk<FileStore<D>>,
+    number: ProposalNumber,
+    writer: &mut W,
+) -> Ending
+    ensures foretold { WritesImpact D.Disk number
+        (W.contents writer.old) (W.contents writer.new) result desk }
+    ensures named { IfErr result.work (IsRow IsForetellingRefusal) }
+    ensures closing { IfSome result.closing (IsRow IsClosingRefusal) }
+    ensures let_go { IfErr result.work (λ fault. IsLasting fault.refusal → result.closing ≡ None) }
+{
+    let work = foretell(&mut desk, number, writer);
+    close_after(desk, work)
+}
+
+/// Writes the impact of the proposal of this number to the desk in a file: a line for each image
+/// that another officer's Confirm would bar, and the length of dbx afterwards. The outcome is
+/// `Refused` if one of these images is allowed now. The desk doesn't change.
+///
+/// The faults of the desk's file come first, as for `add_person`; then the refusal that the Confirm
+/// would get, then Store, Reopen or Write. Nothing is written but after Write, which may leave a
+/// prefix of the lines.
+pub fn foretell_from<W: Write>(
+    rt: &HostRuntime,
+    path: &str,
+    number: ProposalNumber,
+    writer: &mut W,
+) -> Ending
+    ensures foretold { (IsUnopened result × Keeps (W.contents writer.old) (W.contents writer.new))
+        ⊎ AtADesk (WritesImpact ⟦<File as Disk>⟧ number
+        (W.contents writer.old) (W.contents writer.new) result) }
+    ensures named { IfErr result.work (IsRow (λ refusal.
+        IsOpeningRefusal refusal ⊎ IsForetellingRefusal refusal)) }
+    ensures first { IfErr result.work (λ fault. IsOfOpening fault.refusal
+        → (result.closing ≡ None) × Keeps (W.contents writer.old) (W.contents writer.new)) }
+    ensures closing { IfSome result.closing (IsRow IsClosingRefusal) }
+    ensures let_go { IfErr result.work (λ fault. IsLasting fault.refusal → result.closing ≡ None) }
+{
+    match open(rt, path) {
+        Ok(desk) => foretell_at(desk, number, writer),
+        Err(refusal) => Ending::without_desk(refusal),
+    }
+}

@@ -1,0 +1,17 @@
+//! Words for files of requests.
+ghost use Rattle.std.specs.Prelude.{◌≡◌};
+ghost use Rattle.desk_history.specs.Files.{file_text};
+
+use crate::impact::File;
+
+impl File {
+    /// Its word: `submitted` or `returned`.
+    pub fn text(self) -> &'static str
+        ensures { result.now ≡ file_text self }
+    {
+        match self {
+            File::Submitted => "submitted",
+            File::Returned => "returned",
+        }
+    }
+}

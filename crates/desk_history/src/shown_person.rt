@@ -1,0 +1,9 @@
+//! People as an officer is shown them.
+use desk_texts::{PersonName, Role};
+
+/// A person, without the SHA-256 of the token.
+#[derive(Debug, Drop)]
+pub struct ShownPerson {
+    pub name: PersonName,
+    pub role: Role,
+}

@@ -1,0 +1,41 @@
+use Rattle.std.proofs.Common.{◌≡◌, ◌≢◌, Err, false, rules, refl, ap}
+use Rattle.desk_bytes.specs.declared.refusal.Refusal.TheVariants as refusals
+use Rattle.desk_store.specs.declared.desk.Desk.{Desk}
+use Rattle.desk_store.proofs.DeskLemmas.{reads_shown}
+use Rattle.desk_store.proofs.desk.Desk.touched.Goals as goal
+
+pub returns-in-Ok-clause-shown : goal.returns-in-Ok-clause-shown
+returns-in-Ok-clause-shown g c clean owner cs was = c.in-Ok.ensures.ok clean owner cs was.history was.shows
+
+pub returns-in-Ok-clause-streams : goal.returns-in-Ok-clause-streams
+returns-in-Ok-clause-streams g c =
+    let old = c.args.self.now in
+    let new : Desk _ = record c.args.self.now { conn = c.touched.new.conn } in
+    record {
+      same = λ clean other owner cs was. reads_shown g.S.Store old new (c.in-Ok.ensures.spares owner cs was.shows) was.usable c.in-Ok.ensures.same refl refl owner cs was;
+      stays = c.in-Ok.ensures.same;
+      spares = c.in-Ok.ensures.spares;
+      clean = c.in-Ok.ensures.clean;
+      poisons = search rules;
+      steady = λ other. refl;
+      closed = search rules;
+      named = λ usable. tt;
+    }
+
+pub returns-in-Err-clause-streams : goal.returns-in-Err-clause-streams
+returns-in-Err-clause-streams g c =
+    let old = c.args.self.now in
+    let new : Desk _ = record c.args.self.now { conn = c.touched.new.conn; needs_reopening = c.eq-self.result } in
+    record {
+      same = λ clean other owner cs was.
+          let differs : c.in-Err.failure ≢ refusals.Store = λ is. other (ap Err is) in
+          let usable : c.eq-self.result ≡ false = (let e = c.eq-self.ensures in search (rules, e, differs)) in
+          reads_shown g.S.Store old new (c.in-Err.ensures.spares owner cs was.shows) usable c.in-Err.ensures.same refl refl owner cs was;
+      stays = c.in-Err.ensures.same;
+      spares = c.in-Err.ensures.spares;
+      clean = c.in-Err.ensures.clean;
+      poisons = search rules;
+      steady = search rules;
+      closed = search rules;
+      named = λ usable. c.in-Err.ensures.named;
+    }

@@ -1,0 +1,19 @@
+use Rattle.std.proofs.Common.{sym, subst}
+use Rattle.desk_store.specs.Impacts.{GivesOutlook}
+use Rattle.desk_store.proofs.ImpactLemmas.{gives_ahead}
+use Rattle.desk_store.proofs.impacts.Foretelling.look.Goals as goal
+
+pub returns-in-Ok-settled-clause-value : goal.returns-in-Ok-settled-clause-value
+returns-in-Ok-settled-clause-value g c clean inside =
+    let caller = c.args.self.now.caller.now in
+    let k = c.args.self.now.number in
+    let a = c.in-Ok.ensures.value clean inside in
+    let same = c.in-Ok-settled.ensures.ok in
+    record {
+      same = a.same;
+      tells = λ owner cs history sees current shown.
+          let it = a.tells owner cs history sees current in (
+            subst (GivesOutlook cs caller k) (sym same.0) (gives_ahead cs caller k c.outlook_in.result shown (c.outlook_in.ensures.exact owner cs caller it.0.0 history.legal it.0.1) same.1),
+            it.1,
+          );
+    }

@@ -1,0 +1,7 @@
+pub mod BarLemmas
+pub mod BroughtLemmas
+pub mod CallLemmas
+pub mod FoundLemmas
+pub mod LoopLemmas
+pub mod PassLemmas
+pub mod TellsLemmas

@@ -1,0 +1,17 @@
+//! The images of a desk that a Confirm of a proposal would bar, found in its store: by one pass
+//! over its calls, and then by their own keys.
+#![tactic(auto)]
+
+mod barring;
+mod columns;
+mod laws;
+mod passed;
+mod passing;
+mod reader;
+mod touched_image;
+
+pub use barring::barred;
+pub use laws::images_are_brought;
+pub use passing::touched;
+pub use reader::refusal_to;
+pub use touched_image::Touched;

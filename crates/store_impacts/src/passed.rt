@@ -1,0 +1,86 @@
+//! Images in the texts of commands.
+ghost use Rattle.std.specs.Prelude.{◌≡◌, None, IfOk, false};
+ghost use Rattle.desk_texts.specs.Commands.{IsCommand};
+ghost use Rattle.desk_texts.specs.CommandTexts.{text_of};
+ghost use Rattle.desk_texts.specs.Formed.{IsWithin};
+ghost use Rattle.desk_texts.specs.declared.command.Command.{Command as Given};
+ghost use Rattle.store_impacts.specs.Passing as spec;
+
+use desk_history::File;
+use desk_texts::{Command, Facts, RequestNumber, command_texts_differ};
+use std::alloc::Global;
+use store_reads::ReadFault;
+
+/// The image of a command, with the request that the command names: a Return names one, a Submit
+/// none.
+#[derive(Drop)]
+pub(crate) struct Passed {
+    pub(crate) named: Option<RequestNumber>,
+    pub(crate) facts: Facts,
+}
+
+impl Passed {
+    /// Which file it is.
+    pub(crate) fn file(&self) -> File
+        ensures { result ≡ spec.file_of self.now }
+    {
+        match self.named {
+            Some(_) => File::Returned,
+            None => File::Submitted,
+        }
+    }
+}
+
+/// The image that the command brings, if it brings one.
+fn passed_by(command: Command) -> Option<Passed>
+    ensures { result ≡ spec.passed_by command }
+{
+    match command {
+        Command::Submit(submission) => Some(Passed {
+            named: None,
+            facts: submission.facts,
+        }),
+        Command::Return(returned) => Some(Passed {
+            named: Some(returned.request),
+            facts: returned.facts,
+        }),
+        Command::AddPerson(_)
+        | Command::Review(_)
+        | Command::Withdraw(_)
+        | Command::ListCertificate(_)
+        | Command::ListDigest(_)
+        | Command::Unlist(_)
+        | Command::RevokeDigest(_)
+        | Command::RevokeCertificate(_)
+        | Command::RaiseLevel(_)
+        | Command::ImportRevocations(_)
+        | Command::Confirm(_)
+        | Command::Drop(_) => None,
+    }
+}
+
+/// True if the text begins with the word of a command that brings an image.
+fn brings(text: &[u8]) -> bool
+    ensures { (c : Given) → text.now ≡ text_of c → result ≡ false → spec.passed_by c ≡ None }
+{
+    text.starts_with(b"submit ".as_slice()) || text.starts_with(b"return ".as_slice())
+}
+
+/// The image of the command of this text, if it brings one. Only the text of a Submit or of a
+/// Return is parsed, which takes memory for its facts.
+///
+/// `Row`: the text begins like theirs and isn't a command's.
+pub(crate) fn passed_in(alloc: Global, text: &[u8]) -> Result<Option<Passed>, ReadFault>
+    ensures { IfOk result (λ passed. (c : Given) → IsCommand c → IsWithin c
+        → text.now ≡ text_of c → passed ≡ spec.passed_by c) }
+{
+    command_texts_differ();
+    if !brings(text) {
+        return Ok(None);
+    }
+    match Command::parse(alloc, text) {
+        Ok(Some(command)) => Ok(passed_by(command)),
+        Ok(None) => Err(ReadFault::Row),
+        Err(_) => Err(ReadFault::NoMemory),
+    }
+}

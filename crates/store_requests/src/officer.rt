@@ -1,0 +1,45 @@
+//! The officers, to whom alone people, proposals and minutes are shown.
+ghost use Rattle.std.specs.Prelude.{◌≡◌, IfErr, IfOk, option_copied};
+ghost use Rattle.desk_history.specs.People.{people};
+ghost use Rattle.store_reads.specs.People.{IsOneOf};
+ghost use Rattle.store_requests.specs.Telling.{IsOfficer, IsOfficerRefusal, TellsOf};
+ghost use Rattle.store_sql.specs.States.{DoesInside, CommitsNothing, Spares, StaysInside};
+
+use crate::proposed::sees_proposals;
+use crate::reader::reader_of;
+use desk_bytes::Refusal;
+use desk_texts::{Person, PersonName};
+use sqlite::{Alter, Transaction};
+use std::alloc::Global;
+use store_reads::{ReadFault, own_row};
+
+/// Whether the person of this name is an officer, or the refusal. The person isn't looked up if that
+/// is `kept_person`, who must be one of the desk's people (`value`). Takes memory for the person.
+///
+/// `UnknownCaller`: nobody has the name. `NotYourRole`: the person isn't an officer.
+pub(crate) fn officer_of<S: Alter>(
+    alloc: Global,
+    tx: &mut Transaction<'_, S>,
+    kept_person: Option<&Person>,
+    name: &PersonName,
+) -> Result<Result<(), Refusal>, ReadFault>
+    ensures same_reference { tx.new.conn.ghost_name ≡ tx.old.conn.ghost_name }
+    ensures value { DoesInside S.Store tx.old.conn.now tx.new.conn.now result
+        (λ given. TellsOf (λ cs. IsOneOf (option_copied kept_person.entry) (people cs)
+        → IsOfficer cs name.now given)) }
+    ensures named { IfOk result (λ given. IfErr given IsOfficerRefusal) }
+    ensures inside { StaysInside S.Store tx.old.conn.now tx.new.conn.now result }
+    ensures kept { CommitsNothing S.Store tx.old.conn.now tx.new.conn.now }
+    ensures survives { Spares S.Store tx.old.conn.now tx.new.conn.now }
+{
+    let found = reader_of(alloc, tx, kept_person, name)?;
+    let Some(reader) = found else {
+        return Ok(Err(Refusal::UnknownCaller));
+    };
+    // Only an open store gives Ok.
+    own_row(alloc, tx)?;
+    if !sees_proposals(reader.role) {
+        return Ok(Err(Refusal::NotYourRole));
+    }
+    Ok(Ok(()))
+}
