@@ -1,0 +1,229 @@
+"""Answers lost at each point, and runs killed at any moment: the minutes have each command once."""
+from __future__ import annotations
+
+import concurrent.futures
+import signal
+import threading
+import time
+from typing import Callable, Dict, List, Tuple
+
+from commands import TODAY, files
+from tools import Between, Part, Person, Program, answer, calls, fail, people
+from desk import digest
+
+Ask = Callable[[bytes], bytes]
+Rule = Callable[[bytes, Ask], bytes]
+BUSY = b"<html>busy</html>"
+
+
+def kept(cut: Callable[[bytes], bytes]) -> Rule:
+    """The desk has the whole request; of its answer the peer gets this much."""
+    return lambda request, ask: cut(ask(request))
+
+
+def unsent(cut: Callable[[bytes], bytes]) -> Rule:
+    """The desk has this much of the request, and the peer gets nothing."""
+
+    def rule(request: bytes, ask: Ask) -> bytes:
+        if cut(request):
+            ask(cut(request))
+        return b""
+
+    return rule
+
+
+def instead(status: int, body: bytes, kind: bytes, acts: bool) -> Rule:
+    """The peer gets another answer, of a proxy or for want of memory; the desk had the request, or not."""
+
+    def rule(request: bytes, ask: Ask) -> bytes:
+        if acts:
+            ask(request)
+        return answer(status, body, kind)
+
+    return rule
+
+
+NO_MEMORY = b'{"name":"NoMemory","refused":40}'
+POINTS: Dict[str, Rule] = {
+    "no answer": kept(lambda found: b""), "a byte of the answer": kept(lambda found: found[:1]),
+    "the head of the answer": kept(lambda found: found.split(b"\r\n\r\n")[0] + b"\r\n\r\n"),
+    "all but a byte of the answer": kept(lambda found: found[:-1]),
+    "no request": unsent(lambda request: b""), "half the head": unsent(lambda request: request[: request.index(b"\r\n\r\n") // 2]),
+    "all but a byte": unsent(lambda request: request[:-1]), "502 before": instead(502, BUSY, b"text/html", False),
+    "502 behind": instead(502, BUSY, b"text/html", True), "504 behind": instead(504, BUSY, b"text/html", True),
+    "no memory": instead(503, NO_MEMORY, b"application/json", False), "429": instead(429, BUSY, b"text/html", False),
+}
+# Each command that the minutes keep.
+COMMANDS: List[Tuple[str, Tuple[str, ...]]] = [
+    ("ann", ("submit", "signed.efi", "--title", "one")), ("rita", ("review", "1", "yes")), ("raul", ("review", "1", "yes")),
+    ("olga", ("list-certificate", "certificate.der")), ("sid", ("return", "1", "signed.efi")), ("ann", ("submit", "plain.efi", "--title", "two")),
+    ("ann", ("withdraw", "2")), ("olga", ("list-digest", digest("11"))), ("olga", ("unlist", "digest", digest("11"))),
+    ("olga", ("revoke", "--digest", digest("12"))), ("otto", ("confirm", "1", "--yes")), ("olga", ("revoke", "odd.efi")), ("otto", ("drop", "2")),
+    ("olga", ("raise", "grub", "3", "--stamp", TODAY + "01")), ("olga", ("import", "lists.esl")),
+]
+
+
+def once_each(between: Between, part: Part, what: str, tries: int) -> None:
+    """Each command had this many tries, one key, and one line in the minutes."""
+    keys = [head.lower().split(b"desk-key: ")[1].split(b"\r\n")[0] for head in between.seen if b"desk-key: " in head.lower()]
+    if len(keys) != tries * len(COMMANDS) or len(set(keys)) != len(COMMANDS):
+        fail(f"{what}: {len(keys)} tries with {len(set(keys))} keys")
+    found = [(row[1], row[3].split(" ")[0]) for row in calls(part.minutes())]
+    if len(found) != len(COMMANDS) or [name for name, _ in found] != [name for name, _ in COMMANDS]:
+        fail(f"{what}: the minutes have {found}")
+
+
+def lost_at(program: Program, points: Tuple[str, ...], again: bool) -> None:
+    """A day at which each command is lost at these points, one after another; it is asked again by the same run, or each time by the next one."""
+    what = f"{', '.join(points)}, asked again by {'the next run' if again else 'the same run'}"
+    with Part(program, f"lost-{list(POINTS).index(points[0])}-{again}") as part:
+        between = Between(part.server.port)
+        who = people(program, between.url, part.name)
+        for name, words in COMMANDS:
+            between.loses += [POINTS[point] for point in points]
+            for at in range(len(points)) if again else ():
+                who[name].ends(3, *words, "--retries", "0", err=["Run the same command again"] + ["taking up the keys of"] * (at > 0))
+                if len(who[name].pending()) != 1:
+                    fail(f"{what}: {words[0]} has left nothing in the journal")
+            who[name].does(*words, err=["taking up the keys of" if again else "again in"])
+            if who[name].pending() or between.loses:
+                fail(f"{what}: {words[0]} is still in the journal, or lost nothing")
+        once_each(between, part, what, 1 + len(points))
+        between.close()
+
+
+def out_of_reach(program: Program) -> None:
+    """Where no connection comes nothing can have acted, and nothing stays in the journal; --new-key makes another command of a lost one."""
+    with Part(program, "reach") as part:
+        olga = part.people["olga"]
+        between = Between(part.server.port)
+        port = between.port
+        between.close()
+        olga.at(f"http://127.0.0.1:{port}").ends(3, "revoke", "--digest", digest("12"), "--retries", "1", err=["no connection"])
+        ann = part.people["ann"].at(f"http://127.0.0.1:{port}")
+        ann.ends(3, "submit", "plain.efi", "--title", "T", "--retries", "0", err=["no connection", "Is the desk running there"])
+        if olga.pending() or ann.pending():
+            fail("the journal has what never went out")
+        between = Between(part.server.port)
+        ann.at(between.url)
+        between.loses = [POINTS["no answer"]]
+        ann.ends(3, "submit", "plain.efi", "--title", "T", "--retries", "0")
+        ann.does("submit", "plain.efi", "--title", "T", "--new-key", out=["request 2"])
+        if ann.pending():
+            fail("--new-key has left an entry")
+        # Another word, file or caller is another command.
+        between.loses = [POINTS["no answer"]]
+        ann.ends(3, "submit", "plain.efi", "--title", "U", "--retries", "0")
+        ann.does("submit", "plain.efi", "--title", "V", out=["request 4"])
+        ann.does("submit", "signed.efi", "--title", "U", out=["request 5"])
+        ann.does("submit", "plain.efi", "--title", "U", out=["request 3"])
+        between.close()
+
+
+def store_failed(program: Program) -> None:
+    """503 of a device isn't asked again by the same run, since each try may end the desk once more; the key stays for the next one."""
+    with Part(program, "store") as part:
+        between = Between(part.server.port)
+        ann = part.people["ann"].at(between.url)
+        between.loses = [instead(503, b'{"name":"Store","refused":41}', b"application/json", True)]
+        ann.ends(3, "submit", "plain.efi", "--title", "T", err=["refused 41 Store", "looks at its disk"])
+        if len(between.seen) != 1 or len(ann.pending()) != 1:
+            fail(f"503 of Store: {len(between.seen)} requests")
+        ann.does("pending", out=["submit plain.efi", between.url])
+        ann.does("submit", "plain.efi", "--title", "T", out=["request 1"])
+        if len(calls(part.minutes())) != 1:
+            fail("503 of Store: acted twice")
+        between.close()
+
+
+def killed_in_flight(program: Program) -> None:
+    """Killed while the answer is on its way, or before the desk had the request; the token is in no process list meanwhile."""
+    with Part(program, "flight") as part:
+        between = Between(part.server.port)
+        for at, acts in enumerate((True, False)):
+            reached, go = threading.Event(), threading.Event()
+
+            def rule(request: bytes, ask: Ask, acts: bool = acts, reached: threading.Event = reached, go: threading.Event = go) -> bytes:
+                found = ask(request) if acts else b""
+                reached.set()
+                go.wait(30)
+                return found
+
+            ann = Person(program, "ann", between.url, f"flight-{at}")
+            between.loses = [rule]
+            words = ("submit", "plain.efi", "--title", f"killed {at}")
+            run = ann.start(*words)
+            if not reached.wait(30):
+                fail("no request came")
+            for what in ("cmdline", "environ"):
+                with open(f"/proc/{run.pid}/{what}", "rb") as file:
+                    if b"token-000001" in file.read():
+                        fail(f"the token stands in the {what}")
+            run.send_signal(signal.SIGKILL)
+            run.communicate()
+            go.set()
+            if len(ann.pending()) != 1:
+                fail("killed between journal and answer: no entry")
+            ann.does(*words, out=[f"request {at + 1} submitted"], err=["taking up"])
+            if ann.pending() or len(calls(part.minutes())) != at + 1:
+                fail("killed between journal and answer: acted twice, or not")
+        between.close()
+
+
+def killed_anywhere(part: Part, lane: int, count: int) -> None:
+    """Runs killed after growing times. Whoever saw the answer doesn't run it again; whoever didn't does."""
+    person = Person(part.program, "ann", part.url, f"killed-{lane}")
+    slowest = 0.25
+    for at in range(count):
+        words = ("submit", "plain.efi", "--title", f"lane {lane} run {at}")
+        begun = time.monotonic()
+        run = person.start(*words)
+        time.sleep(slowest * (at + lane / 4) / count)
+        run.kill()
+        seen = run.communicate()[0]
+        if run.returncode == 0:
+            slowest = max(0.05, time.monotonic() - begun)
+        if b"submitted" not in seen:
+            person.does(*words, out=["submitted"])
+
+
+def all_killed(program: Program) -> int:
+    with Part(program, "anywhere") as part:
+        lanes, count = 4, 12
+        with concurrent.futures.ThreadPoolExecutor(lanes) as pool:
+            list(pool.map(lambda lane: killed_anywhere(part, lane, count), range(lanes)))
+        titles = [row[3].split(" ", 8)[-1] for row in calls(part.minutes())]
+        if len(titles) != lanes * count or len(set(titles)) != len(titles):
+            fail(f"killed at any moment: {len(titles)} submissions, {len(set(titles))} different")
+        return len(titles)
+
+
+def side_by_side(program: Program) -> None:
+    """Two runs of the same command at once follow one another, each with a key of its own."""
+    with Part(program, "beside") as part:
+        ann = part.people["ann"]
+        runs = [ann.start("submit", "plain.efi", "--title", "T") for _ in range(4)]
+        found = sorted(run.communicate()[0].split(b"\n")[0].decode() for run in runs)
+        if found != [f"request {number} submitted" for number in range(1, 5)] or ann.pending():
+            fail(f"four runs at once: {found}")
+
+
+def check(program: Program) -> str:
+    files(program)
+    names = list(POINTS)
+    jobs = [(tuple(names[at : at + 3]), False) for at in range(0, len(names), 3)]
+    jobs.append((("no answer", "all but a byte of the answer", "half the head", "502 behind"), True))
+    with concurrent.futures.ThreadPoolExecutor(len(jobs)) as pool:
+        list(pool.map(lambda job: lost_at(program, *job), jobs))
+    out_of_reach(program)
+    store_failed(program)
+    killed_in_flight(program)
+    side_by_side(program)
+    return f"answers lost at {len(POINTS)} points of {len(COMMANDS)} commands, {all_killed(program)} runs killed at any moment: each acted once"
+
+
+if __name__ == "__main__":
+    import sys
+
+    with Program(sys.argv[1]) as found_program:
+        print(check(found_program))

@@ -1,0 +1,98 @@
+"""The build system's job and the signing machine's loop of client/README.md, as they are printed; and a foreign signature that carries a
+listed certificate, which the desk allows and sbverify doesn't. It needs sbsigntool."""
+from __future__ import annotations
+
+import os
+import re
+import shutil
+import subprocess
+from typing import Dict
+
+from commands import files
+from tools import DESKCTL, ROOT, Part, Person, Program, fail, made
+from desk import sha256
+
+
+def printed(title: str) -> str:
+    """What README has to be typed below this title."""
+    with open(os.path.join(ROOT, "client", "README.md"), encoding="utf-8") as page:
+        part = page.read().split(f"\n## {title}\n", 1)[1].split("\n## ", 1)[0]
+    return "".join(line[4:] + "\n" for line in part.split("\n") if line.startswith("    "))
+
+
+def typed(part: Part, person: Person, text: str, **more: str) -> str:
+    """Runs it as this person, in the room; images are kept there."""
+    program = part.program
+    text = text.replace("/srv/images", program.at("images"))
+    path = f"{program.at('bin')}:{person.env['PATH']}"
+    ran = subprocess.run(["sh", "-eu", "-c", text], env={**person.env, "PATH": path, **more}, cwd=program.room.name, capture_output=True, check=False, timeout=200)
+    if ran.returncode or b"Traceback" in ran.stderr:
+        fail(f"README of the client: status {ran.returncode}: {ran.stdout.decode()} {ran.stderr.decode()}")
+    return ran.stdout.decode()
+
+
+def prepared(program: Program) -> None:
+    for name in ("images", "bin"):
+        os.makedirs(program.at(name))
+    os.symlink(DESKCTL, program.at("bin/deskctl"))
+    shutil.copyfile(os.path.join(ROOT, "examples", "tiny.efi"), program.at("shimx64.efi"))
+    for name in ("signer", "foreign"):
+        made("openssl", "req", "-x509", "-newkey", "rsa:2048", "-nodes", "-days", "2", "-subj", f"/CN={name}", "-keyout", f"{name}.key", "-out", f"{name}.pem",
+             cwd=program.room.name)
+
+
+def foreign(part: Part, who: Dict[str, Person]) -> None:
+    """Signed by somebody else, with the listed certificate beside its own."""
+    room = part.program.room.name
+    made("sbsign", "--key", "foreign.key", "--cert", "foreign.pem", "--addcert", "signer.pem", "--output", "foreign.efi", "shimx64.efi", cwd=room)
+    who["sid"].does("verdict", "foreign.efi", out=["allowed"], err=["no signature was checked"])
+    ran = subprocess.run(["sbverify", "--cert", "signer.pem", "foreign.efi"], cwd=room, capture_output=True, check=False)
+    if ran.returncode == 0:
+        fail("sbverify takes a foreign signature")
+
+
+def day(part: Part) -> None:
+    who, program = part.people, part.program
+    job = printed("A build system's job")
+    asked = job.replace("deskctl wait", "echo deskctl wait")
+    for _ in range(2):
+        typed(part, who["ann"], asked, VERSION="16.1", ARCH="amd64")
+    if [it["title"] for it in who["ann"].json("requests")] != ["shim 16.1 amd64"]:
+        fail("the job that is run again asks again")
+    who["rita"].does("review", "1", "yes")
+    who["raul"].does("review", "1", "yes")
+    if "request 1 approved" not in typed(part, who["ann"], job, VERSION="16.1", ARCH="amd64"):
+        fail("the job doesn't see the approval")
+    who["olga"].does("list-certificate", "signer.pem", err=["CN=signer"])
+    foreign(part, who)
+    said = typed(part, who["sid"], printed("A signing machine's loop"), KEY=program.at("signer.key"))
+    with open(program.at("signed.efi"), "rb") as file:
+        whole = sha256(file.read())
+    if "request 1 signed" not in said or who["ann"].json("request", "1")["returned"] != whole:
+        fail(f"the signing machine's loop: {said}")
+    made("sbverify", "--cert", "signer.pem", "signed.efi", cwd=program.room.name)
+    # Another file under an image's name isn't signed.
+    who["ann"].does("submit", "odd.efi", "--title", "another")
+    who["rita"].does("review", "2", "yes")
+    who["raul"].does("review", "2", "yes")
+    shutil.copyfile(program.at("shimx64.efi"), program.at(f"images/{who['ann'].json('request', '2')['file']}"))
+    typed(part, who["sid"], printed("A signing machine's loop"), KEY=program.at("signer.key"))
+    if who["ann"].json("request", "2")["state"] != "approved" or not re.search(r"(?m)^signed +1$", who["olga"].does("report")):
+        fail("the signing machine signs another file than the one that was asked for")
+
+
+def check(program: Program) -> str:
+    if not all(map(shutil.which, ("sbsign", "sbverify"))):
+        return "a signing machine's day (left out: sbsigntool)"
+    files(program)
+    prepared(program)
+    with Part(program, "signing") as part:
+        day(part)
+    return "a build system's job and a signing machine's loop as README has them; a foreign signature is allowed, and not returned"
+
+
+if __name__ == "__main__":
+    import sys
+
+    with Program(sys.argv[1]) as found_program:
+        print(check(found_program))

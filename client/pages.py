@@ -1,0 +1,332 @@
+#!/usr/bin/env python3
+"""pages.py FOLDER: writes deskctl.1 and the completions deskctl.bash, _deskctl and deskctl.fish into the folder.
+
+Commands, options and exit statuses come from deskctl itself, so that help, page and completions can't differ. This file has the
+page's other sections, set in man(7). The date is that of SOURCE_DATE_EPOCH, or today.
+"""
+from __future__ import annotations
+
+import importlib.machinery
+import importlib.util
+import os
+import re
+import sys
+import textwrap
+import time
+from typing import Any, Dict, List, Sequence, Tuple
+
+WIDTH = 78
+ABOUT = """\
+deskctl asks a Kovelamiru desk over HTTP, which the program desk serves: for signatures of boot images, for votes, for revocations
+that one officer proposes and another confirms. It isn't proved, and it decides nothing; the desk does. It checks no signature.
+
+Results go to standard output, all else to standard error. On a terminal a list is a table that fits it; otherwise a line a row, fields
+parted by tabs, nothing cut. `--json` prints the desk's own JSON, as desk-http(7) has it."""
+SETTINGS = """\
+An option comes before the environment, and that before the file `~/.config/deskctl.conf`:
+
+    [desk]
+    url = https://desk.example.org
+    token-file = desk.token
+    name = olga
+
+Its other names are `ca`, `cert`, `key` and `program`; paths are relative to the file. With https the desk's certificate has to be one
+that the system trusts, or one of `--ca`. Without TLS deskctl asks only a desk on this machine, unless `--insecure-http` is given.
+
+A token is the first line of a file that nobody else can read; deskctl refuses it otherwise. It is never an argument, never printed, and
+in no environment. In the folder that systemd names by CREDENTIALS_DIRECTORY the group's bits don't count, since they are those of its
+access list. Behind a proxy that knows people by client certificates, `--cert` takes the token's place."""
+ONCE = """\
+Each command goes out under a key that deskctl makes of the time and of random bits, as `20261127T184000Z-7f3a9c5e01b2d846`; the minutes
+have it. The key and what it is for are written into a journal before the request goes out, and taken off when its answer has been
+printed. Where no answer comes (the connection fails, the proxy says 429, 500, 502 or 504, the desk has no memory) deskctl asks again
+with the same key, with growing pauses. If it gives up or is ended, the next run of the same command (the same desk, caller, words and
+files) takes that key, and says so. So a command acts once, whatever was lost. `--new-key` forgets the key, and the run is another
+command. `deskctl pending` lists the journal. Two runs of the same command at once follow one another.
+
+An import of several parts has a key a part; the same command goes on where it was stopped."""
+QUESTIONS = """\
+Nothing takes a revocation back, and an entry that names nothing stays in dbx for good. So deskctl asks before it sends
+
+- a digest or a certificate that is the SHA-256 of the whole file of a request, the fingerprint of a listed certificate, or an entry of the
+other kind at the desk;
+- a generation above 65,535, or more than ten above the present one;
+- a stamp that doesn't begin with a date of the last or the next year;
+- an import in which nothing is new.
+
+`confirm` shows all that the proposal names, which known images it would bar, and asks how many these are; `--bars COUNT` answers
+beforehand, and ends with status 2 if there are others. Without a terminal deskctl sends nothing where it would ask, unless `--yes` is
+given. A desk that is older than deskctl doesn't show what a proposal names: then `confirm` says so, and asks for the count of its entries."""
+IMPORTS = """\
+The kind of a file is found by its bytes. Signature lists may stand behind EFI_VARIABLE_AUTHENTICATION_2, as sign-efi-sig-list
+writes it (its lengths and GUIDs are tested, its time is shown, its signature isn't verified), or behind the four bytes
+of attributes that efivarfs puts before a variable. The desk's CSV and a level's text go as they are. Of Microsoft's dbx_info_msft, JSON
+or CSV, the Authenticode hashes are taken, of all architectures or of `--arch`.
+
+Left out, and counted: hashes of whole files, certificates without their TBSCertificate, and versions of Windows' boot programs, which have
+the form of a digest in a list but are none. The desk doesn't keep the owner of an entry, nor a certificate's time of revocation: it is
+revoked whenever it signed. `--dry-run` says all of this and sends nothing; it needs a desk only to count what is new."""
+FILES = (
+    ("~/.config/deskctl.conf", "The settings. `XDG_CONFIG_HOME` moves it, `DESKCTL_CONF` names another file."),
+    ("~/.local/state/deskctl/", "The journal, a file for each command without an answer, of mode 0600. `XDG_STATE_HOME` moves it."),
+)
+ENVIRONMENT = (
+    ("DESK_URL, DESK_TOKEN_FILE, DESK_CA, DESK_CERT, DESK_CERT_KEY, DESK_NAME, DESK_PROGRAM", "As the options of these names."),
+    ("DESK_TOKEN", "Not read."),
+)
+EXAMPLES = """\
+A build system asks for a signature, and waits a day for it:
+
+    number=$(deskctl submit shimx64.efi --title "shim $VERSION" \\
+        | sed -n 's/^request \\([0-9]*\\) .*/\\1/p')
+    deskctl wait "$number" --timeout 86400
+
+A signing machine verifies what it signed before it hands it in:
+
+    sbsign --key KEY --cert signer.pem --output signed.efi shimx64.efi
+    sbverify --cert signer.pem signed.efi && deskctl return 7 signed.efi
+
+An officer proposes to revoke what was built from a broken source, and another one looks at it and confirms it:
+
+    deskctl revoke old/*.efi
+    deskctl raise grub 5 --stamp 2026112701
+    deskctl proposal 3; deskctl confirm 3
+"""
+
+
+def deskctl() -> Any:
+    """The program as a module."""
+    sys.dont_write_bytecode = True
+    path = os.path.join(os.path.dirname(os.path.realpath(__file__)), "deskctl")
+    loader = importlib.machinery.SourceFileLoader("deskctl", path)
+    found = importlib.util.module_from_spec(importlib.util.spec_from_loader("deskctl", loader))  # type: ignore[arg-type]
+    sys.modules["deskctl"] = found
+    loader.exec_module(found)
+    return found
+
+
+# ---- the manual page
+
+
+def plain(text: str) -> str:
+    for mark, name in (("\\", "\\e"), ("~", "\\(ti"), ("^", "\\(ha"), ("`", "\\(ga")):
+        text = text.replace(mark, name)
+    return text
+
+
+def typed(text: str) -> str:
+    """What is typed: hyphens and quotes stay those of ASCII."""
+    return plain(text).replace("-", "\\-").replace("'", "\\(aq")
+
+
+def shielded(line: str) -> str:
+    return "\\&" + line if line[:1] in (".", "'") else line
+
+
+def filled(text: str) -> List[str]:
+    """A paragraph, its `words` in bold."""
+    parts = re.split(r"`([^`]+)`", " ".join(text.split()))
+    text = "".join(plain(part) if at % 2 == 0 else f"\\fB{typed(part)}\\fR" for at, part in enumerate(parts))
+    return [shielded(line) for line in textwrap.wrap(text, WIDTH, break_long_words=False, break_on_hyphens=False)]
+
+
+def example(lines: Sequence[str]) -> List[str]:
+    return [".PP", ".nf", ".RS 4"] + [shielded(typed(line)) for line in lines] + [".RE", ".fi"]
+
+
+def roff(text: str) -> List[str]:
+    """Paragraphs, lists, and text that is typed."""
+    found: List[str] = []
+    for part in text.strip("\n").split("\n\n"):
+        lines = part.split("\n")
+        if lines[0].startswith("    "):
+            found += example([line[4:] for line in lines])
+            continue
+        for at, item in enumerate(re.split(r"(?m)^- ", part)):
+            if item.strip():
+                found += [".PP" if at == 0 else ".IP \\(bu 2"] + filled(item)
+    return found
+
+
+def named(rows: Sequence[Tuple[str, str]]) -> List[str]:
+    found: List[str] = []
+    for name, text in rows:
+        found += [".TP", f"\\fB{typed(name)}\\fR"] + filled(text)
+    return found
+
+
+def worded(ctl: Any, words: Sequence[Any]) -> List[Tuple[str, str]]:
+    return [(ctl.shown_option(names, more) if names[0].startswith("-") else more["metavar"], more["help"] + ".") for names, more in words]
+
+
+def commands_part(ctl: Any) -> List[str]:
+    found: List[str] = []
+    for one in ctl.COMMANDS:
+        found += [f'.SS "\\fBdeskctl {typed(one.name)}\\fR {typed(one.usage)}"']
+        found += filled(one.does[0].upper() + one.does[1:] + "." + (f" It is for {one.who}." if one.who else ""))
+        found += named(worded(ctl, one.words)) + ([".PP"] + filled(one.more) if one.more else []) + example([one.example])
+    return found
+
+
+def page(ctl: Any) -> str:
+    date = time.strftime("%Y-%m-%d", time.gmtime(int(os.environ.get("SOURCE_DATE_EPOCH", time.time()))))
+    parts = (
+        ("SYNOPSIS", ["\\fBdeskctl\\fR \\fICOMMAND\\fR [\\fIWORD\\fR..] [\\fIOPTION\\fR..]"]), ("DESCRIPTION", roff(ABOUT)),
+        ("COMMANDS", commands_part(ctl)), ("OPTIONS", named(worded(ctl, ctl.OPTIONS))), ("SETTINGS", roff(SETTINGS)),
+        ("A COMMAND ACTS ONCE", roff(ONCE)), ("QUESTIONS", roff(QUESTIONS)), ("IMPORTS", roff(IMPORTS)),
+        ("EXIT STATUS", named([(str(status), text[0].upper() + text[1:] + ".") for status, text in ctl.STATUSES])),
+        ("FILES", named(FILES)), ("ENVIRONMENT", named(ENVIRONMENT)), ("EXAMPLES", roff(EXAMPLES)),
+        ("SEE ALSO", ["desk(1), desk-http(7), sbverify(1), sbsign(1)"]),
+    )
+    found = [".nr HY 0", ".ad l", f'.TH DESKCTL 1 {date} "Kovelamiru {ctl.VERSION}" Kovelamiru', ".SH NAME"]
+    found.append("deskctl \\- signing requests and revocations at a Secure Boot desk")
+    for title, lines in parts:
+        found += [f'.SH "{title}"'] + lines
+    return re.sub(r"(?m)^(\.S[HS] .*)\n\.PP$", r"\1", "\n".join(found)) + "\n"
+
+
+# ---- completions
+
+
+def kind_of(more: Dict[str, Any]) -> str:
+    """What completes a word: its choices, files, or nothing."""
+    if "choices" in more:
+        return " ".join(more["choices"])
+    if "action" in more and more["action"].startswith("store_"):
+        return "-"
+    return "FILES" if any(name in more.get("metavar", "") for name in ("FILE", "IMAGE")) else ""
+
+
+def split(words: Sequence[Any]) -> Tuple[List[Any], List[Any]]:
+    """The options among words, and those that are named by their place."""
+    return [it for it in words if it[0][0].startswith("-")], [it for it in words if not it[0][0].startswith("-")]
+
+
+def bash(ctl: Any) -> str:
+    names = " ".join(one.name for one in ctl.COMMANDS)
+    general = " ".join(name for options, _ in ctl.OPTIONS for name in options)
+    rows: List[str] = []
+    for one in ctl.COMMANDS:
+        options, places = split(one.words)
+        kinds = " ".join(f"'{kind_of(more)}'" for _, more in places) or "''"
+        its = " ".join(name for named_, _ in options for name in named_)
+        many = "yes" if any("nargs" in more for _, more in places) else ""
+        rows.append(f"        {one.name}) options='{its}' places=({kinds}) many={many} ;;")
+    values = {}
+    for names_, more in list(ctl.OPTIONS) + [it for one in ctl.COMMANDS for it in split(one.words)[0]]:
+        if kind_of(more) != "-":
+            for name in names_:
+                values.setdefault(name, kind_of(more))
+    values["--state"] = "STATES"
+    return BASH.format(
+        names=names, general=general, rows="\n".join(rows), files="|".join(it for it, kind in values.items() if kind == "FILES"),
+        texts="|".join(it for it, kind in values.items() if kind == ""),
+    )
+
+
+BASH = """\
+# Completions of deskctl(1) for bash, written by client/pages.py.
+_deskctl() {{
+    local word=${{COMP_WORDS[COMP_CWORD]}} before=${{COMP_WORDS[COMP_CWORD - 1]}} command='' options='' many='' at=0 skip='' one kind
+    local -a places=()
+    COMPREPLY=()
+    for one in "${{COMP_WORDS[@]:1:COMP_CWORD - 1}}"; do
+        if [ -n "$skip" ]; then skip=''; continue; fi
+        case $one in
+            {files}|{texts}|--state) skip=yes ;;
+            -*) ;;
+            *) if [ -z "$command" ]; then command=$one; else at=$((at + 1)); fi ;;
+        esac
+    done
+    case $command in
+{rows}
+    esac
+    kind=''
+    case $before in
+        {files}) kind=FILES ;;
+        {texts}) return 0 ;;
+        --state) if [ "$command" = proposals ]; then kind='open confirmed dropped'; else kind='open approved rejected withdrawn signed'; fi ;;
+        *)
+            if [[ $word == -* ]]; then kind="$options {general} --help"
+            elif [ -z "$command" ]; then kind='{names} help'
+            elif [ -n "$many" ]; then kind=${{places[0]}}
+            else kind=${{places[at]-}}
+            fi
+            ;;
+    esac
+    if [ "$kind" = FILES ]; then
+        compopt -o filenames 2> /dev/null
+        mapfile -t COMPREPLY < <(compgen -f -- "$word")
+    else
+        mapfile -t COMPREPLY < <(compgen -W "$kind" -- "$word")
+    fi
+}}
+complete -F _deskctl deskctl
+"""
+
+
+def quoted(text: str) -> str:
+    return text.replace("'", "'\\''")
+
+
+def zsh_word(names: Sequence[str], more: Dict[str, Any], place: int) -> str:
+    """A word for zsh's _arguments."""
+    does = quoted(re.sub(r"([\[\]:])", r"\\\1", more["help"]))
+    kind = kind_of(more)
+    action = "_files" if kind == "FILES" else f"({kind})" if kind not in ("", "-") else " "
+    meta = more.get("metavar", "value").replace(":", "")
+    if not names[0].startswith("-"):
+        return f"'{'*' if 'nargs' in more else place}:{meta}:{action}'"
+    value = "" if kind == "-" else f":{meta}:{action}"
+    times = "*" if more.get("action") == "append" else ""
+    return " ".join(f"'{times}{name}[{does}]{value}'" for name in names)
+
+
+def zsh(ctl: Any) -> str:
+    lines = ["#compdef deskctl", "# Completions of deskctl(1) for zsh, written by client/pages.py."]
+    lines += ["local context state line", "local -a commands options", "commands=("]
+    lines += [f"    '{one.name}:{quoted(one.does)}'" for one in ctl.COMMANDS] + [")", "options=("]
+    lines += [f"    {zsh_word(names, more, 0)}" for names, more in ctl.OPTIONS] + ["    '--help[show help]'", ")"]
+    lines += ["_arguments -C $options '1:command:->command' '*::word:->word' && return", "case $state in"]
+    lines += ["    command) _describe command commands ;;", "    word)", "        case $words[1] in"]
+    for one in ctl.COMMANDS:
+        options, places = split(one.words)
+        words = [zsh_word(names, more, 0) for names, more in options] + [zsh_word(names, more, at) for at, (names, more) in enumerate(places, 1)]
+        lines.append(f"            {one.name}) _arguments $options {' '.join(words)} ;;")
+    return "\n".join(lines + ["        esac", "        ;;", "esac"]) + "\n"
+
+
+def fish(ctl: Any) -> str:
+    lines = ["# Completions of deskctl(1) for fish, written by client/pages.py.", "complete -c deskctl -f"]
+    for one in ctl.COMMANDS:
+        lines.append(f"complete -c deskctl -n __fish_use_subcommand -a {one.name} -d '{fish_text(one.does)}'")
+        options, places = split(one.words)
+        lines += [fish_option(names, more, one.name) for names, more in options]
+        for kind in dict.fromkeys(kind_of(more) for _, more in places):
+            if kind == "FILES":
+                lines.append(f"complete -c deskctl -n '__fish_seen_subcommand_from {one.name}' -F")
+            elif kind:
+                lines.append(f"complete -c deskctl -n '__fish_seen_subcommand_from {one.name}' -a '{kind}'")
+    return "\n".join(lines + [fish_option(names, more, "") for names, more in ctl.OPTIONS]) + "\n"
+
+
+def fish_text(text: str) -> str:
+    return text.replace("\\", "\\\\").replace("'", "\\'")
+
+
+def fish_option(names: Sequence[str], more: Dict[str, Any], command: str) -> str:
+    where = f" -n '__fish_seen_subcommand_from {command}'" if command else ""
+    kind = kind_of(more)
+    value = {"-": "", "": " -x", "FILES": " -r -F"}.get(kind, f" -x -a '{kind}'")
+    shown = " ".join(f"-l {name[2:]}" if name.startswith("--") else f"-s {name[1:]}" for name in names)
+    return f"complete -c deskctl{where} {shown}{value} -d '{fish_text(more['help'])}'"
+
+
+def main() -> None:
+    ctl = deskctl()
+    for name, text in (("deskctl.1", page(ctl)), ("deskctl.bash", bash(ctl)), ("_deskctl", zsh(ctl)), ("deskctl.fish", fish(ctl))):
+        with open(os.path.join(sys.argv[1], name), "w", encoding="utf-8") as out:
+            out.write(text)
+
+
+main()

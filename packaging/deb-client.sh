@@ -1,0 +1,104 @@
+#!/bin/sh
+# Makes the package kovelamiru-deskctl_VERSION_all.deb of client/deskctl, in the working folder or the named one, and prints its
+# path: deb-client.sh [OUT]. deskctl goes in unchanged, with the page and the completions that client/pages.py writes. Its version
+# must be the newest in CHANGELOG.md. The same tree and SOURCE_DATE_EPOCH (by default the commit's date) give the same bytes. It needs
+# dpkg-deb, git, gzip and python3.
+set -eu
+umask 022
+export LC_ALL=C TZ=UTC
+root=$(CDPATH='' cd -- "$(dirname -- "$(readlink -f -- "$0")")/.." && pwd -P)
+
+fail() {
+    echo "packaging/deb-client.sh: $*" >&2
+    exit 1
+}
+if [ $# -gt 1 ]; then fail 'deb-client.sh [OUT]'; fi
+out=$(readlink -f -- "${1-.}")
+for tool in dpkg-deb git gzip python3; do
+    command -v "$tool" > /dev/null || fail "$tool is needed"
+done
+name=kovelamiru-deskctl
+version=$(sed -n 's/^VERSION = "\(.*\)"$/\1/p' "$root/client/deskctl")
+newest=$(sed -n '/^## /{s/^## \([^ ,]*\).*/\1/p;q}' "$root/CHANGELOG.md")
+[ "$version" = "$newest" ] || fail "deskctl has version $version, and CHANGELOG.md $newest"
+commit=$(git -C "$root" describe --always --dirty --abbrev=40 --exclude='*')
+SOURCE_DATE_EPOCH=${SOURCE_DATE_EPOCH:-$(git -C "$root" log -1 --format=%ct)}
+export SOURCE_DATE_EPOCH
+maintainer=$(git -C "$root" log -1 --format='%an <%ae>')
+
+room=$(mktemp -d)
+trap 'rm -rf "$room"' EXIT
+trap 'exit 1' HUP INT TERM
+tree=$room/tree
+
+# place MODE FROM TO: a file of the package.
+place() { install -D -m "$1" "$2" "$tree/$3"; }
+# packed FILE: the same bytes each time.
+packed() { gzip -9n "$1"; }
+
+# ---- the files
+
+place 755 "$root/client/deskctl" usr/bin/deskctl
+python3 "$root/client/pages.py" "$room"
+packed "$room/deskctl.1"
+place 644 "$room/deskctl.1.gz" usr/share/man/man1/deskctl.1.gz
+place 644 "$room/deskctl.bash" usr/share/bash-completion/completions/deskctl
+place 644 "$room/_deskctl" usr/share/zsh/vendor-completions/_deskctl
+place 644 "$room/deskctl.fish" usr/share/fish/vendor_completions.d/deskctl.fish
+place 644 "$root/client/README.md" "usr/share/doc/$name/README.md"
+
+cp "$root/CHANGELOG.md" "$room/CHANGELOG.md"
+{
+    printf '%s (%s) unstable; urgency=medium\n\n  * CHANGELOG.md.gz has the changes.\n\n' "$name" "$version"
+    printf ' -- %s  %s\n' "$maintainer" "$(date -d "@$SOURCE_DATE_EPOCH" '+%a, %d %b %Y %H:%M:%S +0000')"
+} > "$room/changelog"
+for text in CHANGELOG.md changelog; do
+    packed "$room/$text"
+    place 644 "$room/$text.gz" "usr/share/doc/$name/$text.gz"
+done
+
+# The copyright according to the repository: a licence, or that there is none.
+{
+    printf 'Kovelamiru, a Secure Boot signing and revocation desk. Copyright: its owner, %s.\n\n' \
+        "$(date -d "@$SOURCE_DATE_EPOCH" +%Y)"
+    if [ -e "$root/LICENSE" ]; then
+        cat "$root/LICENSE"
+    else
+        grep 'no LICENSE file' "$root/CONTRIBUTING.md" || fail 'CONTRIBUTING.md says nothing of a licence'
+        printf '%s\n' 'So this package is for those whom the owner lets have it, and is not to be passed on before a licence is named.'
+    fi
+} > "$room/copyright"
+place 644 "$room/copyright" "usr/share/doc/$name/copyright"
+printf 'Commit %s. SHA-256 of /usr/bin/deskctl: %s.\n\ndeskctl is not proved. README.md and deskctl(1) say how to use it.\n' \
+    "$commit" "$(sha256sum < "$root/client/deskctl" | cut -d' ' -f1)" > "$room/README.Debian"
+place 644 "$room/README.Debian" "usr/share/doc/$name/README.Debian"
+
+# ---- the package
+
+mkdir "$tree/DEBIAN"
+size=$(find "$tree" -type f -printf '%s\n' | awk '{ kib += int(($1 + 1023) / 1024) } END { print kib }')
+cat > "$tree/DEBIAN/control" << CONTROL
+Package: $name
+Version: $version
+Architecture: all
+Maintainer: $maintainer
+Installed-Size: $size
+Depends: python3 (>= 3.9)
+Recommends: kovelamiru-desk
+Suggests: bash-completion, sbsigntool
+Section: admin
+Priority: optional
+Description: Secure Boot signing and revocation desk, from a terminal
+ deskctl asks a Kovelamiru desk over HTTP, for packagers, reviewers, signing
+ machines, officers and build systems. It makes each command once, whatever
+ answer is lost, reads the revocations that others publish, and asks before
+ what can't be taken back.
+ .
+ It decides nothing and isn't proved: the desk is.
+CONTROL
+(cd "$tree" && find . -path ./DEBIAN -prune -o -type f -printf '%P\n' | sort | xargs md5sum) > "$room/md5sums"
+place 644 "$room/md5sums" DEBIAN/md5sums
+find "$tree" -exec touch -h -d "@$SOURCE_DATE_EPOCH" {} +
+deb=$out/${name}_${version}_all.deb
+dpkg-deb --root-owner-group --threads-max=1 -Zxz --build "$tree" "$deb" > "$room/built"
+echo "$deb"
