@@ -56,6 +56,7 @@ place 644 "$here/kovelamiru-desk.sysusers" usr/lib/sysusers.d/kovelamiru-desk.co
 place 644 "$here/desk.bash" usr/share/bash-completion/completions/desk
 place 644 "$here/nginx.conf" "usr/share/doc/$name/examples/nginx.conf"
 place 644 "$here/lintian-overrides" "usr/share/lintian/overrides/$name"
+for file in "$root"/page/*; do place 644 "$file" "usr/share/$name/page/${file##*/}"; done
 
 python3 "$here/man.py" "$program" "$(date -d "@$SOURCE_DATE_EPOCH" +%F)" "$room"
 for page in desk.1 desk-http.7; do

@@ -1,0 +1,196 @@
+"""What must not work, and what must work once: wrong tokens, titles that look like markup, pages of another origin, lost answers, slips."""
+import hashlib
+import http.server
+import json
+import signal
+import threading
+from pathlib import Path
+
+from browser import Browser
+from place import CERTIFICATE, Place, fail, sockets, unsigned, until
+
+MARKUP = "<img src=x onerror=\"document.title='taken'\"><b>bold</b>"
+LONG = "W" * 120
+
+OTHER = """<!DOCTYPE html><title>other</title><iframe id="frame" src="BASE/"></iframe>
+<form id="form" method="post" action="BASE/proposals/1/confirm" target="sink" enctype="text/plain"></form><iframe name="sink"></iframe>
+<script>
+window.found = [];
+const say = (what) => window.found.push(what);
+fetch('BASE/level', {headers: {'Desk-Token': 'TOKEN'}}).then((it) => say('read ' + it.status), () => say('no level'));
+fetch('BASE/requests/1/withdraw', {method: 'POST', body: '', headers: {'Desk-Token': 'TOKEN', 'Desk-Key': 'other'}}).then(() => say('acted'), () => say('no act'));
+fetch('BASE/requests/1/withdraw', {method: 'POST', body: '', mode: 'no-cors', headers: {'Desk-Token': 'TOKEN', 'Desk-Key': 'other'}}).then(() => say('no-cors'), () => say('no-cors'));
+document.getElementById('form').submit();
+</script>"""
+
+
+def markup(browser: Browser, place: Place) -> None:
+    """A title is shown as it is, whatever it looks like."""
+    place.does("ann", "/requests", unsigned(101), Desk_Title=MARKUP)
+    number = place.does("ann", "/requests", unsigned(102), Desk_Title=LONG)["request"]
+    for view in ("requests", f"requests/{int(str(number)) - 1}"):
+        browser.sign_in(place.tokens["rita"])
+        browser.go(view)
+        browser.sees(MARKUP)
+        if browser.all("main img") or browser.all("main b") or browser.driver.title == "taken":
+            fail(f"the title was taken for markup at {view}")
+    browser.width(360)
+    for view in ("requests", f"requests/{number}"):
+        browser.go(view)
+        browser.sees(LONG)
+        if browser.script("return document.documentElement.scrollWidth > document.documentElement.clientWidth"):
+            fail(f"a long title makes {view} wider than the window")
+    browser.width(1200)
+
+
+def strangers(browser: Browser, place: Place) -> None:
+    """A wrong token is refused in words; nothing is stored, and a reload forgets the right one."""
+    browser.open()
+    for token, told in (("short", "at least 16 characters"), ("a-token-of-nobody-at-all", "Nobody has that name or token.")):
+        browser.fill("Your token", token)
+        browser.press("Sign in")
+        browser.sees(told)
+    browser.sign_in(place.tokens["ann"])
+    kept = browser.script("return [localStorage.length, sessionStorage.length, document.cookie, location.href]")
+    if kept != [0, 0, "", f"{browser.base}/"]:
+        fail(f"the page keeps {kept}")
+    if browser.script("return document.documentElement.outerHTML.includes(arguments[0])", place.tokens["ann"]):
+        fail("the token stands in the page")
+    browser.driver.refresh()
+    browser.one("#token")
+
+
+def another_origin(browser: Browser, place: Place) -> None:
+    """A page of another origin reads nothing, does nothing, and shows the page in no frame."""
+    text = OTHER.replace("BASE", place.base).replace("TOKEN", place.tokens["ann"])
+
+    class Handler(http.server.BaseHTTPRequestHandler):
+        def do_GET(self) -> None:
+            self.send_response(200)
+            self.send_header("Content-Type", "text/html")
+            self.end_headers()
+            self.wfile.write(text.encode())
+
+        def log_message(self, *_: object) -> None:
+            pass
+
+    server = http.server.ThreadingHTTPServer(("127.0.0.1", 0), Handler)
+    threading.Thread(target=server.serve_forever, daemon=True).start()
+    before = place.ask("olga", "GET", "/report").body
+    browser.driver.get(f"http://127.0.0.1:{server.server_port}/")
+    found = until(20, "the other origin's page", lambda: len(browser.script("return window.found")) == 3 and browser.script("return window.found"))
+    if sorted(found) != ["no act", "no level", "no-cors"]:
+        fail(f"a page of another origin: {found}")
+    browser.driver.switch_to.frame(browser.driver.find_element("id", "frame"))
+    if browser.all("#token"):
+        fail("another origin shows the page in a frame")
+    browser.driver.switch_to.default_content()
+    if place.ask("olga", "GET", "/report").body != before:
+        fail("a page of another origin changed the desk")
+    browser.complaints()
+    server.shutdown()
+
+
+def lost(browser: Browser, place: Place) -> None:
+    """The proxy is stopped while the desk has the vote: the page asks again by itself, and it acts once."""
+    number = place.does("ann", "/requests", unsigned(103), Desk_Title="to be voted on")["request"]
+    browser.sign_in(place.tokens["rita"])
+    browser.go(f"requests/{number}")
+    assert place.desk
+    place.desk.send_signal(signal.SIGSTOP)
+    browser.press("Vote yes")
+    until(20, "the vote is at the desk", lambda: any(int(row[4].split(":")[1], 16) > 0 for row in sockets(place.desk_port) if row[3] != "0A"))
+    place.stop_proxy()
+    place.desk.send_signal(signal.SIGCONT)
+    browser.sees("Asking again with the same key")
+    place.start_proxy()
+    browser.sees("Your vote of yes is in.")
+    # Now for so long that the page gives up asking by itself, and the person goes elsewhere.
+    browser.sign_in(place.tokens["raul"])
+    browser.go(f"requests/{number}")
+    place.stop_proxy()
+    browser.press("Vote yes")
+    browser.sees("no answer.", 30)
+    browser.script("location.hash = '#/check'")
+    browser.sees("Check an image")
+    browser.sees(f"Vote yes on request {number}: no answer.")
+    place.start_proxy()
+    browser.press("Ask again")
+    browser.sees(f"Vote yes on request {number}: done.")
+    shown = place.ask("rita", "GET", f"/requests/{number}").json()
+    if shown["state"] != "approved" or [vote["reviewer"] for vote in shown["votes"]] != ["raul", "rita"]:
+        fail(f"after lost answers: {shown}")
+
+
+def stopped(browser: Browser, place: Place, room: Path) -> None:
+    """An upload shows how far it is, and can be stopped."""
+    before = place.ask("ann", "GET", "/requests").body
+    large = room / "large.efi"
+    large.write_bytes(unsigned(104) + bytes(3_000_000))
+    browser.sign_in(place.tokens["ann"])
+    browser.go("submit")
+    browser.fill("Title", "too large for this line")
+    browser.choose("EFI image", large)
+    browser.devtools("Network.enable")
+    browser.devtools("Network.emulateNetworkConditions", offline=False, latency=0, downloadThroughput=-1, uploadThroughput=400_000)
+    browser.press("Submit")
+    until(20, "the bar moves", lambda: float(browser.script("return document.querySelector('progress')?.value ?? 0") or 0) > 0.02)
+    browser.press("Stop")
+    browser.sees("stopped.")
+    browser.devtools("Network.emulateNetworkConditions", offline=False, latency=0, downloadThroughput=-1, uploadThroughput=-1)
+    if place.ask("ann", "GET", "/requests").body != before:
+        fail("a stopped upload made a request")
+
+
+def slips(browser: Browser, place: Place) -> None:
+    """What revokes nothing, or too much, is asked back about, and nothing is proposed."""
+    whole = unsigned(105) + b"12345"
+    number = place.does("ann", "/requests", whole, Desk_Title="of a length that isn't a multiple of 8")["request"]
+    facts = place.ask("olga", "GET", f"/requests/{number}").json()
+    fingerprint = hashlib.sha256(CERTIFICATE).hexdigest()
+    tbs = hashlib.sha256(CERTIFICATE[2:]).hexdigest()
+    before = place.ask("olga", "GET", "/proposals").body
+    browser.sign_in(place.tokens["olga"])
+    browser.go("propose")
+    for given, told, meant in ((facts["file"], "the SHA-256 of the whole file", [facts["digest"], facts["signing"]]), (tbs, "names a certificate", []), (facts["digest"], "has two digests", [facts["signing"]])):
+        browser.fill("Digests, one a line", given)
+        slip(browser, told, meant)
+    browser.go("propose/certificate")
+    for given, told, meant in ((fingerprint, "the fingerprint", [tbs]), (facts["digest"], "of an image", [])):
+        browser.fill("Or the SHA-256 of its TBSCertificate", given)
+        slip(browser, told, meant)
+    browser.go("propose/level")
+    browser.fill("Component", "grub")
+    for generation, stamp, told in (("70000", "2099010100", "16 bits"), ("90", "2099010100", "far above"), ("9", "9999999999", "isn’t a date")):
+        browser.fill("Generation", generation)
+        browser.fill("Stamp", stamp)
+        slip(browser, told, [])
+    browser.fill("Stamp", "2026-11-27")
+    browser.press("Propose")
+    browser.sees("A stamp has ten digits")
+    if place.ask("olga", "GET", "/proposals").body != before:
+        fail("a slip was proposed")
+
+
+def slip(browser: Browser, told: str, meant: list) -> None:
+    browser.press("Propose")
+    browser.sees("Is that what you mean?")
+    browser.sees(told)
+    for digest in meant:
+        browser.sees(str(digest))
+    browser.press("Change it")
+    until(10, "the dialog is gone", lambda: not browser.all("dialog"))
+
+
+def headers(place: Place) -> None:
+    """The page's own fields, and that it has no way to markup."""
+    policy = place.ask("", "GET", "/", port=place.port).fields.get("Content-Security-Policy", "")
+    for part in ("default-src 'none'", "script-src 'self'", "style-src 'self'", "img-src 'self'", "connect-src 'self'", "frame-ancestors 'none'"):
+        if part not in policy:
+            fail(f"the policy of the page lacks {part}: {policy}")
+    fields = place.ask("", "GET", "/page/main.js", port=place.port).fields
+    if fields.get("X-Content-Type-Options") != "nosniff" or fields.get("Referrer-Policy") != "no-referrer":
+        fail(f"the fields of a script: {fields}")
+    answer = place.ask("ann", "GET", "/nowhere", port=place.port)
+    if json.loads(answer.body) != {"name": "NoRoute", "refused": 53}:
+        fail(f"/nowhere: {answer}")

@@ -1,0 +1,141 @@
+// Requests to the desk, and what came of each. The token lives in this module's memory alone: it is
+// in no storage, no cookie and no address, and a reload forgets it.
+
+/**
+ * What came: a value of the desk, its refusal, no answer of the desk (`lost`: whether a command was
+ * accepted is open), or a stop by the person, `sent` if all bytes had gone out by then.
+ * @typedef {{ kind: 'value', value: any }
+ *   | { kind: 'refused', status: number, name: string, number: number, at?: number }
+ *   | { kind: 'lost', status: number, name?: string }
+ *   | { kind: 'stopped', sent: boolean }} Answer
+ */
+
+let token = '';
+
+/** @param {string} text what Desk-Token has from now on; empty for none */
+export function setToken(text) {
+    token = text;
+}
+
+/** Whether a text has the form of a token. @param {string} text */
+export function isToken(text) {
+    return /^[!-~]{16,128}$/.test(text);
+}
+
+/** @param {Record<string, string>} fields */
+function headers(fields) {
+    return token === '' ? fields : { 'Desk-Token': token, ...fields };
+}
+
+/**
+ * The answer that a status and its body are. The proxy's own answers have no JSON, so they go by
+ * their status.
+ * @param {number} status
+ * @param {string} text
+ * @returns {Answer}
+ */
+function refusal(status, text) {
+    let body = null;
+    try {
+        body = JSON.parse(text);
+    } catch {
+        // The proxy's own page, or nothing.
+    }
+    const name = typeof body?.name === 'string' ? body.name : '';
+    if (status === 0 || status === 429 || status >= 500 && status !== 501) return { kind: 'lost', status, name };
+    if (name !== '') return { kind: 'refused', status, name, number: Number(body.refused), at: body.at };
+    const byStatus = { 401: ['UnknownCaller', 20], 413: ['TooLarge', 56] }[status];
+    return {
+        kind: 'refused',
+        status,
+        name: byStatus ? byStatus[0] : `HTTP ${status}`,
+        number: byStatus ? byStatus[1] : 0,
+    };
+}
+
+/** @param {number} milliseconds */
+export function pause(milliseconds) {
+    return new Promise((resolve) => setTimeout(resolve, milliseconds));
+}
+
+/** How long to wait before each further try of its own, in milliseconds. */
+export const PAUSES = [1000, 2000, 4000];
+
+/**
+ * Reads a resource, asking again by itself where no answer comes: reading changes nothing.
+ * @param {string} path
+ * @param {'json' | 'text' | 'bytes'} [as]
+ * @returns {Promise<Answer>}
+ */
+export async function get(path, as = 'json') {
+    let answer = await once(path, as);
+    for (const wait of PAUSES) {
+        if (answer.kind !== 'lost') return answer;
+        await pause(wait);
+        answer = await once(path, as);
+    }
+    return answer;
+}
+
+/**
+ * @param {string} path
+ * @param {'json' | 'text' | 'bytes'} as
+ * @returns {Promise<Answer>}
+ */
+async function once(path, as) {
+    try {
+        const response = await fetch(
+            path,
+            { headers: headers({}), cache: 'no-store', redirect: 'error', referrerPolicy: 'no-referrer' },
+        );
+        if (response.status !== 200) return refusal(response.status, await response.text());
+        if (as === 'json') return { kind: 'value', value: await response.json() };
+        if (as === 'text') return { kind: 'value', value: await response.text() };
+        return { kind: 'value', value: new Uint8Array(await response.arrayBuffer()) };
+    } catch {
+        return { kind: 'lost', status: 0 };
+    }
+}
+
+/**
+ * Posts a body once. XMLHttpRequest tells how much of it has gone out, which fetch doesn't.
+ * @param {string} path
+ * @param {Record<string, string>} fields
+ * @param {XMLHttpRequestBodyInit} body
+ * @param {{ progress?: (sent: number, whole: number) => void, stop?: AbortSignal }} [how]
+ * @returns {Promise<Answer>}
+ */
+export function post(path, fields, body, how = {}) {
+    return new Promise((resolve) => {
+        const request = new XMLHttpRequest();
+        let sent = false;
+        request.open('POST', path);
+        for (const [name, value] of Object.entries(headers(fields))) request.setRequestHeader(name, value);
+        request.upload.addEventListener('progress', (event) => how.progress?.(event.loaded, event.total));
+        request.upload.addEventListener('load', () => {
+            sent = true;
+            how.progress?.(1, 1);
+        });
+        const stop = () => request.abort();
+        how.stop?.addEventListener('abort', stop);
+        request.addEventListener('abort', () => resolve({ kind: 'stopped', sent }));
+        request.addEventListener('error', () => resolve({ kind: 'lost', status: 0 }));
+        request.addEventListener(
+            'load',
+            () => resolve(
+                request.status === 200 ? reply(request.responseText) : refusal(request.status, request.responseText),
+            ),
+        );
+        request.addEventListener('loadend', () => how.stop?.removeEventListener('abort', stop));
+        request.send(body);
+    });
+}
+
+/** @param {string} text @returns {Answer} */
+function reply(text) {
+    try {
+        return { kind: 'value', value: JSON.parse(text) };
+    } catch {
+        return { kind: 'lost', status: 200 };
+    }
+}

@@ -1,0 +1,96 @@
+// The facts that the desk keeps of an image, and whether a file at hand is that image.
+
+import { box, fill, h, quiet, section, strong } from './dom.js';
+import { fileField } from './files.js';
+import { digest, grouped } from './words.js';
+
+/** @typedef {import('./requests.js').Request} Request */
+
+/** @param {Request} it */
+export function factsPart(it) {
+    const rows = [
+        ['SHA-256 of the file', 'as sha256sum prints it', digest(it.file, 'the SHA-256 of the file')],
+        ['Digest', 'Authenticode; db and dbx name the image by it', digest(it.digest, 'the digest')],
+        [
+            'Digest in a signature',
+            'of the image padded to a multiple of 8 bytes',
+            it.signing === it.digest ? 'the same digest' : digest(it.signing, 'the digest in a signature'),
+        ],
+        ['Length', '', `${grouped(it.length)} bytes`],
+        [
+            'Certificates that it carries',
+            'SHA-256 of each TBSCertificate',
+            it.carried.length === 0 ? 'none' : it.carried.map((one) => digest(one, 'the certificate')),
+        ],
+        [
+            'Returned file',
+            'its SHA-256',
+            it.returned ? digest(it.returned, 'the SHA-256 of the returned file') : 'none yet',
+        ],
+    ];
+    return section(
+        'Facts',
+        h(
+            'dl',
+            { class: 'facts' },
+            rows.map(
+                ([name, hint, value]) => h(
+                    'div',
+                    {},
+                    h('dt', {}, name, hint ? h('span', { class: 'hint' }, ` ${hint}`) : null),
+                    h('dd', {}, value),
+                ),
+            ),
+        ),
+    );
+}
+
+/** @param {Request} it @param {import('./standing.js').Standing | null} now */
+export function componentsPart(it, now) {
+    const title = 'SBAT components';
+    if (it.components.length === 0) return section(title, quiet('It has none.'));
+    const row = ([/** @type {string} */ name, /** @type {number} */ generation]) => {
+        const needed = now?.level.names.get(name);
+        const low = needed !== undefined && generation < needed;
+        const high = needed === undefined ? 'not in the level' : 'at the level or above';
+        const remark = low ? h('strong', { class: 'bad-text' }, 'below the level: barred') : high;
+        return h(
+            'tr',
+            { class: low ? 'low' : null },
+            h('td', { 'data-label': 'Component' }, h('code', {}, name)),
+            h('td', { 'data-label': 'Generation' }, grouped(generation)),
+            h('td', { 'data-label': 'Level requires' }, needed === undefined ? '–' : grouped(needed)),
+            h('td', { 'data-label': 'So it is' }, now ? remark : ''),
+        );
+    };
+    const labels = ['Component', 'Generation', 'Level requires', 'So it is'];
+    const head = labels.map((text) => h('th', { scope: 'col' }, text));
+    return section(
+        title,
+        h(
+            'table',
+            { class: 'short' },
+            h('caption', {}, 'Of its section .sbat'),
+            h('thead', {}, h('tr', {}, head)),
+            h('tbody', {}, it.components.map(row)),
+        ),
+    );
+}
+
+/** Whether a file at hand is the one of this request. @param {Request} it */
+export function comparePart(it) {
+    const said = h('div', { class: 'answer', role: 'status' });
+    const hint = 'It stays in this browser: only its SHA-256 is compared.';
+    const { place } = fileField('Compare a file with this request', hint, (chosen) => {
+        fill(said, chosen ? compared(chosen.sha256, it) : null);
+    });
+    return section('Is it the file that you have?', place, said);
+}
+
+/** @param {string} sha256 @param {Request} it */
+function compared(sha256, it) {
+    if (sha256 === '') return box('care', 'This browser works out no SHA-256 here. Compare that of sha256sum by eye.');
+    if (sha256 === it.file) return box('good', strong('The same. '), 'This is the file that was submitted.');
+    if (sha256 === it.returned) return box('good', strong('The same. '), 'This is the signed file that was returned.');
+    return box('bad', strong('Another file. '), 'It was neither submitted nor returned for this request. Don’t vote by it.');
+}

@@ -1,0 +1,194 @@
+// What is listed (db), what is revoked (dbx) and the level: to look at, to download, and for officers
+// to list and to take off.
+
+import { get } from './api.js';
+import { act, anew, read, refusalBox } from './act.js';
+import { known, settled } from './asking.js';
+import { answers, box, button, buttons, field, fill, h, heading, p, quiet, section, strong, sure } from './dom.js';
+import { certificateFile } from './certificate.js';
+import { digestDoubts } from './doubts.js';
+import { download } from './files.js';
+import { Command, jsonCommand } from './keys.js';
+import { me } from './session.js';
+import { changed, standing } from './standing.js';
+import { paged } from './table.js';
+import { counted, digest, digestTyped, grouped, joined } from './words.js';
+
+/** @typedef {import('./standing.js').Standing} Standing */
+
+/** @param {HTMLElement} place */
+export function listsView(place) {
+    heading(place, 'Lists');
+    const inner = h('div', {});
+    place.append(inner);
+    show(inner);
+}
+
+/** @param {HTMLElement} place @param {any[]} first */
+function show(place, ...first) {
+    anew(place, first);
+    return read(
+        place,
+        standing,
+        (now) => place.append(downloads(now), allowed(place, now), revoked(now), levelPart(now)),
+    );
+}
+
+/** @param {Standing} now */
+function downloads(now) {
+    const said = answers();
+    const one = (/** @type {string} */ path, /** @type {string} */ name, /** @type {string} */ text) => button(text, async () => {
+        const answer = await get(path, 'bytes');
+        if (answer.kind === 'value') download([answer.value], name);
+        else fill(said, refusalBox(answer));
+    });
+    return h(
+        'section',
+        {},
+        buttons(
+            one('/dbx', 'dbx.esl', `Download dbx (${counted(now.bytes.dbx, 'byte')})`),
+            one('/db', 'db.esl', `Download db (${counted(now.bytes.db, 'byte')})`),
+            one('/level', 'level.csv', 'Download the level'),
+        ),
+        quiet(
+            'dbx and db are EFI signature lists without a signature: sign them before you publish them. ',
+            'A file without an entry has no bytes.',
+        ),
+        said,
+    );
+}
+
+/** @param {HTMLElement} place @param {Standing} now */
+function allowed(place, now) {
+    const said = answers();
+    const off = (/** @type {'digest' | 'certificate'} */ kind, /** @type {string} */ hex, /** @type {string} */ what) => {
+        if (!me.officer) return '';
+        const one = button('Unlist…', async () => {
+            if (!(await sure(
+                'Take it off the list?',
+                [
+                    p(`Images that only ${what} makes allowed are then not-listed. No other officer confirms it.`),
+                ],
+                'Unlist it',
+            ))) return;
+            const reply = await act(
+                jsonCommand(`Unlist ${what}`, '/db/unlist', { digest: hex, kind }),
+                said,
+                { off: [one] },
+            );
+            changed();
+            if (reply) show(place, h('div', { role: 'status' }, box('good', strong('Unlisted.'))));
+        }, 'small');
+        one.setAttribute('aria-label', `Unlist ${what}`);
+        return one;
+    };
+    const certificates = paged({
+        caption: 'Listed certificates',
+        head: ['Subject', 'SHA-256 of TBSCertificate', ''],
+        kind: 'short',
+        empty: 'No certificate is listed.',
+        row: (/** @type {import('./standing.js').Listed} */ it) => [
+            it.subject || 'no common name',
+            digest(it.tbs, 'the certificate'),
+            off('certificate', it.tbs, `certificate ${it.subject || it.tbs.slice(0, 12)}`),
+        ],
+    });
+    certificates.set([...now.listed.certificates.values()]);
+    const digests = paged({
+        caption: 'Listed digests',
+        head: ['Digest', ''],
+        kind: 'short',
+        empty: 'No digest is listed.',
+        row: (/** @type {string} */ it) => [digest(it, 'the digest'), off('digest', it, `digest ${it.slice(0, 12)}`)],
+    });
+    digests.set([...now.listed.digests]);
+    return section(
+        'db: what is listed',
+        quiet(
+            'An image is allowed if its digest or a certificate that it carries is listed, and nothing bars it. ',
+            'One officer lists alone.',
+        ),
+        certificates.place,
+        digests.place,
+        me.officer ? listing(place) : null,
+        said,
+    );
+}
+
+/** @param {HTMLElement} place */
+function listing(place) {
+    const said = answers();
+    const done = (/** @type {any} */ reply) => {
+        changed();
+        if (reply) show(place, h('div', { role: 'status' }, box('good', strong('Listed.'), ' It is in db now.')));
+    };
+    /** @type {Uint8Array | null} */
+    let der = null;
+    const file = certificateFile('Certificate', (_tbs, bytes) => (der = bytes));
+    const fault = h('p', { class: 'fault', role: 'status' });
+    const certificate = h('button', { type: 'submit', class: 'main' }, 'List this certificate');
+    const input = h('input', { type: 'text', class: 'mono', autocomplete: 'off', spellcheck: 'false' });
+    const image = h('button', { type: 'submit', class: 'main' }, 'List this digest');
+    return h('details', {}, h('summary', {}, 'List a certificate or a digest'),
+        h('form', { class: 'act', novalidate: true, onsubmit: async (/** @type {Event} */ event) => {
+            event.preventDefault();
+            fault.textContent = der ? '' : 'Choose a certificate’s file.';
+            if (!der) return file.input.focus();
+            return done(
+                await act(new Command('List a certificate', '/db/certificates', der), said, { off: [certificate] }),
+            );
+        } }, file.place, file.told, buttons(certificate)),
+        h('form', { class: 'act', novalidate: true, onsubmit: async (/** @type {Event} */ event) => {
+            event.preventDefault();
+            const hex = digestTyped(input.value);
+            fault.textContent = hex ? '' : 'A digest is 64 hexadecimal digits.';
+            if (!hex) return input.focus();
+            const all = await known();
+            if ('kind' in all) return fill(said, refusalBox(all));
+            const doubts = digestDoubts(hex, all).filter((it) => !it.text.startsWith('Request '));
+            if (await settled(doubts, 'List it all the same')) done(
+                await act(jsonCommand('List a digest', '/db/digests', { digest: hex }), said, { off: [image] }),
+            );
+            return undefined;
+        } }, field('Digest of an image', input, 'Its Authenticode digest, as a request has it.'), buttons(image)),
+        fault, said);
+}
+
+/** @param {Standing} now */
+function revoked(now) {
+    const counts = joined([counted(now.revoked.digests.size, 'digest'), counted(now.revoked.certificates.size, 'certificate')]);
+    const rows = [
+        ...[...now.revoked.digests].map((it) => ['Digest', it]),
+        ...[...now.revoked.certificates].map((it) => ['Certificate', it]),
+    ];
+    const table = paged({
+        caption: 'Revoked',
+        head: ['Kind', 'SHA-256'],
+        kind: 'short',
+        empty: 'Nothing is revoked.',
+        row: (/** @type {string[]} */ [kind, it]) => [kind, digest(it, `the ${kind.toLowerCase()}`)],
+    });
+    table.set(rows);
+    return section(
+        'dbx: what is revoked',
+        quiet(`${counts}. Nothing takes a revocation back.`),
+        table.place,
+    );
+}
+
+/** @param {Standing} now */
+function levelPart(now) {
+    const table = paged({
+        caption: 'Generations',
+        head: ['Component', 'Generation'],
+        kind: 'short',
+        empty: 'No component has a generation yet.',
+        row: (/** @type {[string, number]} */ [name, generation]) => [h('code', {}, name), grouped(generation)],
+    });
+    table.set([...now.level.names]);
+    return section(
+        'The SBAT level',
+        quiet(`Stamp ${now.level.stamp}. An image with a component below its generation here is barred.`),
+        table.place,
+    );
+}

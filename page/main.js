@@ -1,0 +1,136 @@
+// The page: who is signed in, which view is shown, and the commands that wait for an answer. The
+// page isn't proved and decides nothing; what it shows is what the desk answered.
+
+import { lostBox, refusalBox } from './act.js';
+import { fill, h, p, quiet, sure } from './dom.js';
+import { onChange, unanswered } from './keys.js';
+import { listsView } from './lists.js';
+import { proposalView } from './proposal.js';
+import { proposalsView } from './proposals.js';
+import { proposeView } from './propose.js';
+import { reportView } from './report.js';
+import { requestView } from './request.js';
+import { requestsView } from './requests.js';
+import { submitView } from './send.js';
+import { me, role, signIn, signOut, tokenFault } from './session.js';
+import { changed } from './standing.js';
+import { verdictView } from './verdict.js';
+
+/** @param {string} id @returns {any} */
+const part = (id) => document.getElementById(id);
+
+/** @type {[string, string, () => boolean][]} the views in the navigation, and for whom they are */
+const VIEWS = [
+    ['requests', 'Requests', () => true],
+    ['submit', 'Submit', () => me.submitter],
+    ['proposals', 'Proposals', () => me.officer],
+    ['propose', 'Propose', () => me.officer],
+    ['lists', 'Lists', () => true],
+    ['check', 'Check an image', () => true],
+    ['report', 'Report', () => me.officer],
+];
+
+/** Whether a word is the number of a request or a proposal. @param {string | undefined} word */
+const isNumber = (word) => /^[1-9][0-9]{0,5}$/.test(word ?? '');
+
+/** @type {Record<string, (place: HTMLElement, words: string[]) => any>} */
+const SHOWS = {
+    requests: (place, words) => (isNumber(words[0]) ? requestView(place, words) : requestsView(place)),
+    submit: submitView,
+    proposals: (place, words) => (isNumber(words[0]) ? proposalView(place, words) : proposalsView(place)),
+    propose: proposeView,
+    lists: listsView,
+    check: verdictView,
+    report: reportView,
+};
+
+function show() {
+    const [, name = '', ...words] = location.hash.split('/');
+    const [view, , isFor] = VIEWS.find(([one]) => one === name) ?? VIEWS[0];
+    part('sign-in').hidden = me.known;
+    part('frame').hidden = !me.known;
+    if (!me.known) return;
+    const mine = isFor() ? view : 'requests';
+    fill(
+        part('views'),
+        VIEWS.filter(([, , may]) => may()).map(
+            ([one, text]) => h('a', { href: `#/${one}`, 'aria-current': one === mine ? 'page' : null }, text),
+        ),
+    );
+    part('who').textContent = role();
+    const place = h('div', { class: 'view' });
+    fill(part('main'), place);
+    scrollTo(0, 0);
+    SHOWS[mine](place, mine === name ? words : []);
+}
+
+/** The commands whose answer is missing, on whatever view the person is. */
+function waiting() {
+    const lost = [...unanswered].filter((command) => command.state === 'lost');
+    const elsewhere = lost.filter(() => !document.querySelector('main .answer .box.care'));
+    fill(part('waiting'), elsewhere.map(lostBox));
+}
+
+async function enter(/** @type {Event} */ event) {
+    event.preventDefault();
+    const field = part('token');
+    const token = field.value.trim();
+    const said = part('sign-in-answer');
+    const fault = tokenFault(token);
+    if (fault) {
+        fill(said, h('p', { class: 'fault' }, fault));
+        return field.focus();
+    }
+    part('enter').disabled = true;
+    fill(said, quiet('Asking the desk…'));
+    const answer = await signIn(token);
+    part('enter').disabled = false;
+    if (answer) {
+        fill(said, refusalBox(answer));
+        return field.focus();
+    }
+    field.value = '';
+    fill(said);
+    show();
+    return part('main').querySelector('h1')?.focus();
+}
+
+async function leave() {
+    if (unanswered.size > 0 && !(await sure(
+        'Sign out now?',
+        [
+            p('A command still waits for its answer. Its key is lost with this page’s memory, so it can’t be asked for again.'),
+        ],
+        'Sign out',
+        'Stay',
+    ))) return;
+    for (const command of unanswered) command.forget();
+    signOut();
+    changed();
+    history.replaceState(null, '', location.pathname);
+    document.title = 'Kovelamiru';
+    fill(part('main'));
+    show();
+    part('token').focus();
+}
+
+onChange(waiting);
+addEventListener('hashchange', () => {
+    show();
+    waiting();
+    part('main').querySelector('h1')?.focus();
+});
+addEventListener('beforeunload', (event) => {
+    if (unanswered.size > 0) event.preventDefault();
+});
+// A file that misses its field must not replace the page.
+addEventListener('dragover', (event) => event.preventDefault());
+addEventListener('drop', (event) => event.preventDefault());
+part('sign-in-form').addEventListener('submit', enter);
+part('leave').addEventListener('click', leave);
+part('skip').addEventListener('click', (/** @type {Event} */ event) => {
+    event.preventDefault();
+    part(me.known ? 'main' : 'token').focus();
+});
+show();
+part('token').focus();

@@ -1,0 +1,98 @@
+// What stands now: the lists and the level, read from the desk's own exports and parsed here.
+
+import { get } from './api.js';
+import { subjectOf, tbsOf } from './der.js';
+import { sha256 } from './files.js';
+import { digestIn, entriesOf } from './siglist.js';
+
+/**
+ * @typedef {{ tbs: string, subject: string, fingerprint: string, length: number }} Listed
+ * @typedef {{ stamp: number, names: Map<string, number> }} Level
+ * @typedef {{ listed: { digests: Set<string>, certificates: Map<string, Listed> },
+ *   revoked: { digests: Set<string>, certificates: Set<string> }, level: Level, bytes: { db: number, dbx: number } }} Standing
+ */
+
+/** How long what was read is taken as it was, in milliseconds. */
+const FRESH = 20000;
+
+/** @type {{ at: number, value: Standing } | null} */
+let kept = null;
+
+/** Forgets what was read: a command of this page may have changed it. */
+export function changed() {
+    kept = null;
+}
+
+/** @returns {Promise<import('./api.js').Answer>} of a Standing */
+export async function standing() {
+    if (kept && Date.now() - kept.at < FRESH) return { kind: 'value', value: kept.value };
+    const at = Date.now();
+    const answers = await Promise.all([get('/level', 'text'), get('/db', 'bytes'), get('/dbx', 'bytes')]);
+    const fault = answers.find((answer) => answer.kind !== 'value');
+    if (fault) return fault;
+    const [level, db, dbx] = answers.map((answer) => /** @type {any} */ (answer).value);
+    const value = {
+        level: levelOf(level),
+        listed: await listedOf(db),
+        revoked: revokedOf(dbx),
+        bytes: { db: db.length, dbx: dbx.length },
+    };
+    kept = { at, value };
+    return { kind: 'value', value };
+}
+
+/**
+ * A level's text: its stamp, and the greatest generation of each name.
+ * @param {string} text
+ * @returns {Level}
+ */
+export function levelOf(text) {
+    const [first, ...rows] = text.split(/\r?\n/).filter((line) => line !== '').map((line) => line.split(','));
+    const names = new Map();
+    for (const [name, generation] of rows) names.set(name, Math.max(names.get(name) ?? 0, Number(generation)));
+    return { stamp: Number(first?.[2]), names };
+}
+
+/** @param {Uint8Array} db */
+async function listedOf(db) {
+    const digests = new Set();
+    /** @type {Map<string, Listed>} */
+    const certificates = new Map();
+    const read = entriesOf(db);
+    for (const entry of 'entries' in read ? read.entries : []) {
+        if (entry.kind === 'sha256') digests.add(digestIn(entry));
+        const tbs = entry.kind === 'x509' ? tbsOf(entry.body) : null;
+        if (!tbs) continue;
+        const name = await sha256(tbs);
+        certificates.set(
+            name,
+            { tbs: name, subject: subjectOf(tbs), fingerprint: await sha256(entry.body), length: entry.body.length },
+        );
+    }
+    return { digests, certificates };
+}
+
+/** @param {Uint8Array} dbx */
+function revokedOf(dbx) {
+    const digests = new Set();
+    const certificates = new Set();
+    const read = entriesOf(dbx);
+    for (const entry of 'entries' in read ? read.entries : []) {
+        (entry.kind === 'sha256' ? digests : certificates).add(digestIn(entry));
+    }
+    return { digests, certificates };
+}
+
+/**
+ * Why an image with these facts is barred today, or null: the rules of a verdict but for the lists.
+ * @param {Standing} now
+ * @param {{ digest: string, signing: string, carried: string[], components: [string, number][] }} facts
+ */
+export function barredBy(now, facts) {
+    if (now.revoked.digests.has(facts.digest) || now.revoked.digests.has(facts.signing)) {
+        return { verdict: 'dbx-digest' };
+    }
+    if (facts.carried.some((it) => now.revoked.certificates.has(it))) return { verdict: 'dbx-certificate' };
+    const low = facts.components.find(([name, generation]) => generation < (now.level.names.get(name) ?? 0));
+    return low ? { verdict: 'sbat', component: low[0], generation: low[1], level: now.level.names.get(low[0]) } : null;
+}
