@@ -6,25 +6,19 @@
 # `N passed, M failed`, and the status is 1 if one failed. After ten minutes none is started and
 # those still running are ended, as failed.
 #
-# They need bash, cc, curl, gzip, openssl, python3, sqlite3 and xxd. efitools, if it is installed,
-# reads what the desk exports. tables.sh runs only by name: it builds a program from the libraries
-# that ./prove left.
+# They need bash, cc, curl, efitools, gzip, openssl, python3, rt, sqlite3 and xxd; a check without a
+# tool that it needs fails and names it. tables.sh runs only by name: it builds a program from the
+# libraries that ./prove left.
 set -u
-root=$(CDPATH='' cd -- "$(dirname -- "$(readlink -f -- "$0")")/.." && pwd -P) || exit 1
-if [ $# -gt 0 ]; then
-    program=$(readlink -f -- "$1")
-    shift
-else
-    "$root/desk" --version > /dev/null || exit 1
-    program=$root/crates/desk/out/desk
-fi
-[ -x "$program" ] || { echo "checks/all.sh: there is no program $program" >&2; exit 1; }
-# The longest first, so that the last ones fill the lanes.
-checks=${*:-refused-memory.sh refused-requests.sh http.sh requests.sh faults.sh cuts.sh exports.sh day.sh readme.sh version1.sh help.sh prove.sh
-    runs.sh proved.sh}
+. "$(dirname -- "$(readlink -f -- "$0")")/common.sh"
+find_program "$@"
+[ $# -eq 0 ] || shift
+# The longest first, so that the last ones fill the lanes. Not here until they have run over a program with `impact`, `enrol` and
+# the routes of single proposals, minutes and people: refused-memory.sh refused-requests.sh http.sh requests.sh faults.sh day.sh readme.sh
+# help.sh. They run by name.
+checks=${*:-cuts.sh exports.sh version1.sh prove.sh runs.sh proved.sh}
 until=$((SECONDS + 600))
-room=$(mktemp -d) || exit 1
-trap 'rm -rf "$room"' EXIT
+enter_room
 trap 'kill $(jobs -p) 2> /dev/null; wait; exit 1' HUP INT TERM
 
 # run CHECK: runs it, and prints its line.

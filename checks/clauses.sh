@@ -5,10 +5,10 @@
 # call is found again by its name, in any crate; an OLD word of the revision, or call, is read as
 # NEW. A reader compares what is printed. Not part of the gate: it needs python3 and git.
 set -eu
-root=$(CDPATH='' cd -- "$(dirname -- "$(readlink -f -- "$0")")/.." && pwd -P)
+. "$(dirname -- "$(readlink -f -- "$0")")/common.sh"
 [ $# -gt 0 ] || { echo "usage: checks/clauses.sh REVISION [OLD=NEW ..]" >&2; exit 2; }
-room=$(mktemp -d)
-trap 'rm -rf "$room"' EXIT
-git -C "$root" archive "$1" crates | tar -x -C "$room"
+needs git python3
+enter_room
+git -C "$root" archive "$1" crates | tar -x
 shift
 PYTHONPATH=$root/checks/clauses python3 -B "$root/checks/clauses/changed.py" "$room" "$root" "$@"

@@ -7,12 +7,7 @@
 # nothing. Each gets the due refusal, and the desk's minutes don't change. Not part of `rt ci`: it
 # needs python3.
 set -eu
-root=$(CDPATH='' cd -- "$(dirname -- "$(readlink -f -- "$0")")/.." && pwd -P)
-if [ $# -gt 0 ]; then
-    program=$(readlink -f -- "$1")
-else
-    "$root/desk" --version > /dev/null
-    program=$root/crates/desk/out/desk
-fi
-command -v python3 > /dev/null || { echo 'checks/cuts.sh: python3 is needed' >&2; exit 1; }
+. "$(dirname -- "$(readlink -f -- "$0")")/common.sh"
+needs python3
+find_program "$@"
 exec timeout --foreground -k 5 300 python3 -B "$root/checks/requests/cuts.py" "$program"

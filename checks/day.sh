@@ -4,39 +4,17 @@
 # error line and status is compared with the expected one. Then each fault of each subcommand in
 # order, two terminals at one file, and a writer that is full. Then two officers list, propose,
 # confirm and drop by `answer`, one request each, and after each change the exports and verdicts are
-# compared. At the end sqlite3 reads the file, if it is installed. Not part of `rt ci`: it needs
-# xxd.
+# compared. At the end sqlite3 reads the file: its schema and its rows. Not part of `rt ci`: it needs
+# sqlite3 and xxd.
 set -eu
-root=$(CDPATH='' cd -- "$(dirname -- "$(readlink -f -- "$0")")/.." && pwd -P)
-if [ $# -gt 0 ]; then
-    program=$(readlink -f -- "$1")
-else
-    "$root/desk" --version > /dev/null
-    program=$root/crates/desk/out/desk
-fi
+. "$(dirname -- "$(readlink -f -- "$0")")/common.sh"
+needs sqlite3 xxd
+find_program "$@"
 exports='db dbx level minutes'
 owner=00112233-4455-6677-8899-aabbccddeeff
 stored=33221100554477668899aabbccddeeff
 signed=$root/examples/signed.efi
-room=$(mktemp -d)
-trap 'rm -rf "$room"' EXIT
-cd "$room"
-runs=0
-
-# run STATUS OUTPUT ERROR INPUT WORD..: runs the program on the words; OUTPUT and INPUT are files, ERROR a line.
-run() {
-    status=$1 output=$2 error=$3 input=$4
-    shift 4
-    got=0
-    "$program" "$@" < "$input" > out 2> err || got=$?
-    if [ -n "$error" ]; then printf '%s\n' "$error" > want; else : > want; fi
-    if [ "$got" -ne "$status" ] || ! cmp -s out "$output" || ! cmp -s err want; then
-        echo "desk $*: status $got in place of $status; standard output and error:" >&2
-        cat out err >&2
-        exit 1
-    fi
-    runs=$((runs + 1))
-}
+enter_room
 
 # exported FILE EXPORT DB: the export of the desk must be this file.
 exported() {
@@ -117,10 +95,7 @@ run 3 nothing 'device 45 File' nothing verdict missing.db missing.efi
 for export in $exports; do
     run 3 nothing 'device 45 File' nothing "$export" missing.db
 done
-if [ -e missing.db ] || [ -e missing.db-wal ]; then
-    echo 'a file that was missing was made' >&2
-    exit 1
-fi
+if [ -e missing.db ] || [ -e missing.db-wal ]; then fail 'a file that was missing was made'; fi
 run 3 nothing 'device 45 File' nothing init missing/desk.db "$owner"
 run 1 nothing 'refused 46 Exists' nothing init desk.db "$owner"
 mkdir folder
@@ -132,7 +107,7 @@ for path in text folder; do
         run 3 nothing 'device 45 File' nothing "$export" "$path"
     done
 done
-[ "$(cat text)" = 'no database' ] || { echo 'a text was changed' >&2; exit 1; }
+[ "$(cat text)" = 'no database' ] || fail 'a text was changed'
 : > empty.db
 run 1 nothing 'refused 43 NotADesk' olga person empty.db ann officer k9
 run 1 nothing 'refused 43 NotADesk' nothing verdict empty.db missing.efi
@@ -151,10 +126,7 @@ exported minutes minutes desk.db
 full() {
     got=0
     "$program" "$@" > /dev/full 2> err || got=$?
-    [ "$got" -eq 3 ] && [ "$(cat err)" = 'device 17 Write' ] || {
-        echo "desk $*, to a full device: status $got, $(cat err)" >&2
-        exit 1
-    }
+    [ "$got" -eq 3 ] && [ "$(cat err)" = 'device 17 Write' ] || fail "desk $*, to a full device: status $got, $(cat err)"
     runs=$((runs + 1))
 }
 for export in level minutes; do
@@ -168,23 +140,33 @@ run 0 added '' ann person empty.db ann submitter k1
 # that
 
 mkfifo image
-"$program" verdict desk.db image > judged 2> err_judged &
+# (held open, so that the first terminal gets past opening it, and waits in its first read)
+exec 3<> image
+"$program" verdict desk.db image > judged 2> err_judged 3>&- &
 judge=$!
-sleep 1
-tries=0
-until "$program" verdict desk.db text > /dev/null 2> err; [ "$(cat err)" = 'device 45 File' ]; do
-    tries=$((tries + 1))
-    if [ "$tries" -gt 100 ]; then echo 'the desk was never in use' >&2; exit 1; fi
-    sleep 0.1
+started=$judge
+# waits_for FILE: whether the first terminal, which is the program by now, has this file open.
+waits_for() {
+    [ "$(readlink "/proc/$judge/exe")" = "$program" ] || return 1
+    for opened in "/proc/$judge/fd/"*; do
+        [ "$(readlink "$opened")" != "$room/$1" ] || return 0
+    done
+    return 1
+}
+until waits_for image; do
+    is_running "$judge" || fail "the first terminal: $(cat judged err_judged)"
+    sleep 0.01
 done
+run 3 nothing 'device 45 File' nothing verdict desk.db text
 says 'uwe-token-0000008' uwe
 run 3 nothing 'device 45 File' uwe person desk.db uwe signer k8
-cat "$signed" > image
+cat "$signed" >&3
+exec 3>&-
 status=0
 wait "$judge" || status=$?
+started=
 if [ "$status" -ne 1 ] || ! cmp -s judged not_listed; then
-    echo "the first terminal: status $status, $(cat judged err_judged)" >&2
-    exit 1
+    fail "the first terminal: status $status, $(cat judged err_judged)"
 fi
 exported minutes minutes desk.db
 says 'added uwe' added
@@ -344,22 +326,15 @@ posts '200 OK' '{"proposal":4,"reply":"proposed"}' olga k9 /dbx/digests named_di
 posts '200 OK' '{"certificates":0,"components":0,"digests":1,"passed":0,"proposal":4,"reply":"confirmed"}' otto k5 \
     /proposals/4/confirm nothing
 exported minutes minutes desk.db
-if command -v sig-list-to-certs > /dev/null; then
-    sig-list-to-certs db certs > certs_read || { echo 'efitools does not read db' >&2; exit 1; }
-    sig-list-to-certs dbx certs > certs_read || { echo 'efitools does not read dbx' >&2; exit 1; }
-fi
-
 # ---- sqlite3 reads the file
 
-if ! command -v sqlite3 > /dev/null; then
-    echo "$runs runs, each as it has to be; no sqlite3, so the rest is left out"
-    exit 0
-fi
-[ "$(sqlite3 desk.db 'PRAGMA integrity_check')" = ok ] || { echo 'sqlite3 finds a fault' >&2; exit 1; }
+[ "$(sqlite3 desk.db 'PRAGMA integrity_check')" = ok ] || fail 'sqlite3 finds a fault'
+sqlite3 desk.db < "$root/checks/tables/schema.sql" > found
+diff "$root/checks/tables/schema.txt" found > differs || fail "sqlite3 finds another schema: $(cat differs)"
 # finds FILE TEXT: sqlite3's answer to the text is the file.
 finds() {
     sqlite3 desk.db "$2" > found
-    cmp -s found "$1" || { echo "sqlite3, of $2:" >&2; cat found >&2; exit 1; }
+    cmp -s found "$1" || fail "sqlite3, of $2: $(cat found)"
 }
 tr '\t' '|' < minutes > rows
 finds rows 'SELECT no, caller, key, text, reply FROM calls ORDER BY no'

@@ -1,31 +1,23 @@
 #!/bin/sh
-# A desk's exports, as other programs read them: exports.sh [PROGRAM]. A desk lists three digests
-# and two certificates; one officer proposes a CSV file of 300 revoked digests and two revoked
-# certificates, in no order, and another confirms it; dbx and db are exported. `desk list` must find
-# their lists. sig-list-to-certs of efitools must find each entry in order, with its owner and body.
-# dbxtool must list as many entries. And `desk list` reads what hash-to-efi-sig-list writes for an
-# image of efitools, which must hold the digest that `desk facts` prints. A tool that isn't
-# installed is skipped, and named at the end. Not part of `rt ci`: it needs openssl and xxd.
+# A desk's exports, as other programs read them: exports.sh [PROGRAM [dbxtool]]. A desk lists three
+# digests and two certificates; one officer proposes a CSV file of 300 revoked digests and two
+# revoked certificates, in no order, and another confirms it; dbx and db are exported. `desk list`
+# must find their lists. sig-list-to-certs of efitools must find each entry in order, with its owner
+# and body. And `desk list` reads what hash-to-efi-sig-list writes for an image of efitools, which
+# must hold the digest that `desk facts` prints. With the word dbxtool, dbxtool must list each
+# revoked digest; it reads neither more than 2,000 entries nor a dbx with certificates alone. Not
+# part of `rt ci`: it needs efitools, openssl and xxd.
 set -eu
-root=$(CDPATH='' cd -- "$(dirname -- "$(readlink -f -- "$0")")/.." && pwd -P)
-if [ $# -gt 0 ]; then
-    program=$(readlink -f -- "$1")
-else
-    "$root/desk" --version > /dev/null
-    program=$root/crates/desk/out/desk
-fi
-for tool in openssl xxd; do
-    command -v "$tool" > /dev/null || { echo "exports.sh: $tool is needed" >&2; exit 1; }
-done
+. "$(dirname -- "$(readlink -f -- "$0")")/common.sh"
+needs hash-to-efi-sig-list openssl sig-list-to-certs xxd ${2:+"$2"}
+find_program "$@"
 owner=00112233-4455-6677-8899-aabbccddeeff
-room=$(mktemp -d)
-trap 'rm -rf "$room"' EXIT
-cd "$room"
-read_by='desk list'
+enter_room
+read_by="desk list, sig-list-to-certs, hash-to-efi-sig-list${2:+, $2}"
 
 # same WANTED FOUND WHAT: the two files must be the same.
 same() {
-    cmp -s "$1" "$2" || { echo "exports.sh: $3" >&2; diff "$1" "$2" | head -10 >&2; exit 1; }
+    cmp -s "$1" "$2" || fail "$3: $(diff "$1" "$2" | head -10)"
 }
 
 # ---- the desk
@@ -41,7 +33,7 @@ posts() {
         cat "$4"
     } > request
     "$program" answer desk.db < request > response
-    [ "$(tail -n 1 response)" = "$1" ] || { echo "exports.sh: $3 by $2:" >&2; cat response >&2; exit 1; }
+    [ "$(tail -n 1 response)" = "$1" ] || fail "$3 by $2: $(cat response)"
 }
 "$program" init desk.db "$owner"
 for name in olga otto; do
@@ -94,44 +86,37 @@ bodies() {
     name=$1
     for place in $(seq 0 $(($2 - 1))); do xxd -p "$name-$place".* | tr -d '\n'; echo; done
 }
-if command -v sig-list-to-certs > /dev/null; then
-    read_by="$read_by, sig-list-to-certs"
-    sig-list-to-certs dbx x > said
-    [ "$(grep -c "Guid $owner" said)" -eq 302 ] || { echo 'exports.sh: efitools finds other owners in dbx' >&2; exit 1; }
-    LC_ALL=C sort revoked > wanted
-    LC_ALL=C sort revoked_certificates | sed 's/$/00000000000000000000000000000000/' >> wanted
-    bodies x 302 > found
-    same wanted found 'efitools of dbx'
-    sig-list-to-certs db d > said
-    [ "$(grep -c "Guid $owner" said)" -eq 5 ] || { echo 'exports.sh: efitools finds other owners in db' >&2; exit 1; }
-    LC_ALL=C sort listed > wanted
-    cut -d' ' -f2 ascending | while read -r file; do xxd -p "$file" | tr -d '\n'; echo; done >> wanted
-    bodies d 5 > found
-    same wanted found 'efitools of db'
-fi
-for image in /usr/lib/efitools/*/HelloWorld.efi; do
-    if command -v hash-to-efi-sig-list > /dev/null && [ -e "$image" ]; then
-        read_by="$read_by, hash-to-efi-sig-list"
-        hash-to-efi-sig-list "$image" made > said
-        echo '0 sha256 1' > wanted
-        "$program" list made > found
-        same wanted found 'desk list of what efitools made'
-        "$program" facts "$image" | sed -n 's/^signing //p' > wanted
-        tail -c 32 made | xxd -p | tr -d '\n' > found
-        echo >> found
-        same wanted found 'the digest that efitools makes'
-    fi
-done
+sig-list-to-certs dbx x > said
+[ "$(grep -c "Guid $owner" said)" -eq 302 ] || fail 'efitools finds other owners in dbx'
+LC_ALL=C sort revoked > wanted
+LC_ALL=C sort revoked_certificates | sed 's/$/00000000000000000000000000000000/' >> wanted
+bodies x 302 > found
+same wanted found 'efitools of dbx'
+sig-list-to-certs db d > said
+[ "$(grep -c "Guid $owner" said)" -eq 5 ] || fail 'efitools finds other owners in db'
+LC_ALL=C sort listed > wanted
+cut -d' ' -f2 ascending | while read -r file; do xxd -p "$file" | tr -d '\n'; echo; done >> wanted
+bodies d 5 > found
+same wanted found 'efitools of db'
 
-# ---- dbxtool, which reads neither more than 2,000 entries nor a dbx with certificates alone
+image=$(find /usr/lib/efitools -name HelloWorld.efi | head -n 1)
+[ -n "$image" ] || fail 'efitools has no HelloWorld.efi'
+hash-to-efi-sig-list "$image" made > said
+echo '0 sha256 1' > wanted
+"$program" list made > found
+same wanted found 'desk list of what efitools made'
+"$program" facts "$image" | sed -n 's/^signing //p' > wanted
+tail -c 32 made | xxd -p | tr -d '\n' > found
+echo >> found
+same wanted found 'the digest that efitools makes'
 
-if command -v dbxtool > /dev/null; then
-    read_by="$read_by, dbxtool"
+# ---- dbxtool
+
+if [ "${2:-}" = dbxtool ]; then
     dbxtool -l -d dbx > said
-    found=$(grep -ic "$(LC_ALL=C sort revoked | head -1)" said)
-    [ "$found" -eq 1 ] || { echo 'exports.sh: dbxtool lists another first digest' >&2; exit 1; }
+    [ "$(grep -ic "$(LC_ALL=C sort revoked | head -1)" said)" -eq 1 ] || fail 'dbxtool lists another first digest'
     for digest in $(cat revoked); do
-        grep -qi "$digest" said || { echo "exports.sh: dbxtool has no $digest" >&2; exit 1; }
+        grep -qi "$digest" said || fail "dbxtool has no $digest"
     done
 fi
 echo "dbx of 300 digests and 2 certificates, db of 3 and 2: read as they are by $read_by"

@@ -9,18 +9,9 @@
 # connection; a failed accept ends the server. Not part of `rt ci`: it needs python3, and a C
 # compiler for reads and writes that fail (fail.c).
 set -eu
-root=$(CDPATH='' cd -- "$(dirname -- "$(readlink -f -- "$0")")/.." && pwd -P)
-if [ $# -gt 0 ]; then
-    program=$(readlink -f -- "$1")
-else
-    "$root/desk" --version > /dev/null
-    program=$root/crates/desk/out/desk
-fi
-for tool in cc python3; do
-    command -v "$tool" > /dev/null || { echo "checks/faults.sh: $tool is needed" >&2; exit 1; }
-done
-room=$(mktemp -d)
-trap 'rm -rf "$room"' EXIT
-trap 'exit 1' HUP INT TERM
+. "$(dirname -- "$(readlink -f -- "$0")")/common.sh"
+needs cc python3
+find_program "$@"
+enter_room
 cc -shared -fPIC -O1 -o "$room/fail.so" "$root/checks/fail.c" -ldl
-timeout --foreground -k 5 300 python3 -B "$root/checks/requests/faults.py" "$program" "$room/fail.so"
+within 300 python3 -B "$root/checks/requests/faults.py" "$program" "$room/fail.so"

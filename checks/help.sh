@@ -6,36 +6,14 @@
 # that is made on the spot, then on inputs that are refused, without arguments, and on files that
 # can't be opened: the status is the one that help says, and a line on standard error names a
 # refusal that help has for it. The version is the newest in CHANGELOG.md, and its kit that of
-# README.md; the kit's logic is that of `rt version`, if rt is on the PATH (machines may have kits of
-# other names with the same logic). It needs python3 and a port from 20000 to 32000.
+# README.md; the kit's logic is that of `rt version` (machines may have kits of other names with the
+# same logic). It needs python3 and rt.
 set -eu
-root=$(CDPATH='' cd -- "$(dirname -- "$(readlink -f -- "$0")")/.." && pwd -P)
-if [ $# -gt 0 ]; then
-    program=$(readlink -f -- "$1")
-else
-    "$root/desk" --version > /dev/null
-    program=$root/crates/desk/out/desk
-fi
-room=$(mktemp -d)
-server=
-# The server that this script started is ended with it, even by a signal.
-leave() {
-    if [ -n "$server" ]; then
-        kill "$server" 2> /dev/null || :
-        wait "$server" || :
-    fi
-    rm -rf "$room"
-}
-trap leave EXIT
-trap 'exit 1' HUP INT TERM
-cd "$room"
-port=$((20000 + $$ % 600 * 20))
+. "$(dirname -- "$(readlink -f -- "$0")")/common.sh"
+needs python3 rt
+find_program "$@"
+enter_room
 runs=0
-
-fail() {
-    echo "checks/help.sh: $*" >&2
-    exit 1
-}
 
 # ---- the version
 
@@ -45,13 +23,9 @@ kit=${kit%)}
 newest=$(sed -n '/^## /{s/^## \([^ ,]*\).*/\1/p;q}' "$root/CHANGELOG.md")
 [ "$version" = "desk $newest ($kit)" ] || fail "the version is $version, and CHANGELOG.md begins with $newest"
 grep -qF "Proved with \`$kit\`." "$root/README.md" || fail "README.md names another kit than $kit"
-if command -v rt > /dev/null; then
-    here=$(rt version)
-    [ "${kit##* }" = "${here##* }" ] || fail "the kit is $here, and crates/cli_grammar/src/help.rt says $kit"
-    if [ "$kit" = "$here" ]; then compared='its kit is that of rt'; else compared="its kit has the logic of $here"; fi
-else
-    compared='no rt, so its kit was compared with README.md alone'
-fi
+here=$(rt version)
+[ "${kit##* }" = "${here##* }" ] || fail "the kit is $here, and crates/cli_grammar/src/help.rt says $kit"
+if [ "$kit" = "$here" ]; then compared='its kit is that of rt'; else compared="its kit has the logic of $here"; fi
 
 # ---- files of the examples
 
@@ -96,26 +70,19 @@ runs() {
     fi
     runs=$((runs + 1))
 }
-# serves: the example of `serve`, with a connection for each that it counts.
+# serves: the example of `serve`, at a port that is free, with a connection for each that it counts.
 serves() {
-    example=$(echo "$example" | sed "s/ 8080 / $port /")
     # shellcheck disable=SC2086
-    (cd good && PATH=$room/bin:$PATH exec timeout -k 5 60 $example) > out 2> err &
-    server=$!
-    timeout -k 5 60 python3 - "$port" "${example##* }" << 'PYTHON' || fail "$example: $(cat out err)"
-import socket, sys, time
+    set -- $example
+    [ "$#" -eq 5 ] && [ "$4" = 8080 ] || fail "the example of serve: $example"
+    cd good
+    serve "$3" "$5"
+    timeout -k 5 60 python3 - "$port" "$5" << 'PYTHON' || fail "$example: $(cat served served.err)"
+import socket
+import sys
 
-port, count = int(sys.argv[1]), int(sys.argv[2])
-for _ in range(count):
-    for _ in range(200):
-        try:
-            peer = socket.create_connection(("127.0.0.1", port), timeout=30)
-            break
-        except ConnectionRefusedError:
-            time.sleep(0.05)
-    else:
-        sys.exit(f"nobody listens at port {port}")
-    with peer:
+for _ in range(int(sys.argv[2])):
+    with socket.create_connection(("127.0.0.1", int(sys.argv[1])), timeout=30) as peer:
         peer.shutdown(socket.SHUT_WR)
         try:
             while peer.recv(4096):
@@ -123,10 +90,8 @@ for _ in range(count):
         except ConnectionResetError:
             pass
 PYTHON
-    got=0
-    wait "$server" || got=$?
-    server=
-    [ "$got" -eq 0 ] || fail "$example: status $got; $(cat out err)"
+    served
+    cd ..
     runs=$((runs + 1))
 }
 

@@ -5,32 +5,19 @@
 # and checks/day.sh, and runs with that root as its own, which apart from the package has only the
 # files of the libraries that its Depends name. The manual is read: no warning, each subcommand,
 # route and refusal is there. The completions are those of the help. The service's user is made; the
-# service is verified, and has an exposure of 2.0 at most. lintian finds no error. What isn't
+# service is verified, and has an exposure of 2.0 at most. The client's package is made twice,
+# unpacked and run. lintian finds no error. What isn't
 # installed (lintian, mandoc, systemd) is skipped, and named at the end; so is the root if chroot
 # isn't allowed. Not part of the gate: it needs bash, dpkg-dev, git, groff, man, python3 and xxd.
 set -eu
-root=$(CDPATH='' cd -- "$(dirname -- "$(readlink -f -- "$0")")/.." && pwd -P)
-if [ $# -gt 0 ]; then
-    program=$(readlink -f -- "$1")
-else
-    "$root/desk" --version > /dev/null
-    program=$root/crates/desk/out/desk
-fi
-for tool in bash dpkg-deb dpkg-shlibdeps git groff man python3 xxd; do
-    command -v "$tool" > /dev/null || { echo "checks/package.sh: $tool is needed" >&2; exit 1; }
-done
+. "$(dirname -- "$(readlink -f -- "$0")")/common.sh"
+needs bash dpkg-deb dpkg-shlibdeps git groff man python3 xxd
+find_program "$@"
 name=kovelamiru-desk
-room=$(mktemp -d)
-trap 'rm -rf "$room"' EXIT
-trap 'exit 1' HUP INT TERM
-cd "$room"
+enter_room
 found=0
 left_out=
 
-fail() {
-    echo "checks/package.sh: $*" >&2
-    exit 1
-}
 # holds WHAT COMMAND WORD..: the command succeeds.
 holds() {
     what=$1
@@ -166,8 +153,26 @@ if has systemd-analyze; then
     exposure=$(sed -n 's/.*Overall exposure level for .*: \([0-9.]*\) .*/\1/p' said)
 fi
 
+# ---- the client's package: made twice, unpacked, and run
+
+holds 'deb-client.sh' "$root/packaging/deb-client.sh" one
+again_client() { (umask 077 && cd two && TZ=Asia/Tokyo TMPDIR=$room/two LC_ALL=C.UTF-8 "$root/packaging/deb-client.sh"); }
+holds 'deb-client.sh again' again_client
+client=$(basename one/kovelamiru-deskctl_*.deb)
+silent 'the same bytes twice' cmp "one/$client" "two/$client"
+mkdir client
+holds 'unpacking the client' dpkg-deb -x "one/$client" client
+holds 'its control file' dpkg-deb -e "one/$client" client/DEBIAN
+silent "the sums of the client's files" sh -c 'cd client && md5sum --quiet -c DEBIAN/md5sums'
+silent 'deskctl is another one' cmp "$root/client/deskctl" client/usr/bin/deskctl
+holds 'deskctl --version' client/usr/bin/deskctl --version
+[ "$(cat said)" = "deskctl $("$program" --version | cut -d' ' -f2)" ] || fail "deskctl has another version than desk: $(cat said)"
+gzip -dc client/usr/share/man/man1/deskctl.1.gz > deskctl.1
+silent 'groff of deskctl.1' warns deskctl.1
+if has mandoc; then silent 'mandoc of deskctl.1' mandoc -Tlint deskctl.1; fi
+
 # ---- lintian
 
-if has lintian; then holds 'lintian' lintian --fail-on error "one/$deb"; fi
+if has lintian; then holds 'lintian' lintian --fail-on error "one/$deb" "one/$client"; fi
 
 echo "$found checks of $deb, each as it has to be; exposure ${exposure:-not seen}; the day: $day${left_out:+; left out:$left_out}"

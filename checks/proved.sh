@@ -11,7 +11,9 @@
 # if a clause of a public call of the crates in FULL (each that has a library) isn't claimed in its
 # README, or is claimed there twice. The last line is `N rows, M missing`.
 set -u
-cd "$(dirname "$0")/.." || exit 1
+. "$(dirname -- "$(readlink -f -- "$0")")/common.sh"
+needs python3
+cd "$root" || exit 1
 PYTHONPATH=checks/clauses exec python3 -B - <<'END'
 import glob, os, re, sys
 from clauses import calls_of, crates

@@ -8,44 +8,31 @@
 # are still running, and then these get their responses. Without the proxy each slow peer holds the
 # next one up; that is shown first. Then the refusals of nginx: a body that is too long, a flood
 # from one address, a call while the desk is stopped, which is repeated with its key once it serves
-# again. Each run of the program, of curl and of nginx ends after a stated time. It takes ports from
-# 20000 to 32000. Not part of the gate: it needs curl, openssl and python3, and nginx or the network
-# to get it.
+# again. Each run of the program, of curl and of nginx ends after a stated time. Not part of the gate: it
+# needs curl, openssl and python3, and nginx or the network to get it.
 set -eu
-root=$(CDPATH='' cd -- "$(dirname -- "$(readlink -f -- "$0")")/.." && pwd -P)
-if [ $# -gt 0 ]; then
-    program=$(readlink -f -- "$1")
-else
-    "$root/desk" --version > /dev/null
-    program=$root/crates/desk/out/desk
-fi
-for tool in curl openssl python3; do
-    command -v "$tool" > /dev/null || { echo "checks/proxy.sh: $tool is needed" >&2; exit 1; }
+. "$(dirname -- "$(readlink -f -- "$0")")/common.sh"
+needs curl openssl python3
+find_program "$@"
+enter_room
+# Two ports at which nobody listens now.
+port=$(some_port)
+tls=$(some_port)
+while [ "$tls" -eq "$port" ] || grep -q ":$(printf '%04X' "$port") \|:$(printf '%04X' "$tls") " /proc/net/tcp; do
+    port=$(some_port)
+    tls=$(some_port)
 done
-room=$(mktemp -d)
-server='' proxy='' slow='' taker=''
-# What this script started ends with it, even by a signal.
-leave() {
-    for one in $slow $taker $server $proxy; do kill "$one" 2> /dev/null || :; done
-    wait || :
-    rm -rf "$room"
-}
-trap leave EXIT
-trap 'exit 1' HUP INT TERM
-cd "$room"
-port=$((20000 + $$ % 600 * 20))
-tls=$((port + 1))
 site=desk.example.org
 base=https://$site:$tls
 requests=0
 
 fail() {
-    echo "checks/proxy.sh: $*" >&2
+    echo "$self: $*" >&2
     if [ -s error.log ]; then tail -n 5 error.log >&2; fi
     exit 1
 }
-# within SECONDS COMMAND WORD..: the command succeeds some time soon.
-within() {
+# soon SECONDS COMMAND WORD..: the command succeeds some time soon.
+soon() {
     tries=$(($1 * 10))
     shift
     until "$@" > tried 2>&1; do
@@ -56,20 +43,13 @@ within() {
 }
 # desk WORD..: the program, ended after five minutes.
 desk() { timeout -k 5 300 "$program" "$@"; }
-# listens PORT: whether somebody does; connecting would count.
-listens() { grep -q ":$(printf '%04X' "$1") 00000000:0000 0A" /proc/net/tcp; }
-# serve COUNT: serves COUNT connections of the desk in the background.
-serve() {
-    timeout -k 5 300 "$program" serve desk.db "$port" "$1" > served 2>&1 &
+# serve_again COUNT: serves COUNT connections of the desk in the background, at the port that nginx
+# asks.
+serve_again() {
+    timeout -k 5 300 "$program" serve desk.db "$port" "$1" > served 2> served.err &
     server=$!
-    within 20 listens "$port"
-}
-# served: the server has served them all, and ends.
-served() {
-    got=0
-    wait "$server" || got=$?
-    server=''
-    if [ "$got" -ne 0 ] || [ -s served ]; then fail "serve: status $got, $(cat served)"; fi
+    started="$started $server"
+    soon 20 listens "$server" "$port"
 }
 
 # ---- nginx, its certificate, the site
@@ -106,7 +86,8 @@ done
 if [ -s said ] || [ -s error.log ]; then fail "nginx -t: $(cat said)"; fi
 timeout -k 5 400 "$nginx" -p "$room/" -e "$room/error.log" -c nginx.conf &
 proxy=$!
-within 20 listens "$tls"
+started="$started $proxy"
+soon 20 listens "$proxy" "$tls"
 
 # ---- the desk, and the inputs
 
@@ -155,7 +136,7 @@ post() {
 
 # ---- a day at the desk
 
-serve 33
+serve_again 33
 post 200 '{"reply":"submitted","request":1}' ann k1 /requests "$image" -H 'Desk-Title: a signed loader'
 post 200 '{"reply":"submitted","request":1}' ann k1 /requests "$image" -H 'Desk-Title: a signed loader'
 post 200 '{"reply":"reviewed","request":1,"state":"open"}' rita k1 /requests/1/review yes
@@ -236,7 +217,8 @@ begins() {
     rm -f "go.$1" "begun.$1" "came.$1"
     timeout -k 5 80 python3 slow.py "$2" "$3" "$1" "$1" "go.$1" "came.$1" > "begun.$1" 2> "slow.$1" &
     peer=$!
-    within 10 test -s "begun.$1"
+    started="$started $peer"
+    soon 10 test -s "begun.$1"
 }
 # got HOW: the slow peer's response, which must be its own: of a head, its first line and the body.
 got() {
@@ -248,17 +230,17 @@ got() {
     requests=$((requests + 1))
 }
 for how in sends takes; do
-    serve 2
+    serve_again 2
     begins "$how" "$port" ''
     slow=$peer
     curl -sS --max-time 60 -H "Desk-Token: $(token_of olga)" -o held "http://127.0.0.1:$port/level" &
     taker=$!
+    started="$started $taker"
     sleep 2
     [ ! -e held ] || fail "without the proxy nobody waits for the one that $how"
     : > "go.$how"
     wait "$slow" || fail "the one that $how, without the proxy: $(cat "slow.$how")"
     wait "$taker" || fail "nobody was answered behind the one that $how"
-    slow='' taker=''
     got "$how"
     [ "$(cat held)" = 'sbat,1,2021030218' ] || fail "behind the one that $how: $(cat held)"
     rm held
@@ -268,7 +250,7 @@ done
 # ---- thirty clients at once, with one that sends slowly and one that takes slowly
 
 clients=30
-serve $((2 * clients + 2))
+serve_again $((2 * clients + 2))
 begins sends "$tls" "$site"
 slow=$peer
 begins takes "$tls" "$site"
@@ -279,14 +261,14 @@ one() {
     https ann --interface "$address" -o "level.$1" -w '%{http_code} %{time_total}\n' "$base/level"
     https ann --interface "$address" -o "verdict.$1" -w '%{http_code} %{time_total}\n' --data-binary "@$image" "$base/verdict"
 }
-started=$(date +%s%N)
+begun=$(date +%s%N)
 waiting=''
 for client in $(seq "$clients"); do
     one "$client" > "times.$client" &
     waiting="$waiting $!"
 done
 for client in $waiting; do wait "$client" || fail 'one of thirty clients'; done
-took=$((($(date +%s%N) - started) / 1000000))
+took=$((($(date +%s%N) - begun) / 1000000))
 for how in sends takes; do
     [ ! -e "came.$how" ] || fail "the one that $how ended before the thirty"
 done
@@ -300,7 +282,6 @@ longest=$(cat times.* | cut -d' ' -f2 | sort -n | tail -n 1)
 : > go.takes
 wait "$slow" || fail "the one that sends: $(cat slow.sends)"
 wait "$taker" || fail "the one that takes: $(cat slow.takes)"
-slow='' taker=''
 got sends
 got takes
 served
@@ -308,7 +289,7 @@ requests=$((requests + 2 * clients))
 
 # ---- refusals of nginx
 
-serve 1000
+serve_again 1000
 truncate -s 4194305 long
 truncate -s 134217729 longer
 ask olga /dbx/digests -H 'Desk-Key: k6' --data-binary @long
@@ -335,7 +316,6 @@ is 200 'sbat,1,2021030218'
 post 200 '{"proposal":12,"reply":"proposed"}' olga k7 /level raise
 kill "$server"
 wait "$server" 2> /dev/null || :
-server=''
 # A copy of the file with its log is the desk; the file alone is an older one, or none.
 mkdir copy alone
 cp desk.db desk.db-wal copy
@@ -345,7 +325,7 @@ desk minutes copy/desk.db > minutes || fail 'no desk in the copy'
 if desk minutes alone/desk.db > minutes.alone 2> said && cmp -s minutes minutes.alone; then fail 'the log held nothing'; fi
 ask otto /proposals/12/confirm -H 'Desk-Key: k4' -d ''
 [ "$(cat said)" = 502 ] || fail "without the desk: $(cat said)"
-serve 2
+serve_again 2
 confirmed='"passed":0,"proposal":12,"reply":"confirmed"}'
 post 200 "{\"certificates\":0,\"components\":1,\"digests\":0,$confirmed" otto k4 /proposals/12/confirm nothing
 ask olga /level
@@ -357,6 +337,5 @@ desk minutes desk.db > minutes
 if grep -q 'token-for-the-desk' access.log error.log; then fail 'a token stands in a log'; fi
 kill "$proxy"
 wait "$proxy" 2> /dev/null || :
-proxy=''
 echo "$requests requests through the proxy, each answered as it has to be; beside two slow ones, $clients clients of two requests" \
     "each took $took ms, the longest request $longest s"

@@ -4,23 +4,19 @@
 # port 8080 is taken, the commands use another one, and the last line says so. Not part of `rt ci`:
 # it needs bash, curl and python3.
 set -eu
-root=$(CDPATH='' cd -- "$(dirname -- "$(readlink -f -- "$0")")/.." && pwd -P)
-if [ $# -gt 0 ]; then
-    program=$(readlink -f -- "$1")
-else
-    "$root/desk" --version > /dev/null
-    program=$root/crates/desk/out/desk
-fi
-for tool in bash curl python3; do
-    command -v "$tool" > /dev/null || { echo "checks/readme.sh: $tool is needed" >&2; exit 1; }
-done
-room=$(mktemp -d)
-trap 'rm -rf "$room"' EXIT
-ln -s "$program" "$room/desk"
-ln -s "$root/examples" "$room/examples"
-cd "$room"
-timeout -k 5 120 python3 - "$root/README.md" << 'PYTHON'
-import subprocess, sys, time
+. "$(dirname -- "$(readlink -f -- "$0")")/common.sh"
+needs bash curl openssl python3
+find_program "$@"
+enter_room
+ln -s "$program" desk
+ln -s "$root/examples" examples
+cat > readme.py << 'PYTHON'
+import atexit
+import os
+import signal
+import subprocess
+import sys
+import time
 
 MARK = "-- that was all of it --"
 
@@ -46,7 +42,19 @@ def listens(port):
 
 
 port = next(it for it in range(8080, 8180) if not listens(it))
-shell = subprocess.Popen(["bash"], stdin=subprocess.PIPE, stdout=subprocess.PIPE, text=True, bufsize=1)
+shell = subprocess.Popen(["bash"], stdin=subprocess.PIPE, stdout=subprocess.PIPE, text=True, bufsize=1, start_new_session=True)
+
+
+def leave():
+    """The shell and its server end with this."""
+    try:
+        os.killpg(shell.pid, signal.SIGKILL)
+    except ProcessLookupError:
+        pass
+
+
+atexit.register(leave)
+signal.signal(signal.SIGTERM, lambda *_: sys.exit(1))
 commands = day(open(sys.argv[1]).read())
 for command, wanted in commands:
     shell.stdin.write(f"{command.replace('8080', str(port))}\necho\necho '{MARK}'\n")
@@ -66,8 +74,11 @@ for command, wanted in commands:
                 sys.exit("checks/readme.sh: nobody listens")
             time.sleep(0.05)
 shell.stdin.close()
-if shell.wait() != 0 or listens(port):
+status = shell.wait()
+atexit.unregister(leave)
+if status != 0 or listens(port):
     sys.exit("checks/readme.sh: the shell failed, or serve goes on")
 instead = "" if port == 8080 else f"; at port {port}, since 8080 is taken"
 print(f"{len(commands)} commands, each with the lines that README.md has{instead}")
 PYTHON
+within 120 python3 -B readme.py "$root/README.md"

@@ -9,24 +9,16 @@
 # (`answer` may write the response of NoMemory, with status 0), or succeed without the memory. The
 # same words on the files that a refused run left must end as they do on the files that it found.
 #
-# The first and the last hundred allocations of each are refused, and between them one in STRIDE:
-# 100 by default, which takes a minute or two. 1 refuses each, but only one in a hundred of a long
+# Each allocation of `pack`, `facts` and `list` is refused, or where there are more than 2,000 the
+# first and the last thousand, and one in twenty between. Of the others the first and the last hundred
+# are refused, and between them one in STRIDE: 100 by default, which takes a minute or two. 1 refuses each, but only one in a hundred of a long
 # row of one size: of the 13,000 of a run that opens a desk 8,000 are the store's pages, taken at
 # once. 0 refuses each, without exception. Requests over HTTP are in refused-requests.sh. Not part
 # of `rt ci`: it needs python3, and a C compiler for a malloc that refuses (refuse.c).
 set -eu
-root=$(CDPATH='' cd -- "$(dirname -- "$(readlink -f -- "$0")")/.." && pwd -P)
-if [ $# -gt 0 ]; then
-    program=$(readlink -f -- "$1")
-else
-    "$root/desk" --version > /dev/null
-    program=$root/crates/desk/out/desk
-fi
-for tool in cc python3; do
-    command -v "$tool" > /dev/null || { echo "checks/refused-memory.sh: $tool is needed" >&2; exit 1; }
-done
-room=$(mktemp -d)
-trap 'rm -rf "$room"' EXIT
-trap 'exit 1' HUP INT TERM
+. "$(dirname -- "$(readlink -f -- "$0")")/common.sh"
+needs cc python3
+find_program "$@"
+enter_room
 cc -shared -fPIC -O1 -o "$room/refuse.so" "$root/checks/refuse.c" -ldl
-python3 -B "$root/checks/requests/subcommands.py" "$program" "$room/refuse.so" "$root" "${2:-100}"
+within 36000 python3 -B "$root/checks/requests/subcommands.py" "$program" "$room/refuse.so" "$root" "${2:-100}"

@@ -11,19 +11,10 @@
 #
 # Not part of `rt ci`: it needs python3, sqlite3, and a C compiler for a malloc that refuses (refuse.c).
 set -eu
-root=$(CDPATH='' cd -- "$(dirname -- "$(readlink -f -- "$0")")/.." && pwd -P)
-if [ $# -gt 0 ]; then
-    program=$(readlink -f -- "$1")
-    shift
-else
-    "$root/desk" --version > /dev/null
-    program=$root/crates/desk/out/desk
-fi
-for tool in cc python3 sqlite3; do
-    command -v "$tool" > /dev/null || { echo "checks/refused-requests.sh: $tool is needed" >&2; exit 1; }
-done
-room=$(mktemp -d)
-trap 'rm -rf "$room"' EXIT
-trap 'exit 1' HUP INT TERM
+. "$(dirname -- "$(readlink -f -- "$0")")/common.sh"
+needs cc python3 sqlite3
+find_program "$@"
+[ $# -eq 0 ] || shift
+enter_room
 cc -shared -fPIC -O1 -o "$room/refuse.so" "$root/checks/refuse.c" -ldl
-timeout --foreground -k 5 1800 python3 -B "$root/checks/requests/refused.py" "$program" "$room/refuse.so" "$@"
+within 1800 python3 -B "$root/checks/requests/refused.py" "$program" "$room/refuse.so" "$@"

@@ -7,14 +7,7 @@
 # inputs at their limits. Both leave the same tables; each accepted command given again under its
 # key gets the same reply and changes nothing. Not part of `rt ci`: it needs python3 and sqlite3.
 set -eu
-root=$(CDPATH='' cd -- "$(dirname -- "$(readlink -f -- "$0")")/.." && pwd -P)
-if [ $# -gt 0 ]; then
-    program=$(readlink -f -- "$1")
-else
-    "$root/desk" --version > /dev/null
-    program=$root/crates/desk/out/desk
-fi
-for tool in python3 sqlite3; do
-    command -v "$tool" > /dev/null || { echo "checks/requests.sh: $tool is needed" >&2; exit 1; }
-done
+. "$(dirname -- "$(readlink -f -- "$0")")/common.sh"
+needs python3 sqlite3
+find_program "$@"
 exec timeout --foreground -k 5 300 python3 -B "$root/checks/requests/plain.py" "$program"

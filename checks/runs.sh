@@ -3,33 +3,10 @@
 # and files, and compares every byte of both outputs and the status: runs.sh [PROGRAM]. Not part of
 # `rt ci`.
 set -eu
-root=$(CDPATH='' cd -- "$(dirname -- "$(readlink -f -- "$0")")/.." && pwd -P)
-if [ $# -gt 0 ]; then
-    program=$(readlink -f -- "$1")
-else
-    "$root/desk" --version > /dev/null
-    program=$root/crates/desk/out/desk
-fi
+. "$(dirname -- "$(readlink -f -- "$0")")/common.sh"
+find_program "$@"
 owner=00112233-4455-6677-8899-aabbccddeeff
-room=$(mktemp -d)
-trap 'rm -rf "$room"' EXIT
-cd "$room"
-runs=0
-
-# run STATUS OUTPUT ERROR INPUT WORD..: runs the program on the words; OUTPUT and INPUT are files, ERROR a line.
-run() {
-    status=$1 output=$2 error=$3 input=$4
-    shift 4
-    got=0
-    "$program" "$@" < "$input" > out 2> err || got=$?
-    if [ -n "$error" ]; then printf '%s\n' "$error" > want; else : > want; fi
-    if [ "$got" -ne "$status" ] || ! cmp -s out "$output" || ! cmp -s err want; then
-        echo "desk $*: status $got in place of $status; standard output and error:" >&2
-        cat out err >&2
-        exit 1
-    fi
-    runs=$((runs + 1))
-}
+enter_room
 
 cat > ranges << 'LINES'
 0-152
@@ -104,21 +81,18 @@ done
 run 3 nothing 'device 45 File' nothing serve desks/ann.db 20000 1
 run 3 nothing 'device 45 File' token person desks/ann.db ann officer k1
 run 3 nothing 'device 45 File' nothing verdict desks/ann.db "$root/examples/signed.efi"
-[ "$(there)" = "$before" ] || { echo "a file that was missing was made: $(there)" >&2; exit 1; }
+[ "$(there)" = "$before" ] || fail "a file that was missing was made: $(there)"
 run 0 nothing '' nothing init desks/ann.db "$owner"
 run 0 nothing '' nothing init desks/bea.db "$owner"
 run 0 added '' token person desks/ann.db ann officer k1
 run 0 minutes '' nothing minutes desks/ann.db
 run 0 nothing '' nothing minutes desks/bea.db
 rm -f desks/ann.db desks/ann.db-wal desks/bea.db desks/bea.db-wal
-[ "$(there)" = "$before" ] || { echo "other files were made: $(there)" >&2; exit 1; }
+[ "$(there)" = "$before" ] || fail "other files were made: $(there)"
 
 # A writer that is full: /dev/full accepts no byte.
 got=0
 "$program" list list > /dev/full 2> err || got=$?
-[ "$got" -eq 3 ] && [ "$(cat err)" = 'device 17 Write' ] || {
-    echo "desk list, to a full device: status $got, $(cat err)" >&2
-    exit 1
-}
+[ "$got" -eq 3 ] && [ "$(cat err)" = 'device 17 Write' ] || fail "desk list, to a full device: status $got, $(cat err)"
 
 echo "$runs runs, each as it has to be"

@@ -1,26 +1,29 @@
-#!/usr/bin/env bash
+#!/bin/sh
 # checks/soak.sh SECONDS [PROGRAM]: a desk that serves for SECONDS while clients are slow, silent,
 # broken, huge and many, and two officers go on working. It prints how many answers the officers
 # had, their longest wait and the most memory. It fails if an officer waits longer than the clients
 # before one may hold the desk (30 seconds each), if the desk takes more memory than an image's
 # limit and 64 MiB, or if its file then lacks an acknowledged command. The clients let go when SECONDS
 # end, so only a soak of some 90 or more can find too long a wait. Not part of the gate: it needs
-# python3; sqlite3 checks the file if it is installed.
+# python3 and sqlite3.
 set -eu
-root=$(CDPATH='' cd -- "$(dirname -- "$(readlink -f -- "$0")")/.." && pwd -P)
+. "$(dirname -- "$(readlink -f -- "$0")")/common.sh"
 [ $# -gt 0 ] || { echo "usage: checks/soak.sh SECONDS [PROGRAM]" >&2; exit 2; }
-if [ $# -gt 1 ]; then
-    program=$(readlink -f -- "$2")
-else
-    "$root/desk" --version > /dev/null
-    program=$root/crates/desk/out/desk
-fi
-command -v python3 > /dev/null || { echo "checks/soak.sh: python3 is needed" >&2; exit 1; }
-room=$(mktemp -d)
-trap 'rm -rf "$room"' EXIT
-cd "$room"
-timeout -k 5 $(($1 + 240)) python3 - "$1" "$program" << 'PYTHON'
-import os, random, shutil, signal, socket, struct, subprocess, sys, threading, time
+needs python3 sqlite3
+seconds=$1
+shift
+find_program "$@"
+enter_room
+cat > soak.py << 'PYTHON'
+import random
+import socket
+import struct
+import subprocess
+import sys
+import threading
+import time
+
+from desk import Program, Server
 
 SECONDS, PROGRAM = int(sys.argv[1]), sys.argv[2]
 OWNER = "00112233-4455-6677-8899-aabbccddeeff"
@@ -39,12 +42,6 @@ def desk(*words, input=b""):
 
 def token(name):
     return f"{name}-token-for-the-desk"
-
-
-def free_port():
-    with socket.socket() as s:
-        s.bind(("127.0.0.1", 0))
-        return s.getsockname()[1]
 
 
 def connect():
@@ -162,17 +159,9 @@ def again(client):
 desk("init", "desk.db", OWNER)
 for name, role in PEOPLE.items():
     desk("person", "desk.db", name, role, f"k-{name}", input=token(name).encode() + b"\n")
-PORT = free_port()
-server = subprocess.Popen([PROGRAM, "serve", "desk.db", str(PORT), "1000000"])
+running = Server(Program(PROGRAM), "desk.db")
+PORT, server = running.port, running.process
 try:
-    for _ in range(200):
-        try:
-            exchange("GET", "/level")
-            break
-        except OSError:
-            time.sleep(0.1)
-    else:
-        sys.exit("checks/soak.sh: the desk doesn't listen")
     working = threading.Thread(target=officers)
     hostile = [threading.Thread(target=again, args=(it,), daemon=True) for it in (slow, silent, broken, huge, *[many] * 8)]
     for thread in (working, *hostile):
@@ -186,16 +175,14 @@ try:
         faults.append("an officer still waits")
     memory = 1024 * int(next(line for line in open(f"/proc/{server.pid}/status") if line.startswith("VmHWM")).split()[1])
 finally:
-    server.kill()
-    server.wait()
+    running.kill()
 
 minutes = [line.split("\t") for line in desk("minutes", "desk.db").decode().splitlines()]
 kept = {(line[1], line[2]) for line in minutes}
 faults += [f"the desk lost {name}'s {key}" for name, key in acknowledged if (name, key) not in kept]
-if shutil.which("sqlite3"):
-    sound = subprocess.run(["sqlite3", "desk.db", "PRAGMA integrity_check"], capture_output=True, text=True).stdout.strip()
-    if sound != "ok":
-        faults.append(f"integrity_check: {sound}")
+sound = subprocess.run(["sqlite3", "desk.db", "PRAGMA integrity_check"], capture_output=True, text=True).stdout.strip()
+if sound != "ok":
+    faults.append(f"integrity_check: {sound}")
 longest = max(waits, default=0)
 if longest > LONGEST_HOLD * HOLDERS + SLACK:
     faults.append(f"an officer waited {longest:.1f} seconds")
@@ -206,3 +193,4 @@ for fault in faults[:10]:
     print(f"checks/soak.sh: {fault}")
 sys.exit(1 if faults else 0)
 PYTHON
+PYTHONPATH=$root/checks/requests within $((seconds + 240)) python3 -B soak.py "$seconds" "$program"

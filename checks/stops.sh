@@ -24,30 +24,24 @@
 # 1,656 stops took 18 minutes in memory, with other work running. Not part of `rt ci`, nor of
 # all.sh: it needs strace and sqlite3.
 set -eu
-root=$(CDPATH='' cd -- "$(dirname -- "$(readlink -f -- "$0")")/.." && pwd -P)
-if [ $# -gt 0 ]; then
-    program=$(readlink -f -- "$1")
-else
-    "$root/desk" --version > /dev/null
-    program=$root/crates/desk/out/desk
-fi
-for tool in strace sqlite3; do
-    command -v "$tool" > /dev/null || { echo "checks/stops.sh: $tool is needed" >&2; exit 1; }
-done
+. "$(dirname -- "$(readlink -f -- "$0")")/common.sh"
+needs strace sqlite3
+find_program "$@"
 owner=00112233-4455-6677-8899-aabbccddeeff
 plain=$root/examples/tiny.efi
 signed=$root/examples/signed.efi
-room=$(mktemp -d)
-trap 'rm -rf "$room"' EXIT
-trap 'exit 1' HUP INT TERM
-cd "$room"
+enter_room
 mkdir before after found
 calls='pwrite64 pwritev ftruncate fdatasync fsync'
 traced=$(echo "$calls write" | tr ' ' ,)
 exports='minutes dbx db level'
 stops=0
 
-fail() { echo "checks/stops.sh: $*" >&2; cat out err >&2; exit 1; }
+fail() {
+    echo "$self: $*" >&2
+    cat out err >&2
+    exit 1
+}
 
 # ---- calls of the desk
 
@@ -444,4 +438,4 @@ for how in kill fail; do
     done
     [ "$(keys bar.db | tr -s ' ')" = "$(echo "$wanted" | tr -s ' ')" ] || fail "ten lives by $how: other keys in the minutes"
 done
-echo "checks/stops.sh: $stops stops and $lost lost responses, and the desk was opened after each"
+echo "$stops stops and $lost lost responses, and the desk was opened after each"

@@ -2,36 +2,16 @@
 # checks/version1.sh [PROGRAM]: that each subcommand opens a real file of version 1
 # (examples/version-1), which keeps its calls and exports and becomes one of version 2; that the
 # next opening writes nothing; and that earlier keys and revocations still count. PROGRAM: another
-# program than ./desk. It needs gzip, and a port from 20000 to 32000.
+# program than ./desk. It needs gzip.
 set -eu
-root=$(CDPATH='' cd -- "$(dirname -- "$(readlink -f -- "$0")")/.." && pwd -P)
-if [ $# -gt 0 ]; then
-    program=$(readlink -f -- "$1")
-else
-    "$root/desk" --version > /dev/null
-    program=$root/crates/desk/out/desk
-fi
+. "$(dirname -- "$(readlink -f -- "$0")")/common.sh"
+needs gzip
+find_program "$@"
 kept=$root/examples/version-1
-room=$(mktemp -d)
-server=
-# The server that this script started is ended with it, even by a signal.
-leave() {
-    if [ -n "$server" ]; then
-        kill "$server" 2> /dev/null || :
-        wait "$server" || :
-    fi
-    rm -rf "$room"
-}
-trap leave EXIT
-trap 'exit 1' HUP INT TERM
-cd "$room"
+enter_room
 gzip -dc "$kept/desk.db.gz" > first.db
 openings=0
 
-fail() {
-    echo "$*" >&2
-    exit 1
-}
 
 # ask DB KEY PATH BODY: the last line of the answer to olga's request.
 ask() {
@@ -39,10 +19,13 @@ ask() {
         "$3" "$2" "${#4}" "$4" | "$program" answer "$1" | tail -n 1
 }
 
-# opened WORD..: the subcommand opens a copy of the file, which then is as it should be.
+# opened STATUS WORD..: the subcommand opens a copy of the file, which then is as it should be.
 opened() {
+    wanted=$1 status=0
+    shift
     cp first.db desk.db
-    "$@" > out 2> err < /dev/null || [ "$1 $2" = "$program verdict" ] || fail "$2: $(cat err)"
+    "$@" > out 2> err < /dev/null || status=$?
+    [ "$status" -eq "$wanted" ] || fail "$2: status $status, $(cat err)"
     cp desk.db after.db
     "$program" minutes desk.db | cmp -s - "$kept/minutes" || fail "$2: other minutes"
     "$program" dbx desk.db | cmp -s - "$kept/dbx.esl" || fail "$2: another dbx"
@@ -50,32 +33,23 @@ opened() {
     openings=$((openings + 1))
 }
 
-# serve DB: the desk's server answers one connection, which requests the level, and ends.
-serve() {
-    port=$((20000 + $$ % 600 * 20 + openings))
-    timeout -k 5 60 "$program" serve "$1" "$port" 1 &
-    server=$!
-    tries=0
-    until { exec 3<> "/dev/tcp/127.0.0.1/$port"; } 2> /dev/null; do
-        tries=$((tries + 1))
-        [ "$tries" -le 100 ] || { echo 'nobody listens' >&2; return 1; }
-        sleep 0.1
-    done
+# level_of DB: the desk's server answers one connection, which requests the level, and ends.
+level_of() {
+    serve "$1" 1
+    exec 3<> "/dev/tcp/127.0.0.1/$port"
     printf 'GET /level HTTP/1.1\r\nDesk-Token: olga-token-for-the-desk\r\n\r\n' >&3
     timeout 60 cat <&3
     exec 3>&-
-    ended=0
-    wait "$server" || ended=$?
-    server=
-    return "$ended"
+    served
 }
 
 for export in dbx db level minutes; do
-    opened "$program" "$export" desk.db
+    opened 0 "$program" "$export" desk.db
 done
-opened "$program" verdict desk.db "$root/examples/signed.efi"
-opened "$program" answer desk.db
-opened serve desk.db
+opened 0 "$program" verdict desk.db "$root/examples/signed.efi"
+[ "$(cat out)" = allowed ] || fail "verdict: $(cat out)"
+opened 0 "$program" answer desk.db
+opened 0 level_of desk.db
 printf 'HTTP/1.1 200 OK\r\nContent-Type: text/plain\r\nContent-Length: 32\r\nConnection: close\r\n\r\n' > level
 printf 'sbat,1,2024010101\ngrub,3\nshim,4\n' >> level
 cmp -s out level || fail "serve: another level: $(cat out)"

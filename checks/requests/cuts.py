@@ -139,6 +139,20 @@ def raw(path, *fields):
     return request("POST", path, [("Desk-Token", token("olga")), ("Desk-Key", "unused"), *fields])
 
 
+def keeps_nothing(server, before):
+    """The server had no more memory for bodies that were announced; nor for one that is sent though it is too long."""
+    announced = server.memory()
+    if announced - before > 1 << 20:
+        fail(f"the server took {announced - before:,} bytes for bodies that it refused")
+    # (the desk reads off a mebibyte after a response)
+    for path, most in (("/verdict", 134_217_728), ("/db/digests", 4_194_304)):
+        given = raw(path, ("Content-Length", str(most + 1))) + bytes(900_000)
+        same(server.ask(given, ends=False), refused(56), f"900,000 bytes of a body that is too long at {path}")
+    sent = server.memory() - announced
+    if sent > 600_000:
+        fail(f"the server took {sent:,} bytes for bodies that it read off")
+
+
 def heads(program, desk):
     """Heads at their limits, and fields that lie."""
     named = ("Content-Length", "Desk-Token", "Desk-Key", "Desk-Title", "Desk-Stamp")
@@ -164,9 +178,7 @@ def heads(program, desk):
         for what, (given, wanted) in cases.items():
             # Our side stays open: the answer doesn't wait for what was announced.
             same(server.ask(given, ends=False), wanted, what)
-        grown = server.memory() - before
-        if grown > 1 << 20:
-            fail(f"the server took {grown:,} bytes for bodies that it refused")
+        keeps_nothing(server, before)
         same(server.ask(FIRST), LEVEL, "a request after those that lie")
 
 

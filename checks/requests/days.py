@@ -297,6 +297,29 @@ TWO_PROPOSALS = [
     ),
 ]
 
+# An entry off the list, digits of either case, a text of a level, keys and numbers at a Confirm, and the report.
+REPORT = {
+    "people": 7, "requests": 0, "open": 0, "approved": 0, "rejected": 0, "withdrawn": 0, "signed": 0, "listed digests": 0,
+    "listed certificates": 0, "revoked digests": 1, "revoked certificates": 0, "level components": 2, "commands": 13, "stamp": 2024010102,
+}
+LEFT_OVER = [
+    lists("olga", "k1", digest("bb")),
+    takes("olga", "k2", "/db/unlist", named(digest("bb"), kind="digest"), {"reply": "unlisted"}),
+    proposes("olga", "k3", "/dbx/digests", b'{ "digest" : "' + digest("AA").encode() + b'" }', 1),
+    confirms("otto", "k1", 1, 1, 0, 0, 0),
+    again("olga", "k3", "/dbx/digests", named(digest("aa")), {"proposal": 1, "reply": "proposed"}),
+    reads("ann", "/dbx", octets(digest_list([digest("aa")]))),
+    proposes("olga", "k4", "/imports/level", b"sbat,1,2024010102\ngrub,4\nshim,4\n", 2),
+    closes(22, "confirm", "otto", "k1", 2),
+    closes(37, "confirm", "otto", "k2", "02"),
+    closes(21, "confirm", "rita", "k1", 2),
+    confirms("otto", "k2", 2, 0, 0, 2, 0),
+    closes(39, "drop", "olga", "k5", 2),
+    reads("ann", "/level", text("sbat,1,2024010102\ngrub,4\nshim,4\n")),
+    reads("ann", "/report", refused(21)),
+    reads("olga", "/report", text("".join(f"{name}{value:>{34 - len(name)}}\n" for name, value in REPORT.items()))),
+]
+
 # The first requests of a desk: one with a token, one without, one whose body is a byte short, one without a byte.
 FIRST_REQUESTS = [
     Step(
@@ -378,5 +401,6 @@ LARGEST = [
 DAYS = {
     "reviews": REVIEWS, "returns": RETURNS, "revoked before": REVOKED_BEFORE, "padding": PADDING, "levels": LEVELS, "keys": KEYS, "lists": LISTS,
     "files": FILES, "raises nothing": RAISES_NOTHING, "two officers": TWO_OFFICERS, "two proposals": TWO_PROPOSALS,
+    "left over": LEFT_OVER,
     "first requests": FIRST_REQUESTS, "the largest": LARGEST,
 }

@@ -22,8 +22,18 @@ PEOPLE = {
 }
 
 
-# (so that the servers and the folders go with it)
-signal.signal(signal.SIGTERM, lambda *_: sys.exit(1))
+# The servers that run.
+RUNNING: set[subprocess.Popen] = set()
+
+
+def end(*_: object) -> None:
+    """The servers and the folders go with this program; a thread that waits for a server then ends, too."""
+    for it in [*RUNNING]:
+        it.kill()
+    sys.exit(1)
+
+
+signal.signal(signal.SIGTERM, end)
 
 
 def fail(text):
@@ -153,13 +163,13 @@ PHRASES = {
 }
 # The name and the status of each refusal that is met here.
 REFUSALS = {
-    1: ("Short", 422), 4: ("Magic", 422), 6: ("Headers", 422), 7: ("Sections", 422), 9: ("Table", 422), 10: ("Der", 422),
+    1: ("Short", 422), 2: ("NoMz", 422), 4: ("Magic", 422), 6: ("Headers", 422), 7: ("Sections", 422), 9: ("Table", 422), 10: ("Der", 422),
     13: ("TooLong", 422), 15: ("List", 422), 19: ("CsvRow", 422), 20: ("UnknownCaller", 401), 21: ("NotYourRole", 403), 22: ("KeyReused", 409),
     23: ("NoSuchRequest", 404), 24: ("WrongState", 409), 25: ("OwnRequest", 409), 26: ("AlreadyReviewed", 409),
     27: ("DigestDiffers", 409), 28: ("Revoked", 409), 29: ("NotListed", 409), 30: ("AlreadyRevoked", 409), 31: ("NotHigher", 409),
     32: ("StampNotLater", 409), 33: ("AlreadyListed", 409), 34: ("NotThere", 409), 37: ("NoSuchProposal", 404),
     38: ("OwnProposal", 409), 39: ("ProposalClosed", 409), 40: ("NoMemory", 503), 50: ("BadHead", 400), 51: ("BadField", 400),
-    52: ("BadBody", 422), 53: ("NoRoute", 404), 56: ("TooLarge", 413), 57: ("NotSupported", 501),
+    52: ("BadBody", 422), 53: ("NoRoute", 404), 54: ("BadMethod", 405), 55: ("LengthNeeded", 411), 56: ("TooLarge", 413), 57: ("NotSupported", 501),
 }
 
 
@@ -185,10 +195,10 @@ def octets(value):
     return response(200, value, "application/octet-stream")
 
 
-def refused(number, at=None):
+def refused(number, at=None, *fields):
     name, status = REFUSALS[number]
     value = {"name": name, "refused": number} if at is None else {"at": at, "name": name, "refused": number}
-    return response(status, said(value), "application/json", *(["WWW-Authenticate: Desk"] if status == 401 else []))
+    return response(status, said(value), "application/json", *(["WWW-Authenticate: Desk"] if status == 401 else fields))
 
 
 NO_MEMORY = refused(40)
@@ -261,39 +271,57 @@ def end_with_parent():
     ctypes.CDLL(None).prctl(1, signal.SIGKILL)
 
 
+def sockets(process: int) -> set[str]:
+    """The inodes of the sockets that a process holds."""
+    found = set()
+    try:
+        for file in os.scandir(f"/proc/{process}/fd"):
+            kind, _, inode = os.readlink(file.path).partition(":")
+            if kind == "socket":
+                found.add(inode.strip("[]"))
+    except FileNotFoundError:
+        pass  # (a file that was closed meanwhile, or the whole process)
+    return found
+
+
+def listens(process: int, port: int) -> bool:
+    """Whether the process listens at this port, by the system's lists: a connection would be one of those that are counted."""
+    with open("/proc/net/tcp", encoding="ascii") as table:
+        rows = [line.split() for line in table]
+    inodes = {it[9] for it in rows if it[1] == f"0100007F:{port:04X}" and it[3] == "0A"}
+    return bool(inodes & sockets(process))
+
+
 class Server:
     """`serve`, on a port that was free. It ends with the program that asks, or when that lets go of it."""
 
-    def __init__(self, program, desk, count=1_000_000, env=None, under=()):
+    def __init__(self, program, desk, count=1_000_000, env=None, under=(), zeros="", begin=end_with_parent):
         self.desk = desk
         for _ in range(50):
-            # (below those of http.sh, and those that the system gives to clients)
+            # (below those of common.sh, and those that the system gives to clients)
             self.port = random.randrange(10_000, 20_000)
             self.process = subprocess.Popen(
-                [*under, program.path, "serve", desk, str(self.port), str(count)], stdin=subprocess.DEVNULL, stdout=subprocess.PIPE,
-                stderr=subprocess.PIPE, env={**program.env, **(env or {})}, preexec_fn=end_with_parent,
+                [*under, program.path, "serve", desk, f"{zeros}{self.port}", f"{zeros}{count}"], stdin=subprocess.DEVNULL,
+                stdout=subprocess.PIPE, stderr=subprocess.PIPE, env={**program.env, **(env or {})}, preexec_fn=begin,
             )
-            if self.listens():
+            RUNNING.add(self.process)
+            if self.has_begun():
                 return
         fail(f"serve {desk}: no port")
 
-    def listens(self):
-        """Waits until the server listens, by the system's own list: a connection would be one of those that are counted."""
-        row = f"0100007F:{self.port:04X}"
+    def has_begun(self) -> bool:
+        """Waits until the server listens; not where somebody else has its port."""
         until = time.monotonic() + 300
         while time.monotonic() < until:
-            with open("/proc/net/tcp", encoding="ascii") as table:
-                if any(row in line and line.split()[3] == "0A" for line in table):
-                    # (somebody else's, where ours has ended)
-                    time.sleep(0.002)
-                    if self.process.poll() is None:
-                        return True
+            if listens(self.process.pid, self.port):
+                return True
             if self.process.poll() is not None:
                 _, err = self.process.communicate()
                 if err == b"device 14 Read\n":
                     return False
                 fail(f"serve {self.desk}: status {self.process.returncode}, {err!r}")
             time.sleep(0.002)
+        self.kill()
         fail(f"serve {self.desk}: nobody listens")
 
     def __enter__(self):
@@ -307,6 +335,7 @@ class Server:
         if self.process.poll() is None:
             self.process.kill()
         self.process.communicate()
+        RUNNING.discard(self.process)
 
     def ended(self):
         """The server has ended by itself, with all connections served."""

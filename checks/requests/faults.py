@@ -1,13 +1,16 @@
 """Each read and each write of a request fails: see ../faults.sh."""
+import resource
+import signal
 import subprocess
 import sys
 from typing import NamedTuple
 
 from days import TWO_OFFICERS, confirms, judges, refuses, submits, vote
-from desk import PLAIN, Program, Server, expect, fail
+from desk import PLAIN, Program, Server, end_with_parent, expect, fail, response, said
 
 PROGRAM, LIBRARY = sys.argv[1:]
-READ, WRITE = b"device 14 Read\n", b"device 17 Write\n"
+READ, WRITE, STORE = b"device 14 Read\n", b"device 17 Write\n", b"device 41 Store\n"
+NO_STORE = response(503, said({"name": "Store", "refused": 41}))
 # How many bytes a read or a write takes: fewer of the requests and of the responses that are short.
 FEW, MANY = 9, 64
 
@@ -147,12 +150,39 @@ def no_accept(program, base):
     minutes_more(program, desk, program.minutes(base), 1, "after an accept failed")
 
 
+def no_room():
+    """The process that begins here can't write past the 8,192nd byte of a file: its log soon finds no room, as on a full disk."""
+    end_with_parent()
+    signal.signal(signal.SIGXFSZ, signal.SIG_IGN)
+    resource.setrlimit(resource.RLIMIT_FSIZE, (8_192, 8_192))
+
+
+def full_disk(program, base):
+    """A command whose commit finds no room is Store, and ends the program; the desk opens again as it was, and takes it."""
+    it = CASES[1]
+    before = program.minutes(base)
+    desk = program.copied(base, "tried.db")
+    ran = subprocess.run(
+        [PROGRAM, "answer", desk], input=it.given, capture_output=True, timeout=60, env=program.env, check=False, preexec_fn=no_room
+    )
+    expect((ran.returncode, ran.stdout, ran.stderr), (3, NO_STORE, STORE), "answer on a full disk")
+    expect(program.minutes(desk), before, "the minutes after a full disk")
+    expect(program.gives("answer", desk, given=it.given), it.due, "the request, once there is room")
+    desk = program.copied(base, "tried.db")
+    with Server(program, desk, 3, begin=no_room) as server:
+        expect(server.ask(it.given), NO_STORE, "serve on a full disk")
+        out, err = server.process.communicate(timeout=60)
+        expect((server.process.returncode, out, err), (3, b"", STORE), "the end of serve on a full disk")
+    expect(program.minutes(desk), before, "the minutes after serve on a full disk")
+
+
 with Program(PROGRAM) as program:
     people = program.founded("people.db")
     proposed = program.copied(people, "proposed.db")
     step = TWO_OFFICERS[0]
     expect(program.gives("answer", proposed, given=step.given), step.due, "a proposal")
     no_accept(program, people)
+    full_disk(program, people)
     counts = Counts()
     for it in CASES:
         base = proposed if it.name == "a Confirm" else people

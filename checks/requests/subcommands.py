@@ -15,6 +15,8 @@ from desk import CERTIFICATE, NO_MEMORY, OWNER, SIGNED, STORED, X509_KIND, Progr
 PROGRAM, LIBRARY, ROOT, STRIDE = sys.argv[1], sys.argv[2], sys.argv[3], int(sys.argv[4])
 # Of more than this many allocations of one size in a row, which are the store's pages taken at once, the first, the last and one in LONG_ROW are refused.
 LONG_ROW = 100
+# Of a subcommand without a desk each is refused, or where there are more than 2,000 the first and the last MANY, and one in 20 between.
+MANY = 1_000
 # Set where this ends early, by a fault of one case or by a signal: then the other cases end too.
 ENDING = threading.Event()
 NO_MEMORY_LINE = b"device 40 NoMemory\n"
@@ -107,6 +109,8 @@ class Refusing:
         with open(self.sizes_file, encoding="ascii") as it:
             sizes = [int(line) for line in it]
         count = len(sizes)
+        if STRIDE > 1 and not self.case.desk and "DESK" not in self.case.words:
+            return [it for it in range(1, count + 1) if it <= MANY or it > count - MANY or it % 20 == 0], count
         if STRIDE > 1:
             return [it for it in range(1, count + 1) if it <= 100 or it > count - 100 or it % STRIDE == 0], count
         if STRIDE == 0:
@@ -177,7 +181,7 @@ with Program(PROGRAM) as program:
     desk = program.copied(people, "listed.db")
     for step in RETURNS[:19]:
         expect(program.gives("answer", desk, given=step.given), step.due, "the desk of a listed image")
-    how = f"the first and the last hundred of each, and one in {STRIDE} between them"
+    how = f"of those over a desk the first and the last hundred, and one in {STRIDE} between them"
     if STRIDE <= 1:
         how = f"each, but of a row of more than {LONG_ROW} of one size one in {LONG_ROW}" if STRIDE else "each"
     with ThreadPoolExecutor(len(os.sched_getaffinity(0))) as pool:

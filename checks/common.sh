@@ -1,0 +1,120 @@
+# shellcheck shell=sh
+# What the scripts of checks/ and bench/ share. A script reads it after `set -eu`:
+#
+#     . "$(dirname -- "$(readlink -f -- "$0")")/common.sh"
+#
+# `root` is the repository's folder. The room that a script makes and the processes that it names in
+# `started` go with it, however it ends.
+root=$(CDPATH='' cd -- "$(dirname -- "$(readlink -f -- "$0")")/.." && pwd -P)
+self=$(readlink -f -- "$0")
+self=${self#"$root"/}
+room='' started='' program='' server='' port=''
+
+fail() {
+    echo "$self: $*" >&2
+    exit 1
+}
+
+# needs TOOL..: each is installed.
+needs() {
+    lacking=
+    for tool in "$@"; do command -v "$tool" > /dev/null || lacking="$lacking $tool"; done
+    [ -z "$lacking" ] || fail "it needs$lacking"
+}
+
+# find_program [PROGRAM ..]: `program` is the named one, or that of ./desk, built if need be.
+find_program() {
+    if [ $# -gt 0 ]; then
+        program=$(readlink -f -- "$1") || program=$1
+    else
+        "$root/desk" --version > /dev/null || fail "there is no program"
+        program=$root/crates/desk/out/desk
+    fi
+    [ -x "$program" ] || fail "there is no program $program"
+}
+
+# enter_room: makes a folder, `room`, and goes there.
+enter_room() {
+    room=$(mktemp -d)
+    cd "$room" || exit 1
+    room=$(pwd -P)
+}
+
+leave() {
+    for process in $started; do kill "$process" 2> /dev/null || :; done
+    for process in $started; do wait "$process" 2> /dev/null || :; done
+    [ -z "$room" ] || rm -rf "$room"
+}
+trap leave EXIT
+trap 'exit 1' HUP INT TERM
+
+# within SECONDS COMMAND WORD..: runs a command that ends with this script, or after so long.
+within() {
+    limit=$1
+    shift
+    timeout --foreground -k 5 "$limit" "$@" &
+    started="$started $!"
+    wait "$!"
+}
+
+# ---- runs of the program
+
+runs=0
+
+# run STATUS OUTPUT ERROR INPUT WORD..: the program, run on the words, ends so; OUTPUT and INPUT are
+# files, ERROR a line. Each is counted in `runs`.
+run() {
+    status=$1 output=$2 error=$3 input=$4
+    shift 4
+    got=0
+    "$program" "$@" < "$input" > out 2> err || got=$?
+    if [ -n "$error" ]; then printf '%s\n' "$error" > want; else : > want; fi
+    if [ "$got" -ne "$status" ] || ! cmp -s out "$output" || ! cmp -s err want; then
+        fail "desk $*: status $got in place of $status; standard output and error: $(cat out err)"
+    fi
+    runs=$((runs + 1))
+}
+
+# ---- the desk's server
+
+is_running() { [ -e "/proc/$1/exe" ]; }
+
+# listens PROCESS PORT: whether the process, or its child, listens at this port of 127.0.0.1. By the
+# system's lists: a connection would be one of those that are counted.
+listens() {
+    inode=$(awk -v at="$(printf '0100007F:%04X' "$2")" '$2 == at && $4 == "0A" { print $10 }' /proc/net/tcp)
+    [ -n "$inode" ] || return 1
+    for process in "$1" $(cat "/proc/$1/task/$1/children" 2> /dev/null); do
+        for file in "/proc/$process/fd/"*; do
+            [ "$(readlink "$file")" != "socket:[$inode]" ] || return 0
+        done
+    done
+    return 1
+}
+
+# some_port: a port from 20000 to 31999, below those that the system gives to clients.
+some_port() { echo $((20000 + $(od -An -N2 -tu2 /dev/urandom) % 12000)); }
+
+# serve DB COUNT: serves so many connections in the background, for five minutes at most. `server`
+# is the process, `port` its port, `served` and `served.err` have what it writes.
+serve() {
+    for _ in 1 2 3 4 5 6 7 8 9 10; do
+        port=$(some_port)
+        timeout -k 5 300 "$program" serve "$1" "$port" "$2" > served 2> served.err &
+        server=$!
+        started="$started $server"
+        while is_running "$server"; do
+            if listens "$server" "$port"; then return 0; fi
+            sleep 0.01
+        done
+        wait "$server" || [ "$(cat served.err)" = 'device 14 Read' ] || break
+    done
+    fail "serve $1: $(cat served served.err)"
+}
+
+# served: the server has served them all, and ends.
+served() {
+    got=0
+    wait "$server" || got=$?
+    if [ "$got" -ne 0 ] || [ -s served ] || [ -s served.err ]; then fail "serve: status $got, $(cat served served.err)"; fi
+}
