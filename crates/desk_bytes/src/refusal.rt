@@ -107,6 +107,9 @@ pub enum Refusal {
     File,
     /// The database has a table, an index or a view already, so no desk is made in it.
     Exists,
+    /// A line of minutes isn't what the rules give there, or isn't whole. The place is its number
+    /// from 1.
+    Minute,
     /// The head of an HTTP request is wrong, too long or cut short.
     BadHead,
     /// A field of an HTTP request is wrong, or is given twice.
@@ -185,6 +188,7 @@ impl Refusal {
             Refusal::Version => 44,
             Refusal::File => 45,
             Refusal::Exists => 46,
+            Refusal::Minute => 47,
             Refusal::BadHead => 50,
             Refusal::BadField => 51,
             Refusal::BadBody => 52,
@@ -247,6 +251,7 @@ impl Refusal {
             Refusal::Version => "Version",
             Refusal::File => "File",
             Refusal::Exists => "Exists",
+            Refusal::Minute => "Minute",
             Refusal::BadHead => "BadHead",
             Refusal::BadField => "BadField",
             Refusal::BadBody => "BadBody",
@@ -310,6 +315,7 @@ impl Refusal {
             | Refusal::NotADesk
             | Refusal::Version
             | Refusal::Exists
+            | Refusal::Minute
             | Refusal::BadHead
             | Refusal::BadField
             | Refusal::BadBody

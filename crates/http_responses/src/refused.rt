@@ -8,7 +8,7 @@ use desk_bytes::Refusal;
 use http_requests::Methods;
 
 /// Why a request is refused: a row of the table of refusals, with what its response adds. Rows for
-/// which no request is refused have no variant: Read, Write, Line, Version, File and Exists.
+/// which no request is refused have no variant: Read, Write, Line, Version, File, Exists and Minute.
 #[derive(Clone, Copy, Debug, PartialEq, Eq)]
 pub enum Refused {
     /// The file ends before a header that it needs.
@@ -167,7 +167,8 @@ impl Refused {
             | Refusal::Line
             | Refusal::Version
             | Refusal::File
-            | Refusal::Exists => return None,
+            | Refusal::Exists
+            | Refusal::Minute => return None,
         };
         Some(refused)
     }

@@ -407,8 +407,9 @@ proposals otto : Reopen
 UPDATE proposals SET kind = 'digest' WHERE no = 2
 proposals otto : 1 ann confirmed 0 0 1; 2 ann open 1 0 0;
 UPDATE proposal_items SET place = 1 WHERE proposal = 2
-proposals otto : Store
-otto o2 drop 2 : Reopen
+proposals otto : 1 ann confirmed 0 0 1; 2 ann open 1 0 0;
+otto o2 confirm 2 : Store
+proposals otto : Reopen
 UPDATE proposal_items SET place = 0 WHERE proposal = 2
 otto o2 confirm 2 : confirmed 2 1 0 0 0
 console p2 add bob submitter 2 : added bob
