@@ -120,12 +120,12 @@ for number, calls, clauses in claims('docs/PROVED.md'):
         for clause in clauses:
             check('docs/PROVED.md', number, crate, name, clause)
 
-# docs/STATEMENTS.md has each SQL text of store_schema as it is in the sources, under a heading for its table, after a comment with
-# its constant and the clause of the table's law.
+# docs/STATEMENTS.md has each SQL text of store_schema (a constant that begins with a verb in capitals) as it is in the sources, under a
+# heading for its table, after a comment with its constant and the clause of the table's law.
 texts, made, shown = {}, {}, set()
 for path in glob.glob('crates/store_schema/src/*.rt'):
     source = open(path, encoding='utf-8').read()
-    texts.update(re.findall(r'pub const ([A-Z_]+): &str =\s*"([^"]*)";', source))
+    texts.update(re.findall(r'pub const ([A-Z_]+): &str =\s*"([A-Z]+ [^"]*)";', source))
     made.update((table, text) for text, table in re.findall(r'"(CREATE TABLE ([a-z_]+) [^"]*)"', source))
 page, table, note = 'docs/STATEMENTS.md', '', None
 for number, line in enumerate(open(page, encoding='utf-8').read().split('\n'), 1):

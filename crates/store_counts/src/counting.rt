@@ -8,7 +8,6 @@ ghost use Rattle.store_sql.specs.States.{DoesInside, CommitsNothing, Spares, Sta
 use crate::numbers::{Counts, KindCounts, ListCounts, RequestCounts};
 use desk_texts::{ListedKind, State};
 use sqlite::{Alter, Transaction};
-use std::alloc::Global;
 use store_reads::{Counted, ReadFault, count, own_row};
 
 /// The numbers of requests that wait for votes, and for the signed file.
@@ -119,10 +118,7 @@ fn count_revoked<S: Alter>(tx: &mut Transaction<'_, S>) -> Result<KindCounts, Re
 }
 
 /// Counts the listed and revoked entries, and the level.
-fn count_lists<S: Alter>(
-    alloc: Global,
-    tx: &mut Transaction<'_, S>,
-) -> Result<ListCounts, ReadFault>
+fn count_lists<S: Alter>(tx: &mut Transaction<'_, S>) -> Result<ListCounts, ReadFault>
     ensures same_reference { tx.new.conn.ghost_name ≡ tx.old.conn.ghost_name }
     ensures value { DoesInside S.Store tx.old.conn.now tx.new.conn.now result
         (λ n. ReadsTables (spec.CountLists n)) }
@@ -133,7 +129,7 @@ fn count_lists<S: Alter>(
     let listed = count_entries(tx)?;
     let revoked = count_revoked(tx)?;
     let components = count(tx, Counted::Components)?;
-    let own = own_row(alloc, tx)?;
+    let own = own_row(tx)?;
     Ok(ListCounts {
         listed,
         revoked,
@@ -142,12 +138,11 @@ fn count_lists<S: Alter>(
     })
 }
 
-/// All counts of a desk: thirteen, each of which visits a whole table. Takes memory for the desk's
-/// own row.
+/// All counts of a desk: thirteen, each of which visits a whole table.
 ///
 /// `Row`: the desk's own row isn't one that a desk writes. `NoMemory`: memory was refused. `Store`:
 /// the store failed.
-pub fn counts<S: Alter>(alloc: Global, tx: &mut Transaction<'_, S>) -> Result<Counts, ReadFault>
+pub fn counts<S: Alter>(tx: &mut Transaction<'_, S>) -> Result<Counts, ReadFault>
     ensures same_reference { tx.new.conn.ghost_name ≡ tx.old.conn.ghost_name }
     ensures value { DoesInside S.Store tx.old.conn.now tx.new.conn.now result
         (λ n. ReadsTables (spec.CountTables n)) }
@@ -158,7 +153,7 @@ pub fn counts<S: Alter>(alloc: Global, tx: &mut Transaction<'_, S>) -> Result<Co
     let people = count(tx, Counted::People)?;
     let calls = count(tx, Counted::Calls)?;
     let requests = count_by_state(tx)?;
-    let lists = count_lists(alloc, tx)?;
+    let lists = count_lists(tx)?;
     Ok(Counts {
         people,
         calls,

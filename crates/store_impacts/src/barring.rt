@@ -198,6 +198,6 @@ pub fn barred<S: Alter, E: Standing>(
     entries_bar_alone();
     let found = images_of(alloc, tx, entries, touched)?;
     // Only an open store gives Ok, also where no image is read.
-    own_row(alloc, tx)?;
+    own_row(tx)?;
     Ok(found)
 }

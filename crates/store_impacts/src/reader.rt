@@ -73,6 +73,6 @@ pub fn refusal_to<S: Alter>(
         return Ok(None);
     };
     // Only an open store refuses.
-    own_row(alloc, tx)?;
+    own_row(tx)?;
     Ok(Some(refusal))
 }

@@ -6,14 +6,14 @@ use Rattle.sqlite_schema.specs.Names.{same_name}
 use Rattle.desk_history.specs.Calls.{History}
 use Rattle.store_schema.specs.Tables.{first_schema}
 use Rattle.store_schema.specs.rows.Histories.{ShowsFirst}
-use Rattle.store_migration.specs.Names.{takes_a_name}
+use Rattle.store_schema.specs.Names.{takes_an_added_name}
 
-pub none_taken : takes_a_name first_schema ≡ false
+pub none_taken : takes_an_added_name first_schema ≡ false
 unfolding same_name
 none_taken = refl
 
-pub not_taken : (s : State) → HasCleanDisk s → IsTrue s.is_open → IsTrue (takes_a_name s.now.schema) → (owner : List ℕ) (cs : History) → ShowsFirst s owner cs → ⊥
+pub not_taken : (s : State) → HasCleanDisk s → IsTrue s.is_open → IsTrue (takes_an_added_name s.now.schema) → (owner : List ℕ) (cs : History) → ShowsFirst s owner cs → ⊥
 not_taken s clean live takes owner cs shows =
-    let there : takes_a_name first_schema ≡ true = subst (λ (x : Schema). takes_a_name x ≡ true) (shows.1.holds clean live).0.listed takes in
+    let there : takes_an_added_name first_schema ≡ true = subst (λ (x : Schema). takes_an_added_name x ≡ true) (shows.1.holds clean live).0.listed takes in
     let none = none_taken in
     cc

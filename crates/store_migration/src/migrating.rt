@@ -8,7 +8,7 @@ ghost use Rattle.store_reads.specs.Failures.{IsFailure};
 ghost use Rattle.store_reads.specs.Reads.{ReadsTables};
 ghost use Rattle.store_schema.specs.rows.Histories.{ShowsFirst, ShowsHistory};
 ghost use Rattle.store_migration.specs.Migrations.{KeepsShown, Migrates, TurnsFirst};
-ghost use Rattle.store_migration.specs.Names.{takes_a_name};
+ghost use Rattle.store_schema.specs.Names.{takes_an_added_name};
 
 use crate::names::names_are_free;
 use desk_bytes::Refusal;
@@ -96,11 +96,11 @@ pub fn migrate<S: Alter>(conn: &mut Connection<S>) -> Result<(), Refusal>
         → ShowsHistory (state S.Store conn.new) owner cs)) }
     ensures was_open { HasCleanDisk (state S.Store conn.new)
         → OnOk result (IsTrue (state S.Store conn.old).is_open) }
-    ensures free { OnOk result (takes_a_name (state S.Store conn.old).now.schema ≡ false) }
+    ensures free { OnOk result (takes_an_added_name (state S.Store conn.old).now.schema ≡ false) }
 
     ensures taken { HasCleanDisk (state S.Store conn.new) → IfErr result (λ e.
         e ≡ Refusal.NotADesk → IsTrue (state S.Store conn.old).is_open
-        × IsTrue (takes_a_name (state S.Store conn.old).now.schema)) }
+        × IsTrue (takes_an_added_name (state S.Store conn.old).now.schema)) }
     ensures known { HasCleanDisk (state S.Store conn.new) → IfErr result (λ e.
         (owner : List ℕ) (cs : History) → ShowsFirst (state S.Store conn.old) owner cs
         → IsFailure e) }

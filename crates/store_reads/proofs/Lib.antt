@@ -1,6 +1,7 @@
 pub mod RowLemmas
 pub mod ValueLemmas
 pub mod FindLemmas
+pub mod OwnLemmas
 pub mod KeyLemmas
 pub mod CountLemmas
 pub mod RevokedLemmas

@@ -8,20 +8,6 @@ use Rattle.desk_texts.specs.declared.kind.ListedKind.{ListedKind}
 use Rattle.desk_texts.specs.declared.kind.ListedKind.TheVariants as kinds
 use Rattle.desk_history.specs.declared.rows.RequestRow.{RequestRow}
 use Rattle.desk_history.specs.declared.rows.ReturnRow.{ReturnRow}
-use Rattle.desk_history.specs.Tables.{DeskRow}
-use Rattle.store_reads.specs.declared.desk_row.DeskRow.{DeskRow as ReadDeskRow}
-
--- own: the columns of the desk's row: id, mark, version, owner, stamp
-abbrev pub desk_columns : DeskRow → Row
-desk_columns d = Int (pos d.id) ∷ Text d.mark ∷ Int (pos d.version) ∷ Blob d.owner ∷ Int (pos d.stamp) ∷ []
-
--- the desk's row that was read, as the tables have it
-abbrev pub desk_row : ReadDeskRow → DeskRow
-desk_row d = record { id = d.id; mark = d.mark; version = d.version; owner = d.owner; stamp = d.stamp }
-
--- a row of the tables, as a read returns it
-abbrev pub read_row : DeskRow → ReadDeskRow
-read_row d = record { id = d.id; mark = d.mark; version = d.version; owner = d.owner; stamp = d.stamp }
 
 -- own: the columns of a request: number, submitter, title, length, gap, file, digest, signing,
 -- state

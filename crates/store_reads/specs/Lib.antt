@@ -1,5 +1,6 @@
 pub mod Faults
 pub mod Answers
+pub mod Own
 pub mod Reads
 pub mod People
 pub mod CallColumns

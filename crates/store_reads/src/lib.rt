@@ -23,7 +23,7 @@ mod requests;
 pub use call_texts::{CallTexts, ColumnText};
 pub use calls::{call_numbered, call_of};
 pub use counts::{Counted, count};
-pub use desk_row::{DeskRow, Mark};
+pub use desk_row::OwnRow;
 pub use fault::ReadFault;
 pub use from_row::FromRow;
 pub use lists::{component_named, entry_of, revoked_of};

@@ -1,44 +1,20 @@
-//! Rows of the desk itself, of people, of listed and revoked entries, and of the level.
-ghost use Rattle.std.specs.Prelude.{◌≡◌, IfOk, pos};
-ghost use Rattle.sqlite.specs.declared.types.Value.TheVariants.{Blob, Int, Text};
+//! Rows of people, of listed and revoked entries, and of the level.
+ghost use Rattle.std.specs.Prelude.{◌≡◌, IfOk};
+ghost use Rattle.sqlite.specs.declared.types.Value.TheVariants.{Blob};
 ghost use Rattle.sqlite_value.specs.Order.{column};
 ghost use Rattle.store_schema.specs.rows.Values.{component_values, digest_values, entry_values, person_values};
-ghost use Rattle.store_reads.specs.Answers.{desk_columns, desk_row};
 
 use crate::ReadFault;
 use crate::columns::{
     column_of, component_name_at, digest_at, generation_at, kind_at, name_at, role_at,
 };
-use crate::desk_row::{DeskRow, Mark};
 use crate::from_row::FromRow;
-use desk_bytes::{Digest, Guid};
+use desk_bytes::Digest;
 use desk_history::{Entry, EntryBody};
 use desk_texts::Person;
-use sbat::{Component, Stamp};
+use sbat::Component;
 use sqlite::Row;
 use std::alloc::Global;
-
-/// The owner in a column. Takes memory for its bytes.
-fn owner_at(row: &Row, at: usize) -> Result<Guid, ReadFault>
-    ensures { IfOk result (λ owner. column row.now at ≡ Blob owner) }
-{
-    let bytes: Vec<u8> = column_of(row, at)?;
-    match <[u8; 16]>::try_from(bytes.as_slice()) {
-        Ok(bytes) => Ok(Guid::from(bytes)),
-        Err(_) => Err(ReadFault::Row),
-    }
-}
-
-/// The stamp in a column.
-fn stamp_at(row: &Row, at: usize) -> Result<Stamp, ReadFault>
-    ensures { IfOk result (λ stamp. column row.now at ≡ Int (pos stamp)) }
-{
-    let number: u64 = column_of(row, at)?;
-    match Stamp::new(number) {
-        Some(stamp) => Ok(stamp),
-        None => Err(ReadFault::Row),
-    }
-}
 
 /// The bytes of an entry in a column. Takes memory for them.
 fn body_at(row: &Row, at: usize) -> Result<EntryBody, ReadFault>
@@ -46,36 +22,6 @@ fn body_at(row: &Row, at: usize) -> Result<EntryBody, ReadFault>
 {
     let bytes: Vec<u8> = column_of(row, at)?;
     Ok(EntryBody::new(bytes))
-}
-
-/// The mark in a column. Takes memory for it.
-fn mark_at(row: &Row, at: usize) -> Result<Mark, ReadFault>
-    ensures { IfOk result (λ mark. column row.now at ≡ Text mark) }
-{
-    let text: String = column_of(row, at)?;
-    Ok(Mark::new(text))
-}
-
-impl FromRow for DeskRow {
-    ghost shown = { λ d. desk_columns (desk_row d) };
-
-    fn from_row(_alloc: Global, row: &Row) -> Result<DeskRow, ReadFault> {
-        if row.column_count() != 5 {
-            return Err(ReadFault::Row);
-        }
-        let id = column_of(row, 0)?;
-        let mark = mark_at(row, 1)?;
-        let version = column_of(row, 2)?;
-        let owner = owner_at(row, 3)?;
-        let stamp = stamp_at(row, 4)?;
-        Ok(DeskRow {
-            id,
-            mark,
-            version,
-            owner,
-            stamp,
-        })
-    }
 }
 
 impl FromRow for Person {

@@ -37,7 +37,7 @@ pub(crate) fn officer_of<S: Alter>(
         return Ok(Err(Refusal::UnknownCaller));
     };
     // Only an open store gives Ok.
-    own_row(alloc, tx)?;
+    own_row(tx)?;
     if !sees_proposals(reader.role) {
         return Ok(Err(Refusal::NotYourRole));
     }

@@ -55,7 +55,7 @@ pub fn proposals_of<S: Alter>(
     };
     if !sees_proposals(reader.role) {
         // Only an open store gives Ok.
-        own_row(alloc, tx)?;
+        own_row(tx)?;
         return Ok(Err(Refusal::NotYourRole));
     }
     let shown = proposals(alloc, tx)?;

@@ -6,8 +6,10 @@ mod counting;
 mod creating;
 mod inserting;
 mod laws;
+mod names;
 mod rows;
 mod selecting;
+mod versions;
 
 pub use changing::{
     DELETE_LISTED, UPDATE_GENERATION, UPDATE_PROPOSAL_STATE, UPDATE_STAMP, UPDATE_STATE,
@@ -31,6 +33,7 @@ pub use laws::{
     returns_statements, revoked_certificates_statements, revoked_digests_statements,
     votes_statements,
 };
+pub use names::{takes_a_desk_name, takes_an_added_name};
 pub use rows::{first_tables_are_rows, rows_have_their_columns, worked_tables_are_rows};
 pub use selecting::{
     SELECT_CALL, SELECT_CALL_NUMBERED, SELECT_CALLS, SELECT_COMPONENT, SELECT_COMPONENTS,
@@ -40,3 +43,4 @@ pub use selecting::{
     SELECT_REVOKED_CERTIFICATE, SELECT_REVOKED_CERTIFICATES, SELECT_REVOKED_DIGEST,
     SELECT_REVOKED_DIGESTS, SELECT_VOTES,
 };
+pub use versions::{FIRST_VERSION, MARK, VERSION};

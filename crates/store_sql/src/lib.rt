@@ -13,4 +13,4 @@ pub use fault::StoreFault;
 pub use laws::stop_leaves_what_is_shown;
 pub use reading::{count, select};
 pub use streaming::{Halt, TakesRow, stream};
-pub use writing::{create_table, create_tables, delete, insert, update};
+pub use writing::{create_tables, delete, insert, update};

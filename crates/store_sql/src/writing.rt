@@ -62,7 +62,7 @@ pub fn delete<S: Alter>(
 }
 
 /// `CREATE TABLE ..`: the table comes after the others, without rows.
-pub fn create_table<S: Alter>(tx: &mut Transaction<'_, S>, sql: &str) -> Result<(), Error>
+fn create_table<S: Alter>(tx: &mut Transaction<'_, S>, sql: &str) -> Result<(), Error>
     ensures same_reference { tx.new.conn.ghost_name ≡ tx.old.conn.ghost_name }
     ensures value { DoesInside S.Store tx.old.conn.now tx.new.conn.now result
         (λ _. Creates sql.now) }

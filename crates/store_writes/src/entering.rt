@@ -12,14 +12,10 @@ use desk_texts::{Person, reply_text};
 use sbat::{Component, Stamp};
 use sqlite::{Alter, Transaction, params};
 use std::alloc::Global;
-use store_schema::{INSERT_CALL, INSERT_COMPONENT, INSERT_DESK, INSERT_MIGRATED, INSERT_PERSON};
+use store_schema::{
+    INSERT_CALL, INSERT_COMPONENT, INSERT_DESK, INSERT_MIGRATED, INSERT_PERSON, MARK, VERSION,
+};
 use store_sql::{StoreFault, insert};
-
-/// The mark that identifies the file of a desk.
-pub const MARK: &str = "boot-desk";
-
-/// The version of the tables.
-pub const VERSION: u32 = 2;
 
 /// Inserts the desk's own row into tables without rows: its stamp is that of shim's first level.
 fn put_own<S: Alter>(tx: &mut Transaction<'_, S>, owner: &Guid) -> Result<(), StoreFault>

@@ -11,6 +11,6 @@ mod stored;
 mod writing;
 
 pub use committing::failed_commit;
-pub use entering::{MARK, VERSION, put_desk, put_migrated};
+pub use entering::{put_desk, put_migrated};
 pub use setting::set_version;
-pub use writing::{write, write_all};
+pub use writing::write_all;

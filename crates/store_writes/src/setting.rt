@@ -5,13 +5,12 @@ ghost use Rattle.desk_history.specs.declared.write.Write.TheVariants as writes;
 ghost use Rattle.store_sql.specs.States.{CommitsNothing, Spares, StaysInside};
 ghost use Rattle.store_writes.specs.Steps.{Steps, with_version};
 
-use crate::entering::VERSION;
 use crate::stored::integer_value;
 use desk_texts::{Outcome, ProposalOutcome};
 use sbat::{Component, Stamp};
 use sqlite::{Alter, Transaction, params};
 use store_schema::{
-    UPDATE_GENERATION, UPDATE_PROPOSAL_STATE, UPDATE_STAMP, UPDATE_STATE, UPDATE_VERSION,
+    UPDATE_GENERATION, UPDATE_PROPOSAL_STATE, UPDATE_STAMP, UPDATE_STATE, UPDATE_VERSION, VERSION,
 };
 use store_sql::{StoreFault, update};
 

@@ -17,7 +17,7 @@ use std::alloc::Global;
 use store_sql::StoreFault;
 
 /// Makes one write. Takes memory for a reply's text.
-pub fn write<S: Alter>(
+fn write<S: Alter>(
     alloc: Global,
     tx: &mut Transaction<'_, S>,
     row: &Write,

@@ -1,4 +1,4 @@
-use Rattle.std.proofs.Common.{arith, ap}
+use Rattle.std.proofs.Common.{arith}
 use Rattle.sqlite.specs.Held.{state}
 use Rattle.sqlite.specs.State.{HasCleanDisk}
 use Rattle.store_schema.specs.rows.Contents.{contents}
@@ -26,5 +26,5 @@ returns-clause-value g c clean inside =
           let sees1 = a.kept.value t sees in
           let sees2 = b.kept.value t sees1 in
           let sees3 = d.kept.value t sees2 in
-          record { listed = a.tells t sees; revoked = b.tells t sees1; components = d.tells t sees2; stamp = ap (λ d. d.stamp) (e.tells t sees3) };
+          record { listed = a.tells t sees; revoked = b.tells t sees1; components = d.tells t sees2; stamp = (e.tells t sees3).2 };
     }
