@@ -356,11 +356,23 @@ finds rows 'SELECT no, officer, kind, stamp, passed, state FROM proposals ORDER 
 finds rows 'SELECT proposal, place, kind, lower(hex(digest)), name, generation FROM proposal_items ORDER BY proposal, place'
 says '2|1|0' rows
 finds rows 'SELECT version, migrated.id, calls FROM desk, migrated'
-sqlite3 other.db 'CREATE TABLE note (id INTEGER PRIMARY KEY)'
+# A desk is made beside other tables, which stay as they are, unless a table, an index or a view has a
+# name of the desk's, in any case.
+sqlite3 other.db "CREATE TABLE note (id INTEGER PRIMARY KEY, body TEXT); CREATE INDEX notes ON note (body); INSERT INTO note VALUES (1, 'kept')"
 run 1 nothing 'refused 43 NotADesk' nothing verdict other.db missing.efi
+for taken in 'TABLE Desk (id INTEGER)' 'INDEX calls ON note (body)' 'VIEW migrated AS SELECT body FROM note'; do
+    cp other.db barred.db
+    sqlite3 barred.db "CREATE $taken"
+    run 1 nothing 'refused 46 Exists' nothing init barred.db "$owner"
+done
+run 0 nothing '' nothing init other.db "$owner"
 run 1 nothing 'refused 46 Exists' nothing init other.db "$owner"
+exported first.level level other.db
+exported nothing minutes other.db
+[ "$(sqlite3 other.db 'PRAGMA integrity_check; SELECT id, body FROM note')" = 'ok
+1|kept' ] || fail 'a table of others was changed'
 # A row of version 1 with a table that version 2 adds isn't a desk's; an unknown version is Version.
-for refused in '1 43 NotADesk' '3 44 Version'; do
+for refused in '1 43 NotADesk' '3 44 Version' '-1 44 Version'; do
     sqlite3 desk.db "UPDATE desk SET version = ${refused%% *}"
     for export in $exports; do
         run 1 nothing "refused ${refused#* }" nothing "$export" desk.db

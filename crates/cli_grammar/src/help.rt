@@ -50,7 +50,10 @@ Options:
 Exit status: 0 done, 1 refused, 2 an argument is wrong, 3 a device failed";
 
 pub const INIT: &str = "\
-DB has to be missing, empty, or a database without tables, indexes and views.
+DB has to be missing, empty, or a database in which no table, index or view has
+a name of the desk's: desk, people, calls, requests, request_certificates,
+request_components, votes, returns, listed, revoked_digests,
+revoked_certificates, components, proposals, proposal_items, migrated.
 OWNER is the owner of every entry that the desk exports. Reads no input and
 prints nothing.
 
@@ -59,7 +62,7 @@ Example:
 
 Exit status:
   0  the desk is made
-  1  refused: 46 Exists, DB has a table, an index or a view already
+  1  refused: 46 Exists, a table, an index or a view of DB has such a name
   2  an argument is missing or wrong
   3  a device failed: 45 File, DB can't be opened";
 

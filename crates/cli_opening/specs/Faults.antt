@@ -9,7 +9,7 @@ use Rattle.desk_store.specs.Steps.{IsReadRefusal}
 abbrev pub IsFileRefusal : Refusal → Type 0
 IsFileRefusal refusal = (refusal ≡ refusals.NoMemory) ⊎ (refusal ≡ refusals.File)
 
--- own: no desk is made: the file fails, it has tables already, or a device fails
+-- own: no desk is made: the file fails, a name of the desk's is taken in it, or a device fails
 abbrev pub IsMakingRefusal : Refusal → Type 0
 IsMakingRefusal refusal = IsFileRefusal refusal ⊎ ((refusal ≡ refusals.Exists) ⊎ IsFailure refusal)
 

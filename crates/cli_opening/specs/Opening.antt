@@ -1,5 +1,5 @@
 -- The desk of a connection.
-use Rattle.std.specs.Prelude.{◌≡◌, ℕ, List, []}
+use Rattle.std.specs.Prelude.{◌≡◌, ℕ, List, [], false}
 use Rattle.sqlite.specs.Files.{over_files}
 use Rattle.sqlite.specs.Held.{Held, state}
 use Rattle.sqlite.specs.State.{HasCleanDisk}
@@ -10,17 +10,18 @@ use Rattle.store_schema.specs.rows.Histories.{LeavesHistory, ShowsFirst, ShowsHi
 use Rattle.desk_history.specs.Calls.{History}
 use Rattle.desk_history.specs.Formed.{IsHistory}
 use Rattle.store_sql.specs.States.{Spares}
+use Rattle.store_schema.specs.Names.{takes_a_desk_name}
 use Rattle.store_schema.specs.Tables.{no_schema}
 use Rattle.desk_store.specs.Desks.{ShowsDesk}
 use Rattle.desk_store.specs.Headline.{Recovers}
 use Rattle.desk_store.specs.declared.desk.Desk.{Desk}
 
 module _ {S : Type 0} (g : Ghosts S) (conn : Held S) where
-  -- the connection's store had no tables, and the desk that was made in it has this owner and no
-  -- calls
+  -- None of the desk's names was taken in the connection's store, and if it had no other tables,
+  -- the desk that was made in it has this owner and no calls.
   pub record Makes (owner : List ℕ) (desk : Desk S) : Type 0 where
-    pub free : (state g conn).now.schema ≡ no_schema
-    pub shows : HasCleanDisk (state g desk.conn) → ShowsDesk g desk owner []
+    pub free : takes_a_desk_name (state g conn).now.schema ≡ false
+    pub shows : HasCleanDisk (state g desk.conn) → (state g conn).now.schema ≡ no_schema → ShowsDesk g desk owner []
 
   -- The opened desk shows the history that the connection shows, in tables of either version, and
   -- whatever lives may have left the store, a history that they may leave. For a desk of version 2

@@ -1,5 +1,5 @@
 -- The step from the making of a desk to the contents of the connection after it.
-use Rattle.std.proofs.Common.{◌≡◌, ℕ, List, [], map, sym, subst, ◌∙◌, IsTrue, false}
+use Rattle.std.proofs.Common.{◌≡◌, ℕ, Bool, true, false, not, List, [], map, refl, sym, subst, ◌∙◌, IsTrue}
 use Rattle.std.specs.Prelude.{⊤}
 use Rattle.sqlite.specs.Store as store
 use Rattle.sqlite.specs.Effect.{Database, IsDatabase}
@@ -14,6 +14,11 @@ use Rattle.store_sql.proofs.StopLemmas.{tables_of}
 use Rattle.store_schema.specs.Tables.{defined, desk_schema, desk_tables, no_schema}
 use Rattle.store_schema.specs.rows.Histories.{HoldsHistory, ShowsHistory, rows_of}
 use Rattle.desk_store.specs.Steps.{Founds}
+
+-- names that aren't free are taken
+pub are_taken : (taken free : Bool) → free ≡ not taken → free ≡ false → IsTrue taken
+are_taken true free is out = refl
+are_taken false free is out = absurd (let clash = sym is ∙ out in cc)
 
 pub founds : (first mid new : State) (owner : List ℕ) → Makes first mid no_schema desk_schema (map defined desk_tables)
     → Turns desk_schema (λ (_ : ⊤). no_rows desk_schema.tables) (λ _. rows_of owner []) mid new → Founds first new owner

@@ -1,5 +1,6 @@
 -- The step from the answer of the query for the desk's row to the tables of a history.
-use Rattle.std.proofs.Common.{◌≡◌, inl, inr, ℕ, List, [], refl, sym, subst, ◌∙◌, arith, IsTrue, true, Result, Ok, Err}
+use Rattle.std.proofs.Common.{◌≡◌, inl, inr, ℕ, pos, List, [], refl, sym, subst, ◌∙◌, arith, IsTrue, true, false, codes, Result, Ok}
+use Rattle.std.specs.Prelude.{is_some}
 use Rattle.std.proofs.lemmas.List.Sorted.{IsPermutation-sym, IsPermutation-trans}
 use Rattle.std.specs.List.Sorted.{IsPermutation}
 use Rattle.sqlite.proofs.Callers.{one_permutation}
@@ -11,25 +12,29 @@ use Rattle.sqlite.specs.Held.{Held, state}
 use Rattle.sqlite.specs.Given.{IsPlain}
 use Rattle.sqlite.specs.Order.{Row}
 use Rattle.sqlite.specs.Schema.{Schema}
-use Rattle.sqlite.specs.State.{State, HasCleanDisk, IsNotRun, IsUnchanged, KeepsCommit, Survives, store_error}
+use Rattle.sqlite.specs.State.{State, HasCleanDisk, IsNotRun, IsRolledBack, IsUnchanged, KeepsCommit, Survives, store_error}
 use Rattle.sqlite_trees.specs.declared.error.StoreError.{StoreError}
 use Rattle.sqlite_trees.specs.declared.error.StoreError.TheVariants.{OutOfMemory, Io, Corrupt, Full, Broken, Unstorable}
 use Rattle.sqlite_resolve.specs.declared.error.CompileError.{CompileError}
-use Rattle.store_sql.specs.Contents.{Contents, Holds}
-use Rattle.store_sql.specs.Effects.{IsSelected, Selects}
+use Rattle.sqlite_schema.specs.Names.{same_name, table_named}
+use Rattle.store_sql.specs.Contents.{Holds}
+use Rattle.store_sql.specs.Effects.{IsSelected}
 use Rattle.store_sql.specs.Meanings.{SelectsRows}
+use Rattle.store_sql.proofs.ReadLemmas.{finds_rows}
 use Rattle.desk_bytes.specs.declared.refusal.Refusal.{Refusal}
 use Rattle.desk_bytes.specs.declared.refusal.Refusal.TheVariants as refusals
-use Rattle.store_sql.specs.States.{Leaves, Sees}
+use Rattle.store_sql.specs.States.{Leaves}
 use Rattle.sqlite.specs.Tree.{Trees}
 use Rattle.store_schema.specs.Columns.{by_first, columns_after, names_of}
-use Rattle.store_schema.specs.Tables.{desk}
+use Rattle.store_schema.specs.Names.{takes_an_added_name}
+use Rattle.store_schema.specs.Tables.{desk, desk_schema, first_schema}
 use Rattle.store_schema.specs.declared.selecting.TheConstants.{SELECT_DESK}
 use Rattle.store_schema.proofs.SelectFacts.{select_desk, select_first_desk}
-use Rattle.desk_store.specs.Rows.{AreBy, AreOfNone, ReadsBy, desk_columns}
-use Rattle.desk_store.specs.Steps.{IsDeskSchema, RefusesColumns, RefusesText, SeesRows, ShowsRows, TellsInside, TellsOutside}
-use Rattle.desk_store.specs.declared.opening.OwnRow.{OwnRow}
-use Rattle.desk_store.proofs.VersionLemmas.{one_own}
+use Rattle.store_reads.specs.Own.{ReadsAs, ReadsAsNone, ReadsBy, own_columns}
+use Rattle.store_reads.specs.declared.desk_row.OwnRow.{OwnRow}
+use Rattle.desk_store.specs.Rows.{AreBy, AreSelected}
+use Rattle.desk_store.specs.Steps.{AnswersRow, AreShownAs, FindsNone, FindsOther, IsDeskSchema, IsOwnOf, LacksRow, RefusesColumns, RefusesText, ShowsRows, TellsInside, TellsOutside}
+use Rattle.desk_store.proofs.VersionLemmas.{ShowsNone, ShowsOther, one_own}
 
 pub unchanged_keeps : (old new : State) → IsUnchanged old new → KeepsCommit old new
 unchanged_keeps old new same = record { was_open = λ _. same.0.was_open; committed = λ _. same.0.committed_is }
@@ -52,65 +57,104 @@ asks_for_desk : (schema : Schema) → IsDeskSchema schema → SelectsRows schema
 asks_for_desk schema (inl first) = subst (λ s. SelectsRows s 0 desk SELECT_DESK.now [] (by_first 1 desk) (columns_after 1 desk) (names_of desk)) (sym first) select_first_desk
 asks_for_desk schema (inr second) = subst (λ s. SelectsRows s 0 desk SELECT_DESK.now [] (by_first 1 desk) (columns_after 1 desk) (names_of desk)) (sym second) select_desk
 
--- where the text isn't understood, the tables aren't a desk's
-pub no_tables : (old new : State) (e : Error) → IsNotRun old new SELECT_DESK.now [] e → RefusesText e → IsTrue old.is_open × (IsDeskSchema old.now.schema → ⊥)
+-- both have a table `desk`
+named_first : is_some (table_named first_schema (codes "desk")) ≡ true
+unfolding same_name
+named_first = refl
+
+named_second : is_some (table_named desk_schema (codes "desk")) ≡ true
+unfolding same_name
+named_second = refl
+
+-- so they lack no row
+pub lacks_none : (schema : Schema) → IsDeskSchema schema → LacksRow schema → ⊥
+lacks_none schema (inl first) (inl unnamed) =
+    let none : is_some (table_named first_schema (codes "desk")) ≡ false = subst (λ s. is_some (table_named s (codes "desk")) ≡ false) first unnamed in
+    let clash = sym named_first ∙ none in cc
+lacks_none schema (inr second) (inl unnamed) =
+    let none : is_some (table_named desk_schema (codes "desk")) ≡ false = subst (λ s. is_some (table_named s (codes "desk")) ≡ false) second unnamed in
+    let clash = sym named_second ∙ none in cc
+lacks_none schema of_desk (inr (fault, bad)) = subst IsPlain bad (asks_for_desk schema of_desk).plain
+
+-- where the text isn't understood, the open store lacks the row
+pub no_text_there : (old new : State) (e : Error) → IsNotRun old new SELECT_DESK.now [] e → RefusesText e → IsTrue old.is_open × LacksRow old.now.schema
 unfolding IsNotRun
-no_tables old new e (inl (inl (fault, bad, is), same)) text =
-    (same.0.was_open, λ listed. subst IsPlain bad (asks_for_desk old.now.schema listed).plain)
-no_tables old new e (inl (inr (c, is, inl (long, many)), same)) text = absurd (let a = sym many ∙ text.1 in cc)
-no_tables old new e (inl (inr (c, is, inr (inl (few, count))), same)) text = absurd (let a = sym count ∙ text.1 in cc)
-no_tables old new e (inl (inr (c, is, inr (inr (formats, clock))), same)) text = absurd (let a = sym clock ∙ text.1 in cc)
-no_tables old new e (inr h) text = absurd (no_text h.0 text.0 (sym h.1 ∙ text.1))
+no_text_there old new e (inl (inl (fault, bad, is), same)) text = (same.0.was_open, inr (fault, bad))
+no_text_there old new e (inl (inr (c, is, inl (long, many)), same)) text = absurd (let a = sym many ∙ text.1 in cc)
+no_text_there old new e (inl (inr (c, is, inr (inl (few, count))), same)) text = absurd (let a = sym count ∙ text.1 in cc)
+no_text_there old new e (inl (inr (c, is, inr (inr (formats, clock))), same)) text = absurd (let a = sym clock ∙ text.1 in cc)
+no_text_there old new e (inr h) text = absurd (no_text h.0 text.0 (sym h.1 ∙ text.1))
 
--- the answer of the query, from the rows of the table
-pub selected : (old mid new : State) (answer : List Row) → IsUnchanged old mid → Selects SELECT_DESK.now [] mid new answer
-    → SeesRows old (λ rows. IsSelected desk [] (by_first 1 desk) (columns_after 1 desk) [] rows answer)
-selected old mid new answer same selects schema c rows of_desk sees has =
-    (selects schema 0 desk [] (by_first 1 desk) (columns_after 1 desk) (names_of desk) (asks_for_desk schema of_desk)).1 c rows
-    (record { inside = same.0.mode ∙ sees.inside; holds = subst (λ (d : Database). Holds schema d c) (sym same.0.now_is) sees.holds }) has
-
--- where one answer reads as a desk, each does
-pub read_alike : (rows answer : List Row) (own : OwnRow) → IsSelected desk [] (by_first 1 desk) (columns_after 1 desk) [] rows answer → AreBy rows own → ReadsBy answer own
-read_alike rows answer own it other =
-    let reads = other.2 in
-    let same = IsPermutation-trans _ _ _ (IsPermutation-sym _ _ other.1.same) it.same in
-    (reads.0, reads.1, one_permutation (desk_columns own.owner own.version own.stamp) answer (subst (λ l. IsPermutation l answer) reads.2 same))
-
--- where the store hasn't the tables of a desk it shows no rows of them
-pub no_rows : (s : State) (refusal : Refusal) → RefusesColumns s refusal → refusal ≡ refusals.NotADesk → (schema : Schema) (c : Contents) → IsDeskSchema schema → Sees schema s c → ⊥
-no_rows s refusal (inl (inl memory)) is schema c of_desk sees = let e = sym memory ∙ is in cc
-no_rows s refusal (inl (inr store)) is schema c of_desk sees = let e = sym store ∙ is in cc
-no_rows s refusal (inr told) is schema c of_desk sees = told.2 (subst IsDeskSchema (sym sees.holds.listed) of_desk)
-
--- where the columns are refused because there is no desk, the store is open
+-- where the columns are refused because there is no desk, the store is open, and lacks the row
 pub open_there : (s : State) (refusal : Refusal) → RefusesColumns s refusal → refusal ≡ refusals.NotADesk → IsTrue s.is_open
 open_there s refusal (inl (inl memory)) is = absurd (let e = sym memory ∙ is in cc)
 open_there s refusal (inl (inr store)) is = absurd (let e = sym store ∙ is in cc)
 open_there s refusal (inr told) is = told.1
 
-module _ {S : Type 0} (g : store.Ghosts S) (old : Held S) where
-  abbrev begun : State
-  begun = state g (record old { in_transaction = true })
+pub lacks_there : (s : State) (refusal : Refusal) → RefusesColumns s refusal → refusal ≡ refusals.NotADesk → LacksRow s.now.schema
+lacks_there s refusal (inl (inl memory)) is = absurd (let e = sym memory ∙ is in cc)
+lacks_there s refusal (inl (inr store)) is = absurd (let e = sym store ∙ is in cc)
+lacks_there s refusal (inr told) is = told.2
 
-  -- the rows seen inside a transaction of an open connection are shown outside
-  shown_before : (of_rows : List Row → Type 0) → HasCleanDisk (state g old) → IsTrue begun.is_open → SeesRows begun of_rows → ShowsRows (state g old) (λ _ rows. of_rows rows)
-  shown_before of_rows clean live sees schema c rows of_desk shows has = sees schema c rows of_desk (record { inside = refl; holds = (shows.holds clean live).0 }) has
+-- where one answer reads as a desk, each does
+read_alike : (rows answer : List Row) (own : OwnRow) → IsSelected desk [] (by_first 1 desk) (columns_after 1 desk) [] rows answer → AreBy rows own → ReadsBy answer own
+read_alike rows answer own it other =
+    let reads = other.2 in
+    let same = IsPermutation-trans _ _ _ (IsPermutation-sym _ _ other.1.same) it.same in
+    (reads.0, reads.1, one_permutation (own_columns own.owner own.version own.stamp) answer (subst (λ l. IsPermutation l answer) reads.2 same))
 
-  pub told_before : (result : Result OwnRow Refusal) → HasCleanDisk (state g old) → TellsInside begun result → TellsOutside (state g old) result
-  told_before (Ok own) clean told =
-      let shown = shown_before (λ rows. AreBy rows own) clean told.is_open told.read in
-      record {
-        is_open = told.is_open;
-        read = λ schema c rows of_desk shows has. let it = shown schema c rows of_desk shows has in (it.0, it.1, (own.owner, own.stamp, it.2));
-        own = one_own (state g old) own shown;
-        unread = tt;
-      }
-  told_before (Err refusal) clean told = record {
-    is_open = told.is_open;
-    read = tt;
-    own = tt;
-    unread = λ is. shown_before AreOfNone clean (told.is_open is) (told.unread is);
-  }
+module _ {S : Type 0} (g : store.Ghosts S) (conn : Held S) (clean : HasCleanDisk (state g conn)) (live : IsTrue (state g conn).is_open) where
+  -- the answer of the query is one over the rows of a desk's tables
+  pub answered : (told : List Row → Type 0) → AnswersRow g conn told → ShowsRows (state g conn) (λ _ rows. AreSelected rows told)
+  answered told it schema c rows of_desk shows has =
+      let shown = it.3 in (
+        shown.0,
+        finds_rows SELECT_DESK.now [] (state g it.0) (state g it.1) shown.0 schema 0 desk [] (by_first 1 desk) (columns_after 1 desk) (names_of desk) (asks_for_desk schema of_desk) shown.1 c rows
+            (subst (λ (d : Database). Holds schema d c) (sym it.2) (shows.holds clean live).0) has,
+        shown.2,
+      )
+
+  -- what was read is that of each history that is shown
+  pub own_of : (own : OwnRow) → AnswersRow g conn (λ answer. ReadsBy answer own) → IsOwnOf (state g conn) own
+  own_of own it = one_own (state g conn) own (answered (λ answer. ReadsBy answer own) it)
+
+-- the version of what was read
+pub version_of : {S : Type 0} (g : store.Ghosts S) (conn : Held S) (own : OwnRow) → AnswersRow g conn (λ answer. ReadsBy answer own) → AnswersRow g conn (λ answer. ReadsAs answer own.version)
+version_of g conn own it = let shown = it.3 in (it.0, it.1, it.2, (shown.0, shown.1, (own.owner, own.stamp, shown.2)))
+
+-- what was read is the row of a desk of this version, by the rows of a desk's tables
+pub read_as : {S : Type 0} (g : store.Ghosts S) (conn : Held S) (own : OwnRow) → HasCleanDisk (state g conn) → TellsOutside g conn (Ok own) → AreShownAs (state g conn) own.version
+read_as g conn own clean told = answered g conn clean told.told.is_open (λ answer. ReadsAs answer own.version) (version_of g conn own told.told.read)
+
+-- a desk of another version, and no desk, by the rows of a desk's tables
+pub other_shown : {S : Type 0} (g : store.Ghosts S) (conn : Held S) → HasCleanDisk (state g conn) → FindsOther g conn → ShowsOther (state g conn)
+other_shown g conn clean it = let found = it.2 in (found.0, found.1, found.2, answered g conn clean it.0 (λ answer. ReadsAs answer found.0) found.3)
+
+pub none_shown : {S : Type 0} (g : store.Ghosts S) (conn : Held S) → HasCleanDisk (state g conn) → FindsNone g conn → ShowsNone (state g conn)
+none_shown g conn clean (live, inl (inl lacks)) =
+    inl (λ schema c rows of_desk shows has version other. lacks_none schema of_desk (subst LacksRow (shows.holds clean live).0.listed lacks))
+none_shown g conn clean (live, inl (inr it)) =
+    inl (λ schema c rows of_desk shows has version other.
+    let here = answered g conn clean live ReadsAsNone it schema c rows of_desk shows has in
+    let reads = other.2 in
+    here.2 version (reads.0, reads.1, read_alike rows here.0 (record { version = version; owner = reads.0; stamp = reads.1 }) here.1 (other.0, other.1, reads.2)))
+none_shown g conn clean (live, inr taken) =
+    inr (λ schema c rows of_desk shows has. (
+      answered g conn clean live (λ answer. ReadsAs answer (pos 1)) taken.0 schema c rows of_desk shows has,
+      subst (λ (x : Schema). IsTrue (takes_an_added_name x)) (shows.holds clean live).0.listed taken.1,
+    ))
+
+-- what was read inside a transaction that begins on the connection
+pub told_before : {S : Type 0} (g : store.Ghosts S) (old : Held S) (result : Result OwnRow Refusal) → TellsInside g (record old { in_transaction = true }) result → TellsInside g old result
+told_before g old result told = record { is_open = told.is_open; read = told.read; unread = told.unread }
+
+-- a rolled back transaction that committed nothing leaves the schema
+pub same_schema : (old begun last end : State) → begun.committed ≡ old.committed → (IsTrue begun.is_open → IsTrue old.is_open) → (IsTrue old.is_open → old.now ≡ old.committed)
+    → KeepsCommit begun last → IsRolledBack last end → IsTrue end.is_open → end.now.schema ≡ old.now.schema
+same_schema old begun last end same opened settled kept rolled live =
+    let mid = rolled.was_open live in
+    let now : end.now ≡ old.now = (rolled.undone live).0 ∙ kept.committed mid ∙ same ∙ sym (settled (opened (kept.was_open mid))) in
+    subst (λ (d : Database). d.schema ≡ old.now.schema) (sym now) refl
 
 -- a stop leaves what it left before
 pub still_leaves : (P : Trees → Type 0) (old new : State) → Survives old new (λ _. ⊥) → Leaves old P → Leaves new P

@@ -1,5 +1,5 @@
 -- The step from a desk's files after a stop to the tables that a connection over them finds.
-use Rattle.std.proofs.Common.{◌≡◌, inl, inr, ℕ, not, true, List, [], ◌∷◌, Option, Some, None, refl, sym, subst, ◌∙◌, arith, IsTrue}
+use Rattle.std.proofs.Common.{pos, ◌≡◌, inl, inr, ℕ, not, true, List, [], ◌∷◌, Option, Some, None, refl, sym, subst, ◌∙◌, arith, IsTrue}
 use Rattle.std.proofs.Math.Logic.{∥∥₁_map₂}
 use Rattle.std.proofs.lemmas.Bool.{and_parts}
 use Rattle.sqlite.specs.Files.{file_state, image_of}
@@ -74,7 +74,7 @@ pub refused_leaves : (s new : State) (owner : List ℕ) (lives : List Life) (cs 
     → Leaves new (λ db. HoldsEither db owner (and_refused lives) cs)
 refused_leaves s new owner lives cs stops (inl holds) second first left clean db may = elim (stops.crash clean db may) [
   | inl was ↦ inl (left desk_schema (rows_of owner cs) (second holds) (omega (arith, stops.clean, clean)) db was)
-  | inr brings ↦ absurd (let one = second_version s owner cs 1 brings.0 (second holds) in omega (arith, one))
+  | inr brings ↦ absurd (let one = second_version s owner cs (pos 1) brings.0 (second holds) in cc)
 ]
 refused_leaves s new owner lives cs stops (inr early) second first left clean db may = elim (stops.crash clean db may) [
   | inl was ↦ inr (still_none lives early.0, (early.1.0, left first_schema (first_rows_of owner cs) (first early.1).1 (omega (arith, stops.clean, clean)) db was))

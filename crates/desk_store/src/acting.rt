@@ -1,5 +1,5 @@
 //! One call, in one transaction.
-ghost use Rattle.std.specs.Prelude.{◌≡◌, ◌≢◌, ℕ, List, Some, IfErr, IfOk};
+ghost use Rattle.std.specs.Prelude.{◌≡◌, ◌≢◌, ℕ, List, Some, false, IfErr, IfOk};
 ghost use Rattle.sqlite.specs.Held.{state};
 ghost use Rattle.sqlite.specs.State.{HasCleanDisk, Survives};
 ghost use Rattle.desk_history.specs.Calls.{History};
@@ -116,6 +116,8 @@ pub(crate) fn run<S: Alter>(
     ensures named { IfOk result (λ acted. IsNamed acted.answer) }
     ensures failed { IfErr result IsFailure }
     ensures unwritten { IfErr result (λ e. e ≢ Refusal.Store → Spares S.Store conn.old conn.new) }
+    ensures idle { IfOk result (λ acted. runs.is_accepted acted.answer ≡ false
+        → Spares S.Store conn.old conn.new) }
     ensures survives { Survives (state S.Store conn.old) (state S.Store conn.new)
         (LeavesNext (state S.Store conn.old) remembered call.now) }
 {

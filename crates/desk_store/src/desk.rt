@@ -1,10 +1,11 @@
 //! Desks: made, opened, and released.
 ghost use Rattle.std.specs.Prelude.{◌≡◌, ◌≢◌, ◌⊎◌, ℕ, List, [], length, Err, false, true};
-ghost use Rattle.std.specs.Prelude.{IfErr, IfOk, IsErrOf, OnOk};
+ghost use Rattle.std.specs.Prelude.{IfErr, IfOk, IsErrOf, IsTrue, OnOk};
 ghost use Rattle.sqlite.specs.Held.{state};
 ghost use Rattle.sqlite.specs.State.{HasCleanDisk, Survives};
 ghost use Rattle.desk_history.specs.Calls.{History};
 ghost use Rattle.desk_history.specs.Formed.{IsHistory};
+ghost use Rattle.store_schema.specs.Names.{takes_a_desk_name};
 ghost use Rattle.store_schema.specs.Tables.{no_schema};
 ghost use Rattle.store_sql.specs.States.{Spares};
 ghost use Rattle.desk_history.specs.Tables.{tables};
@@ -20,10 +21,11 @@ ghost use Rattle.desk_store.specs.Reopening.{FindsADesk};
 ghost use Rattle.store_schema.specs.rows.Histories.{HoldsHistory, LeavesHistory, ShowsFirst};
 ghost use Rattle.store_schema.specs.rows.Histories.{ShowsHistory};
 ghost use Rattle.store_reads.specs.Failures.{IsFailure};
+ghost use Rattle.store_migration.specs.Migrations.{KeepsShown};
 ghost use Rattle.desk_store.specs.Steps.{Brings, FindsKnown, FindsNone, FindsOther, IsReadRefusal};
 
 use crate::acting::{result_of, run};
-use crate::founding::{found_at_once, has_no_tables};
+use crate::founding::{found_at_once, names_are_free};
 use crate::opening::{bring_up, found_is_shown};
 use crate::questions::{ListsFor, RowsFor};
 use desk_bytes::{Guid, Refusal};
@@ -51,10 +53,12 @@ pub struct Desk<S: Alter> {
 impl<S: Alter + Drop> Desk<S> {
     /// Makes a desk without calls, in one transaction: its fifteen tables, and its own row with the
     /// owner of each entry that it exports. The connection must be outside a transaction
-    /// (`is_autocommit`); a refusal returns it. Takes memory.
+    /// (`is_autocommit`); a refusal returns it. The store's other tables stay as they are. Takes
+    /// memory.
     ///
-    /// `Exists`: the store has a table, an index or a view already. `NoMemory`: memory was refused,
-    /// and nothing was committed. `Store`: the store failed, and committed nothing or everything.
+    /// `Exists`: a table, an index or a view of the store has a name of the desk's tables, whatever
+    /// the case of ASCII letters. `NoMemory`: memory was refused, and nothing was committed.
+    /// `Store`: the store failed, and committed nothing or everything.
     pub fn create(
         alloc: Global,
         mut conn: Connection<S>,
@@ -62,21 +66,27 @@ impl<S: Alter + Drop> Desk<S> {
     ) -> Result<Desk<S>, (Refusal, Connection<S>)>
         requires outside { conn.in_transaction ≡ false }
         ensures ok { IfOk result (λ desk. HasCleanDisk (state S.Store desk.conn)
+            → (state S.Store conn).now.schema ≡ no_schema
             → ShowsDesk S.Store desk owner.now []) }
         ensures usable { IfOk result (λ desk. desk.needs_reopening ≡ false) }
-        ensures free { OnOk result ((state S.Store conn).now.schema ≡ no_schema) }
+        ensures free { OnOk result
+            (takes_a_desk_name (state S.Store conn).now.schema ≡ false) }
         ensures taken { IfErr result (λ e. e.0 ≡ Refusal.Exists
-            → ((state S.Store conn).now.schema ≢ no_schema) × (e.1 ≡ conn)) }
+            → IsTrue (takes_a_desk_name (state S.Store conn).now.schema) × (e.1 ≡ conn)) }
+        ensures kept { IfErr result (λ e. HasCleanDisk (state S.Store e.1) → e.0 ≢ Refusal.Store
+            → KeepsShown (state S.Store conn) (state S.Store e.1)) }
         ensures refused { IfErr result (λ e. e.0 ≢ Refusal.Store → Spares S.Store conn e.1) }
         ensures stopped { IfOk result (λ desk.
             Survives (state S.Store conn) (state S.Store desk.conn)
-            (λ db. HoldsHistory db owner.now [])) }
+            (λ db. (state S.Store conn).now.schema ≡ no_schema
+            → HoldsHistory db owner.now [])) }
         ensures failed { IfErr result (λ e. Survives (state S.Store conn) (state S.Store e.1)
-            (λ db. HoldsHistory db owner.now [])) }
+            (λ db. (state S.Store conn).now.schema ≡ no_schema
+            → HoldsHistory db owner.now [])) }
         ensures outside { IfErr result (λ e. e.1.in_transaction ≡ false) }
         ensures named { IfErr result (λ e. (e.0 ≡ Refusal.Exists) ⊎ IsFailure e.0) }
     {
-        if !has_no_tables(&conn) {
+        if !names_are_free(&conn) {
             return Err((Refusal::Exists, conn));
         }
         match found_at_once(&mut conn, owner) {
@@ -102,12 +112,12 @@ impl<S: Alter + Drop> Desk<S> {
     /// The connection must be outside a transaction (`is_autocommit`); a refusal returns it. Takes
     /// memory.
     ///
-    /// `NotADesk`: the store has no row that reads as a desk's, with an owner of 16 bytes and a
-    /// stamp of ten digits; or its desk is of version 1, and a table, an index or a view has one of
-    /// the three names that version 2 adds. `Version`: its desk is of a version that this program
-    /// doesn't know. `NoMemory`: memory was refused. After any of these nothing was committed.
-    /// `Store`: the store failed; it committed nothing, or, for a desk of version 1, all of version
-    /// 2.
+    /// `NotADesk`: the store has no table `desk` whose only row reads as a desk's, with an owner of
+    /// 16 bytes and a stamp of ten digits; or its desk is of version 1, and a table, an index or a
+    /// view has one of the three names that version 2 adds. `Version`: its desk is of a version,
+    /// of any sign, that this program doesn't know. `NoMemory`: memory was refused. After any of
+    /// these nothing was committed. `Store`: the store failed; it committed nothing, or, for a desk
+    /// of version 1, all of version 2.
     pub fn open(alloc: Global, mut conn: Connection<S>) -> Result<Desk<S>, (Refusal, Connection<S>)>
         requires outside { conn.in_transaction ≡ false }
         ensures ok { IfOk result (λ desk. HasCleanDisk (state S.Store desk.conn)
@@ -121,12 +131,12 @@ impl<S: Alter + Drop> Desk<S> {
             → ShowsFirst (state S.Store conn) owner cs
             → ShowsDesk S.Store desk owner cs) }
         ensures read { IfOk result (λ desk. HasCleanDisk (state S.Store desk.conn)
-            → FindsKnown (state S.Store conn)) }
+            → FindsKnown S.Store conn) }
         ensures other { IfErr result (λ e. HasCleanDisk (state S.Store e.1) → e.0 ≡ Refusal.Version
-            → FindsOther (state S.Store conn)) }
+            → FindsOther S.Store conn) }
         ensures unread { IfErr result (λ e. HasCleanDisk (state S.Store e.1)
             → e.0 ≡ Refusal.NotADesk
-            → FindsNone (state S.Store conn)) }
+            → FindsNone S.Store conn) }
         ensures known { IfErr result (λ e. HasCleanDisk (state S.Store e.1)
             → (owner : List ℕ) (cs : History) → length owner ≡ 16 → IsHistory cs
             → ShowsHistory (state S.Store conn) owner cs
@@ -186,6 +196,8 @@ impl<S: Alter + Drop> Desk<S> {
             (called caller.now key.now command.now) }
         ensures spares { CommitsOnlyAccepted S.Store self.old self.new
             (called caller.now key.now command.now) }
+        ensures unwritten { IfErr result (λ e. e ≢ Refusal.Store
+            → Spares S.Store self.old.conn self.new.conn) }
         ensures clean { HasCleanDisk (state S.Store self.new.conn)
             → HasCleanDisk (state S.Store self.old.conn) }
         ensures poisons { IsErrOf result Refusal.Store → self.new.needs_reopening ≡ true }

@@ -1,26 +1,26 @@
 //! The founding of a desk: its fifteen tables and its own rows, in one transaction.
-ghost use Rattle.std.specs.Prelude.{◌≡◌, ◌≢◌, [], false, IfErr, IsTrue, OnOk};
+ghost use Rattle.std.specs.Prelude.{◌≡◌, ◌≢◌, [], false, IfErr, IsTrue, OnOk, not};
 ghost use Rattle.sqlite.specs.Held.{state};
 ghost use Rattle.sqlite.specs.State.{HasCleanDisk, Survives};
+ghost use Rattle.store_schema.specs.Names.{takes_a_desk_name};
 ghost use Rattle.store_schema.specs.Tables.{no_schema};
 ghost use Rattle.store_sql.specs.States.{CommitsNothing, Spares, StaysInside};
 ghost use Rattle.store_schema.specs.rows.Histories.{HoldsHistory, ShowsHistory};
 ghost use Rattle.store_reads.specs.Failures.{IsFailure};
+ghost use Rattle.store_migration.specs.Migrations.{KeepsShown};
 ghost use Rattle.desk_store.specs.Steps.{Founds};
 
 use desk_bytes::{Guid, Refusal};
 use sqlite::{Alter, Connection, Transaction};
-use store_schema::make;
+use store_schema::{make, takes_a_desk_name};
 use store_sql::StoreFault;
 use store_writes::{failed_commit, put_desk};
 
-/// Whether the store has no table, index or view.
-pub(crate) fn has_no_tables<S: Alter>(conn: &Connection<S>) -> bool
-    ensures free { IsTrue result → (state S.Store conn.now).now.schema ≡ no_schema }
-    ensures taken { result ≡ false → (state S.Store conn.now).now.schema ≢ no_schema }
+/// Whether no table, index or view of the store has a name of the desk's tables.
+pub(crate) fn names_are_free<S: Alter>(conn: &Connection<S>) -> bool
+    ensures { result ≡ not (takes_a_desk_name (state S.Store conn.now).now.schema) }
 {
-    let schema = conn.schema();
-    schema.tables.is_empty() && schema.indexes.is_empty() && schema.views.is_empty()
+    !takes_a_desk_name(conn.schema())
 }
 
 /// Makes the tables, and inserts the rows of a desk without calls.
@@ -48,6 +48,8 @@ pub(crate) fn found_at_once<S: Alter>(conn: &mut Connection<S>, owner: &Guid) ->
         (IsTrue (state S.Store conn.new).is_open
         × ((state S.Store conn.old).now.schema ≡ no_schema
         → ShowsHistory (state S.Store conn.new) owner.now [])) }
+    ensures kept { HasCleanDisk (state S.Store conn.new) → IfErr result (λ e.
+        e ≢ Refusal.Store → KeepsShown (state S.Store conn.old) (state S.Store conn.new)) }
     ensures unwritten { IfErr result (λ e. e ≢ Refusal.Store → Spares S.Store conn.old conn.new) }
     ensures survives { Survives (state S.Store conn.old) (state S.Store conn.new)
         (λ db. (state S.Store conn.old).now.schema ≡ no_schema → HoldsHistory db owner.now []) }

@@ -68,10 +68,10 @@ impl Question for HowMany {
 
     fn read<S: Alter>(
         &self,
-        alloc: Global,
+        _alloc: Global,
         tx: &mut Transaction<'_, S>,
     ) -> Result<Counts, Refusal> {
-        match counts(alloc, tx) {
+        match counts(tx) {
             Ok(counted) => Ok(counted),
             Err(fault) => Err(fault.refusal()),
         }

@@ -113,3 +113,14 @@ returns-clause-survives g c =
     subst (λ (x : Held _). Survives (state g.S.Store old) (state g.S.Store x) (LeavesNext (state g.S.Store old) c.args.remembered call)) same
     (leaves_more (LeavesNext (state g.S.Store old) c.args.remembered call) (state g.S.Store old) (state g.S.Store end)
     (through g.S.Store old c.act.new.tx.conn.now end did.spares c.rollback.ensures.survives))
+
+pub returns-clause-idle : goal.returns-clause-idle
+returns-clause-idle g c out =
+    let old = c.args.conn.now in
+    let call = c.args.call.now in
+    let end = c.rollback.new.self.0 in
+    let e = c.in-Ok.ensures in
+    let did = worked g.S.Store old _ c.act.new.tx.conn.now (Acts c.args.remembered call c.in-Ok.acted) c.transaction-tx.ensures.begun e.value e.inside e.kept e.survives in
+    let same : c.rollback.new.self.0 ≡ c.conn-2-1.given.0 = search rules in
+    subst (λ (x : Held _). Survives (state g.S.Store old) (state g.S.Store x) (λ _. ⊥)) same
+    (through g.S.Store old c.act.new.tx.conn.now end did.spares c.rollback.ensures.survives)

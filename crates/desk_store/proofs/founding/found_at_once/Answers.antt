@@ -2,7 +2,7 @@ use Rattle.std.proofs.Common.{◌≡◌, ◌∙◌, [], rules, ap, subst, arith,
 use Rattle.sqlite.specs.Held.{Held, state}
 use Rattle.sqlite.specs.State.{HasCleanDisk, Survives}
 use Rattle.store_schema.specs.Tables.{no_schema}
-use Rattle.store_sql.proofs.CommitLemmas.{failed_leaves, failed_spares, leaves_made, worked}
+use Rattle.store_sql.proofs.CommitLemmas.{failed_leaves, failed_shows, failed_spares, leaves_made, worked}
 use Rattle.store_sql.specs.Faults.{refusal_of}
 use Rattle.store_schema.specs.rows.Histories.{HoldsHistory, ShowsHistory}
 use Rattle.desk_store.specs.Steps.{Founds}
@@ -37,6 +37,17 @@ returns-in-Ok-commit-clause-survives g c =
     c.in-Ok-commit.ensures.survives (founded_trees g.S.Store old last owner (λ live. (c.schema-sound.ensures.live live).0) did))
 
 -- the commit failed
+
+pub returns-in-Err-commit-clause-kept : goal.returns-in-Err-commit-clause-kept
+returns-in-Err-commit-clause-kept g c clean other =
+    let old = c.args.conn.now in
+    let owner = c.args.owner.now in
+    let last = c.found.new.tx.conn.now in
+    let e = c.in-Ok.ensures in
+    let did = worked g.S.Store old _ last (λ before after. Founds before after owner) c.transaction-tx.ensures.begun e.value e.inside e.kept e.survives in
+    λ schema contents shows. failed_shows g.S.Store old last c.commit.new.self.0 c.conn-1.given.0 c.failed_commit.new.conn (λ before after. Founds before after owner) c.in-Err-commit.error did
+    (search rules) c.in-Err-commit.ensures.survives c.in-Err-commit.ensures.err c.failed_commit.ensures.survives
+    (λ late. c.failed_commit.ensures.open late (λ is. other (c.refusal.ensures ∙ ap refusal_of is))) schema contents clean shows
 
 pub returns-in-Err-commit-clause-unwritten : goal.returns-in-Err-commit-clause-unwritten
 returns-in-Err-commit-clause-unwritten g c other =

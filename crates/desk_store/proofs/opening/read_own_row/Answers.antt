@@ -1,10 +1,10 @@
-use Rattle.std.proofs.Common.{◌≡◌, true, rules, refl, subst, arith}
+use Rattle.std.proofs.Common.{◌≡◌, true, rules, refl, subst, arith, IsTrue}
 use Rattle.sqlite.specs.Held.{Held, state}
 use Rattle.sqlite.specs.State.{HasCleanDisk, KeepsCommit, Survives}
 use Rattle.store_sql.proofs.CommitLemmas.{undone_shows}
 use Rattle.store_migration.specs.Migrations.{KeepsShown}
-use Rattle.desk_store.specs.Steps.{TellsInside, TellsOutside}
-use Rattle.desk_store.proofs.OpeningLemmas.{told_before}
+use Rattle.desk_store.specs.Steps.{TellsInside}
+use Rattle.desk_store.proofs.OpeningLemmas.{same_schema, told_before}
 use Rattle.desk_store.proofs.opening.read_own_row.Goals as goal
 
 pub returns-clause-shown : goal.returns-clause-shown
@@ -22,17 +22,28 @@ returns-clause-shown g c =
     let late : HasCleanDisk (state g.S.Store last) = omega (arith, c.rollback.ensures.survives.clean, clean) in
     undone_shows g.S.Store old last end schema contents (omega (arith, spared.clean, late)) (kept late) (c.rollback.ensures.undone clean) shows)
 
-pub returns-clause-told : goal.returns-clause-told
-returns-clause-told g c =
+pub returns-clause-schema : goal.returns-clause-schema
+returns-clause-schema g c =
     let old = c.args.conn.now in
     let begun = state g.S.Store (record old { in_transaction = true }) in
     let last = c.own_row_of-read.new.tx.conn.now in
     let end = c.rollback.new.self.0 in
-    let did = c.own_row_of-read.ensures in
-    let spared : Survives begun (state g.S.Store last) (λ _. ⊥) = rw c.transaction-tx.ensures.begun at did.survives in
-    let told : HasCleanDisk (state g.S.Store last) → TellsInside begun c.own_row_of-read.result = λ clean. (rw c.transaction-tx.ensures.begun at (did.told clean)) refl in
+    let kept : HasCleanDisk (state g.S.Store last) → KeepsCommit begun (state g.S.Store last) = λ clean. (rw c.transaction-tx.ensures.begun at (c.own_row_of-read.ensures.kept clean)) refl in
     let same : end ≡ c.conn-1.given.0 = search rules in
-    subst (λ (x : Held _). HasCleanDisk (state g.S.Store x) → TellsOutside (state g.S.Store old) c.own_row_of-read.result)
+    subst (λ (x : Held _). HasCleanDisk (state g.S.Store x) → IsTrue (state g.S.Store x).is_open → (state g.S.Store x).now.schema ≡ (state g.S.Store old).now.schema)
+    same (λ clean live.
+    let late : HasCleanDisk (state g.S.Store last) = omega (arith, c.rollback.ensures.survives.clean, clean) in
+    same_schema (state g.S.Store old) begun (state g.S.Store last) (state g.S.Store end) refl (λ there. there) (λ there. c.is_autocommit-settled.ensures.settled (search rules) there) (kept late) (c.rollback.ensures.undone clean) live)
+
+pub returns-clause-told : goal.returns-clause-told
+returns-clause-told g c =
+    let old = c.args.conn.now in
+    let last = c.own_row_of-read.new.tx.conn.now in
+    let end = c.rollback.new.self.0 in
+    let did = c.own_row_of-read.ensures in
+    let told : HasCleanDisk (state g.S.Store last) → TellsInside g.S.Store (record old { in_transaction = true }) c.own_row_of-read.result = λ clean. rw c.transaction-tx.ensures.begun at (did.told clean) in
+    let same : end ≡ c.conn-1.given.0 = search rules in
+    subst (λ (x : Held _). HasCleanDisk (state g.S.Store x) → TellsInside g.S.Store old c.own_row_of-read.result)
     same (λ clean.
     let late : HasCleanDisk (state g.S.Store last) = omega (arith, c.rollback.ensures.survives.clean, clean) in
-    told_before g.S.Store old c.own_row_of-read.result (omega (arith, spared.clean, late)) (told late))
+    told_before g.S.Store old c.own_row_of-read.result (told late))

@@ -1,9 +1,11 @@
-use Rattle.std.proofs.Common.{◌≡◌, ◌∙◌, false, inl, inr, rules, refl, ap, subst}
+use Rattle.std.proofs.Common.{◌≡◌, ◌≢◌, ◌∙◌, false, inl, inr, rules, refl, ap, subst}
 use Rattle.std.proofs.lemmas.Result.{IfErr-weaker, IfOk-weaker}
+use Rattle.desk_bytes.specs.declared.refusal.Refusal.TheVariants as refusals
 use Rattle.desk_history.specs.Calls.{History}
 use Rattle.desk_history.specs.Runs.{is_accepted, reply_in}
 use Rattle.desk_history.specs.Called.{called}
 use Rattle.store_schema.specs.Tables.{desk_schema}
+use Rattle.store_sql.specs.States.{Spares}
 use Rattle.desk_store.specs.Desks.{Refuses, Replies, ShowsDesk}
 use Rattle.store_schema.specs.rows.Histories.{rows_of}
 use Rattle.desk_store.specs.declared.desk.Desk.{Desk}
@@ -62,6 +64,11 @@ returns-in-Ok-clause-spares g c =
     let took = c.take-remembered in
     let new : Desk _ = record c.args.self.now { conn = c.run.new.conn; remembered = c.in-Ok.acted.remembered } in
     spares g.S.Store old new call took.result took.ensures.taken c.in-Ok.ensures.survives
+
+pub returns-in-Ok-clause-unwritten : goal.returns-in-Ok-clause-unwritten
+returns-in-Ok-clause-unwritten g c =
+    IfErr-weaker c.result_of.result _ (λ e. e ≢ refusals.Store → Spares g.S.Store c.args.self.now.conn c.run.new.conn)
+    (λ refusal is no_store. c.in-Ok.ensures.idle (ap is_accepted is)) c.result_of.ensures.err
 
 pub returns-in-Err-clause-stopped : goal.returns-in-Err-clause-stopped
 returns-in-Err-clause-stopped g c =

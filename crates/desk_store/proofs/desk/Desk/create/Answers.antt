@@ -1,17 +1,18 @@
-use Rattle.std.proofs.Common.{◌≡◌, [], rules, refl}
+use Rattle.std.proofs.Common.{[], refl}
 use Rattle.sqlite.specs.Held.{state}
 use Rattle.std.proofs.lemmas.List.Elements.{All-nil}
 use Rattle.desk_history.specs.Formed.{IsItem}
 use Rattle.desk_history.specs.Tables.{tables}
-use Rattle.store_schema.specs.Tables.{desk_schema, no_schema}
+use Rattle.store_schema.specs.Names.{takes_a_desk_name}
+use Rattle.store_schema.specs.Tables.{desk_schema}
 use Rattle.store_schema.specs.rows.Histories.{rows_of}
+use Rattle.desk_store.proofs.FoundingLemmas.{are_taken}
 use Rattle.desk_store.proofs.RememberedLemmas.{stamp_is_current}
 use Rattle.desk_store.proofs.desk.Desk.create.Goals as goal
 
 pub returns-in-Ok-clause-ok : goal.returns-in-Ok-clause-ok
-returns-in-Ok-clause-ok g c clean =
+returns-in-Ok-clause-ok g c clean free =
     let owner = c.args.owner.now in
-    let free : (state g.S.Store c.args.conn).now.schema ≡ no_schema = search rules in
     let made = c.in-Ok.ensures.ok clean in
     let shows = made.1 free in
     record {
@@ -23,5 +24,8 @@ returns-in-Ok-clause-ok g c clean =
       left = c.stop_leaves_what_is_shown.ensures desk_schema (rows_of owner []) shows made.0;
     }
 
-pub returns-then-not-has_no_tables-clause-taken : goal.returns-then-not-has_no_tables-clause-taken
-returns-then-not-has_no_tables-clause-taken g c = search rules
+pub returns-then-not-names_are_free-clause-taken : goal.returns-then-not-names_are_free-clause-taken
+returns-then-not-names_are_free-clause-taken g c is = (
+  are_taken (takes_a_desk_name (state g.S.Store c.args.conn).now.schema) c.names_are_free.result c.names_are_free.ensures c.if-not-names_are_free.true,
+  refl,
+)

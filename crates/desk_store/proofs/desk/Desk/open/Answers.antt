@@ -1,7 +1,8 @@
-use Rattle.std.proofs.Common.{inl, inr, refl, arith, IsTrue}
+use Rattle.std.proofs.Common.{◌≡◌, inl, inr, refl, arith, IsTrue}
 use Rattle.std.proofs.Math.Logic.{∥∥₁_map}
 use Rattle.sqlite.specs.Held.{state}
 use Rattle.sqlite.specs.State.{HasCleanDisk}
+use Rattle.desk_bytes.specs.declared.refusal.Refusal.TheVariants as refusals
 use Rattle.desk_history.specs.Tables.{tables}
 use Rattle.desk_history.proofs.LifeLemmas.{left_goes_on}
 use Rattle.desk_history.proofs.VerdictLemmas.{barred_not_allowed, what_is_barred_stays_barred}
@@ -9,10 +10,10 @@ use Rattle.store_schema.specs.rows.Histories.{HoldsHistory, first_rows_of, rows_
 use Rattle.store_reads.specs.Failures.{IsFailure}
 use Rattle.store_schema.specs.Tables.{desk_schema, first_schema}
 use Rattle.desk_store.specs.Headline.{HoldsLives}
-use Rattle.desk_store.proofs.OpeningLemmas.{still_leaves}
+use Rattle.desk_store.proofs.OpeningLemmas.{none_shown, other_shown, still_leaves}
 use Rattle.desk_store.proofs.ReopeningLemmas.{no_failure, no_version, not_missing}
 use Rattle.desk_store.proofs.RememberedLemmas.{stamp_is_current}
-use Rattle.desk_store.proofs.VersionLemmas.{first_fails, second_fails, second_spared}
+use Rattle.desk_store.proofs.VersionLemmas.{ShowsNone, ShowsOther, first_fails, second_fails, second_spared}
 use Rattle.desk_store.proofs.desk.Desk.open.Goals as goal
 
 pub returns-in-Ok-clause-ok : goal.returns-in-Ok-clause-ok
@@ -75,26 +76,32 @@ returns-in-Err-clause-spared g c owner cs shows =
     second_spared (state g.S.Store c.args.conn) owner cs (state g.S.Store c.bring_up.new.conn) c.in-Err.ensures.survives shows
 
 pub returns-in-Err-clause-known : goal.returns-in-Err-clause-known
-returns-in-Err-clause-known g c clean owner cs long history shows = (
-  second_fails (state g.S.Store c.args.conn) owner cs c.in-Err.refusal c.in-Err.ensures.named (c.in-Err.ensures.other clean) (c.in-Err.ensures.unread clean) long history shows,
-  c.in-Err.ensures.second clean owner cs shows,
-)
+returns-in-Err-clause-known g c clean owner cs long history shows =
+    let before : HasCleanDisk (state g.S.Store c.args.conn) = omega (arith, c.in-Err.ensures.survives.clean, clean) in (
+      second_fails (state g.S.Store c.args.conn) owner cs c.in-Err.refusal c.in-Err.ensures.named (λ is. other_shown g.S.Store c.args.conn before (c.in-Err.ensures.other clean is))
+          (λ is. none_shown g.S.Store c.args.conn before (c.in-Err.ensures.unread clean is)) long history shows,
+      c.in-Err.ensures.second clean owner cs shows,
+    )
 
 pub returns-in-Err-clause-known_first : goal.returns-in-Err-clause-known_first
-returns-in-Err-clause-known_first g c clean owner cs long history early = (
-  first_fails (state g.S.Store c.args.conn) owner cs c.in-Err.refusal c.in-Err.ensures.named (c.in-Err.ensures.other clean) (c.in-Err.ensures.unread clean) long history early,
-  λ other. (early.0, c.in-Err.ensures.kept clean other first_schema (first_rows_of owner cs) early.1),
-)
+returns-in-Err-clause-known_first g c clean owner cs long history early =
+    let before : HasCleanDisk (state g.S.Store c.args.conn) = omega (arith, c.in-Err.ensures.survives.clean, clean) in (
+      first_fails (state g.S.Store c.args.conn) owner cs c.in-Err.refusal c.in-Err.ensures.named (λ is. other_shown g.S.Store c.args.conn before (c.in-Err.ensures.other clean is))
+          (λ is. none_shown g.S.Store c.args.conn before (c.in-Err.ensures.unread clean is)) long history early,
+      λ other. (early.0, c.in-Err.ensures.kept clean other first_schema (first_rows_of owner cs) early.1),
+    )
 
 pub returns-in-Err-clause-found : goal.returns-in-Err-clause-found
 returns-in-Err-clause-found g c clean owner lives seen long formed finds =
     let old = state g.S.Store c.args.conn in
     let before : HasCleanDisk old = omega (arith, c.in-Err.ensures.survives.clean, clean) in
+    let other : c.in-Err.refusal ≡ refusals.Version → ShowsOther old = λ is. other_shown g.S.Store c.args.conn before (c.in-Err.ensures.other clean is) in
+    let none : c.in-Err.refusal ≡ refusals.NotADesk → ShowsNone old = λ is. none_shown g.S.Store c.args.conn before (c.in-Err.ensures.unread clean is) in
     let fails : HoldsLives old.committed.trees owner lives seen → IsFailure c.in-Err.refusal = λ it.
     let history = (c.lives_keep_what_was_answered.ensures lives it.0 it.1 formed).0 in
     elim it.3 [
-      | inl holds ↦ second_fails old owner it.0 c.in-Err.refusal c.in-Err.ensures.named (c.in-Err.ensures.other clean) (c.in-Err.ensures.unread clean) long history (c.found_is_shown.ensures.second owner it.0 holds)
-      | inr early ↦ first_fails old owner it.0 c.in-Err.refusal c.in-Err.ensures.named (c.in-Err.ensures.other clean) (c.in-Err.ensures.unread clean) long history (c.found_is_shown.ensures.first owner it.0 early.1)
+      | inl holds ↦ second_fails old owner it.0 c.in-Err.refusal c.in-Err.ensures.named other none long history (c.found_is_shown.ensures.second owner it.0 holds)
+      | inr early ↦ first_fails old owner it.0 c.in-Err.refusal c.in-Err.ensures.named other none long history (c.found_is_shown.ensures.first owner it.0 early.1)
     ] in (
       λ is. not_missing (finds before (c.in-Err.ensures.looked clean (inl is))) (λ it. no_failure c.in-Err.refusal is (fails it)),
       λ is. not_missing (finds before (c.in-Err.ensures.looked clean (inr is))) (λ it. no_version c.in-Err.refusal is (fails it)),
