@@ -34,8 +34,8 @@ use std::rt::Files;
 
 /// Makes a desk with this owner and without calls in a file, which is created if it doesn't exist.
 ///
-/// Exists: the file has a table, an index or a view already. File: it can't be opened or created,
-/// or isn't a database.
+/// Exists: the file has a table, an index or a view with a name of the desk's already. File: it
+/// can't be opened or created, or isn't a database.
 pub fn make_desk(rt: &HostRuntime, path: &str, owner: &Guid) -> Ending
     ensures done { IfOk result.work (λ outcome. outcome ≡ Outcome.Done) }
     ensures named { IfErr result.work (IsRow IsMakingRefusal) }

@@ -105,7 +105,8 @@ pub enum Refusal {
     Version,
     /// A device: a file can't be opened.
     File,
-    /// The database has a table, an index or a view already, so no desk is made in it.
+    /// The database has a table, an index or a view with a name of the desk's already, so no desk
+    /// is made in it.
     Exists,
     /// A line of minutes isn't what the rules give there, or isn't whole. The place is its number
     /// from 1.
