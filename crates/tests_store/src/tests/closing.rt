@@ -85,3 +85,55 @@ fn a_closed_desk_opens_again_without_its_log(rt: HostRuntime) -> Result<(), Fail
     assert!(rt; is_there, "the person is there");
     Ok(())
 }
+
+/// A table of others, with one row.
+const OTHERS: [&str; 2] = [
+    "CREATE TABLE note (id INTEGER PRIMARY KEY, body TEXT)",
+    "INSERT INTO note VALUES (1, 'kept')",
+];
+
+/// A desk without calls over two files, beside that table.
+fn desk_beside<D: Disk + Drop>(alloc: Global, files: Files<D>) -> Option<Desk<FileStore<D>>> {
+    let mut conn = connected(alloc, files)?;
+    for text in OTHERS {
+        conn.execute(text, &[]).ok()?;
+    }
+    make(alloc, conn).ok()
+}
+
+/// The text in the others' row.
+fn body<D: Disk + Drop>(conn: &mut Connection<FileStore<D>>) -> Option<String> {
+    conn.query_row("SELECT body FROM note", &[])
+        .ok()?
+        .get(0)
+        .ok()
+}
+
+/// The others' text after a desk beside it was closed, and was opened again with an empty log, if
+/// the desk has the person who was added before its close.
+fn stays_beside<D: Disk + Drop>(alloc: Global, files: Files<D>, log: D) -> Option<String> {
+    let mut desk = desk_beside(alloc, files)?;
+    let added = answers(
+        alloc,
+        &mut desk,
+        "console p1 add ann officer 1",
+        "added ann",
+    );
+    let mut desk = opened_again(alloc, desk, log)?;
+    if !added || !answers(alloc, &mut desk, "ann a1 list 1", "listed") {
+        return None;
+    }
+    body(&mut desk.release())
+}
+
+#[test]
+fn a_desk_over_files_stays_beside_another_table(rt: HostRuntime) -> Result<(), Fail> {
+    let alloc = rt.alloc();
+    let files = Files {
+        log: MemoryFile::new(alloc),
+        db: MemoryFile::new(alloc),
+    };
+    let told = stays_beside(alloc, files, MemoryFile::new(alloc)).ok_or("a desk over files")?;
+    assert!(rt; told.as_str() == "kept", "the others' row");
+    Ok(())
+}

@@ -11,6 +11,32 @@ fn new_desk(alloc: Global) -> Option<Memory> {
     make(alloc, Connection::open_in_memory(alloc).ok()?).ok()
 }
 
+/// Others' tables, an index and a view.
+const OTHERS: &str = "\
+CREATE TABLE note (id INTEGER PRIMARY KEY, caller TEXT NOT NULL, body TEXT)
+CREATE INDEX notes ON note (caller)
+CREATE VIEW noted AS SELECT caller FROM note
+INSERT INTO note VALUES (1, 'olga', 'first')
+INSERT INTO note VALUES (2, 'otto', 'second')
+CREATE TABLE other_calls (digest BLOB NOT NULL PRIMARY KEY) STRICT
+INSERT INTO other_calls VALUES (x'cc')";
+
+/// A desk without calls beside them.
+fn desk_beside(alloc: Global) -> Option<Memory> {
+    let mut conn = Connection::open_in_memory(alloc).ok()?;
+    for text in OTHERS.lines() {
+        run(alloc, &mut conn, text)?;
+    }
+    make(alloc, conn).ok()
+}
+
+/// The others' rows, after the desk was opened again.
+const UNTOUCHED: &str = "\
+reopen
+SELECT group_concat(id || ' ' || caller || ' ' || body) FROM note : 1 olga first,2 otto second
+SELECT caller FROM noted WHERE caller = 'otto' : otto
+SELECT group_concat(hex(digest)) FROM other_calls : CC";
+
 /// The desk, opened again, after this text in SQL was run on its store, unless the text is
 /// `reopen`; and the store's answer.
 fn again(alloc: Global, desk: Memory, text: &str) -> Option<(Memory, String)> {
@@ -43,15 +69,30 @@ fn turn(alloc: Global, desk: Memory, given: &str) -> Option<(Memory, String)> {
     Some((desk, told))
 }
 
-/// Plays the lines of a script, `GIVEN : ANSWER` or `GIVEN` alone.
-fn play(rt: &impl Abort, alloc: Global, script: &str) -> Result<(), Fail> {
-    let mut desk = new_desk(alloc).ok_or("a desk")?;
+/// The desk after the lines of a script, `GIVEN : ANSWER` or `GIVEN` alone.
+fn played(rt: &impl Abort, alloc: Global, desk: Memory, script: &str) -> Result<Memory, Fail> {
+    let mut desk = desk;
     for line in script.lines() {
         let (given, wanted) = line.split_once(" : ").unwrap_or((line, ""));
         let (next, told) = turn(alloc, desk, given).ok_or(line)?;
         desk = next;
         assert!(rt; told.as_str() == wanted, "{line}: {told}");
     }
+    Ok(desk)
+}
+
+/// Plays the lines of a script on a new desk.
+fn play(rt: &impl Abort, alloc: Global, script: &str) -> Result<(), Fail> {
+    let desk = new_desk(alloc).ok_or("a desk")?;
+    played(rt, alloc, desk, script)?;
+    Ok(())
+}
+
+/// Plays them on a new desk beside others' tables, which stay as they are.
+fn play_beside(rt: &impl Abort, alloc: Global, script: &str) -> Result<(), Fail> {
+    let desk = desk_beside(alloc).ok_or("a desk")?;
+    let desk = played(rt, alloc, desk, script)?;
+    played(rt, alloc, desk, UNTOUCHED)?;
     Ok(())
 }
 
@@ -88,6 +129,16 @@ fn each_write_stands_in_its_table(rt: HostRuntime) -> Result<(), Fail> {
 #[test]
 fn exports_are_the_bytes_of_the_calls(rt: HostRuntime) -> Result<(), Fail> {
     play(&rt, rt.alloc(), EXPORTS)
+}
+
+#[test]
+fn a_day_beside_other_tables(rt: HostRuntime) -> Result<(), Fail> {
+    play_beside(&rt, rt.alloc(), REQUESTS)
+}
+
+#[test]
+fn exports_beside_other_tables_are_the_same(rt: HostRuntime) -> Result<(), Fail> {
+    play_beside(&rt, rt.alloc(), EXPORTS)
 }
 
 #[test]

@@ -77,6 +77,8 @@ open : a desk
 open : a desk
 UPDATE desk SET version = 3
 open : Version
+UPDATE desk SET version = -1
+open : Version
 UPDATE desk SET version = 2, mark = 'boot'
 open : NotADesk
 UPDATE desk SET mark = 'boot-desk', stamp = 202103021
@@ -86,14 +88,50 @@ open : NotADesk
 UPDATE desk SET stamp = 2021030218
 open : a desk";
 
-#[test]
-fn a_desk_is_made_once_and_opened(rt: HostRuntime) -> Result<(), Fail> {
-    let mut conn = Connection::open_in_memory(rt.alloc())?;
-    for line in STORES.lines() {
+/// A desk is made beside others' tables, indexes and views, unless one of them has a name of the
+/// desk's, in any case. A view called `desk` holds no desk, whatever it shows.
+const BESIDE: &str = "\
+CREATE TABLE note (id INTEGER PRIMARY KEY, mark TEXT, version INTEGER, owner BLOB, stamp INTEGER)
+INSERT INTO note VALUES (1, 'boot-desk', 2, x'07070707070707070707070707070707', 2021030218)
+CREATE INDEX notes ON note (mark)
+CREATE VIEW noted AS SELECT mark FROM note
+open : NotADesk
+CREATE TABLE DESK (id INTEGER)
+make : Exists
+open : NotADesk
+DROP TABLE DESK
+CREATE INDEX calls ON note (version)
+make : Exists
+DROP INDEX calls
+CREATE VIEW Migrated AS SELECT mark FROM note
+make : Exists
+DROP VIEW Migrated
+CREATE VIEW desk AS SELECT id, mark, version, owner, stamp FROM note
+make : Exists
+open : NotADesk
+DROP VIEW desk
+make : a desk
+open : a desk
+make : Exists";
+
+/// Does each line on a store, which has no table before the first.
+fn play(rt: &impl Abort, alloc: Global, script: &str) -> Result<(), Fail> {
+    let mut conn = Connection::open_in_memory(alloc)?;
+    for line in script.lines() {
         let (text, wanted) = line.split_once(" : ").unwrap_or((line, ""));
-        let (told, next) = done(rt.alloc(), conn, text).ok_or(line)?;
+        let (told, next) = done(alloc, conn, text).ok_or(line)?;
         assert!(rt; told == wanted, "{line}");
         conn = next;
     }
     Ok(())
+}
+
+#[test]
+fn a_desk_is_made_once_and_opened(rt: HostRuntime) -> Result<(), Fail> {
+    play(&rt, rt.alloc(), STORES)
+}
+
+#[test]
+fn a_desk_is_made_beside_tables_of_other_names(rt: HostRuntime) -> Result<(), Fail> {
+    play(&rt, rt.alloc(), BESIDE)
 }
