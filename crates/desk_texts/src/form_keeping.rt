@@ -9,6 +9,7 @@ use crate::{Caller, Command, Counts, Facts, Import, Key, Reply};
 use desk_bytes::Digest;
 use sbat::Component;
 
+/// A count fits in 64 bits.
 pub(crate) fn show_count(number: u64)
     ensures { IsCount number }
 {}
@@ -26,12 +27,14 @@ fn show_bytes(bytes: &[u8])
     ensures { IsBytes bytes.now }
 {}
 
+/// A digest has 32 bytes.
 pub(crate) fn show_digest(digest: &Digest)
     ensures { IsDigest digest.now }
 {
     show_bytes(digest.as_bytes());
 }
 
+/// Each digest has 32 bytes.
 pub(crate) fn show_digests(digests: &[Digest])
     ensures { All IsDigest digests.now }
 {
@@ -40,6 +43,7 @@ pub(crate) fn show_digests(digests: &[Digest])
     }
 }
 
+/// A component has a name and a generation in their forms.
 pub(crate) fn show_component(component: &Component)
     ensures { IsComponent component.now }
 {
@@ -47,6 +51,7 @@ pub(crate) fn show_component(component: &Component)
     let _generation = component.generation.value();
 }
 
+/// So has each of these components.
 pub(crate) fn show_components(components: &[Component])
     ensures { All IsComponent components.now }
 {

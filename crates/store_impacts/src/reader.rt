@@ -1,37 +1,17 @@
 //! Callers who are shown impacts.
-ghost use Rattle.std.specs.Prelude.{◌≡◌, ◌≢◌, None, Ok, IfOk, IfSome, filter, option_copied};
-ghost use Rattle.desk_history.specs.People.{has_name, people};
+ghost use Rattle.std.specs.Prelude.{◌≡◌, ◌≢◌, None, Ok, IfOk, IfSome, option_copied};
+ghost use Rattle.desk_history.specs.People.{people};
 ghost use Rattle.store_reads.specs.People.{IsOneOf};
-ghost use Rattle.store_reads.specs.Reads.{ReadsTables, listed};
 ghost use Rattle.store_requests.specs.Telling.{IsOfficerRefusal, TellsOf};
 ghost use Rattle.store_sql.specs.States.{CommitsNothing, DoesInside, Spares, StaysInside};
 ghost use Rattle.store_impacts.specs.Reading as spec;
 
 use desk_bytes::Refusal;
-use desk_texts::{Caller, Person, PersonName, Role};
+use desk_texts::{Caller, Person, Role};
 use sqlite::{Alter, Transaction};
 use std::alloc::Global;
-use store_reads::{ReadFault, kept_named, own_row, person_named};
-
-/// The person of this name: the one who is kept, or else the row.
-fn person_of<S: Alter>(
-    alloc: Global,
-    tx: &mut Transaction<'_, S>,
-    kept_person: Option<&Person>,
-    name: &PersonName,
-) -> Result<Option<Person>, ReadFault>
-    ensures same_reference { tx.new.conn.ghost_name ≡ tx.old.conn.ghost_name }
-    ensures value { DoesInside S.Store tx.old.conn.now tx.new.conn.now result
-        (λ person. ReadsTables (λ t. IsOneOf (option_copied kept_person.entry) t.people
-        → filter (has_name name.now) t.people ≡ listed person)) }
-    ensures kept { CommitsNothing S.Store tx.old.conn.now tx.new.conn.now }
-    ensures survives { Spares S.Store tx.old.conn.now tx.new.conn.now }
-{
-    let Some(person) = kept_named(kept_person, name.as_str())? else {
-        return person_named(alloc, tx, name.as_str());
-    };
-    Ok(Some(person))
-}
+use store_reads::{ReadFault, own_row};
+use store_requests::reader_of;
 
 /// Why the person isn't shown impacts, if so: nobody has the name, or the person is no officer.
 fn refusal_by(person: Option<Person>) -> Option<Refusal>
@@ -68,7 +48,7 @@ pub fn refusal_to<S: Alter>(
     let Caller::Person(name) = caller else {
         return Ok(None);
     };
-    let person = person_of(alloc, tx, kept_person, name)?;
+    let person = reader_of(alloc, tx, kept_person, name)?;
     let Some(refusal) = refusal_by(person) else {
         return Ok(None);
     };

@@ -18,6 +18,7 @@ pub use all_people::people_of;
 pub use listing::requests_of;
 pub use minute_lines::minutes_from;
 pub use proposed::proposals_of;
+pub use reader::reader_of;
 pub use request_list::RequestList;
 pub use showing::request;
 pub use whole_proposal::proposal_of;

@@ -12,7 +12,7 @@ use store_reads::{ReadFault, kept_named, person_named};
 
 /// The person of this name: the one who is kept, or else the row. Only an open store gives nobody.
 /// Takes memory for the person.
-pub(crate) fn reader_of<S: Alter>(
+pub fn reader_of<S: Alter>(
     alloc: Global,
     tx: &mut Transaction<'_, S>,
     kept_person: Option<&Person>,

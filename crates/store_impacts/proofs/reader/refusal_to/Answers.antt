@@ -19,7 +19,7 @@ returns-in_default-refusal_by-clause-value g c clean inside =
     let person = c.in_ok-person.person in
     let kept = option_copied c.args.kept_person in
     let none : c.refusal_by.result ≡ None = search (rules, c.in_default-refusal_by.is) in
-    of_tables (state g.S.Store c.args.tx.now.conn.now) (state g.S.Store c.person_of.new.tx.conn.now)
+    of_tables (state g.S.Store c.args.tx.now.conn.now) (state g.S.Store c.reader_of.new.tx.conn.now)
     (λ t. IsOneOf kept t.people → filter (has_name name) t.people ≡ listed person)
     (λ cs. IsOneOf kept (people cs) → None ≡ refusal_to cs c.args.caller.now)
     (λ owner cs history read known.
@@ -32,7 +32,7 @@ returns-clause-value g c clean inside =
     let person = c.in_ok-person.person in
     let kept = option_copied c.args.kept_person in
     let s0 = state g.S.Store c.args.tx.now.conn.now in
-    let s1 = state g.S.Store c.person_of.new.tx.conn.now in
+    let s1 = state g.S.Store c.reader_of.new.tx.conn.now in
     let s2 = state g.S.Store c.own_row.new.tx.conn.now in
     let c1 : HasCleanDisk s1 = omega (arith, c.in_ok-own_row.ensures.survives.clean, clean) in
     let first : ReadsTables (λ t. IsOneOf kept t.people → filter (has_name name) t.people ≡ listed person) s0 s1 = c.in_ok-person.ensures.value c1 inside in
