@@ -17,6 +17,7 @@ export async function act(command, place, how = {}) {
     for (const control of off) control.disabled = true;
     const answer = await command.run((it) => shows(it, place), how);
     for (const control of off) control.disabled = false;
+    if (command.isGone()) return null;
     fill(place, answer.kind === 'value' ? null : outcome(command, answer));
     if (!place.isConnected) elsewhere(command, answer);
     if (answer.kind === 'refused') how.refused?.(answer.name);
@@ -77,13 +78,13 @@ export function lostBox(command) {
 
 /** @param {import('./keys.js').Command} command @param {boolean} sent */
 function stopped(command, sent) {
-    const open = 'Everything had been sent, so the desk may have accepted it. Look before you do it again.';
+    const open = 'The desk may have accepted it. Done again on this page, it has the same key, so it acts once.';
     return box(
         'care',
         p(
             strong(`${command.what}: stopped.`),
             ' ',
-            sent ? open : 'The file hadn’t been sent whole, so the desk took nothing.',
+            sent ? open : 'It hadn’t been sent whole, so the desk took nothing.',
         ),
     );
 }

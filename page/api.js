@@ -53,9 +53,12 @@ function refusal(status, text) {
     };
 }
 
-/** @param {number} milliseconds */
-export function pause(milliseconds) {
-    return new Promise((resolve) => setTimeout(resolve, milliseconds));
+/** @param {number} milliseconds @param {AbortSignal} [stop] ends it before its time */
+export function pause(milliseconds, stop) {
+    return new Promise((resolve) => {
+        setTimeout(resolve, milliseconds);
+        stop?.addEventListener('abort', resolve);
+    });
 }
 
 /** How long to wait before each further try of its own, in milliseconds. */

@@ -4,9 +4,10 @@
 import { get } from './api.js';
 import { act } from './act.js';
 import { box, fill, h, p, strong, sure } from './dom.js';
+import { knownOf } from './doubts.js';
 import { me } from './session.js';
 import { changed, standing } from './standing.js';
-import { digest } from './words.js';
+import { digest, grouped } from './words.js';
 
 /** @typedef {import('./doubts.js').Doubt} Doubt */
 /** @typedef {import('./doubts.js').Known} Known */
@@ -19,16 +20,14 @@ export async function known() {
     const [requests, now] = await Promise.all([get('/requests'), standing()]);
     if (requests.kind !== 'value') return requests;
     if (now.kind !== 'value') return now;
-    return { requests: requests.value, now: now.value };
+    return knownOf(requests.value, now.value);
 }
 
 /**
- * Asks back if there is a doubt.
+ * Doubts as a list.
  * @param {Doubt[]} doubts
- * @param {string} [yes] what the button says that goes on
  */
-export async function settled(doubts, yes = 'Propose it all the same') {
-    if (doubts.length === 0) return true;
+export function doubtList(doubts) {
     const rows = doubts.slice(0, 12).map(
         (it) => h(
             'li',
@@ -42,12 +41,17 @@ export async function settled(doubts, yes = 'Propose it all the same') {
             ) : null,
         ),
     );
-    return sure(
-        'Is that what you mean?',
-        [h('ul', { class: 'doubts' }, rows), doubts.length > 12 ? p(`And ${doubts.length - 12} more.`) : null],
-        yes,
-        'Change it',
-    );
+    return [h('ul', { class: 'doubts' }, rows), doubts.length > 12 ? p(`And ${grouped(doubts.length - 12)} more.`) : null];
+}
+
+/**
+ * Asks back if there is a doubt.
+ * @param {Doubt[]} doubts
+ * @param {string} [yes] what the button says that goes on
+ */
+export async function settled(doubts, yes = 'Propose it all the same') {
+    if (doubts.length === 0) return true;
+    return sure('Is that what you mean?', doubtList(doubts), yes, 'Change it');
 }
 
 /**

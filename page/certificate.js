@@ -11,7 +11,7 @@ export const MOST_CERTIFICATE = 65536;
 /** Fields for one certificate: `digest` gives its name in dbx, or null while there is none. */
 export function certificateField() {
     const input = h('input', { type: 'text', class: 'mono', autocomplete: 'off', spellcheck: 'false' });
-    const { place, told } = certificateFile('Its file', (tbs) => (input.value = tbs || input.value));
+    const { place, told } = certificateFile('Its file', (tbs) => (input.value = tbs));
     return {
         parts: [
             place,

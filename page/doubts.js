@@ -1,46 +1,63 @@
-// What the page asks back about before it proposes: slips that the desk takes, and that then revoke
-// nothing, or too much. Each doubt says what is odd, and what was probably meant.
+// What the page asks back about before it proposes, lists or confirms: slips that the desk takes, and
+// that then revoke nothing, or too much. Each doubt says what is odd, and what was probably meant.
 
 /**
- * @typedef {{ text: string, use?: string[] }} Doubt `use` is what was probably meant
- * @typedef {{ requests: import('./requests.js').Request[], now: import('./standing.js').Standing }} Known
+ * @typedef {{ text: string, use?: string[], idle?: boolean }} Doubt
+ * `use` is what was probably meant; `idle` says that the entry would do nothing
+ * @typedef {import('./requests.js').Request} Request
+ * @typedef {import('./standing.js').Standing} Standing
+ * @typedef {{ requests: Request[], now: Standing, files: Map<string, Request>, images: Map<string, Request>,
+ *   carriers: Map<string, Request[]>, fingerprints: Map<string, import('./standing.js').Listed>, names: Set<string> }} Known
+ * all requests and the lists; requests by the SHA-256 of a whole file, by a digest and by a certificate that they carry;
+ * listed certificates by their fingerprints; the names of all components
  */
 
 /** shim compares generations as 16 bits. */
 const MOST_GENERATION = 65535;
 
-/** What is wrong with the SHA-256 of a file in place of a digest, and of a certificate in place of its TBSCertificate's. */
+/** How far above the present one a generation is usual. */
+const FAR = 10;
+
 const NO_DIGEST = ', not the image’s digest. db and dbx name images by their digests, so it would do nothing.';
 const NO_TBS = ': the SHA-256 of all of it. dbx names certificates by that of their TBSCertificate, so it would do nothing.';
 
-/** How far above the present one a generation is usual. */
-const FAR = 10;
+/** @param {Request[]} requests @param {Standing} now @returns {Known} */
+export function knownOf(requests, now) {
+    const [files, images, carriers] = [new Map(), new Map(), new Map()];
+    const names = new Set(now.level.names.keys());
+    for (const it of requests) {
+        for (const one of [it.returned, it.file]) if (one) files.set(one, it);
+        for (const one of [it.signing, it.digest]) images.set(one, it);
+        for (const one of it.carried) carriers.set(one, carriers.get(one) ?? []).get(one).push(it);
+        for (const [one] of it.components) names.add(one);
+    }
+    const fingerprints = new Map([...now.listed.certificates.values()].map((it) => [it.fingerprint, it]));
+    return { requests, now, files, images, carriers, fingerprints, names };
+}
 
 /**
  * @param {string} digest as the digest of an image
  * @param {Known} known
  * @returns {Doubt[]}
  */
-export function digestDoubts(digest, { requests, now }) {
+export function digestDoubts(digest, known) {
     /** @type {Doubt[]} */
     const doubts = [];
-    const ofFile = requests.find((it) => it.file === digest && it.digest !== digest);
-    const returned = requests.find((it) => it.returned === digest);
-    const certificate = certificateNamed(digest, { requests, now });
-    const image = requests.find((it) => it.digest === digest);
-    if (ofFile) doubts.push({
-        text: `${short(digest)} is the SHA-256 of the whole file of request ${ofFile.number}${NO_DIGEST}`,
-        use: both(ofFile),
-    });
-    else if (returned) doubts.push({
-        text: `${short(digest)} is the SHA-256 of the file that was returned for request ${returned.number}${NO_DIGEST}`,
-        use: both(returned),
+    const file = known.files.get(digest);
+    const image = known.images.get(digest);
+    const certificate = certificateNamed(digest, known);
+    if (file && !image) doubts.push({
+        text: `${short(digest)} is the SHA-256 of ${file.file === digest ? 'the whole file' : 'the returned file'} of request `
+            + `${file.number}${NO_DIGEST}`,
+        use: both(file),
+        idle: true,
     });
     if (certificate) doubts.push({
         text: `${short(digest)} names a certificate (${certificate}), not an image. As a digest of an image it would do nothing.`,
+        idle: true,
     });
-    if (now.revoked.digests.has(digest)) doubts.push({ text: `${short(digest)} is revoked already.` });
-    if (image && image.signing !== digest) doubts.push({
+    if (known.now.revoked.digests.has(digest)) doubts.push({ text: `${short(digest)} is revoked already.` });
+    if (image && image.digest !== image.signing) doubts.push({
         text: `Request ${image.number} has two digests: a signature may hold the one of the padded image. Revoke both.`,
         use: both(image),
     });
@@ -53,11 +70,11 @@ function both(it) {
 }
 
 /** @param {string} digest @param {Known} known what it names as a certificate, or '' */
-function certificateNamed(digest, { requests, now }) {
-    const listed = [...now.listed.certificates.values()].find((it) => it.tbs === digest || it.fingerprint === digest);
+function certificateNamed(digest, { now, carriers, fingerprints }) {
+    const listed = now.listed.certificates.get(digest) ?? fingerprints.get(digest);
     if (listed) return listed.subject || 'a listed one';
     if (now.revoked.certificates.has(digest)) return 'a revoked one';
-    const carrier = requests.find((it) => it.carried.includes(digest));
+    const [carrier] = carriers.get(digest) ?? [];
     return carrier ? `one that request ${carrier.number} carries` : '';
 }
 
@@ -66,20 +83,23 @@ function certificateNamed(digest, { requests, now }) {
  * @param {Known} known
  * @returns {Doubt[]}
  */
-export function certificateDoubts(digest, { requests, now }) {
+export function certificateDoubts(digest, { now, files, images, fingerprints }) {
     /** @type {Doubt[]} */
     const doubts = [];
-    const whole = [...now.listed.certificates.values()].find((it) => it.fingerprint === digest && it.tbs !== digest);
-    const image = requests.find((it) => [it.digest, it.signing, it.file, it.returned].includes(digest));
+    const whole = fingerprints.get(digest);
+    const image = images.get(digest) ?? files.get(digest);
     if (whole) doubts.push({
         text: `${short(digest)} is the fingerprint of ${whole.subject || 'a listed certificate'}${NO_TBS}`,
         use: [whole.tbs],
+        idle: true,
     });
     if (image) doubts.push({
         text: `${short(digest)} is of an image (request ${image.number}). As a certificate it would do nothing.`,
+        idle: true,
     });
     else if (now.listed.digests.has(digest) || now.revoked.digests.has(digest)) doubts.push({
         text: `${short(digest)} stands in the lists as an image’s digest. As a certificate it would do nothing.`,
+        idle: true,
     });
     if (now.revoked.certificates.has(digest)) doubts.push({ text: `${short(digest)} is revoked already.` });
     return doubts;
@@ -91,7 +111,7 @@ export function certificateDoubts(digest, { requests, now }) {
  * @param {Known} known
  * @returns {Doubt[]}
  */
-export function generationDoubts(name, generation, { requests, now }) {
+export function generationDoubts(name, generation, { now, names }) {
     /** @type {Doubt[]} */
     const doubts = [];
     const present = now.level.names.get(name);
@@ -105,11 +125,26 @@ export function generationDoubts(name, generation, { requests, now }) {
     else if (generation > (present ?? 0) + FAR) doubts.push({
         text: `${generation} is far above the present generation of ${name}, ${present ?? 'none'}. Nothing lowers it again.`,
     });
-    const seen = present !== undefined || requests.some((it) => it.components.some(([one]) => one === name));
-    if (!seen) doubts.push({
+    if (!names.has(name)) doubts.push({
         text: `Neither the level nor an image here has a component named ${name}. Is it spelt right?`,
     });
     return doubts;
+}
+
+/**
+ * Doubts of all that a proposal or an import names: what would do nothing, and what it raises by a slip.
+ * @param {{ digests: Iterable<string>, certificates: Iterable<string>, components: Iterable<[string, number]>, stamp: number | null }} it
+ * @param {Known} known
+ * @returns {Doubt[]}
+ */
+export function itemDoubts(it, known) {
+    const components = [...it.components].filter(([name, generation]) => generation > (known.now.level.names.get(name) ?? 0));
+    const doubts = [
+        ...[...it.digests].flatMap((one) => digestDoubts(one, known).filter((doubt) => doubt.idle)),
+        ...[...it.certificates].flatMap((one) => certificateDoubts(one, known).filter((doubt) => doubt.idle)),
+        ...components.flatMap(([name, generation]) => generationDoubts(name, generation, known)),
+    ];
+    return it.stamp && components.length > 0 ? [...doubts, ...stampDoubts(it.stamp, known.now.level.stamp)] : doubts;
 }
 
 /**

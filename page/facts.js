@@ -6,21 +6,32 @@ import { digest, grouped } from './words.js';
 
 /** @typedef {import('./requests.js').Request} Request */
 
-/** @param {Request} it */
-export function factsPart(it) {
+/**
+ * @param {Request} it
+ * @param {import('./standing.js').Standing | null} now the lists, which say how each digest and certificate stands
+ */
+export function factsPart(it, now) {
+    const image = (/** @type {string} */ hex, /** @type {string} */ what) => marked(digest(hex, what), now && [
+        now.listed.digests.has(hex) ? ['signed', 'listed'] : null,
+        now.revoked.digests.has(hex) ? ['rejected', 'revoked'] : null,
+    ]);
+    const certificate = (/** @type {string} */ hex) => marked(digest(hex, 'the certificate'), now && [
+        now.listed.certificates.has(hex) ? ['signed', 'listed', now.listed.certificates.get(hex)?.subject] : null,
+        now.revoked.certificates.has(hex) ? ['rejected', 'revoked'] : null,
+    ]);
     const rows = [
         ['SHA-256 of the file', 'as sha256sum prints it', digest(it.file, 'the SHA-256 of the file')],
-        ['Digest', 'Authenticode; db and dbx name the image by it', digest(it.digest, 'the digest')],
+        ['Digest', 'Authenticode; db and dbx name the image by it', image(it.digest, 'the digest')],
         [
             'Digest in a signature',
             'of the image padded to a multiple of 8 bytes',
-            it.signing === it.digest ? 'the same digest' : digest(it.signing, 'the digest in a signature'),
+            it.signing === it.digest ? 'the same digest' : image(it.signing, 'the digest in a signature'),
         ],
         ['Length', '', `${grouped(it.length)} bytes`],
         [
             'Certificates that it carries',
             'SHA-256 of each TBSCertificate',
-            it.carried.length === 0 ? 'none' : it.carried.map((one) => digest(one, 'the certificate')),
+            it.carried.length === 0 ? 'none' : it.carried.map(certificate),
         ],
         [
             'Returned file',
@@ -43,6 +54,19 @@ export function factsPart(it) {
             ),
         ),
     );
+}
+
+/**
+ * A digest with how it stands in the lists.
+ * @param {HTMLElement} shown
+ * @param {(any[] | null)[] | null} marks each the badge's kind, its word, and a name; null before the lists are read
+ */
+function marked(shown, marks) {
+    const badges = (marks ?? []).flatMap(
+        (mark) => (mark ? [h('span', { class: `badge ${mark[0]}` }, mark[1]), mark[2] ? ` ${mark[2]} ` : ' '] : []),
+    );
+    const none = marks && badges.length === 0 ? h('span', { class: 'hint' }, 'neither listed nor revoked') : null;
+    return h('div', { class: 'marked' }, shown, ' ', badges, none);
 }
 
 /** @param {Request} it @param {import('./standing.js').Standing | null} now */

@@ -2,11 +2,11 @@
 // reads it again, and its reading is what counts.
 
 import { tbsOf } from './der.js';
-import { certificateDoubts, digestDoubts, generationDoubts, stampDoubts } from './doubts.js';
+import { itemDoubts } from './doubts.js';
 import { sha256 } from './files.js';
 import { before, digestIn, entriesOf, hasTime } from './siglist.js';
-import { levelOf } from './standing.js';
-import { counted } from './words.js';
+import { greatest, levelOf } from './standing.js';
+import { counted, grouped } from './words.js';
 
 /**
  * @typedef {import('./doubts.js').Known} Known
@@ -14,6 +14,8 @@ import { counted } from './words.js';
  * @typedef {{ kind: string, path: string, body: Uint8Array, lines: string[], doubts: import('./doubts.js').Doubt[],
  *   asksStamp: boolean, raises: boolean, fault: string }} Look
  * `lines` is what is in it, `asksStamp` whether a stamp goes beside it, `fault` why it can't be imported
+ * @typedef {{ digests: Set<string>, certificates: Set<string>, components: Map<string, number>, stamp: number | null }} Named
+ * what a file names; `stamp` is that of a level
  */
 
 /** How many entries one import has at most, and how many bytes. */
@@ -21,14 +23,16 @@ const MOST = 10000;
 const MOST_BYTES = 4194304;
 
 /**
+ * What a file is; EF BB BF before a text is left out.
  * @param {Uint8Array} bytes
  * @param {Known} known
  * @returns {Promise<Look>}
  */
 export async function look(bytes, known) {
-    const text = textOf(bytes.subarray(0, 64));
-    if (/^kind,value,generation\r?\n/.test(text)) return csv(bytes, known);
-    if (/^\s*sbat,/.test(text)) return level(bytes, known);
+    const plain = textOf(bytes.subarray(0, 3)) === 'ï»¿' ? bytes.subarray(3) : bytes;
+    const text = textOf(plain.subarray(0, 64));
+    if (/^kind,value,generation\r?\n/.test(text)) return csv(plain, known);
+    if (/^\s*sbat,/.test(text)) return level(plain, known);
     return lists(bytes, known);
 }
 
@@ -37,38 +41,47 @@ function empty(kind, path, body) {
     return { kind, path, body, lines: [], doubts: [], asksStamp: false, raises: false, fault: '' };
 }
 
-/** @param {Look} found @param {number} count */
-function limited(found, count) {
+/**
+ * What the file names, how much of it is new, and whether the desk takes so much at once.
+ * @param {Look} found
+ * @param {Named} it
+ * @param {number} count of its entries
+ * @param {Known} known
+ */
+function named(found, it, count, known) {
+    const { revoked, level } = known.now;
+    const fresh = [
+        [...it.digests].filter((one) => !revoked.digests.has(one)).length,
+        [...it.certificates].filter((one) => !revoked.certificates.has(one)).length,
+    ];
+    const higher = [...it.components].filter(([name, generation]) => generation > (level.names.get(name) ?? 0));
+    found.raises = higher.length > 0;
+    if (it.digests.size > 0) found.lines.push(`${counted(it.digests.size, 'different digest')}, ${grouped(fresh[0])} of them new.`);
+    if (it.certificates.size > 0) {
+        found.lines.push(`${counted(it.certificates.size, 'different certificate')}, ${grouped(fresh[1])} of them new.`);
+    }
+    if (it.components.size > 0) {
+        found.lines.push(`${counted(it.components.size, 'generation')}, ${grouped(higher.length)} of them above the present level.`);
+    }
+    for (const [name, generation] of higher.slice(0, 20)) {
+        found.lines.push(`${name} from ${level.names.get(name) ?? 'none'} to ${generation}.`);
+    }
+    if (higher.length > 20) found.lines.push(`And ${grouped(higher.length - 20)} more.`);
+    found.doubts.push(...itemDoubts(it, known));
+    const all = it.digests.size + it.certificates.size + it.components.size;
+    if (all > 0 && fresh[0] + fresh[1] + higher.length === 0) {
+        found.doubts.push({ text: 'Nothing in it is new: a Confirm would change nothing.' });
+    }
     const parts = 'deskctl sends it in parts.';
-    if (count > MOST) found.fault = `It has ${counted(count, 'entry', 'entries')}, and the desk takes 10,000 at once. ${parts}`;
+    if (all === 0) found.fault = 'It names nothing that the desk takes.';
+    else if (count > MOST) found.fault = `It has ${counted(count, 'entry', 'entries')}, and the desk takes 10,000 at once. ${parts}`;
     else if (found.body.length > MOST_BYTES) found.fault = `It has more than the 4 MiB that the desk takes. ${parts}`;
     return found;
 }
 
-/** A file as text, a byte a character, without EF BB BF at its beginning. @param {Uint8Array} bytes */
+/** A file as text, a byte a character. @param {Uint8Array} bytes */
 function textOf(bytes) {
-    return new TextDecoder('latin1').decode(bytes).replace(/^ï»¿/, '');
-}
-
-/**
- * What the digests and the certificates of an import are: how many are new, and which look like slips.
- * @param {Look} found
- * @param {Set<string>} digests
- * @param {Set<string>} certificates
- * @param {Known} known
- */
-function names(found, digests, certificates, known) {
-    const { requests, now } = known;
-    const fresh = (/** @type {Set<string>} */ all, /** @type {Set<string>} */ old) => [...all].filter((one) => !old.has(one));
-    const newDigests = fresh(digests, now.revoked.digests).length;
-    const newCertificates = fresh(certificates, now.revoked.certificates).length;
-    found.lines.push(`${counted(digests.size, 'different digest')}, ${newDigests} of them new.`);
-    found.lines.push(`${counted(certificates.size, 'different certificate')}, ${newCertificates} of them new.`);
-    const listed = [...now.listed.certificates.values()];
-    const odd = [...requests.filter((it) => it.file !== it.digest).map((it) => it.file), ...listed.flatMap((it) => [it.tbs, it.fingerprint])];
-    for (const one of odd) if (digests.has(one)) found.doubts.push(...digestDoubts(one, known));
-    const others = [...listed.filter((it) => it.fingerprint !== it.tbs).map((it) => it.fingerprint), ...requests.map((it) => it.digest)];
-    for (const one of others) if (certificates.has(one)) found.doubts.push(...certificateDoubts(one, known));
+    return new TextDecoder('latin1').decode(bytes);
 }
 
 /** @param {Uint8Array} bytes @param {Known} known */
@@ -93,9 +106,9 @@ async function lists(bytes, known) {
         else if (tbs) certificates.add(await sha256(tbs));
         else skipped.set(entry.kind, (skipped.get(entry.kind) ?? 0) + 1);
     }
-    names(found, digests, certificates, known);
+    named(found, { digests, certificates, components: new Map(), stamp: null }, read.entries.length, known);
     lost(found, read.entries, skipped);
-    return limited(found, read.entries.length);
+    return found;
 }
 
 /** What of signature lists the desk doesn't keep. @param {Look} found @param {Entry[]} entries @param {Map<string, number>} skipped */
@@ -117,38 +130,21 @@ function csv(bytes, known) {
     const found = empty('CSV', '/imports/csv', bytes);
     const lines = textOf(bytes).split(/\r?\n/).filter((line) => line !== '');
     const rows = lines.slice(1).map((line) => line.split(',').map((cell) => cell.replace(/^"(.*)"$/, '$1')));
-    const odd = rows.findIndex(([kind]) => !['sha256', 'x509_sha256', 'sbat'].includes(kind));
-    if (odd >= 0) return { ...found, fault: `Record ${odd + 1} has another kind than sha256, x509_sha256 and sbat.` };
+    const odd = rows.findIndex(([kind, , more]) => !['sha256', 'x509_sha256', 'sbat'].includes(kind) || more === undefined);
+    if (odd >= 0) return { ...found, fault: `Record ${odd + 1} isn’t sha256,HEX, or x509_sha256,HEX, or sbat,NAME,GENERATION.` };
     const of = (/** @type {string} */ wanted) => rows.filter(([kind]) => kind === wanted);
     const values = (/** @type {string} */ wanted) => new Set(of(wanted).map(([, value]) => value.toLowerCase()));
-    names(found, values('sha256'), values('x509_sha256'), known);
-    /** @type {Map<string, number>} */
-    const generations = new Map();
-    for (const [, name, generation] of of('sbat')) generations.set(name, Math.max(generations.get(name) ?? 0, Number(generation)));
-    raises(found, generations, known);
-    found.asksStamp = generations.size > 0;
-    return limited(found, rows.length);
+    const components = greatest(of('sbat').map(([, name, generation]) => [name, Number(generation)]));
+    found.asksStamp = components.size > 0;
+    return named(found, { digests: values('sha256'), certificates: values('x509_sha256'), components, stamp: null }, rows.length, known);
 }
 
 /** @param {Uint8Array} bytes @param {Known} known */
 function level(bytes, known) {
     const found = empty('A level’s text', '/imports/level', bytes);
     const read = levelOf(textOf(bytes).split('\0')[0]);
+    if (!Number.isInteger(read.stamp)) return { ...found, fault: 'Its first line isn’t sbat,1,STAMP.' };
     found.lines.push(`Stamp ${read.stamp}; the desk’s is ${known.now.level.stamp}.`);
-    raises(found, read.names, known);
-    if (found.raises) found.doubts.push(...stampDoubts(read.stamp, known.now.level.stamp));
-    return limited(found, read.names.size);
-}
-
-/** @param {Look} found @param {Map<string, number>} generations @param {Known} known */
-function raises(found, generations, known) {
-    const present = known.now.level.names;
-    const higher = [...generations].filter(([name, generation]) => generation > (present.get(name) ?? 0));
-    found.raises = higher.length > 0;
-    found.lines.push(`${counted(generations.size, 'generation')}, ${higher.length} of them above the present level.`);
-    for (const [name, generation] of higher.slice(0, 20)) {
-        found.lines.push(`${name} from ${present.get(name) ?? 'none'} to ${generation}.`);
-    }
-    if (higher.length > 20) found.lines.push(`And ${higher.length - 20} more.`);
-    for (const [name, generation] of higher) found.doubts.push(...generationDoubts(name, generation, known));
+    const it = { digests: new Set(), certificates: new Set(), components: read.names, stamp: read.stamp };
+    return named(found, it, read.names.size, known);
 }

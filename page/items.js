@@ -1,10 +1,15 @@
 // Everything that a proposal names, with what the desk knows of it.
 
-import { get } from './api.js';
 import { h, p } from './dom.js';
-import { standing } from './standing.js';
 import { paged } from './table.js';
 import { counted, digest, grouped } from './words.js';
+
+/**
+ * A proposal with all that it names.
+ * @typedef {{ certificates: string[], components: [string, number][], digests: string[], kind: string, number: number,
+ *   officer: string, passed: number, stamp: number | null, state: string }} Item
+ * @typedef {import('./doubts.js').Known} Known
+ */
 
 const KINDS = {
     digest: 'Revoke a digest',
@@ -13,18 +18,15 @@ const KINDS = {
     import: 'An import',
 };
 
-/** @param {any} it the proposal with all that it names */
-export async function itemsPart(it) {
-    const [requests, now] = await Promise.all([get('/requests'), standing()]);
-    const known = requests.kind === 'value' ? requests.value : [];
-    const level = now.kind === 'value' ? now.value.level : null;
-    const listed = now.kind === 'value' ? now.value.listed.certificates : new Map();
-    const byDigest = new Map(known.flatMap((/** @type {any} */ one) => [[one.digest, one], [one.signing, one]]));
-    const digests = [...it.digests].sort((one, other) => Number(byDigest.has(other)) - Number(byDigest.has(one)));
+/** @param {Item} it @param {Known | null} known null if it can't be read */
+export function itemsPart(it, known) {
+    const images = known?.images ?? new Map();
+    // Those of requests first: they are what a reader can compare.
+    const digests = [...it.digests].sort((one, other) => Number(images.has(other)) - Number(images.has(one)));
     const rows = [
-        ...it.components.map((/** @type {[string, number]} */ one) => generationRow(one, level)),
-        ...it.certificates.map((/** @type {string} */ one) => certificateRow(one, listed, known)),
-        ...digests.map((one) => ['Digest', digest(one, 'the digest'), requestWords(byDigest.get(one))]),
+        ...it.components.map((one) => generationRow(one, known)),
+        ...it.certificates.map((one) => certificateRow(one, known)),
+        ...digests.map((one) => ['Digest', digest(one, 'the digest'), known ? requestWords(images.get(one)) : '']),
     ];
     const table = paged({
         caption: 'Everything that it names',
@@ -34,36 +36,38 @@ export async function itemsPart(it) {
         row: (row) => [row[0], row[1], ['', row[2]]],
     });
     table.set(rows);
-    return [p(...summary(it, level)), table.place];
+    return [p(...summary(it, known)), table.place];
 }
 
-/** @param {any} it @param {import('./standing.js').Level | null} level */
-function summary(it, level) {
+/** @param {Item} it @param {Known | null} known */
+function summary(it, known) {
     const parts = [`${KINDS[it.kind] ?? it.kind}. `];
     if (it.passed === 1) parts.push('1 entry of the file was skipped, being of another kind. ');
     if (it.passed > 1) parts.push(`${counted(it.passed, 'entry', 'entries')} of the file were skipped, being of other kinds. `);
-    if (it.stamp) parts.push(`Stamp ${it.stamp}${level ? `; the level’s is ${level.stamp}` : ''}.`);
+    if (it.stamp) parts.push(`Stamp ${it.stamp}${known ? `; the level’s is ${known.now.level.stamp}` : ''}.`);
     return parts;
 }
 
-/** @param {any} it the request that has the digest, if one has */
+/** @param {import('./requests.js').Request | undefined} it the request that has the digest, if one has */
 function requestWords(it) {
     if (!it) return 'no request here has it';
     return [h('a', { href: `#/requests/${Number(it.number)}` }, `request ${it.number}`), `: ${it.title}`];
 }
 
-/** @param {string} one @param {Map<string, any>} listed @param {any[]} known */
-function certificateRow(one, listed, known) {
-    const carried = known.filter((it) => it.carried.includes(one)).length;
-    const subject = listed.get(one)?.subject;
-    const name = listed.has(one) ? `listed${subject ? `: ${subject}` : ''}` : 'not listed';
+/** @param {string} one @param {Known | null} known */
+function certificateRow(one, known) {
+    const row = ['Certificate', digest(one, 'the certificate')];
+    if (!known) return [...row, ''];
+    const carried = known.carriers.get(one)?.length ?? 0;
+    const listed = known.now.listed.certificates.get(one);
+    const name = listed ? `listed${listed.subject ? `: ${listed.subject}` : ''}` : 'not listed';
     const images = `${counted(carried, 'submitted image')} ${carried === 1 ? 'carries' : 'carry'} it`;
-    return ['Certificate', digest(one, 'the certificate'), carried > 0 ? `${name}; ${images}` : name];
+    return [...row, carried > 0 ? `${name}; ${images}` : name];
 }
 
-/** @param {[string, number]} one @param {import('./standing.js').Level | null} level */
-function generationRow([name, generation], level) {
-    const present = level?.names.get(name);
+/** @param {[string, number]} one @param {Known | null} known */
+function generationRow([name, generation], known) {
+    const present = known?.now.level.names.get(name);
     const now = present === undefined ? 'not in the level today' : `the level has ${grouped(present)} today`;
-    return ['Generation', h('span', {}, h('code', {}, name), ` to ${grouped(generation)}`), level ? now : ''];
+    return ['Generation', h('span', {}, h('code', {}, name), ` to ${grouped(generation)}`), known ? now : ''];
 }

@@ -1,6 +1,7 @@
 // A command acts once. Its key is made with it and is sent with each try; it is kept until an answer
 // of the desk came. A lost answer is asked for again with the same key: by itself three times, then
-// by a button.
+// by a button. A command that was given up without an answer leaves its key to the next one that says
+// the same.
 
 import { PAUSES, pause, post } from './api.js';
 
@@ -12,8 +13,26 @@ export function newKey() {
     ).join('');
 }
 
+/** @typedef {import('./api.js').Answer} Answer */
+
+/** @type {Answer} the end of a command that the desk may have accepted */
+const STOPPED = { kind: 'stopped', sent: true };
+
 /** The commands under way, and those whose answer was lost. @type {Set<Command>} */
 export const unanswered = new Set();
+
+/** Those that were given up without an answer. @type {Set<Command>} */
+const left = new Set();
+
+/** Grows at each sign-out: a key of the person before is of no use. */
+let turn = 0;
+
+/** Forgets all keys of the person who signs out. */
+export function forgetKeys() {
+    turn += 1;
+    for (const command of unanswered) command.forget();
+    left.clear();
+}
 
 let told = () => {};
 
@@ -34,7 +53,8 @@ export class Command {
         this.path = path;
         this.body = body;
         this.fields = fields;
-        this.key = newKey();
+        this.key = [...left].find((other) => same(this, other))?.key ?? newKey();
+        this.turn = turn;
         /** `idle`, `sending`, `again` while it asks by itself, `lost` while it waits for the button */
         this.state = 'idle';
         /** The status of the last answer that wasn't the desk's; 0 if there was none. */
@@ -55,26 +75,42 @@ export class Command {
      * a command is under way at a time.
      * @param {(command: Command) => void} [show] is called at each change of state
      * @param {{ progress?: (sent: number, whole: number) => void, stop?: AbortSignal }} [how]
-     * @returns {Promise<import('./api.js').Answer>}
+     * @returns {Promise<Answer>}
      */
     async run(show = () => {}, how = {}) {
         unanswered.add(this);
-        for (;;) {
-            this.becomes('sending', show);
-            let answer = await this.send(how);
-            for (const wait of PAUSES) {
-                if (answer.kind !== 'lost') break;
-                this.status = answer.status;
-                this.becomes('again', show);
-                await pause(wait);
-                answer = how.stop?.aborted ? { kind: 'stopped', sent: true } : await this.send(how);
-            }
-            if (answer.kind !== 'lost') return this.ends(answer, show);
+        how.stop?.addEventListener('abort', () => this.forget());
+        let answer = await this.tries(show, how);
+        while (answer.kind === 'lost') {
             this.status = answer.status;
             this.becomes('lost', show);
-            if (await new Promise((resolve) => (this.release = resolve))) continue;
-            return this.ends({ kind: 'stopped', sent: true }, show);
+            const again = await new Promise((resolve) => (this.release = resolve));
+            answer = again ? await this.tries(show, how) : STOPPED;
+            // What was lost before may have been accepted, however far this try came.
+            if (answer.kind === 'stopped') answer = STOPPED;
         }
+        return this.ends(answer, show);
+    }
+
+    /**
+     * One try, and three more while no answer comes.
+     * @param {(command: Command) => void} show
+     * @param {{ progress?: (sent: number, whole: number) => void, stop?: AbortSignal }} how
+     * @returns {Promise<Answer>}
+     */
+    async tries(show, how) {
+        this.becomes('sending', show);
+        let answer = await this.send(how);
+        for (const wait of PAUSES) {
+            if (answer.kind !== 'lost') return answer;
+            this.status = answer.status;
+            this.becomes('again', show);
+            await pause(wait, how.stop);
+            if (how.stop?.aborted || this.isGone()) return STOPPED;
+            answer = await this.send(how);
+            if (answer.kind === 'stopped') return STOPPED;
+        }
+        return answer;
     }
 
     /** @param {{ progress?: (sent: number, whole: number) => void, stop?: AbortSignal }} how */
@@ -82,11 +118,18 @@ export class Command {
         return post(this.path, { ...this.fields, 'Desk-Key': this.key }, this.body, how);
     }
 
-    /** @param {import('./api.js').Answer} answer @param {(command: Command) => void} show */
+    /** @param {Answer} answer @param {(command: Command) => void} show */
     ends(answer, show) {
         unanswered.delete(this);
+        for (const other of left) if (other.key === this.key) left.delete(other);
+        if (answer.kind === 'stopped' && answer.sent && !this.isGone()) left.add(this);
         this.becomes('idle', show);
         return answer;
+    }
+
+    /** Whether its person has signed out since. */
+    isGone() {
+        return this.turn !== turn;
     }
 
     /** Asks once more, with the same key. */
@@ -98,6 +141,17 @@ export class Command {
     forget() {
         this.release(false);
     }
+}
+
+/** Whether two commands say the same. @param {Command} one @param {Command} other */
+function same(one, other) {
+    return one.path === other.path && JSON.stringify(one.fields) === JSON.stringify(other.fields) && sameBody(one.body, other.body);
+}
+
+/** @param {XMLHttpRequestBodyInit} one @param {XMLHttpRequestBodyInit} other */
+function sameBody(one, other) {
+    if (!(one instanceof Uint8Array && other instanceof Uint8Array)) return one === other;
+    return one.length === other.length && one.every((byte, at) => byte === other[at]);
 }
 
 /**

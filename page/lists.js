@@ -145,7 +145,8 @@ function listing(place) {
             if (!hex) return input.focus();
             const all = await known();
             if ('kind' in all) return fill(said, refusalBox(all));
-            const doubts = digestDoubts(hex, all).filter((it) => !it.text.startsWith('Request '));
+            // (that it has two digests matters to a revocation alone)
+            const doubts = digestDoubts(hex, all).filter((it) => it.idle || !it.use);
             if (await settled(doubts, 'List it all the same')) done(
                 await act(jsonCommand('List a digest', '/db/digests', { digest: hex }), said, { off: [image] }),
             );

@@ -3,7 +3,7 @@
 
 import { lostBox, refusalBox } from './act.js';
 import { fill, h, p, quiet, sure } from './dom.js';
-import { onChange, unanswered } from './keys.js';
+import { forgetKeys, onChange, unanswered } from './keys.js';
 import { listsView } from './lists.js';
 import { proposalView } from './proposal.js';
 import { proposalsView } from './proposals.js';
@@ -104,7 +104,7 @@ async function leave() {
         'Sign out',
         'Stay',
     ))) return;
-    for (const command of unanswered) command.forget();
+    forgetKeys();
     signOut();
     changed();
     history.replaceState(null, '', location.pathname);

@@ -3,16 +3,19 @@
 
 import { get } from './api.js';
 import { act, anew, read, reading, refusalBox } from './act.js';
+import { doubtList, known } from './asking.js';
 import { answers, box, button, buttons, fill, h, heading, p, section, strong, sure } from './dom.js';
-import { explained } from './refusals.js';
+import { itemDoubts } from './doubts.js';
 import { harmed, impactBox, impactPart, named } from './impact.js';
 import { Command } from './keys.js';
 import { me } from './session.js';
 import { itemsPart } from './items.js';
+import { explained } from './refusals.js';
 import { changed } from './standing.js';
 import { STATES, badge } from './words.js';
 
-/** @typedef {import('./proposals.js').Proposal} Proposal */
+/** @typedef {import('./items.js').Item} Item */
+/** @typedef {import('./doubts.js').Doubt} Doubt */
 
 /** @param {HTMLElement} place @param {string[]} words the number */
 export function proposalView(place, [number]) {
@@ -25,79 +28,64 @@ export function proposalView(place, [number]) {
 /** @param {HTMLElement} place @param {number} number @param {any[]} first */
 async function show(place, number, ...first) {
     anew(place, first);
-    await read(place, () => get('/proposals'), (all) => {
-        const it = all.find((/** @type {Proposal} */ one) => one.number === number);
-        if (it) return whole(place, it);
-        return place.append(refusalBox({ kind: 'refused', status: 404, name: 'NoSuchProposal', number: 37 }));
-    });
+    await read(place, () => get(`/proposals/${number}`), (it) => whole(place, it));
 }
 
-/** @param {HTMLElement} place @param {Proposal} it */
+/** @param {HTMLElement} place @param {Item} it */
 async function whole(place, it) {
-    const again = (/** @type {any} */ said) => show(place, it.number, said);
+    const again = (/** @type {any[]} */ ...said) => show(place, it.number, ...said);
+    const isOpen = it.state === 'open';
     const items = h('div', {}, reading());
-    const impact = h('div', {}, it.state === 'open' ? reading() : null);
+    const impact = h('div', {}, isOpen ? reading() : null);
     const decision = h('div', {});
-    place.append(
-        p(
-            badge(it.state),
-            ' ',
-            it.state === 'open'
-                ? `${it.officer} proposed it. It changes nothing until another officer confirms it.`
-                : STATES[it.state]?.[1] ?? '',
-        ),
-        impact,
-        section('What it names', items),
-        decision,
-    );
-    const [shown, looked] = await Promise.all([
-        get(`/proposals/${it.number}`),
-        it.state === 'open' ? get(`/proposals/${it.number}/impact`) : null,
-    ]);
-    if (shown.kind === 'value') fill(items, await itemsPart(shown.value));
-    else fill(
-        items,
-        p(`It names ${named(it)}.`),
-        lacking(
-            shown,
-            'This desk’s program shows no more than the counts. Before you confirm, ask '
-                + `${it.officer} for each digest, certificate and generation: nothing takes a Confirm back.`,
-        ),
-    );
+    const told = isOpen
+        ? `${it.officer} proposed it. It changes nothing until another officer confirms it.`
+        : `${it.officer} proposed it. ${STATES[it.state]?.[1] ?? ''}`;
+    place.append(p(badge(it.state), ' ', told), impact, section('What it names', items), decision);
+    const [all, looked] = await Promise.all([known(), isOpen ? get(`/proposals/${it.number}/impact`) : null]);
+    fill(items, itemsPart(it, 'kind' in all ? null : all), 'kind' in all ? refusalBox(all) : null);
     if (!looked) return;
-    if (looked.kind === 'value') fill(impact, impactPart(looked.value));
-    else fill(impact, section('If it is confirmed now', refusedNow(looked)));
-    fill(decision, actions(it, again));
-}
-
-/** @param {import('./api.js').Answer} answer @param {string} text */
-function lacking(answer, text) {
-    return answer.kind === 'refused' && answer.name === 'NoRoute' ? box('care', text) : refusalBox(answer);
+    const doubts = 'kind' in all ? [] : itemDoubts(it, all);
+    fill(impact, looked.kind === 'value' ? impactPart(looked.value) : refusedNow(looked), doubtPart(doubts));
+    fill(decision, actions(it, looked, doubts, again));
 }
 
 /** Why there is no impact. @param {import('./api.js').Answer} answer */
 function refusedNow(answer) {
-    if (answer.kind !== 'refused') return refusalBox(answer);
-    if (answer.name === 'NoRoute') return box('care', 'This desk’s program doesn’t say which images a Confirm bars.');
-    return box('care', p(strong('A Confirm would be refused now. '), explained(answer).why), p(explained(answer).todo));
+    const title = 'If it is confirmed now';
+    if (answer.kind !== 'refused') return section(title, refusalBox(answer));
+    const { why, todo } = explained(answer);
+    return section(title, box('care', p(strong(`A Confirm would be refused: ${answer.name} (${answer.number}). `), why), p(todo)));
 }
 
-/** @param {Proposal} it @param {(said: any) => void} again */
-function actions(it, again) {
+/** @param {Doubt[]} doubts */
+function doubtPart(doubts) {
+    return doubts.length > 0 ? section('Is that what was meant?', box('care', doubtList(doubts))) : null;
+}
+
+/**
+ * @param {Item} it
+ * @param {import('./api.js').Answer} looked the impact, or why there is none
+ * @param {Doubt[]} doubts
+ * @param {(...said: any[]) => void} again
+ */
+function actions(it, looked, doubts, again) {
     const said = answers();
     const own = me.name !== '' && it.officer === me.name;
     const confirm = button('Confirm…', async () => {
         confirm.disabled = true;
-        const looked = await get(`/proposals/${it.number}/impact`);
+        const now = await get(`/proposals/${it.number}/impact`);
         confirm.disabled = false;
-        if (!(await lastLook(it, looked))) return;
+        // What changed since it was looked at is looked at again.
+        if (now.kind !== 'value') return again();
+        if (!(await lastLook(it, now.value, doubts))) return undefined;
         const reply = await act(
             new Command(`Confirm proposal ${it.number}`, `/proposals/${it.number}/confirm`, ''),
             said,
             { off: [confirm, drop], refused: (name) => name === 'OwnProposal' && (me.name = it.officer) },
         );
         changed();
-        if (reply) again(confirmed(reply));
+        return reply ? again(confirmed(reply)) : undefined;
     }, 'danger');
     const drop = button('Drop…', async () => {
         if (!(await sure(
@@ -105,32 +93,34 @@ function actions(it, again) {
             [p('It then changes nothing, and stays in the list as dropped. It can be proposed again.')],
             'Drop it',
         ))) return;
-        if (await act(
+        const reply = await act(
             new Command(`Drop proposal ${it.number}`, `/proposals/${it.number}/drop`, ''),
             said,
             { off: [confirm, drop] },
-        )) again(
-            box('good', strong('Dropped.'), ' It changed nothing.'),
         );
+        if (reply) again(h('div', { role: 'status' }, box('good', strong('Dropped.'), ' It changed nothing.')));
     });
+    const look = button('Look again', () => again());
     return h(
         'section',
         { class: 'act' },
         h('h2', {}, 'Your decision'),
         own ? p('You proposed it, so another officer has to confirm it. You may drop it.') : null,
-        buttons(own ? null : confirm, drop),
+        buttons(own ? null : looked.kind === 'value' ? confirm : look, drop),
         said,
     );
 }
 
-/** The second question before a Confirm. @param {Proposal} it @param {import('./api.js').Answer} looked */
-function lastLook(it, looked) {
-    const words = looked.kind === 'value'
-        ? [impactBox(looked.value), harmed(looked.value)]
-        : [p(`It names ${named(it)}.`), refusedNow(looked)];
+/** The second question before a Confirm. @param {Item} it @param {import('./impact.js').Impact} impact @param {Doubt[]} doubts */
+function lastLook(it, impact, doubts) {
     return sure(
         `Confirm proposal ${it.number} for good?`,
-        [...words, p('It is in force at once, and nothing takes it back.')],
+        [
+            impactBox(impact),
+            harmed(impact),
+            doubts.length > 0 ? box('care', p(strong('Is that what was meant?')), doubtList(doubts)) : null,
+            p('It is in force at once, and nothing takes it back.'),
+        ],
         'Confirm for good',
         'Leave it open',
     );

@@ -137,7 +137,7 @@ export const REFUSALS = {
     ],
     NotSupported: ['The HTTP request has a Transfer-Encoding.', PAGE],
     Minute: [
-        'A line of minutes isn’t what the rules give. The place is its number from 1.',
+        'A line of minutes isn’t what the rules give there, or isn’t whole. The place is its number from 1.',
         'Fetch the minutes again, and compare them with other copies.',
     ],
 };

@@ -56,10 +56,6 @@ function numberRow(label, count) {
 
 /** @param {import('./api.js').Answer} answer */
 function peoplePart(answer) {
-    if (answer.kind === 'refused' && answer.name === 'NoRoute') return box(
-        'care',
-        'This desk’s program doesn’t show its people. Its administrator finds them in the minutes.',
-    );
     if (answer.kind !== 'value') return refusalBox(answer);
     const table = paged({
         caption: counted(answer.value.length, 'person', 'people'),
@@ -102,11 +98,6 @@ async function minutes(progress) {
     let next = 1;
     for (;;) {
         const answer = await get(`/minutes/${next}`, 'bytes');
-        if (answer.kind === 'refused' && answer.name === 'NoRoute') return box(
-            'care',
-            'This desk’s program doesn’t give its minutes over HTTP. ',
-            'Its administrator makes them by “desk minutes” while the desk is stopped.',
-        );
         if (answer.kind !== 'value') return refusalBox(answer);
         const lines = answer.value.reduce(
             (/** @type {number} */ count, /** @type {number} */ byte) => count + (byte === 10 ? 1 : 0),
@@ -121,6 +112,6 @@ async function minutes(progress) {
     return box(
         'good',
         strong('Done. '),
-        `minutes.txt has ${counted(next - 1, 'line')}. “desk audit” follows them.`,
+        `minutes.txt has ${counted(next - 1, 'line')}.`,
     );
 }

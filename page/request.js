@@ -32,7 +32,8 @@ function whole(place, it) {
     document.title = `${it.number}: ${it.title} · Kovelamiru`;
     const again = (/** @type {any} */ said) => show(place, it.number, said);
     const today = section('Against the lists of today');
-    const components = h('div', {});
+    const facts = h('div', {}, factsPart(it, null));
+    const components = h('div', {}, componentsPart(it, null));
     place.append(
         h('p', { class: 'title' }, it.title),
         p(badge(it.state), ` ${STATES[it.state]?.[1] ?? ''}`),
@@ -44,13 +45,13 @@ function whole(place, it) {
         comparePart(it),
         votesPart(it),
         ...actions(it, again),
-        factsPart(it),
+        facts,
         components,
         withdrawPart(it, again),
     );
-    fill(components, componentsPart(it, null));
     read(today, standing, (now) => {
         today.append(findings(it, now));
+        fill(facts, factsPart(it, now));
         fill(components, componentsPart(it, now));
     });
 }

@@ -66,11 +66,6 @@ export function submitView(place) {
     const twice = h('div', { role: 'status' });
     /** @type {Chosen | null} */
     let file = null;
-    /**
-     * The command of this title and file, which keeps its key until an answer came.
-     * @type {{ command: Command, title: string, file: Chosen } | null}
-     */
-    let kept = null;
     const { place: drop, input } = fileField('EFI image', 'Choose it, or drop it here. At most 128 MiB.', async (chosen) => {
         file = chosen;
         fill(twice);
@@ -85,15 +80,9 @@ export function submitView(place) {
             : textFault(text, TITLE, 'title') || (file ? '' : 'Choose the image’s file.');
         if (fault.textContent) return (text === '' || file ? title : input).focus();
         const chosen = /** @type {Chosen} */ (file);
-        if (!kept || kept.title !== text || kept.file !== chosen) kept = {
-            title: text,
-            file: chosen,
-            command: new Command(`Submit ${chosen.file.name}`, '/requests', chosen.bytes, { 'Desk-Title': text }),
-        };
-        const reply = await sent(kept.command, bar, said, [go, title, input]);
-        if (!reply) return undefined;
-        kept = null;
-        return arrived(said, reply.request, chosen.sha256, form);
+        const command = new Command(`Submit ${chosen.file.name}`, '/requests', chosen.bytes, { 'Desk-Title': text });
+        const reply = await sent(command, bar, said, [go, title, input]);
+        return reply ? arrived(said, reply.request, chosen.sha256, form) : undefined;
     } }, field(
         'Title',
         title,
@@ -147,8 +136,6 @@ export function returnForm(it, again) {
     const fault = h('p', { class: 'fault', role: 'status' });
     /** @type {Chosen | null} */
     let file = null;
-    /** @type {{ command: Command, file: Chosen } | null} */
-    let kept = null;
     const { place, input } = fileField('Signed file', 'Choose it, or drop it here.', (chosen) => {
         file = chosen;
         fault.textContent = chosen && chosen.sha256 === it.file
@@ -169,11 +156,8 @@ export function returnForm(it, again) {
                 return input.focus();
             }
             const chosen = file;
-            if (!kept || kept.file !== chosen) kept = {
-                file: chosen,
-                command: new Command(`Return of request ${it.number}`, `/requests/${it.number}/return`, chosen.bytes),
-            };
-            const reply = await sent(kept.command, bar, said, [go, input]);
+            const command = new Command(`Return of request ${it.number}`, `/requests/${it.number}/return`, chosen.bytes);
+            const reply = await sent(command, bar, said, [go, input]);
             if (!reply) return undefined;
             const answer = await get(`/requests/${it.number}`);
             return again(

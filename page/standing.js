@@ -48,9 +48,14 @@ export async function standing() {
  */
 export function levelOf(text) {
     const [first, ...rows] = text.split(/\r?\n/).filter((line) => line !== '').map((line) => line.split(','));
+    return { stamp: Number(first?.[2]), names: greatest(rows.map(([name, generation]) => [name, Number(generation)])) };
+}
+
+/** The greatest generation of each name. @param {[string, number][]} rows */
+export function greatest(rows) {
     const names = new Map();
-    for (const [name, generation] of rows) names.set(name, Math.max(names.get(name) ?? 0, Number(generation)));
-    return { stamp: Number(first?.[2]), names };
+    for (const [name, generation] of rows) names.set(name, Math.max(names.get(name) ?? 0, generation));
+    return names;
 }
 
 /** @param {Uint8Array} db */

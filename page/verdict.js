@@ -43,7 +43,7 @@ export function verdictView(place) {
 
 /** @param {import('./api.js').Answer} answer */
 function told(answer) {
-    if (answer.kind === 'stopped') return box('note', 'Stopped. Nothing was asked of the desk.');
+    if (answer.kind === 'stopped') return box('note', 'Stopped. The desk keeps nothing of the image.');
     if (answer.kind !== 'value') return refusalBox(answer);
     const { verdict } = answer.value;
     if (verdict === 'allowed') return box(
