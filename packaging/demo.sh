@@ -7,71 +7,45 @@
 # has the tokens.
 set -eu
 umask 077
-root=$(CDPATH='' cd -- "$(dirname -- "$(readlink -f -- "$0")")/.." && pwd -P)
-if [ $# -gt 0 ]; then
-    program=$(readlink -f -- "$1")
-else
-    "$root/desk" --version > /dev/null
-    program=$root/crates/desk/out/desk
-fi
-nginx=$(command -v nginx || echo /usr/sbin/nginx)
-for tool in curl "$nginx" "$program"; do
-    command -v "$tool" > /dev/null || { echo "packaging/demo.sh: $tool is needed" >&2; exit 1; }
-done
-made=
+PATH=$PATH:/usr/sbin:/sbin
+. "$(dirname -- "$(readlink -f -- "$0")")/../checks/common.sh"
+needs curl nginx
+find_program "$@"
+trap 'exit 0' INT
 if [ $# -gt 1 ]; then
     mkdir -- "$2"
-    room=$(readlink -f -- "$2")
+    cd -- "$2"
 else
-    room=$(mktemp -d)
-    made=$room
+    enter_room
 fi
-server='' proxy=''
-leave() {
-    for one in $proxy $server; do kill "$one" 2> /dev/null || :; done
-    wait || :
-    if [ -n "$made" ]; then rm -rf "$made"; fi
-}
-trap leave EXIT
-trap 'exit 0' INT
-trap 'exit 1' HUP TERM
-cd "$room"
-
-fail() {
-    echo "packaging/demo.sh: $*" >&2
-    exit 1
-}
-# listens PORT: whether somebody does.
-listens() { grep -q ":$(printf '%04X' "$1") 00000000:0000 0A" /proc/net/tcp; }
-# free PORT: prints the first port from there on at which nobody listens.
-free() {
-    at=$1
-    while listens "$at"; do at=$((at + 1)); done
-    echo "$at"
-}
-# until_listens PORT: waits for somebody to listen there.
-until_listens() {
-    tries=100
-    until listens "$1"; do
-        tries=$((tries - 1))
-        [ "$tries" -gt 0 ] || fail "nobody listens at port $1: $(cat served nginx.err 2> /dev/null)"
-        sleep 0.1
-    done
-}
+folder=$(pwd -P)
+day=$(date -u +%Y%m%d)
+people='ann/submitter rita/reviewer raul/reviewer rosa/reviewer sid/signer olga/officer otto/officer'
 
 # ---- the desk and its people
 
 "$program" init desk.db 00112233-4455-6677-8899-aabbccddeeff
-for person in ann/submitter rita/reviewer raul/reviewer rosa/reviewer sid/signer olga/officer otto/officer; do
+for person in $people; do
     name=${person%/*}
     od -An -N16 -tx1 /dev/urandom | tr -d ' \n' > "$name.token"
     printf 'Desk-Token: %s\n' "$(cat "$name.token")" > "$name.field"
     "$program" person desk.db "$name" "${person#*/}" "demo-$name" < "$name.token" > added
 done
-desk=$(free "$((20000 + $$ % 500 * 20))")
-"$program" serve desk.db "$desk" 1000000 > served 2>&1 &
-server=$!
-until_listens "$desk"
+
+# serves PORT: whether the desk serves at this port; another program may have it.
+serves() {
+    port=$1
+    "$program" serve desk.db "$port" 1000000 > served 2> served.err &
+    server=$!
+    started="$started $server"
+    while is_running "$server"; do
+        if listens "$server" "$port"; then return 0; fi
+        sleep 0.05
+    done
+    [ "$(cat served.err)" = 'device 14 Read' ] || fail "serve: $(cat served served.err)"
+    return 1
+}
+until serves "$(some_port)"; do :; done
 
 # ---- what happened at it so far
 
@@ -82,26 +56,43 @@ as() {
     shift 3
     key=$((key + 1))
     curl -sS --max-time 60 -f -H "@$who.field" -H "Desk-Key: demo-$key" --data-binary "$body" "$@" \
-        "http://127.0.0.1:$desk$path" > said 2> curl.err || fail "$who at $path: $(cat said curl.err)"
+        "http://127.0.0.1:$port$path" > said 2> curl.err || fail "$who at $path: $(cat said curl.err)"
 }
-# image NUMBER: makes signed.NUMBER, an image that differs from the others in one byte, and
-# image.NUMBER, the same without its certificate table.
+# image NUMBER ROW..: makes signed.NUMBER, the signed image of examples/ with these rows of SBAT below
+# the first one and a byte of its own, and image.NUMBER, the same without its certificate table.
 image() {
-    cp "$root/examples/signed.efi" "signed.$1"
-    printf '%b' "\\0$(printf '%03o' "$1")" | dd of="signed.$1" bs=1 seek=752 conv=notrunc 2> dd.err
-    head -c 1536 "signed.$1" > "image.$1"
-    printf '\000\000\000\000\000\000\000\000' | dd of="image.$1" bs=1 seek=232 conv=notrunc 2> dd.err
+    number=$1
+    shift
+    cp "$root/examples/signed.efi" "signed.$number"
+    # puts PLACE: writes its input there.
+    puts() { dd of="signed.$number" bs=1 seek="$1" conv=notrunc 2> dd.err; }
+    printf '%b' "\\0$(printf '%03o' "$number")" | puts 752
+    # The VirtualSize of .sbat, 512: its text ends before the zeros.
+    printf '\000\002' | puts 376
+    printf '%s\n' 'sbat,1,SBAT Version,sbat,1,https://github.com/rhboot/shim/blob/main/SBAT.md' "$@" | puts 1024
+    head -c 1536 "signed.$number" > "image.$number"
+    printf '\000\000\000\000\000\000\000\000' | dd of="image.$number" bs=1 seek=232 conv=notrunc 2> dd.err
 }
 # submit NAME NUMBER TITLE: asks for a signature for image.NUMBER; the requests have the same numbers.
 submit() { as "$1" /requests "@image.$2" -H "Desk-Title: $3"; }
 # votes NAME NUMBER yes|no NOTE
 votes() { as "$1" "/requests/$2/review" "{\"note\":\"$4\",\"vote\":\"$3\"}"; }
+# raises NAME COMPONENT GENERATION STAMP: proposes a generation of the level.
+raises() { as "$1" /level "{\"component\":\"$2\",\"generation\":$3,\"stamp\":$4}"; }
 
-for number in 1 2 3 4 5 6 7 8; do image "$number"; done
+debian='https://tracker.debian.org/pkg'
+image 1 'shim,4,UEFI shim,shim,1,https://github.com/rhboot/shim' "shim.debian,1,Debian,shim,16.1-1,$debian/shim"
+image 2 'grub,3,Free Software Foundation,grub,2.12,https://www.gnu.org/software/grub/' "grub.debian,4,Debian,grub2,2.12-9,$debian/grub2"
 cp "$root/examples/tiny.efi" image.3
+image 4 'grub,3,Free Software Foundation,grub,2.12,https://www.gnu.org/software/grub/' "grub.debian,4,Debian,grub2,2.12-9,$debian/grub2"
+image 5 'systemd,1,The systemd Developers,systemd,257,https://systemd.io/' "systemd.debian,1,Debian,systemd,257.9-1,$debian/systemd"
+image 6 'linux,1,Linux,linux,6.12.57,https://kernel.org/' "linux.debian,1,Debian,linux,6.12.57-1,$debian/linux"
 { cat "$root/examples/tiny.efi"; echo last; } > image.7
-printf '\060\005\060\003\002\001\001' > certificate
-as olga /db/certificates @certificate
+image 8 'shim,4,UEFI shim,shim,1,https://github.com/rhboot/shim' "shim.debian,1,Debian,shim,16.1-2,$debian/shim"
+image 9 'grub,2,Free Software Foundation,grub,2.06,https://www.gnu.org/software/grub/' "grub.debian,3,Debian,grub2,2.06-13,$debian/grub2"
+as olga /db/certificates "@$root/examples/certificate.der"
+raises olga grub 3 "${day}00"
+as otto /proposals/1/confirm ''
 submit ann 1 'shim 16.1-1 amd64'
 submit ann 2 'grub2 2.12-9 amd64'
 submit ann 3 'fwupd-efi 1.7-1 amd64'
@@ -110,6 +101,7 @@ submit ann 5 'systemd-boot 257.9-1 amd64'
 submit ann 6 'linux 6.12.57-1 amd64, the kernel of the 13.3 point release'
 submit rita 7 'memtest86+ 7.20-1 amd64'
 submit ann 8 'shim 16.1-2 amd64'
+submit ann 9 'grub2 2.06-13 amd64'
 for number in 1 2 4; do
     votes rita "$number" yes 'built it again: the same bytes'
     votes raul "$number" yes 'compared with the build log'
@@ -119,45 +111,57 @@ votes rosa 6 yes 'the changelog names the CVE'
 as ann /requests/5/withdraw ''
 for number in 1 2; do as sid "/requests/$number/return" "@signed.$number"; done
 as otto /dbx/digests '{"digest":"ba7816bf8f01cfea414140de5dae2223b00361a396177a9cb410ff61f20015ad"}'
-as olga /proposals/1/confirm ''
-as olga /level '{"component":"grub","generation":4,"stamp":2026112700}'
+as olga /proposals/2/confirm ''
+raises otto shim 5 "${day}01"
+as otto /proposals/3/drop ''
+raises olga grub 4 "${day}01"
 {
     echo 'kind,value,generation'
     for digit in 1 2 3 4 5 6 7 8 9 a b c; do echo "sha256,$(printf "%064d" 0 | tr 0 "$digit"),"; done
     echo 'x509_sha256,2c7e1db0e9c5d03f3c0b8ee2b3ef1f7d2b07d6ab5f2a1e7d0f7d6f0f9b1b7a55,'
     echo 'sbat,shim,4'
 } > revocations.csv
-as otto /imports/csv @revocations.csv -H 'Desk-Stamp: 2026112701'
+as otto /imports/csv @revocations.csv -H "Desk-Stamp: ${day}02"
 
 # ---- nginx
 
-port=$(free 8088)
-sed "s|server 127\.0\.0\.1:[0-9]*;|server 127.0.0.1:$desk;|
-     s|listen 443 ssl;|listen 127.0.0.1:$port;|
-     /listen \[::\]:443 ssl;/d
-     /^ *ssl_/d
-     s|root /usr/share/kovelamiru-desk;|root $root;|
-     s|/var/log/nginx/|$room/|" "$root/packaging/nginx.conf" > site.conf
-for line in "server 127.0.0.1:$desk;" "listen 127.0.0.1:$port;" "root $root;"; do
-    grep -qF "$line" site.conf || fail "packaging/nginx.conf has no place for $line"
-done
-{
-    if [ "$(id -u)" -eq 0 ]; then echo 'user root root;'; fi
-    echo "daemon off; pid $room/nginx.pid; error_log $room/nginx.err warn;"
-    echo "events { worker_connections 256; }"
-    echo "http {"
-    echo "    access_log off;"
-    for kind in client_body proxy fastcgi uwsgi scgi; do echo "    ${kind}_temp_path $room/$kind;"; done
-    echo "    include $room/site.conf;"
-    echo "}"
-} > nginx.conf
-"$nginx" -p "$room/" -e "$room/nginx.err" -c nginx.conf &
-proxy=$!
-until_listens "$port"
+# proxies PORT: whether nginx serves the page and the desk at this port.
+proxies() {
+    sed "s|server 127\.0\.0\.1:[0-9]*;|server 127.0.0.1:$port;|
+         s|listen 443 ssl;|listen 127.0.0.1:$1;|
+         /listen \[::\]:443 ssl;/d
+         /^ *ssl_/d
+         s|root /usr/share/kovelamiru-desk;|root $root;|" "$root/packaging/nginx.conf" > site.conf
+    for line in "server 127.0.0.1:$port;" "listen 127.0.0.1:$1;" "root $root;"; do
+        grep -qF "$line" site.conf || fail "packaging/nginx.conf has no place for $line"
+    done
+    {
+        if [ "$(id -u)" -eq 0 ]; then echo 'user root root;'; fi
+        echo "daemon off; pid $folder/nginx.pid; error_log $folder/nginx.err warn;"
+        echo "events { worker_connections 256; }"
+        echo "http {"
+        echo "    access_log off;"
+        for kind in client_body proxy fastcgi uwsgi scgi; do echo "    ${kind}_temp_path $folder/$kind;"; done
+        echo "    include $folder/site.conf;"
+        echo "}"
+    } > nginx.conf
+    nginx -p "$folder/" -e "$folder/nginx.err" -c nginx.conf 2> nginx.said &
+    proxy=$!
+    started="$started $proxy"
+    while is_running "$proxy"; do
+        if listens "$proxy" "$1"; then return 0; fi
+        sleep 0.05
+    done
+    grep -q 'Address already in use' nginx.err || fail "nginx: $(cat nginx.said nginx.err)"
+    return 1
+}
+address=8088
+until proxies "$address"; do address=$(some_port); done
 
-echo "http://127.0.0.1:$port/ has a demo desk. Sign in as one of these people; Ctrl-C ends it."
-for person in ann/submitter rita/reviewer raul/reviewer rosa/reviewer sid/signer olga/officer otto/officer; do
+echo "http://127.0.0.1:$address/ has a demo desk. Sign in as one of these people; Ctrl-C ends it."
+for person in $people; do
     printf '%-6s %-10s %s\n' "${person%/*}" "${person#*/}" "$(cat "${person%/*}.token")"
 done
-echo "Images to submit, return and import are in $room"
-wait "$proxy" "$server"
+echo "Images to submit, return and import are in $folder"
+while is_running "$server" && is_running "$proxy"; do sleep 1; done
+fail "the desk or nginx ended: $(cat served.err nginx.err)"

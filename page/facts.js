@@ -74,7 +74,8 @@ export function componentsPart(it, now) {
     const title = 'SBAT components';
     if (it.components.length === 0) return section(title, quiet('It has none.'));
     const row = ([/** @type {string} */ name, /** @type {number} */ generation]) => {
-        const needed = now?.level.names.get(name);
+        // (of sbat itself the level has 1, in its first line)
+        const needed = name === 'sbat' ? 1 : now?.level.names.get(name);
         const low = needed !== undefined && generation < needed;
         const high = needed === undefined ? 'not in the level' : 'at the level or above';
         const remark = low ? h('strong', { class: 'bad-text' }, 'below the level: barred') : high;
@@ -84,10 +85,10 @@ export function componentsPart(it, now) {
             h('td', { 'data-label': 'Component' }, h('code', {}, name)),
             h('td', { 'data-label': 'Generation' }, grouped(generation)),
             h('td', { 'data-label': 'Level requires' }, needed === undefined ? '–' : grouped(needed)),
-            h('td', { 'data-label': 'So it is' }, now ? remark : ''),
+            h('td', { 'data-label': 'Today' }, now ? remark : ''),
         );
     };
-    const labels = ['Component', 'Generation', 'Level requires', 'So it is'];
+    const labels = ['Component', 'Generation', 'Level requires', 'Today'];
     const head = labels.map((text) => h('th', { scope: 'col' }, text));
     return section(
         title,
@@ -108,7 +109,7 @@ export function comparePart(it) {
     const { place } = fileField('Compare a file with this request', hint, (chosen) => {
         fill(said, chosen ? compared(chosen.sha256, it) : null);
     });
-    return section('Is it the file that you have?', place, said);
+    return section('Do you have this file?', place, said);
 }
 
 /** @param {string} sha256 @param {Request} it */

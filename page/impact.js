@@ -28,7 +28,8 @@ export function addsWords(impact) {
     const parts = [];
     if (digests + certificates > 0) parts.push(`adds ${named({ digests, certificates, components: 0 })} to dbx`);
     if (components > 0) parts.push(`raises ${counted(components, 'generation')} of the level`);
-    return `It ${joined(parts)}. dbx then has ${counted(impact.dbx, 'byte')}.`;
+    const dbx = digests + certificates > 0 ? `dbx then has ${counted(impact.dbx, 'byte')}.` : 'dbx stays as it is.';
+    return `It ${joined(parts)}. ${dbx}`;
 }
 
 /** What it bars, in one sentence or two. @param {Impact} impact */
@@ -77,7 +78,8 @@ export function impactPart(impact) {
                 byWords(it.by),
             ],
         });
-        table.set(impact.bars);
+        // Those that are allowed today first: they are the harm.
+        table.set([...impact.bars].sort((one, other) => Number(other.allowed) - Number(one.allowed)));
         part.append(table.place);
     }
     part.append(

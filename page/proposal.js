@@ -9,7 +9,7 @@ import { itemDoubts } from './doubts.js';
 import { harmed, impactBox, impactPart, named } from './impact.js';
 import { Command } from './keys.js';
 import { me } from './session.js';
-import { itemsPart } from './items.js';
+import { itemsPart, shortly } from './items.js';
 import { explained } from './refusals.js';
 import { changed } from './standing.js';
 import { STATES, badge } from './words.js';
@@ -105,7 +105,9 @@ function actions(it, looked, doubts, again) {
         'section',
         { class: 'act' },
         h('h2', {}, 'Your decision'),
-        own ? p('You proposed it, so another officer has to confirm it. You may drop it.') : null,
+        p(own
+            ? 'You proposed it, so another officer has to confirm it. You may drop it.'
+            : 'A Confirm puts it into force at once, for good. A Drop leaves everything as it is.'),
         buttons(own ? null : looked.kind === 'value' ? confirm : look, drop),
         said,
     );
@@ -116,6 +118,7 @@ function lastLook(it, impact, doubts) {
     return sure(
         `Confirm proposal ${it.number} for good?`,
         [
+            p(...shortly(it)),
             impactBox(impact),
             harmed(impact),
             doubts.length > 0 ? box('care', p(strong('Is that what was meant?')), doubtList(doubts)) : null,

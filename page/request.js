@@ -31,7 +31,7 @@ function whole(place, it) {
     if (me.submitter && !me.reviewer) me.name = it.submitter;
     document.title = `${it.number}: ${it.title} · Kovelamiru`;
     const again = (/** @type {any} */ said) => show(place, it.number, said);
-    const today = section('Against the lists of today');
+    const today = section('What the lists say today');
     const facts = h('div', {}, factsPart(it, null));
     const components = h('div', {}, componentsPart(it, null));
     place.append(

@@ -107,8 +107,8 @@ export function withdrawForm(it, again) {
         }
     });
     return section(
-        'Take it back',
-        p(me.name === '' ? `Only ${it.submitter} can withdraw this request.` : 'You submitted it, and can withdraw it.'),
+        'Withdraw it',
+        p(me.name === '' ? `For its submitter, ${it.submitter}, alone.` : 'You submitted it, and can withdraw it.'),
         buttons(withdraw),
         said,
     );

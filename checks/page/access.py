@@ -1,14 +1,15 @@
 """By keyboard alone, names of controls, contrast, sizes: the page's own list of checks, since no package has axe-core."""
+import json
 from typing import Dict, List
 
 from selenium.webdriver.common.action_chains import ActionChains
 from selenium.webdriver.common.keys import Keys
 
 from browser import Browser
-from place import Place, fail, unsigned, until
+from place import Place, fail, token, unsigned, until
 
 # The views of each person that are looked at.
-VIEWS = {"rita": ["requests", "requests/1", "submit", "lists", "check"], "olga": ["proposals", "proposals/1", "propose", "propose/level", "propose/certificate", "propose/import", "lists", "report"]}
+VIEWS = {"rita": ["requests", "requests/1", "requests/4", "submit", "lists", "check"], "sid": ["requests/3"], "olga": ["proposals", "proposals/1", "proposals/4", "propose", "propose/level", "propose/certificate", "propose/import", "lists", "report"]}
 ROLES = {"button", "link", "textbox", "searchbox", "combobox", "checkbox", "progressbar", "dialog", "navigation", "table"}
 
 # Each element with a text of its own whose contrast against its ground is below 4.5 (3 for a large text), and each edge of a field below 3.
@@ -65,24 +66,38 @@ def unnamed(browser: Browser) -> List[str]:
     return found
 
 
-def views(browser: Browser, place: Place) -> int:
-    """Each view in both schemes, at three widths (640 is 1280 at 200 %)."""
+def looked(browser: Browser, what: str) -> int:
+    """What is shown now, at three widths (640 is 1280 at 200 %), in both schemes: the pairs of colours."""
     pairs = 0
+    for width, scheme in ((1280, "light"), (640, "dark"), (360, "light")):
+        browser.width(width, scheme)
+        count, low = browser.script(CONTRAST)
+        wrong = browser.script(STRUCTURE) + [f"no name for a {role}" for role in unnamed(browser)] + low
+        pairs += count
+        if wrong:
+            fail(f"{what}, {width} wide, {scheme}: {wrong[:8]}")
+    browser.width(1200)
+    return pairs
+
+
+def views(browser: Browser, place: Place) -> int:
+    """Each view of each role, with an approved request, an open one, and a proposal that is doubtful."""
+    for number in (3, 4):
+        place.does("ann", "/requests", unsigned(number), Desk_Title=f"the image of request {number}")
+    for name in ("rita", "raul"):
+        place.does(name, "/requests/3/review", json.dumps({"note": "read it", "vote": "yes"}).encode())
+    facts = place.ask("otto", "GET", "/requests/3").json()
+    place.does("otto", "/imports/csv", f"kind,value,generation\nsha256,{facts['file']},\nsha256,{facts['digest']},\nsbat,grub,70000\n".encode(), Desk_Stamp="2099123100")
+    pairs = 0
+    browser.open()
+    pairs += looked(browser, "the sign-in")
     for name, shown in VIEWS.items():
-        browser.width(1280)
-        browser.sign_in(place.tokens[name])
+        browser.sign_in(token(name))
         for view in shown:
             browser.go(view)
             for detail in browser.all("summary"):
                 detail.click()
-            for width, scheme in ((1280, "light"), (640, "dark"), (360, "light")):
-                browser.width(width, scheme)
-                count, low = browser.script(CONTRAST)
-                wrong = browser.script(STRUCTURE) + [f"no name for a {role}" for role in unnamed(browser)] + low
-                pairs += count
-                if wrong:
-                    fail(f"{view} of {name}, {width} wide, {scheme}: {wrong[:8]}")
-    browser.width(1200)
+            pairs += looked(browser, f"{view} of {name}")
     complaints = browser.complaints()
     if complaints:
         fail(f"the browser complains: {complaints[:4]}")
@@ -122,7 +137,7 @@ def keyboard(browser: Browser, place: Place) -> None:
     number = place.does("ann", "/requests", unsigned(106), Desk_Title=title)["request"]
     browser.open()
     keys = Keyboard(browser)
-    keys.types(place.tokens["raul"], Keys.ENTER)
+    keys.types(token("raul"), Keys.ENTER)
     browser.one(".view h1")
     until(20, "the queue", lambda: title in browser.text())
     if keys.focused()["tag"] != "H1":

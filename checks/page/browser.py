@@ -1,5 +1,6 @@
 """A browser, driven as a person would: by what is written on the page."""
 import base64
+import shutil
 from pathlib import Path
 from typing import List, Optional
 
@@ -16,19 +17,29 @@ WORDS = (
     "--disable-extensions", "--disable-component-update", "--disable-background-networking", "--disable-sync", "--mute-audio",
 )
 
+# A file that comes by drag and drop, as the system would bring it.
+DROP = """
+const [place, name, text] = arguments;
+const files = new DataTransfer();
+files.items.add(new File([Uint8Array.from(atob(text), (one) => one.charCodeAt(0))], name));
+for (const kind of ['dragover', 'drop']) place.dispatchEvent(new DragEvent(kind, {dataTransfer: files, bubbles: true, cancelable: true}));
+"""
+
 
 class Browser:
-    def __init__(self, base: str, downloads: Path) -> None:
-        self.base = base
+    def __init__(self, downloads: Path) -> None:
+        self.base = ""
         options = webdriver.ChromeOptions()
         for word in WORDS:
             options.add_argument(word)
         options.set_capability("goog:loggingPrefs", {"browser": "ALL"})
-        self.driver = webdriver.Chrome(options=options, service=Service("/usr/bin/chromedriver"))
+        self.driver = webdriver.Chrome(options=options, service=Service(shutil.which("chromedriver")))
         self.driver.set_page_load_timeout(120)
         self.driver.set_script_timeout(120)
         self.downloads = downloads
+        downloads.mkdir()
         self.devtools("Browser.setDownloadBehavior", behavior="allow", downloadPath=str(downloads))
+        self.devtools("Browser.grantPermissions", permissions=["clipboardReadWrite", "clipboardSanitizedWrite"])
 
     def quit(self) -> None:
         self.driver.quit()
@@ -104,7 +115,20 @@ class Browser:
     def choose(self, label: str, path: Path) -> None:
         """Chooses a file, and waits until its SHA-256 is there."""
         self.field(label).send_keys(str(path))
+        self.has_sum(path)
+
+    def drop(self, label: str, path: Path) -> None:
+        """Drops a file into the frame around the field with this label, and waits until its SHA-256 is there."""
+        place = self.script("return arguments[0].closest('.drop')", self.field(label))
+        self.script(DROP, place, path.name, base64.b64encode(path.read_bytes()).decode())
+        self.has_sum(path)
+
+    def has_sum(self, path: Path) -> None:
         until(30, f"the SHA-256 of {path}", lambda: "SHA-256" in self.script("return [...document.querySelectorAll('.file-told')].map(it => it.innerText).join(' ')"))
+
+    def module(self, name: str, text: str) -> object:
+        """What an expression over a module of the page gives, in the page."""
+        return self.driver.execute_async_script(f"const done = arguments[0]; import('/page/{name}').then((it) => {text}).then(done, (fault) => done(String(fault)));")
 
     def shot(self, path: Path, width: int, most: int = 2400, scale: float = 1) -> None:
         """A picture of the page from its top, at most so high."""

@@ -1,12 +1,13 @@
-"""A day at the desk through the page alone, and the same day without it: both have to leave the same minutes."""
+"""A day at the desk through the page alone, and the same day by curl: both have to leave the same minutes."""
 import hashlib
 import json
 import time
 from pathlib import Path
 from typing import Dict
 
+from access import looked
 from browser import Browser
-from place import CERTIFICATE, ROOT, Place, fail, image, unsigned, until, without_keys
+from place import CERTIFICATE, ROOT, Place, fail, image, token, unsigned, until, without_keys
 
 DIGEST = "ba7816bf8f01cfea414140de5dae2223b00361a396177a9cb410ff61f20015ad"
 STAMP = time.strftime("%Y%m%d", time.gmtime())
@@ -24,11 +25,11 @@ def files(room: Path) -> Dict[str, Path]:
     return {name: room / name for name in found}
 
 
-def submits(browser: Browser, place: Place, title: str, path: Path, number: int) -> None:
-    browser.sign_in(place.tokens["ann"])
+def submits(browser: Browser, title: str, path: Path, number: int, dropped: bool = False) -> None:
+    browser.sign_in(token("ann"))
     browser.go("submit")
     browser.fill("Title", title)
-    browser.choose("EFI image", path)
+    (browser.drop if dropped else browser.choose)("EFI image", path)
     browser.press("Submit")
     browser.sees(f"This is request {number}.")
     browser.sees("It arrived whole.")
@@ -37,11 +38,11 @@ def submits(browser: Browser, place: Place, title: str, path: Path, number: int)
         fail(f"the SHA-256 here and at the desk: {sums}")
 
 
-def requests_by_page(browser: Browser, place: Place, at_hand: Dict[str, Path]) -> None:
+def requests_by_page(browser: Browser, at_hand: Dict[str, Path]) -> None:
     """A request is submitted, reviewed twice, and returned signed."""
-    submits(browser, place, TITLE, at_hand["image.efi"], 1)
+    submits(browser, TITLE, at_hand["image.efi"], 1)
     for name, note, state in (("rita", "read it", "Open"), ("raul", "", "Approved")):
-        browser.sign_in(place.tokens[name])
+        browser.sign_in(token(name))
         browser.press(TITLE, "a")
         browser.choose("Compare a file with this request", at_hand["image.efi"])
         browser.sees("This is the file that was submitted.")
@@ -49,18 +50,19 @@ def requests_by_page(browser: Browser, place: Place, at_hand: Dict[str, Path]) -
         browser.press("Vote yes")
         browser.sees("Your vote of yes is in.")
         browser.sees(state)
-    browser.sign_in(place.tokens["sid"])
+    copies(browser, hashlib.sha256(unsigned(1)).hexdigest())
+    browser.sign_in(token("sid"))
     browser.press(TITLE, "a")
     browser.choose("Signed file", at_hand["signed.efi"])
     browser.press("Return it")
     browser.sees("Refused: NotListed (29).")
-    browser.sign_in(place.tokens["olga"])
+    browser.sign_in(token("olga"))
     browser.go("lists")
     browser.press("List a certificate or a digest", "summary")
     browser.choose("Certificate", at_hand["certificate.der"])
     browser.press("List this certificate")
     browser.sees("It is in db now.")
-    browser.sign_in(place.tokens["sid"])
+    browser.sign_in(token("sid"))
     browser.press(TITLE, "a")
     browser.choose("Signed file", at_hand["signed.efi"])
     browser.press("Return it")
@@ -68,42 +70,51 @@ def requests_by_page(browser: Browser, place: Place, at_hand: Dict[str, Path]) -
     browser.sees("It arrived whole.")
 
 
-def confirms(browser: Browser, place: Place, number: int, told: str, impact: str) -> None:
+def copies(browser: Browser, digest: str) -> None:
+    """One click copies a digest."""
+    browser.one("[aria-label='Copy the SHA-256 of the file']").click()
+    browser.sees("Copied")
+    found = browser.driver.execute_async_script("const done = arguments[0]; navigator.clipboard.readText().then(done, (fault) => done(String(fault)));")
+    if found != digest:
+        fail(f"a click copies {found} in place of {digest}")
+
+
+def confirms(browser: Browser, number: int, told: str, impact: str) -> None:
     """otto looks at a proposal, is asked once more, and confirms it."""
-    browser.sign_in(place.tokens["otto"])
+    browser.sign_in(token("otto"))
     browser.go(f"proposals/{number}")
-    shows = place.has(f"/proposals/{number}/impact")
-    browser.sees(impact if shows else "doesn’t say which images a Confirm bars")
+    browser.sees(impact)
     browser.press("Confirm…")
     browser.sees(f"Confirm proposal {number} for good?")
     browser.sees("nothing takes it back")
-    if shows:
-        browser.sees(impact)
+    if impact not in browser.one("dialog").text:
+        fail(f"the last question before a Confirm doesn’t say {impact}")
+    looked(browser, f"the question before the Confirm of {number}")
     browser.press("Leave it open")
     browser.press("Confirm…")
     browser.press("Confirm for good")
     browser.sees(told)
 
 
-def revocations_by_page(browser: Browser, place: Place, at_hand: Dict[str, Path]) -> None:
+def revocations_by_page(browser: Browser, at_hand: Dict[str, Path]) -> None:
     """A digest and an import are confirmed, a generation is dropped."""
-    browser.sign_in(place.tokens["olga"])
+    browser.sign_in(token("olga"))
     browser.go("propose")
     browser.fill("Digests, one a line", DIGEST.upper())
     browser.press("Propose")
     browser.sees("This is proposal 1.")
     browser.go("proposals/1")
     browser.sees("You proposed it")
-    confirms(browser, place, 1, "New in force: 1 digest.", "It bars no image that is allowed today.")
-    browser.sign_in(place.tokens["olga"])
+    confirms(browser, 1, "New in force: 1 digest.", "It bars no image that is allowed today.")
+    browser.sign_in(token("olga"))
     browser.go("propose/import")
     browser.choose("File", at_hand["revocations.csv"])
     browser.sees("grub from none to 4.")
     browser.fill("Stamp", STAMP + "05")
     browser.press("Propose this import")
     browser.sees("This is proposal 2.")
-    confirms(browser, place, 2, "New in force: 1 digest and 1 generation.", "It bars 1 image that is allowed today.")
-    browser.sign_in(place.tokens["olga"])
+    confirms(browser, 2, "New in force: 1 digest and 1 generation.", "It bars 1 image that is allowed today.")
+    browser.sign_in(token("olga"))
     browser.go("propose/level")
     browser.fill("Component", "shim")
     browser.fill("Generation", "2")
@@ -112,7 +123,7 @@ def revocations_by_page(browser: Browser, place: Place, at_hand: Dict[str, Path]
     browser.sees("Is it spelt right?")
     browser.press("Propose it all the same")
     browser.sees("This is proposal 3.")
-    browser.sign_in(place.tokens["otto"])
+    browser.sign_in(token("otto"))
     browser.go("proposals/3")
     browser.press("Drop…")
     browser.press("Drop it")
@@ -121,7 +132,7 @@ def revocations_by_page(browser: Browser, place: Place, at_hand: Dict[str, Path]
 
 def rest_by_page(browser: Browser, place: Place, at_hand: Dict[str, Path]) -> None:
     """A digest is listed and taken off; a request is withdrawn; a verdict; the report."""
-    browser.sign_in(place.tokens["olga"])
+    browser.sign_in(token("olga"))
     browser.go("lists")
     browser.press("List a certificate or a digest", "summary")
     browser.fill("Digest of an image", "d" * 64)
@@ -130,7 +141,7 @@ def rest_by_page(browser: Browser, place: Place, at_hand: Dict[str, Path]) -> No
     browser.one(f"[aria-label='Unlist digest {'d' * 12}']").click()
     browser.press("Unlist it")
     browser.sees("Unlisted.")
-    submits(browser, place, "another one", at_hand["other.efi"], 2)
+    submits(browser, "another one", at_hand["other.efi"], 2, dropped=True)
     browser.go("requests/2")
     browser.press("Withdraw…")
     browser.press("Withdraw it")
@@ -139,15 +150,19 @@ def rest_by_page(browser: Browser, place: Place, at_hand: Dict[str, Path]) -> No
     browser.choose("EFI image", at_hand["signed.efi"])
     browser.press("Check it")
     browser.sees("Refused: grub 3, where the level requires 4.")
-    browser.sign_in(place.tokens["olga"])
+    # The request's own view says what the lists say of it now.
+    browser.go("requests/1")
+    browser.sees("Barred today: grub 3, where the level requires 4.")
+    browser.sees("below the level: barred")
+    browser.sees("neither listed nor revoked")
+    browser.sign_in(token("olga"))
     browser.go("lists")
     for path, name, button in (("/dbx", "dbx.esl", "Download dbx"), ("/db", "db.esl", "Download db ("), ("/level", "level.csv", "Download the level")):
         downloads(browser, button, name, place.ask("olga", "GET", path).body)
     browser.go("report")
     browser.sees("revoked digests")
-    if place.has("/minutes/1"):
-        downloads(browser, "Download the minutes", "minutes.txt", place.ask("olga", "GET", "/minutes/1").body)
-    browser.sees("otto" if place.has("/people") else "doesn’t show its people")
+    browser.sees("otto")
+    downloads(browser, "Download the minutes", "minutes.txt", place.program.minutes(place.program.copied(place.path, "by-page/now.db")))
 
 
 def downloads(browser: Browser, button: str, name: str, wanted: bytes) -> None:
@@ -157,32 +172,31 @@ def downloads(browser: Browser, button: str, name: str, wanted: bytes) -> None:
     until(20, f"{name} is there", lambda: path.exists() and path.read_bytes() == wanted)
 
 
-def without_page(place: Place) -> None:
-    """The same day, each command by itself."""
-    place.does("ann", "/requests", unsigned(1), Desk_Title=TITLE)
+def by_curl(place: Place) -> None:
+    """The same day, each command by curl."""
+    place.curl("ann", "/requests", unsigned(1), Desk_Title=TITLE)
     for name, note in (("rita", "read it"), ("raul", "")):
-        place.does(name, "/requests/1/review", json.dumps({"note": note, "vote": "yes"}).encode())
-    place.does("olga", "/db/certificates", CERTIFICATE)
-    place.does("sid", "/requests/1/return", image(1))
-    place.does("olga", "/dbx/digests", json.dumps({"digest": DIGEST}).encode())
-    place.does("otto", "/proposals/1/confirm", b"")
-    place.does("olga", "/imports/csv", CSV.encode(), Desk_Stamp=STAMP + "05")
-    place.does("otto", "/proposals/2/confirm", b"")
-    place.does("olga", "/level", json.dumps({"component": "shim", "generation": 2, "stamp": int(STAMP + "06")}).encode())
-    place.does("otto", "/proposals/3/drop", b"")
-    place.does("olga", "/db/digests", json.dumps({"digest": "d" * 64}).encode())
-    place.does("olga", "/db/unlist", json.dumps({"digest": "d" * 64, "kind": "digest"}).encode())
-    place.does("ann", "/requests", TINY, Desk_Title="another one")
-    place.does("ann", "/requests/2/withdraw", b"")
+        place.curl(name, "/requests/1/review", json.dumps({"note": note, "vote": "yes"}).encode())
+    place.curl("olga", "/db/certificates", CERTIFICATE)
+    place.curl("sid", "/requests/1/return", image(1))
+    place.curl("olga", "/dbx/digests", json.dumps({"digest": DIGEST}).encode())
+    place.curl("otto", "/proposals/1/confirm", b"")
+    place.curl("olga", "/imports/csv", CSV.encode(), Desk_Stamp=STAMP + "05")
+    place.curl("otto", "/proposals/2/confirm", b"")
+    place.curl("olga", "/level", json.dumps({"component": "shim", "generation": 2, "stamp": int(STAMP + "06")}).encode())
+    place.curl("otto", "/proposals/3/drop", b"")
+    place.curl("olga", "/db/digests", json.dumps({"digest": "d" * 64}).encode())
+    place.curl("olga", "/db/unlist", json.dumps({"digest": "d" * 64, "kind": "digest"}).encode())
+    place.curl("ann", "/requests", TINY, Desk_Title="another one")
+    place.curl("ann", "/requests/2/withdraw", b"")
 
 
 def same_minutes(by_page: Place, by_hand: Place) -> int:
-    """Stops both desks; the minutes are the same but for the keys, and each key of the page is its own."""
+    """The minutes are the same but for the keys, and each key of the page is its own: 128 bits in hexadecimal digits."""
     rows = by_page.minutes()
     one, other = without_keys(rows), without_keys(by_hand.minutes())
     for made, wanted in zip(one, other):
-        # The people's tokens differ between the two desks.
-        if made != wanted and not made[2].startswith("add-person "):
+        if made != wanted:
             fail(f"the minutes by the page have {made}, those without it {wanted}")
     if len(one) != len(other):
         fail(f"{len(one)} commands by the page, {len(other)} without it")

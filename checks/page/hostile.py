@@ -2,18 +2,18 @@
 import hashlib
 import http.server
 import json
+import re
 import signal
 import threading
-from pathlib import Path
 
 from browser import Browser
-from place import CERTIFICATE, Place, fail, sockets, unsigned, until
+from place import CERTIFICATE, Place, connections, fail, token, unsigned, until
 
 MARKUP = "<img src=x onerror=\"document.title='taken'\"><b>bold</b>"
 LONG = "W" * 120
 
 OTHER = """<!DOCTYPE html><title>other</title><iframe id="frame" src="BASE/"></iframe>
-<form id="form" method="post" action="BASE/proposals/1/confirm" target="sink" enctype="text/plain"></form><iframe name="sink"></iframe>
+<form id="form" method="post" action="BASE/requests/1/withdraw" target="sink" enctype="text/plain"></form><iframe name="sink"></iframe>
 <script>
 window.found = [];
 const say = (what) => window.found.push(what);
@@ -27,12 +27,13 @@ document.getElementById('form').submit();
 def markup(browser: Browser, place: Place) -> None:
     """A title is shown as it is, whatever it looks like."""
     place.does("ann", "/requests", unsigned(101), Desk_Title=MARKUP)
+    place.does("raul", "/requests/1/review", json.dumps({"note": MARKUP, "vote": "yes"}).encode())
     number = place.does("ann", "/requests", unsigned(102), Desk_Title=LONG)["request"]
-    for view in ("requests", f"requests/{int(str(number)) - 1}"):
-        browser.sign_in(place.tokens["rita"])
+    browser.sign_in(token("rita"))
+    for view, count in (("requests", 1), ("requests/1", 2)):
         browser.go(view)
         browser.sees(MARKUP)
-        if browser.all("main img") or browser.all("main b") or browser.driver.title == "taken":
+        if browser.text().count(MARKUP) != count or browser.all("main img") or browser.all("main b") or browser.driver.title == "taken":
             fail(f"the title was taken for markup at {view}")
     browser.width(360)
     for view in ("requests", f"requests/{number}"):
@@ -43,26 +44,26 @@ def markup(browser: Browser, place: Place) -> None:
     browser.width(1200)
 
 
-def strangers(browser: Browser, place: Place) -> None:
+def strangers(browser: Browser) -> None:
     """A wrong token is refused in words; nothing is stored, and a reload forgets the right one."""
     browser.open()
-    for token, told in (("short", "at least 16 characters"), ("a-token-of-nobody-at-all", "Nobody has that name or token.")):
-        browser.fill("Your token", token)
+    for typed, told in (("short", "at least 16 characters"), ("a-token-of-nobody-at-all", "Nobody has that name or token.")):
+        browser.fill("Your token", typed)
         browser.press("Sign in")
         browser.sees(told)
-    browser.sign_in(place.tokens["ann"])
+    browser.sign_in(token("ann"))
     kept = browser.script("return [localStorage.length, sessionStorage.length, document.cookie, location.href]")
     if kept != [0, 0, "", f"{browser.base}/"]:
         fail(f"the page keeps {kept}")
-    if browser.script("return document.documentElement.outerHTML.includes(arguments[0])", place.tokens["ann"]):
+    if browser.script("return document.documentElement.outerHTML.includes(arguments[0])", token("ann")):
         fail("the token stands in the page")
     browser.driver.refresh()
     browser.one("#token")
 
 
 def another_origin(browser: Browser, place: Place) -> None:
-    """A page of another origin reads nothing, does nothing, and shows the page in no frame."""
-    text = OTHER.replace("BASE", place.base).replace("TOKEN", place.tokens["ann"])
+    """A page of another origin reads nothing, withdraws no request by a form or by a script, and shows the page in no frame."""
+    text = OTHER.replace("BASE", place.base).replace("TOKEN", token("ann"))
 
     class Handler(http.server.BaseHTTPRequestHandler):
         def do_GET(self) -> None:
@@ -76,7 +77,7 @@ def another_origin(browser: Browser, place: Place) -> None:
 
     server = http.server.ThreadingHTTPServer(("127.0.0.1", 0), Handler)
     threading.Thread(target=server.serve_forever, daemon=True).start()
-    before = place.ask("olga", "GET", "/report").body
+    before, at = place.ask("olga", "GET", "/report").body, len(place.log)
     browser.driver.get(f"http://127.0.0.1:{server.server_port}/")
     found = until(20, "the other origin's page", lambda: len(browser.script("return window.found")) == 3 and browser.script("return window.found"))
     if sorted(found) != ["no act", "no level", "no-cors"]:
@@ -85,49 +86,76 @@ def another_origin(browser: Browser, place: Place) -> None:
     if browser.all("#token"):
         fail("another origin shows the page in a frame")
     browser.driver.switch_to.default_content()
+    until(20, "the other origin's form", lambda: '"POST /requests/1/withdraw HTTP/1.1" 401' in place.log, lambda: place.log)
+    if re.search(r'"(GET|POST) /(level|requests/1/withdraw) HTTP/1.1" 200', place.log[at:]):
+        fail(f"a page of another origin was answered: {place.log[at:]}")
     if place.ask("olga", "GET", "/report").body != before:
         fail("a page of another origin changed the desk")
     browser.complaints()
     server.shutdown()
+    server.server_close()
+
+
+def loses_answer(browser: Browser, place: Place) -> None:
+    """Votes yes, and stops the proxy while the desk has the vote; the desk takes it, and nobody hears of it."""
+    assert place.desk
+    place.desk.process.send_signal(signal.SIGSTOP)
+    browser.press("Vote yes")
+    until(20, "the vote is at the desk", lambda: any(int(row[4].split(":")[1], 16) > 0 for row in connections(place.desk.port)))
+    place.stop_proxy()
+    place.desk.process.send_signal(signal.SIGCONT)
 
 
 def lost(browser: Browser, place: Place) -> None:
-    """The proxy is stopped while the desk has the vote: the page asks again by itself, and it acts once."""
-    number = place.does("ann", "/requests", unsigned(103), Desk_Title="to be voted on")["request"]
-    browser.sign_in(place.tokens["rita"])
+    """Answers are lost: the page asks again by itself, by a button, and, if it was given up, at the next vote; each acts once."""
+    number, other = (place.does("ann", "/requests", unsigned(one), Desk_Title="to be voted on")["request"] for one in (103, 107))
+    browser.sign_in(token("rita"))
     browser.go(f"requests/{number}")
-    assert place.desk
-    place.desk.send_signal(signal.SIGSTOP)
-    browser.press("Vote yes")
-    until(20, "the vote is at the desk", lambda: any(int(row[4].split(":")[1], 16) > 0 for row in sockets(place.desk_port) if row[3] != "0A"))
-    place.stop_proxy()
-    place.desk.send_signal(signal.SIGCONT)
+    loses_answer(browser, place)
     browser.sees("Asking again with the same key")
     place.start_proxy()
     browser.sees("Your vote of yes is in.")
-    # Now for so long that the page gives up asking by itself, and the person goes elsewhere.
-    browser.sign_in(place.tokens["raul"])
+    # Now for so long that the page stops asking by itself; the person goes elsewhere, and asks by the button.
+    browser.sign_in(token("raul"))
     browser.go(f"requests/{number}")
-    place.stop_proxy()
-    browser.press("Vote yes")
+    loses_answer(browser, place)
     browser.sees("no answer.", 30)
+    browser.sees("The connection was lost.")
     browser.script("location.hash = '#/check'")
     browser.sees("Check an image")
     browser.sees(f"Vote yes on request {number}: no answer.")
+    # Without the desk the proxy answers, but not with the desk's answer.
+    place.stop()
+    place.start_proxy()
+    browser.press("Ask again")
+    browser.sees("The proxy couldn’t reach the desk (502)")
+    browser.sees(f"Vote yes on request {number}: no answer.", 30)
+    place.serve()
+    place.stop_proxy()
     place.start_proxy()
     browser.press("Ask again")
     browser.sees(f"Vote yes on request {number}: done.")
-    shown = place.ask("rita", "GET", f"/requests/{number}").json()
-    if shown["state"] != "approved" or [vote["reviewer"] for vote in shown["votes"]] != ["raul", "rita"]:
-        fail(f"after lost answers: {shown}")
+    # Given up, and made again.
+    browser.go(f"requests/{other}")
+    loses_answer(browser, place)
+    browser.sees("no answer.", 30)
+    browser.press("Give up")
+    browser.sees("it has the same key, so it acts once")
+    place.start_proxy()
+    browser.press("Vote yes")
+    browser.sees("Your vote of yes is in.")
+    for at, wanted in ((number, ["raul", "rita"]), (other, ["raul"])):
+        votes = [vote["reviewer"] for vote in place.ask("rita", "GET", f"/requests/{at}").json()["votes"]]
+        if votes != wanted:
+            fail(f"after lost answers request {at} has the votes of {votes}")
 
 
-def stopped(browser: Browser, place: Place, room: Path) -> None:
+def stopped(browser: Browser, place: Place) -> None:
     """An upload shows how far it is, and can be stopped."""
     before = place.ask("ann", "GET", "/requests").body
-    large = room / "large.efi"
+    large = place.room / "large.efi"
     large.write_bytes(unsigned(104) + bytes(3_000_000))
-    browser.sign_in(place.tokens["ann"])
+    browser.sign_in(token("ann"))
     browser.go("submit")
     browser.fill("Title", "too large for this line")
     browser.choose("EFI image", large)
@@ -150,7 +178,7 @@ def slips(browser: Browser, place: Place) -> None:
     fingerprint = hashlib.sha256(CERTIFICATE).hexdigest()
     tbs = hashlib.sha256(CERTIFICATE[2:]).hexdigest()
     before = place.ask("olga", "GET", "/proposals").body
-    browser.sign_in(place.tokens["olga"])
+    browser.sign_in(token("olga"))
     browser.go("propose")
     for given, told, meant in ((facts["file"], "the SHA-256 of the whole file", [facts["digest"], facts["signing"]]), (tbs, "names a certificate", []), (facts["digest"], "has two digests", [facts["signing"]])):
         browser.fill("Digests, one a line", given)

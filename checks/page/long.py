@@ -3,7 +3,7 @@ import socket
 from concurrent.futures import ThreadPoolExecutor
 
 from browser import Browser
-from place import Place, fail, unsigned
+from place import Place, fail, token, unsigned
 
 COUNT = 10000
 
@@ -20,8 +20,8 @@ def submits(place: Place, first: int, after: int) -> None:
     """Requests straight to the desk, one connection each."""
     for number in range(first, after):
         body = unsigned(number)
-        head = f"POST /requests HTTP/1.1\r\nDesk-Token: {place.tokens['ann']}\r\nDesk-Key: long-{number}\r\nDesk-Title: package {number}\r\nContent-Length: {len(body)}\r\n\r\n"
-        with socket.create_connection(("127.0.0.1", place.desk_port), timeout=120) as peer:
+        head = f"POST /requests HTTP/1.1\r\nDesk-Token: {token('ann')}\r\nDesk-Key: long-{number}\r\nDesk-Title: package {number}\r\nContent-Length: {len(body)}\r\n\r\n"
+        with socket.create_connection(("127.0.0.1", place.desk.port), timeout=120) as peer:
             peer.sendall(head.encode() + body)
             answer = b""
             while piece := peer.recv(65536):
@@ -38,7 +38,7 @@ def fills(place: Place) -> None:
 
 
 def queue(browser: Browser, place: Place) -> str:
-    browser.sign_in(place.tokens["olga"])
+    browser.sign_in(token("olga"))
     browser.go("check")
     browser.script(WATCH)
     browser.go("requests")

@@ -1,0 +1,76 @@
+"""What the page makes of odd files and odd answers, asked of its modules in the browser: each is refused in words, and nothing throws."""
+import base64
+import json
+import struct
+
+from browser import Browser
+from place import CERTIFICATE, Place, fail, token
+
+SHA256_KIND = bytes.fromhex("2616c4c14c509240aca941f936934328")
+X509_KIND = bytes.fromhex("a159c0a5e494a74a87b5ab155c2bf072")
+OTHER_KIND = bytes.fromhex("33221100554477668899aabbccddeeff")
+
+
+def signature_list(kind: bytes, *bodies: bytes) -> bytes:
+    each = 16 + len(bodies[0])
+    return kind + struct.pack("<III", 28 + each * len(bodies), 0, each) + b"".join(bytes(16) + it for it in bodies)
+
+
+LISTS = signature_list(SHA256_KIND, b"\xaa" * 32, b"\xbb" * 32) + signature_list(X509_KIND, CERTIFICATE) + signature_list(OTHER_KIND, b"\x01\x02")
+# EFI_VARIABLE_AUTHENTICATION_2: 16 bytes of a time, then a WIN_CERTIFICATE of 24 bytes and 8 more.
+HEADER = struct.pack("<HBB", 2026, 11, 27) + bytes(12) + struct.pack("<IHH", 32, 0x0200, 0x0EF1) + bytes.fromhex("9dd2af4adf68ee498aa9347d375665a7") + bytes(8)
+CSV = "kind,value,generation\n"
+
+# A file; what a look at it says, which is a fault or a line; and whether it can be imported.
+LOOKS = [
+    (LISTS, "2 different digests, 2 of them new.", True),
+    (LISTS, "Skipped: 1 entry of type 00112233-4455-6677-8899-aabbccddeeff.", True),
+    (HEADER + LISTS, "The first 48 bytes are left out: the header of an authenticated variable, of 2026-11-27", True),
+    (b"\x27\0\0\0" + LISTS, "The first 4 bytes are left out: the four attribute bytes", True),
+    (LISTS[:-1], "There is no signature list at byte 175", False),
+    (signature_list(OTHER_KIND, b"\x01\x02"), "It names nothing that the desk takes.", False),
+    (b"", "It names nothing that the desk takes.", False),
+    (b"a text of another kind", "There is no signature list at byte 0", False),
+    ((CSV + f"sha256,{'a' * 64},\n").encode(), "1 different digest, 1 of them new.", True),
+    ((CSV + f'"sha256","{"a" * 64}",""\r\n').encode(), "1 different digest, 1 of them new.", True),
+    (b"\xef\xbb\xbf" + (CSV + "sbat,grub,5\n").encode(), "grub from none to 5.", True),
+    ((CSV + "sha256\n").encode(), "Record 1 isn’t", False),
+    ((CSV + f"sha256,{'a' * 64},\nmd5,00,\n").encode(), "Record 2 isn’t", False),
+    (CSV.encode(), "It names nothing that the desk takes.", False),
+    ((CSV + "".join(f"sha256,{number:064x},\n" for number in range(10_001))).encode(), "and the desk takes 10,000 at once", False),
+    (b"sbat,1,2026112700\ngrub,4\ngrub,3\n\0\0", "grub from none to 4.", True),
+    (b"sbat,\n", "Its first line isn’t sbat,1,STAMP.", False),
+]
+LOOK = """
+import('/page/asking.js').then((asking) => asking.known()).then(async (known) => {
+    const bytes = Uint8Array.from(atob(GIVEN), (one) => one.charCodeAt(0));
+    const found = await it.look(bytes, known);
+    return {said: [found.fault, ...found.lines], imports: found.fault === '', begins: [...found.body.subarray(0, 4)], length: found.body.length};
+})
+"""
+# What the page says of an answer of the proxy, by its status.
+STATUSES = {0: "The connection was lost.", 429: "Too many requests", 502: "couldn’t reach the desk (502)", 503: "no memory", 504: "in time (504)", 500: "The proxy failed (500)."}
+
+
+def odd(browser: Browser, place: Place) -> int:
+    browser.sign_in(token("olga"))
+    for given, told, imports in LOOKS:
+        found = browser.module("imports.js", LOOK.replace("GIVEN", json.dumps(base64.b64encode(given).decode())))
+        if not isinstance(found, dict) or not any(told in line for line in found["said"]) or found["imports"] != imports:
+            fail(f"a look at {given[:60]!r}: {found} in place of {told}")
+        # What is left out before the lists isn't sent.
+        if imports and bytes(found["begins"]) != given[len(given) - found["length"] :][:4]:
+            fail(f"of {given[:60]!r} {found['length']} bytes would be sent")
+    cut = browser.module("siglist.js", f"""(() => {{
+        const bytes = Uint8Array.from(atob({json.dumps(base64.b64encode(LISTS).decode())}), (one) => one.charCodeAt(0));
+        const whole = [];
+        for (let length = 0; length <= bytes.length; length += 1) if ('entries' in it.entriesOf(bytes.subarray(0, length))) whole.push(length);
+        return whole;
+    }})()""")
+    if cut != [0, 28 + 96, 28 + 96 + 28 + 16 + len(CERTIFICATE), len(LISTS)]:
+        fail(f"signature lists are whole when cut at {cut}")
+    for status, told in STATUSES.items():
+        found = browser.module("act.js", f"it.lostWords({status})")
+        if told not in str(found):
+            fail(f"the words for {status}: {found}")
+    return len(LOOKS) + len(LISTS) + len(STATUSES)
