@@ -94,7 +94,7 @@ export function componentsPart(it, now) {
         title,
         h(
             'table',
-            { class: 'short' },
+            { class: 'short wide' },
             h('caption', {}, 'Of its section .sbat'),
             h('thead', {}, h('tr', {}, head)),
             h('tbody', {}, it.components.map(row)),

@@ -109,5 +109,8 @@ export function harmed(impact) {
             ` (${it.file === 'returned' ? 'the signed file' : 'as submitted'}), by ${byWords(it.by)}.`,
         ),
     );
-    return h('ul', {}, rows, some.length > 8 ? h('li', {}, `and ${grouped(some.length - 8)} more`) : null);
+    return [
+        p('Allowed today, and barred then:'),
+        h('ul', {}, rows, some.length > 8 ? h('li', {}, `and ${grouped(some.length - 8)} more`) : null),
+    ];
 }

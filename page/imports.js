@@ -56,13 +56,12 @@ function named(found, it, count, known) {
     ];
     const higher = [...it.components].filter(([name, generation]) => generation > (level.names.get(name) ?? 0));
     found.raises = higher.length > 0;
-    if (it.digests.size > 0) found.lines.push(`${counted(it.digests.size, 'different digest')}, ${grouped(fresh[0])} of them new.`);
-    if (it.certificates.size > 0) {
-        found.lines.push(`${counted(it.certificates.size, 'different certificate')}, ${grouped(fresh[1])} of them new.`);
-    }
-    if (it.components.size > 0) {
-        found.lines.push(`${counted(it.components.size, 'generation')}, ${grouped(higher.length)} of them above the present level.`);
-    }
+    const tell = (/** @type {string} */ name, /** @type {number} */ all, /** @type {number} */ some, /** @type {string} */ what) => {
+        if (all > 0) found.lines.push(`${counted(all, name)}, ${part(all, some)} ${what}.`);
+    };
+    tell('digest', it.digests.size, fresh[0], 'new');
+    tell('certificate', it.certificates.size, fresh[1], 'new');
+    tell('generation', it.components.size, higher.length, 'above the present level');
     for (const [name, generation] of higher.slice(0, 20)) {
         found.lines.push(`${name} from ${level.names.get(name) ?? 'none'} to ${generation}.`);
     }
@@ -77,6 +76,13 @@ function named(found, it, count, known) {
     else if (count > MOST) found.fault = `It has ${counted(count, 'entry', 'entries')}, and the desk takes 10,000 at once. ${parts}`;
     else if (found.body.length > MOST_BYTES) found.fault = `It has more than the 4 MiB that the desk takes. ${parts}`;
     return found;
+}
+
+/** How many of all. @param {number} all @param {number} some */
+function part(all, some) {
+    if (all === 1) return some === 1 ? 'which is' : 'which isn’t';
+    if (some === 0) return 'none of them';
+    return some === all ? 'all of them' : `${grouped(some)} of them`;
 }
 
 /** A file as text, a byte a character. @param {Uint8Array} bytes */

@@ -3,16 +3,14 @@
 
 import { get } from './api.js';
 import { act, anew, read, refusalBox } from './act.js';
-import { known, settled } from './asking.js';
-import { answers, box, button, buttons, field, fill, h, heading, p, quiet, section, strong, sure } from './dom.js';
-import { certificateFile } from './certificate.js';
-import { digestDoubts } from './doubts.js';
+import { answers, box, button, buttons, fill, h, heading, p, quiet, section, strong, sure } from './dom.js';
 import { download } from './files.js';
-import { Command, jsonCommand } from './keys.js';
+import { jsonCommand } from './keys.js';
+import { listing } from './listing.js';
 import { me } from './session.js';
 import { changed, standing } from './standing.js';
 import { paged } from './table.js';
-import { counted, digest, digestTyped, grouped, joined } from './words.js';
+import { counted, digest, grouped, joined } from './words.js';
 
 /** @typedef {import('./standing.js').Standing} Standing */
 
@@ -85,7 +83,7 @@ function allowed(place, now) {
     const certificates = paged({
         caption: 'Listed certificates',
         head: ['Subject', 'SHA-256 of TBSCertificate', ''],
-        kind: 'short',
+        kind: 'short wide',
         empty: 'No certificate is listed.',
         row: (/** @type {import('./standing.js').Listed} */ it) => [
             it.subject || 'no common name',
@@ -97,7 +95,7 @@ function allowed(place, now) {
     const digests = paged({
         caption: 'Listed digests',
         head: ['Digest', ''],
-        kind: 'short',
+        kind: 'short wide',
         empty: 'No digest is listed.',
         row: (/** @type {string} */ it) => [digest(it, 'the digest'), off('digest', it, `digest ${it.slice(0, 12)}`)],
     });
@@ -110,49 +108,9 @@ function allowed(place, now) {
         ),
         certificates.place,
         digests.place,
-        me.officer ? listing(place) : null,
+        me.officer ? listing((said) => show(place, said)) : null,
         said,
     );
-}
-
-/** @param {HTMLElement} place */
-function listing(place) {
-    const said = answers();
-    const done = (/** @type {any} */ reply) => {
-        changed();
-        if (reply) show(place, h('div', { role: 'status' }, box('good', strong('Listed.'), ' It is in db now.')));
-    };
-    /** @type {Uint8Array | null} */
-    let der = null;
-    const file = certificateFile('Certificate', (_tbs, bytes) => (der = bytes));
-    const fault = h('p', { class: 'fault', role: 'status' });
-    const certificate = h('button', { type: 'submit', class: 'main' }, 'List this certificate');
-    const input = h('input', { type: 'text', class: 'mono', autocomplete: 'off', spellcheck: 'false' });
-    const image = h('button', { type: 'submit', class: 'main' }, 'List this digest');
-    return h('details', {}, h('summary', {}, 'List a certificate or a digest'),
-        h('form', { class: 'act', novalidate: true, onsubmit: async (/** @type {Event} */ event) => {
-            event.preventDefault();
-            fault.textContent = der ? '' : 'Choose a certificate’s file.';
-            if (!der) return file.input.focus();
-            return done(
-                await act(new Command('List a certificate', '/db/certificates', der), said, { off: [certificate] }),
-            );
-        } }, file.place, file.told, buttons(certificate)),
-        h('form', { class: 'act', novalidate: true, onsubmit: async (/** @type {Event} */ event) => {
-            event.preventDefault();
-            const hex = digestTyped(input.value);
-            fault.textContent = hex ? '' : 'A digest is 64 hexadecimal digits.';
-            if (!hex) return input.focus();
-            const all = await known();
-            if ('kind' in all) return fill(said, refusalBox(all));
-            // (that it has two digests matters to a revocation alone)
-            const doubts = digestDoubts(hex, all).filter((it) => it.idle || !it.use);
-            if (await settled(doubts, 'List it all the same')) done(
-                await act(jsonCommand('List a digest', '/db/digests', { digest: hex }), said, { off: [image] }),
-            );
-            return undefined;
-        } }, field('Digest of an image', input, 'Its Authenticode digest, as a request has it.'), buttons(image)),
-        fault, said);
 }
 
 /** @param {Standing} now */
@@ -165,7 +123,7 @@ function revoked(now) {
     const table = paged({
         caption: 'Revoked',
         head: ['Kind', 'SHA-256'],
-        kind: 'short',
+        kind: 'short wide',
         empty: 'Nothing is revoked.',
         row: (/** @type {string[]} */ [kind, it]) => [kind, digest(it, `the ${kind.toLowerCase()}`)],
     });

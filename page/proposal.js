@@ -79,13 +79,17 @@ function actions(it, looked, doubts, again) {
         // What changed since it was looked at is looked at again.
         if (now.kind !== 'value') return again();
         if (!(await lastLook(it, now.value, doubts))) return undefined;
+        let mine = false;
         const reply = await act(
             new Command(`Confirm proposal ${it.number}`, `/proposals/${it.number}/confirm`, ''),
             said,
-            { off: [confirm, drop], refused: (name) => name === 'OwnProposal' && (me.name = it.officer) },
+            { off: [confirm, drop], refused: (name) => (mine = name === 'OwnProposal') },
         );
         changed();
-        return reply ? again(confirmed(reply)) : undefined;
+        if (reply) return again(confirmed(reply));
+        if (!mine) return undefined;
+        me.name = it.officer;
+        return again(refusalBox({ kind: 'refused', status: 409, name: 'OwnProposal', number: 38 }));
     }, 'danger');
     const drop = button('Drop…', async () => {
         if (!(await sure(

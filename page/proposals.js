@@ -28,7 +28,7 @@ export function proposalsView(place) {
 function list(place, proposals) {
     const table = paged({
         caption: 'Proposals',
-        kind: 'queue',
+        kind: 'wide queue',
         head: ['No', 'It names', 'By', 'State'],
         empty: 'There is none in this state.',
         row: (/** @type {Proposal} */ it) => [

@@ -112,9 +112,9 @@ function levelForm(place) {
         h(
             'div',
             { class: 'row' },
-            field('Component', name),
+            field('Component', name, 'As shim or grub.debian.'),
             names,
-            field('Generation', generation),
+            field('Generation', generation, 'Above its present one.'),
             field('Stamp', stamp, 'The date and two digits.'),
         ),
         place,

@@ -5,7 +5,7 @@ import { read, reading, refusalBox } from './act.js';
 import { answers, box, button, buttons, fill, h, heading, p, quiet, section, strong } from './dom.js';
 import { download } from './files.js';
 import { paged } from './table.js';
-import { counted, grouped } from './words.js';
+import { STATES, counted, grouped } from './words.js';
 
 /** The limits that a count runs into. */
 const LIMITS = {
@@ -30,16 +30,23 @@ export function reportView(place) {
 
 /** @param {string} text labels and numbers in columns */
 function numbers(text) {
-    const rows = text.split('\n').filter((line) => line !== '').map(
+    const all = text.split('\n').filter((line) => line !== '').map(
         (line) => [line.slice(0, 24).trim(), Number(line.slice(24))],
     );
+    const rows = all.filter(([label]) => label !== 'stamp');
+    const stamp = all.find(([label]) => label === 'stamp')?.[1];
     const head = ['Count of', 'Now', 'At most'].map((text) => h('th', { scope: 'col' }, text));
     return h(
-        'table',
-        { class: 'short numbers' },
-        h('caption', {}, 'Counts and their limits'),
-        h('thead', {}, h('tr', {}, head)),
-        h('tbody', {}, rows.map(([label, count]) => numberRow(String(label), Number(count)))),
+        'div',
+        {},
+        h(
+            'table',
+            { class: 'short numbers' },
+            h('caption', {}, 'Counts and their limits'),
+            h('thead', {}, h('tr', {}, head)),
+            h('tbody', {}, rows.map(([label, count]) => numberRow(String(label), Number(count)))),
+        ),
+        stamp === undefined ? null : h('p', { class: 'quiet below' }, `The level’s stamp is ${stamp}.`),
     );
 }
 
@@ -48,8 +55,8 @@ function numberRow(label, count) {
     return h(
         'tr',
         {},
-        h('td', { 'data-label': 'Count of' }, label),
-        h('td', { class: 'size', 'data-label': 'Now' }, label === 'stamp' ? count : grouped(count)),
+        h('td', { 'data-label': 'Count of' }, label in STATES ? `of these, ${label}` : label),
+        h('td', { class: 'size', 'data-label': 'Now' }, grouped(count)),
         h('td', { class: 'size', 'data-label': 'At most' }, LIMITS[label] ?? ''),
     );
 }

@@ -113,8 +113,11 @@ function listing(it, now) {
     if (names.length === 1) return ['good', `It carries a listed certificate: ${names[0]}.`];
     if (names.length > 1) return ['good', `It carries ${names.length} listed certificates: ${names.join(', ')}.`];
     if (now.listed.digests.has(it.digest)) return ['good', 'Its digest is listed.'];
-    if (it.carried.length > 0) return ['note', 'It is signed, but with no listed certificate. The signed file has to carry one.'];
-    return ['note', 'It is unsigned, as a request usually is. The signed file has to carry a listed certificate.'];
+    const waits = ['open', 'approved'].includes(it.state);
+    if (it.carried.length > 0) {
+        return ['note', `It is signed, but with no listed certificate.${waits ? ' The signed file has to carry one.' : ''}`];
+    }
+    return ['note', `It is unsigned, as a request usually is.${waits ? ' The signed file has to carry a listed certificate.' : ''}`];
 }
 
 /** @param {import('./standing.js').Standing} now @param {string} tbs */

@@ -47,7 +47,7 @@ function queue(place, requests) {
     last.state ||= first();
     const table = paged({
         caption: 'Requests, oldest first',
-        kind: 'queue',
+        kind: 'wide queue',
         head: ['No', 'Title', 'From', 'State', 'Votes', 'Size'],
         empty: requests.length === 0
             ? 'There is no request yet.'

@@ -108,7 +108,7 @@ export function withdrawForm(it, again) {
     });
     return section(
         'Withdraw it',
-        p(me.name === '' ? `For its submitter, ${it.submitter}, alone.` : 'You submitted it, and can withdraw it.'),
+        p(me.name === '' ? `Its submitter, ${it.submitter}, can take it back.` : 'You submitted it, and can take it back.'),
         buttons(withdraw),
         said,
     );

@@ -7,7 +7,8 @@ import { grouped } from './words.js';
 /**
  * @template T
  * @param {{ caption: string, head: string[], row: (it: T) => any[], empty: string, size?: number, kind?: string }} form
- * `row` gives the cells; a cell that is an array has a class first. `size` is how many rows a page has.
+ * `row` gives the cells; a cell that is an array has a class first. `size` is how many rows a page has. `kind` has the table's
+ * classes: a `wide` one, as each is by default, becomes cards where there is no room.
  */
 export function paged(form) {
     const place = h('div', { class: 'paged' });
@@ -26,7 +27,7 @@ export function paged(form) {
         );
         const table = h(
             'table',
-            { class: form.kind },
+            { class: form.kind ?? 'wide' },
             h('caption', {}, form.caption),
             h('thead', {}, head),
             h('tbody', {}, body),

@@ -23,7 +23,7 @@ CSV = "kind,value,generation\n"
 
 # A file; what a look at it says, which is a fault or a line; and whether it can be imported.
 LOOKS = [
-    (LISTS, "2 different digests, 2 of them new.", True),
+    (LISTS, "2 digests, all of them new.", True),
     (LISTS, "Skipped: 1 entry of type 00112233-4455-6677-8899-aabbccddeeff.", True),
     (HEADER + LISTS, "The first 48 bytes are left out: the header of an authenticated variable, of 2026-11-27", True),
     (b"\x27\0\0\0" + LISTS, "The first 4 bytes are left out: the four attribute bytes", True),
@@ -31,8 +31,8 @@ LOOKS = [
     (signature_list(OTHER_KIND, b"\x01\x02"), "It names nothing that the desk takes.", False),
     (b"", "It names nothing that the desk takes.", False),
     (b"a text of another kind", "There is no signature list at byte 0", False),
-    ((CSV + f"sha256,{'a' * 64},\n").encode(), "1 different digest, 1 of them new.", True),
-    ((CSV + f'"sha256","{"a" * 64}",""\r\n').encode(), "1 different digest, 1 of them new.", True),
+    ((CSV + f"sha256,{'a' * 64},\n").encode(), "1 digest, which is new.", True),
+    ((CSV + f'"sha256","{"a" * 64}",""\r\n').encode(), "1 digest, which is new.", True),
     (b"\xef\xbb\xbf" + (CSV + "sbat,grub,5\n").encode(), "grub from none to 5.", True),
     ((CSV + "sha256\n").encode(), "Record 1 isn’t", False),
     ((CSV + f"sha256,{'a' * 64},\nmd5,00,\n").encode(), "Record 2 isn’t", False),
