@@ -6,9 +6,9 @@
 # `N passed, M failed`, and the status is 1 if one failed. After ten minutes none is started and
 # those still running are ended, as failed.
 #
-# They need bash, cc, curl, efitools, gzip, openssl, python3, rt, sqlite3 and xxd; a check without a
-# tool that it needs fails and names it. tables.sh runs only by name: it builds a program from the
-# libraries that ./prove left.
+# They need bash, cc, chromium, chromium-driver, curl, efitools, gzip, nginx, openssl, python3,
+# python3-selenium, rt, sqlite3 and xxd; a check without a tool that it needs fails and names it.
+# tables.sh runs only by name: it builds a program from the libraries that ./prove left.
 set -u
 . "$(dirname -- "$(readlink -f -- "$0")")/common.sh"
 find_program "$@"
@@ -16,7 +16,7 @@ find_program "$@"
 # The longest first, so that the last ones fill the lanes. Not here until they have run over a program with `impact`, `enrol` and
 # the routes of single proposals, minutes and people: refused-memory.sh refused-requests.sh http.sh requests.sh faults.sh day.sh readme.sh
 # help.sh. They run by name.
-checks=${*:-cuts.sh exports.sh version1.sh prove.sh runs.sh proved.sh}
+checks=${*:-page.sh cuts.sh exports.sh version1.sh prove.sh runs.sh proved.sh}
 until=$((SECONDS + 600))
 enter_room
 trap 'kill $(jobs -p) 2> /dev/null; wait; exit 1' HUP INT TERM

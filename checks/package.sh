@@ -52,6 +52,7 @@ holds 'its scripts' dpkg-deb -e "one/$deb" control
 silent 'the sums of its files' sh -c 'cd unpacked && md5sum --quiet -c ../control/md5sums'
 desk=$room/unpacked/usr/bin/desk
 silent 'the program is another one' cmp "$program" "$desk"
+silent 'the page is another one' diff -r "$root/page" "unpacked/usr/share/$name/page"
 for script in postinst prerm postrm; do silent "$script" sh -n "control/$script"; done
 
 # ---- the day at the desk, and each other subcommand

@@ -32,16 +32,21 @@ for person in $people; do
     "$program" person desk.db "$name" "${person#*/}" "demo-$name" < "$name.token" > added
 done
 
+# begins PROCESS PORT: waits until the process listens at this port; fails if it ends before.
+begins() {
+    started="$started $1"
+    while is_running "$1"; do
+        if listens "$1" "$2"; then return 0; fi
+        sleep 0.05
+    done
+    return 1
+}
 # serves PORT: whether the desk serves at this port; another program may have it.
 serves() {
     port=$1
     "$program" serve desk.db "$port" 1000000 > served 2> served.err &
     server=$!
-    started="$started $server"
-    while is_running "$server"; do
-        if listens "$server" "$port"; then return 0; fi
-        sleep 0.05
-    done
+    begins "$server" "$port" && return 0
     [ "$(cat served.err)" = 'device 14 Read' ] || fail "serve: $(cat served served.err)"
     return 1
 }
@@ -147,11 +152,7 @@ proxies() {
     } > nginx.conf
     nginx -p "$folder/" -e "$folder/nginx.err" -c nginx.conf 2> nginx.said &
     proxy=$!
-    started="$started $proxy"
-    while is_running "$proxy"; do
-        if listens "$proxy" "$1"; then return 0; fi
-        sleep 0.05
-    done
+    begins "$proxy" "$1" && return 0
     grep -q 'Address already in use' nginx.err || fail "nginx: $(cat nginx.said nginx.err)"
     return 1
 }
