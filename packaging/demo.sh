@@ -163,6 +163,6 @@ echo "http://127.0.0.1:$address/ has a demo desk. Sign in as one of these people
 for person in $people; do
     printf '%-6s %-10s %s\n' "${person%/*}" "${person#*/}" "$(cat "${person%/*}.token")"
 done
-echo "Images to submit, return and import are in $folder"
+echo "$folder has image.N of each request N, signed.4 to return for request 4, and revocations.csv to import."
 while is_running "$server" && is_running "$proxy"; do sleep 1; done
 fail "the desk or nginx ended: $(cat served.err nginx.err)"

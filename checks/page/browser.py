@@ -2,11 +2,11 @@
 import base64
 import shutil
 from pathlib import Path
-from typing import List, Optional
+from typing import Any, Callable, List
 
 from selenium import webdriver
+from selenium.common.exceptions import ElementClickInterceptedException, ElementNotInteractableException, StaleElementReferenceException
 from selenium.webdriver.chrome.service import Service
-from selenium.webdriver.common.by import By
 from selenium.webdriver.common.keys import Keys
 from selenium.webdriver.remote.webelement import WebElement
 
@@ -16,6 +16,24 @@ WORDS = (
     "--headless=new", "--no-sandbox", "--disable-gpu", "--disable-dev-shm-usage", "--hide-scrollbars", "--window-size=1300,1000", "--no-first-run",
     "--disable-extensions", "--disable-component-update", "--disable-background-networking", "--disable-sync", "--mute-audio",
 )
+
+# What is shown: by a selector; the last of a tag with a text; the field of a label.
+SHOWN = "return [...document.querySelectorAll(arguments[0])].filter((it) => it.checkVisibility());"
+NAMED = "return [...document.querySelectorAll(arguments[0])].filter((it) => it.checkVisibility() && it.innerText.trim() === arguments[1]).pop();"
+LABELLED = """
+const label = [...document.querySelectorAll('label')].find((it) => it.checkVisibility() && it.innerText.trim() === arguments[0]);
+return label && document.getElementById(label.htmlFor);
+"""
+
+
+class Nobody:
+    """In place of what isn't there yet."""
+
+    def click(self) -> None:
+        raise ElementNotInteractableException
+
+
+NOBODY = Nobody()
 
 # A file that comes by drag and drop, as the system would bring it.
 DROP = """
@@ -47,17 +65,18 @@ class Browser:
     def devtools(self, command: str, **words: object) -> dict:
         return self.driver.execute_cdp_cmd(command, words)
 
-    def script(self, text: str, *words: object) -> object:
+    def script(self, text: str, *words: object) -> Any:
         return self.driver.execute_script(text, *words)
 
     def all(self, selector: str) -> List[WebElement]:
-        return [one for one in self.driver.find_elements(By.CSS_SELECTOR, selector) if one.is_displayed()]
+        """Those that are shown."""
+        return self.script(SHOWN, selector)
 
     def one(self, selector: str, seconds: float = 30) -> WebElement:
         return until(seconds, selector, lambda: self.all(selector), self.text)[0]
 
     def text(self) -> str:
-        return self.driver.find_element(By.TAG_NAME, "body").text
+        return self.script("return document.body.innerText")
 
     def sees(self, text: str, seconds: float = 40) -> None:
         """The page comes to say this."""
@@ -75,11 +94,11 @@ class Browser:
         """Signs in, by the button and not a reload if somebody is signed in."""
         leave = self.all("#leave") if self.driver.current_url.startswith(self.base + "/") else []
         if leave:
-            leave[0].click()
+            self.press("Sign out")
         else:
             self.open()
-        self.one("#token").send_keys(token)
-        self.one("#enter").click()
+        self.fill("Your token", token)
+        self.press("Sign in")
         self.one(".view h1")
 
     def go(self, view: str) -> None:
@@ -88,33 +107,40 @@ class Browser:
         self.one(".view h1")
         until(20, "the view is read", lambda: "Reading from the desk" not in self.text())
 
-    def named(self, tag: str, text: str) -> Optional[WebElement]:
-        """The shown element of this tag with this text."""
-        found = [one for one in self.driver.find_elements(By.TAG_NAME, tag) if one.is_displayed() and one.text.strip() == text]
-        return found[-1] if found else None
-
     def press(self, text: str, tag: str = "button") -> None:
-        """Presses what has this text."""
-        until(30, f"{tag} “{text}”", lambda: self.named(tag, text), self.text).click()
+        """Presses the last that is shown with this text."""
+        self.does(f"{tag} “{text}”", lambda: (self.script(NAMED, tag, text) or NOBODY).click())
 
-    def labelled(self, label: str) -> Optional[WebElement]:
-        for one in self.driver.find_elements(By.TAG_NAME, "label"):
-            if one.is_displayed() and one.text.strip() == label:
-                return self.driver.find_element(By.ID, one.get_attribute("for"))
-        return None
+    def click(self, selector: str) -> None:
+        self.does(selector, lambda: (self.all(selector) or [NOBODY])[0].click())
+
+    def does(self, what: str, act: Callable[[], object]) -> None:
+        """Does it once it can be done: what is written may be made anew meanwhile."""
+
+        def done() -> bool:
+            try:
+                act()
+            except (StaleElementReferenceException, ElementClickInterceptedException, ElementNotInteractableException):
+                return False
+            return True
+
+        until(30, what, done, self.text)
 
     def field(self, label: str) -> WebElement:
         """The shown field with this label, once it is there."""
-        return until(30, f"the field “{label}”", lambda: self.labelled(label), self.text)
+        return until(30, f"the field “{label}”", lambda: self.script(LABELLED, label), self.text)
 
     def fill(self, label: str, text: str) -> None:
-        one = self.field(label)
-        one.send_keys(Keys.CONTROL, "a")
-        one.send_keys(text)
+        def filled() -> None:
+            one = self.field(label)
+            one.send_keys(Keys.CONTROL, "a")
+            one.send_keys(text or Keys.DELETE)
+
+        self.does(f"“{text}” in the field “{label}”", filled)
 
     def choose(self, label: str, path: Path) -> None:
         """Chooses a file, and waits until its SHA-256 is there."""
-        self.field(label).send_keys(str(path))
+        self.does(f"{path} in the field “{label}”", lambda: self.field(label).send_keys(str(path)))
         self.has_sum(path)
 
     def drop(self, label: str, path: Path) -> None:

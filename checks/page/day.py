@@ -72,7 +72,7 @@ def requests_by_page(browser: Browser, at_hand: Dict[str, Path]) -> None:
 
 def copies(browser: Browser, digest: str) -> None:
     """One click copies a digest."""
-    browser.one("[aria-label='Copy the SHA-256 of the file']").click()
+    browser.click("[aria-label='Copy the SHA-256 of the file']")
     browser.sees("Copied")
     found = browser.driver.execute_async_script("const done = arguments[0]; navigator.clipboard.readText().then(done, (fault) => done(String(fault)));")
     if found != digest:
@@ -138,7 +138,7 @@ def rest_by_page(browser: Browser, place: Place, at_hand: Dict[str, Path]) -> No
     browser.fill("Digest of an image", "d" * 64)
     browser.press("List this digest")
     browser.sees("It is in db now.")
-    browser.one(f"[aria-label='Unlist digest {'d' * 12}']").click()
+    browser.click(f"[aria-label='Unlist digest {'d' * 12}']")
     browser.press("Unlist it")
     browser.sees("Unlisted.")
     submits(browser, "another one", at_hand["other.efi"], 2, dropped=True)

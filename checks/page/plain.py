@@ -67,7 +67,7 @@ def many(program: Program, browser: Browser) -> str:
     with Place(program, "long") as place:
         browser.base = place.base
         long.fills(place)
-        told(f"{long.COUNT} requests are there")
+        told(f"{long.COUNT:,} requests are there")
         return f"{long.COUNT:,} requests {long.queue(browser, place)}"
 
 
