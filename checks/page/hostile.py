@@ -91,6 +91,10 @@ def another_origin(browser: Browser, place: Place) -> None:
         fail(f"a page of another origin was answered: {place.log[at:]}")
     if place.ask("olga", "GET", "/report").body != before:
         fail("a page of another origin changed the desk")
+    # Where a proxy sets Desk-Token itself, by a client's certificate, a form still has no Desk-Key.
+    answer = place.ask("ann", "POST", "/requests/1/withdraw", b"")
+    if (answer.status, answer.json()["name"]) != (400, "BadField"):
+        fail(f"a command without a key: {answer}")
     browser.complaints()
     server.shutdown()
     server.server_close()
