@@ -60,7 +60,7 @@ as() {
     who=$1 path=$2 body=$3
     shift 3
     key=$((key + 1))
-    curl -sS --max-time 60 -f -H "@$who.field" -H "Desk-Key: demo-$key" --data-binary "$body" "$@" \
+    curl -sS --max-time 60 --fail-with-body -H "@$who.field" -H "Desk-Key: demo-$key" --data-binary "$body" "$@" \
         "http://127.0.0.1:$port$path" > said 2> curl.err || fail "$who at $path: $(cat said curl.err)"
 }
 # image NUMBER ROW..: makes signed.NUMBER, the signed image of examples/ with these rows of SBAT below
@@ -96,8 +96,6 @@ image 6 'linux,1,Linux,linux,6.12.57,https://kernel.org/' "linux.debian,1,Debian
 image 8 'shim,4,UEFI shim,shim,1,https://github.com/rhboot/shim' "shim.debian,1,Debian,shim,16.1-2,$debian/shim"
 image 9 'grub,2,Free Software Foundation,grub,2.06,https://www.gnu.org/software/grub/' "grub.debian,3,Debian,grub2,2.06-13,$debian/grub2"
 as olga /db/certificates "@$root/examples/certificate.der"
-raises olga grub 3 "${day}00"
-as otto /proposals/1/confirm ''
 submit ann 1 'shim 16.1-1 amd64'
 submit ann 2 'grub2 2.12-9 amd64'
 submit ann 3 'fwupd-efi 1.7-1 amd64'
@@ -107,6 +105,9 @@ submit ann 6 'linux 6.12.57-1 amd64, the kernel of the 13.3 point release'
 submit rita 7 'memtest86+ 7.20-1 amd64'
 submit ann 8 'shim 16.1-2 amd64'
 submit ann 9 'grub2 2.06-13 amd64'
+# This bars request 9.
+raises olga grub 3 "${day}00"
+as otto /proposals/1/confirm ''
 for number in 1 2 4; do
     votes rita "$number" yes 'built it again: the same bytes'
     votes raul "$number" yes 'compared with the build log'

@@ -83,7 +83,9 @@ def looked(browser: Browser, what: str) -> int:
 def views(browser: Browser, place: Place) -> int:
     """Each view of each role, with an approved request, an open one, and a proposal that is doubtful."""
     for number in (3, 4):
-        place.does("ann", "/requests", unsigned(number), Desk_Title=f"the image of request {number}")
+        # Its generation of grub is above the level.
+        newer = unsigned(number).replace(b"grub,03", b"grub,09")
+        place.does("ann", "/requests", newer, Desk_Title=f"the image of request {number}")
     for name in ("rita", "raul"):
         place.does(name, "/requests/3/review", json.dumps({"note": "read it", "vote": "yes"}).encode())
     facts = place.ask("otto", "GET", "/requests/3").json()
