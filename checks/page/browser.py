@@ -156,10 +156,10 @@ class Browser:
         """What an expression over a module of the page gives, in the page."""
         return self.driver.execute_async_script(f"const done = arguments[0]; import('/page/{name}').then((it) => {text}).then(done, (fault) => done(String(fault)));")
 
-    def shot(self, path: Path, width: int, most: int = 2400, scale: float = 1) -> None:
-        """A picture of the page from its top, at most so high."""
-        size = self.devtools("Page.getLayoutMetrics")["cssContentSize"]
-        clip = {"x": 0, "y": 0, "width": width, "height": min(size["height"], most), "scale": scale}
+    def shot(self, path: Path, width: int, most: int = 6000, scale: float = 1) -> None:
+        """A picture of the page from its top to its foot, at most so high."""
+        foot = self.script("return document.querySelector('footer').getBoundingClientRect().bottom + scrollY")
+        clip = {"x": 0, "y": 0, "width": width, "height": min(foot, most), "scale": scale}
         shown = self.devtools("Page.captureScreenshot", captureBeyondViewport=True, clip=clip)
         path.write_bytes(base64.b64decode(shown["data"]))
 

@@ -3,6 +3,7 @@ import signal
 import subprocess
 import sys
 import time
+from contextlib import ExitStack
 from pathlib import Path
 from typing import Callable, Dict
 
@@ -63,12 +64,11 @@ def bad_days(program: Program, browser: Browser) -> str:
         return f"strangers, lost answers, slips and {odd} odd files and answers"
 
 
-def many(program: Program, browser: Browser) -> str:
-    with Place(program, "long") as place:
-        browser.base = place.base
-        long.fills(place)
-        told(f"{long.COUNT:,} requests are there")
-        return f"{long.COUNT:,} requests {long.queue(browser, place)}"
+def many(browser: Browser, place: Place, filling: long.Filling) -> str:
+    filling.wait()
+    told(f"{long.COUNT:,} requests are there")
+    browser.base = place.base
+    return f"{long.COUNT:,} requests {long.queue(browser)}"
 
 
 def demo(program: Program, browser: Browser, folder: Path) -> str:
@@ -110,23 +110,25 @@ def pictures(browser: Browser, tokens: Dict[str, str], folder: Path) -> int:
 def main() -> None:
     # An end by a signal ends what this started, too.
     signal.signal(signal.SIGTERM, lambda *_: sys.exit("checks/page.sh: ended by a signal"))
-    path, folder, *wanted = sys.argv[1:]
+    path, folder, *words = sys.argv[1:]
+    wanted = words or ["demo", "day", "bad", "long"]
     said = [f"{sources.modules()} modules, {sources.refusals()} refusals in words"]
-    with Program(path) as program:
+    with Program(path) as program, ExitStack() as ends:
+        parts: Dict[str, Callable[[], str]] = {
+            "demo": lambda: demo(program, browser, Path(folder)),
+            "day": lambda: whole_day(program, browser),
+            "bad": lambda: bad_days(program, browser),
+        }
+        if "long" in wanted:
+            place = ends.enter_context(Place(program, "long"))
+            filling = long.Filling(place)
+            parts["long"] = lambda: many(browser, place, filling)
         browser = Browser(Path(program.at("downloads")))
-        try:
-            parts: Dict[str, Callable[[], str]] = {
-                "demo": lambda: demo(program, browser, Path(folder)),
-                "day": lambda: whole_day(program, browser),
-                "bad": lambda: bad_days(program, browser),
-                "long": lambda: many(program, browser),
-            }
-            for name in wanted or parts:
-                browser.width(1200)
-                said.append(parts[name]())
-                told(said[-1])
-        finally:
-            browser.quit()
+        ends.callback(browser.quit)
+        for name in wanted:
+            browser.width(1200)
+            said.append(parts[name]())
+            told(said[-1])
     print("; ".join(said))
 
 
