@@ -135,16 +135,17 @@ export function generationDoubts(name, generation, { now, names }) {
  * Doubts of all that a proposal or an import names: what would do nothing, and what it raises by a slip.
  * @param {{ digests: Iterable<string>, certificates: Iterable<string>, components: Iterable<[string, number]>, stamp: number | null }} it
  * @param {Known} known
+ * @param {number} [present] the stamp that its own has to be above
  * @returns {Doubt[]}
  */
-export function itemDoubts(it, known) {
+export function itemDoubts(it, known, present = known.now.level.stamp) {
     const components = [...it.components].filter(([name, generation]) => generation > (known.now.level.names.get(name) ?? 0));
     const doubts = [
         ...[...it.digests].flatMap((one) => digestDoubts(one, known).filter((doubt) => doubt.idle)),
         ...[...it.certificates].flatMap((one) => certificateDoubts(one, known).filter((doubt) => doubt.idle)),
         ...components.flatMap(([name, generation]) => generationDoubts(name, generation, known)),
     ];
-    return it.stamp && components.length > 0 ? [...doubts, ...stampDoubts(it.stamp, known.now.level.stamp)] : doubts;
+    return it.stamp && components.length > 0 ? [...doubts, ...stampDoubts(it.stamp, present)] : doubts;
 }
 
 /**

@@ -39,15 +39,15 @@ export function itemsPart(it, known) {
     return [p(...summary(it, known)), table.place];
 }
 
-/** What a proposal names, in one sentence: the first three of it. @param {Item} it */
+/** What a proposal names, in short: the first three of it. @param {Item} it */
 export function shortly(it) {
     const all = [
-        ...it.components.map(([name, generation]) => h('strong', {}, `${name} to ${generation}`)),
+        ...it.components.map(([name, generation]) => h('strong', {}, `${name} to ${grouped(generation)}`)),
         ...it.certificates.map((one) => ['the certificate ', h('code', {}, `${one.slice(0, 16)}…`)]),
         ...it.digests.map((one) => ['the digest ', h('code', {}, `${one.slice(0, 16)}…`)]),
     ];
     const some = all.slice(0, 3).flatMap((one, at) => [at > 0 ? ', ' : '', one]);
-    return ['It names ', ...some, all.length > 3 ? ` and ${grouped(all.length - 3)} more` : '', '.'];
+    return ['It names ', ...some, all.length > 3 ? ` and ${grouped(all.length - 3)} more` : ''];
 }
 
 /** @param {Item} it @param {Known | null} known */

@@ -45,7 +45,8 @@ async function whole(place, it) {
     const [all, looked] = await Promise.all([known(), isOpen ? get(`/proposals/${it.number}/impact`) : null]);
     fill(items, itemsPart(it, 'kind' in all ? null : all), 'kind' in all ? refusalBox(all) : null);
     if (!looked) return;
-    const doubts = 'kind' in all ? [] : itemDoubts(it, all);
+    // (whether its stamp is above the level's is said by the desk, with the impact)
+    const doubts = 'kind' in all ? [] : itemDoubts(it, all, 0);
     fill(impact, looked.kind === 'value' ? impactPart(looked.value) : refusedNow(looked), doubtPart(doubts));
     fill(decision, actions(it, looked, doubts, again));
 }
@@ -55,7 +56,8 @@ function refusedNow(answer) {
     const title = 'If it is confirmed now';
     if (answer.kind !== 'refused') return section(title, refusalBox(answer));
     const { why, todo } = explained(answer);
-    return section(title, box('care', p(strong(`A Confirm would be refused: ${answer.name} (${answer.number}). `), why), p(todo)));
+    const then = answer.name === 'Full' ? todo : 'Drop it, and propose anew what is still needed.';
+    return section(title, box('care', p(strong(`A Confirm would be refused: ${answer.name} (${answer.number}). `), why), p(then)));
 }
 
 /** @param {Doubt[]} doubts */
@@ -109,12 +111,17 @@ function actions(it, looked, doubts, again) {
         'section',
         { class: 'act' },
         h('h2', {}, 'Your decision'),
-        p(own
-            ? 'You proposed it, so another officer has to confirm it. You may drop it.'
-            : 'A Confirm puts it into force at once, for good. A Drop leaves everything as it is.'),
+        p(decisionWords(own, looked.kind === 'value')),
         buttons(own ? null : looked.kind === 'value' ? confirm : look, drop),
         said,
     );
+}
+
+/** @param {boolean} own @param {boolean} can whether the desk would take a Confirm */
+function decisionWords(own, can) {
+    if (own) return 'You proposed it, so another officer has to confirm it. You may drop it.';
+    const drop = 'A Drop leaves everything as it is.';
+    return `${can ? 'A Confirm puts it into force at once, for good.' : 'It can’t be confirmed now.'} ${drop}`;
 }
 
 /** The second question before a Confirm. @param {Item} it @param {import('./impact.js').Impact} impact @param {Doubt[]} doubts */

@@ -110,8 +110,8 @@ function findings(it, now) {
 /** What db says of it. @param {Request} it @param {import('./standing.js').Standing} now */
 function listing(it, now) {
     const names = it.carried.filter((one) => now.listed.certificates.has(one)).map((one) => nameOf(now, one));
-    if (names.length === 1) return ['good', `It carries a listed certificate: ${names[0]}.`];
-    if (names.length > 1) return ['good', `It carries ${names.length} listed certificates: ${names.join(', ')}.`];
+    if (names.length === 1) return ['good', `It carries a listed certificate (${names[0]}).`];
+    if (names.length > 1) return ['good', `It carries ${names.length} listed certificates (${names.join(', ')}).`];
     if (now.listed.digests.has(it.digest)) return ['good', 'Its digest is listed.'];
     const waits = ['open', 'approved'].includes(it.state);
     if (it.carried.length > 0) {

@@ -102,7 +102,7 @@ export function ruleWords(name, it) {
     if (name === 'dbx-digest') return 'its digest is revoked';
     if (name === 'dbx-certificate') return 'a certificate that it carries is revoked';
     if (name === 'not-listed') return 'neither its digest nor a certificate that it carries is listed';
-    if (name === 'sbat') return `${it.component} ${it.generation}, where the level requires ${it.level}`;
+    if (name === 'sbat') return `${it.component} ${grouped(it.generation)}, where the level requires ${grouped(it.level)}`;
     return name;
 }
 
