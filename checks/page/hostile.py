@@ -202,6 +202,14 @@ def slips(browser: Browser, place: Place) -> None:
     browser.sees("A stamp has ten digits")
     if place.ask("olga", "GET", "/proposals").body != before:
         fail("a slip was proposed")
+    # One that was proposed without the page is shown to the officer who would confirm it.
+    place.does("otto", "/dbx/digests", json.dumps({"digest": facts["file"]}).encode())
+    browser.go("proposals/1")
+    browser.sees("Is that what was meant?")
+    browser.press("Confirm…")
+    if "the SHA-256 of the whole file" not in browser.one("dialog").text:
+        fail("the last question before a Confirm doesn’t tell a whole file’s SHA-256")
+    browser.press("Leave it open")
 
 
 def slip(browser: Browser, told: str, meant: list) -> None:
