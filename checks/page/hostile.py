@@ -119,7 +119,8 @@ def lost(browser: Browser, place: Place) -> None:
     browser.sees("Asking again with the same key")
     place.start_proxy()
     browser.sees("Your vote of yes is in.")
-    # Now for so long that the page stops asking by itself; the person goes elsewhere, and asks by the button.
+    # Now for so long that the page stops asking by itself; the person goes elsewhere, and asks by the button. (It waits less here.)
+    browser.module("api.js", "it.PAUSES.fill(200)")
     browser.sign_in(token("raul"))
     browser.go(f"requests/{number}")
     loses_answer(browser, place)

@@ -35,7 +35,7 @@ def until(seconds: float, what: str, holds: Callable[[], Any], seen: Callable[[]
             return found
         if time.monotonic() > ends:
             fail(f"in vain for {seconds} s: {what}; there was: {seen()[:1500]}")
-        time.sleep(0.05)
+        time.sleep(0.1)
 
 
 def connections(port: int) -> List[List[str]]:
