@@ -119,6 +119,10 @@ export const REFUSALS = {
     Version: ['The database holds a desk of a version that this program doesn’t know.', ADMIN],
     File: ['A device: a file can’t be opened.', ADMIN],
     Exists: ['The database has a table, an index or a view already, so no desk is made in it.', ADMIN],
+    Minute: [
+        'A line of minutes isn’t what the rules give there, or isn’t whole. The place is its number from 1.',
+        'Fetch the minutes again, and compare them with other copies.',
+    ],
     BadHead: ['The head of an HTTP request is wrong, too long or cut short.', PAGE],
     BadField: [
         'A field of an HTTP request is wrong, or is given twice.',
@@ -136,10 +140,6 @@ export const REFUSALS = {
         'An image has at most 128 MiB, anything else 4 MiB.',
     ],
     NotSupported: ['The HTTP request has a Transfer-Encoding.', PAGE],
-    Minute: [
-        'A line of minutes isn’t what the rules give there, or isn’t whole. The place is its number from 1.',
-        'Fetch the minutes again, and compare them with other copies.',
-    ],
 };
 
 /**
