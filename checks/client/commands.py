@@ -4,7 +4,8 @@ from __future__ import annotations
 
 import datetime
 import os
-from typing import Dict, List, Sequence, Tuple
+import threading
+from typing import Any, Dict, List, Sequence, Tuple
 
 from tools import Nginx, Part, Person, Program, Server, certificate, fail, people, without_keys
 from desk import CERTIFICATE, PEOPLE, PLAIN, SIGNED, TBS, THREE_LISTS, authenticode, digest, posted, said, sha256
@@ -54,6 +55,37 @@ def plain_day() -> List[Step]:
         ("olga", "/dbx/certificates", said({"digest": digest("ee")}), []), ("otto", "/proposals/7/drop", b"", []),
         ("olga", "/db/unlist", said({"digest": TBS, "kind": "certificate"}), []),
     ]
+
+
+class Watch:
+    """Looks for a token in the command line and the environment of each process, as long as it stands."""
+
+    def __init__(self) -> None:
+        self.found: List[str] = []
+        self.looks, self.ended = 0, threading.Event()
+        self.thread = threading.Thread(target=self.look, daemon=True)
+
+    def look(self) -> None:
+        while not self.ended.wait(0.05):
+            self.looks += 1
+            for process in filter(str.isdecimal, os.listdir("/proc")):
+                for what in ("cmdline", "environ"):
+                    try:
+                        with open(f"/proc/{process}/{what}", "rb") as file:
+                            data = file.read()
+                    except OSError:
+                        continue
+                    if b"-token-000001" in data:
+                        self.found.append(f"{what} of {data[:200]!r}")
+
+    def __enter__(self) -> None:
+        self.thread.start()
+
+    def __exit__(self, *_: Any) -> None:
+        self.ended.set()
+        self.thread.join()
+        if self.found or not self.looks:
+            fail(f"a token stands in a process list, of {self.looks} looks: {self.found[:3]}")
 
 
 def by_requests(program: Program) -> List[Tuple[str, ...]]:
@@ -169,7 +201,8 @@ def check(program: Program) -> str:
     files(program)
     wanted = by_requests(program)
     with Part(program, "direct") as part:
-        by_deskctl(part.people)
+        with Watch():
+            by_deskctl(part.people)
         if without_keys(part.minutes()) != wanted:
             fail("the minutes of the day aren't those of the same day by plain requests")
         reads(part, part.people)

@@ -4,15 +4,25 @@ import subprocess
 import sys
 import time
 
-PARTS = ("losses", "commands", "mistakes", "imports", "routes", "signing")
+from tools import end_with_parent
+from desk import RUNNING
+
+# The longest first.
+PARTS = ("losses", "commands", "mistakes", "imports", "routes", "signing", "readme")
 
 
 def part(name: str) -> str:
-    ran = subprocess.run([sys.executable, "-B", f"{sys.path[0]}/{name}.py", sys.argv[1]], capture_output=True, text=True, check=False)
-    if ran.returncode:
-        print(f"{name}: {ran.stdout}{ran.stderr}", file=sys.stderr)
+    process = subprocess.Popen(
+        [sys.executable, "-B", f"{sys.path[0]}/{name}.py", sys.argv[1]], stdout=subprocess.PIPE, stderr=subprocess.PIPE, text=True,
+        preexec_fn=end_with_parent,
+    )
+    RUNNING.add(process)
+    out, err = process.communicate()
+    RUNNING.discard(process)
+    if process.returncode:
+        print(f"{name}: {out}{err}", file=sys.stderr)
         return ""
-    return ran.stdout.strip()
+    return out.strip()
 
 
 begun = time.monotonic()

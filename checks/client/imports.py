@@ -1,17 +1,16 @@
-"""Each kind of a file of revocations, made by efitools where it is installed and by bytes of our own otherwise; cut at each length of its
-header; more entries than an import may have."""
+"""Each kind of a file of revocations, made by efitools where it can and by bytes of our own otherwise; cut at each length of its header;
+more entries than an import may have."""
 from __future__ import annotations
 
 import json
 import os
 import re
-import shutil
 import struct
 from typing import Any, Dict, List, Tuple
 
 from commands import TODAY, files
 from tools import Part, Person, Program, calls, fail, made, module
-from desk import CERTIFICATE, THREE_LISTS, X509_KIND, digest, digest_list, sha256, signature_list
+from desk import CERTIFICATE, OWNER, THREE_LISTS, X509_KIND, digest, digest_list, sha256, signature_list
 
 MICROSOFT = bytes.fromhex("bd9afa775903324dbd6028f4e78f784b")
 SHA1_KIND = bytes.fromhex("12a56c8210cfc94ab187be01496631bd")
@@ -101,6 +100,18 @@ def kinds(part: Part) -> int:
     return len(rows) + 2
 
 
+def owned(part: Part) -> None:
+    """Once dbx has entries the desk's owner is known, and isn't said to be replaced."""
+    olga = part.people["olga"]
+    number = olga.does("import", "a.esl", "--yes").split()[1]
+    part.people["otto"].does("confirm", number, "--yes")
+    part.program.file("mixed.esl", digest_list([digest("c4")]) + of_owner(digest_list([digest("c5")]), MICROSOFT))
+    olga.does("import", "mixed.esl", "--dry-run", out=[f"{OWNER}: 1; the desk's own", "(Microsoft): 1; the desk writes its own owner in its place"])
+    unmoved = olga.ends(2, "import", "a.esl", err=["Nothing in it is new: a Confirm would change nothing", "no terminal to ask at"])
+    if unmoved or olga.pending():
+        fail("an import in which nothing is new went out")
+
+
 def refused(part: Part) -> None:
     """What is none of these, and what is wrong in one."""
     olga, program = part.people["olga"], part.program
@@ -110,6 +121,8 @@ def refused(part: Part) -> None:
         ("none.json", b'{"images":{}}', 2, "no images with an authenticodeHash"), ("cut.json", PUBLISHED[:-1], 2, "cut or spoiled"),
         ("deep.json", b"[" * 100_000, 2, "cut or spoiled"),
         ("bad.csv", b"kind,value,generation\nsha256,12,\n", 1, "refused 19 CsvRow at 1", "Record 1: sha256,12,"),
+        ("cut.csv", b"kind,value,gener\nsha256,", 1, "refused 19 CsvRow at 0", "Record 0: kind,value,gener"),
+        ("none.csv", b"kind,value,generation\n", 2, "It names nothing"), ("none.level", f"sbat,1,{TODAY}07".encode(), 2, "It names nothing"),
         ("bad.level", b"sbat,1,2024010100\ngrub\n", 1, "refused 12 SbatRow at 2", "Line 2: grub"), ("no.esl", b"\x27\0\0\0", 2, "names nothing"),
         ("guid.auth", update(digest_list([digest("c1")])).replace(PKCS7, bytes(16)), 2, "no WIN_CERTIFICATE_UEFI_GUID"),
         ("short.auth", update(digest_list([digest("c1")]))[:16] + struct.pack("<I", 23) + update(b"")[20:], 2, "23 bytes"),
@@ -161,6 +174,28 @@ def cuts(program: Program) -> int:
     return tried
 
 
+def text_cuts(program: Program) -> int:
+    """The same of the texts: cut within its first line a file names nothing, and JSON is whole or it isn't read."""
+    ctl = module()
+    tried = 0
+    for data in (f"kind,value,generation\nsha256,{digest('c1')},\n".encode(), f"sbat,1,{TODAY}01\ngrub,3\n".encode(), TABLE, PUBLISHED):
+        if not ctl.revocations_of(program.file("cut", data), None).entries():
+            fail("a whole file isn't read")
+        json_ = data.startswith(b"{")
+        for length in range(len(data) if json_ else data.index(b"\n") + 1):
+            program.file("cut", data[:length])
+            tried += 1
+            try:
+                found = ctl.revocations_of(program.at("cut"), None)
+            except ctl.Stop as stop:
+                if stop.status != ctl.WORDS or not str(stop):
+                    fail(f"cut at {length}: {stop!r}")
+            else:
+                if json_ or found.entries():
+                    fail(f"cut at {length} of {len(data)} it is {found.kind}")
+    return tried
+
+
 def certificate_cuts(program: Program) -> int:
     """Each beginning of a certificate is a fault in words."""
     ctl = module()
@@ -206,11 +241,8 @@ def parts(part: Part) -> None:
         fail("the parts aren't the whole")
 
 
-def by_efitools(part: Part) -> bool:
-    """What efitools writes: lists of hashes of images and of a certificate, and a signed update of them."""
-    tools = ("hash-to-efi-sig-list", "cert-to-efi-sig-list", "sign-efi-sig-list")
-    if not all(map(shutil.which, tools)):
-        return False
+def by_efitools(part: Part) -> None:
+    """What efitools writes: a list of a certificate, and a signed update of that and of a digest."""
     program, room = part.program, part.program.room.name
     made("openssl", "req", "-x509", "-newkey", "rsa:2048", "-nodes", "-days", "2", "-subj", "/CN=KEK", "-keyout", "kek.key", "-out", "kek.pem", cwd=room)
     made("cert-to-efi-sig-list", "-g", "77fa9abd-0359-4d32-bd60-28f4e78f784b", "kek.pem", "kek.esl", cwd=room)
@@ -226,7 +258,6 @@ def by_efitools(part: Part) -> bool:
           "certificates  1", "digests       1")
     program.file("cut.auth", signed[: re.search(re.escape(lists[:16]), signed).start() + 20])  # type: ignore[union-attr]
     part.people["olga"].ends(2, "import", "cut.auth", err=["a signature list is cut"])
-    return True
 
 
 def check(program: Program) -> str:
@@ -234,14 +265,15 @@ def check(program: Program) -> str:
     with Part(program, "kinds") as part:
         count = kinds(part)
         refused(part)
-        efitools = by_efitools(part)
+        by_efitools(part)
+        owned(part)
     with Part(program, "parts") as part:
         parts(part)
-    tried = cuts(program) + certificate_cuts(program)
+    tried = cuts(program) + text_cuts(program) + certificate_cuts(program)
     for name in os.listdir(program.room.name):
         if name.startswith("many"):
             os.unlink(program.at(name))
-    return f"{count} kinds of files, {tried} cuts" + ("" if efitools else " (left out: efitools)")
+    return f"{count} kinds of files, {tried} cuts"
 
 
 if __name__ == "__main__":

@@ -2,14 +2,15 @@
 from __future__ import annotations
 
 import concurrent.futures
+import io
 import signal
 import threading
 import time
 from typing import Callable, Dict, List, Tuple
 
 from commands import TODAY, files
-from tools import Between, Part, Person, Program, answer, calls, fail, people
-from desk import digest
+from tools import Between, Part, Person, Program, answer, calls, fail, module, people
+from desk import digest, said
 
 Ask = Callable[[bytes], bytes]
 Rule = Callable[[bytes, Ask], bytes]
@@ -120,6 +121,84 @@ def out_of_reach(program: Program) -> None:
         between.close()
 
 
+def each_length(program: Program) -> int:
+    """An answer that is cut after each of its bytes, a request after each of its: asked again with the same key, it acts once.
+
+    In this process, by deskctl's own way of asking, since these are some hundred tries."""
+    ctl = module()
+    ctl.FIRST_PAUSE = 0.0
+    with Part(program, "lengths") as part:
+        between = Between(part.server.port)
+        olga = part.people["olga"]
+        terminal = ctl.Terminal(io.StringIO(), io.StringIO())
+        terminal.quiet = True
+        desk = ctl.Desk(ctl.Settings(between.url, olga.token_file, None, None, None, None, None, False, 1), terminal)
+        call = ctl.Call("POST", "/db/digests", said({"digest": digest("00")}), (), "listed")
+        tried = 0
+
+        def lost(rule: Rule) -> None:
+            nonlocal tried
+            body = said({"digest": f"{tried:064x}"})
+            between.loses = [rule]
+            if ctl.replied(desk.ask(ctl.replace(call, body=body).with_key(ctl.new_key())), call) != {"reply": "listed"} or between.loses:
+                fail(f"cut at each length: try {tried}")
+            tried += 1
+
+        found: List[bytes] = []
+
+        def seen(request: bytes, ask: Ask) -> bytes:
+            found.extend((request, ask(request)))
+            return b""
+
+        lost(seen)
+        request, whole = found
+        for length in range(len(whole)):
+            lost(kept(lambda found, length=length: found[:length]))
+        for length in range(len(request)):
+            lost(unsent(lambda request, length=length: request[:length]))
+        between.close()
+        keys = [row[2] for row in calls(part.minutes())]
+        if len(keys) != tried or len(set(keys)) != tried:
+            fail(f"cut at each length: {len(keys)} calls of {tried}")
+    return tried
+
+
+def unsettled(program: Program) -> None:
+    """Behind a lost answer a refusal that says nothing of it (a proxy's, of an unknown caller, of a head that was cut) leaves the key for the
+    next run. One that the desk gives after it looked for the key lets it go."""
+    with Part(program, "unsettled") as part:
+        between = Between(part.server.port)
+        who = people(program, between.url, part.name)
+        ann, olga, otto = who["ann"], who["olga"], who["otto"]
+        json = b"application/json"
+        rules = (
+            instead(403, BUSY, b"text/html", False), instead(404, BUSY, b"text/html", False), instead(413, BUSY, b"text/html", False),
+            instead(401, said({"name": "UnknownCaller", "refused": 20}), json, False), instead(400, said({"name": "BadHead", "refused": 50}), json, False),
+        )
+        for at, rule in enumerate(rules, 1):
+            words = ("submit", "plain.efi", "--title", f"unsettled {at}")
+            between.loses = [POINTS["no answer"], rule]
+            ann.ends(1, *words, err=["Whether the desk took an earlier try isn't known"])
+            between.loses = [rule]
+            ann.ends(1, *words, err=["taking up the keys of", "Whether the desk took an earlier try isn't known"])
+            if len(ann.pending()) != 1:
+                fail("a refusal that settles nothing lets a key go")
+            ann.does(*words, out=[f"request {at} submitted"], err=["taking up the keys of"])
+        if len(calls(part.minutes())) != len(rules):
+            fail("behind a refusal that settles nothing a command acted twice")
+        # Alone, such a refusal leaves nothing.
+        between.loses = [rules[0]]
+        ann.ends(1, "submit", "plain.efi", "--title", "another", err=["refused by the proxy: 403"])
+        olga.does("revoke", "--digest", digest("12"))
+        between.loses = [POINTS["no request"]]
+        olga.ends(3, "drop", "1", "--retries", "0")
+        otto.does("drop", "1")
+        olga.ends(1, "drop", "1", err=["taking up the keys of", "refused 39 ProposalClosed"])
+        if ann.pending() or olga.pending():
+            fail("the journal has what was refused")
+        between.close()
+
+
 def store_failed(program: Program) -> None:
     """503 of a device isn't asked again by the same run, since each try may end the desk once more; the key stays for the next one."""
     with Part(program, "store") as part:
@@ -215,11 +294,16 @@ def check(program: Program) -> str:
     jobs.append((("no answer", "all but a byte of the answer", "half the head", "502 behind"), True))
     with concurrent.futures.ThreadPoolExecutor(len(jobs)) as pool:
         list(pool.map(lambda job: lost_at(program, *job), jobs))
+    tried = each_length(program)
     out_of_reach(program)
+    unsettled(program)
     store_failed(program)
     killed_in_flight(program)
     side_by_side(program)
-    return f"answers lost at {len(POINTS)} points of {len(COMMANDS)} commands, {all_killed(program)} runs killed at any moment: each acted once"
+    return (
+        f"answers lost at {len(POINTS)} points of {len(COMMANDS)} commands, {tried} cut at each length, {all_killed(program)} runs killed at any "
+        "moment: each acted once"
+    )
 
 
 if __name__ == "__main__":

@@ -9,7 +9,7 @@ import time
 from typing import List, Tuple
 
 from commands import HEX, TODAY, files
-from tools import DESKCTL, Between, Part, Person, Program, calls, fail, made, new_route, token
+from tools import DESKCTL, ROOT, Between, Part, Person, Program, calls, fail, made, module, token
 from desk import PLAIN, SIGNED, TBS, authenticode, digest, digest_list, sha256, with_text
 
 
@@ -76,7 +76,7 @@ def levels(part: Part) -> None:
     olga = part.people["olga"]
     stamp = ("--stamp", TODAY + "01")
     unsent(part, olga, ("raise", "shim", "4294967295", *stamp), "no generation above 65,535 has a meaning")
-    unsent(part, olga, ("raise", "shim", "11", *stamp), "shim rises from none to 11")
+    unsent(part, olga, ("raise", "shim", "10", *stamp), "shim rises from none to 10")
     unsent(part, olga, ("raise", "shim", "4", "--stamp", "9999999999"), "doesn't begin with a date")
     unsent(part, olga, ("raise", "shim", "4", "--stamp", "2019010101"), "more than a year ago")
     unsent(part, olga, ("raise", "shim", "4", "--stamp", "2099010101"), "more than a year ahead")
@@ -201,7 +201,13 @@ def tokens(part: Part) -> None:
     through_a_pipe(olga)
     os.chmod(program.at("empty"), 0o600)
     unsent(part, olga, ("report", "--token-file", program.at("empty")), "is no token")
-    unsent(part, olga, ("report", "--token", "x"), "too much: --token x")
+    given = "desk_" + "x" * 43
+    for words in (("report", "--token", given), ("report", f"--token={given}"), ("report", given), ("confirm", given), (given,)):
+        before = part.report()
+        status, out, err = olga.run(*words)
+        if status != 2 or given in out + err or part.report() != before:
+            fail(f"a token as an argument: status {status}, {out!r}, {err!r}")
+    unsent(part, olga, ("report", "--token", "x"), "a token is never an argument", "--token-file FILE")
     made_tokens(part)
 
 
@@ -253,7 +259,7 @@ def settings(part: Part) -> None:
             olga.does("report", "--url", url.replace("127.0.0.1", "localhost"))
         else:
             unsent(part, olga, ("report",), words)
-    olga.env.update({"DESK_URL": url, "DESK_TOKEN": "olga-token-000001"})
+    olga.env.update({"DESK_URL": url, "DESK_TOKEN": "a-token-that-is-not-read"})
     unsent(part, olga, ("report",), "DESK_TOKEN isn't read")
     os.unlink(path)
     olga.env["DESK_TOKEN_FILE"] = token_file
@@ -268,7 +274,13 @@ def lengths(part: Part) -> None:
     os.truncate(path, 134_217_729)
     between = Between(part.server.port)
     ann.at(between.url)
-    unsent(part, ann, ("submit", "long.efi", "--title", "long"), "has 134,217,729 bytes, and an image has at most 134,217,728")
+    long = "has 134,217,729 bytes, and an image has at most 134,217,728"
+    unsent(part, ann, ("submit", "long.efi", "--title", "long"), long)
+    sid, olga = part.people["sid"].at(between.url), part.people["olga"].at(between.url)
+    for person, words in ((sid, ("return", "1", "long.efi")), (ann, ("verdict", "long.efi")), (olga, ("revoke", "long.efi")), (olga, ("list-digest", "long.efi"))):
+        unsent(part, person, words, long)
+    for person in (sid, olga):
+        person.at(part.url)
     if between.seen:
         fail("a file that is too long was sent")
     os.truncate(path, 134_217_728)
@@ -299,15 +311,21 @@ def wrong_tokens(part: Part) -> None:
     unsent(part, ann, ("requests",), "is no token")
 
 
+def in_words() -> None:
+    """deskctl has words for each refusal of docs/REFUSALS.md, and for no other number."""
+    with open(os.path.join(ROOT, "docs", "REFUSALS.md"), encoding="utf-8") as page:
+        numbers = {int(it) for it in re.findall(r"(?m)^\| (\d+) \|", page.read())}
+    if set(module().WHY) != numbers:
+        fail(f"the refusals of deskctl and of docs/REFUSALS.md differ: {sorted(set(module().WHY) ^ numbers)}")
+
+
 def confirming(part: Part) -> None:
     """At a terminal a Confirm asks for a number, and only that number goes on."""
     olga, otto = part.people["olga"], part.people["otto"]
     part.program.file("three.esl", digest_list([digest("31"), digest("32"), digest("33")]))
     olga.does("import", "three.esl", out=["proposal 1"])
     unsent(part, otto, ("confirm", "1"), "no terminal to ask at")
-    # (an older desk doesn't show what it bars: then it asks for the count of entries)
-    number = "3" if new_route(part, "/proposals/1") is None else "0"
-    for typed, status in (("yes", 2), ("7", 2), (number, 0)):
+    for typed, status in (("yes", 2), ("7", 2), ("0", 0)):
         ended, shown = otto.asked("confirm", "1", answer=typed, size=(40, 300))
         if ended != status or "Nothing takes it back" not in shown or ("confirmed: 3 new digests" in shown) != (status == 0):
             fail(f"confirm, {typed!r} typed: status {ended}: {shown!r}")
@@ -318,6 +336,7 @@ def check(program: Program) -> str:
     parts: List = [three_mistakes, levels, texts, refusals, same_words_anew, tokens, settings, lengths, confirming]
     files(program)
     certificates(program)
+    in_words()
     for one in parts:
         with Part(program, one.__name__) as part:
             one(part)

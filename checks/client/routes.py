@@ -1,14 +1,13 @@
-"""What newer desks show: a proposal with its impact, minutes in parts, people. A proxy answers as such a desk does; where the desk has the
-routes itself, they are asked too. An older desk is told of in words."""
+"""Proposals shown whole, their impact, minutes in parts, people: by the desk, and by a proxy that answers as a desk does where the desk
+can't be brought to it. A desk without these routes is told of in words."""
 from __future__ import annotations
 
-import json
 import os
-from typing import Any, List
+from typing import Any
 
 from commands import TODAY, files
-from tools import Between, Part, Program, answer, fail, new_route
-from desk import PLAIN, authenticode, digest, said, sha256, with_text
+from tools import Between, Part, Program, answer, fail
+from desk import PEOPLE, PLAIN, authenticode, digest, refused, said, sha256, with_text
 
 
 def shown(value: Any) -> bytes:
@@ -30,22 +29,24 @@ IMPACT = {
 }
 
 
-def older(part: Part) -> List[str]:
-    """The commands for whose routes this desk is too old say so."""
-    who = part.people
-    who["olga"].does("revoke", "--digest", digest("41"), "--digest", digest("42"), out=["proposal 1"])
-    found = []
-    if new_route(part, "/proposals/1") is None:
-        found.append("proposal")
-        who["otto"].ends(1, "proposal", "1", out=["proposal 1 of olga: open; 2 digests, 0 certificates, 0 components"],
-                         err=["doesn't show what a proposal names"])
-        who["otto"].ends(2, "confirm", "1", err=["2 digests", "doesn't show what a proposal names", "no terminal"])
-        who["otto"].ends(2, "confirm", "1", "--bars", "0", "--yes", err=["can't be compared"])
-    for route, words in (("/people", ("people",)), ("/minutes/1", ("minutes",))):
-        if new_route(part, route) is None:
-            found.append(words[0])
-            who["otto"].ends(1, *words, err=["refused 53 NoRoute", "older than deskctl", "desk minutes"])
-    return found
+def older(part: Part) -> None:
+    """Where a desk hasn't the routes, the commands that need them say so; a Confirm then asks for the count of entries."""
+    between = Between(part.server.port)
+    olga, otto = part.people["olga"], part.people["otto"].at(between.url)
+    between.shows = {path: refused(53) for path in ("/proposals/1", "/proposals/1/impact", "/people", "/minutes/1")}
+    olga.does("revoke", "--digest", digest("41"), "--digest", digest("42"), out=["proposal 1"])
+    otto.ends(1, "proposal", "1", out=["proposal 1 of olga: open; 2 digests, 0 certificates, 0 components"], err=["doesn't show what a proposal names"])
+    otto.ends(1, "proposal", "1", "--json", err=["refused 53 NoRoute"])
+    otto.ends(2, "confirm", "1", err=["2 digests", "doesn't show what a proposal names", "no terminal"])
+    otto.ends(2, "confirm", "1", "--bars", "0", "--yes", err=["can't be compared"])
+    for typed, status in (("1", 2), ("2", 0)):
+        ended, found = otto.asked("confirm", "1", answer=typed, size=(60, 300))
+        if ended != status or "how many entries it has" not in found or ("proposal 1 confirmed" in found) != (status == 0):
+            fail(f"confirm without its routes, {typed!r} typed: status {ended}: {found!r}")
+    for words in (("people",), ("minutes",), ("minutes", "--into", "older.minutes")):
+        otto.ends(1, *words, err=["refused 53 NoRoute", "older than deskctl", "desk minutes"])
+    between.close()
+    otto.at(part.url)
 
 
 def by_proxy(part: Part) -> None:
@@ -111,49 +112,54 @@ def minutes_by_proxy(part: Part) -> None:
     olga.at(part.url)
 
 
-def by_desk(part: Part, left_out: List[str]) -> None:
-    """The same by the desk itself, as far as it has the routes."""
+def by_desk(part: Part) -> None:
+    """The same by the desk itself."""
     who, program = part.people, part.program
     ann, olga, otto = who["ann"], who["olga"], who["otto"]
-    if "proposal" not in left_out:
-        text = b"sbat,1,SBAT Version,sbat,1,https://example.org\nshim,3,shim,shim,16,https://example.org\n"
-        program.file("shim.efi", with_text(PLAIN, text))
-        number = len(json.loads(ann.does("requests", "--json"))) + 1
-        ann.does("submit", "shim.efi", "--title", "shim", out=[f"request {number} submitted"])
-        olga.does("raise", "shim", "4", "--stamp", TODAY + "01", out=["proposal 2"])
-        bars = f"bars request {number} (submitted, open, of ann), refused now: shim has generation 3, and the level requires 4"
-        wanted = ["component   shim 4", bars, "bars 1 known image"]
-        otto.does("proposal", "2", out=wanted)
-        otto.ends(2, "confirm", "2", "--bars", "0", err=["bars 1 known image, and not 0"])
-        otto.does("confirm", "2", "--bars", "1", err=wanted, out=["1 new component"])
-        olga.does("revoke", "shim.efi")
-        otto.does("proposal", "3", out=[f"digest      {authenticode(with_text(PLAIN, text))}  request {number} (open, shim)", "bars 0 known images"])
-        otto.does("proposal", "2", out=["confirmed"])
-    if "people" not in left_out:
-        if [row.split("\t")[0] for row in otto.does("people").splitlines()] != sorted(who):
-            fail("people")
-    if "minutes" not in left_out:
-        copy = program.at("copy.minutes")
-        otto.does("minutes", "--into", copy)
-        olga.does("list-digest", digest("45"))
-        otto.does("minutes", "--into", copy, err=["1 of them new"])
-        with open(copy, "rb") as file:
-            found = file.read()
-        if found != part.minutes() or otto.does("minutes").encode() != found:
-            fail(f"the copy of the minutes is another: {sha256(found)}")
+    text = b"sbat,1,SBAT Version,sbat,1,https://example.org\nshim,3,shim,shim,16,https://example.org\n"
+    image = with_text(PLAIN, text)
+    program.file("shim.efi", image)
+    ann.does("submit", "shim.efi", "--title", "shim", out=["request 1 submitted"])
+    olga.does("raise", "shim", "4", "--stamp", TODAY + "01", out=["proposal 2"])
+    bars = "bars request 1 (submitted, open, of ann), refused now: shim has generation 3, and the level requires 4"
+    wanted = ["component   shim 4", bars, "bars 1 known image"]
+    otto.does("proposal", "2", out=wanted)
+    otto.ends(2, "confirm", "2", "--bars", "0", err=["bars 1 known image, and not 0"])
+    otto.does("confirm", "2", "--bars", "1", err=wanted, out=["1 new component"])
+    for number in (3, 4):
+        olga.does("revoke", "shim.efi", out=[f"proposal {number}"])
+    known = f"digest      {authenticode(image)}  request 1 (open, shim)"
+    otto.does("proposal", "3", out=[known, "bars 0 known images"])
+    otto.does("proposal", "2", out=["confirmed"])
+    otto.does("confirm", "3", "--bars", "0")
+    # The other one can't be confirmed any more, and says so before anybody is asked.
+    shown_ = otto.does("proposal", "4", out=[known, "A Confirm would be refused 30 AlreadyRevoked", "deskctl drop 4"])
+    if otto.json_lines("proposal", "4")[1] != {"name": "AlreadyRevoked", "refused": 30}:
+        fail(f"proposal --json of one that can't be confirmed: {shown_}")
+    otto.ends(1, "confirm", "4", "--yes", err=[known, "refused 30 AlreadyRevoked", "deskctl drop 4"])
+    otto.does("drop", "4")
+    if [tuple(row.split("\t")) for row in otto.does("people").splitlines()] != sorted(PEOPLE.items()):
+        fail("people")
+    copy = program.at("copy.minutes")
+    otto.does("minutes", "--into", copy)
+    olga.does("list-digest", digest("45"))
+    otto.does("minutes", "--into", copy, err=["1 of them new"])
+    with open(copy, "rb") as file:
+        found = file.read()
+    if found != part.minutes() or otto.does("minutes").encode() != found:
+        fail(f"the copy of the minutes is another: {sha256(found)}")
 
 
 def check(program: Program) -> str:
     files(program)
     with Part(program, "routes") as part:
-        left_out = older(part)
-        by_desk(part, left_out)
-        minutes_by_proxy(part)
+        older(part)
+        by_desk(part)
     with Part(program, "shown") as part:
         part.people["olga"].does("import", "lists.esl")
         by_proxy(part)
-    told = f"; left out, since this desk has no route for them: {', '.join(left_out)}" if left_out else ""
-    return f"proposals, impacts, minutes and people as newer desks show them{told}"
+        minutes_by_proxy(part)
+    return "proposals, impacts, minutes and people, as the desk shows them and as a desk without them doesn't"
 
 
 if __name__ == "__main__":

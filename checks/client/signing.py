@@ -1,16 +1,18 @@
-"""The build system's job and the signing machine's loop of client/README.md, as they are printed; and a foreign signature that carries a
-listed certificate, which the desk allows and sbverify doesn't. It needs sbsigntool."""
+"""The build system's job, the signing machine's loop and the embargo's evening of client/README.md, as they are printed; and a foreign
+signature that carries a listed certificate, which the desk allows and sbverify doesn't."""
 from __future__ import annotations
 
+import glob
 import os
 import re
 import shutil
 import subprocess
-from typing import Dict
+from typing import Dict, List
 
-from commands import files
+from commands import TODAY, files
+from imports import update
 from tools import DESKCTL, ROOT, Part, Person, Program, fail, made
-from desk import sha256
+from desk import PLAIN, digest, digest_list, sha256, with_text
 
 
 def printed(title: str) -> str:
@@ -81,14 +83,52 @@ def day(part: Part) -> None:
         fail("the signing machine signs another file than the one that was asked for")
 
 
+def expanded(program: Program, word: str) -> List[str]:
+    """What a shell in the room makes of a word with a star."""
+    return sorted(os.path.relpath(it, program.room.name) for it in glob.glob(program.at(word))) if "*" in word else [word]
+
+
+def evening(part: Part) -> None:
+    """The embargo's evening of that page: each line by the person that its comment names; a Confirm gets the number of images that it bars."""
+    who, program = part.people, part.program
+    os.makedirs(program.at("old"))
+    for name, generation in (("old/grub1.efi", 2), ("old/grub2.efi", 3), ("grub.efi", 4)):
+        text = f"sbat,1,SBAT Version,sbat,1,https://example.org\ngrub,{generation},GRUB,grub,2.12,https://example.org\n"
+        program.file(name, with_text(PLAIN, text.encode()))
+        who["ann"].does("submit", name, "--title", name)
+    for number in ("1", "2"):
+        who["olga"].does("revoke", "--digest", digest(f"0{number}"))
+        who["olga"].does("drop", number)
+    program.file("DBXUpdate.bin", update(digest_list([digest("c1")])))
+    person, answers = who["olga"], {"3": "2", "4": "1"}
+    for line in printed("An embargo's evening").replace("2026112701", TODAY + "01").splitlines():
+        commands, _, note = line.partition("#")
+        person = who.get(note.split(":")[0].strip(), person)
+        for words in map(str.split, commands.split("&&")):
+            found = expanded(program, words[-1])
+            if words[1] != "confirm":
+                person.does(*words[1:-1], *found)
+                continue
+            status, shown = person.asked(*words[1:], answer=answers[words[2]], size=(60, 300))
+            if status or f"proposal {words[2]} confirmed" not in shown:
+                fail(f"an embargo's evening: {words}: status {status}: {shown!r}")
+    if [row["state"] for row in who["otto"].json("proposals")] != ["dropped", "dropped", "confirmed", "confirmed"]:
+        fail("an embargo's evening leaves other proposals")
+    if not os.path.getsize(program.at("dbx.esl")) or not os.path.getsize(program.at("minutes.txt")):
+        fail("an embargo's evening leaves no dbx or no minutes")
+
+
 def check(program: Program) -> str:
-    if not all(map(shutil.which, ("sbsign", "sbverify"))):
-        return "a signing machine's day (left out: sbsigntool)"
     files(program)
     prepared(program)
     with Part(program, "signing") as part:
         day(part)
-    return "a build system's job and a signing machine's loop as README has them; a foreign signature is allowed, and not returned"
+    with Part(program, "evening") as part:
+        evening(part)
+    return (
+        "a build system's job, a signing machine's loop and an embargo's evening as client/README.md has them; a foreign signature is allowed, and "
+        "not returned"
+    )
 
 
 if __name__ == "__main__":

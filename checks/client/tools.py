@@ -91,6 +91,9 @@ class Person:
     def json(self, *words: str) -> Any:
         return json.loads(self.does(*words, "--json"))
 
+    def json_lines(self, *words: str) -> List[Any]:
+        return [json.loads(line) for line in self.does(*words, "--json").splitlines()]
+
     def pending(self) -> List[str]:
         """The journal's entries that hold a key."""
         names = os.listdir(self.journal) if os.path.isdir(self.journal) else []
@@ -259,35 +262,35 @@ def certificate(folder: str, issuer: str, name: str, subject: str, extension: st
          str(int(time.time() * 1000)), "-days", "2", "-extfile", at(f"{name}.ext"), "-out", at(f"{name}.pem"))
 
 
-def free_port() -> int:
-    with socket.create_server(("127.0.0.1", 0)) as found:
-        return found.getsockname()[1]
-
-
-def listens(port: int) -> bool:
-    row = f":{port:04X}"
-    with open("/proc/net/tcp", encoding="ascii") as table:
-        return any(line.split()[1].endswith(row) and line.split()[3] == "0A" for line in table.readlines()[1:])
-
-
 class Nginx:
-    """packaging/nginx.conf in front of a desk, with another port, certificate and name; and a second site that asks for client certificates."""
+    """packaging/nginx.conf in front of a desk, with another port, certificate and name; and a second site that asks for client certificates.
+
+    Both ports are bound here, and nginx takes them over, as a newer nginx does from an older one (its variable NGINX)."""
 
     def __init__(self, program: Program, port: int):
         self.folder = program.at("nginx")
         os.makedirs(self.folder)
         authority(self.folder, "ca")
         certificate(self.folder, "ca", "site", "/CN=localhost", "subjectAltName=DNS:localhost,IP:127.0.0.1")
-        self.port, self.second = free_port(), free_port()
+        bound = [socket.create_server(("127.0.0.1", 0), backlog=100) for _ in range(2)]
+        self.port, self.second = (it.getsockname()[1] for it in bound)
         self.url, self.second_url = f"https://127.0.0.1:{self.port}", f"https://127.0.0.1:{self.second}"
         self.ca = os.path.join(self.folder, "ca.pem")
         with open(os.path.join(self.folder, "nginx.conf"), "w", encoding="utf-8") as file:
             file.write(self.configuration(port))
         nginx = shutil.which("nginx") or "/usr/sbin/nginx"
         self.log = os.path.join(self.folder, "error.log")
-        self.process = subprocess.Popen([nginx, "-p", self.folder + "/", "-e", self.log, "-c", "nginx.conf"], preexec_fn=end_with_parent)
-        until = time.monotonic() + 20
-        while not (listens(self.port) and listens(self.second)):
+        for it in bound:
+            it.setblocking(False)
+        numbers = [it.fileno() for it in bound]
+        self.process = subprocess.Popen(
+            [nginx, "-p", self.folder + "/", "-e", self.log, "-c", "nginx.conf"], preexec_fn=end_with_parent, pass_fds=numbers,
+            env={**os.environ, "NGINX": "".join(f"{number};" for number in numbers)},
+        )
+        for it in bound:
+            it.close()
+        until = time.monotonic() + 60
+        while not os.path.exists(f"{self.folder}/nginx.pid"):
             if time.monotonic() > until or self.process.poll() is not None:
                 fail(f"nginx: {open(self.log, encoding='utf-8').read()}")
             time.sleep(0.02)
@@ -348,10 +351,10 @@ def founded(program: Program) -> str:
 class Part:
     """What a part of the check gets: a program, a desk that serves, and its people."""
 
-    def __init__(self, program: Program, name: str, under: Sequence[str] = ()):
+    def __init__(self, program: Program, name: str):
         self.program, self.name = program, name
         self.path = program.copied(founded(program), f"{name}.db")
-        self.server = Server(program, self.path, under=under)
+        self.server = Server(program, self.path)
         self.url = f"http://127.0.0.1:{self.server.port}"
         self.people = people(program, self.url, name)
 
@@ -368,10 +371,3 @@ class Part:
     def report(self) -> bytes:
         """The desk's counts; that of commands says whether one was accepted."""
         return self.server.ask(got("olga", "/report"))
-
-
-def new_route(part: Part, path: str) -> Optional[int]:
-    """The status of a GET by an officer: 404 where the desk has no such route."""
-    ran = part.server.ask(f"GET {path} HTTP/1.1\r\nDesk-Token: {token('olga')}\r\n\r\n".encode())
-    found = re.match(rb"HTTP/1.1 (\d+)", ran)
-    return None if b'"refused":53}' in ran or not found else int(found[1])

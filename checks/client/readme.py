@@ -1,0 +1,64 @@
+"""The day at the desk in README.md by curl and by deskctl, each as it is printed over a desk of its own: what is printed below the commands
+comes, and both leave the same minutes but for keys."""
+from __future__ import annotations
+
+import os
+import random
+import socket
+import subprocess
+from typing import List, Tuple
+
+from tools import ROOT, Program, fail, without_keys
+from desk import end_with_parent
+
+
+def printed(title: str) -> Tuple[str, str]:
+    """What has to be typed below a title of README.md, and what comes of it."""
+    with open(os.path.join(ROOT, "README.md"), encoding="utf-8") as page:
+        part = page.read().split(f"\n## {title}\n", 1)[1].split("\n## ", 1)[0]
+    lines = [line[4:] for line in part.split("\n") if line.startswith("    ")]
+    commands = [line[2:] for line in lines if line.startswith(("$ ", "> "))]
+    return "\n".join(commands) + "\n", "".join(line + "\n" for line in lines if not line.startswith(("$ ", "> ")))
+
+
+def free_port() -> str:
+    """A port for a desk that README starts, of those that no other check and no client takes."""
+    for _ in range(1000):
+        port = random.randrange(5_000, 10_000)
+        try:
+            socket.create_server(("127.0.0.1", port)).close()
+            return str(port)
+        except OSError:
+            pass
+    fail("no port is free")
+    return ""
+
+
+def day(program: Program, title: str) -> List[Tuple[str, ...]]:
+    """The minutes that a day leaves. Its port is another one, since README's may be taken."""
+    typed, wanted = printed(title)
+    room = program.at(title.replace(" ", "-"))
+    os.makedirs(room)
+    for name, path in (("desk", program.path), ("examples", os.path.join(ROOT, "examples")), ("client", os.path.join(ROOT, "client"))):
+        os.symlink(path, os.path.join(room, name))
+    ran = subprocess.run(
+        ["bash", "-c", typed.replace("8080", free_port()) + "wait\n"], cwd=room, stdin=subprocess.DEVNULL, capture_output=True, text=True, check=False,
+        timeout=200, env={"PATH": os.environ["PATH"], "HOME": room}, preexec_fn=end_with_parent,
+    )
+    if ran.returncode or ran.stdout.replace("\n\n", "\n") != wanted:
+        fail(f"README, {title}: status {ran.returncode}, in place of\n{wanted}\ncame\n{ran.stdout}\n{ran.stderr}")
+    return without_keys(program.minutes(os.path.join(room, "desk.db")))
+
+
+def check(program: Program) -> str:
+    by_curl, by_deskctl = day(program, "A day at the desk"), day(program, "The same day by deskctl")
+    if not by_curl or by_curl != by_deskctl:
+        fail(f"README's days leave other minutes: {by_curl} and {by_deskctl}")
+    return f"README's day by deskctl leaves the {len(by_curl)} commands of the one by curl"
+
+
+if __name__ == "__main__":
+    import sys
+
+    with Program(sys.argv[1]) as found_program:
+        print(check(found_program))
