@@ -6,7 +6,7 @@
 # files of the libraries that its Depends name. The manual is read: no warning, each subcommand,
 # route and refusal is there. The completions are those of the help. The service's user is made; the
 # service is verified, and has an exposure of 2.0 at most. The client's package is made twice,
-# unpacked and run. lintian finds no error. What isn't
+# installed into an empty root, run and removed. lintian finds no error. What isn't
 # installed (lintian, mandoc, systemd) is skipped, and named at the end; so is the root if chroot
 # isn't allowed. Not part of the gate: it needs bash, dpkg-dev, git, groff, man, python3 and xxd.
 set -eu
@@ -154,23 +154,38 @@ if has systemd-analyze; then
     exposure=$(sed -n 's/.*Overall exposure level for .*: \([0-9.]*\) .*/\1/p' said)
 fi
 
-# ---- the client's package: made twice, unpacked, and run
+# ---- the client's package: made twice, installed, run, and removed
 
 holds 'deb-client.sh' "$root/packaging/deb-client.sh" one
 again_client() { (umask 077 && cd two && TZ=Asia/Tokyo TMPDIR=$room/two LC_ALL=C.UTF-8 "$root/packaging/deb-client.sh"); }
 holds 'deb-client.sh again' again_client
 client=$(basename one/kovelamiru-deskctl_*.deb)
 silent 'the same bytes twice' cmp "one/$client" "two/$client"
-mkdir client
-holds 'unpacking the client' dpkg-deb -x "one/$client" client
-holds 'its control file' dpkg-deb -e "one/$client" client/DEBIAN
-silent "the sums of the client's files" sh -c 'cd client && md5sum --quiet -c DEBIAN/md5sums'
+# By dpkg into an empty root; of this system's packages it is told of python3 alone.
+mkdir -p client dpkg/info dpkg/updates dpkg/triggers
+own() { dpkg --admindir="$room/dpkg" --instdir="$room/client" --log=/dev/null "$@"; }
+if [ "$(id -u)" -eq 0 ] && dpkg-query -s python3 > dpkg/status; then
+    : > dpkg/info/python3.list
+    holds 'installing the client' own -i "one/$client"
+    silent "the client's files" own --verify kovelamiru-deskctl
+    holds 'the state of the client' own -s kovelamiru-deskctl
+    grep -qx 'Status: install ok installed' said || fail "the client isn't installed: $(cat said)"
+else
+    left_out="$left_out dpkg"
+    holds 'unpacking the client' dpkg-deb -x "one/$client" client
+fi
 silent 'deskctl is another one' cmp "$root/client/deskctl" client/usr/bin/deskctl
 holds 'deskctl --version' client/usr/bin/deskctl --version
 [ "$(cat said)" = "deskctl $("$program" --version | cut -d' ' -f2)" ] || fail "deskctl has another version than desk: $(cat said)"
+holds 'deskctl --help' client/usr/bin/deskctl --help
+grep -q '^  submit  ' said || fail "deskctl --help: $(cat said)"
 gzip -dc client/usr/share/man/man1/deskctl.1.gz > deskctl.1
 silent 'groff of deskctl.1' warns deskctl.1
 if has mandoc; then silent 'mandoc of deskctl.1' mandoc -Tlint deskctl.1; fi
+if [ -s dpkg/status ]; then
+    holds 'removing the client' own -P kovelamiru-deskctl
+    [ -z "$(find client -type f)" ] || fail "the client leaves $(find client -type f)"
+fi
 
 # ---- lintian
 
