@@ -39,10 +39,11 @@ access list. Behind a proxy that knows people by client certificates, `--cert` t
 ONCE = """\
 Each command goes out under a key that deskctl makes of the time and of random bits, as `20261127T184000Z-7f3a9c5e01b2d846`; the minutes
 have it. The key and what it is for are written into a journal before the request goes out, and taken off when its answer has been
-printed. Where no answer comes (the connection fails, the proxy says 429, 500, 502 or 504, the desk has no memory) deskctl asks again
-with the same key, with growing pauses. If it gives up or is ended, the next run of the same command (the same desk, caller, words and
-files) takes that key, and says so. So a command acts once, whatever was lost. `--new-key` forgets the key, and the run is another
-command. `deskctl pending` lists the journal. Two runs of the same command at once follow one another.
+printed. Where no answer comes (the connection fails, the proxy says 408, 429, 500, 502, 503 or 504, the desk has no memory) deskctl asks
+again with the same key, with growing pauses. If it gives up or is ended, the next run of the same command (the same desk, caller, words
+and files) takes that key, and says so. So a command acts once, whatever was lost. A refusal ends that, unless an answer was lost before
+and the refusal says nothing of it, as one of the proxy's. `--new-key` forgets the key, and the run is another command.
+`deskctl pending` lists the journal. Two runs of the same command at once follow one another.
 
 An import of several parts has a key a part; the same command goes on where it was stopped."""
 QUESTIONS = """\
@@ -50,9 +51,9 @@ Nothing takes a revocation back, and an entry that names nothing stays in dbx fo
 
 - a digest or a certificate that is the SHA-256 of the whole file of a request, the fingerprint of a listed certificate, or an entry of the
 other kind at the desk;
-- a generation above 65,535, or more than ten above the present one;
+- a generation above 65,535, or ten or more above the present one;
 - a stamp that doesn't begin with a date of the last or the next year;
-- an import in which nothing is new.
+- an import that names nothing, or in which nothing is new.
 
 `confirm` shows all that the proposal names, which known images it would bar, and asks how many these are; `--bars COUNT` answers
 beforehand, and ends with status 2 if there are others. Without a terminal deskctl sends nothing where it would ask, unless `--yes` is

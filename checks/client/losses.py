@@ -215,6 +215,35 @@ def store_failed(program: Program) -> None:
         between.close()
 
 
+def waiting(program: Program) -> None:
+    """`wait` goes on while the desk is out of reach, once it was there; it ends where it never was."""
+    with Part(program, "waiting") as part:
+        between = Between(part.server.port)
+        who = people(program, between.url, part.name)
+        who["ann"].does("submit", "plain.efi", "--title", "T")
+
+        def asked(count: int) -> None:
+            until = time.monotonic() + 60
+            while sum(head.startswith(b"GET /requests/1 ") for head in between.seen) < count:
+                if time.monotonic() > until:
+                    fail("wait doesn't ask")
+                time.sleep(0.05)
+
+        run = who["ann"].start("wait", "1", "--timeout", "100", "--retries", "0")
+        asked(1)
+        between.shows["/requests/1"] = answer(502, BUSY, b"text/html")
+        asked(3)
+        for name in ("rita", "raul"):
+            who[name].does("review", "1", "yes")
+        del between.shows["/requests/1"]
+        out, err = run.communicate()
+        if run.returncode or b"request 1 approved" not in out or b"502, the proxy doesn't reach the desk; still waiting" not in err:
+            fail(f"wait while the desk is out of reach: status {run.returncode}, {out!r}, {err!r}")
+        between.shows["/requests/1"] = answer(502, BUSY, b"text/html")
+        who["ann"].ends(3, "wait", "1", "--timeout", "100", "--retries", "0", err=["the proxy doesn't reach the desk"])
+        between.close()
+
+
 def killed_in_flight(program: Program) -> None:
     """Killed while the answer is on its way, or before the desk had the request; the token is in no process list meanwhile."""
     with Part(program, "flight") as part:
@@ -298,6 +327,7 @@ def check(program: Program) -> str:
     out_of_reach(program)
     unsettled(program)
     store_failed(program)
+    waiting(program)
     killed_in_flight(program)
     side_by_side(program)
     return (
