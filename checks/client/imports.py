@@ -6,10 +6,10 @@ import json
 import os
 import re
 import struct
-from typing import Any, Dict, List, Tuple
+from typing import Any, Dict, List, Optional, Tuple
 
 from commands import TODAY, files
-from tools import Part, Person, Program, calls, fail, made, module
+from tools import RSA, Part, Person, Program, calls, fail, made, module, self_signed
 from desk import CERTIFICATE, OWNER, THREE_LISTS, X509_KIND, digest, digest_list, sha256, signature_list
 
 MICROSOFT = bytes.fromhex("bd9afa775903324dbd6028f4e78f784b")
@@ -87,10 +87,12 @@ def kinds(part: Part) -> int:
          ("left out      2 versions of Windows' boot programs (SVN)",)),
         ("version.esl", of_owner(digest_list([one, VERSION.hex()]), MICROSOFT), f"import 0 0 {one} - -", ("left out      1 versions",)),
         ("dbx.json", PUBLISHED, f"import 0 0 {digest('a1')},{digest('a2')},{digest('a3')} - -",
-         ("Microsoft's dbx_info_msft (JSON)", "left out      2 flat hashes", "left out      2 versions", "left out      1 certificates", "arm64, x64")),
+         ("Microsoft's dbx_info_msft (JSON)", "left out      2 flat hashes", "left out      2 versions", "left out      1 certificates",
+          "arm64, x64")),
         ("dbx.csv", TABLE, f"import 0 0 {digest('a1')},{digest('a3')} - -", ("Microsoft's dbx_info (CSV)", "left out      2 flat hashes")),
         ("own.csv", b"\xef\xbb\xbfkind,value,generation\r\nsha256," + one.encode() + b",\r\n", f"import 0 0 {one} - -", ("the desk's CSV",)),
-        ("level", f"sbat,1,{TODAY}07\ngrub,3\ngrub,2\n".encode(), f"import {TODAY}07 0 - - 3:grub", ("a level's text (SBAT)", "components    1, 1 new")),
+        ("level", f"sbat,1,{TODAY}07\ngrub,3\ngrub,2\n".encode(), f"import {TODAY}07 0 - - 3:grub",
+         ("a level's text (SBAT)", "components    1, 1 new")),
     ]
     for row in rows:
         takes(part, row[0], row[1], row[2], *row[3])
@@ -142,35 +144,30 @@ def refused(part: Part) -> None:
     nobody.does("import", "c.esl", "--dry-run", out=["digests       1\n", "no desk is named"])
 
 
+def read_cut(ctl: Any, program: Program, data: bytes) -> Optional[int]:
+    """How many entries a cut file has, read in this process; nothing where it is refused, in words."""
+    try:
+        return ctl.revocations_of(program.file("cut", data), None).entries()
+    except ctl.Stop as stop:
+        if stop.status != ctl.WORDS or not str(stop):
+            fail(f"a file that is cut: {stop!r}")
+        return None
+
+
 def cuts(program: Program) -> int:
-    """Each beginning of each kind's header, read in this process: a fault in words, never another file's kind and never fewer entries."""
+    """Each beginning of each kind's header: a fault in words, never another file's kind and never fewer entries."""
     ctl = module()
     lists = digest_list([digest("c1"), digest("c2")])
     tried = 0
     for data, header in ((lists, 28), (update(lists), 40 + 90 + 28), (ATTRIBUTES + lists, 32), (ATTRIBUTES + update(lists), 4 + 40 + 90 + 28)):
-        if len(ctl.revocations_of(program.file("cut", data), None).digests) != 2:
+        if read_cut(ctl, program, data) != 2:
             fail("a whole file isn't read whole")
-        for length in range(header + 1):
-            program.file("cut", data[:length])
+        for length in range(len(data)):
             tried += 1
-            try:
-                found = ctl.revocations_of(program.at("cut"), None)
-            except ctl.Stop as stop:
-                if stop.status != ctl.WORDS or not str(stop):
-                    fail(f"cut at {length}: {stop!r}")
-            else:
-                # (attributes alone are a variable without lists; so is an update without them)
-                if found.entries() or length not in (4, 40 + 90, 4 + 40 + 90):
-                    fail(f"cut at {length} of {len(data)} it is {found.kind}")
-        for length in range(header, len(data)):
-            program.file("cut", data[:length])
-            tried += 1
-            try:
-                ctl.revocations_of(program.at("cut"), None)
-            except ctl.Stop:
-                continue
-            if length not in (40 + 90, 4 + 40 + 90):
-                fail(f"cut within its entries at {length} it is read")
+            entries = read_cut(ctl, program, data[:length])
+            # (attributes alone are a variable without lists; so is an update without them)
+            if entries or (entries == 0 and length not in (4, 40 + 90, 4 + 40 + 90)):
+                fail(f"cut at {length} of {len(data)}, with a header of {header}, it has {entries} entries")
     return tried
 
 
@@ -179,30 +176,21 @@ def text_cuts(program: Program) -> int:
     ctl = module()
     tried = 0
     for data in (f"kind,value,generation\nsha256,{digest('c1')},\n".encode(), f"sbat,1,{TODAY}01\ngrub,3\n".encode(), TABLE, PUBLISHED):
-        if not ctl.revocations_of(program.file("cut", data), None).entries():
+        if not read_cut(ctl, program, data):
             fail("a whole file isn't read")
-        json_ = data.startswith(b"{")
-        for length in range(len(data) if json_ else data.index(b"\n") + 1):
-            program.file("cut", data[:length])
+        whole = data.startswith(b"{")
+        for length in range(len(data) if whole else data.index(b"\n") + 1):
             tried += 1
-            try:
-                found = ctl.revocations_of(program.at("cut"), None)
-            except ctl.Stop as stop:
-                if stop.status != ctl.WORDS or not str(stop):
-                    fail(f"cut at {length}: {stop!r}")
-            else:
-                if json_ or found.entries():
-                    fail(f"cut at {length} of {len(data)} it is {found.kind}")
+            entries = read_cut(ctl, program, data[:length])
+            if entries or (whole and entries is not None):
+                fail(f"cut at {length} of {len(data)} it has {entries} entries")
     return tried
 
 
 def certificate_cuts(program: Program) -> int:
     """Each beginning of a certificate is a fault in words."""
     ctl = module()
-    made("openssl", "req", "-x509", "-newkey", "ec", "-pkeyopt", "ec_paramgen_curve:prime256v1", "-nodes", "-days", "2", "-subj", "/CN=x",
-         "-keyout", "c.key", "-outform", "DER", "-out", "c.der", cwd=program.room.name)
-    with open(program.at("c.der"), "rb") as file:
-        whole = file.read()
+    whole = self_signed(program.room.name, "c", "/CN=x")
     if ctl.certificate_of(program.at("c.der")).subject != "CN=x":
         fail("a certificate's subject")
     for length in range(len(whole)):
@@ -244,13 +232,12 @@ def parts(part: Part) -> None:
 def by_efitools(part: Part) -> None:
     """What efitools writes: a list of a certificate, and a signed update of that and of a digest."""
     program, room = part.program, part.program.room.name
-    made("openssl", "req", "-x509", "-newkey", "rsa:2048", "-nodes", "-days", "2", "-subj", "/CN=KEK", "-keyout", "kek.key", "-out", "kek.pem", cwd=room)
+    self_signed(room, "kek", "/CN=KEK", RSA)
     made("cert-to-efi-sig-list", "-g", "77fa9abd-0359-4d32-bd60-28f4e78f784b", "kek.pem", "kek.esl", cwd=room)
     with open(program.at("kek.esl"), "rb") as file:
         lists = file.read() + digest_list([digest("e1")])
     program.file("tools.esl", lists)
     made("sign-efi-sig-list", "-t", "2026-11-27 10:11:12", "-k", "kek.key", "-c", "kek.pem", "dbx", "tools.esl", "tools.auth", cwd=room)
-    made("openssl", "x509", "-in", "kek.pem", "-outform", "DER", "-out", "kek.der", cwd=room)
     tbs = module().certificate_of(program.at("kek.der")).tbs
     with open(program.at("tools.auth"), "rb") as file:
         signed = file.read()

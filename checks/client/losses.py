@@ -173,7 +173,8 @@ def unsettled(program: Program) -> None:
         json = b"application/json"
         rules = (
             instead(403, BUSY, b"text/html", False), instead(404, BUSY, b"text/html", False), instead(413, BUSY, b"text/html", False),
-            instead(401, said({"name": "UnknownCaller", "refused": 20}), json, False), instead(400, said({"name": "BadHead", "refused": 50}), json, False),
+            instead(401, said({"name": "UnknownCaller", "refused": 20}), json, False),
+            instead(400, said({"name": "BadHead", "refused": 50}), json, False),
         )
         for at, rule in enumerate(rules, 1):
             words = ("submit", "plain.efi", "--title", f"unsettled {at}")

@@ -1,7 +1,6 @@
 """What goes wrong every day: each mistake ends in a question or in words, and nothing is sent."""
 from __future__ import annotations
 
-import hashlib
 import os
 import re
 import subprocess
@@ -9,18 +8,14 @@ import time
 from typing import List, Tuple
 
 from commands import HEX, TODAY, files
-from tools import DESKCTL, ROOT, Between, Part, Person, Program, calls, fail, made, module, token
+from tools import DESKCTL, ROOT, Between, Part, Person, Program, calls, fail, made, module, self_signed, token
 from desk import PLAIN, SIGNED, TBS, authenticode, digest, digest_list, sha256, with_text
 
 
 def certificates(program: Program) -> Tuple[str, str, str]:
     """A certificate of openssl's as real.pem and real.der: the SHA-256 of its TBSCertificate, its fingerprint, and that with colons."""
     room = program.room.name
-    made("openssl", "req", "-x509", "-newkey", "ec", "-pkeyopt", "ec_paramgen_curve:prime256v1", "-nodes", "-days", "2", "-subj",
-         "/O=A distribution/CN=Boot signer", "-keyout", "real.key", "-out", "real.pem", cwd=room)
-    made("openssl", "x509", "-in", "real.pem", "-outform", "DER", "-out", "real.der", cwd=room)
-    with open(program.at("real.der"), "rb") as file:
-        der = file.read()
+    der = self_signed(room, "real", "/O=A distribution/CN=Boot signer")
     made("openssl", "asn1parse", "-inform", "DER", "-in", "real.der", "-strparse", "4", "-noout", "-out", "real.tbs", cwd=room)
     with open(program.at("real.tbs"), "rb") as file:
         tbs = sha256(file.read())
@@ -187,7 +182,8 @@ def tokens(part: Part) -> None:
     olga.does("revoke", "plain.efi", "--program", spy)
     with open(program.at("spied"), "rb") as file:
         seen = file.read()
-    if b"facts" not in seen or token("olga").encode() in seen or b"TOKEN" in seen or hashlib.sha256(token("olga").encode()).hexdigest().encode() in seen:
+    known = (token("olga"), sha256(token("olga").encode()), "TOKEN")
+    if b"facts" not in seen or any(it.encode() in seen for it in known):
         fail(f"a child is told of the token: {seen!r}")
     for mode in (0o644, 0o640, 0o604):
         os.chmod(olga.token_file, mode)
@@ -277,8 +273,8 @@ def lengths(part: Part) -> None:
     long = "has 134,217,729 bytes, and an image has at most 134,217,728"
     unsent(part, ann, ("submit", "long.efi", "--title", "long"), long)
     sid, olga = part.people["sid"].at(between.url), part.people["olga"].at(between.url)
-    for person, words in ((sid, ("return", "1", "long.efi")), (ann, ("verdict", "long.efi")), (olga, ("revoke", "long.efi")), (olga, ("list-digest", "long.efi"))):
-        unsent(part, person, words, long)
+    for person, *words in ((sid, "return", "1"), (ann, "verdict"), (olga, "revoke"), (olga, "list-digest")):
+        unsent(part, person, (*words, "long.efi"), long)
     for person in (sid, olga):
         person.at(part.url)
     if between.seen:

@@ -42,8 +42,8 @@ def day(program: Program, title: str) -> List[Tuple[str, ...]]:
     for name, path in (("desk", program.path), ("examples", os.path.join(ROOT, "examples")), ("client", os.path.join(ROOT, "client"))):
         os.symlink(path, os.path.join(room, name))
     ran = subprocess.run(
-        ["bash", "-c", typed.replace("8080", free_port()) + "wait\n"], cwd=room, stdin=subprocess.DEVNULL, capture_output=True, text=True, check=False,
-        timeout=200, env={"PATH": os.environ["PATH"], "HOME": room}, preexec_fn=end_with_parent,
+        ["bash", "-c", typed.replace("8080", free_port()) + "wait\n"], cwd=room, stdin=subprocess.DEVNULL, capture_output=True, text=True,
+        check=False, timeout=200, env={"PATH": os.environ["PATH"], "HOME": room}, preexec_fn=end_with_parent,
     )
     if ran.returncode or ran.stdout.replace("\n\n", "\n") != wanted:
         fail(f"README, {title}: status {ran.returncode}, in place of\n{wanted}\ncame\n{ran.stdout}\n{ran.stderr}")

@@ -21,7 +21,8 @@ PROPOSAL = {
 IMPACT = {
     "adds": {"certificates": 1, "components": 1, "digests": 1},
     "bars": [
-        {"allowed": True, "by": {"verdict": "dbx-digest"}, "file": "submitted", "request": 1, "state": "signed", "submitter": "ann", "title": "a loader"},
+        {"allowed": True, "by": {"verdict": "dbx-digest"}, "file": "submitted", "request": 1, "state": "signed", "submitter": "ann",
+         "title": "a loader"},
         {"allowed": False, "by": {"component": "shim", "generation": 4, "level": 4294967295, "verdict": "sbat"}, "file": "returned", "request": 2,
          "state": "signed", "submitter": "ann", "title": "another"},
     ],
@@ -35,7 +36,8 @@ def older(part: Part) -> None:
     olga, otto = part.people["olga"], part.people["otto"].at(between.url)
     between.shows = {path: refused(53) for path in ("/proposals/1", "/proposals/1/impact", "/people", "/minutes/1")}
     olga.does("revoke", "--digest", digest("41"), "--digest", digest("42"), out=["proposal 1"])
-    otto.ends(1, "proposal", "1", out=["proposal 1 of olga: open; 2 digests, 0 certificates, 0 components"], err=["doesn't show what a proposal names"])
+    counts = "proposal 1 of olga: open; 2 digests, 0 certificates, 0 components"
+    otto.ends(1, "proposal", "1", out=[counts], err=["doesn't show what a proposal names"])
     otto.ends(1, "proposal", "1", "--json", err=["refused 53 NoRoute"])
     otto.ends(2, "confirm", "1", err=["2 digests", "doesn't show what a proposal names", "no terminal"])
     otto.ends(2, "confirm", "1", "--bars", "0", "--yes", err=["can't be compared"])

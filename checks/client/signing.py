@@ -11,7 +11,7 @@ from typing import Dict, List
 
 from commands import TODAY, files
 from imports import update
-from tools import DESKCTL, ROOT, Part, Person, Program, fail, made
+from tools import DESKCTL, ROOT, RSA, Part, Person, Program, fail, made, self_signed
 from desk import PLAIN, digest, digest_list, sha256, with_text
 
 
@@ -27,7 +27,9 @@ def typed(part: Part, person: Person, text: str, **more: str) -> str:
     program = part.program
     text = text.replace("/srv/images", program.at("images"))
     path = f"{program.at('bin')}:{person.env['PATH']}"
-    ran = subprocess.run(["sh", "-eu", "-c", text], env={**person.env, "PATH": path, **more}, cwd=program.room.name, capture_output=True, check=False, timeout=200)
+    ran = subprocess.run(
+        ["sh", "-eu", "-c", text], env={**person.env, "PATH": path, **more}, cwd=program.room.name, capture_output=True, check=False, timeout=200,
+    )
     if ran.returncode or b"Traceback" in ran.stderr:
         fail(f"README of the client: status {ran.returncode}: {ran.stdout.decode()} {ran.stderr.decode()}")
     return ran.stdout.decode()
@@ -39,8 +41,7 @@ def prepared(program: Program) -> None:
     os.symlink(DESKCTL, program.at("bin/deskctl"))
     shutil.copyfile(os.path.join(ROOT, "examples", "tiny.efi"), program.at("shimx64.efi"))
     for name in ("signer", "foreign"):
-        made("openssl", "req", "-x509", "-newkey", "rsa:2048", "-nodes", "-days", "2", "-subj", f"/CN={name}", "-keyout", f"{name}.key", "-out", f"{name}.pem",
-             cwd=program.room.name)
+        self_signed(program.room.name, name, f"/CN={name}", RSA)
 
 
 def foreign(part: Part, who: Dict[str, Person]) -> None:

@@ -241,6 +241,17 @@ def made(*words: str, given: bytes = b"", cwd: str = ".") -> bytes:
     return ran.stdout
 
 
+ELLIPTIC, RSA = ("-newkey", "ec", "-pkeyopt", "ec_paramgen_curve:prime256v1"), ("-newkey", "rsa:2048")
+
+
+def self_signed(folder: str, name: str, subject: str, kind: Sequence[str] = ELLIPTIC) -> bytes:
+    """A certificate as NAME.pem and NAME.der, and its key as NAME.key: the bytes of its DER."""
+    made("openssl", "req", "-x509", *kind, "-nodes", "-days", "2", "-subj", subject, "-keyout", f"{name}.key", "-out", f"{name}.pem", cwd=folder)
+    made("openssl", "x509", "-in", f"{name}.pem", "-outform", "DER", "-out", f"{name}.der", cwd=folder)
+    with open(os.path.join(folder, f"{name}.der"), "rb") as file:
+        return file.read()
+
+
 def new_key(folder: str, name: str) -> str:
     path = os.path.join(folder, f"{name}.key")
     made("openssl", "ecparam", "-name", "prime256v1", "-genkey", "-noout", "-out", path)
