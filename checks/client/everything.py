@@ -1,5 +1,6 @@
 """Every part of client.sh's check beside one another, with one program: what each shows, then the count."""
 import concurrent.futures
+import os
 import subprocess
 import sys
 import time
@@ -13,7 +14,7 @@ PARTS = ("losses", "commands", "mistakes", "imports", "routes", "signing", "read
 
 def part(name: str) -> str:
     process = subprocess.Popen(
-        [sys.executable, "-B", f"{sys.path[0]}/{name}.py", sys.argv[1]], stdout=subprocess.PIPE, stderr=subprocess.PIPE, text=True,
+        [sys.executable, "-B", os.path.join(os.path.dirname(__file__), f"{name}.py"), sys.argv[1]], stdout=subprocess.PIPE, stderr=subprocess.PIPE, text=True,
         preexec_fn=end_with_parent,
     )
     RUNNING.add(process)
