@@ -57,8 +57,21 @@ def plain_day() -> List[Step]:
     ]
 
 
+def below(process: int) -> List[int]:
+    """The processes that this one began, and theirs."""
+    found: List[int] = []
+    try:
+        for task in os.listdir(f"/proc/{process}/task"):
+            with open(f"/proc/{process}/task/{task}/children", encoding="ascii") as children:
+                for child in map(int, children.read().split()):
+                    found += [child, *below(child)]
+    except OSError:
+        pass
+    return found
+
+
 class Watch:
-    """Looks for a token in the command line and the environment of each process, as long as it stands."""
+    """Looks for a token in the command line and the environment of each process below this one, as long as it stands."""
 
     def __init__(self) -> None:
         self.found: List[str] = []
@@ -66,9 +79,9 @@ class Watch:
         self.thread = threading.Thread(target=self.look, daemon=True)
 
     def look(self) -> None:
-        while not self.ended.wait(0.05):
-            self.looks += 1
-            for process in filter(str.isdecimal, os.listdir("/proc")):
+        while not self.ended.wait(0.02):
+            for process in below(os.getpid()):
+                self.looks += 1
                 for what in ("cmdline", "environ"):
                     try:
                         with open(f"/proc/{process}/{what}", "rb") as file:

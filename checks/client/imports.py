@@ -9,7 +9,7 @@ import struct
 from typing import Any, Dict, List, Optional, Tuple
 
 from commands import TODAY, files
-from tools import RSA, Part, Person, Program, calls, fail, made, module, self_signed
+from tools import RSA, Part, Person, Program, by_bytecode, calls, fail, made, module, self_signed
 from desk import CERTIFICATE, OWNER, THREE_LISTS, X509_KIND, digest, digest_list, sha256, signature_list
 
 MICROSOFT = bytes.fromhex("bd9afa775903324dbd6028f4e78f784b")
@@ -266,5 +266,6 @@ def check(program: Program) -> str:
 if __name__ == "__main__":
     import sys
 
+    by_bytecode()
     with Program(sys.argv[1]) as found_program:
         print(check(found_program))

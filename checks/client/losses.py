@@ -9,7 +9,7 @@ import time
 from typing import Callable, Dict, List, Tuple
 
 from commands import TODAY, files
-from tools import Between, Part, Person, Program, answer, calls, fail, module, people
+from tools import Between, Part, Person, Program, answer, by_bytecode, calls, fail, module, people
 from desk import digest, said
 
 Ask = Callable[[bytes], bytes]
@@ -298,7 +298,7 @@ def killed_anywhere(part: Part, lane: int, count: int) -> None:
 
 def all_killed(program: Program) -> int:
     with Part(program, "anywhere") as part:
-        lanes, count = 4, 12
+        lanes, count = 4, 9
         with concurrent.futures.ThreadPoolExecutor(lanes) as pool:
             list(pool.map(lambda lane: killed_anywhere(part, lane, count), range(lanes)))
         titles = [row[3].split(" ", 8)[-1] for row in calls(part.minutes())]
@@ -320,8 +320,8 @@ def side_by_side(program: Program) -> None:
 def check(program: Program) -> str:
     files(program)
     names = list(POINTS)
-    jobs = [(tuple(names[at : at + 3]), False) for at in range(0, len(names), 3)]
-    jobs.append((("no answer", "all but a byte of the answer", "half the head", "502 behind"), True))
+    jobs = [(tuple(names[at : at + 4]), False) for at in range(0, len(names), 4)]
+    jobs.append((("no answer", "half the head"), True))
     with concurrent.futures.ThreadPoolExecutor(len(jobs)) as pool:
         list(pool.map(lambda job: lost_at(program, *job), jobs))
     tried = each_length(program)
@@ -340,5 +340,6 @@ def check(program: Program) -> str:
 if __name__ == "__main__":
     import sys
 
+    by_bytecode()
     with Program(sys.argv[1]) as found_program:
         print(check(found_program))

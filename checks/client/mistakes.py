@@ -8,7 +8,7 @@ import time
 from typing import List, Tuple
 
 from commands import HEX, TODAY, files
-from tools import DESKCTL, ROOT, Between, Part, Person, Program, calls, fail, made, module, self_signed, token
+from tools import DESKCTL, ROOT, Between, Part, Person, Program, by_bytecode, calls, fail, made, module, self_signed, token
 from desk import PLAIN, SIGNED, TBS, authenticode, digest, digest_list, sha256, with_text
 
 
@@ -344,5 +344,6 @@ def check(program: Program) -> str:
 if __name__ == "__main__":
     import sys
 
+    by_bytecode()
     with Program(sys.argv[1]) as found_program:
         print(check(found_program))

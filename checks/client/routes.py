@@ -6,7 +6,7 @@ import os
 from typing import Any
 
 from commands import TODAY, files
-from tools import Between, Part, Program, answer, fail
+from tools import Between, Part, Program, answer, by_bytecode, fail
 from desk import PEOPLE, PLAIN, authenticode, digest, refused, said, sha256, with_text
 
 
@@ -167,5 +167,6 @@ def check(program: Program) -> str:
 if __name__ == "__main__":
     import sys
 
+    by_bytecode()
     with Program(sys.argv[1]) as found_program:
         print(check(found_program))

@@ -3,6 +3,7 @@
 The desk's program, its images and its people are those of ../requests/desk.py."""
 from __future__ import annotations
 
+import atexit
 import importlib.machinery
 import importlib.util
 import json
@@ -13,6 +14,7 @@ import shutil
 import socket
 import subprocess
 import sys
+import tempfile
 import threading
 import time
 from typing import Any, Callable, Dict, List, Optional, Sequence, Tuple
@@ -23,7 +25,20 @@ from desk import PEOPLE, Program, Server, end_with_parent, fail, got, token  # n
 
 # Another one may be named, as that of a package.
 DESKCTL = os.environ.get("DESKCTL") or os.path.join(ROOT, "client", "deskctl")
-RESULTS = {"runs": 0}
+# How a person's deskctl is begun.
+COMMAND = [DESKCTL]
+
+
+def by_bytecode() -> None:
+    """From here on deskctl is run from its bytecode, by the Python that its first line names: so many short runs spend their time otherwise
+    than on compiling it."""
+    with open(DESKCTL, encoding="utf-8") as file:
+        python = file.readline()[2:].split()
+    folder = tempfile.mkdtemp(prefix="deskctl-")
+    atexit.register(shutil.rmtree, folder, ignore_errors=True)
+    path = os.path.join(folder, "deskctl.pyc")
+    made(*python, "-c", "import py_compile, sys; py_compile.compile(sys.argv[1], sys.argv[2], doraise=True)", DESKCTL, path)
+    COMMAND[:] = [*python, path]
 
 
 def module() -> Any:
@@ -57,9 +72,8 @@ class Person:
         return self
 
     def start(self, *words: str, **more: Any) -> subprocess.Popen:
-        RESULTS["runs"] += 1
         return subprocess.Popen(
-            [DESKCTL, *words], stdin=more.pop("stdin", subprocess.DEVNULL), stdout=subprocess.PIPE, stderr=subprocess.PIPE, env=self.env,
+            [*COMMAND, *words], stdin=more.pop("stdin", subprocess.DEVNULL), stdout=subprocess.PIPE, stderr=subprocess.PIPE, env=self.env,
             preexec_fn=end_with_parent, cwd=self.program.room.name, **more,
         )
 
@@ -101,12 +115,11 @@ class Person:
 
     def asked(self, *words: str, answer: str, size: Tuple[int, int] = (40, 100)) -> Tuple[int, str]:
         """A run at a terminal, whose question gets this answer: its status, and all that was shown."""
-        RESULTS["runs"] += 1
         child, master = pty.fork()
         if child == 0:
             end_with_parent()
             os.chdir(self.program.room.name)
-            os.execve(DESKCTL, [DESKCTL, *words], {**self.env, "COLUMNS": str(size[1]), "LINES": str(size[0])})
+            os.execve(COMMAND[0], [*COMMAND, *words], {**self.env, "COLUMNS": str(size[1]), "LINES": str(size[0])})
         shown, typed = b"", False
         while True:
             try:
