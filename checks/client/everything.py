@@ -14,8 +14,8 @@ PARTS = ("losses", "commands", "mistakes", "imports", "routes", "signing", "read
 
 def part(name: str) -> str:
     process = subprocess.Popen(
-        [sys.executable, "-B", os.path.join(os.path.dirname(__file__), f"{name}.py"), sys.argv[1]], stdout=subprocess.PIPE, stderr=subprocess.PIPE, text=True,
-        preexec_fn=end_with_parent,
+        [sys.executable, "-B", os.path.join(os.path.dirname(__file__), f"{name}.py"), sys.argv[1]], stdout=subprocess.PIPE,
+        stderr=subprocess.PIPE, text=True, preexec_fn=end_with_parent,
     )
     RUNNING.add(process)
     out, err = process.communicate()

@@ -60,8 +60,10 @@ def three_mistakes(part: Part) -> None:
     # What is right isn't asked about, and is named.
     olga.does("revoke", "--certificate", "real.pem", out=["proposal 3"], err=["Boot signer", f"certificate {tbs}"])
     olga.does("revoke", "--digest", authenticode(SIGNED), out=["proposal 4"], err=["request 1 (open, grub 2.12)"])
-    olga.does("import", "lists.esl", out=["proposal 5"])
-    part.people["otto"].does("confirm", "5", "--yes")
+    carried = [f"certificate {TBS}  listed", "carried by request 1 (open, grub 2.12)"]
+    olga.does("revoke", "--certificate", "certificate.der", out=["proposal 5"], err=carried)
+    olga.does("import", "lists.esl", out=["proposal 6"])
+    part.people["otto"].does("confirm", "6", "--yes")
     unsent(part, olga, ("revoke", "--certificate", digest("aa")), "is an image's digest in dbx, and no certificate")
     unsent(part, olga, ("revoke", "--digest", digest("bb")), "is a certificate in dbx, and no image's digest")
 
