@@ -2,10 +2,10 @@
 # A day of a desk on the command line, with the built program or the named one: day.sh [PROGRAM]. A
 # desk is made, seven people are added, an image is judged, and everything is exported; each output,
 # error line and status is compared with the expected one. Then each fault of each subcommand in
-# order, two terminals at one file, and a writer that is full. Then two officers list, propose,
-# confirm and drop by `answer`, one request each, and after each change the exports and verdicts are
-# compared. At the end sqlite3 reads the file: its schema and its rows. Not part of `rt ci`: it needs
-# sqlite3 and xxd.
+# order, two terminals at one file, and a writer that is full. Then an image is submitted, and two
+# officers list, propose, look, confirm and drop by `answer`, one request each, and after each change
+# the exports, verdicts and impacts are compared. At the end sqlite3 reads the file: its schema and
+# its rows. Not part of `rt ci`: it needs sqlite3 and xxd.
 set -eu
 . "$(dirname -- "$(readlink -f -- "$0")")/common.sh"
 needs sqlite3 xxd
@@ -68,6 +68,18 @@ run 1 nothing 'refused 35 NameTaken' ann person desk.db anna submitter k9
 run 1 nothing 'refused 35 NameTaken' ended person desk.db console submitter k9
 exported minutes minutes desk.db
 
+# `enrol` makes the same call of the token's SHA-256, in digits of either case, alone or as sha256sum
+# writes it.
+token ann > summed
+run 0 added '' summed enrol desk.db ann submitter k1
+tr a-f A-F < summed > upper
+run 0 added '' upper enrol desk.db ann submitter k1
+printf '%s  -\r\nmore\n' "$(token ann)" > ended
+run 0 added '' ended enrol desk.db ann submitter k1
+run 1 nothing 'refused 22 KeyReused' summed enrol desk.db ann reviewer k1
+run 1 nothing 'refused 35 NameTaken' summed enrol desk.db anna submitter k9
+exported minutes minutes desk.db
+
 # The file alone, without its log, is the desk: each run closed it.
 cp desk.db alone.db
 exported minutes minutes alone.db
@@ -91,6 +103,21 @@ run 2 nothing 'bad TOKEN' nothing person missing.db ann officer k9
 run 2 nothing 'bad TOKEN' unended person missing.db ann officer k9
 run 3 nothing 'device 14 Read' . person missing.db ann officer k9
 run 3 nothing 'device 45 File' olga person missing.db ann officer k9
+run 2 nothing 'bad NAME' bad enrol missing.db Ann clerk ''
+run 2 nothing 'bad ROLE' bad enrol missing.db ann clerk ''
+run 2 nothing 'bad KEY' bad enrol missing.db ann officer 'a key'
+sum=$(token olga)
+for line in '' "${sum%?}" "${sum}0" "${sum%?}g" "$sum*" " $sum" "${sum%????} ab"; do
+    says "$line" unsummed
+    run 2 nothing 'bad TOKEN' unsummed enrol missing.db ann officer k9
+done
+run 2 nothing 'bad TOKEN' nothing enrol missing.db ann officer k9
+run 3 nothing 'device 14 Read' . enrol missing.db ann officer k9
+run 3 nothing 'device 45 File' summed enrol missing.db ann officer k9
+for number in '' 0 01 1000000 +1 x; do
+    run 2 nothing 'bad NUMBER' nothing impact missing.db "$number"
+done
+run 3 nothing 'device 45 File' nothing impact missing.db 999999
 run 3 nothing 'device 45 File' nothing verdict missing.db missing.efi
 for export in $exports; do
     run 3 nothing 'device 45 File' nothing "$export" missing.db
@@ -102,7 +129,9 @@ mkdir folder
 for path in text folder; do
     run 3 nothing 'device 45 File' nothing init "$path" "$owner"
     run 3 nothing 'device 45 File' olga person "$path" ann officer k9
+    run 3 nothing 'device 45 File' summed enrol "$path" ann officer k9
     run 3 nothing 'device 45 File' nothing verdict "$path" missing.efi
+    run 3 nothing 'device 45 File' nothing impact "$path" 1
     for export in $exports; do
         run 3 nothing 'device 45 File' nothing "$export" "$path"
     done
@@ -110,7 +139,9 @@ done
 [ "$(cat text)" = 'no database' ] || fail 'a text was changed'
 : > empty.db
 run 1 nothing 'refused 43 NotADesk' olga person empty.db ann officer k9
+run 1 nothing 'refused 43 NotADesk' summed enrol empty.db ann officer k9
 run 1 nothing 'refused 43 NotADesk' nothing verdict empty.db missing.efi
+run 1 nothing 'refused 43 NotADesk' nothing impact empty.db 1
 for export in $exports; do
     run 1 nothing 'refused 43 NotADesk' nothing "$export" empty.db
 done
@@ -119,6 +150,7 @@ exported level level empty.db
 run 3 nothing 'device 45 File' nothing verdict desk.db missing.efi
 run 3 nothing 'device 14 Read' nothing verdict desk.db folder
 run 1 nothing 'refused 1 Short' nothing verdict desk.db text
+run 1 nothing 'refused 37 NoSuchProposal' nothing impact desk.db 1
 exported minutes minutes desk.db
 
 # A writer that is full: /dev/full accepts no byte. A person who was added stays, and the call is
@@ -135,6 +167,10 @@ done
 full verdict desk.db "$signed"
 full person empty.db ann submitter k1 < ann
 run 0 added '' ann person empty.db ann submitter k1
+token rita > summed
+full enrol empty.db rita reviewer k2 < summed
+says 'added rita' added
+run 0 added '' summed enrol empty.db rita reviewer k2
 
 # ---- two terminals: one waits for its image and has the desk open, the other gets the fault of
 # that
@@ -170,11 +206,13 @@ if [ "$status" -ne 1 ] || ! cmp -s judged not_listed; then
 fi
 exported minutes minutes desk.db
 says 'added uwe' added
+token uwe > summed
+run 0 added '' summed enrol desk.db uwe signer k8
 run 0 added '' uwe person desk.db uwe signer k8
 kept console k8 "add-person uwe signer $(token uwe)" 'added uwe'
 exported minutes minutes desk.db
 
-# ---- officers: lists change at once, revocations take two officers
+# ---- an image is submitted; officers: lists change at once, revocations take two officers
 
 # asked STATUS JSON: the response to the file `request` has this status and JSON.
 asked() {
@@ -195,10 +233,25 @@ posts() {
     } > request
     asked "$answer" "$json"
 }
+# reads NAME PATH: prepares this person's GET.
+reads() { printf 'GET %s HTTP/1.1\r\nDesk-Token: %s\r\n\r\n' "$2" "$(cat "$1")" > request; }
 # gets STATUS JSON NAME PATH
 gets() {
-    printf 'GET %s HTTP/1.1\r\nDesk-Token: %s\r\n\r\n' "$4" "$(cat "$3")" > request
+    reads "$3" "$4"
     asked "$1" "$2"
+}
+# reads_text FILE NAME PATH: this person is answered with this text.
+reads_text() {
+    reads "$2" "$3"
+    printf 'HTTP/1.1 200 OK\r\nContent-Type: text/plain\r\nContent-Length: %s\r\nConnection: close\r\n\r\n' "$(wc -c < "$1")" > response
+    cat "$1" >> response
+    run 0 response '' request answer desk.db
+}
+# bars STATUS PROPOSAL DBX [LINE]: the impact of the proposal, on the command line, is this line, if
+# any, and this length of dbx.
+bars() {
+    { [ $# -lt 4 ] || echo "$4"; echo "dbx $3"; } > impact
+    run "$1" impact '' nothing impact desk.db "$2"
 }
 # refused STATUS NUMBER REFUSAL NAME KEY PATH BODY: it is refused so; the key stays free.
 refused() {
@@ -250,6 +303,11 @@ says allowed allowed
 run 0 allowed '' nothing verdict desk.db "$signed"
 run 1 not_listed '' nothing verdict desk.db "$root/examples/tiny.efi"
 
+# The desk knows the image, once it is submitted.
+posts '200 OK' '{"reply":"submitted","request":1}' ann k1 /requests "$signed" 'Desk-Title: boot loader'
+file=c33d7fd42132af8af3eb54d26748949ed8fa5bb5c6e70a9ec28b1c0618c5a74a
+kept ann k1 "submit 1584 0 $file $digest $digest $certificate 1:sbat,3:grub boot loader" 'submitted 1'
+
 # A proposal changes nothing until another officer confirms it.
 printf 'kind,value,generation\nsbat,shim,2\nsbat,grub,4\n' > csv
 proposes 1 olga k2 'import 2024010100 0 - - 2:shim,4:grub' /imports/csv csv 'Desk-Stamp: 2024010100'
@@ -260,7 +318,19 @@ refused '403 Forbidden' 21 NotYourRole ann k0 /proposals/1/confirm nothing
 refused '404 Not Found' 37 NoSuchProposal otto k0 /proposals/2/confirm nothing
 refused '404 Not Found' 37 NoSuchProposal otto k0 /proposals/01/confirm nothing
 exported minutes minutes desk.db
+tab=$(printf '\t')
+bars 1 1 0 "1${tab}submitted${tab}open${tab}ann${tab}allowed${tab}sbat grub 3 4${tab}boot loader"
+full impact desk.db 1
+run 1 nothing 'refused 37 NoSuchProposal' nothing impact desk.db 2
+barred='{"allowed":true,"by":{"component":"grub","generation":3,"level":4,"verdict":"sbat"},"file":"submitted"'
+barred="$barred,\"request\":1,\"state\":\"open\",\"submitter\":\"ann\",\"title\":\"boot loader\"}"
+counts='{"certificates":0,"components":2,"digests":0}'
+for name in olga otto; do
+    gets '200 OK' "{\"adds\":$counts,\"bars\":[$barred],\"dbx\":0,\"proposal\":1}" "$name" /proposals/1/impact
+    gets '200 OK' '{"certificates":[],"components":[["shim",2],["grub",4]],"digests":[],"kind":"import","number":1,"officer":"olga","passed":0,"stamp":2024010100,"state":"open"}' "$name" /proposals/1
+done
 confirms 1 otto k1 0 0 2
+run 1 nothing 'refused 39 ProposalClosed' nothing impact desk.db 1
 refused '409 Conflict' 39 ProposalClosed otto k0 /proposals/1/confirm nothing
 refused '409 Conflict' 39 ProposalClosed olga k0 /proposals/1/drop nothing
 printf 'sbat,1,2024010100\ngrub,4\nshim,2\n' > level
@@ -273,6 +343,7 @@ says '{"component":"grub","generation":4,"stamp":2024010101}' raise
 refused '409 Conflict' 31 NotHigher olga k0 /level raise
 says '{"component":"grub","generation":5,"stamp":2024010101}' raise
 proposes 2 olga k3 'raise grub 5 2024010101' /level raise
+bars 0 2 0
 posts '200 OK' '{"proposal":2,"reply":"dropped"}' olga k4 /proposals/2/drop nothing
 kept olga k4 'drop 2' 'dropped 2'
 refused '409 Conflict' 39 ProposalClosed otto k0 /proposals/2/confirm nothing
@@ -289,6 +360,7 @@ run 0 lists_read '' nothing list db
 
 proposes 3 olga k8 "revoke-certificate $certificate" /dbx/certificates named_certificate
 exported nothing dbx desk.db
+bars 0 3 92
 run 1 refused '' nothing verdict desk.db "$signed"
 confirms 3 otto k2 0 1 0
 hex dbx 92a4d23bc0967940b420fcf98ef103ed 5c000000 00000000 40000000 "$stored" "$certificate" 00000000000000000000000000000000
@@ -302,8 +374,10 @@ proposes 4 olga k9 "revoke-digest $digest" /dbx/digests named_digest
 proposes 5 otto k3 "revoke-digest $(of cc)" /dbx/digests named_cc
 proposes 6 otto k4 "revoke-digest $digest" /dbx/digests named_digest
 exported dbx dbx desk.db
+bars 0 6 168
 confirms 5 olga k10 1 0 0
 confirms 4 otto k5 1 0 0
+run 1 nothing 'refused 30 AlreadyRevoked' nothing impact desk.db 6
 refused '409 Conflict' 30 AlreadyRevoked olga k0 /proposals/6/confirm nothing
 refused '409 Conflict' 30 AlreadyRevoked olga k0 /dbx/digests named_digest
 hex dbx 2616c4c14c509240aca941f936934328 7c000000 00000000 30000000 "$stored" "$digest" "$stored" "$(of cc)" \
@@ -318,8 +392,19 @@ shown="$(row 1 olga confirmed 0 0 2),$(row 2 olga dropped 0 0 1),$(row 3 olga co
 shown="$shown,$(row 4 olga confirmed 1 0 0),$(row 5 otto confirmed 1 0 0),$(row 6 otto open 1 0 0)"
 gets '200 OK' "[$shown]" olga /proposals
 gets '200 OK' "[$shown]" otto /proposals
-gets '403 Forbidden' '{"name":"NotYourRole","refused":21}' ann /proposals
 exported minutes minutes desk.db
+for path in /proposals /proposals/1 /proposals/1/impact /minutes/1 /people; do
+    gets '403 Forbidden' '{"name":"NotYourRole","refused":21}' ann "$path"
+done
+reads_text minutes otto /minutes/1
+tail -n 3 minutes > last
+reads_text last otto "/minutes/$((number - 2))"
+reads_text nothing otto "/minutes/$((number + 1))"
+shown=
+for person in ann/submitter olga/officer otto/officer raul/reviewer rita/reviewer rosa/reviewer sid/signer uwe/signer; do
+    shown="$shown${shown:+,}{\"name\":\"${person%/*}\",\"role\":\"${person#*/}\"}"
+done
+gets '200 OK' "[$shown]" otto /people
 
 # The same proposal and the same Confirm again, under their keys, are answered again.
 posts '200 OK' '{"proposal":4,"reply":"proposed"}' olga k9 /dbx/digests named_digest
@@ -378,6 +463,7 @@ for refused in '1 43 NotADesk' '3 44 Version' '-1 44 Version'; do
         run 1 nothing "refused ${refused#* }" nothing "$export" desk.db
     done
     run 1 nothing "refused ${refused#* }" nothing verdict desk.db missing.efi
+    run 1 nothing "refused ${refused#* }" nothing impact desk.db 1
 done
 
 # A file of version 1 becomes one of version 2 at its first opening, whatever opens it: the calls

@@ -33,11 +33,19 @@ mkdir bin good refused broken
 ln -s "$program" bin/desk
 signed=$root/examples/signed.efi
 echo olga-token-000001 > token.txt
+printf %s olga-token-000001 | sha256sum > olga.sha256
+# request KEY PATH LENGTH: the head of a command of olga's.
+request() { printf 'POST %s HTTP/1.1\r\nDesk-Token: olga-token-000001\r\nDesk-Key: %s\r\nContent-Length: %s\r\n\r\n' "$2" "$1" "$3"; }
 {
-    printf 'POST /db/certificates HTTP/1.1\r\nDesk-Token: olga-token-000001\r\nDesk-Key: k2\r\nContent-Length: 7\r\n\r\n'
+    request k2 /db/certificates 7
     printf '\060\005\060\003\002\001\001'
 } > request.txt
-for folder in good refused broken; do cp token.txt request.txt "$folder"; done
+# The proposal whose impact is printed; it bars no image.
+{
+    request k3 /dbx/digests 77
+    printf '{"digest":"%064d"}' 0
+} > proposal.txt
+for folder in good refused broken; do cp token.txt olga.sha256 request.txt "$folder"; done
 cp "$signed" good/shimx64.efi
 cp "$root/examples/digests.txt" good
 : > refused/desk.db
@@ -120,6 +128,7 @@ for subcommand in $(cat shown); do
             [ "$(listed "$number" "$name")" = "$status" ] || fail "$subcommand: $number $name isn't of status $status"
         done
     done
+    if [ "$subcommand" = impact ]; then "$program" answer good/desk.db < proposal.txt > out; fi
     if [ "$subcommand" = serve ]; then serves; else runs 0 good; fi
     # No image, no list, no digest; the example of dbx writes over one of them.
     for name in shimx64.efi dbx.esl digests.txt; do echo none > "refused/$name"; done

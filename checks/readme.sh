@@ -2,23 +2,26 @@
 # The day at the desk in README.md, run as it is printed, with the built program or the named one:
 # readme.sh [PROGRAM]. The standard output of each command is compared with the lines below it. If
 # port 8080 is taken, the commands use another one, and the last line says so. Not part of `rt ci`:
-# it needs bash, curl and python3.
+# it needs bash, curl, openssl and python3.
 set -eu
 . "$(dirname -- "$(readlink -f -- "$0")")/common.sh"
 needs bash curl openssl python3
 find_program "$@"
 enter_room
-ln -s "$program" desk
-ln -s "$root/examples" examples
 cat > readme.py << 'PYTHON'
 import atexit
 import os
+import random
+import shutil
 import signal
 import subprocess
 import sys
 import time
 
+from desk import listens
+
 MARK = "-- that was all of it --"
+PROGRAM, ROOT = sys.argv[1:]
 
 
 def day(readme):
@@ -35,17 +38,37 @@ def day(readme):
     return [("\n".join(command), lines) for command, lines in found]
 
 
-def listens(port):
-    """Whether somebody listens at the port; a connection to find out would be one of those that are counted."""
-    rows = [line.split() for line in open("/proc/net/tcp")][1:]
-    return any(row[1].endswith(f":{port:04X}") and row[3] == "0A" for row in rows)
+def server(room):
+    """The process of the program that runs in the room, where there is one."""
+    for process in filter(str.isdigit, os.listdir("/proc")):
+        try:
+            if os.readlink(f"/proc/{process}/exe") == PROGRAM and os.readlink(f"/proc/{process}/cwd") == room:
+                return int(process)
+        except OSError:
+            pass  # (one that has ended, or another's)
+    return None
 
 
-port = next(it for it in range(8080, 8180) if not listens(it))
-shell = subprocess.Popen(["bash"], stdin=subprocess.PIPE, stdout=subprocess.PIPE, text=True, bufsize=1, start_new_session=True)
+class PortIsTaken(Exception):
+    """The server has ended before it listened."""
 
 
-def leave():
+def serves(room, port):
+    """Waits until the server in the room listens at the port."""
+    begun, seen = time.monotonic(), False
+    while time.monotonic() < begun + 60:
+        process = server(room)
+        if process and listens(process, port):
+            return
+        seen = seen or process is not None
+        # (at first there is only the shell's child that becomes it)
+        if process is None and (seen or time.monotonic() > begun + 10):
+            raise PortIsTaken
+        time.sleep(0.02)
+    sys.exit("checks/readme.sh: nobody listens")
+
+
+def leave(shell):
     """The shell and its server end with this."""
     try:
         os.killpg(shell.pid, signal.SIGKILL)
@@ -53,32 +76,46 @@ def leave():
         pass
 
 
-atexit.register(leave)
+def passes(commands, room, port):
+    """The commands in a folder of their own, with this port for 8080."""
+    shutil.rmtree(room, ignore_errors=True)
+    os.mkdir(room)
+    os.symlink(PROGRAM, f"{room}/desk")
+    os.symlink(f"{ROOT}/examples", f"{room}/examples")
+    shell = subprocess.Popen(
+        ["bash"], stdin=subprocess.PIPE, stdout=subprocess.PIPE, text=True, bufsize=1, start_new_session=True, cwd=room
+    )
+    atexit.register(leave, shell)
+    for command, wanted in commands:
+        shell.stdin.write(f"{command.replace('8080', str(port))}\necho\necho '{MARK}'\n")
+        shell.stdin.flush()
+        got = []
+        for line in iter(shell.stdout.readline, MARK + "\n"):
+            if not line:
+                sys.exit(f"checks/readme.sh: the shell ended at: {command}")
+            got.append(line.rstrip("\n"))
+        got = [line for line in got if line]
+        if got != wanted:
+            sys.exit(f"checks/readme.sh: {command}\nin place of\n" + "\n".join(wanted) + "\ncame\n" + "\n".join(got))
+        if command.endswith("&"):
+            serves(room, port)
+    shell.stdin.close()
+    if shell.wait() != 0 or server(room) is not None:
+        sys.exit("checks/readme.sh: the shell failed, or serve goes on")
+
+
 signal.signal(signal.SIGTERM, lambda *_: sys.exit(1))
-commands = day(open(sys.argv[1]).read())
-for command, wanted in commands:
-    shell.stdin.write(f"{command.replace('8080', str(port))}\necho\necho '{MARK}'\n")
-    shell.stdin.flush()
-    got = []
-    for line in iter(shell.stdout.readline, MARK + "\n"):
-        if not line:
-            sys.exit(f"checks/readme.sh: the shell ended at: {command}")
-        got.append(line.rstrip("\n"))
-    got = [line for line in got if line]
-    if got != wanted:
-        sys.exit(f"checks/readme.sh: {command}\nin place of\n" + "\n".join(wanted) + "\ncame\n" + "\n".join(got))
-    if command.endswith("&"):
-        until = time.monotonic() + 20
-        while not listens(port):
-            if time.monotonic() > until:
-                sys.exit("checks/readme.sh: nobody listens")
-            time.sleep(0.05)
-shell.stdin.close()
-status = shell.wait()
-atexit.unregister(leave)
-if status != 0 or listens(port):
-    sys.exit("checks/readme.sh: the shell failed, or serve goes on")
+with open(f"{ROOT}/README.md", encoding="utf-8") as text:
+    commands = day(text.read())
+for port in (8080, *random.sample(range(10_000, 20_000), 20)):
+    try:
+        passes(commands, f"{os.getcwd()}/day", port)
+        break
+    except PortIsTaken:
+        continue
+else:
+    sys.exit("checks/readme.sh: no port")
 instead = "" if port == 8080 else f"; at port {port}, since 8080 is taken"
 print(f"{len(commands)} commands, each with the lines that README.md has{instead}")
 PYTHON
-within 120 python3 -B readme.py "$root/README.md"
+PYTHONPATH=$root/checks/requests within 240 python3 -B readme.py "$program" "$root"

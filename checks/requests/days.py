@@ -2,8 +2,8 @@
 from typing import NamedTuple
 
 from desk import (
-    CERTIFICATE, PLAIN, SIGNED, TABLE, TBS, THREE_LISTS, authenticode, certificate_list, changed, digest, digest_list, got, octets, ok,
-    posted, refused, said, sha256, signature_list, signing, text, with_table, with_text, X509_KIND,
+    CERTIFICATE, PEOPLE, PLAIN, SIGNED, TABLE, TBS, THREE_LISTS, authenticode, certificate_list, changed, digest, digest_list, got, octets, ok,
+    posted, refused, said, sha256, signature_list, signing, text, token, with_table, with_text, X509_KIND,
 )
 
 
@@ -102,6 +102,32 @@ def shown(number, submitter, title, state, votes, returned=None, image=PLAIN):
 def proposal(number, officer, state, digests=0, certificates=0, components=0):
     counts = {"certificates": certificates, "components": components, "digests": digests}
     return {**counts, "number": number, "officer": officer, "state": state}
+
+
+def whole(number, officer, kind, state, digests=(), certificates=(), components=(), stamp=None, passed=0):
+    """A proposal with all that it names."""
+    return {
+        "certificates": [*certificates], "components": [[*it] for it in components], "digests": [*digests], "kind": kind,
+        "number": number, "officer": officer, "passed": passed, "stamp": stamp, "state": state,
+    }
+
+
+def bars(number, file, state, submitter, title, allowed, **by):
+    """An image that a Confirm would bar, by the rule in the form of a verdict."""
+    return {
+        "allowed": allowed, "by": by, "file": file, "request": number, "state": state, "submitter": submitter, "title": title,
+    }
+
+
+def impact(number, barred, dbx, digests=0, certificates=0, components=0):
+    """What a Confirm of the proposal would do."""
+    adds = {"certificates": certificates, "components": components, "digests": digests}
+    return {"adds": adds, "bars": [*barred], "dbx": dbx, "proposal": number}
+
+
+def minutes(first, *calls):
+    """Lines of the minutes from this number on: caller, key, text and reply of each."""
+    return "".join("\t".join((str(number), *it)) + "\n" for number, it in enumerate(calls, first))
 
 
 YES = [("raul", "yes", ""), ("rita", "yes", "")]
@@ -297,6 +323,89 @@ TWO_PROPOSALS = [
     ),
 ]
 
+# What an officer looks at before a Confirm: the proposal whole, and each image that it would bar, by each rule; after it the same
+# proposal is closed. Then proposals whose Confirm would be refused, the minutes and the people.
+TITLE = 'a "title" \\ of <it>'
+ODDLY = "kind,value,generation\n" + "".join(
+    f"{row}\n" for row in ("sbat,grub,2", f"sha256,{authenticode(ODD)},", "sbat,grub,3", f"x509_sha256,{TBS},", f"sha256,{authenticode(ODD)},")
+)
+NAMED_ODDLY = {"digests": [authenticode(ODD)] * 2, "certificates": [TBS], "components": [("grub", 2), ("grub", 3)], "stamp": 2024010100}
+BARRED_ODDLY = [
+    bars(2, "submitted", "open", "ann", TITLE, True, verdict="sbat", component="grub", generation=2, level=3),
+    bars(3, "submitted", "withdrawn", "rita", "odd", False, verdict="dbx-digest"),
+    bars(1, "returned", "signed", "ann", "A", True, verdict="dbx-certificate"),
+]
+ADDED = [
+    ("console", f"k-{name}", f"add-person {name} {role} {sha256(token(name).encode())}", f"added {name}") for name, role in PEOPLE.items()
+]
+# The calls of this day, as the minutes have them: caller, key, text and reply.
+MADE = [
+    ("ann", "k1", f"submit 1024 0 {sha256(PLAIN)} {authenticode(PLAIN)} {signing(PLAIN)} - - A", "submitted 1"),
+    ("rita", "k1", "review 1 yes ", "reviewed 1 open"),
+    ("raul", "k1", "review 1 yes ", "reviewed 1 approved"),
+    ("olga", "k1", f"list-certificate {TBS} {CERTIFICATE.hex()}", "listed"),
+    (
+        "ann", "k2", f"submit 1536 0 {sha256(grub(2))} {authenticode(grub(2))} {signing(grub(2))} - 1:sbat,2:grub {TITLE}",
+        "submitted 2",
+    ),
+    ("olga", "k2", f"list-digest {authenticode(grub(2))}", "listed"),
+    ("rita", "k2", f"submit 1029 0 {sha256(ODD)} {authenticode(ODD)} {signing(ODD)} - - odd", "submitted 3"),
+    ("rita", "k3", "withdraw 3", "withdrawn 3"),
+    ("sid", "k1", f"return 1 {len(SIGNED)} 0 {sha256(SIGNED)} {authenticode(PLAIN)} {signing(PLAIN)} {TBS} -", "returned 1"),
+    ("olga", "k3", f"import 2024010100 0 {authenticode(ODD)},{authenticode(ODD)} {TBS} 2:grub,3:grub", "proposed 1"),
+    ("otto", "k1", f"revoke-digest {digest('aa')}", "proposed 2"),
+    ("otto", "k2", f"revoke-certificate {TBS}", "proposed 3"),
+    ("otto", "k3", "raise grub 3 2024010101", "proposed 4"),
+    ("otto", "k4", "raise grub 4 2024010100", "proposed 5"),
+    ("olga", "k4", f"import 0 1 {digest('aa')} {digest('bb')} -", "proposed 6"),
+    ("otto", "k5", "confirm 1", "confirmed 1 1 1 1 0"),
+    ("olga", "k5", "drop 3", "dropped 3"),
+]
+LOOKS = [
+    reads("olga", "/minutes/1", text(minutes(1, *ADDED))),
+    reads("olga", "/minutes/8", text("")),
+    reads("olga", "/people", ok([{"name": name, "role": PEOPLE[name]} for name in sorted(PEOPLE)])),
+    submits("ann", "k1", PLAIN, "A", 1),
+    reviews("rita", "k1", 1, "yes", "open"),
+    reviews("raul", "k1", 1, "yes", "approved"),
+    takes("olga", "k1", "/db/certificates", CERTIFICATE, {"reply": "listed"}),
+    submits("ann", "k2", grub(2), TITLE, 2),
+    lists("olga", "k2", authenticode(grub(2))),
+    submits("rita", "k2", ODD, "odd", 3),
+    takes("rita", "k3", "/requests/3/withdraw", b"", {"reply": "withdrawn", "request": 3}),
+    returns("sid", "k1", 1, SIGNED),
+    proposes("olga", "k3", "/imports/csv", ODDLY.encode(), 1, ("Desk-Stamp", "2024010100")),
+    *(reads(name, "/proposals/1", ok(whole(1, "olga", "import", "open", **NAMED_ODDLY))) for name in ("olga", "otto")),
+    *(reads(name, "/proposals/1/impact", ok(impact(1, BARRED_ODDLY, 168, 1, 1, 1))) for name in ("olga", "otto")),
+    *(reads("sid", path, refused(21)) for path in ("/proposals/1", "/proposals/1/impact", "/minutes/1", "/people", "/proposals/9")),
+    *(reads("otto", path, refused(37)) for path in ("/proposals/2", "/proposals/2/impact", "/proposals/01")),
+    proposes("otto", "k1", "/dbx/digests", named(digest("aa")), 2),
+    reads("olga", "/proposals/2", ok(whole(2, "otto", "digest", "open", digests=[digest("aa")]))),
+    reads("olga", "/proposals/2/impact", ok(impact(2, [], 76, digests=1))),
+    proposes("otto", "k2", "/dbx/certificates", named(TBS), 3),
+    reads("olga", "/proposals/3", ok(whole(3, "otto", "certificate", "open", certificates=[TBS]))),
+    reads("olga", "/proposals/3/impact", ok(impact(3, BARRED_ODDLY[2:], 92, certificates=1))),
+    proposes("otto", "k3", "/level", raising("grub", 3, 2024010101), 4),
+    reads("olga", "/proposals/4", ok(whole(4, "otto", "level", "open", components=[("grub", 3)], stamp=2024010101))),
+    reads("olga", "/proposals/4/impact", ok(impact(4, BARRED_ODDLY[:1], 0, components=1))),
+    proposes("otto", "k4", "/level", raising("grub", 4, 2024010100), 5),
+    proposes("olga", "k4", "/imports/dbx", THREE_LISTS, 6),
+    reads("otto", "/proposals/6", ok(whole(6, "olga", "import", "open", [digest("aa")], [digest("bb")], passed=1))),
+    confirms("otto", "k5", 1, 1, 1, 1, 0),
+    reads("otto", "/proposals/1", ok(whole(1, "olga", "import", "confirmed", **NAMED_ODDLY))),
+    reads("otto", "/proposals/1/impact", refused(39)),
+    reads("olga", "/proposals/2/impact", ok(impact(2, [], 216, digests=1))),
+    *(reads("olga", f"/proposals/{number}/impact", refused(why)) for number, why in ((3, 30), (4, 31), (5, 32))),
+    reads("otto", "/proposals/6/impact", ok(impact(6, [], 280, digests=1, certificates=1))),
+    drops("olga", "k5", 3),
+    reads("otto", "/proposals/3", ok(whole(3, "otto", "certificate", "dropped", certificates=[TBS]))),
+    reads("otto", "/proposals/3/impact", refused(39)),
+    reads("otto", "/minutes/1", text(minutes(1, *ADDED, *MADE))),
+    reads("otto", "/minutes/17", text(minutes(17, *MADE[9:]))),
+    reads("otto", "/minutes/1000000", text("")),
+    reads("otto", "/minutes/9999999", text("")),
+]
+
 # An entry off the list, digits of either case, a text of a level, keys and numbers at a Confirm, and the report.
 REPORT = {
     "people": 7, "requests": 0, "open": 0, "approved": 0, "rejected": 0, "withdrawn": 0, "signed": 0, "listed digests": 0,
@@ -401,6 +510,6 @@ LARGEST = [
 DAYS = {
     "reviews": REVIEWS, "returns": RETURNS, "revoked before": REVOKED_BEFORE, "padding": PADDING, "levels": LEVELS, "keys": KEYS, "lists": LISTS,
     "files": FILES, "raises nothing": RAISES_NOTHING, "two officers": TWO_OFFICERS, "two proposals": TWO_PROPOSALS,
-    "left over": LEFT_OVER,
+    "left over": LEFT_OVER, "looks": LOOKS,
     "first requests": FIRST_REQUESTS, "the largest": LARGEST,
 }

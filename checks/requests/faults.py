@@ -5,8 +5,8 @@ import subprocess
 import sys
 from typing import NamedTuple
 
-from days import TWO_OFFICERS, confirms, judges, refuses, submits, vote
-from desk import PLAIN, Program, Server, end_with_parent, expect, fail, response, said
+from days import ADDED, TWO_OFFICERS, confirms, impact, judges, minutes, reads, refuses, submits, vote
+from desk import PLAIN, Program, Server, digest, end_with_parent, expect, fail, ok, response, said, text
 
 PROGRAM, LIBRARY = sys.argv[1:]
 READ, WRITE, STORE = b"device 14 Read\n", b"device 17 Write\n", b"device 41 Store\n"
@@ -16,24 +16,30 @@ FEW, MANY = 9, 64
 
 
 class Case(NamedTuple):
-    """A request, the response that is due, how many bytes a call takes, and whether a command is accepted by it."""
+    """A request, the response that is due, how many bytes a call takes, whether a command is accepted by it, and whether the desk has a
+    proposal."""
 
     name: str
     given: bytes
     due: bytes
     piece: int
     accepted: bool
+    proposed: bool
 
 
-def case(name, step, piece):
-    return Case(name, step.given, step.due, piece, step.accepted)
+def case(name, step, piece, proposed=False):
+    return Case(name, step.given, step.due, piece, step.accepted, proposed)
 
 
+# The call by which a desk has a proposal.
+PROPOSED = ("olga", "k1", f"revoke-digest {digest('aa')}", "proposed 1")
 CASES = [
     case("a verdict", judges("ann", PLAIN, {"verdict": "not-listed"}), MANY),
     case("a submission", submits("ann", "k1", PLAIN, "A", 1), MANY),
-    case("a Confirm", confirms("otto", "k1", 1, 1, 0, 0, 0), FEW),
+    case("a Confirm", confirms("otto", "k1", 1, 1, 0, 0, 0), FEW, proposed=True),
     case("a refused review", refuses(23, "rita", "k1", "/requests/1/review", vote("yes")), FEW),
+    case("an impact", reads("otto", "/proposals/1/impact", ok(impact(1, [], 76, digests=1))), FEW, proposed=True),
+    case("the minutes", reads("otto", "/minutes/1", text(minutes(1, *ADDED, PROPOSED))), MANY, proposed=True),
 ]
 
 
@@ -185,7 +191,7 @@ with Program(PROGRAM) as program:
     full_disk(program, people)
     counts = Counts()
     for it in CASES:
-        base = proposed if it.name == "a Confirm" else people
+        base = proposed if it.proposed else people
         by_answer(program, base, it, counts)
         by_serve(program, base, it, counts)
     print(f"{counts.reads} reads and {counts.writes} writes failed, each within a request, and the desk went on as it has to")

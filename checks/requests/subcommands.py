@@ -9,8 +9,11 @@ import threading
 from concurrent.futures import ThreadPoolExecutor
 from typing import NamedTuple
 
-from days import RETURNS
-from desk import CERTIFICATE, NO_MEMORY, OWNER, SIGNED, STORED, X509_KIND, Program, expect, fail, got, signature_list, text
+from days import RETURNS, named, proposes
+from desk import (
+    CERTIFICATE, NO_MEMORY, OWNER, PLAIN, SIGNED, STORED, TBS, X509_KIND, Program, authenticode, expect, fail, got, sha256, signature_list,
+    text, with_text,
+)
 
 PROGRAM, LIBRARY, ROOT, STRIDE = sys.argv[1], sys.argv[2], sys.argv[3], int(sys.argv[4])
 # Of more than this many allocations of one size in a row, which are the store's pages taken at once, the first, the last and one in LONG_ROW are refused.
@@ -128,7 +131,7 @@ class Refusing:
         borne = 0
         for number in numbers:
             if ENDING.is_set():
-                return 0
+                return 0, ""
             self.put()
             ran = self.run(number)
             if self.is_whole(ran):
@@ -142,7 +145,14 @@ class Refusing:
         more = f"; {self.changed} left other files, and the same words did what they have to"
         more += f"; {borne} did without the memory" if borne else ""
         print(f"{self.case.name}: {len(numbers)} of {count} allocations refused, one a run{more}", flush=True)
-        return len(numbers)
+        return len(numbers), f"{self.case.name} {len(numbers):,} of {count:,}"
+
+
+def facts(image, *lines):
+    """What `facts` prints of an image without a gap, and of a length that is a multiple of 8."""
+    hashed = authenticode(image)
+    head = (f"length {len(image)}", f"file {sha256(image)}", f"digest {hashed}", f"signing {hashed}", "gap 0")
+    return "".join(f"{line}\n" for line in (*head, *lines)).encode()
 
 
 def cases():
@@ -150,18 +160,25 @@ def cases():
         yield Case("pack", ("pack", OWNER), packed.read(), lines.read())
     signed, plain = f"{ROOT}/examples/signed.efi", f"{ROOT}/examples/tiny.efi"
     yield Case("facts", ("facts", signed), subprocess.run([PROGRAM, "facts", signed], capture_output=True, check=True).stdout)
+    image = program.file("signed", SIGNED)
+    yield Case("facts of a certificate table", ("facts", image), facts(SIGNED, f"certificate {TBS}"))
+    rows = with_text(PLAIN, b"sbat,1,a,b,1,u\r\n\r\ngrub,03,a,b,2,u\n")
+    yield Case("facts of SBAT text", ("facts", program.file("rows", rows)), facts(rows, "component sbat 1", "component grub 3"))
     other = STORED + struct.pack("<III", 48, 0, 20) + STORED + bytes(4)
     # The offset goes out before the GUID's text finds no memory.
     yield Case("list", ("list", program.file("list", other)), f"0 {OWNER} 1\n".encode(), most=2)
     yield Case("init", ("init", "DESK", OWNER), b"")
     yield Case("person", ("person", "DESK", "eva", "submitter", "k1"), b"added eva\n", b"eva-token-000001\n", most=10, desk="people.db")
+    token = f"{sha256(b'eva-token-000001')}  -\n".encode()
+    yield Case("enrol", ("enrol", "DESK", "eva", "submitter", "k1"), b"added eva\n", token, most=10, desk="people.db")
     yield Case("verdict", ("verdict", "DESK", plain), b"refused not-listed\n", status=1, most=19, desk="people.db")
     yield Case("level", ("level", "DESK"), b"sbat,1,2021030218\n", most=18, desk="people.db")
     yield Case("dbx", ("dbx", "DESK"), b"", desk="people.db")
     listed = signature_list(X509_KIND, [CERTIFICATE])
     yield Case("db", ("db", "DESK"), listed, most=len(listed), desk="listed.db")
-    image = program.file("signed", SIGNED)
     yield Case("verdict on a listed image", ("verdict", "DESK", image), b"allowed\n", most=8, desk="listed.db")
+    bars = b"1\treturned\tsigned\tann\tallowed\tdbx-certificate\tA\ndbx 92\n"
+    yield Case("impact", ("impact", "DESK", "1"), bars, status=1, most=len(bars), desk="proposed.db")
     minutes = program.minutes(program.at("listed.db"))
     yield Case("minutes", ("minutes", "DESK"), minutes, most=len(minutes), desk="listed.db")
     # Its first opening makes of a file of version 1 one of version 2.
@@ -181,13 +198,12 @@ with Program(PROGRAM) as program:
     desk = program.copied(people, "listed.db")
     for step in RETURNS[:19]:
         expect(program.gives("answer", desk, given=step.given), step.due, "the desk of a listed image")
-    how = f"of those over a desk the first and the last hundred, and one in {STRIDE} between them"
-    if STRIDE <= 1:
-        how = f"each, but of a row of more than {LONG_ROW} of one size one in {LONG_ROW}" if STRIDE else "each"
+    step = proposes("olga", "k2", "/dbx/certificates", named(TBS), 1)
+    expect(program.gives("answer", program.copied(desk, "proposed.db"), given=step.given), step.due, "a proposal to revoke its certificate")
     with ThreadPoolExecutor(len(os.sched_getaffinity(0))) as pool:
         try:
-            total = sum(pool.map(lambda case: Refusing(program, case).each(), list(cases())))
+            refused, told = zip(*pool.map(lambda case: Refusing(program, case).each(), list(cases())))
         except BaseException:
             ENDING.set()
             raise
-    print(f"{total} allocations refused ({how}), and the same words then did what they have to")
+    print(f"{sum(refused):,} allocations refused, and the same words then did what they have to: {', '.join(told)}")
