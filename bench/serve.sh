@@ -60,7 +60,7 @@ PYTHON
 
 # ---- the client
 
-python3 - "$program" "$room" "${2:-2000}" "${3:-9}" << 'PYTHON'
+PYTHONPATH=$root/checks/requests python3 -B - "$program" "$room" "${2:-2000}" "${3:-9}" << 'PYTHON'
 import hashlib
 import os
 import shutil
@@ -70,6 +70,8 @@ import statistics
 import subprocess
 import sys
 import time
+
+from desk import listens
 
 PROGRAM, ROOM = sys.argv[1:3]
 COUNT, ROUNDS = map(int, sys.argv[3:])
@@ -120,13 +122,17 @@ class Server(Child):
     """A process that takes so many connections at a port of its own."""
 
     def __init__(self, words, count):
-        self.port = free_port()
+        self.port, self.is_there = free_port(), False
         super().__init__([*words, str(self.port), str(count)])
 
     def connect(self):
-        """A connection, once it listens."""
+        """A connection, once it listens itself."""
         last = time.monotonic() + SECONDS
         while self.child.poll() is None and time.monotonic() < last:
+            self.is_there = self.is_there or listens(self.child.pid, self.port)
+            if not self.is_there:
+                time.sleep(0.001)
+                continue
             peer = socket.socket()
             peer.settimeout(SECONDS)
             try:

@@ -13,10 +13,9 @@ set -u
 . "$(dirname -- "$(readlink -f -- "$0")")/common.sh"
 find_program "$@"
 [ $# -eq 0 ] || shift
-# The longest first, so that the last ones fill the lanes. Not here until they have run over a program with `impact`, `enrol` and
-# the routes of single proposals, minutes and people: refused-memory.sh refused-requests.sh http.sh requests.sh faults.sh day.sh readme.sh
-# help.sh. They run by name.
-checks=${*:-page.sh cuts.sh exports.sh version1.sh prove.sh runs.sh proved.sh}
+# The longest first, so that the last ones fill the lanes.
+checks=${*:-refused-memory.sh refused-requests.sh limits.sh http.sh requests.sh faults.sh cuts.sh day.sh exports.sh readme.sh version1.sh
+    help.sh prove.sh runs.sh proved.sh}
 until=$((SECONDS + 600))
 enter_room
 trap 'kill $(jobs -p) 2> /dev/null; wait; exit 1' HUP INT TERM
