@@ -114,8 +114,8 @@ done
 run 2 nothing 'bad TOKEN' nothing enrol missing.db ann officer k9
 run 3 nothing 'device 14 Read' . enrol missing.db ann officer k9
 run 3 nothing 'device 45 File' summed enrol missing.db ann officer k9
-for number in '' 0 01 1000000 +1 x; do
-    run 2 nothing 'bad NUMBER' nothing impact missing.db "$number"
+for word in '' 0 01 1000000 +1 x; do
+    run 2 nothing 'bad NUMBER' nothing impact missing.db "$word"
 done
 run 3 nothing 'device 45 File' nothing impact missing.db 999999
 run 3 nothing 'device 45 File' nothing verdict missing.db missing.efi

@@ -184,7 +184,7 @@ for number, line in enumerate(open(page, encoding='utf-8'), 1):
         for name in re.findall(r'`([a-z_0-9]+)`', line):
             if not any(name in tests.get(crate, ()) for crate in crates):
                 say(f'{page}:{number}: {", ".join(crates)} has no test {name}')
-    for name in re.findall(r'([a-z0-9-]+\.sh)', line):
+    for name in re.findall(r'([a-z0-9_-]+\.sh)', line):
         if not os.path.exists(f'checks/{name}'):
             say(f'{page}:{number}: there is no checks/{name}')
 

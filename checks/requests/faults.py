@@ -38,7 +38,7 @@ CASES = [
     case("a submission", submits("ann", "k1", PLAIN, "A", 1), MANY),
     case("a Confirm", confirms("otto", "k1", 1, 1, 0, 0, 0), FEW, proposed=True),
     case("a refused review", refuses(23, "rita", "k1", "/requests/1/review", vote("yes")), FEW),
-    case("an impact", reads("otto", "/proposals/1/impact", ok(impact(1, [], 76, digests=1))), FEW, proposed=True),
+    case("an impact", reads("otto", "/proposals/1/impact", ok(impact(1, [], 76, digests=1))), MANY, proposed=True),
     case("the minutes", reads("otto", "/minutes/1", text(minutes(1, *ADDED, PROPOSED))), MANY, proposed=True),
 ]
 

@@ -245,7 +245,7 @@ def title(length: int) -> tuple[str, str]:
 
 
 def texts(program: Program, desk: str) -> int:
-    """Names, tokens, keys, titles, notes, numbers, certificates and bodies, each at its most and one more."""
+    """Names, tokens, keys, titles, notes, numbers, ports, certificates and bodies, each at its most and one more."""
     longest, key = "n" * 32, "k" * 64
     runs = 0
     for name, role, under, secret, bad in (
@@ -259,6 +259,10 @@ def texts(program: Program, desk: str) -> int:
             runs += ends(program, due, "enrol", desk, name, role, under, given=f"{sha256(secret.encode())}\n".encode())
     for number, due in (("999999", (1, b"", line(37))), ("1000000", (2, b"", b"bad NUMBER\n"))):
         runs += ends(program, due, "impact", desk, number)
+    missing = program.at("missing.db")
+    runs += ends(program, (3, b"", b"device 45 File\n"), "serve", missing, "65535", "1000000")
+    runs += ends(program, (2, b"", b"bad PORT\n"), "serve", missing, "65536", "1000000")
+    runs += ends(program, (2, b"", b"bad COUNT\n"), "serve", missing, "65535", "1000001")
 
     def by(secret: str, path: str) -> bytes:
         return request("GET", path, [("Desk-Token", secret)])
@@ -337,7 +341,7 @@ def filled(program: Program, base: str, name: str, *rows: str) -> str:
 
 def full_of_people(program: Program, base: str) -> int:
     desk = filled(program, base, "people.db", f"992 people SELECT printf('p%04d', i), 'submitter', {BLOB}")
-    last, more = ((name, "signer", "k1") for name in ("last", "more"))
+    last, more = ("last", "signer", "k1"), ("more", "signer", "k2")
     runs = ends(program, (0, b"added last\n", b""), "person", desk, *last, given=b"last-token-000001\n")
     runs += ends(program, (1, b"", line(36)), "person", desk, *more, given=b"more-token-000001\n")
     runs += ends(program, (1, b"", line(36)), "enrol", desk, *more, given=f"{digest('aa')}\n".encode())
