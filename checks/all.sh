@@ -27,7 +27,7 @@ run() {
     if [ "$left" -le 0 ]; then
         echo 'no time was left for it' > "$room/$1"
     else
-        timeout -k 5 "$left" "$root/checks/$1" "${words[@]}" > "$room/$1" 2>&1 < /dev/null &
+        timeout -k 30 "$left" "$root/checks/$1" "${words[@]}" > "$room/$1" 2>&1 < /dev/null &
         trap 'kill "$!" 2> /dev/null' TERM
         if wait "$!"; then how=passed; fi
         # (one that was ended takes a moment)

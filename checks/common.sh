@@ -52,7 +52,7 @@ trap 'exit 1' HUP INT TERM
 within() {
     limit=$1
     shift
-    timeout --foreground -k 5 "$limit" "$@" &
+    timeout --foreground -k 20 "$limit" "$@" &
     started="$started $!"
     wait "$!"
 }

@@ -104,7 +104,8 @@ def passes(commands, room, port):
         sys.exit("checks/readme.sh: the shell failed, or serve goes on")
 
 
-signal.signal(signal.SIGTERM, lambda *_: sys.exit(1))
+for number in (signal.SIGHUP, signal.SIGINT, signal.SIGTERM):
+    signal.signal(number, lambda *_: sys.exit(1))
 with open(f"{ROOT}/README.md", encoding="utf-8") as text:
     commands = day(text.read())
 for port in (8080, *random.sample(range(10_000, 20_000), 20)):

@@ -1,5 +1,6 @@
 """For the checks of this folder: the desk's program, run and asked over HTTP; images, lists and certificates, byte by byte; and the
 bytes of requests and of responses, as docs/FORMATS.md has them."""
+import contextlib
 import ctypes
 import hashlib
 import json
@@ -22,18 +23,34 @@ PEOPLE = {
 }
 
 
-# The servers that run.
-RUNNING: set[subprocess.Popen] = set()
+# The folders of this program.
+ROOMS: set[str] = set()
+
+
+def children() -> list[int]:
+    """The processes that this one's threads began."""
+    found = []
+    for task in os.scandir("/proc/self/task"):
+        with open(f"{task.path}/children", encoding="ascii") as it:
+            found += [int(word) for word in it.read().split()]
+    return found
 
 
 def end(*_: object) -> None:
-    """The servers and the folders go with this program; a thread that waits for a server then ends, too."""
-    for it in [*RUNNING]:
-        it.kill()
-    sys.exit(1)
+    """This program ends, and its processes and folders go with it, whatever its threads do meanwhile."""
+    for _ in range(100):
+        for it in children():
+            with contextlib.suppress(ProcessLookupError):
+                os.kill(it, signal.SIGKILL)
+        for it in ROOMS:
+            shutil.rmtree(it, ignore_errors=True)
+        if not any(map(os.path.exists, ROOMS)):
+            break
+    os._exit(1)
 
 
-signal.signal(signal.SIGTERM, end)
+for number in (signal.SIGHUP, signal.SIGINT, signal.SIGTERM):
+    signal.signal(number, end)
 
 
 def fail(text):
@@ -213,6 +230,7 @@ class Program:
     def __init__(self, path):
         self.path = path
         self.room = tempfile.TemporaryDirectory(prefix="desk-requests-")
+        ROOMS.add(self.room.name)
         # As ./desk runs it: a small desk opens in half the time.
         self.env = {**os.environ, "GLIBC_TUNABLES": os.environ.get("GLIBC_TUNABLES", "glibc.malloc.hugetlb=1")}
 
@@ -305,7 +323,6 @@ class Server:
                 [*under, program.path, "serve", desk, f"{zeros}{self.port}", f"{zeros}{count}"], stdin=subprocess.DEVNULL,
                 stdout=subprocess.PIPE, stderr=subprocess.PIPE, env={**program.env, **(env or {})}, preexec_fn=begin,
             )
-            RUNNING.add(self.process)
             if self.has_begun():
                 return
         fail(f"serve {desk}: no port")
@@ -336,7 +353,6 @@ class Server:
         if self.process.poll() is None:
             self.process.kill()
         self.process.communicate()
-        RUNNING.discard(self.process)
 
     def ended(self):
         """The server has ended by itself, with all connections served."""

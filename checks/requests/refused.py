@@ -71,8 +71,9 @@ def commands(report):
 
 
 def refuses_each(program, library, desk, step, what, counts):
-    """Refuses each allocation of a request in turn. The desk stays as it was and open, and answers the request in the end."""
-    number = 1
+    """Refuses each allocation of a request in turn. The desk stays as it was and open, and answers the request in the end. The connection
+    ends without a response only where the head, which comes first, or the body itself finds no memory."""
+    number, is_read, bodies = 1, False, int(not step.given.endswith(b"\r\n\r\n"))
     while True:
         found = program.copied(desk, "tried.db")
         with Refusing(program, library, found) as server:
@@ -94,6 +95,10 @@ def refuses_each(program, library, desk, step, what, counts):
                     fail(f"{what}, allocation {number - 1} refused: {answer[-400:]!r}")
                 elif after == before:
                     counts.told, counts.ended = counts.told + bool(answer), counts.ended + (not answer)
+                    bodies -= is_read and not answer
+                    if bodies < 0:
+                        fail(f"{what}, allocation {number - 1} refused: the connection ends, though the request is known")
+                    is_read = is_read or bool(answer)
                 else:
                     # The command was accepted, and its response found no memory: its key has the reply that is kept.
                     expect(step.accepted, True, f"{what}, allocation {number - 1} refused: the report changed to {after!r}")

@@ -20,7 +20,7 @@ PROGRAM, LIBRARY, ROOT, STRIDE = sys.argv[1], sys.argv[2], sys.argv[3], int(sys.
 LONG_ROW = 100
 # Of a subcommand without a desk each is refused, or where there are more than 2,000 the first and the last MANY, and one in 20 between.
 MANY = 1_000
-# Set where this ends early, by a fault of one case or by a signal: then the other cases end too.
+# Set where a case fails: then the other cases end too.
 ENDING = threading.Event()
 NO_MEMORY_LINE = b"device 40 NoMemory\n"
 
