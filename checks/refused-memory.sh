@@ -6,9 +6,10 @@
 # `verdict` (of an image that is listed too), `impact` (of a proposal that bars an image), `level`,
 # `dbx`, `db`, `minutes` and `answer` over a desk's file; and on `dbx` over a file of version 1
 # (examples/version-1), which the opening makes one of version 2. Each such run must end with status
-# 3, the line `device 40 NoMemory` and no more than a prefix written
-# (`answer` may write the response of NoMemory, with status 0), or succeed without the memory. The
-# same words on the files that a refused run left must end as they do on the files that it found.
+# 3, the line `device 40 NoMemory` and no more than a prefix written (`answer` may write the response
+# of NoMemory, with status 0), or succeed without the memory. The same words on the files that a
+# refused run left must end as they do on the files that it found. The last line has how many
+# allocations of each were refused, and of how many.
 #
 # Each allocation of `pack`, `facts` and `list` is refused, or where there are more than 2,000 the
 # first and the last thousand, and one in twenty between. Of the others the first and the last
