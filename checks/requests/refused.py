@@ -5,6 +5,7 @@ import re
 import struct
 import sys
 import time
+from concurrent.futures import ThreadPoolExecutor
 
 from days import DAYS
 from desk import NO_MEMORY, Program, Server, dump, expect, fail, got
@@ -17,7 +18,7 @@ class Refusing:
     """A server of which one allocation of a connection can be refused (../refuse.c)."""
 
     def __init__(self, program, library, desk):
-        self.file = program.file("served", bytes(NUMBERS.size))
+        self.file = program.file(f"{os.path.basename(desk)}.served", bytes(NUMBERS.size))
         self.shared = os.open(self.file, os.O_RDWR)
         self.numbers = mmap.mmap(self.shared, NUMBERS.size)
         self.waits = 1
@@ -75,7 +76,7 @@ def refuses_each(program, library, desk, step, what, counts):
     ends without a response only where the head, which comes first, or the body itself finds no memory."""
     number, is_read, bodies = 1, False, int(not step.given.endswith(b"\r\n\r\n"))
     while True:
-        found = program.copied(desk, "tried.db")
+        found = program.copied(desk, f"tried {os.path.basename(desk)}")
         with Refusing(program, library, found) as server:
             before, _, _ = server.ask(REPORT)
             while True:
@@ -111,11 +112,11 @@ def refuses_each(program, library, desk, step, what, counts):
 
 def passes(program, library, base, day, steps):
     """A day of which each request meets each refusal leaves the tables that a day with ample memory leaves."""
-    desk, counts = program.copied(base, "today.db"), Counts()
+    desk, counts = program.copied(base, f"{day}.db"), Counts()
     for place, step in enumerate(steps, 1):
         left = refuses_each(program, library, desk, step, f"{day}, request {place}", counts)
-        program.copied(left, "today.db")
-    ample = program.copied(base, "ample.db")
+        program.copied(left, os.path.basename(desk))
+    ample = program.copied(base, f"ample {day}.db")
     with Server(program, ample, len(steps)) as server:
         for step in steps:
             server.ask(step.given)
@@ -135,7 +136,9 @@ program_path, library, *names = sys.argv[1:]
 with Program(program_path) as program:
     base = program.founded("base.db")
     names = names or [it for it in DAYS if it != "the largest"]
-    found = [passes(program, library, base, name, DAYS[name]) for name in names]
+    with ThreadPoolExecutor(len(os.sched_getaffinity(0))) as pool:
+        longest_first = sorted(names, key=lambda name: -len(DAYS[name]))
+        found = [*pool.map(lambda name: passes(program, library, base, name, DAYS[name]), longest_first)]
     if not all(it.told for it in found):
         fail("on a day no refusal was told as NoMemory")
     if not any(it.lost for it in found):
