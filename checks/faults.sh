@@ -14,4 +14,4 @@ needs cc python3
 find_program "$@"
 enter_room
 cc -shared -fPIC -O1 -o "$room/fail.so" "$root/checks/fail.c" -ldl
-within 300 python3 -B "$root/checks/requests/faults.py" "$program" "$room/fail.so"
+within 600 python3 -B "$root/checks/requests/faults.py" "$program" "$room/fail.so"

@@ -12,4 +12,4 @@ set -eu
 needs python3 sqlite3
 find_program "$@"
 [ $# -eq 0 ] || shift
-exec timeout --foreground -k 20 300 python3 -B "$root/checks/requests/limits.py" "$program" "$@"
+exec timeout --foreground -k 20 600 python3 -B "$root/checks/requests/limits.py" "$program" "$@"

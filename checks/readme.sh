@@ -119,4 +119,4 @@ else:
 instead = "" if port == 8080 else f"; at port {port}, since 8080 is taken"
 print(f"{len(commands)} commands, each with the lines that README.md has{instead}")
 PYTHON
-PYTHONPATH=$root/checks/requests within 240 python3 -B readme.py "$program" "$root"
+PYTHONPATH=$root/checks/requests within 600 python3 -B readme.py "$program" "$root"

@@ -10,4 +10,4 @@ set -eu
 . "$(dirname -- "$(readlink -f -- "$0")")/common.sh"
 needs python3 sqlite3
 find_program "$@"
-exec timeout --foreground -k 20 300 python3 -B "$root/checks/requests/plain.py" "$program"
+exec timeout --foreground -k 20 600 python3 -B "$root/checks/requests/plain.py" "$program"

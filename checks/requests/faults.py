@@ -1,8 +1,10 @@
 """Each read and each write of a request fails: see ../faults.sh."""
+import os
 import resource
 import signal
 import subprocess
 import sys
+from concurrent.futures import ThreadPoolExecutor
 from typing import NamedTuple
 
 from days import ADDED, TWO_OFFICERS, confirms, impact, judges, minutes, reads, refuses, submits, vote
@@ -69,9 +71,9 @@ def stays(program, desk, before, it, what, ask):
     expect(program.minutes(desk), after, f"{what}: the minutes after the request again")
 
 
-def by_answer(program, base, it, counts):
-    """By a run for each fault."""
-    before = program.minutes(base)
+def by_answer(program, base, before, it):
+    """By a run for each fault, on copies of a desk with these minutes."""
+    counts = Counts()
 
     def run(desk, **faults):
         env = {**program.env, "LD_PRELOAD": LIBRARY, "PIECE": str(it.piece), **{name: str(number) for name, number in faults.items()}}
@@ -84,7 +86,7 @@ def by_answer(program, base, it, counts):
     whole = (0, it.due, b"")
     for number in range(1, 10_000):
         what = f"{it.name} by answer, read {number} fails"
-        desk = program.copied(base, "tried.db")
+        desk = program.copied(base, f"{it.name} tried.db")
         found = contents(desk)
         ran = run(desk, READ=number)
         if ran == whole:
@@ -98,7 +100,7 @@ def by_answer(program, base, it, counts):
         fail(f"{it.name} by answer: {number - 1} reads failed in place of {least} or more")
     for number in range(1, 10_000):
         what = f"{it.name} by answer, write {number} fails"
-        desk = program.copied(base, "tried.db")
+        desk = program.copied(base, f"{it.name} tried.db")
         ran = run(desk, WRITE=number)
         if ran == whole:
             break
@@ -106,15 +108,16 @@ def by_answer(program, base, it, counts):
         stays(program, desk, before, it, what, again)
         counts.writes += 1
     expect(number - 1, -(-len(it.due) // it.piece), f"{it.name} by answer: the writes")
+    return counts
 
 
-def by_serve(program, base, it, counts):
+def by_serve(program, base, before, it):
     """Over a server for each fault, of which the first connection meets it."""
-    before = program.minutes(base)
+    counts = Counts()
 
     def first(number, kind, what):
         """What the first connection is answered, and whether the request is answered on the next one too; the desk's file."""
-        desk = program.copied(base, "tried.db")
+        desk = program.copied(base, f"{it.name} served.db")
         env = {"LD_PRELOAD": LIBRARY, "PIECE": str(it.piece), "SOCKET": "1", kind: str(number)}
         with Server(program, desk, 2, env=env) as server:
             found = server.ask(it.given)
@@ -143,12 +146,13 @@ def by_serve(program, base, it, counts):
             fail(f"{what}: {found!r}")
         counts.writes += 1
     expect(number - 1, -(-len(it.due) // it.piece), f"{it.name} over serve: the writes")
+    return counts
 
 
 def no_accept(program, base):
     """A server whose second accept fails ends; what the first connection was answered stays."""
     it = CASES[1]
-    desk = program.copied(base, "tried.db")
+    desk = program.copied(base, "accept.db")
     with Server(program, desk, 3, env={"LD_PRELOAD": LIBRARY, "ACCEPT": "2"}) as server:
         expect(server.ask(it.given), it.due, "before an accept fails")
         out, err = server.process.communicate(timeout=60)
@@ -167,14 +171,14 @@ def full_disk(program, base):
     """A command whose commit finds no room is Store, and ends the program; the desk opens again as it was, and takes it."""
     it = CASES[1]
     before = program.minutes(base)
-    desk = program.copied(base, "tried.db")
+    desk = program.copied(base, "full.db")
     ran = subprocess.run(
         [PROGRAM, "answer", desk], input=it.given, capture_output=True, timeout=60, env=program.env, check=False, preexec_fn=no_room
     )
     expect((ran.returncode, ran.stdout, ran.stderr), (3, NO_STORE, STORE), "answer on a full disk")
     expect(program.minutes(desk), before, "the minutes after a full disk")
     expect(program.gives("answer", desk, given=it.given), it.due, "the request, once there is room")
-    desk = program.copied(base, "tried.db")
+    desk = program.copied(base, "full.db")
     with Server(program, desk, 3, begin=no_room) as server:
         expect(server.ask(it.given), NO_STORE, "serve on a full disk")
         out, err = server.process.communicate(timeout=60)
@@ -189,9 +193,10 @@ with Program(PROGRAM) as program:
     expect(program.gives("answer", proposed, given=step.given), step.due, "a proposal")
     no_accept(program, people)
     full_disk(program, people)
-    counts = Counts()
-    for it in CASES:
-        base = proposed if it.proposed else people
-        by_answer(program, base, it, counts)
-        by_serve(program, base, it, counts)
-    print(f"{counts.reads} reads and {counts.writes} writes failed, each within a request, and the desk went on as it has to")
+    # (the desks that are copied are opened by nobody from here on)
+    desks = {False: (people, program.minutes(people)), True: (proposed, program.minutes(proposed))}
+    with ThreadPoolExecutor(len(os.sched_getaffinity(0))) as pool:
+        ways = [(way, it) for it in CASES for way in (by_serve, by_answer)]
+        counts = [*pool.map(lambda way: way[0](program, *desks[way[1].proposed], way[1]), ways)]
+    reads_failed, writes_failed = sum(it.reads for it in counts), sum(it.writes for it in counts)
+    print(f"{reads_failed} reads and {writes_failed} writes failed, each within a request, and the desk went on as it has to")
