@@ -1,0 +1,23 @@
+#!/bin/sh
+# The pages of packaging/runbooks, run as they are printed, with the built program or the named one:
+# runbooks.sh [PROGRAM [PAGE..]]. Each begins on a desk of its own behind nginx, in the state that
+# its page is for; its commands run in order, each in the shell of the person whose it is, and what
+# comes of them is compared with the page. Scripts stand in for systemctl, journalctl and runuser,
+# paths of the system are folders here, and nginx has packaging/nginx.conf without its TLS. If the
+# program has no subcommand `audit`, a script stands in for it too, and the last line says so. The
+# full disk is a file system in memory, so it needs root or user namespaces; and curl, efitools, nginx,
+# openssl, python3, sqlite3, unshare and xxd. README's day is pasted as one block, too.
+set -eu
+. "$(dirname -- "$(readlink -f -- "$0")")/common.sh"
+PATH=$PATH:/usr/sbin:/sbin
+needs bash curl mount nginx openssl python3 sig-list-to-certs sqlite3 tar unshare xxd
+find_program "$@"
+[ $# -eq 0 ] || shift
+enter_room
+# Mounts and processes of its own, which end with it.
+own=-mpf
+[ "$(id -u)" -eq 0 ] || own="--map-current-user --keep-caps $own"
+# shellcheck disable=SC2086
+unshare $own --mount-proc --kill-child true || fail "it needs root or user namespaces, for a disk that is full"
+# shellcheck disable=SC2086
+within 280 unshare $own --mount-proc --kill-child python3 -B "$root/checks/runbooks/pages.py" "$program" "$room" "$@"

@@ -1,0 +1,462 @@
+"""pages.py PROGRAM ROOM PAGE..: runs the commands of these runbooks as they are printed: see ../runbooks.sh.
+
+A line `olga$ COMMAND` is olga's, `root# COMMAND` that of the desk's machine; `> ` goes on with a command, and what comes of it, of
+both streams, stands below: `...` is any lines, and `(status N)` a status other than 0. Each person has a shell, a home and a token.
+"""
+import concurrent.futures
+import fnmatch
+import hashlib
+import http.client
+import os
+import re
+import secrets
+import signal
+import subprocess
+import sys
+import time
+from pathlib import Path
+from typing import Dict, List, NamedTuple, NoReturn, Optional, Tuple
+
+ROOT = Path(__file__).resolve().parents[2]
+OWNER = "00112233-4455-6677-8899-aabbccddeeff"
+PEOPLE = {"ann": "submitter", "rita": "reviewer", "raul": "reviewer", "sid": "signer", "olga": "officer", "otto": "officer"}
+MARK = "-- that was all of it --"
+SIGNED = (ROOT / "examples" / "signed.efi").read_bytes()
+CERTIFICATE = (ROOT / "examples" / "certificate.der").read_bytes()
+# The place of the certificate table in the image, and of its entry in the headers.
+TABLE, ENTRY = 1536, 232
+
+
+def fail(text: str) -> NoReturn:
+    sys.exit(f"checks/runbooks.sh: {text}")
+
+
+def listens(port: int) -> bool:
+    """Whether somebody listens there: a connection to find out would be one of those that are counted."""
+    rows = [line.split() for line in Path("/proc/net/tcp").read_text().splitlines()[1:]]
+    return any(row[1].endswith(f":{port:04X}") and row[3] == "0A" for row in rows)
+
+
+def some_port() -> int:
+    while True:
+        port = 20000 + secrets.randbelow(12000)
+        if not listens(port):
+            return port
+
+
+def until_listens(port: int) -> None:
+    ends = time.monotonic() + 60
+    while not listens(port):
+        if time.monotonic() > ends:
+            fail(f"nobody listens at port {port}")
+        time.sleep(0.02)
+
+
+def signed(number: int) -> bytes:
+    """A signed image that differs from the others."""
+    found = bytearray(SIGNED)
+    found[752:755] = number.to_bytes(3, "big")
+    return bytes(found)
+
+
+def plain(number: int) -> bytes:
+    """The same before it was signed."""
+    found = bytearray(signed(number)[:TABLE])
+    found[ENTRY : ENTRY + 8] = bytes(8)
+    return bytes(found)
+
+
+# ---- a page
+
+
+class Command(NamedTuple):
+    who: str
+    text: str
+    wanted: List[str]
+
+
+def commands(page: str) -> List[Command]:
+    found: List[Command] = []
+    for line in page.split("\n"):
+        typed = re.fullmatch(r"    ([a-z]+)[$#] (.*)", line)
+        if typed:
+            found.append(Command(typed[1], typed[2], []))
+        elif line.startswith("    > ") and found:
+            found[-1] = found[-1]._replace(text=found[-1].text + "\n" + line[6:])
+        elif line.startswith("    ") and found:
+            found[-1].wanted.append(line[4:])
+    return found
+
+
+def matches(wanted: List[str], got: List[str]) -> bool:
+    """Whether the lines are these, where `...` is any lines and `*` any text."""
+    if not wanted:
+        return not got
+    if wanted[0] == "...":
+        return any(matches(wanted[1:], got[at:]) for at in range(len(got) + 1))
+    return bool(got) and fnmatch.fnmatchcase(got[0], wanted[0].replace("[", "[[]")) and matches(wanted[1:], got[1:])
+
+
+# ---- a machine with a desk
+
+
+SYSTEMCTL = """\
+#!/bin/sh -e
+# In place of systemd: the desk's service with its Restart=always, nginx's reload, the publication.
+case "$*" in
+    'start kovelamiru-desk' | 'enable --now kovelamiru-desk' | 'restart kovelamiru-desk')
+        [ "$1" != restart ] || "$0" stop kovelamiru-desk
+        setsid "{bin}/supervise" > /dev/null 2>&1 < /dev/null &
+        until "{bin}/listens" {port}; do sleep 0.02; done
+        ;;
+    'stop kovelamiru-desk')
+        kill "$(cat "{room}/supervise.pid")"
+        while "{bin}/listens" {port} || [ -e "{room}/supervise.pid" ]; do sleep 0.02; done
+        ;;
+    'is-active kovelamiru-desk') if [ -e "{room}/supervise.pid" ]; then echo active; else echo inactive; fi ;;
+    'reload nginx')
+        nginx -t -q -p "{room}/nginx/" -e "{room}/nginx/error.log" -c nginx.conf
+        master=$(cat "{room}/nginx/pid")
+        workers=$(cat "/proc/$master/task/$master/children")
+        kill -HUP "$master"
+        for worker in $workers; do while [ -e "/proc/$worker/exe" ]; do sleep 0.02; done; done
+        ;;
+    'start kovelamiru-publish')
+        . "{room}/etc/default/kovelamiru-publish"
+        # shellcheck disable=SC2086
+        exec "{bin}/desk-publish" "{room}/publish/published" --token-file "{room}/etc/kovelamiru-publish.token" $PUBLISH
+        ;;
+    *)
+        echo "checks/runbooks: no systemctl $*" >&2
+        exit 1
+        ;;
+esac
+"""
+SUPERVISE = """\
+#!/bin/sh
+echo $$ > "{room}/supervise.pid"
+trap 'kill "$child"; wait "$child"; rm "{room}/supervise.pid"; exit 0' TERM
+cd "{room}/state"
+while :; do
+    "{program}" serve desk.db {port} 1000000 2>> "{room}/journal" &
+    child=$!
+    wait "$child" || :
+    sleep 0.2
+done
+"""
+# `desk`: an administrator's, with a stand-in where the program has no `audit`.
+DESK = """\
+#!/bin/sh
+if [ "$1" = audit ] && ! "{program}" audit --help > /dev/null 2>&1; then exec "{python}" -B "{here}/audit.py" "$3" {port} "{room}/etc/kovelamiru-publish.token"; fi
+exec "{program}" "$@"
+"""
+
+
+class Machine:
+    """A folder that stands for a machine: its desk behind nginx, the people's homes, and programs in place of the system's."""
+
+    def __init__(self, program: str, room: Path):
+        self.program, self.room = program, room
+        self.port, self.proxy = some_port(), some_port()
+        self.shells: Dict[str, subprocess.Popen] = {}
+        self.tokens: Dict[str, str] = {}
+        self.keys = 0
+        for folder in ("bin", "state", "publish", "etc/default", "etc/nginx", "srv", "root", "home", "nginx"):
+            (room / folder).mkdir(parents=True)
+        for name, text in (("systemctl", SYSTEMCTL), ("supervise", SUPERVISE), ("desk", DESK)):
+            words = {"bin": room / "bin", "room": room, "port": self.port, "program": program, "here": Path(__file__).parent}
+            self.script(name, text.format(python=sys.executable, **words))
+        self.script("listens", '#!/bin/sh\ngrep -q ":$(printf %04X "$1") 00000000:0000 0A" /proc/net/tcp\n')
+        self.script("runuser", '#!/bin/sh\nshift 3\nexec "$@"\n')
+        self.script("journalctl", f'#!/bin/sh\ntail -n 3 "{room}/journal"\n')
+        for name, path in (("deskctl", "client"), ("desk-publish", "packaging"), ("desk-again", "packaging")):
+            (room / "bin" / name).symlink_to(ROOT / path / name)
+        # What a page calls a path, and what it is here. The longest first.
+        self.paths = {
+            "https://desk.example.org": f"http://127.0.0.1:{self.proxy}", "/var/lib/kovelamiru-desk": f"{room}/state",
+            "/var/lib/kovelamiru-publish": f"{room}/publish", "/var/log/nginx": f"{room}/nginx", "/etc/": f"{room}/etc/",
+            "/root/": f"{room}/root/", "/srv/": f"{room}/srv/",
+        }
+
+    def script(self, name: str, text: str) -> None:
+        path = self.room / "bin" / name
+        path.write_text(text)
+        path.chmod(0o755)
+
+    def run(self, *words: str, given: bytes = b"") -> bytes:
+        done = subprocess.run([self.program, *words], cwd=self.room / "state", input=given, capture_output=True, timeout=120)
+        if done.returncode != 0:
+            fail(f"desk {' '.join(words)}: {done.returncode} {done.stderr.decode()}")
+        return done.stdout
+
+    def make_desk(self) -> None:
+        self.run("init", "desk.db", OWNER)
+        for name, role in PEOPLE.items():
+            self.tokens[name] = secrets.token_hex(32)
+            self.home(name)
+            path = self.room / "home" / name / "desk.token"
+            path.write_text(self.tokens[name] + "\n")
+            path.chmod(0o600)
+            self.run("enrol", "desk.db", name, role, f"enrol-{name}", given=hashlib.sha256(self.tokens[name].encode()).hexdigest().encode())
+
+    def home(self, name: str) -> Path:
+        path = self.room / "home" / name
+        path.mkdir(exist_ok=True)
+        return path
+
+    def start_proxy(self) -> None:
+        site = (ROOT / "packaging" / "nginx.conf").read_text()
+        site = re.sub(r"server 127\.0\.0\.1:\d+;", f"server 127.0.0.1:{self.port};", site)
+        site = re.sub(r"^ *(ssl_|listen \[).*\n", "", site, flags=re.M)
+        site = site.replace("listen 443 ssl;", f"listen 127.0.0.1:{self.proxy};")
+        for named in ("/var/log/nginx", "/etc/"):
+            site = site.replace(named, self.paths[named])
+        folder = self.room / "nginx"
+        (folder / "site.conf").write_text(site)
+        user = "user root root;" if os.getuid() == 0 else ""
+        temporary = "".join(f"{kind}_temp_path {folder}/{kind};" for kind in ("client_body", "proxy", "fastcgi", "uwsgi", "scgi"))
+        (folder / "nginx.conf").write_text(
+            f"{user} daemon off; worker_processes 1; pid {folder}/pid; error_log {folder}/error.log warn; events {{ worker_connections 256; }}\n"
+            f"http {{ access_log off; {temporary} include {folder}/site.conf; }}\n"
+        )
+        path = "/usr/sbin/nginx" if Path("/usr/sbin/nginx").exists() else "nginx"
+        self.nginx = subprocess.Popen([path, "-p", f"{folder}/", "-e", f"{folder}/error.log", "-c", "nginx.conf"])
+        until_listens(self.proxy)
+
+    def does(self, name: str, path: str, body: bytes, port: Optional[int] = None, **fields: str) -> None:
+        """This person's command to the desk itself, or through the proxy's port, which the desk accepts."""
+        self.keys += 1
+        given = {"Desk-Token": self.tokens[name], "Desk-Key": f"key-{self.keys}", **{field.replace("_", "-"): value for field, value in fields.items()}}
+        connection = http.client.HTTPConnection("127.0.0.1", port or self.port, timeout=60)
+        connection.request("POST", path, body, given)
+        answer = connection.getresponse()
+        said = answer.read()
+        connection.close()
+        if answer.status != 200:
+            fail(f"{name} at {path}: {answer.status} {said.decode()}")
+
+    def system(self, *words: str) -> None:
+        subprocess.run([str(self.room / "bin" / "systemctl"), *words], check=True, timeout=60)
+
+    # ---- its shells
+
+    def here(self, text: str) -> str:
+        for named, path in self.paths.items():
+            text = text.replace(named, path)
+        return text
+
+    def printed(self, text: str) -> str:
+        for named, path in self.paths.items():
+            text = text.replace(path, named)
+        return text
+
+    def shell(self, who: str) -> subprocess.Popen:
+        if who not in self.shells:
+            home = self.room / "root" if who == "root" else self.home(who)
+            given = {
+                "HOME": str(home), "PATH": f"{self.room}/bin:{os.environ['PATH']}:/usr/sbin:/sbin", "DESK_URL": f"http://127.0.0.1:{self.proxy}",
+                "DESK_TOKEN_FILE": str(home / "desk.token"), "DESK_NAME": who, "LC_ALL": "C.UTF-8", "TMPDIR": str(self.room),
+            }
+            self.shells[who] = subprocess.Popen(
+                ["bash", "--norc", "--noprofile"], stdin=subprocess.PIPE, stdout=subprocess.PIPE, stderr=subprocess.STDOUT, text=True, bufsize=1,
+                start_new_session=True, env=given, cwd=home,
+            )
+        return self.shells[who]
+
+    def typed(self, command: Command) -> List[str]:
+        """What comes of a command."""
+        shell = self.shell(command.who)
+        script = self.room / "typed"
+        script.write_text(self.here(command.text) + "\n")
+        assert shell.stdin and shell.stdout
+        shell.stdin.write(f"umask 022; . {script} < /dev/null; printf '\\n%s %s\\n' '{MARK}' \"$?\"\n")
+        shell.stdin.flush()
+        got: List[str] = []
+        for line in iter(shell.stdout.readline, ""):
+            if line.startswith(MARK):
+                status = int(line[len(MARK) :])
+                lines = [one for one in got if one]
+                return lines + ([f"(status {status})"] if status else [])
+            got.append(self.printed(line.rstrip("\n")))
+        fail(f"the shell of {command.who} ended at: {command.text}\n" + "\n".join(got))
+
+    def end(self) -> None:
+        for shell in self.shells.values():
+            try:
+                os.killpg(shell.pid, signal.SIGKILL)
+            except ProcessLookupError:
+                pass
+            shell.wait()
+        if (self.room / "supervise.pid").exists():
+            self.system("stop", "kovelamiru-desk")
+        self.nginx.terminate()
+        self.nginx.wait(20)
+
+
+# ---- how things stand before each page
+
+
+def worked(machine: Machine) -> None:
+    """Two images were signed, and a third one is asked for; an image is revoked."""
+    images = machine.room / "srv" / "images"
+    images.mkdir()
+    machine.does("olga", "/db/certificates", CERTIFICATE)
+    for number in (1, 2, 3):
+        for data in (plain(number), signed(number)):
+            (images / hashlib.sha256(data).hexdigest()).write_bytes(data)
+        machine.does("ann", "/requests", plain(number), Desk_Title=f"grub2 2.12-{number}")
+    for number in (1, 2):
+        for reviewer in ("rita", "raul"):
+            machine.does(reviewer, f"/requests/{number}/review", b'{"note":"built again","vote":"yes"}')
+        machine.does("sid", f"/requests/{number}/return", signed(number))
+    machine.does("olga", "/dbx/digests", b'{"digest":"%064d"}' % 7)
+    machine.does("otto", "/proposals/1/confirm", b"")
+
+
+def publishes(machine: Machine, first: str = " --first") -> None:
+    """What was decided is published."""
+    token = machine.room / "etc" / "kovelamiru-publish.token"
+    token.write_text(machine.tokens["olga"] + "\n")
+    token.chmod(0o600)
+    options = machine.room / "etc" / "default" / "kovelamiru-publish"
+    options.write_text(f"PUBLISH='--url http://127.0.0.1:{machine.proxy} --owner {OWNER} --program {machine.room}/bin/desk{first}'\n")
+    machine.system("start", "kovelamiru-publish")
+    options.write_text(options.read_text().replace(" --first", ""))
+
+
+def embargo(machine: Machine) -> None:
+    worked(machine)
+    publishes(machine)
+    folder = machine.room / "srv" / "embargo"
+    folder.mkdir()
+    for number in range(1, 301):
+        (folder / f"grubx64-{number:03d}.efi").write_bytes(signed(number))
+
+
+def full_disk(machine: Machine) -> None:
+    worked(machine)
+    (machine.room / "srv" / "grubx64.efi").write_bytes(plain(9))
+    machine.system("stop", "kovelamiru-desk")
+    # The desk on a small disk of its own, most of which something else has.
+    state, saved = machine.room / "state", machine.room / "saved"
+    state.rename(saved)
+    state.mkdir()
+    subprocess.run(["mount", "-t", "tmpfs", "-o", "size=4m", "none", str(state)], check=True)
+    for file in saved.iterdir():
+        (state / file.name).write_bytes(file.read_bytes())
+    with open(state / "old-copy.tar.gz", "wb", buffering=0) as filler:
+        try:
+            while True:
+                filler.write(bytes(4096))
+        except OSError:
+            pass
+    machine.system("start", "kovelamiru-desk")
+
+
+def full_desk(machine: Machine) -> None:
+    worked(machine)
+    machine.does("olga", "/db/digests", b'{"digest":"%064d"}' % 9)
+    machine.does("olga", "/level", b'{"component":"grub","generation":3,"stamp":2026112700}')
+    machine.does("otto", "/proposals/2/confirm", b"")
+    publishes(machine)
+    machine.system("stop", "kovelamiru-desk")
+    # As many people as a desk takes: 1,000.
+    rows = "".join(
+        f"INSERT INTO people(name,role,token) VALUES('p{one}','submitter',x'{one:064x}');\n"
+        f"INSERT INTO calls(no,caller,key,text,reply) SELECT MAX(no)+1,'console','k-p{one}','add-person p{one} submitter {one:064x}','added p{one}' FROM calls;\n"
+        for one in range(1000 - len(PEOPLE))
+    )
+    subprocess.run(["sqlite3", machine.room / "state" / "desk.db"], input=f"BEGIN;\n{rows}COMMIT;\n", text=True, check=True)
+    machine.system("start", "kovelamiru-desk")
+    publishes(machine, "")
+
+
+def restore(machine: Machine) -> None:
+    worked(machine)
+    machine.system("stop", "kovelamiru-desk")
+    copy = machine.room / "root" / "desk-backup.tar.gz"
+    subprocess.run(["tar", "-C", machine.room / "state", "-czf", copy, "."], check=True)
+    machine.system("start", "kovelamiru-desk")
+    # What the copy lacks.
+    machine.does("rita", "/requests/3/review", b'{"note":"","vote":"yes"}')
+    machine.does("raul", "/requests/3/review", b'{"note":"the same bytes","vote":"yes"}')
+    machine.does("sid", "/requests/3/return", signed(3))
+    machine.system("stop", "kovelamiru-desk")
+    machine.run("enrol", "desk.db", "rosa", "reviewer", "enrol-rosa", given=b"ab" * 32)
+    machine.system("start", "kovelamiru-desk")
+    table = "kind,value,generation\n" + "".join(f"sha256,{one:064d},\n" for one in range(20, 30)) + "sbat,grub,3\n"
+    machine.does("olga", "/imports/csv", table.encode(), Desk_Stamp="2026112701")
+    machine.does("otto", "/proposals/2/confirm", b"")
+    data = plain(4)
+    (machine.room / "srv" / "images" / hashlib.sha256(data).hexdigest()).write_bytes(data)
+    machine.does("ann", "/requests", data, Desk_Title="grub2 2.12-4")
+    publishes(machine)
+
+
+def leaked(machine: Machine) -> None:
+    worked(machine)
+    (machine.room / "srv" / "otto.token").write_text(machine.tokens["otto"] + "\n")
+    # Somebody else has it, and proposes.
+    machine.does("otto", "/dbx/digests", b'{"digest":"%064d"}' % 8, machine.proxy)
+
+
+BEFORE = {
+    "embargo": embargo, "leaked-token": leaked, "full-disk": full_disk, "full-desk": full_desk, "restore": restore,
+    "new-officer": worked, "lost-officer": leaked,
+}
+
+
+def run_page(program: str, room: Path, name: str) -> Tuple[int, float]:
+    begun = time.monotonic()
+    page = (ROOT / "packaging" / "runbooks" / f"{name}.md").read_text()
+    machine = Machine(program, room)
+    machine.make_desk()
+    machine.start_proxy()
+    try:
+        machine.system("start", "kovelamiru-desk")
+        BEFORE[name](machine)
+        found = commands(page)
+        for command in found:
+            got = machine.typed(command)
+            if not matches(command.wanted, got):
+                fail(f"{name}: {command.who}: {command.text}\nin place of\n" + "\n".join(command.wanted) + "\ncame\n" + "\n".join(got[-30:]))
+    finally:
+        machine.end()
+    return len(found), time.monotonic() - begun
+
+
+def pasted(program: str, room: Path) -> int:
+    """README's day, pasted into a shell as one block: it waits where it has to."""
+    day = (ROOT / "README.md").read_text().split("\n## A day at the desk\n", 1)[1].split("\n## ", 1)[0].split("\n")
+    typed = [line[6:] for line in day if line.startswith(("    $ ", "    > "))]
+    wanted = [line[4:] for line in day if re.match(r"    (?![$>] )", line)]
+    room.mkdir()
+    (room / "desk").symlink_to(program)
+    (room / "examples").symlink_to(ROOT / "examples")
+    block = "\n".join(typed).replace("8080", str(some_port())) + "\n"
+    done = subprocess.run(["bash"], cwd=room, input=block, stdout=subprocess.PIPE, stderr=subprocess.PIPE, text=True, timeout=120)
+    got = [line for line in done.stdout.split("\n") if line]
+    if got != wanted:
+        fail("README's day, pasted, in place of\n" + "\n".join(wanted) + "\ncame\n" + "\n".join(got) + "\n" + done.stderr)
+    return len(typed)
+
+
+def main() -> None:
+    signal.signal(signal.SIGTERM, lambda *_: sys.exit(1))
+    program, room, *names = sys.argv[1:]
+    unknown = {path.stem for path in (ROOT / "packaging" / "runbooks").glob("*.md")} ^ set(BEFORE)
+    if unknown:
+        fail(f"pages or beginnings that lack the other: {', '.join(sorted(unknown))}")
+    counts = {}
+    with concurrent.futures.ThreadPoolExecutor(4) as lanes:
+        running = {lanes.submit(run_page, program, Path(room) / name, name): name for name in names or BEFORE}
+        for done in concurrent.futures.as_completed(running):
+            counts[running[done]], seconds = done.result()
+            print(f"{running[done]}: {counts[running[done]]} commands in {seconds:.0f} s", flush=True)
+    lines = pasted(program, Path(room) / "pasted") if not names else 0
+    audit = subprocess.run([program, "audit", "--help"], capture_output=True).returncode == 0
+    by = "desk audit" if audit else "a script in place of desk audit, which this program lacks"
+    print(f"{sum(counts.values())} commands of {len(counts)} runbooks, each with the lines that its page has; {lines} lines of README pasted; published by {by}")
+
+
+main()
