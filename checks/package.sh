@@ -4,11 +4,14 @@
 # same. It is unpacked into an empty root. The program in it is the named one, passes checks/runs.sh
 # and checks/day.sh, and runs with that root as its own, which apart from the package has only the
 # files of the libraries that its Depends name. The manual is read: no warning, each subcommand,
-# route and refusal is there. The completions are those of the help. The service's user is made; the
-# service is verified, and has an exposure of 2.0 at most. The client's package is made twice,
-# installed into an empty root, run and removed. lintian finds no error. What isn't
-# installed (lintian, mandoc, systemd) is skipped, and named at the end; so is the root if chroot
-# isn't allowed. Not part of the gate: it needs bash, dpkg-dev, git, groff, man, python3 and xxd.
+# route and refusal is there, and so are both digests. The completions are those of the help. The
+# users are made; the units are verified, and have an exposure of 2.0 at most. In a network of its
+# own the program serves as `nobody` with the service's one capability, at its port, to which the
+# rules of nftables let root and the proxy's user connect; once it is stopped, `nobody` can't take
+# the port. The client's package is made twice, installed into an empty root, run and removed. lintian
+# finds no error. What isn't installed (lintian, mandoc, nftables, systemd) is skipped, and named at
+# the end; so are the root and the network of their own if they aren't allowed. Not part of the gate:
+# it needs bash, dpkg-dev, git, groff, man, python3 and xxd.
 set -eu
 . "$(dirname -- "$(readlink -f -- "$0")")/common.sh"
 needs bash dpkg-deb dpkg-shlibdeps git groff man python3 xxd
@@ -101,7 +104,8 @@ for subcommand in $subcommands; do
     tells desk.1 "desk $subcommand"
     grep -A 2 '^ *Example:$' desk.1.txt | grep -q "^ *desk $subcommand " || fail "desk.1 has no example of $subcommand"
 done
-for text in 'THE SERVICE' BACKUP 'EXIT STATUS'; do tells desk.1 "$text"; done
+for text in 'THE SERVICE' 'WHO MAY CONNECT' BACKUP PUBLISHING RUNBOOKS 'OTHER TOOLS' 'EXIT STATUS'; do tells desk.1 "$text"; done
+grep -qi 'both digests' desk.1.txt || fail 'grep finds no "both digests" in desk.1'
 sed -n '/^| Path/,/^$/s/^| \(`[^|]*\) |.*/\1/p' "$root/docs/FORMATS.md" | tr -d '`' > routes
 sed -n 's/^| \([0-9]*\) | \([A-Za-z0-9]*\) |.*/\1  *\2/p' "$root/docs/REFUSALS.md" > refusals
 if [ ! -s routes ] || [ ! -s refusals ]; then fail 'no routes or no refusals'; fi
@@ -135,23 +139,99 @@ completes '' person desk.db ''
 
 # ---- the service
 
-service=usr/lib/systemd/system/$name.service
+units=usr/lib/systemd/system
+service=$units/$name.service
 grep -q '^ExecStart=/usr/bin/desk serve ' "unpacked/$service" || fail 'the service starts another program'
 grep -q "^User=$name\$" "unpacked/$service" || fail 'the service has another user'
-grep -q "^u $name " "unpacked/usr/lib/sysusers.d/$name.conf" || fail 'the user is not made'
 port=$(sed -n 's/^Environment=PORT=\([0-9]*\) .*/\1/p' "unpacked/$service")
+[ "$port" -lt 1024 ] || fail "any user can take the port $port"
+grep -q '^CapabilityBoundingSet=CAP_NET_BIND_SERVICE$' "unpacked/$service" || fail 'the service has other capabilities'
 tr -s ' \n' ' ' < desk.1.txt | grep -q "at port $port of 127.0.0.1" || fail "desk.1 has another port than $port"
-grep -q "server 127.0.0.1:$port;" "unpacked/usr/share/doc/$name/examples/nginx.conf" || fail "the proxy asks another port than $port"
+examples=$room/unpacked/usr/share/doc/$name/examples
+grep -q "server 127.0.0.1:$port;" "$examples/nginx.conf" || fail "the proxy asks another port than $port"
+grep -q " dport $port " "$examples/desk.nft" || fail "the rules of nftables have another port than $port"
+for user in $name kovelamiru-publish; do
+    grep -q "^u $user " "unpacked/usr/lib/sysusers.d/$name.conf" || fail "the user $user is not made"
+done
 if has systemd-sysusers; then
     mkdir -p unpacked/etc
-    holds 'the user' systemd-sysusers --root="$room/unpacked" "$name.conf"
-    grep -q "^$name:.*:/var/lib/$name:" unpacked/etc/passwd || fail "the user: $(cat unpacked/etc/passwd)"
+    holds 'the users' systemd-sysusers --root="$room/unpacked" "$name.conf"
+    for user in $name kovelamiru-publish; do
+        grep -q "^$user:.*:/var/lib/$user:" unpacked/etc/passwd || fail "the user $user: $(cat unpacked/etc/passwd)"
+    done
 fi
+for tool in desk-publish desk-again; do holds "$tool --help" "unpacked/usr/bin/$tool" --help; done
+# verified UNIT..: systemd finds nothing wrong, but that before 254 it can't let pauses grow.
+verified() {
+    systemd-analyze verify --man=no "$@" > verified 2>&1 || { cat verified && return 1; }
+    grep -v "Unknown key .*Restart\(Steps\|MaxDelaySec\)" verified || :
+}
 if has systemd-analyze; then
-    sed "s|^ExecStart=/|&${room#/}/unpacked/|" "unpacked/$service" > "$name.service"
-    silent 'the service' systemd-analyze verify --man=no "$room/$name.service"
-    holds 'its exposure' systemd-analyze security --offline=yes --threshold=20 --no-pager "$room/$name.service"
+    for unit in $name.service kovelamiru-publish.service kovelamiru-publish.timer; do
+        sed "s|^ExecStart=/|&${room#/}/unpacked/|" "unpacked/$units/$unit" > "$unit"
+    done
+    silent 'the units' verified "$room/$name.service" "$room/kovelamiru-publish.service" "$room/kovelamiru-publish.timer"
+    for unit in kovelamiru-publish $name; do
+        holds 'its exposure' systemd-analyze security --offline=yes --threshold=20 --no-pager "$room/$unit.service"
+    done
     exposure=$(sed -n 's/.*Overall exposure level for .*: \([0-9.]*\) .*/\1/p' said)
+fi
+
+# ---- its port: who takes it, and who connects
+
+cat > port.sh << 'end'
+# port.sh PROGRAM PORT RULES FOLDER: in a network of its own.
+set -eu
+PATH=/usr/sbin:/usr/bin:/sbin:/bin
+ip link set lo up
+cd "$4"
+owner=00112233-4455-6677-8899-aabbccddeeff
+as() {
+    user=$1
+    shift
+    setpriv --reuid="$user" --regid=nogroup --clear-groups --bounding-set=-all --inh-caps=-all "$@"
+}
+fails() {
+    echo "$*"
+    exit 1
+}
+connects() { as "$1" python3 -c 'import socket, sys; socket.create_connection(("127.0.0.1", int(sys.argv[1])), 5)' "$port" > connected 2>&1; }
+takes='import socket, sys; socket.socket().bind(("127.0.0.1", int(sys.argv[1])))'
+port=$2
+as nobody "$1" init desk.db "$owner"
+if as nobody python3 -c "$takes" "$port" 2> taken; then fails "nobody takes port $port"; fi
+grep -q PermissionError taken || fails "nobody at port $port: $(cat taken)"
+setpriv --reuid=nobody --regid=nogroup --clear-groups --inh-caps=-all,+net_bind_service --ambient-caps=-all,+net_bind_service \
+    --bounding-set=-all,+net_bind_service --no-new-privs "$1" serve desk.db "$port" 100 > served 2>&1 &
+server=$!
+trap 'kill "$server" 2> /dev/null || :' EXIT
+tries=100
+until connects nobody; do
+    tries=$((tries - 1))
+    [ "$tries" -gt 0 ] || fails "with its one capability: $(cat served connected)"
+    sleep 0.1
+done
+if [ -n "$3" ]; then
+    nft -f "$3"
+    nft -f "$3"
+    for user in root www-data; do connects "$user" || fails "the rules keep $user out: $(cat connected)"; done
+    for user in nobody daemon; do
+        if connects "$user"; then fails "the rules let $user in"; fi
+        grep -q ConnectionRefusedError connected || fails "$user: $(cat connected)"
+    done
+fi
+kill "$server"
+wait "$server" 2> /dev/null || :
+if as nobody python3 -c "$takes" "$port" 2> taken; then fails "nobody takes port $port while the service is stopped"; fi
+end
+rules=''
+if has nft; then rules=$examples/desk.nft; fi
+if unshare -n true 2> /dev/null && [ "$(id -u)" -eq 0 ] && has ip && has setpriv; then
+    chmod 711 "$room"
+    install -d -m 755 -o nobody "$room/port"
+    silent "its port, and who connects" unshare -n sh port.sh "$desk" "$port" "$rules" "$room/port"
+else
+    left_out="$left_out a-network-of-its-own"
 fi
 
 # ---- the client's package: made twice, installed, run, and removed

@@ -6,10 +6,13 @@
 # expected one. Then one peer sends an image slowly, one takes a long dbx slowly, and thirty more
 # send requests at once, from addresses of their own: all of them are answered while both slow ones
 # are still running, and then these get their responses. Without the proxy each slow peer holds the
-# next one up; that is shown first. Then the refusals of nginx: a body that is too long, a flood
-# from one address, a call while the desk is stopped, which is repeated with its key once it serves
-# again. Each run of the program, of curl and of nginx ends after a stated time. Not part of the gate: it
-# needs curl, openssl and python3, and nginx or the network to get it.
+# next one up; that is shown first. Then the refusals of nginx: a stranger's long body, of which
+# nothing is kept; other methods; a body that is too long; a flood from one address; too many
+# requests for signatures by one token; a call while the desk is stopped, which is repeated with its
+# key once it serves again. Then the site of packaging/nginx-certificates.conf: two people with
+# certificates, a forged token, a person taken out of the list, one revoked. The log has each request
+# and no token. Each run of the program, of curl and of nginx ends after a stated time. Not part of
+# the gate: it needs curl, openssl and python3, and nginx or the network to get it.
 set -eu
 . "$(dirname -- "$(readlink -f -- "$0")")/common.sh"
 needs curl openssl python3
@@ -64,12 +67,13 @@ openssl req -x509 -newkey ec -pkeyopt ec_paramgen_curve:prime256v1 -nodes -days 
     -addext "subjectAltName=DNS:$site" -keyout site.key -out site.pem 2> openssl.err || fail "$(cat openssl.err)"
 # sndbuf: the system keeps so little of a response on its way to a peer that nginx has to.
 listen="listen 127.0.0.1:$tls ssl sndbuf=65536;"
-sed "s|127.0.0.1:8080;|127.0.0.1:$port;|
+sed "s|127.0.0.1:880;|127.0.0.1:$port;|
      s|listen 443 ssl;|$listen|
      /listen \[::\]:443 ssl;/d
      s|/etc/ssl/certs/$site.pem|$room/site.pem|
-     s|/etc/ssl/private/$site.key|$room/site.key|" "$root/packaging/nginx.conf" > site.conf
-for line in "server 127.0.0.1:$port;" "$listen" "$room/site.pem;" "$room/site.key;"; do
+     s|/etc/ssl/private/$site.key|$room/site.key|
+     s|/var/log/nginx/|$room/|" "$root/packaging/nginx.conf" > site.conf
+for line in "server 127.0.0.1:$port;" "$listen" "$room/site.pem;" "$room/site.key;" "$room/kovelamiru-desk.log "; do
     [ "$(grep -cF "$line" site.conf)" -eq 1 ] || fail "packaging/nginx.conf has no place for $line"
 done
 {
@@ -79,7 +83,7 @@ done
     echo "http {"
     echo "    access_log $room/access.log;"
     for kind in client_body proxy fastcgi uwsgi scgi; do echo "    ${kind}_temp_path $room/$kind;"; done
-    echo "    include $room/site.conf;"
+    echo "    include $room/site*.conf;"
     echo "}"
 } > nginx.conf
 "$nginx" -t -q -p "$room/" -e "$room/error.log" -c nginx.conf 2> said || fail "nginx -t: $(cat said)"
@@ -136,7 +140,8 @@ post() {
 
 # ---- a day at the desk
 
-serve_again 33
+# Each request takes two connections, a stranger's one.
+serve_again 65
 post 200 '{"reply":"submitted","request":1}' ann k1 /requests "$image" -H 'Desk-Title: a signed loader'
 post 200 '{"reply":"submitted","request":1}' ann k1 /requests "$image" -H 'Desk-Title: a signed loader'
 post 200 '{"reply":"reviewed","request":1,"state":"open"}' rita k1 /requests/1/review yes
@@ -250,7 +255,7 @@ done
 # ---- thirty clients at once, with one that sends slowly and one that takes slowly
 
 clients=30
-serve_again $((2 * clients + 2))
+serve_again $((2 * (2 * clients + 2)))
 begins sends "$tls" "$site"
 slow=$peer
 begins takes "$tls" "$site"
@@ -287,17 +292,41 @@ got takes
 served
 requests=$((requests + 2 * clients))
 
+# ---- strangers and other methods
+
+serve_again 100000
+# kept: when nginx made or removed the last file of a body.
+kept() { stat -c %y client_body; }
+before=$(kept)
+truncate -s 134217728 longer
+truncate -s 4000000 four
+unknown='{"name":"UnknownCaller","refused":20}'
+# The body is sent at once, without asking first.
+ask nobody /verdict -H 'Expect:' --data-binary @longer
+is 401 "$unknown"
+for _ in 1 2 3 4 5 6 7 8 9 10; do
+    ask nobody /requests -H 'Expect:' -H 'Desk-Key: k1' -H 'Desk-Title: four' --data-binary @four
+    is 401 "$unknown"
+done
+ask nobody /level -D fields
+grep -q '^WWW-Authenticate: Desk' fields || fail "401 without WWW-Authenticate: $(cat fields)"
+for method in PUT DELETE OPTIONS PATCH; do
+    ask ann /requests -H 'Expect:' -X "$method" --data-binary @four -D fields
+    is 405 '{"name":"BadMethod","refused":54}'
+    grep -q '^Allow: GET, POST' fields || fail "405 without Allow: $(cat fields)"
+done
+[ "$(kept)" = "$before" ] || fail "a stranger's body was kept"
+post 422 '{"name":"NoMz","refused":2}' ann k6 /requests longer -H 'Desk-Title: as long as may be'
+[ "$(kept)" != "$before" ] || fail "nobody's body was ever kept: this check sees none"
+
 # ---- refusals of nginx
 
-serve_again 1000
 truncate -s 4194305 long
-truncate -s 134217729 longer
+truncate -s 134217729 longest
 ask olga /dbx/digests -H 'Desk-Key: k6' --data-binary @long
 [ "$(cat said)" = 413 ] || fail "a long body: $(cat said)"
-ask ann /requests -H 'Desk-Key: k6' -H 'Desk-Title: long' --data-binary @longer
+ask ann /requests -H 'Desk-Key: k6' -H 'Desk-Title: long' --data-binary @longest
 [ "$(cat said)" = 413 ] || fail "a long image: $(cat said)"
-truncate -s 134217728 longer
-post 422 '{"name":"NoMz","refused":2}' ann k6 /requests longer -H 'Desk-Title: as long as may be'
 # 150 requests from one address: at most 60 wait for their turn, and the last of them are refused.
 waiting=''
 for client in $(seq 15); do
@@ -309,6 +338,24 @@ cat flood.* | sort | uniq -c > flood
 grep -q ' 429$' flood || fail "nobody of the flood was refused: $(cat flood)"
 [ "$(grep -vc ' 429$\| 404$' flood)" -eq 0 ] || fail "the flood: $(cat flood)"
 ask olga /level
+is 200 'sbat,1,2021030218'
+# 780 requests for signatures with one token, from 26 addresses: 500 are taken at once. The desk
+# refuses each, since it has no key.
+waiting=''
+for client in $(seq 101 126); do
+    https ann --interface "127.0.0.$client" -o /dev/null -w '%{http_code}\n' -d x "$base/requests#[1-30]" > "submits.$client" &
+    waiting="$waiting $!"
+done
+for client in $waiting; do wait "$client" || fail 'one of the submissions'; done
+cat submits.* | sort | uniq -c > submits
+taken=$(sed -n 's/ 400$//p' submits | tr -d ' ')
+{ [ "${taken:-0}" -ge 480 ] && [ "$taken" -le 700 ] && grep -q ' 429$' submits && [ "$(grep -vc ' 429$\| 400$' submits)" -eq 0 ]; } \
+    || fail "780 submissions with one token: $(cat submits)"
+ask ann /requests -H 'Desk-Key: k7' -H 'Desk-Title: one more' --data-binary "@$plain"
+[ "$(cat said)" = 429 ] || fail "one more submission: $(cat said)"
+ask rita /requests -d x
+is 400 '{"name":"BadField","refused":51}'
+ask ann /level
 is 200 'sbat,1,2021030218'
 
 # ---- the desk is stopped at any moment, and acknowledged commands stay
@@ -325,7 +372,11 @@ desk minutes copy/desk.db > minutes || fail 'no desk in the copy'
 if desk minutes alone/desk.db > minutes.alone 2> said && cmp -s minutes minutes.alone; then fail 'the log held nothing'; fi
 ask otto /proposals/12/confirm -H 'Desk-Key: k4' -d ''
 [ "$(cat said)" = 502 ] || fail "without the desk: $(cat said)"
-serve_again 2
+for who in nobody olga; do
+    ask "$who" /level
+    [ "$(cat said)" = 502 ] || fail "$who without the desk: $(cat said)"
+done
+serve_again 4
 confirmed='"passed":0,"proposal":12,"reply":"confirmed"}'
 post 200 "{\"certificates\":0,\"components\":1,\"digests\":0,$confirmed" otto k4 /proposals/12/confirm nothing
 ask olga /level
@@ -334,8 +385,151 @@ grub,3'
 served
 desk minutes desk.db > minutes
 [ "$(tail -n 1 minutes | cut -f2-)" = 'otto	k4	confirm 12	confirmed 12 0 0 1 0' ] || fail "the minutes: $(tail -n 1 minutes)"
-if grep -q 'token-for-the-desk' access.log error.log; then fail 'a token stands in a log'; fi
+
+# ---- people with certificates
+
+# openssl_ WORD..: openssl, whose words are shown if it fails.
+openssl_() { openssl "$@" > openssl.err 2>&1 || fail "openssl $1: $(cat openssl.err)"; }
+people=people.$site
+{
+    printf '[ca]\ndefault_ca=people\n[people]\ndatabase=%s/ca.index\ncrlnumber=%s/ca.number\ncertificate=%s/ca.pem\n' "$room" "$room" "$room"
+    printf 'private_key=%s/ca.key\ndefault_md=sha256\ndefault_crl_days=2\n' "$room"
+} > ca.conf
+: > ca.index
+echo 01 > ca.number
+key='-newkey ec -pkeyopt ec_paramgen_curve:prime256v1 -nodes'
+# shellcheck disable=SC2086
+{
+    openssl_ req -x509 $key -days 2 -subj "/CN=$people" -addext "subjectAltName=DNS:$people" -keyout people.key -out people.pem
+    openssl_ req -x509 $key -days 2 -subj '/O=Example/CN=people of the desk' -keyout ca.key -out ca.pem
+    openssl_ req -x509 $key -days 2 -subj '/O=Example/CN=olga' -keyout forger.key -out forger.pem
+    for person in olga otto stan; do
+        openssl_ req $key -subj "/O=Example/CN=$person" -keyout "$person.key" -out "$person.csr"
+        openssl_ x509 -req -in "$person.csr" -CA ca.pem -CAkey ca.key -CAcreateserial -days 2 -out "$person.pem"
+    done
+}
+openssl_ ca -config ca.conf -gencrl -out ca.crl
+# olga's person at the desk is the first in this list, and later another one: nobody knows the tokens
+# but nginx.
+openssl rand -hex 32 > olga-2.token
+desk enrol desk.db olga-2 officer k-olga-2 < /dev/null > said 2>&1 && fail 'enrol without a sum'
+sha256sum_of() { tr -d '\n' < "$1" | sha256sum; }
+sha256sum_of olga-2.token | desk enrol desk.db olga-2 officer k-olga-2 > said
+# people_are NAME/TOKEN..: the list that nginx reads.
+people_are() {
+    for person in "$@"; do printf '"~^\\QCN=%s,O=Example\\E$" "%s";\n' "${person%%/*}" "${person#*/}"; done > list
+}
+people_are "olga/$(token_of olga)" "otto/$(token_of otto)"
+sed "s|listen 443 ssl;|listen 127.0.0.1:$tls ssl;|
+     /listen \[::\]:443 ssl;/d
+     s|/etc/nginx/kovelamiru-desk.people|$room/list|
+     s|/etc/ssl/certs/$people.pem|$room/people.pem|
+     s|/etc/ssl/private/$people.key|$room/people.key|
+     s|/etc/ssl/certs/kovelamiru-desk-people.pem|$room/ca.pem|
+     s|/etc/ssl/certs/kovelamiru-desk-people.crl|$room/ca.crl|
+     s|/var/log/nginx/|$room/|" "$root/packaging/nginx-certificates.conf" > site-certificates.conf
+[ "$(grep -c "$room/" site-certificates.conf)" -eq 6 ] || fail 'packaging/nginx-certificates.conf has other files than this check knows'
+"$nginx" -t -q -p "$room/" -e "$room/error.log" -c nginx.conf 2> said || fail "nginx -t: $(cat said)"
+serve_again 100000
+
+# shows NAME PATH CURL-WORD..: a request with this person's certificate; `said` is its status.
+shows() {
+    who=$1 path=$2
+    shift 2
+    curl -sS --no-progress-meter --max-time 60 --cacert people.pem --resolve "$people:$tls:127.0.0.1" --cert "$who.pem" --key "$who.key" \
+        -o body -w '%{http_code}' "$@" "https://$people:$tls$path" > said 2> curl.err || fail "$path: $(cat curl.err)"
+    requests=$((requests + 1))
+}
+# shown STATUS NAME: the level, with this certificate, is answered so.
+shown() {
+    curl -sS --no-progress-meter --max-time 60 --cacert people.pem --resolve "$people:$tls:127.0.0.1" --cert "$2.pem" --key "$2.key" \
+        -o body -w '%{http_code}' "https://$people:$tls/level" > said 2> curl.err || cat curl.err >> said
+    requests=$((requests + 1))
+    [ "$(cat said)" = "$1" ]
+}
+# gone PROCESS..: they have ended.
+gone() {
+    for process in "$@"; do
+        if is_running "$process"; then return 1; fi
+    done
+}
+# reread WHAT STATUS NAME: nginx reads its site again, and then answers this certificate so.
+reread() {
+    master=$(cat nginx.pid)
+    workers=$(cat "/proc/$master/task/$master/children")
+    kill -HUP "$master"
+    # shellcheck disable=SC2086
+    soon 20 gone $workers
+    shown "$2" "$3" || fail "$1: $(cat said)"
+}
+reread 'olga with her certificate' 200 olga
+shown 200 otto || fail "otto with his certificate: $(cat said)"
+shown 403 stan || fail "a certificate that isn't in the list: $(cat said)"
+shown 400 forger || fail "a certificate of another authority: $(cat said)"
+before=$(kept)
+curl -sS --no-progress-meter --max-time 60 --cacert people.pem --resolve "$people:$tls:127.0.0.1" -o body -w '%{http_code}' -H 'Expect:' \
+    -H "Desk-Token: $(token_of olga)" --data-binary @longer "https://$people:$tls/verdict" > said 2> curl.err || fail "$(cat curl.err)"
+[ "$(cat said)" = 400 ] || fail "no certificate, a token: $(cat said)"
+shows stan /verdict -H 'Expect:' --data-binary @longer
+[ "$(cat said)" = 403 ] || fail "a long body of somebody who isn't in the list: $(cat said)"
+[ "$(kept)" = "$before" ] || fail 'a body was kept that nobody sent'
+# otto's token has no effect in olga's connection, however its field is written.
+proposal=13
+for field in 'Desk-Token' 'desk-token' 'DESK-TOKEN' 'Desk_Token'; do
+    shows olga /dbx/digests -H "$field: $(token_of otto)" -H "$field: $(token_of otto)" -H "Desk-Key: forged-$proposal" \
+        -d "{\"digest\":\"$(printf '%064d' "$proposal")\"}"
+    is 200 "{\"proposal\":$proposal,\"reply\":\"proposed\"}"
+    shows otto "/proposals/$proposal"
+    grep -q '"officer":"olga"' body || fail "the proposal of a forged $field: $(cat body)"
+    proposal=$((proposal + 1))
+done
+shows olga /proposals/13/confirm -H "Desk-Token: $(token_of otto)" -H 'Desk-Key: forged' -d ''
+is 409 '{"name":"OwnProposal","refused":38}'
+shows otto /proposals/13/confirm -H 'Desk-Key: of-otto' -d ''
+is 200 '{"certificates":0,"components":0,"digests":1,"passed":0,"proposal":13,"reply":"confirmed"}'
+# Another token for olga's certificate; then none for otto's.
+people_are "olga/$(cat olga-2.token)" "otto/$(token_of otto)"
+reread 'the list again' 200 olga
+soon_olga() { shows olga /proposals/14/drop -H "Desk-Key: $1" -d ''; }
+soon_olga of-olga-2
+is 200 '{"proposal":14,"reply":"dropped"}'
+people_are "olga/$(cat olga-2.token)"
+reread 'otto, taken out of the list' 403 otto
+people_are "olga/$(cat olga-2.token)" "otto/$(token_of otto)"
+reread 'otto, in the list again' 200 otto
+# A session of TLS from before the revocation doesn't help either: curl keeps none between runs.
+for version in tls1_2 tls1_3; do
+    printf 'GET /level HTTP/1.1\r\nHost: %s\r\nConnection: close\r\n\r\n' "$people" | timeout 20 openssl s_client -quiet -"$version" \
+        -connect "127.0.0.1:$tls" -servername "$people" -CAfile people.pem -cert otto.pem -key otto.key -sess_out "session.$version" \
+        > "session.said" 2> openssl.err || :
+    grep -q '^HTTP/1.1 200' session.said || fail "otto by $version: $(cat session.said openssl.err)"
+done
+openssl_ ca -config ca.conf -revoke otto.pem
+openssl_ ca -config ca.conf -gencrl -out ca.crl
+reread 'otto, revoked' 400 otto
+shown 200 olga || fail "olga after otto's revocation: $(cat said)"
+for version in tls1_2 tls1_3; do
+    [ -s "session.$version" ] || continue
+    printf 'GET /level HTTP/1.1\r\nHost: %s\r\nConnection: close\r\n\r\n' "$people" | timeout 20 openssl s_client -quiet -"$version" \
+        -connect "127.0.0.1:$tls" -servername "$people" -CAfile people.pem -cert otto.pem -key otto.key -sess_in "session.$version" \
+        > "session.said" 2> openssl.err || :
+    grep -q '^HTTP/1.1 400' session.said || fail "otto's session of $version after his revocation: $(cat session.said openssl.err)"
+done
+kill "$server"
+wait "$server" 2> /dev/null || :
+desk minutes desk.db > minutes
+[ "$(cut -f2,3,5 minutes | grep -c '^olga	forged-1[3-6]	proposed 1[3-6]$')" -eq 4 ] || fail "the forged calls: $(tail -n 8 minutes)"
+[ "$(tail -n 1 minutes | cut -f2-)" = 'olga-2	of-olga-2	drop 14	dropped 14' ] || fail "the minutes: $(tail -n 1 minutes)"
+
+# ---- the log
+
+grep -q '^20[0-9T:+-]* 127\.0\.0\.1 POST /requests 200 [0-9.]* "k1"$' kovelamiru-desk.log || fail "the log: $(tail -n 3 kovelamiru-desk.log)"
+grep -q '"CN=otto,O=Example" POST /proposals/13/confirm 200 [0-9.]* "of-otto"$' kovelamiru-desk.log || fail "the log: $(tail -n 3 kovelamiru-desk.log)"
+for status in 400 401 403 405 409 413 422 429 502; do
+    grep -q " $status [0-9.]* " kovelamiru-desk.log || fail "the log has no $status"
+done
+if grep -q "token-for-the-desk\|$(cat olga-2.token)" ./*.log; then fail 'a token stands in a log'; fi
 kill "$proxy"
 wait "$proxy" 2> /dev/null || :
 echo "$requests requests through the proxy, each answered as it has to be; beside two slow ones, $clients clients of two requests" \
-    "each took $took ms, the longest request $longest s"
+    "each took $took ms, the longest request $longest s; nothing of a stranger's body was kept, $taken of 780 submissions were taken"

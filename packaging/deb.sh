@@ -51,10 +51,20 @@ packed() { gzip -9n "$1"; }
 # ---- the files
 
 place 755 "$program" usr/bin/desk
-place 644 "$here/kovelamiru-desk.service" usr/lib/systemd/system/kovelamiru-desk.service
+for unit in kovelamiru-desk.service kovelamiru-publish.service kovelamiru-publish.timer; do
+    place 644 "$here/$unit" "usr/lib/systemd/system/$unit"
+done
 place 644 "$here/kovelamiru-desk.sysusers" usr/lib/sysusers.d/kovelamiru-desk.conf
 place 644 "$here/desk.bash" usr/share/bash-completion/completions/desk
-place 644 "$here/nginx.conf" "usr/share/doc/$name/examples/nginx.conf"
+for example in nginx.conf nginx-certificates.conf desk.nft; do place 644 "$here/$example" "usr/share/doc/$name/examples/$example"; done
+for runbook in "$here"/runbooks/*.md; do place 644 "$runbook" "usr/share/doc/$name/runbooks/${runbook##*/}"; done
+for page in INTEROPERATION WALKTHROUGH; do place 644 "$root/docs/$page.md" "usr/share/doc/$name/$page.md"; done
+# The two programs and what they share; one of Python finds it by the path of the link.
+place 644 "$here/desk_http.py" "usr/lib/$name/desk_http.py"
+for tool in desk-publish desk-again; do
+    place 755 "$here/$tool" "usr/lib/$name/$tool"
+    ln -s "../lib/$name/$tool" "$tree/usr/bin/$tool"
+done
 place 644 "$here/lintian-overrides" "usr/share/lintian/overrides/$name"
 for file in "$root"/page/*; do place 644 "$file" "usr/share/$name/page/${file##*/}"; done
 
@@ -111,7 +121,8 @@ Architecture: amd64
 Maintainer: $maintainer
 Installed-Size: $size
 Depends: $needs, systemd | systemd-standalone-sysusers | systemd-sysusers
-Suggests: nginx, bash-completion
+Recommends: python3 (>= 3.9)
+Suggests: nginx, nftables, efitools, kovelamiru-deskctl, bash-completion
 Section: admin
 Priority: optional
 Description: Secure Boot signing and revocation desk
@@ -120,7 +131,8 @@ Description: Secure Boot signing and revocation desk
  listed (db) and what is revoked (dbx, SBAT level) in one file, takes calls
  over HTTP and on the command line, reads EFI images, gives verdicts and
  exports the bytes. One officer proposes a revocation, another one confirms
- it. The desk neither makes nor checks signatures.
+ it; a listing takes one officer. The desk neither makes nor checks
+ signatures, and keeps no image.
  .
  That acknowledged commands are never lost is proved.
 CONTROL

@@ -137,7 +137,8 @@ proxies() {
          s|listen 443 ssl;|listen 127.0.0.1:$1;|
          /listen \[::\]:443 ssl;/d
          /^ *ssl_/d
-         s|root /usr/share/kovelamiru-desk;|root $root;|" "$root/packaging/nginx.conf" > site.conf
+         s|root /usr/share/kovelamiru-desk;|root $root;|
+         s|/var/log/nginx/|$folder/|" "$root/packaging/nginx.conf" > site.conf
     for line in "server 127.0.0.1:$port;" "listen 127.0.0.1:$1;" "root $root;"; do
         grep -qF "$line" site.conf || fail "packaging/nginx.conf has no place for $line"
     done

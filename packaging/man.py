@@ -2,8 +2,8 @@
 """man.py PROGRAM DATE FOLDER: writes the manual pages desk.1 and desk-http.7 into the folder.
 
 Each text has one source: the program's help for subcommands, docs/FORMATS.md for formats and routes, docs/REFUSALS.md
-for refusals, packaging/README.md for the service, its backup and what makes a desk grow. This script sets them in
-man(7), tables in tbl(1).
+for refusals, packaging/README.md for the service and what stands around it, docs/INTEROPERATION.md for other tools. This
+script sets them in man(7), tables in tbl(1).
 """
 
 import os
@@ -32,11 +32,16 @@ INPUT_AND_OUTPUT = [
 DESK = """\
 desk keeps the Secure Boot decisions of a distribution in one file: requests for a signature, their reviews, what is listed (db)
 and what is revoked (dbx, SBAT level). It takes calls over HTTP and on the command line, reads EFI images, says whether they are
-allowed, and exports db, dbx and the level. One officer proposes a revocation, another one confirms it. The desk neither makes nor
-checks signatures. An acknowledged command is never lost, as long as nobody else writes the file and the disk keeps what it synced."""
+allowed, and exports db, dbx and the level. One officer proposes a revocation, another one confirms it, which may add nothing; a
+listing takes one officer. An acknowledged command is never lost, as long as nobody else writes the file and the disk keeps what it
+synced.
+
+The desk neither makes nor checks signatures. `allowed` and `signed` mean that the digest of an image, or a certificate that it
+carries, is listed, and not that a signature was verified: use sbverify(1) for that. It keeps no image, only what `desk facts` prints
+of one. It keeps no time."""
 HTTP = """\
 `desk serve` reads one HTTP/1.1 request from each connection and writes one response; `desk answer` reads one from standard input.
-`Desk-Token` says who calls: it has the token that `desk person` was given. `Desk-Key` names a command: sent again under the same key,
+`Desk-Token` says who calls: it has the token whose SHA-256 `desk enrol` was given. `Desk-Key` names a command: sent again under the same key,
 the same command gets the same answer and acts once."""
 ENVIRONMENT = """\
 `GLIBC_TUNABLES=glibc.malloc.hugetlb=1` makes the C library ask for large pages, so that a subcommand on a small desk is quicker. The
@@ -44,17 +49,20 @@ service sets it."""
 EXAMPLES = """\
 One officer proposes to raise a generation of the level, and another one confirms it:
 
-    curl -H "Desk-Token: $(cat olga.token)" -H 'Desk-Key: k2' \\
+    curl -H @olga.header -H 'Desk-Key: k2' \\
         -d '{"component":"grub","generation":3,"stamp":2024010100}' \\
-        http://127.0.0.1:8080/level
-    curl -H "Desk-Token: $(cat otto.token)" -H 'Desk-Key: k1' -d '' \\
-        http://127.0.0.1:8080/proposals/1/confirm
+        http://127.0.0.1:880/level
+    curl -H @otto.header http://127.0.0.1:880/proposals/1
+    curl -H @otto.header -H 'Desk-Key: k1' -d '' \\
+        http://127.0.0.1:880/proposals/1/confirm
+
+olga.header has the line `Desk-Token: TOKEN`, and mode 0600: a token on a command line is seen by every user of the machine.
 """
 
 
 def plain(text):
     """The text in roff, the same in print as here."""
-    for mark, name in (("\\", "\\e"), ("~", "\\(ti"), ("^", "\\(ha"), ("`", "\\(ga")):
+    for mark, name in (("\\", "\\e"), ("~", "\\(ti"), ("^", "\\(ha"), ("`", "\\(ga"), ("\u00a0", "\\~")):
         text = text.replace(mark, name)
     return text
 
@@ -127,7 +135,7 @@ def listed(rows):
     found, heads = [], [head.split(",")[0] for head in rows[0][1:]]
     for row in rows[1:]:
         named = [(f"{head}: " if len(heads) > 1 else "") + cell for head, cell in zip(heads, row[1:]) if cell]
-        found += [".TP", inline(row[0])] + filled("; ".join(named) + ".")
+        found += [".TP", inline(row[0])] + filled("; ".join(cell.rstrip(".") for cell in named) + ".")
     return found
 
 
@@ -174,6 +182,12 @@ def section(file, title):
         sys.exit(f"packaging/man.py: {file} has no section {title}")
     part = parts[1].split("\n## ", 1)[0]
     return re.sub(r" \([^()]*\bdesk_\w+[^()]*\)", "", part)
+
+
+def interoperation():
+    """docs/INTEROPERATION.md below its title; `both digests` stays in one line, where people search for it."""
+    with open(f"{ROOT}/docs/INTEROPERATION.md", encoding="utf-8") as page:
+        return page.read().split("\n", 1)[1].replace("both digests", "both\u00a0digests")
 
 
 def refusals():
@@ -246,7 +260,9 @@ def desk_page(said, date):
     files = []
     for name, text in (
         ("/var/lib/kovelamiru-desk/desk.db", "The desk of the service, with its log `desk.db-wal` beside it."),
-        ("/usr/share/doc/kovelamiru-desk/examples/nginx.conf", "An example of a proxy with TLS."),
+        ("/usr/share/doc/kovelamiru-desk/examples/", "Examples: a proxy with TLS, a site for client certificates, rules of nftables."),
+        ("/usr/share/doc/kovelamiru-desk/runbooks/", "What to do on a bad day, a page each."),
+        ("/var/lib/kovelamiru-publish/published", "What desk-publish published last."),
     ):
         files += [".TP", f"\\fI{literal(name)}\\fR"] + filled(text)
     return page(
@@ -263,9 +279,14 @@ def desk_page(said, date):
             ("EXIT STATUS", numbered(STATUSES)),
             ("DIAGNOSTICS", roff(section("docs/FORMATS.md", "Lines on standard error")) + roff("desk-http(7) lists all refusals.")),
             ("THE SERVICE", roff(section("packaging/README.md", "The service"))),
+            ("WHO MAY CONNECT", roff(section("packaging/README.md", "Who may connect"))),
             ("BACKUP", roff(section("packaging/README.md", "Backup"))),
             ("WHAT MAKES A DESK GROW", roff(section("packaging/README.md", "What makes a desk grow"))),
             ("A PROXY IN FRONT", roff(section("packaging/README.md", "A proxy in front"))),
+            ("PEOPLE WITH CERTIFICATES", roff(section("packaging/README.md", "People with certificates"))),
+            ("PUBLISHING", roff(section("packaging/README.md", "Publishing"))),
+            ("RUNBOOKS", roff(section("packaging/README.md", "Runbooks"))),
+            ("OTHER TOOLS", roff(interoperation())),
             ("ENVIRONMENT", roff(ENVIRONMENT)),
             ("FILES", files),
             ("SEE ALSO", ["desk-http(7), systemctl(1), runuser(1), nginx(8)"]),

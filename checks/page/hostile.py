@@ -86,8 +86,8 @@ def another_origin(browser: Browser, place: Place) -> None:
     if browser.all("#token"):
         fail("another origin shows the page in a frame")
     browser.driver.switch_to.default_content()
-    until(20, "the other origin's form", lambda: '"POST /requests/1/withdraw HTTP/1.1" 401' in place.log, lambda: place.log)
-    if re.search(r'"(GET|POST) /(level|requests/1/withdraw) HTTP/1.1" 200', place.log[at:]):
+    until(20, "the other origin's form", lambda: ' POST /requests/1/withdraw 401 ' in place.log, lambda: place.log)
+    if re.search(r' (GET|POST) /(level|requests/1/withdraw) 200 ', place.log[at:]):
         fail(f"a page of another origin was answered: {place.log[at:]}")
     if place.ask("olga", "GET", "/report").body != before:
         fail("a page of another origin changed the desk")

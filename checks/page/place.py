@@ -97,7 +97,7 @@ class Place:
     @property
     def log(self) -> str:
         """What nginx wrote of requests."""
-        return (self.room / "access.log").read_text()
+        return (self.room / "kovelamiru-desk.log").read_text()
 
     def serve(self) -> None:
         self.desk = Server(self.program, self.path)
@@ -113,6 +113,7 @@ class Place:
         site = re.sub(r"server 127\.0\.0\.1:\d+;", f"server 127.0.0.1:{self.desk_port};", site)
         site = re.sub(r"^ *(ssl_|listen \[).*\n", "", site, flags=re.M)
         site = site.replace("listen 443 ssl;", f"listen 127.0.0.1:{self.port};").replace("root /usr/share/kovelamiru-desk;", f"root {ROOT};")
+        site = site.replace("/var/log/nginx/", f"{self.room}/")
         for line in (f"server 127.0.0.1:{self.desk_port};", f"listen 127.0.0.1:{self.port};", f"root {ROOT};"):
             if site.count(line) != 1:
                 fail(f"packaging/nginx.conf has no place for {line}")
