@@ -1,6 +1,7 @@
 pub mod Asked
 pub mod Bodies
 pub mod Each
+pub mod Intakes
 pub mod Refused
 pub mod Responses
 pub mod Sending

@@ -5,8 +5,6 @@ use Rattle.desk_bytes.specs.Output.{AppendsBeginning}
 use Rattle.http_responses.specs.declared.outage.Outage.TheVariants as outage
 use Rattle.http_responses.specs.declared.refused.Refused.{Refused as Refusal}
 use Rattle.http_responses.specs.declared.refused.Refused.TheVariants as refused
-use Rattle.desk_bytes.specs.Watches.{HasFailed}
-use Rattle.desk_bytes.specs.declared.watch.Watch.{Watch}
 use Rattle.desk_history.specs.Calls.{History}
 use Rattle.desk_calls.specs.Answers.{AnswersCall, IsClosed, no_memory, store_failed}
 use Rattle.desk_calls.specs.Desks.{ForEachShown, StillShows}
@@ -77,12 +75,6 @@ WhenUnwritten (Ok served) holds = ⊤
 WhenUnwritten (Err fault.Read) holds = ⊤
 WhenUnwritten (Err fault.Write) holds = holds
 WhenUnwritten (Err fault.NoMemory) holds = ⊤
-
--- the fault Read comes only if a read failed
-abbrev pub HasCause : Watch → HttpFault → Type 0
-HasCause watch fault.Read = HasFailed watch
-HasCause watch fault.Write = ⊤
-HasCause watch fault.NoMemory = ⊤
 
 -- In the following, `input` and `left` are the reader's bytes before and after, `before` and
 -- `after` the writer's.

@@ -1,7 +1,5 @@
 -- Reasons why a request isn't known.
 use Rattle.std.specs.Prelude.{⊤, ℕ, List, Option, Some, None, Result, Ok, Err, IfSome, IsErr}
-use Rattle.desk_bytes.specs.Watches.{HasFailed}
-use Rattle.desk_bytes.specs.declared.watch.Watch.{Watch}
 use Rattle.desk_history.specs.Calls.{History}
 use Rattle.http_responses.specs.declared.outage.Outage.TheVariants as outage
 use Rattle.desk_http.specs.Asked.{Asks, Due}
@@ -31,12 +29,6 @@ abbrev pub IsOfInput : Unread → Type 0
 IsOfInput unread.Read = ⊤
 IsOfInput unread.NoMemory = ⊤
 IsOfInput (unread.Outage _) = ⊥
-
--- the fault Read comes only if a read failed
-abbrev pub HasCause : Watch → Unread → Type 0
-HasCause watch unread.Read = HasFailed watch
-HasCause watch unread.NoMemory = ⊤
-HasCause watch (unread.Outage _) = ⊤
 
 -- a desk that has failed can give it: no call of it fails again
 abbrev pub IsOfClosed : Unread → Type 0

@@ -2,17 +2,16 @@
 ghost use Rattle.std.specs.Prelude.{◌≡◌, ◌≢◌, Err, IfErr, IfOk, IfSome, MatchResult, Ok};
 ghost use Rattle.http_requests.specs.Asked as asks;
 ghost use Rattle.http_requests.specs.Wanted.{shown};
-ghost use Rattle.desk_bytes.specs.declared.watch.Watch.{Watch as Watching};
 ghost use Rattle.desk_http.specs.Asked as spec;
 ghost use Rattle.desk_http.specs.Bodies.{body_in};
+ghost use Rattle.desk_http.specs.Intakes.{IsCaused};
 ghost use Rattle.desk_http.specs.Refused.{refused_by_fields};
-ghost use Rattle.desk_http.specs.Unread.{HasCause, IsOwn};
+ghost use Rattle.desk_http.specs.Unread.{IsOwn};
+ghost use Rattle.desk_http.specs.declared.intake.Intake.{Intake as Reading};
 
-use crate::body_reading::read_bytes;
-use crate::image_reading::read_image;
+use crate::intake::Intake;
 use crate::served::{Due, Unread};
 use crate::tasks::task_with_body;
-use desk_bytes::Watch;
 use desk_calls::{Call, Task};
 use desk_texts::Person;
 use http_requests::{
@@ -30,7 +29,7 @@ fn refuse(fault: AskedFault) -> Result<Due, Unread>
         (λ unread. unread ≡ Unread.Outage Outage.NoMemory) }
     ensures no_store { result ≢ Ok (Err (Refused.Unavailable Outage.Store)) }
     ensures named { IfErr result IsOwn }
-    ensures device { (watch : Watching) → IfErr result (HasCause watch) }
+    ensures cause { (intake : Reading) → IsCaused intake intake result }
 {
     match fault {
         AskedFault::BadField => Ok(Err(Refused::BadField)),
@@ -47,7 +46,7 @@ fn ask_to_read(person: Person, route: GetRoute, wanted: &Wanted<'_>) -> Result<D
         due ≡ spec.of_read person (asks.read_at route (shown wanted.now))) }
     ensures no_store { result ≢ Ok (Err (Refused.Unavailable Outage.Store)) }
     ensures named { IfErr result IsOwn }
-    ensures device { (watch : Watching) → IfErr result (HasCause watch) }
+    ensures cause { (intake : Reading) → IsCaused intake intake result }
 {
     match read_asked(route, wanted) {
         Ok(asked) => Ok(Ok(Call {
@@ -65,16 +64,16 @@ fn ask_with_image<R: Read>(
     route: ImageRoute,
     wanted: &Wanted<'_>,
     reader: &mut R,
-    watch: &mut Watch,
+    intake: &mut Intake,
 ) -> Result<Due, Unread>
     ensures asked { IfOk result (λ due. IfSome (R.remaining reader.old) (λ rest.
         due ≡ spec.with_image person (asks.image_at route (shown wanted.now))
         (body_in wanted.now.size rest))) }
     ensures no_store { result ≢ Ok (Err (Refused.Unavailable Outage.Store)) }
     ensures named { IfErr result IsOwn }
-    ensures device { IfErr result (HasCause watch.new) }
+    ensures cause { IsCaused intake.old intake.new result }
 {
-    let Some(image) = read_image(alloc, reader, watch, wanted.size)? else {
+    let Some(image) = intake.read_image(alloc, reader, wanted.size)? else {
         return Ok(Err(Refused::BadHead));
     };
     match image_asked(alloc, route, wanted) {
@@ -93,16 +92,16 @@ fn ask_with_body<R: Read>(
     route: CommandRoute,
     wanted: &Wanted<'_>,
     reader: &mut R,
-    watch: &mut Watch,
+    intake: &mut Intake,
 ) -> Result<Due, Unread>
     ensures asked { IfOk result (λ due. IfSome (R.remaining reader.old) (λ rest.
         due ≡ spec.with_body person (asks.keyed_at route (shown wanted.now))
         (body_in wanted.now.size rest))) }
     ensures no_store { result ≢ Ok (Err (Refused.Unavailable Outage.Store)) }
     ensures named { IfErr result IsOwn }
-    ensures device { IfErr result (HasCause watch.new) }
+    ensures cause { IsCaused intake.old intake.new result }
 {
-    let Some(body) = read_bytes(alloc, reader, watch, wanted.size)? else {
+    let Some(body) = intake.read_bytes(alloc, reader, wanted.size)? else {
         return Ok(Err(Refused::BadHead));
     };
     let keyed = match command_asked(alloc, route, wanted) {
@@ -122,21 +121,21 @@ pub(crate) fn ask<R: Read>(
     person: Person,
     wanted: &Wanted<'_>,
     reader: &mut R,
-    watch: &mut Watch,
+    intake: &mut Intake,
 ) -> Result<Due, Unread>
     ensures asked { IfOk result (λ due. IfSome (R.remaining reader.old) (λ rest.
         due ≡ spec.of_route person (shown wanted.now) rest wanted.now.route)) }
     ensures no_store { result ≢ Ok (Err (Refused.Unavailable Outage.Store)) }
     ensures named { IfErr result IsOwn }
-    ensures device { IfErr result (HasCause watch.new) }
+    ensures cause { IsCaused intake.old intake.new result }
 {
     match wanted.route {
         Route::Get(route) => ask_to_read(person, route, wanted),
         Route::Post(PostRoute::Image(route)) => {
-            ask_with_image(alloc, person, route, wanted, reader, watch)
+            ask_with_image(alloc, person, route, wanted, reader, intake)
         }
         Route::Post(PostRoute::Command(route)) => {
-            ask_with_body(alloc, person, route, wanted, reader, watch)
+            ask_with_body(alloc, person, route, wanted, reader, intake)
         }
     }
 }

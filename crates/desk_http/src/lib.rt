@@ -2,8 +2,7 @@
 #![tactic(auto)]
 
 mod asking;
-mod body_reading;
-mod image_reading;
+mod intake;
 mod laws;
 mod reading;
 mod responding;

@@ -2,22 +2,22 @@
 ghost use Rattle.std.specs.Prelude.{◌≡◌, ◌≢◌, ℕ, List, [], Err, None, Ok, Some, IfErr, IfOk, IfSome};
 ghost use Rattle.std.specs.Prelude.{IsErr, MatchOption, MatchResult};
 ghost use Rattle.httparse.specs.Grammar.{ReadsRequest, RequestHead};
-ghost use Rattle.desk_bytes.specs.declared.watch.Watch.{Watch as Watching};
 ghost use Rattle.http_requests.specs.Fields.{bytes_of};
 ghost use Rattle.http_requests.specs.Wanted as wants;
 ghost use Rattle.desk_calls.specs.Desks.{StillShows, ForEachShown};
 ghost use Rattle.desk_history.specs.Calls.{History};
 ghost use Rattle.desk_http.specs.Asked as spec;
+ghost use Rattle.desk_http.specs.Intakes.{IsCaused};
 ghost use Rattle.desk_http.specs.Refused.{refused_by_head};
-ghost use Rattle.desk_http.specs.Unread.{CanCome, HasCause, IsKnownOfClosed, WhenAsked};
+ghost use Rattle.desk_http.specs.Unread.{CanCome, IsKnownOfClosed, WhenAsked};
+ghost use Rattle.desk_http.specs.declared.intake.Intake.{Intake as Reading};
 
 use crate::asking::ask;
-use crate::body_reading::unread_of;
+use crate::intake::Intake;
 use crate::served::{Due, Unread};
-use desk_bytes::Watch;
 use desk_calls::{Answering, caller};
 use desk_texts::Person;
-use http_requests::{Begun, ParsedHead, Routes, Wanted, WantedFault, check_head, read_head};
+use http_requests::{Begun, ParsedHead, Routes, Wanted, WantedFault, check_head};
 use http_responses::{Outage, Refused};
 use std::alloc::Global;
 use std::io::Read;
@@ -49,7 +49,7 @@ fn person_of<D: Answering>(desk: &mut D, token: Option<&[u8]>) -> Result<Option<
     ensures closed { D.failed desk.old → (desk.new ≡ desk.old) × MatchResult result
         (λ person. (person ≡ None) × (bytes_of token.entry ≡ None))
         (λ unread. unread ≡ Unread.Outage Outage.Reopen) }
-    ensures device { (watch : Watching) → IfErr result (HasCause watch) }
+    ensures cause { (intake : Reading) → IsCaused intake intake result }
 {
     let Some(token) = token else {
         return Ok(None);
@@ -66,7 +66,7 @@ fn ask_as<D: Answering, R: Read>(
     desk: &mut D,
     wanted: &Wanted<'_>,
     reader: &mut R,
-    watch: &mut Watch,
+    intake: &mut Intake,
 ) -> Result<Due, Unread>
     ensures asked { D.clean desk.new → IfOk result (λ due. IfSome (R.remaining reader.old) (λ rest.
         ForEachShown (D.shows desk.old) (λ _ cs. due ≡ spec.of_caller (wants.shown wanted.now) rest
@@ -83,10 +83,10 @@ fn ask_as<D: Answering, R: Read>(
     ensures stranger { D.clean desk.new → ForEachShown (D.shows desk.old) (λ _ cs.
         spec.caller_of cs (wants.shown wanted.now).token ≡ None
         → R.remaining reader.new ≡ R.remaining reader.old) }
-    ensures device { IfErr result (HasCause watch.new) }
+    ensures cause { IsCaused intake.old intake.new result }
 {
     match person_of(desk, wanted.token) {
-        Ok(Some(person)) => ask(alloc, person, wanted, reader, watch),
+        Ok(Some(person)) => ask(alloc, person, wanted, reader, intake),
         Ok(None) => Ok(Err(Refused::UnknownCaller)),
         Err(unread) => Err(unread),
     }
@@ -99,7 +99,7 @@ fn ask_by_head<D: Answering, R: Read>(
     desk: &mut D,
     head: &ParsedHead,
     reader: &mut R,
-    watch: &mut Watch,
+    intake: &mut Intake,
 ) -> Result<Due, Unread>
     ensures asked { (h : RequestHead) (q : List ℕ) → ReadsRequest head.now h q
         → D.clean desk.new → IfOk result (λ due. IfSome (R.remaining reader.old) (λ rest.
@@ -117,10 +117,10 @@ fn ask_by_head<D: Answering, R: Read>(
     ensures stranger { (h : RequestHead) (q : List ℕ) → ReadsRequest head.now h q
         → D.clean desk.new → ForEachShown (D.shows desk.old) (λ _ cs. spec.IsOfNobody cs h
         → R.remaining reader.new ≡ R.remaining reader.old) }
-    ensures device { IfErr result (HasCause watch.new) }
+    ensures cause { IsCaused intake.old intake.new result }
 {
     match check_head(routes, head) {
-        Ok(wanted) => ask_as(alloc, desk, &wanted, reader, watch),
+        Ok(wanted) => ask_as(alloc, desk, &wanted, reader, intake),
         Err(fault) => Ok(Err(refusal_of_head(fault))),
     }
 }
@@ -131,7 +131,7 @@ pub(crate) fn read_due<D: Answering, R: Read>(
     routes: &Routes,
     desk: &mut D,
     reader: &mut R,
-    watch: &mut Watch,
+    intake: &mut Intake,
 ) -> Result<Option<Due>, Unread>
     ensures asked { D.clean desk.new → IfOk result (λ found. IfSome (R.remaining reader.old) (λ b.
         ForEachShown (D.shows desk.old) (λ _ cs. MatchOption found (b ≡ []) (spec.Asks cs b)))) }
@@ -146,15 +146,15 @@ pub(crate) fn read_due<D: Answering, R: Read>(
     ensures stranger { D.clean desk.new → WhenAsked result
         (spec.LeavesBody (D.shows desk.old) (R.remaining reader.old) (R.remaining reader.new)) }
     ensures some { WhenAsked result (spec.HasByte (R.remaining reader.old)) }
-    ensures device { IfErr result (HasCause watch.new) }
+    ensures cause { IsCaused intake.old intake.new result }
 {
-    let head = match read_head(alloc, reader, watch) {
+    let head = match intake.read_head(alloc, reader) {
         Ok(Begun::Head(head)) => head,
         Ok(Begun::Nothing) => return Ok(None),
         Ok(Begun::NoHead) => return Ok(Some(Err(Refused::BadHead))),
-        Err(fault) => return Err(unread_of(fault)),
+        Err(unread) => return Err(unread),
     };
-    let due = ask_by_head(alloc, routes, desk, &head, reader, watch);
+    let due = ask_by_head(alloc, routes, desk, &head, reader, intake);
     drop(head);
     match due {
         Ok(due) => Ok(Some(due)),

@@ -5,13 +5,14 @@ ghost use Rattle.desk_calls.specs.Answers.{Serves, store_failed};
 ghost use Rattle.desk_calls.specs.Desks.{StillShows, ForEachShown};
 ghost use Rattle.desk_calls.specs.declared.answers.Answer.{Answer};
 ghost use Rattle.desk_http.specs.Asked.{HasByte, LeavesBody};
+ghost use Rattle.desk_http.specs.Intakes.{EndIsCaused};
 ghost use Rattle.desk_http.specs.Serving as spec;
 
+use crate::intake::Intake;
 use crate::reading::read_due;
 use crate::responding::send_answer;
 use crate::served::{Due, Unread};
 use crate::{HttpFault, Served};
-use desk_bytes::Watch;
 use desk_calls::{Answer, Answering, answer};
 use http_requests::Routes;
 use http_responses::{Outage, Refused};
@@ -41,7 +42,7 @@ fn answer_input<D: Answering, R: Read>(
     routes: &Routes,
     desk: &mut D,
     reader: &mut R,
-    watch: &mut Watch,
+    intake: &mut Intake,
 ) -> Result<Option<Answer>, HttpFault>
     ensures answered { D.clean desk.new → IfOk result (λ found.
         IfSome (R.remaining reader.old) (λ b. ForEachShown (D.shows desk.old) (λ owner cs.
@@ -57,14 +58,36 @@ fn answer_input<D: Answering, R: Read>(
     ensures stranger { D.clean desk.new → IfOk result (λ found. IfSome found (λ _.
         LeavesBody (D.shows desk.old) (R.remaining reader.old) (R.remaining reader.new))) }
     ensures some { IfOk result (λ found. IfSome found (λ _. HasByte (R.remaining reader.old))) }
-    ensures device { IfErr result (spec.HasCause watch.new) }
+    ensures cause { EndIsCaused intake.old intake.new result }
 {
-    match read_due(alloc, routes, desk, reader, watch) {
+    match read_due(alloc, routes, desk, reader, intake) {
         Ok(Some(due)) => Ok(Some(answer_due(alloc, desk, due))),
         Ok(None) => Ok(None),
         Err(Unread::Read) => Err(HttpFault::Read),
         Err(Unread::NoMemory) => Err(HttpFault::NoMemory),
         Err(Unread::Outage(outage)) => Ok(Some(Answer::Refused(Refused::Unavailable(outage)))),
+    }
+}
+
+/// Serves the request of an input, which this intake reads, as `serve_one` does.
+fn serve_input<D: Answering, R: Read, W: Write>(
+    alloc: Global,
+    routes: &Routes,
+    desk: &mut D,
+    reader: &mut R,
+    intake: &mut Intake,
+    writer: &mut W,
+) -> Result<Served, HttpFault>
+    ensures serves { spec.AnswersOne D.shows D.clean D.failed (R.remaining reader.old)
+        (W.contents writer.old) (W.contents writer.new) desk.old desk.new result }
+    ensures stranger { D.clean desk.new → spec.LeavesStrangers (D.shows desk.old)
+        (R.remaining reader.old) (R.remaining reader.new) result }
+    ensures cause { EndIsCaused intake.old intake.new result }
+{
+    match answer_input(alloc, routes, desk, reader, intake) {
+        Ok(Some(answer)) => send_answer(alloc, answer, writer),
+        Ok(None) => Ok(Served::Nothing),
+        Err(fault) => Err(fault),
     }
 }
 
@@ -87,10 +110,5 @@ pub fn serve_one<D: Answering, R: Read, W: Write>(
     ensures stranger { D.clean desk.new → spec.LeavesStrangers (D.shows desk.old)
         (R.remaining reader.old) (R.remaining reader.new) result }
 {
-    let mut watch = Watch::new();
-    match answer_input(alloc, routes, desk, reader, &mut watch) {
-        Ok(Some(answer)) => send_answer(alloc, answer, writer),
-        Ok(None) => Ok(Served::Nothing),
-        Err(fault) => Err(fault),
-    }
+    serve_input(alloc, routes, desk, reader, &mut Intake::new(), writer)
 }

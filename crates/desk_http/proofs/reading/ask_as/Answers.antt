@@ -1,4 +1,4 @@
 use Rattle.desk_http.proofs.reading.ask_as.Goals as goal
 
-pub returns-in-Err-clause-device : goal.returns-in-Err-clause-device
-returns-in-Err-clause-device g c = c.in-Err.ensures.device c.args.watch.now
+pub returns-in-Err-clause-cause : goal.returns-in-Err-clause-cause
+returns-in-Err-clause-cause g c = c.in-Err.ensures.cause c.args.intake.now

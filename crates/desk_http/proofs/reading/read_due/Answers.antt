@@ -46,6 +46,3 @@ returns-in-Err-due-clause-some g c =
     unread_leaves c.in-Err-due.unread (HasByte (g.R.Read.remaining c.args.reader.now))
     (head_has_byte (g.R.Read.remaining c.args.reader.now) (g.R.Read.remaining c.read_head.new.reader) c.in-Ok-Head.head
     (rw c.in-Ok-Head.field-0-is at c.in-Ok-Head.ensures.found))
-
-pub returns-in-Err-clause-device : goal.returns-in-Err-clause-device
-returns-in-Err-clause-device g c = c.unread_of.ensures.device c.read_head.new.watch c.in-Err.ensures.device

@@ -1,6 +1,6 @@
 use Rattle.std.proofs.Common.{rules}
 use Rattle.desk_http.proofs.SendLemmas.{answered_is_told, response_is_told, unwritten_is_told}
-use Rattle.desk_http.proofs.serving.serve_one.Goals as goal
+use Rattle.desk_http.proofs.serving.serve_input.Goals as goal
 
 pub returns-in-Ok-Some-clause-serves : goal.returns-in-Ok-Some-clause-serves
 returns-in-Ok-Some-clause-serves g c =
