@@ -1,12 +1,13 @@
 -- Clauses about one request over a socket, whose bytes no clause can name.
-use Rattle.std.specs.Prelude.{◌≡◌, Result}
-use Rattle.desk_http.specs.Serving.{FailsFirst}
+use Rattle.std.specs.Prelude.{ℕ, List, Option, Result}
+use Rattle.desk_history.specs.Calls.{History}
+use Rattle.desk_http.specs.Serving.{AnswersOne}
 use Rattle.desk_http.specs.declared.served.HttpFault.{HttpFault}
 use Rattle.desk_http.specs.declared.served.Served.{Served}
 
--- A desk served one request: a response says that the store failed only if the desk has failed, and
--- a desk that had failed before doesn't change.
-pub record IsOneRequest {D : Type 0} (clean failed : D → Type 0) (old new : D) (served : Result Served HttpFault) : Type 0 where
-  pub before : clean new → clean old
-  pub poisons : FailsFirst (failed new) served
-  pub closed : failed old → new ≡ old
+-- A desk answered the one request of some input, as `AnswersOne` says, and wrote to some writer.
+pub record IsOneRequest {D : Type 0} (shows : D → List ℕ → History → Type 0) (clean failed : D → Type 0) (old new : D) (served : Result Served HttpFault) : Type 0 where
+  pub input : Option (List ℕ)
+  pub held : Option (List ℕ)
+  pub holds : Option (List ℕ)
+  pub answers : AnswersOne shows clean failed input held holds old new served

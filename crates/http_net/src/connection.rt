@@ -1,6 +1,6 @@
 //! One request, from a reader or a connection.
-ghost use Rattle.std.specs.Prelude.{◌≡◌};
-ghost use Rattle.desk_http.specs.Serving.{AnswersOne, FailsFirst};
+ghost use Rattle.desk_http.specs.Serving.{AnswersOne};
+ghost use Rattle.http_net.specs.Wire.{IsOneRequest};
 
 use crate::{Timed, read_off};
 use desk_calls::Answering;
@@ -58,9 +58,7 @@ pub(crate) fn serve_stream<C: Clock, D: Answering>(
     desk: &mut D,
     stream: &TcpStream,
 ) -> Result<Served, HttpFault>
-    ensures before { D.clean desk.new → D.clean desk.old }
-    ensures poisons { FailsFirst (D.failed desk.new) result }
-    ensures closed { D.failed desk.old → desk.new ≡ desk.old }
+    ensures serves { IsOneRequest D.shows D.clean D.failed desk.old desk.new result }
 {
     let reader = Timed::new(clock, stream);
     let mut writer = Timed::new(clock, stream);
