@@ -42,7 +42,8 @@ WorksInTurn serves count old new work = (told : Result Unit Refusal) × (work �
 
 -- a desk over files serves one request
 abbrev pub ServesRequest : {D : Type 0} → (g : Ghosts D) → OpenDesk (FileStore D g) → OpenDesk (FileStore D g) → Result Served HttpFault → Type 0
-ServesRequest g = IsOneRequest (λ kept. HasCleanDisk (file_state kept.desk.conn)) (λ kept. kept.desk.needs_reopening ≡ true)
+ServesRequest g = IsOneRequest (λ kept owner cs. ShowsDesk over_files kept.desk owner cs)
+    (λ kept. HasCleanDisk (file_state kept.desk.conn)) (λ kept. kept.desk.needs_reopening ≡ true)
 
 -- a desk over files answers one request of an input
 abbrev pub AnswersRequest : {D : Type 0} → (g : Ghosts D) → (input before after : Option (List ℕ)) → OpenDesk (FileStore D g) → OpenDesk (FileStore D g) → Result Served HttpFault → Type 0

@@ -7,13 +7,12 @@ ghost use Rattle.cli_lines.specs.Faults.{IsRow};
 ghost use Rattle.cli_opening.specs.Faults.{IsClosingRefusal, IsLasting, IsOfOpening};
 ghost use Rattle.cli_opening.specs.Faults.{IsOpeningRefusal};
 ghost use Rattle.cli_opening.specs.Works.{AtADesk, IsUnopened};
-ghost use Rattle.cli_requests.specs.Works.{AnswersOnce, Serves, ServesPort, WorksInTurn, WorksOnce};
+ghost use Rattle.cli_requests.specs.Works.{AnswersOnce, Serves, WorksInTurn, WorksOnce};
 ghost use Rattle.desk_http.specs.Serving.{AnswersOne};
 
 use cli_lines::{Ending, Fault, Outcome};
 use cli_opening::{close_after, open};
 use desk_answers::OpenDesk;
-use desk_bytes::Refusal;
 use desk_calls::Answering;
 use desk_store::Desk;
 use http_net::{answer_connection, listen, serve};
@@ -92,25 +91,7 @@ pub fn answer_from<R: Read + Drop, W: Write>(
     }
 }
 
-/// Serves `count` connections at this port of 127.0.0.1, for a desk.
-fn serve_desk<D: Answering>(
-    rt: &HostRuntime,
-    routes: &Routes,
-    desk: &mut D,
-    port: u16,
-    count: u32,
-) -> Result<(), Refusal>
-    ensures in_turn { ServesPort (IsOneRequest D.clean D.failed) count desk.old desk.new result }
-    ensures named { IfErr result IsServingRefusal }
-{
-    let listener = match listen(rt, port) {
-        Ok(listener) => listener,
-        Err(refusal) => return Err(refusal),
-    };
-    serve(rt.alloc(), rt, routes, desk, &listener, count)
-}
-
-/// The same, as a subcommand's work.
+/// Serves `count` connections at this port of 127.0.0.1, for a desk, as a subcommand's work.
 fn serve_all<D: Answering>(
     rt: &HostRuntime,
     routes: &Routes,
@@ -118,11 +99,16 @@ fn serve_all<D: Answering>(
     port: u16,
     count: u32,
 ) -> Result<Outcome, Fault>
-    ensures in_turn { WorksInTurn (IsOneRequest D.clean D.failed) count desk.old desk.new result }
+    ensures in_turn { WorksInTurn (IsOneRequest D.shows D.clean D.failed) count desk.old desk.new
+        result }
     ensures done { IfOk result (λ outcome. outcome ≡ Outcome.Done) }
     ensures named { IfErr result (IsRow IsServingRefusal) }
 {
-    match serve_desk(rt, routes, desk, port, count) {
+    let listener = match listen(rt, port) {
+        Ok(listener) => listener,
+        Err(refusal) => return Err(Fault::from(refusal)),
+    };
+    match serve(rt.alloc(), rt, routes, desk, &listener, count) {
         Ok(()) => Ok(Outcome::Done),
         Err(refusal) => Err(Fault::from(refusal)),
     }
