@@ -13,13 +13,11 @@ ghost use Rattle.desk_store.specs.Exports.{SparesDesk, Writes, WritesBeginning};
 ghost use Rattle.cli_commands.specs.Faults.{IsForetellingRefusal};
 ghost use Rattle.cli_commands.specs.Works.{Foretells, RefusesImpact, foretold_lines, shown_outcome};
 
-use crate::saying::flush;
-use cli_lines::{Fault, Outcome, print_impact};
+use cli_lines::{Buffered, Fault, Outcome, print_impact};
 use desk_history::ShownImpact;
 use desk_store::Desk;
 use desk_texts::{Caller, ProposalNumber};
 use sqlite::Alter;
-use std::io::Write;
 
 /// True if the impact has an image that is allowed now.
 fn bars_allowed(impact: &ShownImpact) -> bool
@@ -40,15 +38,16 @@ fn outcome(impact: &ShownImpact) -> Outcome
 }
 
 /// Writes the lines of an impact, and flushes the writer.
-fn say_impact<W: Write>(impact: &ShownImpact, writer: &mut W) -> Result<(), Fault>
+fn say_impact<W: Buffered>(impact: &ShownImpact, writer: &mut W) -> Result<(), Fault>
     ensures ok { OnOk result (Appends (W.contents writer.old) (W.contents writer.new)
         (impact_lines impact.now)) }
+    ensures flushed { OnOk result (W.flushed writer.new) }
     ensures err { OnErr result (AppendsBeginning (W.contents writer.old) (W.contents writer.new)
         (impact_lines impact.now)) }
     ensures named { IfErr result (λ fault. fault ≡ row_of refusals.Write) }
 {
     print_impact(impact, writer)?;
-    flush(writer)?;
+    writer.flush_all()?;
     Ok(())
 }
 
@@ -56,7 +55,7 @@ fn say_impact<W: Write>(impact: &ShownImpact, writer: &mut W) -> Result<(), Faul
 /// Confirm of it would bar, and the length of dbx afterwards. `Refused`: an image that is allowed
 /// now would be barred. After `Write` the writer holds a prefix of the lines; after any other fault
 /// nothing is written. The desk doesn't change.
-pub fn foretell<S: Alter + Drop, W: Write>(
+pub fn foretell<S: Alter + Drop, W: Buffered>(
     desk: &mut Desk<S>,
     number: ProposalNumber,
     writer: &mut W,
@@ -66,6 +65,7 @@ pub fn foretell<S: Alter + Drop, W: Write>(
         (Writes (W.contents writer.old) (W.contents writer.new) (foretold_lines number))) }
     ensures exact { HasCleanDisk (state S.Store desk.new.conn) → IfOk result (λ outcome.
         ForEachShown S.Store desk.old (Foretells number outcome)) }
+    ensures flushed { OnOk result (W.flushed writer.new) }
 
     ensures beginning { HasCleanDisk (state S.Store desk.new.conn) → OnErr result
         (ForEachShown S.Store desk.old

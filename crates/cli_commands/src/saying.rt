@@ -1,29 +1,26 @@
 //! The lines that subcommands write, each whole before anything else happens.
 ghost use Rattle.std.specs.Prelude.{◌≡◌, ◌≢◌, ◌⊎◌, IfErr, IfOk, OnErr, OnOk};
-ghost use Rattle.std.specs.Io.KnownBytes.{Appends, Keeps};
+ghost use Rattle.std.specs.Io.KnownBytes.{Appends};
 ghost use Rattle.desk_bytes.specs.Output.{AppendsBeginning};
 ghost use Rattle.cli_lines.specs.Faults.{row_of};
 ghost use Rattle.cli_lines.specs.VerdictLines.{verdict_line};
 ghost use Rattle.cli_commands.specs.Works.{outcome_of, reply_line};
 
-use cli_lines::{Fault, Outcome, print_verdict};
-use desk_bytes::{Refusal, WriteFailed, put_each};
+use cli_lines::{Buffered, Fault, Outcome, print_verdict};
+use desk_bytes::{Refusal, put_each};
 use desk_history::Verdict;
 use desk_texts::{Facts, Reply, reply_text};
 use std::alloc::Global;
-use std::io::Write;
-
-/// Flushes the writer.
-pub(crate) fn flush<W: Write>(writer: &mut W) -> Result<(), WriteFailed>
-    ensures { Keeps (W.contents writer.old) (W.contents writer.new) }
-{
-    writer.flush().map_err(|_| WriteFailed)
-}
 
 /// Writes the reply's text and LF.
-pub(crate) fn say_reply<W: Write>(alloc: Global, reply: &Reply, writer: &mut W) -> Result<(), Fault>
+pub(crate) fn say_reply<W: Buffered>(
+    alloc: Global,
+    reply: &Reply,
+    writer: &mut W,
+) -> Result<(), Fault>
     ensures ok { OnOk result (Appends (W.contents writer.old) (W.contents writer.new)
         (reply_line reply.now)) }
+    ensures flushed { OnOk result (W.flushed writer.new) }
     ensures err { OnErr result (AppendsBeginning (W.contents writer.old) (W.contents writer.new)
         (reply_line reply.now)) }
     ensures unwritten { IfErr result (λ fault. fault ≢ row_of Refusal.Write
@@ -35,7 +32,7 @@ pub(crate) fn say_reply<W: Write>(alloc: Global, reply: &Reply, writer: &mut W) 
         return Err(Fault::from(Refusal::NoMemory));
     };
     put_each(&[text.as_bytes(), b"\n"], writer)?;
-    flush(writer)?;
+    writer.flush_all()?;
     Ok(())
 }
 
@@ -51,19 +48,20 @@ fn outcome(said: &Verdict) -> Outcome
 }
 
 /// Writes the line of a verdict.
-pub(crate) fn say_verdict<W: Write>(
+pub(crate) fn say_verdict<W: Buffered>(
     said: &Verdict,
     found: &Facts,
     writer: &mut W,
 ) -> Result<Outcome, Fault>
     ensures ok { OnOk result (Appends (W.contents writer.old) (W.contents writer.new)
         (verdict_line said.now found.now)) }
+    ensures flushed { OnOk result (W.flushed writer.new) }
     ensures err { OnErr result (AppendsBeginning (W.contents writer.old) (W.contents writer.new)
         (verdict_line said.now found.now)) }
     ensures exact { IfOk result (λ outcome. outcome ≡ outcome_of said.now) }
     ensures named { IfErr result (λ fault. fault ≡ row_of Refusal.Write) }
 {
     print_verdict(said, found, writer)?;
-    flush(writer)?;
+    writer.flush_all()?;
     Ok(outcome(said))
 }

@@ -17,19 +17,18 @@ ghost use Rattle.desk_texts.specs.declared.reply.Reply.{Reply};
 ghost use Rattle.cli_commands.specs.Faults.{IsAddingRefusal, IsWritingRefusal};
 ghost use Rattle.cli_commands.specs.Works.{answer_line, outcome_of, reply_line};
 
-use crate::saying::{flush, say_reply, say_verdict};
-use cli_lines::{Fault, Outcome};
+use crate::saying::{say_reply, say_verdict};
+use cli_lines::{Buffered, Fault, Outcome};
 use desk_exports::Export;
 use desk_store::Desk;
 use desk_texts::{Caller, Command, Facts, Key, Person};
 use sqlite::Alter;
 use std::alloc::Global;
-use std::io::Write;
 
 /// Adds the person by a call of the console, and writes the reply's text and LF. After `Write` the
 /// writer holds a prefix of this line; after any other fault it is unchanged. After `Write`,
 /// `NoMemory` and `Store` the person may have been added.
-pub fn add<S: Alter + Drop, W: Write>(
+pub fn add<S: Alter + Drop, W: Buffered>(
     alloc: Global,
     desk: &mut Desk<S>,
     key: &Key,
@@ -41,6 +40,7 @@ pub fn add<S: Alter + Drop, W: Write>(
         (called Caller.Console key.now (Command.AddPerson person)) reply
         × Appends (W.contents writer.old) (W.contents writer.new) (reply_line reply)) }
     ensures done { IfOk result (λ outcome. outcome ≡ Outcome.Done) }
+    ensures flushed { OnOk result (W.flushed writer.new) }
 
     ensures beginning { HasCleanDisk (state S.Store desk.new.conn) → OnErr result
         (ForEachShown S.Store desk.old
@@ -68,7 +68,7 @@ pub fn add<S: Alter + Drop, W: Write>(
 
 /// Writes the line of the desk's verdict on the image of these facts. After `Write` the writer
 /// holds a prefix of the line; after any other fault it is unchanged. The desk doesn't change.
-pub fn judge<S: Alter + Drop, W: Write>(
+pub fn judge<S: Alter + Drop, W: Buffered>(
     desk: &mut Desk<S>,
     found: &Facts,
     writer: &mut W,
@@ -77,6 +77,7 @@ pub fn judge<S: Alter + Drop, W: Write>(
         × Appends (W.contents writer.old) (W.contents writer.new) (verdict_line said found.now)
         × (HasCleanDisk (state S.Store desk.new.conn) → ForEachShown S.Store desk.old
         (λ owner cs. said ≡ verdicts.verdict cs found.now))) }
+    ensures flushed { OnOk result (W.flushed writer.new) }
 
     ensures beginning { HasCleanDisk (state S.Store desk.new.conn) → OnErr result
         (ForEachShown S.Store desk.old
@@ -102,7 +103,7 @@ pub fn judge<S: Alter + Drop, W: Write>(
 
 /// Writes an export of the desk, and flushes the writer. After a fault the writer holds a prefix of
 /// the export, which may be empty. The desk doesn't change.
-pub fn write_export<S: Alter + Drop, W: Write>(
+pub fn write_export<S: Alter + Drop, W: Buffered>(
     desk: &mut Desk<S>,
     what: Export,
     writer: &mut W,
@@ -111,6 +112,7 @@ pub fn write_export<S: Alter + Drop, W: Write>(
         (ForEachShown S.Store desk.old
         (Writes (W.contents writer.old) (W.contents writer.new) (exported what))) }
     ensures done { IfOk result (λ outcome. outcome ≡ Outcome.Done) }
+    ensures flushed { OnOk result (W.flushed writer.new) }
 
     ensures beginning { HasCleanDisk (state S.Store desk.new.conn) → OnErr result
         (ForEachShown S.Store desk.old
@@ -128,7 +130,7 @@ pub fn write_export<S: Alter + Drop, W: Write>(
         Ok(()) => {}
         Err(refusal) => return Err(Fault::from(refusal)),
     }
-    match flush(writer) {
+    match writer.flush_all() {
         Ok(()) => Ok(Outcome::Done),
         Err(failed) => Err(Fault::from(failed)),
     }

@@ -1,2 +1,3 @@
+mod FileLemmas
 mod ServingLemmas
 mod WorkLemmas

@@ -38,7 +38,7 @@ row_apart : {X : Type 0} (fault : Fault) (why : FactsFault) → fault ≡ of_fac
 row_apart fault why row opening = grind arith
 
 pub image_apart : {X : Type 0} (fault : Fault) → IsImageFault fault → IsOfOpening fault.refusal → X
-image_apart fault it opening = row_apart fault it.why it.row opening
+image_apart fault it opening = row_apart fault it.1.why it.1.row opening
 
 -- nor what stops a verdict
 pub judging_apart : (X : Type 0) (work : Result Outcome Fault) → IfErr work IsJudgingFault → IfErr work (λ fault. IsOfOpening fault.refusal → X)

@@ -15,13 +15,16 @@ IsUnreadRefusal refusal = IsFileRefusal refusal ⊎ (refusal ≡ refusals.Read)
 
 -- an image has no facts: the row of its first fault, with the line of its SBAT text if that is
 -- wrong, by the numbers of failed reads before and after
-pub record IsImageFault (fault : Fault) : Type 0 where
-  pub image : List ℕ
+pub record HasFault (image : List ℕ) (fault : Fault) : Type 0 where
   pub before : ℕ
   pub after : ℕ
   pub why : FactsFault
   pub first : IsFirstFault image before after why
   pub row : fault ≡ of_facts why
+
+-- the same of some image
+abbrev pub IsImageFault : Fault → Type 0
+IsImageFault fault = (image : List ℕ) × HasFault image fault
 
 -- own: an image isn't judged: its file isn't read, it has no facts, or the open desk's answer isn't
 -- written

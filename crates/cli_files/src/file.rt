@@ -1,7 +1,8 @@
 //! Files read to their end.
-ghost use Rattle.std.specs.Prelude.{◌≡◌, ◌⊎◌, ◌+◌, ◌≤◌, length, IfErr, IfOk};
+ghost use Rattle.std.specs.Prelude.{◌≡◌, ◌⊎◌, ◌+◌, ◌≤◌, length, IfErr, IfOk, IsErrOf};
 ghost use Rattle.cli_files.specs.Faults.{IsUnreadRefusal};
-ghost use Rattle.cli_lines.specs.Faults.{IsRow};
+ghost use Rattle.cli_files.specs.Files.{IsLonger, IsStartOf, IsWhole};
+ghost use Rattle.cli_lines.specs.Faults.{IsRow, row_of};
 ghost use Rattle.cli_opening.specs.Faults.{IsFileRefusal};
 
 use cli_lines::{Fault, MOST_BYTES};
@@ -28,6 +29,9 @@ fn open<R: Files + AllocGlobal>(rt: &R, path: &str) -> Result<R::File, Fault>
 /// File: it can't be opened, which includes that it doesn't exist. Read: a read failed or was
 /// interrupted. NoMemory: memory was refused. TooLong: it has more than `MOST_BYTES`.
 pub fn read_file<R: Files + AllocGlobal>(rt: &R, path: &str) -> Result<Vec<u8>, Fault>
+    ensures whole { IfOk result (λ bytes. IsWhole R.File.remaining bytes.items) }
+    ensures long { IsErrOf result (row_of Refusal.TooLong)
+        → IsLonger R.File.remaining MOST_BYTES }
     ensures bound { IfOk result (λ bytes. length bytes.items ≤ MOST_BYTES) }
     ensures named { IfErr result (IsRow (λ refusal.
         IsUnreadRefusal refusal ⊎ (refusal ≡ Refusal.TooLong))) }
@@ -41,6 +45,7 @@ pub fn read_file<R: Files + AllocGlobal>(rt: &R, path: &str) -> Result<Vec<u8>, 
 ///
 /// File, Read, NoMemory: as for `read_file`.
 pub fn read_image<R: Files + AllocGlobal>(rt: &R, path: &str) -> Result<Pieces, Fault>
+    ensures start { IfOk result (IsStartOf R.File.remaining (LONGEST_IMAGE + 1)) }
     ensures bound { IfOk result (λ bytes. length bytes ≤ LONGEST_IMAGE + 1) }
     ensures named { IfErr result (IsRow IsUnreadRefusal) }
 {

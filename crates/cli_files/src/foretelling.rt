@@ -1,5 +1,5 @@
 //! The impact of a proposal to the desk in a file.
-ghost use Rattle.std.specs.Prelude.{◌≡◌, ◌⊎◌, None, IfErr, IfSome};
+ghost use Rattle.std.specs.Prelude.{◌≡◌, ◌⊎◌, None, IfErr, IfSome, OnOk};
 ghost use Rattle.std.specs.Io.KnownBytes.{Keeps};
 ghost use Rattle.cli_lines.specs.Faults.{IsRow};
 ghost use Rattle.cli_files.specs.Works.{WritesImpact};
@@ -9,22 +9,22 @@ ghost use Rattle.cli_opening.specs.Faults.{IsOfOpening, IsOpeningRefusal};
 ghost use Rattle.cli_opening.specs.Works.{AtADesk, IsUnopened};
 
 use cli_commands::foretell;
-use cli_lines::Ending;
+use cli_lines::{Buffered, Ending};
 use cli_opening::{close_after, open};
 use desk_store::Desk;
 use desk_texts::ProposalNumber;
 use sqlite::{File, FileStore};
 use sqlite_disk::Disk;
-use std::io::Write;
 
 /// Writes the impact of a proposal to an open desk over files, and closes the desk.
-fn foretell_at<D: Disk + Drop, W: Write>(
+fn foretell_at<D: Disk + Drop, W: Buffered>(
     mut desk: Desk<FileStore<D>>,
     number: ProposalNumber,
     writer: &mut W,
 ) -> Ending
     ensures foretold { WritesImpact D.Disk number
         (W.contents writer.old) (W.contents writer.new) result desk }
+    ensures flushed { OnOk result.work (W.flushed writer.new) }
     ensures named { IfErr result.work (IsRow IsForetellingRefusal) }
     ensures closing { IfSome result.closing (IsRow IsClosingRefusal) }
     ensures let_go { IfErr result.work (λ fault. IsLasting fault.refusal → result.closing ≡ None) }
@@ -40,7 +40,7 @@ fn foretell_at<D: Disk + Drop, W: Write>(
 /// The faults of the desk's file come first, as for `add_person`; then the refusal that the Confirm
 /// would get, then Store, Reopen or Write. Nothing is written but after Write, which may leave a
 /// prefix of the lines.
-pub fn foretell_from<W: Write>(
+pub fn foretell_from<W: Buffered>(
     rt: &HostRuntime,
     path: &str,
     number: ProposalNumber,
@@ -49,6 +49,7 @@ pub fn foretell_from<W: Write>(
     ensures foretold { (IsUnopened result × Keeps (W.contents writer.old) (W.contents writer.new))
         ⊎ AtADesk (WritesImpact ⟦<File as Disk>⟧ number
         (W.contents writer.old) (W.contents writer.new) result) }
+    ensures flushed { OnOk result.work (W.flushed writer.new) }
     ensures named { IfErr result.work (IsRow (λ refusal.
         IsOpeningRefusal refusal ⊎ IsForetellingRefusal refusal)) }
     ensures first { IfErr result.work (λ fault. IsOfOpening fault.refusal

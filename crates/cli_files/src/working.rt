@@ -9,7 +9,7 @@ ghost use Rattle.cli_lines.specs.Faults.{IsRow, row_of};
 ghost use Rattle.desk_service.specs.ImageFacts.{IsFactsOf};
 ghost use Rattle.store_sql.specs.States.{Spares};
 ghost use Rattle.desk_store.specs.Desks.{KeepsDesk};
-ghost use Rattle.cli_files.specs.Faults.{IsImageFault, IsJudgingFault, IsUnreadRefusal};
+ghost use Rattle.cli_files.specs.Faults.{HasFault, IsImageFault, IsJudgingFault, IsUnreadRefusal};
 ghost use Rattle.cli_opening.specs.Faults.{IsClosingRefusal, IsLasting, IsMakingRefusal};
 ghost use Rattle.cli_opening.specs.Faults.{IsOfOpening, IsOpeningRefusal};
 ghost use Rattle.cli_opening.specs.Works.{AtADesk, IsUnopened};
@@ -19,17 +19,17 @@ ghost use Rattle.cli_commands.specs.Faults.{IsAddingRefusal, IsWritingRefusal};
 
 use crate::file::read_image;
 use cli_commands::{add, judge, write_export};
-use cli_lines::{Ending, Fault, Outcome};
+use cli_lines::{Buffered, Ending, Fault, Outcome};
 use cli_opening::{close_after, make, open};
 use desk_bytes::{Guid, Refusal};
 use desk_exports::Export;
 use desk_service::facts;
 use desk_store::Desk;
 use desk_texts::{Facts, Key, Person};
+use pe_image::Pieces;
 use sqlite::{Alter, File, FileStore};
 use sqlite_disk::Disk;
 use std::alloc::Global;
-use std::io::Write;
 use std::rt::Files;
 
 /// Makes a desk with this owner and without calls in a file, which is created if it doesn't exist.
@@ -50,7 +50,7 @@ pub fn make_desk(rt: &HostRuntime, path: &str, owner: &Guid) -> Ending
 }
 
 /// Adds a person to an open desk over files, and closes it.
-fn add_at<D: Disk + Drop, W: Write>(
+fn add_at<D: Disk + Drop, W: Buffered>(
     alloc: Global,
     mut desk: Desk<FileStore<D>>,
     key: &Key,
@@ -60,6 +60,7 @@ fn add_at<D: Disk + Drop, W: Write>(
     ensures added { Calls D.Disk (adding key.now person)
         (W.contents writer.old) (W.contents writer.new) result desk }
     ensures done { IfOk result.work (λ outcome. outcome ≡ Outcome.Done) }
+    ensures flushed { OnOk result.work (W.flushed writer.new) }
     ensures named { IfErr result.work (IsRow IsAddingRefusal) }
     ensures closing { IfSome result.closing (IsRow IsClosingRefusal) }
     ensures let_go { IfErr result.work (λ fault. IsLasting fault.refusal → result.closing ≡ None) }
@@ -74,7 +75,7 @@ fn add_at<D: Disk + Drop, W: Write>(
 ///
 /// File: the file doesn't exist, or can't be opened. NotADesk, Version: it holds no desk that this
 /// program knows. Otherwise the desk's refusal.
-pub fn add_person<W: Write>(
+pub fn add_person<W: Buffered>(
     rt: &HostRuntime,
     path: &str,
     key: &Key,
@@ -85,6 +86,7 @@ pub fn add_person<W: Write>(
         ⊎ AtADesk (Calls ⟦<File as Disk>⟧ (adding key.now person)
         (W.contents writer.old) (W.contents writer.new) result) }
     ensures done { IfOk result.work (λ outcome. outcome ≡ Outcome.Done) }
+    ensures flushed { OnOk result.work (W.flushed writer.new) }
     ensures named { IfErr result.work (IsRow (λ refusal.
         IsOpeningRefusal refusal ⊎ IsAddingRefusal refusal)) }
     ensures first { IfErr result.work (λ fault. IsOfOpening fault.refusal
@@ -98,17 +100,25 @@ pub fn add_person<W: Write>(
     }
 }
 
-/// The facts of the image in a file that the desk keeps.
+/// The facts of an image that the desk keeps.
+fn facts_of(alloc: Global, image: &mut Pieces) -> Result<Facts, Fault>
+    ensures exact { IfOk result (IsFactsOf image.old) }
+    ensures first { IfErr result (HasFault image.old) }
+{
+    Ok(facts(alloc, image)?)
+}
+
+/// The facts of the image in a file.
 fn facts_in<R: Files + AllocGlobal>(rt: &R, file: &str) -> Result<Facts, Fault>
     ensures found { IfOk result (λ found. (image : List ℕ) × IsFactsOf image found) }
     ensures named { IfErr result (λ fault. IsRow IsUnreadRefusal fault ⊎ IsImageFault fault) }
 {
     let mut image = read_image(rt, file)?;
-    Ok(facts(rt.alloc(), &mut image)?)
+    facts_of(rt.alloc(), &mut image)
 }
 
 /// Writes the line of the desk's verdict on the image in a file.
-fn judge_file<S: Alter + Drop, W: Write>(
+fn judge_file<S: Alter + Drop, W: Buffered>(
     rt: &HostRuntime,
     desk: &mut Desk<S>,
     file: &str,
@@ -118,6 +128,7 @@ fn judge_file<S: Alter + Drop, W: Write>(
         (W.contents writer.old) (W.contents writer.new)) }
     ensures stopped { IfErr result (StopsVerdict S.Store desk.old desk.new
         (W.contents writer.old) (W.contents writer.new)) }
+    ensures flushed { OnOk result (W.flushed writer.new) }
     ensures named { IfErr result IsJudgingFault }
     ensures same { HasCleanDisk (state S.Store desk.new.conn)
         → result ≢ Err (row_of Refusal.Store) → KeepsDesk S.Store desk.old desk.new }
@@ -130,13 +141,14 @@ fn judge_file<S: Alter + Drop, W: Write>(
 }
 
 /// Writes the verdict of an open desk over files on the image in a file, and closes the desk.
-fn judge_at<D: Disk + Drop, W: Write>(
+fn judge_at<D: Disk + Drop, W: Buffered>(
     rt: &HostRuntime,
     mut desk: Desk<FileStore<D>>,
     file: &str,
     writer: &mut W,
 ) -> Ending
     ensures judged { Judges D.Disk (W.contents writer.old) (W.contents writer.new) result desk }
+    ensures flushed { OnOk result.work (W.flushed writer.new) }
     ensures named { IfErr result.work IsJudgingFault }
     ensures closing { IfSome result.closing (IsRow IsClosingRefusal) }
     ensures let_go { IfErr result.work (λ fault. IsLasting fault.refusal → result.closing ≡ None) }
@@ -151,10 +163,11 @@ fn judge_at<D: Disk + Drop, W: Write>(
 /// The faults of the desk's file come first, as for `add_person`; then those of the image's file
 /// (File, Read, NoMemory), then the refusal of the image, then Store, Reopen or Write. Nothing is
 /// written but after Write, which may leave a prefix of the line.
-pub fn judge_image<W: Write>(rt: &HostRuntime, path: &str, file: &str, writer: &mut W) -> Ending
+pub fn judge_image<W: Buffered>(rt: &HostRuntime, path: &str, file: &str, writer: &mut W) -> Ending
     ensures judged { (IsUnopened result × Keeps (W.contents writer.old) (W.contents writer.new))
         ⊎ AtADesk (Judges ⟦<File as Disk>⟧
         (W.contents writer.old) (W.contents writer.new) result) }
+    ensures flushed { OnOk result.work (W.flushed writer.new) }
     ensures named { IfErr result.work (λ fault.
         IsRow IsOpeningRefusal fault ⊎ IsJudgingFault fault) }
     ensures first { IfErr result.work (λ fault. IsOfOpening fault.refusal
@@ -169,7 +182,7 @@ pub fn judge_image<W: Write>(rt: &HostRuntime, path: &str, file: &str, writer: &
 }
 
 /// Writes an export of an open desk over files, and closes it.
-fn export_at<D: Disk + Drop, W: Write>(
+fn export_at<D: Disk + Drop, W: Buffered>(
     mut desk: Desk<FileStore<D>>,
     what: Export,
     writer: &mut W,
@@ -177,6 +190,7 @@ fn export_at<D: Disk + Drop, W: Write>(
     ensures exported { Exports D.Disk what
         (W.contents writer.old) (W.contents writer.new) result desk }
     ensures done { IfOk result.work (λ outcome. outcome ≡ Outcome.Done) }
+    ensures flushed { OnOk result.work (W.flushed writer.new) }
     ensures named { IfErr result.work (IsRow IsWritingRefusal) }
     ensures closing { IfSome result.closing (IsRow IsClosingRefusal) }
     ensures let_go { IfErr result.work (λ fault. IsLasting fault.refusal → result.closing ≡ None) }
@@ -187,11 +201,17 @@ fn export_at<D: Disk + Drop, W: Write>(
 
 /// Writes an export of the desk in a file. The faults of the desk's file are those of `add_person`.
 /// After a fault the writer may hold a prefix of the export. The desk doesn't change.
-pub fn export_from<W: Write>(rt: &HostRuntime, path: &str, what: Export, writer: &mut W) -> Ending
+pub fn export_from<W: Buffered>(
+    rt: &HostRuntime,
+    path: &str,
+    what: Export,
+    writer: &mut W,
+) -> Ending
     ensures exported { (IsUnopened result × Keeps (W.contents writer.old) (W.contents writer.new))
         ⊎ AtADesk (Exports ⟦<File as Disk>⟧ what
         (W.contents writer.old) (W.contents writer.new) result) }
     ensures done { IfOk result.work (λ outcome. outcome ≡ Outcome.Done) }
+    ensures flushed { OnOk result.work (W.flushed writer.new) }
     ensures named { IfErr result.work (IsRow (λ refusal.
         IsOpeningRefusal refusal ⊎ IsWritingRefusal refusal)) }
     ensures first { IfErr result.work (λ fault. IsOfOpening fault.refusal

@@ -1,6 +1,7 @@
 -- A line written whole or in part.
 use Rattle.std.proofs.Common.{◌≡◌, ℕ, List, ◌++◌, length, codes, decimal, ap, ◌∙◌, Option, None, Some, Result, Ok, Err, OnErr, OnOk, sym, subst, arith}
 use Rattle.std.specs.Io.KnownBytes.{Appends}
+use Rattle.std.proofs.KnownBytes.{Appends-trans}
 use Rattle.std.proofs.lemmas.List.{take_all}
 use Rattle.sbat.specs.declared.component.Component.{Component}
 use Rattle.desk_bytes.specs.Output.{AppendsBeginning}
@@ -16,6 +17,12 @@ pub AppendsBeginning-either : {T E : Type 0} (r : Result T E) (a b : Option (Lis
 AppendsBeginning-either (Ok x) a b xs h k =
     record { count = length xs; written = subst (Appends a b) (sym (take_all (length xs) xs (omega arith))) h }
 AppendsBeginning-either (Err e) a b xs h k = k
+
+-- a line after another that was written whole
+pub Appends-in_turn : {S T E F : Type 0} (first : Result S E) (done : S) (second : Result T F) (a b c : Option (List ℕ)) (xs ys : List ℕ)
+    → first ≡ Ok done → OnOk first (Appends a b xs) → OnOk second (Appends b c ys) → OnOk second (Appends a c (xs ++ ys))
+Appends-in_turn first done (Ok x) a b c xs ys is one two = Appends-trans a b c xs ys (subst (λ r. OnOk r (Appends a b xs)) is one) two
+Appends-in_turn first done (Err e) a b c xs ys is one two = tt
 
 -- equal bytes are appended alike
 pub Appends-same : (a b : Option (List ℕ)) (xs ys : List ℕ) → xs ≡ ys → Appends a b xs → Appends a b ys

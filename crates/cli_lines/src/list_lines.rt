@@ -1,5 +1,5 @@
 //! The lines of signature lists.
-ghost use Rattle.std.specs.Prelude.{◌⊎◌, List, IfErr, OnErr, OnOk, flat_map};
+ghost use Rattle.std.specs.Prelude.{◌⊎◌, ◌≤◌, List, IfErr, OnErr, OnOk, flat_map, length};
 ghost use Rattle.std.specs.Io.KnownBytes.{Appends, Keeps};
 ghost use Rattle.desk_bytes.specs.Output.{AppendsBeginning};
 ghost use Rattle.siglist.specs.SignatureLists.{Placed, SpellsPlaced};
@@ -80,6 +80,7 @@ fn put_lists<W: Write>(alloc: Global, row: Lists<'_>, writer: &mut W) -> Result<
 pub fn print_list<W: Write>(alloc: Global, bytes: &[u8], writer: &mut W) -> Result<(), Fault>
     ensures ok { OnOk result ((row : List Placed) × SpellsPlaced row bytes.now
         × Appends (W.contents writer.old) (W.contents writer.new) (flat_map list_line row)) }
+    ensures bound { OnOk result (length bytes.now ≤ MOST_BYTES) }
 
     ensures err { OnErr result (Keeps (W.contents writer.old) (W.contents writer.new)
         ⊎ ((row : List Placed) × SpellsPlaced row bytes.now × AppendsBeginning

@@ -46,13 +46,32 @@ pub fn put_fault<W: Write>(
     }
 }
 
+/// The exit status after the lines on standard error, and whether they were written whole.
+#[derive(Clone, Copy, Debug, PartialEq, Eq)]
+pub struct Printed {
+    pub status: u8,
+    pub written: Result<(), WriteFailed>,
+}
+
+/// The exit status after a fault.
+fn status_of_fault(refusal: Refusal) -> u8
+    ensures { result ≡ status_of refusal }
+{
+    if refusal.is_device() { 3 } else { 1 }
+}
+
 /// Writes the line of a fault as `put_fault` does, and returns the exit status even if that write
 /// fails. Takes no memory.
-pub fn print_fault<W: Write>(refusal: Refusal, place: Option<u64>, writer: &mut W) -> u8
-    ensures status { result ≡ status_of refusal }
+pub fn print_fault<W: Write>(refusal: Refusal, place: Option<u64>, writer: &mut W) -> Printed
+    ensures status { result.status ≡ status_of refusal }
+    ensures whole { OnOk result.written (Appends (W.contents writer.old) (W.contents writer.new)
+        (fault_line refusal place)) }
     ensures out { AppendsBeginning (W.contents writer.old) (W.contents writer.new)
         (fault_line refusal place) }
 {
-    let _ = put_fault(refusal, place, writer);
-    if refusal.is_device() { 3 } else { 1 }
+    let written = put_fault(refusal, place, writer);
+    Printed {
+        status: status_of_fault(refusal),
+        written,
+    }
 }

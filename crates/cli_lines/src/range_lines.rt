@@ -3,6 +3,7 @@ ghost use Rattle.std.specs.Prelude.{◌≡◌, ◌≢◌, ◌⊎◌, IfErr, OnEr
 ghost use Rattle.std.specs.Io.KnownBytes.{Appends, Keeps};
 ghost use Rattle.desk_bytes.specs.Output.{AppendsBeginning};
 ghost use Rattle.desk_bytes.specs.declared.refusal.Refusal.TheVariants as refusals;
+ghost use Rattle.pe_image.specs.Checks.{IsLaid};
 ghost use Rattle.pe_image.specs.Places.{places_of};
 ghost use Rattle.pe_image.specs.Sources.{OnlyReads};
 ghost use Rattle.cli_lines.specs.Faults.{row_of};
@@ -71,6 +72,7 @@ fn put_places<W: Write>(places: &Layout, writer: &mut W) -> Result<(), WriteFail
 pub fn print_ranges<S: Source, W: Write>(source: &mut S, writer: &mut W) -> Result<(), Fault>
     ensures ok { OnOk result (Appends (W.contents writer.old) (W.contents writer.new)
         (ranges_lines (places_of (S.content source.old)))) }
+    ensures laid { OnOk result (IsLaid (S.content source.old)) }
 
     ensures err { OnErr result (AppendsBeginning (W.contents writer.old) (W.contents writer.new)
         (ranges_lines (places_of (S.content source.old)))) }

@@ -2,13 +2,15 @@
 use cli_files::{
     add_person, export_from, foretell_from, judge_image, make_desk, read_file, read_image,
 };
-use cli_lines::{Ending, Fault, print_ending, print_facts, print_fault, print_list, print_ranges};
+use cli_lines::{
+    Buffered, Ending, Fault, print_ending, print_facts, print_fault, print_list, print_ranges,
+};
 use cli_requests::{answer_from, serve_from};
 use cli_words::{
     PersonWords, ServeWords, Stop, Words, enrolled_from, owner_from, person_from, place_from,
     proposal_from,
 };
-use desk_bytes::{Guid, Refusal, WriteFailed};
+use desk_bytes::{Guid, Refusal};
 use desk_exports::Export;
 use desk_service::facts;
 use http_requests::Routes;
@@ -25,11 +27,6 @@ fn buffered_writer<W: Write + Drop>(alloc: Global, writer: W) -> Result<BufWrite
     BufWriter::new(alloc, writer).map_err(|_| Fault::from(Refusal::NoMemory))
 }
 
-/// Flushes the writer.
-fn flush<W: Write>(writer: &mut W) -> Result<(), Fault> {
-    writer.flush().map_err(|_| Fault::from(WriteFailed))
-}
-
 /// Packs all of the reader.
 fn pack_through<R: Read, W: Write + Drop>(
     alloc: Global,
@@ -39,7 +36,8 @@ fn pack_through<R: Read, W: Write + Drop>(
 ) -> Result<(), Fault> {
     let mut out = buffered_writer(alloc, writer)?;
     pack(alloc, owner, reader, &mut out)?;
-    flush(&mut out)
+    out.flush_all()?;
+    Ok(())
 }
 
 /// Packs the standard input.
@@ -54,7 +52,7 @@ fn run_ranges(rt: &HostRuntime, file: &str) -> Result<(), Stop> {
     let mut image = read_image(rt, file)?;
     let mut out = buffered_writer(rt.alloc(), rt.stdout())?;
     print_ranges(&mut image, &mut out)?;
-    flush(&mut out)?;
+    out.flush_all().map_err(Fault::from)?;
     Ok(())
 }
 
@@ -64,7 +62,7 @@ fn run_facts(rt: &HostRuntime, file: &str) -> Result<(), Stop> {
     let found = facts(rt.alloc(), &mut image).map_err(Fault::from)?;
     let mut out = buffered_writer(rt.alloc(), rt.stdout())?;
     print_facts(&found, &mut out).map_err(Fault::from)?;
-    flush(&mut out)?;
+    out.flush_all().map_err(Fault::from)?;
     Ok(())
 }
 
@@ -73,7 +71,7 @@ fn run_list(rt: &HostRuntime, file: &str) -> Result<(), Stop> {
     let bytes = read_file(rt, file)?;
     let mut out = buffered_writer(rt.alloc(), rt.stdout())?;
     print_list(rt.alloc(), &bytes, &mut out)?;
-    flush(&mut out)?;
+    out.flush_all().map_err(Fault::from)?;
     Ok(())
 }
 
@@ -154,7 +152,7 @@ fn run_export(rt: &HostRuntime, db: &str, what: Export) -> Result<Ending, Stop> 
 
 /// Prints a fault on standard error, and returns its status.
 fn tell(rt: &HostRuntime, fault: Fault) -> ExitCode {
-    ExitCode::from(print_fault(fault.refusal, fault.place, &mut rt.stderr()))
+    ExitCode::from(print_fault(fault.refusal, fault.place, &mut rt.stderr()).status)
 }
 
 /// Prints on standard error why the program stopped, and returns the status for that.
@@ -180,7 +178,7 @@ fn status_of(rt: &HostRuntime, done: Result<(), Stop>) -> ExitCode {
 /// The status of a subcommand over a desk's file. The line of a failed close comes last.
 fn status_of_ending(rt: &HostRuntime, ended: Result<Ending, Stop>) -> ExitCode {
     match ended {
-        Ok(ending) => ExitCode::from(print_ending(ending, &mut rt.stderr())),
+        Ok(ending) => ExitCode::from(print_ending(ending, &mut rt.stderr()).status),
         Err(why) => stop(rt, why),
     }
 }

@@ -164,7 +164,7 @@ fn prints_no_list_of_a_file_past_128_mib(rt: HostRuntime) -> Result<(), Fail> {
 /// Whether a fault gives this status and this line.
 fn is_line(alloc: Global, refusal: Refusal, place: Option<u64>, status: u8, line: &str) -> bool {
     let mut out = Vec::new(alloc);
-    print_fault(refusal, place, &mut out) == status && out.as_slice() == line.as_bytes()
+    print_fault(refusal, place, &mut out).status == status && out.as_slice() == line.as_bytes()
 }
 
 #[test]

@@ -2,6 +2,6 @@ use Rattle.desk_bytes.proofs.OutputLemmas.{OnErr-fact}
 use Rattle.cli_commands.proofs.LineLemmas.{whole_kept}
 use Rattle.cli_commands.proofs.foretelling.say_impact.Goals as goal
 
-pub returns-in_err-flush-clause-err : goal.returns-in_err-flush-clause-err
-returns-in_err-flush-clause-err g c =
-    OnErr-fact _ _ (whole_kept _ _ _ _ c.in_ok-print_impact.ensures.ok c.flush.ensures)
+pub returns-in_err-flush_all-clause-err : goal.returns-in_err-flush_all-clause-err
+returns-in_err-flush_all-clause-err g c =
+    OnErr-fact _ _ (whole_kept _ _ _ _ c.in_ok-print_impact.ensures.ok c.flush_all.ensures.kept)

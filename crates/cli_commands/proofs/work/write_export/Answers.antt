@@ -18,6 +18,6 @@ returns-in-Err-clause-same g c = λ clean other.
 
 -- the buffered bytes weren't written out
 
-pub returns-in-Err-flush-clause-beginning : goal.returns-in-Err-flush-clause-beginning
-returns-in-Err-flush-clause-beginning g c = λ clean owner cs was.
-    whole_kept _ _ _ _ (c.in-Ok.ensures.ok clean owner cs was) c.flush.ensures
+pub returns-in-Err-flush_all-clause-beginning : goal.returns-in-Err-flush_all-clause-beginning
+returns-in-Err-flush_all-clause-beginning g c = λ clean owner cs was.
+    whole_kept _ _ _ _ (c.in-Ok.ensures.ok clean owner cs was) c.flush_all.ensures.kept

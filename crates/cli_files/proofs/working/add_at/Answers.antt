@@ -19,3 +19,6 @@ returns-clause-closing g c = c.close_after.ensures.closing
 
 pub returns-clause-let_go : goal.returns-clause-let_go
 returns-clause-let_go g c = rw c.close_after.ensures.work c.close_after.ensures.let_go
+
+pub returns-clause-flushed : goal.returns-clause-flushed
+returns-clause-flushed g c = rw c.close_after.ensures.work c.add-work.ensures.flushed

@@ -45,3 +45,11 @@ returns-in-Err-clause-closing g c = rw c.without_desk.ensures tt
 
 pub returns-in-Err-clause-let_go : goal.returns-in-Err-clause-let_go
 returns-in-Err-clause-let_go g c = rw c.without_desk.ensures (λ lasting. refl)
+
+-- all that was written went on
+
+pub returns-in-Ok-clause-flushed : goal.returns-in-Ok-clause-flushed
+returns-in-Ok-clause-flushed g c = c.add_at.ensures.flushed
+
+pub returns-in-Err-clause-flushed : goal.returns-in-Err-clause-flushed
+returns-in-Err-clause-flushed g c = rw c.without_desk.ensures tt
