@@ -48,7 +48,7 @@ ruling cs i =
 abbrev pub answer : History → Call → Answer
 answer cs c = ruling cs (item c)
 
--- the call joins the history
+-- the answer accepts a call, which then joins the history; a repeated one is there already
 abbrev pub is_accepted : Answer → Bool
 is_accepted (Accepted reply) = true
 is_accepted _ = false

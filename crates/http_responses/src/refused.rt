@@ -7,8 +7,9 @@ use crate::status::Status;
 use desk_bytes::Refusal;
 use http_requests::Methods;
 
-/// Why a request is refused: a row of the table of refusals, with what its response adds. Rows for
-/// which no request is refused have no variant: Read, Write, Line, Version, File, Exists and Minute.
+/// Why a request is refused: a row of the table of refusals, with what its response adds. Rows that
+/// no desk gives to a request have no variant: Read, Write, Line, Version, File, Exists and Minute.
+/// NameTaken and NotADesk have one, though no request that the routes know is refused for them.
 #[derive(Clone, Copy, Debug, PartialEq, Eq)]
 pub enum Refused {
     /// The file ends before a header that it needs.
