@@ -14,63 +14,7 @@ needs cc python3 sqlite3 xxd
 find_program "$@"
 enter_room
 
-cat > "$room/count.c" << 'C'
-#define _GNU_SOURCE
-#include <dlfcn.h>
-#include <malloc.h>
-#include <stdio.h>
-#include <stdlib.h>
-#include <sys/types.h>
-#include <sys/uio.h>
-
-/* Bytes given and not given back; those when the first byte went to standard output; the most from then on. */
-static long live, at_first, most;
-static int is_writing;
-
-static void *given(void *at) {
-    if (at) live += (long)malloc_usable_size(at);
-    if (is_writing && live > most) most = live;
-    return at;
-}
-
-#define NEXT(type, name, ...) static type (*next)(__VA_ARGS__); if (!next) next = (type (*)(__VA_ARGS__))dlsym(RTLD_NEXT, name)
-
-void *malloc(size_t size) { NEXT(void *, "malloc", size_t); return given(next(size)); }
-
-void *aligned_alloc(size_t alignment, size_t size) { NEXT(void *, "aligned_alloc", size_t, size_t); return given(next(alignment, size)); }
-
-int posix_memalign(void **at, size_t alignment, size_t size) {
-    NEXT(int, "posix_memalign", void **, size_t, size_t);
-    int status = next(at, alignment, size);
-    if (!status) given(*at);
-    return status;
-}
-
-void *realloc(void *at, size_t size) {
-    NEXT(void *, "realloc", void *, size_t);
-    long before = at ? (long)malloc_usable_size(at) : 0;
-    void *now = next(at, size);
-    if (now) live -= before;
-    return now ? given(now) : now;
-}
-
-void free(void *at) {
-    NEXT(void, "free", void *);
-    if (at) live -= (long)malloc_usable_size(at);
-    next(at);
-}
-
-static void begin(int file) {
-    if (file == 1 && !is_writing) { is_writing = 1; at_first = most = live; }
-}
-
-ssize_t write(int file, const void *from, size_t size) { NEXT(ssize_t, "write", int, const void *, size_t); begin(file); return next(file, from, size); }
-
-ssize_t writev(int file, const struct iovec *from, int count) { NEXT(ssize_t, "writev", int, const struct iovec *, int); begin(file); return next(file, from, count); }
-
-__attribute__((destructor)) static void tell(void) { fprintf(stderr, "heap %ld %ld\n", at_first, most); }
-C
-cc -shared -fPIC -O1 -o "$room/count.so" "$room/count.c" -ldl
+cc -shared -fPIC -O1 -o "$room/heap.so" "$root/bench/heap.c" -ldl
 "$program" init "$room/desk.db" 00112233-4455-6677-8899-aabbccddeeff
 python3 - "$program" "$room" "${2:-100000}" "${3:-9}" << 'PYTHON'
 import hashlib, os, shlex, statistics, subprocess, sys, time
@@ -119,7 +63,7 @@ ratios = [a / b for a, b in zip(times["desk dbx"], times["sqlite3 | xxd"])]
 print("whole: processor %.2f, clock %.2f of the shell's" % tuple(ratios))
 alone = [(a - b) / (c - d) for a, b, c, d in zip(*(times[name] for name in LINES))]
 print("less opening: processor %.2f, clock %.2f of the shell's" % tuple(alone))
-heap = {name: [int(word) for word in Run(LINES[name], f"{ROOM}/count.so").err.split("heap")[-1].split()] for name in ("desk dbx", "desk level")}
+heap = {name: [int(word) for word in Run(LINES[name], f"{ROOM}/heap.so").err.split("heap")[-1].split()] for name in ("desk dbx", "desk level")}
 beyond = heap["desk dbx"][1] - heap["desk level"][0]
 print(f"{len(ours)} bytes; memory beyond the open desk: {beyond} bytes, of {heap['desk level'][0]}")
 if beyond > 1 << 20:

@@ -1,8 +1,8 @@
 #!/usr/bin/env bash
 # checks/version1.sh [PROGRAM]: that each subcommand opens a real file of version 1
 # (examples/version-1), which keeps its calls and exports and becomes one of version 2; that the
-# next opening writes nothing; and that earlier keys and revocations still count. PROGRAM: another
-# program than ./desk. It needs gzip.
+# next opening writes nothing; that earlier keys and revocations still count; and that images of
+# before are in the impacts of new proposals. PROGRAM: another program than ./desk. It needs gzip.
 set -eu
 . "$(dirname -- "$(readlink -f -- "$0")")/common.sh"
 needs gzip
@@ -49,6 +49,8 @@ done
 opened 0 "$program" verdict desk.db "$root/examples/signed.efi"
 [ "$(cat out)" = allowed ] || fail "verdict: $(cat out)"
 opened 0 "$program" answer desk.db
+opened 1 "$program" impact desk.db 1
+[ "$(cat err)" = 'refused 37 NoSuchProposal' ] || fail "impact: $(cat err)"
 opened 0 level_of desk.db
 printf 'HTTP/1.1 200 OK\r\nContent-Type: text/plain\r\nContent-Length: 32\r\nConnection: close\r\n\r\n' > level
 printf 'sbat,1,2024010101\ngrub,3\nshim,4\n' >> level
@@ -60,8 +62,30 @@ cp first.db desk.db
 [ "$(ask desk.db k2 /dbx/digests "$digest")" = '{"reply":"revoked"}' ] || fail 'a key of before has another reply'
 [ "$(ask desk.db k9 /dbx/digests "$digest")" = '{"name":"AlreadyRevoked","refused":30}' ] || fail 'a revocation of before is forgotten'
 [ "$(ask desk.db k9 /dbx/digests "$other")" = '{"proposal":1,"reply":"proposed"}' ] || fail 'no proposal'
+
+# The impacts of proposals made since: of the images that were submitted and returned before the
+# change of version.
+certificate='{"digest":"1b65f68a522c858715f5dd951cd0402dc16691778814bf0759822b7a257421d0"}'
+[ "$(ask desk.db k10 /dbx/certificates "$certificate")" = '{"proposal":2,"reply":"proposed"}' ] || fail 'no second proposal'
+[ "$(ask desk.db k11 /level '{"component":"grub","generation":4,"stamp":2024010102}')" = '{"proposal":3,"reply":"proposed"}' ] \
+    || fail 'no third proposal'
+# barred RULE LENGTH: the lines of an impact with both files of the one request.
+barred() {
+    for file in submitted returned; do
+        printf '1\t%s\tsigned\tann\tallowed\t%s\ta signed loader\n' "$file" "$1"
+    done
+    echo "dbx $2"
+}
+: > nothing
+echo 'dbx 124' > digest
+barred dbx-certificate 168 > certificate
+barred 'sbat grub 3 4' 76 > grub
+run 0 digest '' nothing impact desk.db 1
+run 1 certificate '' nothing impact desk.db 2
+run 1 grub '' nothing impact desk.db 3
+
 cp first.db desk.db
 echo 'otto-token-for-the-desk' | "$program" person desk.db otto officer k-otto > out
 [ "$(cat out)" = 'added otto' ] || fail 'person'
 
-echo "$((openings + 2)) openings of a file of version 1, each as it has to be"
+echo "$((openings + 2)) openings of a file of version 1 and $runs impacts of it, each as it has to be"

@@ -1,12 +1,11 @@
 """Counts the instructions of each kind of request at desks with short and long histories: see ../requests.sh."""
-import glob
 import os
-import re
-import subprocess
 import sys
 
-from days import confirms, drops, judges, lists, named, proposes, raising, returns, reviews, submits, takes
-from desk import CERTIFICATE, PEOPLE, PLAIN, SIGNED, Program, Server, expect, fail, got, posted, sha256, request, token
+from counting import Counting, asks
+from days import confirms, drops, judges, lists, named, raising, returns, reviews, submits, takes
+from desk import CERTIFICATE, PLAIN, SIGNED, Program, fail, got, posted, request, token
+from histories import History, digest_of, fill
 
 sys.stdout.reconfigure(line_buffering=True)
 SIZES = [int(it) for it in sys.argv[2:]] or [1_000, 10_000, 100_000]
@@ -14,60 +13,6 @@ SIZES = [int(it) for it in sys.argv[2:]] or [1_000, 10_000, 100_000]
 # first.
 LINE_ENDS, ONE_FIELD = "GET /level behind 16,000 LF", "GET /level, a long field"
 MOST_RATIO = 3
-
-
-def digest_of(kind, number):
-    """A digest for each kind and number, spread over their whole range."""
-    return sha256(f"{kind} {number}".encode())
-
-
-class History:
-    """The calls of a desk, in their order. Each method gives the steps of what it names."""
-
-    def __init__(self):
-        self.calls, self.proposals, self.requests, self.number = len(PEOPLE), 0, 0, 0
-
-    def key(self):
-        self.number += 1
-        return f"k{self.number}"
-
-    def proposed(self, path, body, *fields):
-        self.proposals += 1
-        return proposes("olga", self.key(), path, body, self.proposals, *fields)
-
-    def revocation(self):
-        number = self.number
-        first = self.proposed("/dbx/digests", named(digest_of("revoked", number)))
-        return [first, confirms("otto", self.key(), self.proposals, 1, 0, 0, 0)]
-
-    def dropped(self):
-        first = self.proposed("/dbx/digests", named(digest_of("dropped", self.number)))
-        return [first, drops("otto", self.key(), self.proposals)]
-
-    def request(self):
-        self.requests += 1
-        first = submits("ann", self.key(), PLAIN, "a loader", self.requests)
-        number = self.requests
-        return [first, reviews("rita", self.key(), number, "yes", "open"), reviews("raul", self.key(), number, "yes", "approved")]
-
-    def listed(self):
-        return [lists("olga", self.key(), digest_of("listed", self.number))]
-
-    def hundred(self):
-        """A hundred calls."""
-        steps = [step for _ in range(42) for step in self.revocation()]
-        steps += [step for _ in range(5) for step in self.dropped()]
-        return [*steps, *self.request(), *(step for _ in range(3) for step in self.listed())]
-
-
-def fill(program, desk, history, size):
-    """Gives the desk calls, a hundred at a time, until it has accepted so many."""
-    with Server(program, desk) as server:
-        while history.calls < size:
-            for step in history.hundred():
-                expect(server.ask(step.given, ends=False), step.due, "a call of the history")
-            history.calls += 100
-    program.gives("level", desk)
 
 
 def kinds(history):
@@ -121,48 +66,6 @@ def kinds(history):
     yield ONE_FIELD, [], [request("GET", "/level", [("Desk-Token", token("ann")), filler])] * times
     yield "GET /proposals", [], [got("olga", "/proposals")] * 2
     yield "GET /dbx", [], [got("olga", "/dbx")] * 2
-
-
-def asks(server, step):
-    """Asks for a step, or for what a request gives whatever it is."""
-    if isinstance(step, bytes):
-        if not server.ask(step, ends=False):
-            fail("a request without a response")
-    else:
-        expect(server.ask(step.given, ends=False), step.due, "a request that is counted")
-
-
-class Counting:
-    """A server under callgrind."""
-
-    def __init__(self, program, desk):
-        self.out = program.at("callgrind.out")
-        tool = ["valgrind", "--tool=callgrind", "--instr-atstart=no", f"--callgrind-out-file={self.out}"]
-        self.server = Server(program, desk, under=tool)
-
-    def control(self, *words):
-        pid = str(self.server.process.pid)
-        ran = subprocess.run(["callgrind_control", *words, pid], capture_output=True, text=True, timeout=300, check=False)
-        if ran.returncode:
-            fail(f"callgrind_control {words}: {ran.stdout} {ran.stderr}")
-
-    def counted(self, steps):
-        """The instructions of one of these."""
-        for it in glob.glob(f"{self.out}*"):
-            os.remove(it)
-        self.control("-i", "on")
-        self.control("-z")
-        for step in steps:
-            asks(self.server, step)
-        self.control("-d")
-        self.control("-i", "off")
-        totals = []
-        for it in glob.glob(f"{self.out}*"):
-            with open(it, encoding="utf-8", errors="replace") as lines:
-                totals += [int(found[1]) for found in re.finditer(r"^(?:summary|totals): (\d+)", lines.read(), re.M)]
-        if not totals:
-            fail("callgrind wrote no totals")
-        return max(totals) / len(steps)
 
 
 def measured(program, desk, history):

@@ -1,5 +1,6 @@
 //! Scripts: on each line a call's input and its answer.
 mod bytes;
+mod commands;
 mod components;
 mod imports;
 mod inputs;
@@ -21,6 +22,7 @@ use testing::{Answers, Narrow, answered};
 /// The calls that scripts make.
 #[derive(Clone, Copy)]
 enum Call {
+    Command,
     Components,
     Csv,
     Dbx,
@@ -56,6 +58,7 @@ fn tell_hex(alloc: Global, told: &mut String, bytes: &[u8]) -> Result<(), Fail> 
 impl Answers for Call {
     fn answer(&self, alloc: Global, told: &mut String, input: &str) -> Result<(), Fail> {
         match self {
+            Call::Command => commands::of_command(alloc, told, input),
             Call::Components => components::of_components(alloc, told, input),
             Call::Csv => imports::of_csv(alloc, told, input),
             Call::Dbx => imports::of_dbx(alloc, told, input),

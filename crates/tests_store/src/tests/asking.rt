@@ -3,7 +3,8 @@
 use super::exporting::exported;
 use super::line::Line;
 use super::telling::{
-    put_person, put_proposals, put_request, put_requests, put_rows, put_verdict, put_view, told,
+    put_impact, put_person, put_proposals, put_request, put_requests, put_rows, put_verdict,
+    put_view, put_whole, told,
 };
 use super::*;
 
@@ -155,6 +156,26 @@ fn all_proposals<S: Alter + Drop>(
     }
 }
 
+/// A proposal with all that it names, as the caller is shown it.
+fn named<S: Alter + Drop>(desk: &mut Desk<S>, words: &mut Words, line: &mut Line) -> Option<()> {
+    let caller = words.caller()?;
+    let number = ProposalNumber::new(words.number()?)?;
+    match desk.proposal(&caller, number) {
+        Ok(proposal) => put_whole(line, &proposal).ok(),
+        Err(refusal) => line.put(refusal.name()).ok(),
+    }
+}
+
+/// What a Confirm of a proposal would do, as the caller is shown it.
+fn foreseen<S: Alter + Drop>(desk: &mut Desk<S>, words: &mut Words, line: &mut Line) -> Option<()> {
+    let caller = words.caller()?;
+    let number = ProposalNumber::new(words.number()?)?;
+    match desk.impact(&caller, number) {
+        Ok(impact) => put_impact(line, &impact).ok(),
+        Err(refusal) => line.put(refusal.name()).ok(),
+    }
+}
+
 /// The person who has a token.
 fn who<S: Alter + Drop>(desk: &mut Desk<S>, words: &mut Words, line: &mut Line) -> Option<()> {
     let token = words.digest()?;
@@ -239,6 +260,8 @@ fn put_answer<S: Alter + Drop>(
         "shows" => shown(desk, &mut words, line),
         "lists" => all_shown(desk, &mut words, line),
         "proposals" => all_proposals(desk, &mut words, line),
+        "proposal" => named(desk, &mut words, line),
+        "impact" => foreseen(desk, &mut words, line),
         "who" => who(desk, &mut words, line),
         "report" => counted(alloc, desk, line),
         "export" => exported(alloc, desk, &mut words, line),

@@ -2,7 +2,8 @@
 use super::asking::answer;
 use super::founding::{make, open, run};
 use super::scripts::{
-    BARRED, EXPORTS, FAULTS, HUNDRED, LARGEST, LEVELS, OFFICERS, REQUESTS, ROWS, SPOILT, TABLES,
+    BARRED, EXPORTS, FAULTS, FORETOLD, HUNDRED, LARGEST, LEVELS, OFFICERS, REQUESTS, ROWS, SPOILT,
+    TABLES,
 };
 use super::*;
 
@@ -114,6 +115,11 @@ fn a_day_of_levels(rt: HostRuntime) -> Result<(), Fail> {
 #[test]
 fn another_officer_confirms(rt: HostRuntime) -> Result<(), Fail> {
     play(&rt, rt.alloc(), OFFICERS)
+}
+
+#[test]
+fn an_officer_sees_what_a_confirm_would_bar(rt: HostRuntime) -> Result<(), Fail> {
+    play(&rt, rt.alloc(), FORETOLD)
 }
 
 #[test]

@@ -206,6 +206,66 @@ olga o2 import 0 0 1 170 0 2 grub 2 grub 3 : proposed 2
 otto t2 confirm 2 : confirmed 2 0 0 0 0
 proposals otto : 1 olga confirmed 1 0 2; 2 olga confirmed 1 0 2;";
 
+/// What a Confirm would bar: one image by its digest, one by a certificate that only its signed file
+/// carries, one by a component, and none that is barred already. Proposals that can't be confirmed
+/// any more.
+pub(super) const FORETOLD: &str = "\
+console p1 add ann submitter 1 : added ann
+console p2 add rita reviewer 2 : added rita
+console p3 add raul reviewer 3 : added raul
+console p4 add sid signer 4 : added sid
+console p5 add olga officer 5 : added olga
+console p6 add otto officer 6 : added otto
+impact otto 1 : NoSuchProposal
+proposal otto 1 : NoSuchProposal
+olga o1 list-certificate 204 : listed
+olga o2 list 51 : listed
+ann a1 submit one 31 31 0 0 : submitted 1
+ann a2 submit two 41 41 0 0 : submitted 2
+ann a3 submit three 51 51 0 1 grub 2 : submitted 3
+ann a4 submit four 61 61 0 0 : submitted 4
+rita r1 yes 2 : reviewed 2 open
+raul r1 yes 2 : reviewed 2 approved
+sid s1 return 2 41 41 1 204 0 : returned 2
+olga o3 revoke 61 : proposed 1
+proposal otto 1 : 1 olga digest 0 none open 61
+impact otto 1 : 4 submitted open ann four refused dbx-digest; adds 1 0 0 dbx 76
+otto t1 confirm 1 : confirmed 1 1 0 0 0
+impact otto 1 : ProposalClosed
+proposal otto 1 : 1 olga digest 0 none confirmed 61
+olga o4 import 2024010100 1 2 31 61 1 204 1 grub 3 : proposed 2
+proposal otto 2 : 2 olga import 1 2024010100 open 31 61 certificate 204 component grub 3
+impact otto 2 : 1 submitted open ann one refused dbx-digest; 2 returned signed ann two allowed dbx-certificate; \
+3 submitted open ann three allowed sbat grub 2 3; adds 1 1 1 dbx 216
+impact olga 2 : 1 submitted open ann one refused dbx-digest; 2 returned signed ann two allowed dbx-certificate; \
+3 submitted open ann three allowed sbat grub 2 3; adds 1 1 1 dbx 216
+impact console 2 : 1 submitted open ann one refused dbx-digest; 2 returned signed ann two allowed dbx-certificate; \
+3 submitted open ann three allowed sbat grub 2 3; adds 1 1 1 dbx 216
+impact sid 2 : NotYourRole
+impact eve 2 : UnknownCaller
+proposal sid 2 : NotYourRole
+proposal console 2 : NotYourRole
+proposal eve 2 : UnknownCaller
+olga o5 revoke 31 : proposed 3
+olga o6 revoke-certificate 204 : proposed 4
+olga o7 raise grub 3 2024010101 : proposed 5
+olga o8 raise grub 4 2024010100 : proposed 6
+proposal otto 4 : 4 olga certificate 0 none open certificate 204
+proposal otto 5 : 5 olga level 0 2024010101 open component grub 3
+impact otto 4 : 2 returned signed ann two allowed dbx-certificate; adds 0 1 0 dbx 168
+ann a5 withdraw 3 : withdrawn 3
+olga o9 unlist 51 : unlisted
+reopen
+impact otto 6 : 3 submitted withdrawn ann three refused sbat grub 2 4; adds 0 0 1 dbx 76
+otto t2 confirm 2 : confirmed 2 1 1 1 1
+export ends : 216 26 16 c4 c1 4c 50 92 40 ac a9 41 f9 36 93 43 28 7c 00*7 30 00*3 .. cc*32 00*16
+impact otto 2 : ProposalClosed
+impact otto 3 : AlreadyRevoked
+impact otto 4 : AlreadyRevoked
+impact otto 5 : NotHigher
+impact otto 6 : StampNotLater
+impact otto 7 : NoSuchProposal";
+
 /// The rows of lists that an image and each command name, among rows that they don't name.
 pub(super) const ROWS: &str = "\
 console p1 add olga officer 1 : added olga
@@ -378,6 +438,8 @@ verdict 1 1 0 0 : Reopen
 shows ann 1 : Reopen
 lists ann : Reopen
 proposals ann : Reopen
+proposal ann 1 : Reopen
+impact ann 1 : Reopen
 who 1 : Reopen
 report : Reopen
 export dbx : 0 Reopen
@@ -414,7 +476,17 @@ UPDATE proposal_items SET place = 0 WHERE proposal = 2
 otto o2 confirm 2 : confirmed 2 1 0 0 0
 console p2 add bob submitter 2 : added bob
 bob b1 submit shim 1 1 1 20 1 shim 4 : submitted 1
+ann a5 revoke 1 : proposed 3
+impact otto 3 : 1 submitted open bob shim allowed dbx-digest; adds 1 0 0 dbx 124
+UPDATE calls SET text = 'submit ' || text WHERE caller = 'bob'
+impact otto 3 : Store
+proposal otto 3 : Reopen
+UPDATE calls SET text = substr(text, 8) WHERE caller = 'bob'
+impact otto 3 : 1 submitted open bob shim allowed dbx-digest; adds 1 0 0 dbx 124
 UPDATE requests SET state = 'opened'
+impact otto 3 : Store
+shows bob 1 : Reopen
+reopen
 shows bob 1 : Store
 lists bob : Reopen
 UPDATE requests SET state = 'open'

@@ -163,6 +163,82 @@ pub(super) fn put_proposals(line: &mut Line, proposals: &[Proposal]) -> Result<(
     put_none(line)
 }
 
+/// A proposal with all that it names: number, officer, kind, how many entries were skipped, the
+/// stamp or `none`, the state, and each entry.
+pub(super) fn put_whole(line: &mut Line, proposal: &ProposalRow) -> Result<(), AllocError> {
+    line.number(proposal.number.value())?;
+    line.put(proposal.officer.as_str())?;
+    line.put(proposal.kind.text())?;
+    line.number(proposal.named.passed())?;
+    match proposal.named.stamp() {
+        Some(stamp) => line.number(stamp.value())?,
+        None => line.put("none")?,
+    }
+    line.put(proposal.state.text())?;
+    put_entries(line, &proposal.named)
+}
+
+/// The entries of an import, in its order.
+fn put_entries(line: &mut Line, named: &Import) -> Result<(), AllocError> {
+    for digest in named.digests().as_slice() {
+        line.digest(digest)?;
+    }
+    for digest in named.certificates().as_slice() {
+        line.put("certificate")?;
+        line.digest(digest)?;
+    }
+    for component in named.components().as_slice() {
+        line.put("component")?;
+        put_component(line, component)?;
+    }
+    Ok(())
+}
+
+/// The rule that bars an image, and for a component its name, its generation and the one that the
+/// level would require.
+fn put_rule(line: &mut Line, rule: &Rule) -> Result<(), AllocError> {
+    match rule {
+        Rule::Digest => line.put("dbx-digest"),
+        Rule::Certificate => line.put("dbx-certificate"),
+        Rule::Component(component, needs) => {
+            line.put("sbat")?;
+            put_component(line, component)?;
+            line.number(u64::from(needs.value()))
+        }
+    }
+}
+
+/// An image that would be barred: its request, which file it is, the request's state, submitter and
+/// title, whether the image is allowed now, and the rule.
+fn put_barred(line: &mut Line, image: &BarredImage) -> Result<(), AllocError> {
+    line.number(image.request.value())?;
+    line.put(image.file.text())?;
+    line.put(image.state.text())?;
+    line.put(image.submitter.as_str())?;
+    line.put(image.title.as_str())?;
+    line.put(if image.is_allowed {
+        "allowed"
+    } else {
+        "refused"
+    })?;
+    put_rule(line, &image.rule)
+}
+
+/// An impact: each image, ended by a semicolon; how many digests, certificates and components it
+/// adds; and the length of dbx.
+pub(super) fn put_impact(line: &mut Line, impact: &ShownImpact) -> Result<(), AllocError> {
+    for image in &impact.bars {
+        put_barred(line, image)?;
+        line.text.push_str(";")?;
+    }
+    line.put("adds")?;
+    line.number(impact.adds.digests)?;
+    line.number(impact.adds.certificates)?;
+    line.number(impact.adds.components)?;
+    line.put("dbx")?;
+    line.number(impact.dbx)
+}
+
 /// A person's name, role and token, or `nobody`.
 pub(super) fn put_person(line: &mut Line, person: &Option<Person>) -> Result<(), AllocError> {
     let Some(person) = person else {

@@ -81,7 +81,7 @@ fn put_word(line: &mut Line, word: &str, round: u64) -> Result<(), AllocError> {
 }
 
 /// A line of the round in this round.
-fn in_round(alloc: Global, told: &str, round: u64) -> Result<Line, AllocError> {
+pub(super) fn in_round(alloc: Global, told: &str, round: u64) -> Result<Line, AllocError> {
     let mut line = Line::new(alloc);
     for word in told.split_whitespace() {
         put_word(&mut line, word, round)?;

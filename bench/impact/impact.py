@@ -1,0 +1,116 @@
+"""Measures impacts of proposals over HTTP: see ../impact.sh."""
+import re
+import sys
+from typing import NamedTuple
+
+from counting import Counting, asks
+from days import named, submits
+from desk import PLAIN, TABLE, Program, Server, authenticode, changed, fail, got, with_table, with_text
+from histories import History, digest_of, fill
+
+sys.stdout.reconfigure(line_buffering=True)
+LIBRARY = sys.argv[2]
+SIZES = [int(it) for it in sys.argv[3:]] or [1_000, 100_000]
+# The most instructions for a call whose image isn't touched, and the most memory of an impact without images, in bytes, above what it
+# takes at the first size.
+MOST_INSTRUCTIONS, MOST_MEMORY = 12_000, 4_096
+SBAT = b"sbat,1,SBAT Version,sbat,1,https://github.com/rhboot/shim/blob/main/SBAT.md\nshim,4,UEFI shim,shim,1,https://github.com/rhboot/shim\n"
+
+
+class Mixed(History):
+    """Of each hundred calls one submits an image, always the same."""
+
+    def touching(self):
+        return named(authenticode(PLAIN))
+
+
+class Submissions(History):
+    """Each call submits an image of its own, with two components, and a certificate in its table."""
+
+    @staticmethod
+    def image(number):
+        return with_table(with_text(changed(PLAIN, (600, f"{number:08x}")), SBAT), TABLE)
+
+    def submission(self):
+        self.requests += 1
+        return submits("ann", self.key(), self.image(self.requests), "a loader", self.requests)
+
+    def hundred(self):
+        return [self.submission() for _ in range(100)]
+
+    def touching(self):
+        return named(authenticode(self.image(self.requests // 2)))
+
+
+class Measured(NamedTuple):
+    """Of a desk of so many calls: the instructions and the memory of an impact without images, and of one with some, of so many
+    bytes."""
+
+    calls: int
+    instructions: float
+    memory: int
+    images: int
+    length: int
+    more_instructions: float
+    more_memory: int
+
+
+def heaps(program, desk, requests):
+    """The most memory that each request takes above what the server had when it came, in bytes, and its response's length."""
+    with Server(program, desk, len(requests), env={"LD_PRELOAD": LIBRARY}) as server:
+        lengths = [len(server.ask(it, ends=False)) for it in requests]
+        _, err = server.process.communicate(timeout=60)
+    told = [int(most) - int(first) for first, most in re.findall(rb"heap (\d+) (\d+)", err)]
+    if len(told) != len(requests):
+        fail(f"a server told of {len(told)} requests: {err!r}")
+    return list(zip(told, lengths))
+
+
+def measured(program, desk, history):
+    """Two proposals, of which one names an image or more."""
+    calls, without, some = history.calls, history.proposals + 1, history.proposals + 2
+    proposals = [history.proposed("/dbx/digests", it) for it in (named(digest_of("nobody's", 0)), history.touching())]
+    impacts = [got("otto", f"/proposals/{it}/impact") for it in (without, some)]
+    counting = Counting(program, desk)
+    with counting.server as server:
+        for step in [*proposals, *impacts]:
+            asks(server, step)
+        answers = [server.ask(it, ends=False) for it in impacts]
+        images = [it.count(b'"request":') for it in answers]
+        if images[0] or not images[1]:
+            fail(f"impacts of {images} images: {answers[0][-200:]!r}, {answers[1][-200:]!r}")
+        instructions = [counting.counted([it]) for it in impacts]
+    # (the first request of a server fills what later ones find)
+    _, _, first, second = heaps(program, desk, [*impacts, *impacts])
+    return Measured(calls, instructions[0], first[0], images[1], second[1], instructions[1], second[0])
+
+
+def shows(what, found):
+    print(what)
+    for it in found:
+        beyond = (it.more_instructions - it.instructions) / it.images
+        print(
+            f"  {it.calls:,} calls: {it.instructions:,.0f} instructions, {it.instructions / it.calls:,.0f} a call, {it.memory:,} bytes of"
+            f" memory; with {it.images:,} images, a response of {it.length:,} bytes: {beyond:,.0f} instructions more an image,"
+            f" {it.more_memory:,} bytes of memory"
+        )
+    first, last = found[0], found[-1]
+    if first.calls < last.calls:
+        slope = (last.instructions - first.instructions) / (last.calls - first.calls)
+        print(f"  {slope:,.0f} instructions for each further call")
+        if slope > MOST_INSTRUCTIONS:
+            fail(f"{what}: more than {MOST_INSTRUCTIONS:,} instructions for a call that isn't touched")
+        if last.memory > first.memory + MOST_MEMORY:
+            fail(f"{what}: the memory of an impact without images grows with the calls")
+
+
+with Program(sys.argv[1]) as program:
+    for what, history in (("one submission in a hundred calls", Mixed()), ("submissions alone", Submissions())):
+        desk, found = program.founded("desk.db"), []
+        for size in SIZES:
+            fill(program, desk, history, size)
+            # (the proposals go to a copy)
+            grown = type(history)()
+            grown.__dict__.update(history.__dict__)
+            found.append(measured(program, program.copied(desk, "counted.db"), grown))
+        shows(what, found)
