@@ -1,13 +1,13 @@
 #!/bin/sh
 # bench/impact.sh [SIZE ..]: the cost of GET /proposals/N/impact on desks of 1,000 and 100,000
-# accepted calls, or those given, of two histories that are filled over HTTP: that of
-# bench/requests.sh, where one call in a hundred submits an image, and one where each call submits an
+# accepted calls, or those given, of three histories that are filled over HTTP: that of
+# bench/requests.sh, where one call in a hundred submits an image, and two where each call submits an
 # image of its own. Of an impact without images, and of one with those of one digest:
 #   instructions  from the connection to the response, by valgrind's callgrind, which neither other work nor the processor's cache
 #                 changes; and for each further call, from the first size to the last
 #   memory        the most that malloc had given during the request, beyond what it had given when the connection was accepted
 # The program is ./desk's, or the one that $DESK_BENCH_PROGRAM names. It fails if a further call
-# whose image no entry touches takes more than 12,000 instructions, or if an impact without images
+# takes more than 1.1 times the instructions of one of the first, or if an impact without images
 # takes more memory where there are more calls. Not part of the gate: it needs valgrind, python3 and
 # a C compiler.
 set -eu

@@ -11,9 +11,9 @@ from histories import History, digest_of, fill
 sys.stdout.reconfigure(line_buffering=True)
 LIBRARY = sys.argv[2]
 SIZES = [int(it) for it in sys.argv[3:]] or [1_000, 100_000]
-# The most instructions for a call whose image isn't touched, and the most memory of an impact without images, in bytes, above what it
-# takes at the first size.
-MOST_INSTRUCTIONS, MOST_MEMORY = 12_000, 4_096
+# A further call may take so many times the instructions of one of the first, and an impact without images so many bytes of memory
+# more than at the first size.
+MOST_RATIO, MOST_MEMORY = 1.1, 4_096
 SBAT = b"sbat,1,SBAT Version,sbat,1,https://github.com/rhboot/shim/blob/main/SBAT.md\nshim,4,UEFI shim,shim,1,https://github.com/rhboot/shim\n"
 
 
@@ -25,11 +25,10 @@ class Mixed(History):
 
 
 class Submissions(History):
-    """Each call submits an image of its own, with two components, and a certificate in its table."""
+    """Each call submits an image of its own."""
 
-    @staticmethod
-    def image(number):
-        return with_table(with_text(changed(PLAIN, (600, f"{number:08x}")), SBAT), TABLE)
+    def image(self, number):
+        return changed(PLAIN, (600, f"{number:08x}"))
 
     def submission(self):
         self.requests += 1
@@ -40,6 +39,13 @@ class Submissions(History):
 
     def touching(self):
         return named(authenticode(self.image(self.requests // 2)))
+
+
+class Loaders(Submissions):
+    """The images have two components, and a certificate in their tables."""
+
+    def image(self, number):
+        return with_table(with_text(super().image(number), SBAT), TABLE)
 
 
 class Measured(NamedTuple):
@@ -80,8 +86,8 @@ def measured(program, desk, history):
         if images[0] or not images[1]:
             fail(f"impacts of {images} images: {answers[0][-200:]!r}, {answers[1][-200:]!r}")
         instructions = [counting.counted([it]) for it in impacts]
-    # (the first request of a server fills what later ones find)
-    _, _, first, second = heaps(program, desk, [*impacts, *impacts])
+    # (the first ones put the store's pages into memory, where later ones find them)
+    first, second = heaps(program, desk, impacts * 5)[-2:]
     return Measured(calls, instructions[0], first[0], images[1], second[1], instructions[1], second[0])
 
 
@@ -98,19 +104,24 @@ def shows(what, found):
     if first.calls < last.calls:
         slope = (last.instructions - first.instructions) / (last.calls - first.calls)
         print(f"  {slope:,.0f} instructions for each further call")
-        if slope > MOST_INSTRUCTIONS:
-            fail(f"{what}: more than {MOST_INSTRUCTIONS:,} instructions for a call that isn't touched")
+        if slope > MOST_RATIO * first.instructions / first.calls:
+            fail(f"{what}: a further call takes more instructions than one of the first")
         if last.memory > first.memory + MOST_MEMORY:
             fail(f"{what}: the memory of an impact without images grows with the calls")
 
 
+HISTORIES = {
+    "one submission in a hundred calls": Mixed, "submissions of plain images": Submissions,
+    "submissions of images with two components and a certificate": Loaders,
+}
 with Program(sys.argv[1]) as program:
-    for what, history in (("one submission in a hundred calls", Mixed()), ("submissions alone", Submissions())):
-        desk, found = program.founded("desk.db"), []
+    for what, kind in HISTORIES.items():
+        history, found = kind(), []
+        desk = program.founded(f"{kind.__name__}.db")
         for size in SIZES:
             fill(program, desk, history, size)
             # (the proposals go to a copy)
-            grown = type(history)()
+            grown = kind()
             grown.__dict__.update(history.__dict__)
             found.append(measured(program, program.copied(desk, "counted.db"), grown))
         shows(what, found)
