@@ -74,7 +74,7 @@ struct Image {
 /// The file of this request that was submitted, or the one that was returned for it. They have the
 /// same digests and components. A returned one carries one of five certificates; of the submitted
 /// ones each ninth carries another.
-fn image(request: u64, is_returned: bool) -> Image {
+fn brought(request: u64, is_returned: bool) -> Image {
     let digest = 1 + request % 199;
     let signing = if request % 2 == 0 {
         digest
@@ -292,7 +292,7 @@ fn list_length(size: u64, count: u64) -> u64 {
 
 /// The entries in force before the proposal of this number was looked at, and with those that it
 /// names too if `is_confirmed`.
-fn entries(alloc: Global, number: u64, is_confirmed: bool) -> Option<Entries> {
+fn in_force(alloc: Global, number: u64, is_confirmed: bool) -> Option<Entries> {
     let mut entries = Entries::new(alloc);
     let mut place = 0u64;
     for line in PROPOSALS.lines() {
@@ -321,8 +321,8 @@ impl Look {
     /// What is in force when the proposal of this number is looked at, and after its Confirm.
     fn at(alloc: Global, number: u64) -> Option<Look> {
         Some(Look {
-            now: entries(alloc, number, false)?,
-            then: entries(alloc, number, true)?,
+            now: in_force(alloc, number, false)?,
+            then: in_force(alloc, number, true)?,
         })
     }
 
@@ -366,12 +366,12 @@ impl Look {
     fn told(&self, alloc: Global) -> Result<Line, AllocError> {
         let mut line = Line::new(alloc);
         for request in 1..=MANY {
-            self.put_image(&mut line, &image(request, false))?;
+            self.put_image(&mut line, &brought(request, false))?;
         }
         for back in 0..MANY {
             let request = MANY - back;
             if request % 5 == 0 {
-                self.put_image(&mut line, &image(request, true))?;
+                self.put_image(&mut line, &brought(request, true))?;
             }
         }
         line.put("adds")?;
@@ -442,7 +442,7 @@ fn brings<S: Alter + Drop>(
 /// Whether the desk takes all submissions.
 fn submits<S: Alter + Drop>(alloc: Global, desk: &mut Desk<S>) -> Option<bool> {
     for request in 1..=MANY {
-        let image = image(request, false);
+        let image = brought(request, false);
         if !brings(alloc, desk, "ann s% submit image", "submitted 1%0", &image)? {
             return Some(false);
         }
@@ -457,7 +457,7 @@ fn goes_on<S: Alter + Drop>(alloc: Global, desk: &mut Desk<S>) -> Option<bool> {
         if !gives_each(alloc, desk, calls(request), request)? {
             return Some(false);
         }
-        let image = image(request, true);
+        let image = brought(request, true);
         if request % 5 == 0 && !brings(alloc, desk, "sid b% return 1%0", "returned 1%0", &image)? {
             return Some(false);
         }
