@@ -2,7 +2,7 @@
 # bench/impact.sh [SIZE ..]: the cost of GET /proposals/N/impact on desks of 1,000 and 100,000
 # accepted calls, or those given, of three histories that are filled over HTTP: that of
 # bench/requests.sh, where one call in a hundred submits an image, and two where each call submits an
-# image of its own. Of an impact without images, and of one with those of one digest:
+# image of its own. Of an impact without images, and of one with a hundred or so:
 #   instructions  from the connection to the response, by valgrind's callgrind, which neither other work nor the processor's cache
 #                 changes; and for each further call, from the first size to the last
 #   memory        the most that malloc had given during the request, beyond what it had given when the connection was accepted

@@ -11,6 +11,8 @@ from histories import History, digest_of, fill
 sys.stdout.reconfigure(line_buffering=True)
 LIBRARY = sys.argv[2]
 SIZES = [int(it) for it in sys.argv[3:]] or [1_000, 100_000]
+# So many images, or some more, are touched at a desk where each is another.
+TOUCHED = 100
 # A further call may take so many times the instructions of one of the first, and an impact without images so many bytes of memory
 # more than at the first size.
 MOST_RATIO, MOST_MEMORY = 1.1, 4_096
@@ -21,7 +23,8 @@ class Mixed(History):
     """Of each hundred calls one submits an image, always the same."""
 
     def touching(self):
-        return named(authenticode(PLAIN))
+        """The path and the body of a proposal that touches images."""
+        return "/dbx/digests", named(authenticode(PLAIN))
 
 
 class Submissions(History):
@@ -38,7 +41,8 @@ class Submissions(History):
         return [self.submission() for _ in range(100)]
 
     def touching(self):
-        return named(authenticode(self.image(self.requests // 2)))
+        digests = (authenticode(self.image(it)) for it in range(1, self.requests, self.requests // TOUCHED))
+        return "/imports/csv", "".join(["kind,value,generation\n", *(f"sha256,{it},\n" for it in digests)]).encode()
 
 
 class Loaders(Submissions):
@@ -75,7 +79,7 @@ def heaps(program, desk, requests):
 def measured(program, desk, history):
     """Two proposals, of which one names an image or more."""
     calls, without, some = history.calls, history.proposals + 1, history.proposals + 2
-    proposals = [history.proposed("/dbx/digests", it) for it in (named(digest_of("nobody's", 0)), history.touching())]
+    proposals = [history.proposed(*it) for it in (("/dbx/digests", named(digest_of("nobody's", 0))), history.touching())]
     impacts = [got("otto", f"/proposals/{it}/impact") for it in (without, some)]
     counting = Counting(program, desk)
     with counting.server as server:
