@@ -1,0 +1,9 @@
+//! Minutes of a desk, read back: a line of minutes, and the histories whose minutes some bytes are.
+#![tactic(auto)]
+
+mod fields;
+mod laws;
+mod reading;
+
+pub use laws::lines_differ;
+pub use reading::{MinuteRead, read_minute};
