@@ -1,2 +1,3 @@
+pub mod FollowLemmas
 pub mod LineLemmas
 pub mod PrintableLemmas

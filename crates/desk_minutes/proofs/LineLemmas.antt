@@ -1,6 +1,6 @@
 -- Lines of minutes, told apart.
 use Rattle.std.proofs.Common.{◌≡◌, ℕ, ◌<◌, ◌^◌, ◌∙◌, Bool, true, false, List, [], ◌∷◌, ◌++◌, Err, length, decimal, refl, sym, ap, append_assoc, append-nil, arith}
-use Rattle.std.specs.Prelude.{IsErrOf, bytes_eq}
+use Rattle.std.specs.Prelude.{IsErrOf, bytes_eq, codes}
 use Rattle.sbat.specs.Fields.{decimal_of}
 use Rattle.desk_texts.specs.Callers.{caller_name, is_told_by_name}
 use Rattle.desk_texts.specs.Commands.{IsCount}
@@ -11,7 +11,7 @@ use Rattle.desk_texts.specs.declared.caller.Caller.{Caller}
 use Rattle.desk_texts.specs.declared.command.Call.{Call}
 use Rattle.desk_texts.specs.declared.command.Command.{Command}
 use Rattle.desk_texts.specs.declared.reply.Reply.{Reply}
-use Rattle.desk_texts.proofs.FieldLemmas.{free-by}
+use Rattle.desk_texts.proofs.FieldLemmas.{free-append, free-by}
 use Rattle.desk_texts.proofs.FormLemmas.{printable-key}
 use Rattle.desk_texts.proofs.ReadingLemmas.{text_of-same}
 use Rattle.desk_texts.proofs.ReplyLemmas.{reply_text_of-same}
@@ -98,7 +98,23 @@ told_fields n c given small h = record {
   reply_ends = without 10 refl (reply_text_of given) (printable-reply given h.reply).bytes;
 }
 
-call_same : (a d : Caller) (b e : List ℕ) (c f : Command) → a ≡ d → b ≡ e → c ≡ f → called a b c ≡ called d e f
+-- and no line break before its end
+pub told_body : (n : ℕ) (c : Call) (given : Reply) → IsCount n → IsTold c given
+    → is_without 10 (decimal n ++ codes "\t" ++ caller_name c.caller ++ codes "\t" ++ c.key ++ codes "\t" ++ text_of c.command ++ codes "\t" ++ reply_text_of given) ≡ true
+told_body n c given small h =
+    let number = decimal n in
+    let caller = number ++ codes "\t" ++ caller_name c.caller in
+    let key = caller ++ codes "\t" ++ c.key in
+    let text = key ++ codes "\t" ++ text_of c.command in
+    let one = field number (caller_name c.caller) (without 10 refl number (printable-decimal n small).bytes) (without 10 refl (caller_name c.caller) (printable-caller c.caller h.call.caller).bytes) in
+    let two = field caller c.key one (without 10 refl c.key (printable-key c.key h.call.key)) in
+    let three = field key (text_of c.command) two (without 10 refl (text_of c.command) (printable-command c.command h.call.forms).bytes) in
+    field text (reply_text_of given) three (without 10 refl (reply_text_of given) (printable-reply given h.reply).bytes)
+  where
+    field : (before next : List ℕ) → is_without 10 before ≡ true → is_without 10 next ≡ true → is_without 10 (before ++ codes "\t" ++ next) ≡ true
+    field before next h k = free-append 10 (before ++ codes "\t") next (free-append 10 before (codes "\t") h refl) k
+
+pub call_same : (a d : Caller) (b e : List ℕ) (c f : Command) → a ≡ d → b ≡ e → c ≡ f → called a b c ≡ called d e f
 call_same a d b e c f h k l = cc
 
 pub lines_differ : LinesDiffer
