@@ -117,7 +117,7 @@ all_second i h = by i.call i.rules h
     by c First e = absurd (cc)
     by c Second e = refl
 
-same_call : (c d : Call) → IsCall c → IsCall d → c.caller ≡ d.caller → c.key ≡ d.key → text_of c.command ≡ text_of d.command → c ≡ d
+pub same_call : (c d : Call) → IsCall c → IsCall d → c.caller ≡ d.caller → c.key ≡ d.key → text_of c.command ≡ text_of d.command → c ≡ d
 same_call c d h k caller key text = call_same c.caller d.caller c.key d.key c.command d.command caller key (text_of-same c.command d.command h.forms k.forms text)
 
 same_item : (cs ds : History) (i j : Item) → IsItem i → IsItem j → is_second i ≡ true → is_second j ≡ true → minute_of cs i ≡ minute_of ds j → i ≡ j
@@ -263,18 +263,22 @@ none_goes_through cs line h f one other ds k g through =
         (ap (λ j. is_accepted (ruling cs j)) (sym mine) ∙ (newest cs i next.history.legal).accepted)
         (here ∙ ap minute_line (next.is ∙ ap (minute_of cs) mine))
 
--- histories of one text are one
-pub minutes_tell : MinutesTellHistory
-minutes_tell a b h k f g same =
+no_lines : (ms : List Minute) → flat_map minute_line ms ≡ [] → ms ≡ []
+no_lines [] e = refl
+no_lines (m ∷ ms) e = absurd (some_line m (flat_map minute_line ms) e)
+
+-- one text is of one list of minutes
+pub same_minutes : (a b : History) → IsHistory a → IsHistory b → minutes_text a ≡ minutes_text b → minutes a ≡ minutes b
+same_minutes a b h k same =
     let first = begins (reverse (minutes a)) (reverse (minutes b)) [] (All-reverse IsOfCall (minutes a) (of_calls a h)) (All-reverse IsOfCall (minutes b) (of_calls b k))
     (sym same ∙ sym (append-nil (minutes_text a))) in
     let none : first.others ≡ [] = no_lines first.others first.spelt in
     let one : reverse (minutes b) ≡ reverse (minutes a) = first.is ∙ ap (λ l. reverse (minutes a) ++ l) none ∙ append-nil (reverse (minutes a)) in
-    same_history a b h k f g (sym (reverse-reverse (minutes a)) ∙ ap reverse (sym one) ∙ reverse-reverse (minutes b))
-  where
-    no_lines : (ms : List Minute) → flat_map minute_line ms ≡ [] → ms ≡ []
-    no_lines [] e = refl
-    no_lines (m ∷ ms) e = absurd (some_line m (flat_map minute_line ms) e)
+    sym (reverse-reverse (minutes a)) ∙ ap reverse (sym one) ∙ reverse-reverse (minutes b)
+
+-- histories of one text are one
+pub minutes_tell : MinutesTellHistory
+minutes_tell a b h k f g same = same_history a b h k f g (same_minutes a b h k same)
 
 -- one call more is one line more
 pub one_more : (cs : History) (i : Item) → minutes_text (i ∷ cs) ≡ minutes_text cs ++ minute_line (minute_of cs i)

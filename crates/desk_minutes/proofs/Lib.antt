@@ -1,3 +1,4 @@
+pub mod ExportLemmas
 pub mod FollowLemmas
 pub mod LineLemmas
 pub mod PrintableLemmas

@@ -5,5 +5,5 @@ mod fields;
 mod laws;
 mod reading;
 
-pub use laws::{lines_differ, minutes_tell_history};
+pub use laws::{lines_differ, minutes_tell_exports, minutes_tell_history};
 pub use reading::{MinuteRead, read_minute};
