@@ -1,1 +1,3 @@
+pub mod Audits
 pub mod Following
+pub mod Lines

@@ -2,6 +2,9 @@
 #![tactic(auto)]
 
 mod applying;
+mod auditing;
 mod following;
+mod lines;
 
+pub use auditing::{AuditFault, follow_all};
 pub use following::{FollowFault, follow};
