@@ -5,6 +5,8 @@ mod applying;
 mod auditing;
 mod following;
 mod lines;
+mod memory;
 
 pub use auditing::{AuditFault, follow_all};
 pub use following::{FollowFault, follow};
+pub use memory::{Audited, audit};
