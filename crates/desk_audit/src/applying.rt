@@ -26,7 +26,10 @@ fn is_repeat(view: &View, call: &Call) -> bool
 fn is_failure(refusal: Refusal) -> bool
     ensures { result ≡ false → (refusal ≢ Refusal.NoMemory) × (refusal ≢ Refusal.Store) }
 {
-    matches!(refusal, Refusal::NoMemory | Refusal::Store | Refusal::Reopen)
+    matches!(
+        refusal,
+        Refusal::NoMemory | Refusal::Store | Refusal::Reopen
+    )
 }
 
 /// The reply to a call that is accepted, which joins the desk's history. `None`: it repeats a call,

@@ -29,11 +29,7 @@ pub struct Audited {
 ///
 /// `Line`: the first line that isn't what the rules give; a last line without a line break is such a
 /// line. `Device`: memory was refused, or the reader failed.
-pub fn audit<R: BufRead>(
-    alloc: Global,
-    owner: &Guid,
-    reader: &mut R,
-) -> Result<Audited, AuditFault>
+pub fn audit<R: BufRead>(alloc: Global, owner: &Guid, reader: &mut R) -> Result<Audited, AuditFault>
     ensures ok { IfOk result (λ audited. IfSome (R.remaining reader.old) (λ given.
         HasFollowed over_memory audited.desk owner.now audited.calls (Some given) (Some []))) }
     ensures wrong { IfErr result (λ fault. (n : ℕ) → fault ≡ AuditFault.Line n

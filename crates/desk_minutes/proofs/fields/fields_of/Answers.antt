@@ -66,7 +66,7 @@ returns-clause-found c =
     let reply = c.in_ok-reply.reply.now in
     let gone : length c.in_ok-reply.rest.now ≡ 0 = search rules in (
       fields_join c.args.line.now number c.in_ok-number.rest.now caller c.in_ok-caller.rest.now key c.in_ok-key.rest.now text c.in_ok-text.rest.now reply c.in_ok-reply.rest.now
-      c.in_ok-number.ensures.found.0 c.in_ok-caller.ensures.found.0 c.in_ok-key.ensures.found.0 c.in_ok-text.ensures.found.0 c.in_ok-reply.ensures.found.0 gone,
+          c.in_ok-number.ensures.found.0 c.in_ok-caller.ensures.found.0 c.in_ok-key.ensures.found.0 c.in_ok-text.ensures.found.0 c.in_ok-reply.ensures.found.0 gone,
       record {
         number_ends = c.in_ok-number.ensures.found.1;
         caller_ends = c.in_ok-caller.ensures.found.1;

@@ -1,0 +1,5 @@
+//! Tests of minutes that are read, followed and audited.
+#![tactic(auto)]
+
+#[cfg(test)]
+mod tests;
