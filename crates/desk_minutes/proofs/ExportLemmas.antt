@@ -1,9 +1,8 @@
 -- Histories of the same minutes have the same exports.
-use Rattle.std.proofs.Common.{◌≡◌, ℕ, Bool, true, false, not, ◌&&◌, List, [], ◌∷◌, ◌++◌, Option, Some, None, find, map, filter, reverse, refl, sym, ap, ap₂, subst, ◌∙◌, append-nil}
+use Rattle.std.proofs.Common.{◌≡◌, ℕ, Bool, true, not, ◌&&◌, List, [], ◌∷◌, ◌++◌, Option, Some, None, find, map, filter, refl, sym, ap, ap₂, subst, ◌∙◌}
 use Rattle.std.specs.Prelude.{if◌then◌else◌, is_some, option_map, unwrap_or}
-use Rattle.std.specs.List.{flat_map, list_all, list_any}
+use Rattle.std.specs.List.{flat_map, list_any}
 use Rattle.std.specs.Option.{option_map_or}
-use Rattle.std.proofs.lemmas.List.{reverse-reverse}
 use Rattle.std.proofs.lemmas.List.Elements.{All-head}
 use Rattle.sbat.specs.declared.component.Component.{Component}
 use Rattle.sbat.specs.Writing.{level_lines}
@@ -17,12 +16,12 @@ use Rattle.desk_texts.specs.declared.kind.ListedKind.{ListedKind}
 use Rattle.desk_texts.specs.declared.kind.ListedKind.TheVariants as kinds
 use Rattle.desk_texts.proofs.FormLemmas.{both}
 use Rattle.desk_history.specs.Called.{called}
-use Rattle.desk_history.specs.Calls.{First, History, Item, Rules, Second, distinct, is_first, is_same_kind, under}
+use Rattle.desk_history.specs.Calls.{First, History, Item, Rules, Second, distinct, is_same_kind, under}
 use Rattle.desk_history.specs.Forces.{confirmed_by, enforced_by, forced, into_force, nothing, revoked_in}
 use Rattle.desk_history.specs.Formed.{IsHistory, IsItem}
-use Rattle.desk_history.specs.Level.{generations, greatest, is_above, is_sbat, raises_some, stamp}
+use Rattle.desk_history.specs.Level.{generations, greatest, is_above, is_sbat, stamp}
 use Rattle.desk_history.specs.Listing.{listed, relisted}
-use Rattle.desk_history.specs.Proposals.{is_proposal, named_by, outcome_by, proposal, proposals, proposed_by, with_next}
+use Rattle.desk_history.specs.Proposals.{is_proposal, named_by, outcome_by, proposals, proposed_by, with_next}
 use Rattle.desk_history.specs.Replies.{minute_of, minutes, reply_to}
 use Rattle.desk_history.specs.Revocations.{revocations}
 use Rattle.desk_history.specs.Runs.{is_legal}
@@ -30,11 +29,11 @@ use Rattle.desk_history.specs.Tables.{level_rows}
 use Rattle.desk_history.specs.declared.rows.Minute.{Minute}
 use Rattle.desk_history.proofs.ClosingLemmas.{first_close_none}
 use Rattle.desk_history.proofs.FormedLemmas.{history_rest}
-use Rattle.desk_exports.specs.Exports.{db, dbx, exported, level, minutes_text}
+use Rattle.desk_exports.specs.Exports.{exported, minutes_text}
 use Rattle.desk_exports.specs.Orders.{ascending, ascending_by}
 use Rattle.desk_exports.specs.declared.export.Export.{Export}
 use Rattle.desk_exports.specs.declared.export.Export.TheVariants as exports
-use Rattle.desk_minutes.specs.Follows.{Follows, MinutesTellExports}
+use Rattle.desk_minutes.specs.Follows.{MinutesTellExports}
 use Rattle.desk_minutes.proofs.FollowLemmas.{same_call, same_minutes}
 
 -- ---- calls that put the same into force

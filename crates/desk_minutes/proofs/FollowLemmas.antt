@@ -1,8 +1,8 @@
 -- Histories, told by their minutes.
-use Rattle.std.proofs.Common.{◌≡◌, ◌≢◌, ◌⊎◌, inl, inr, ℕ, zero, suc, ◌+◌, ◌-◌, ◌<◌, ◌≤◌, ◌^◌, ◌∙◌, eqb, leb, Bool, true, false, not, ◌&&◌, List, [], ◌∷◌, ◌++◌, length, take, All, refl, sym, ap, ap₂, subst, append_assoc, append-nil, length-append, arith}
+use Rattle.std.proofs.Common.{◌≡◌, ◌≢◌, ◌⊎◌, inl, inr, ℕ, zero, suc, ◌+◌, ◌-◌, ◌<◌, ◌≤◌, ◌^◌, ◌∙◌, eqb, Bool, true, false, not, List, [], ◌∷◌, ◌++◌, length, take, All, refl, sym, ap, ap₂, subst, append_assoc, append-nil, length-append, arith}
 use Rattle.std.specs.Prelude.{codes, decimal, nat_le, reverse}
 use Rattle.std.specs.Io.{StopsAt}
-use Rattle.std.specs.List.{flat_map, list_all}
+use Rattle.std.specs.List.{flat_map}
 use Rattle.std.proofs.lemmas.Bool.{and_parts}
 use Rattle.std.proofs.lemmas.Bool.Decides.{nat_tests}
 use Rattle.std.proofs.lemmas.List.{reverse-append, reverse-reverse}
@@ -12,26 +12,23 @@ use Rattle.desk_texts.specs.Callers.{caller_name}
 use Rattle.desk_texts.specs.CommandTexts.{text_of}
 use Rattle.desk_texts.specs.Formed.{IsCall}
 use Rattle.desk_texts.specs.ReplyTexts.{reply_text_of}
-use Rattle.desk_texts.specs.declared.caller.Caller.{Caller}
 use Rattle.desk_texts.specs.declared.command.Call.{Call}
-use Rattle.desk_texts.specs.declared.command.Command.{Command}
 use Rattle.desk_texts.specs.declared.reply.Reply.{Reply}
 use Rattle.desk_texts.proofs.FieldLemmas.{free-append}
 use Rattle.desk_texts.proofs.FormLemmas.{both, joined}
 use Rattle.desk_texts.proofs.ReadingLemmas.{text_of-same}
 use Rattle.desk_texts.proofs.SpaceLemmas.{cut_once, cut_whole}
-use Rattle.desk_history.specs.Called.{called}
 use Rattle.desk_history.specs.Calls.{First, History, Item, Rules, Second, item, under}
 use Rattle.desk_history.specs.Formed.{IsHistory, IsItem, IsReadable}
 use Rattle.desk_history.specs.Limits.{most_calls}
-use Rattle.desk_history.specs.Replies.{minute, minute_of, minutes, reply_to}
-use Rattle.desk_history.specs.Runs.{answer, is_accepted, is_legal, ruling}
+use Rattle.desk_history.specs.Replies.{minute_of, minutes, reply_to}
+use Rattle.desk_history.specs.Runs.{is_accepted, is_legal, ruling}
 use Rattle.desk_history.specs.declared.rows.Minute.{Minute}
 use Rattle.desk_history.proofs.FormedLemmas.{history_rest, minutes_are_readable}
 use Rattle.desk_history.proofs.RunLemmas.{newest}
 use Rattle.desk_exports.specs.Exports.{minute_line, minutes_text}
 use Rattle.desk_minutes.specs.Fields.{is_without}
-use Rattle.desk_minutes.specs.Follows.{EndsLine, GoesThrough, HasNoNext, MinutesTellHistory, NoNextNoHistory, NoneGoesThrough, are_second, is_second}
+use Rattle.desk_minutes.specs.Follows.{EndsLine, MinutesTellHistory, NoNextNoHistory, are_second, is_second}
 use Rattle.desk_minutes.specs.Lines.{IsTold, line_with, minute_with}
 use Rattle.desk_minutes.proofs.LineLemmas.{call_same, lines_differ, told_body}
 

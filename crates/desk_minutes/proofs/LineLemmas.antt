@@ -1,8 +1,8 @@
 -- Lines of minutes, told apart.
-use Rattle.std.proofs.Common.{◌≡◌, ℕ, ◌<◌, ◌^◌, ◌∙◌, Bool, true, false, List, [], ◌∷◌, ◌++◌, Err, length, decimal, refl, sym, ap, append_assoc, append-nil, arith}
+use Rattle.std.proofs.Common.{◌≡◌, ℕ, ◌∙◌, true, false, List, [], ◌∷◌, ◌++◌, Err, length, decimal, refl, sym, ap, append_assoc, arith}
 use Rattle.std.specs.Prelude.{IsErrOf, bytes_eq, codes}
 use Rattle.sbat.specs.Fields.{decimal_of}
-use Rattle.desk_texts.specs.Callers.{caller_name, is_told_by_name}
+use Rattle.desk_texts.specs.Callers.{caller_name}
 use Rattle.desk_texts.specs.Commands.{IsCount}
 use Rattle.desk_texts.specs.CommandTexts.{text_of}
 use Rattle.desk_texts.specs.Forms.{is_between}
@@ -21,7 +21,7 @@ use Rattle.desk_history.specs.Called.{called}
 use Rattle.desk_history.proofs.CallerLemmas.{same_caller}
 use Rattle.desk_history.proofs.ListLemmas.{bytes_eq-refl}
 use Rattle.desk_minutes.specs.Fields.{AreFields, IsCallOf, is_without, spelt}
-use Rattle.desk_minutes.specs.Lines.{AreOneLine, IsTold, LinesDiffer, line_with}
+use Rattle.desk_minutes.specs.Lines.{IsTold, LinesDiffer, line_with}
 use Rattle.desk_minutes.proofs.PrintableLemmas.{is_printable, printable-caller, printable-command, printable-decimal, printable-reply}
 
 -- ---- a text that is split at a byte

@@ -1,5 +1,5 @@
 -- Texts of commands and replies have printable characters of ASCII alone.
-use Rattle.std.proofs.Common.{◌≡◌, ℕ, leb, Bool, true, false, ◌&&◌, ◌||◌, List, [], ◌∷◌, ◌++◌, Option, Some, None, map, All, decimal, refl, arith}
+use Rattle.std.proofs.Common.{◌≡◌, ℕ, Bool, true, ◌||◌, List, [], ◌∷◌, ◌++◌, Option, Some, None, map, All, decimal, refl, arith}
 use Rattle.std.specs.Prelude.{codes}
 use Rattle.std.specs.Char.{is_ascii_digit}
 use Rattle.std.specs.List.{join_with_byte, list_all}
@@ -9,7 +9,7 @@ use Rattle.hex.specs.Hex.{IsBytes, encode_lower}
 use Rattle.sbat.specs.declared.component.Component.{Component}
 use Rattle.sbat.specs.Fields.{is_name, is_name_byte}
 use Rattle.desk_texts.specs.Callers.{caller_name}
-use Rattle.desk_texts.specs.Commands.{AreCounts, IsCaller, IsCommand, IsComponent, IsCount, IsDigest, IsFacts, IsReply, IsStamp}
+use Rattle.desk_texts.specs.Commands.{IsCaller, IsCommand, IsComponent, IsCount, IsDigest, IsFacts, IsReply, IsStamp}
 use Rattle.desk_texts.specs.CommandTexts.{text_of}
 use Rattle.desk_texts.specs.Forms.{is_between}
 use Rattle.desk_texts.specs.Items.{component_text, components_text, digests_text, facts_text, list_text, stamp_text}

@@ -1,4 +1,4 @@
-use Rattle.std.proofs.Common.{◌≡◌, ◌≢◌, ℕ, List, [], ◌∷◌, ◌++◌, length, rules, sym, ap, ◌∙◌}
+use Rattle.std.proofs.Common.{◌≡◌, ◌≢◌, ℕ, List, [], ◌∷◌, ◌++◌, length, rules, ap, ◌∙◌}
 use Rattle.desk_texts.proofs.SpaceLemmas.{none_fact}
 use Rattle.desk_minutes.specs.Fields.{AreFields, spelt}
 use Rattle.desk_minutes.proofs.LineLemmas.{cut_same, fields_join, spelt-alone, uncut}

@@ -1,4 +1,4 @@
-use Rattle.std.proofs.Common.{◌≡◌, Err, ap, sym, ◌∙◌}
+use Rattle.std.proofs.Common.{Err, ap, sym, ◌∙◌}
 use Rattle.desk_minutes.proofs.LineLemmas.{call_is, fault_is, line_spelt, number_is, read_same, told_fields}
 use Rattle.desk_minutes.proofs.reading.read_minute.Goals as goal
 
