@@ -1,8 +1,9 @@
-//! One call of a desk, with a file that stops at each of its calls in turn.
+//! One call of a desk, with a file that stops at each of its calls in turn. Each stop is followed by
+//! three openings: of what was synced, of all that was written, and of a torn log.
 use super::asking::{answered, answers, exports, is_closed, parted};
 use super::disks::{
-    Goal, NEVER, Stopping, Stops, Which, after_crash, bytes_of, calls_to, close_connection, files,
-    new_desk, opened,
+    Goal, NEVER, Remains, Stopping, Stops, Which, are_alike, bytes_of, calls_to, close_connection,
+    files, new_desk, opened, release, reopened, what_remains,
 };
 use super::selects::all_rows;
 use super::*;
@@ -121,14 +122,44 @@ fn is_whole<S: Alter + Drop>(
     Some(goes_on(alloc, &mut desk, wanted, may_miss)? && has_rows(alloc, desk, wanted)?)
 }
 
-/// The same of a desk after a crash.
-fn outlives<D: Crash + Drop>(
+/// The same of the desk in these files.
+fn holds<D: Disk + Drop>(
     alloc: Global,
-    desk: Desk<FileStore<D>>,
+    files: Files<D>,
     wanted: &Wanted,
     may_miss: bool,
 ) -> Option<bool> {
-    is_whole(alloc, after_crash(alloc, desk)?, wanted, may_miss)
+    is_whole(alloc, opened(alloc, files).ok()?, wanted, may_miss)
+}
+
+/// The same of the desk in these files, once they lost what wasn't synced.
+fn outlives<D: Crash + Drop>(
+    alloc: Global,
+    files: Files<D>,
+    wanted: &Wanted,
+    may_miss: bool,
+) -> Option<bool> {
+    is_whole(alloc, reopened(alloc, files).ok()?, wanted, may_miss)
+}
+
+/// The same of the desk in each of these files; where all that was written is synced, there is one.
+fn outlives_each<D: Stopping>(
+    alloc: Global,
+    left: Remains<D>,
+    wanted: &Wanted,
+    may_miss: bool,
+) -> Option<bool> {
+    let Remains {
+        synced,
+        written,
+        torn,
+    } = left;
+    if !are_alike(&written, &synced)
+        && !(holds(alloc, written, wanted, may_miss)? && holds(alloc, torn, wanted, may_miss)?)
+    {
+        return Some(false);
+    }
+    outlives(alloc, synced, wanted, may_miss)
 }
 
 /// The desk once it was given the call, and whether that was answered as without a stop.
@@ -141,15 +172,12 @@ fn ask<S: Alter + Drop>(
     Some((desk, is_answered))
 }
 
-/// The outcome of the call at this desk; `None` if the desk that is opened after a crash isn't as
-/// it should be.
-fn outcome<D: Crash + Drop>(
-    alloc: Global,
-    desk: Desk<FileStore<D>>,
-    wanted: &Wanted,
-) -> Option<Ended> {
+/// The outcome of the call at this desk; `None` if a desk that is opened after a stop isn't as it
+/// should be.
+fn outcome<D: Stopping>(alloc: Global, desk: Desk<FileStore<D>>, wanted: &Wanted) -> Option<Ended> {
     let (desk, is_answered) = ask(alloc, desk, wanted)?;
-    if !outlives(alloc, desk, wanted, !is_answered)? {
+    let left = what_remains(alloc, release(desk))?;
+    if !outlives_each(alloc, left, wanted, !is_answered)? {
         return None;
     }
     Some(if is_answered {
@@ -160,7 +188,7 @@ fn outcome<D: Crash + Drop>(
 }
 
 /// The same over the files.
-fn tried<D: Crash + Drop>(alloc: Global, files: Files<D>, wanted: &Wanted) -> Option<Ended> {
+fn tried<D: Stopping>(alloc: Global, files: Files<D>, wanted: &Wanted) -> Option<Ended> {
     match opened(alloc, files) {
         Ok(desk) => outcome(alloc, desk, wanted),
         Err(_) => Some(Ended::Unopened),

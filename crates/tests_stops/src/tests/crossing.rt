@@ -1,9 +1,10 @@
 //! A series of lives of one desk that cross the change of version: openings of version 1 that are
-//! stopped, and lives of version 2.
+//! stopped, and lives of version 2. After a stop the files have what was synced, all that was
+//! written, or a torn log, in turn.
 use super::asking::if_it_bars;
 use super::disks::{
-    Goal, NEVER, Stopping, Stops, Which, bytes_of, calls_to, close, crashed, files, release,
-    reopened, with_stops,
+    Goal, Left, NEVER, Stopping, Stops, Which, after_opening, bytes_of, calls_to, close, connected,
+    files, reopened, what_remains, with_stops,
 };
 use super::first_version::first_file;
 use super::lives::{outlived, whole};
@@ -20,19 +21,30 @@ ann a3 submit shim 160 160 0 0 : submitted 1 => olga b3 import-digests 301 : pro
 /// An image whose digest was imported in the life of version 1.
 const REVOKED: &str = "digest 0 160 0 0";
 
-/// The files after an opening of their desk that stops so, and whether it was stopped; `None` if it
-/// is refused for another reason.
-fn after_opening<D: Stopping>(
+/// What a stop leaves of the files after an opening of their desk that stops so, and whether it was
+/// opened; `None` if it is refused for another reason.
+fn left_by<D: Stopping>(
     alloc: Global,
-    left: Files<D>,
+    before: Files<D>,
     stops: Stops,
+    left: Left,
 ) -> Option<(bool, Files<D>)> {
-    let next = with_stops(alloc, &left, stops)?;
-    match reopened(alloc, next) {
-        Ok(desk) => Some((false, crashed(release(desk)))),
-        Err((Refusal::Store, Some(files))) => Some((true, files)),
-        Err((Refusal::Store, None)) => Some((true, left)),
-        Err(_) => None,
+    let next = with_stops(alloc, &before, stops)?;
+    match connected(alloc, next) {
+        Ok(conn) => {
+            let (is_opened, files) = after_opening(alloc, conn)?;
+            Some((is_opened, what_remains(alloc, files)?.take(left)))
+        }
+        Err(_) => Some((false, before)),
+    }
+}
+
+/// What the stop of an opening leaves, in turn.
+fn left_after(calls: u64) -> Left {
+    match calls % 3 {
+        0 => Left::Synced,
+        1 => Left::Written,
+        _ => Left::Torn,
     }
 }
 
@@ -42,8 +54,9 @@ fn after_opening<D: Stopping>(
 fn after_openings<D: Stopping>(alloc: Global, bytes: &[u8], which: Which) -> Option<Files<D>> {
     let mut left: Files<D> = files(alloc, bytes, NEVER)?;
     for calls in calls_to::<D>(alloc, bytes, which, Goal::Connection)?..100_000 {
-        let (is_stopped, next) = after_opening(alloc, left, Stops::at(which, calls))?;
-        if !is_stopped {
+        let stops = Stops::at(which, calls);
+        let (is_opened, next) = left_by(alloc, left, stops, left_after(calls))?;
+        if is_opened {
             return Some(next);
         }
         left = next;

@@ -116,7 +116,7 @@ pub(super) fn open<S: Alter + Drop>(
 }
 
 /// A new desk in the connection's store, or the refusal and the connection.
-fn make<S: Alter + Drop>(
+pub(super) fn make<S: Alter + Drop>(
     alloc: Global,
     conn: Connection<S>,
 ) -> Result<Desk<S>, (Refusal, Connection<S>)> {
@@ -145,6 +145,19 @@ fn founded<D: Disk + Drop>(
     match make(alloc, conn) {
         Ok(desk) => Ok(desk),
         Err((_, conn)) => Err(files_of(conn)),
+    }
+}
+
+/// The files after the desk of the connection was opened, and whether it was; `None` if it is
+/// refused for another reason than a stop.
+pub(super) fn after_opening<D: Disk + Drop>(
+    alloc: Global,
+    conn: Connection<FileStore<D>>,
+) -> Option<(bool, Files<D>)> {
+    match open(alloc, conn) {
+        Ok(desk) => Some((true, release(desk))),
+        Err((Refusal::Store, conn)) => Some((false, files_of(conn))),
+        Err(_) => None,
     }
 }
 
@@ -206,6 +219,83 @@ pub(super) fn crashed<D: Crash>(files: Files<D>) -> Files<D> {
     log.crash();
     db.crash();
     Files { log, db }
+}
+
+/// The files as a stop may leave them.
+#[derive(Drop)]
+pub(super) struct Remains<D: Disk + Drop> {
+    /// Without what wasn't synced.
+    pub(super) synced: Files<D>,
+    /// With every write before the stop.
+    pub(super) written: Files<D>,
+    /// Without what wasn't synced, but for a part of what was written to the log.
+    pub(super) torn: Files<D>,
+}
+
+/// Which of them.
+#[derive(Clone, Copy)]
+pub(super) enum Left {
+    Synced,
+    Written,
+    Torn,
+}
+
+impl<D: Disk + Drop> Remains<D> {
+    /// Those files.
+    pub(super) fn take(self, left: Left) -> Files<D> {
+        let Remains {
+            synced,
+            written,
+            torn,
+        } = self;
+        match left {
+            Left::Synced => synced,
+            Left::Written => written,
+            Left::Torn => torn,
+        }
+    }
+}
+
+/// Whether both have the same bytes.
+pub(super) fn are_alike<D: Stopping>(these: &Files<D>, those: &Files<D>) -> bool {
+    these.log.bytes() == those.log.bytes() && these.db.bytes() == those.db.bytes()
+}
+
+/// The number of bytes with which both begin.
+fn common(these: &[u8], those: &[u8]) -> usize {
+    these
+        .iter()
+        .zip(those.iter())
+        .take_while(|(this, that)| this == that)
+        .count()
+}
+
+/// A log with these bytes synced, into which half of the others came, as far as they differ. The
+/// log is written from its beginning to its end.
+fn torn(alloc: Global, synced: &[u8], written: &[u8]) -> Option<Vec<u8>> {
+    let same = common(synced, written);
+    let half = same.saturating_add(written.len().saturating_sub(same) / 2);
+    let mut bytes = Vec::from_slice(alloc, written.get(..half)?).ok()?;
+    bytes
+        .extend_from_slice(synced.get(half..).unwrap_or(b""))
+        .ok()?;
+    Some(bytes)
+}
+
+/// What a stop may leave of the files. None of them stops again.
+pub(super) fn what_remains<D: Stopping>(alloc: Global, files: Files<D>) -> Option<Remains<D>> {
+    let written = with_stops(alloc, &files, NEVER)?;
+    let synced = crashed(files);
+    let log = torn(alloc, synced.log.bytes(), written.log.bytes())?;
+    let torn = Files {
+        log: D::with(alloc, log.as_slice(), u64::MAX)?,
+        db: D::with(alloc, synced.db.bytes(), u64::MAX)?,
+    };
+    Some(Remains {
+        synced,
+        written,
+        torn,
+    })
 }
 
 /// The bytes of a new desk's file.

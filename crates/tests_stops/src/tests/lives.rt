@@ -1,8 +1,9 @@
-//! Ten lives of a desk; in each one call is answered Ok and the next is stopped.
+//! Ten lives of a desk; in each one call is answered Ok and the next is stopped. In every other life
+//! that one is answered Store and yet stands.
 use super::asking::{bars, does, does_each, exports, is_barred, is_closed, parted};
 use super::disks::{
-    Goal, NEVER, Stopping, Stops, Which, after_crash, bytes_of, calls_to, close, files, made,
-    opened,
+    Goal, Left, NEVER, Stopping, Stops, Which, after_crash, bytes_of, calls_to, close, files, made,
+    opened, release, what_remains,
 };
 use super::losing::{add_officer, done};
 use super::*;
@@ -25,6 +26,34 @@ POST /db/digests HTTP/1.1|Desk-Token: olga-token-000005|Desk-Key: a6|Content-Len
 POST /dbx/certificates HTTP/1.1|Desk-Token: olga-token-000005|Desk-Key: a7|Content-Length: 77||{"digest":"3737373737373737373737373737373737373737373737373737373737373737"} == olga a7 revoke-certificate 55 : proposed 7 => console b7 add ann submitter 9 : added ann
 POST /db/unlist HTTP/1.1|Desk-Token: olga-token-000005|Desk-Key: a8|Content-Length: 93||{"digest":"3636363636363636363636363636363636363636363636363636363636363636","kind":"digest"} == olga a8 unlist 54 : unlisted => ann b8 submit shim 160 160 0 0 : submitted 1
 POST /proposals/7/confirm HTTP/1.1|Desk-Token: otto-token-000006|Desk-Key: a9|Content-Length: 0|| == otto a9 confirm 7 : confirmed 7 0 1 0 0 => rita b9 yes 1 : reviewed 1 open"#;
+
+/// The minutes after all lives: of each call its number, caller, key and reply.
+const MINUTES: &str = "\
+1 console olga added olga
+2 console otto added otto
+3 olga o1 listed
+4 olga o2 proposed 1
+5 otto a0 confirmed 1 0 1 0 0
+6 olga b0 proposed 2
+7 olga a1 proposed 3
+8 otto b1 confirmed 2 1 0 0 0
+9 otto a2 confirmed 3 0 0 1 0
+10 olga b2 listed
+11 olga a3 unlisted
+12 olga b3 proposed 4
+13 olga a4 proposed 5
+14 otto b4 confirmed 4 40 0 0 0
+15 otto a5 dropped 5
+16 olga b5 proposed 6
+17 olga a6 listed
+18 console b6 added rita
+19 olga a7 proposed 7
+20 console b7 added ann
+21 olga a8 unlisted
+22 ann b8 submitted 1
+23 otto a9 confirmed 7 0 1 0 0
+24 rita b9 reviewed 1 open
+";
 
 /// A life: the request whose response is lost, if there is one; the call that is answered Ok, with
 /// its answer; and the call that is stopped, with the answer that it must get.
@@ -122,16 +151,31 @@ fn if_it_goes_on<S: Alter + Drop>(
     }
 }
 
-/// The files after a life over these files. The desk that is opened after it bars the image and
-/// gives both calls their answers.
-fn after<D: Crash + Drop>(
+/// The desk that is opened in what a stop leaves of the files of this one.
+fn after_stop<D: Stopping>(
+    alloc: Global,
+    desk: Desk<FileStore<D>>,
+    left: Left,
+) -> Option<Desk<FileStore<D>>> {
+    match left {
+        Left::Synced => after_crash(alloc, desk),
+        Left::Written | Left::Torn => {
+            opened(alloc, what_remains(alloc, release(desk))?.take(left)).ok()
+        }
+    }
+}
+
+/// The files after a life over these files, of which the stop leaves this. The desk that is opened
+/// after it bars the image and gives both calls their answers.
+fn after<D: Stopping>(
     alloc: Global,
     files: Files<D>,
+    left: Left,
     life: Life<'_>,
     barred: &str,
 ) -> Option<Files<D>> {
     let stopped = live_on(alloc, opened(alloc, files).ok()?, life)?;
-    let desk = after_crash(alloc, stopped)?;
+    let desk = after_stop(alloc, stopped, left)?;
     close(if_it_goes_on(alloc, desk, life, barred)?)
 }
 
@@ -144,8 +188,88 @@ fn holds<D: Stopping>(alloc: Global, bytes: &[u8], barred: &str) -> Option<bool>
     }
 }
 
-/// The database file after a life, in which one of the two files stops at its next call once the
-/// first call of the desk is answered. The desk that is opened in it bars the image.
+/// The minutes of the desk, which is then dropped.
+fn minutes<S: Alter + Drop>(alloc: Global, mut desk: Desk<S>) -> Option<Vec<u8>> {
+    let mut bytes = Vec::new(alloc);
+    desk.export(Export::Minutes, &mut bytes).ok()?;
+    Some(bytes)
+}
+
+/// The number of calls in the minutes of the desk in these files.
+fn calls_in<D: Disk + Drop>(alloc: Global, files: Files<D>) -> Option<usize> {
+    let text = minutes(alloc, opened(alloc, files).ok()?)?;
+    Some(text.iter().filter(|byte| **byte == b'\n').count())
+}
+
+/// The number of calls in all that was written of a life over these files. `None` if no call of it
+/// is stopped.
+fn calls_written<D: Stopping>(alloc: Global, files: Files<D>, life: Life<'_>) -> Option<usize> {
+    let stopped = live_on(alloc, opened(alloc, files).ok()?, life)?;
+    calls_in(alloc, what_remains(alloc, release(stopped))?.written)
+}
+
+/// The least number of the log's calls, from this one on, with which the life's second call is
+/// stopped and yet is written.
+fn calls_to_write<D: Stopping>(
+    alloc: Global,
+    bytes: &[u8],
+    from: u64,
+    life: Life<'_>,
+) -> Option<u64> {
+    let whole: Files<D> = files(alloc, bytes, NEVER)?;
+    let both = calls_in(alloc, whole)?.saturating_add(2);
+    for calls in from..100_000 {
+        let stopping: Files<D> = files(alloc, bytes, Stops::at(Which::Log, calls))?;
+        if calls_written(alloc, stopping, life)? == both {
+            return Some(calls);
+        }
+    }
+    None
+}
+
+/// After how many of its calls the file stops in this life: the database file at the next one once
+/// the first call of the desk is answered, the log once the second one is written, but not synced.
+fn calls_of<D: Stopping>(alloc: Global, bytes: &[u8], which: Which, life: Life<'_>) -> Option<u64> {
+    let goal = Goal::Call {
+        request: life.request,
+        told: life.first,
+    };
+    let calls = calls_to::<D>(alloc, bytes, which, goal)?;
+    match which {
+        Which::Log => calls_to_write::<D>(alloc, bytes, calls, life),
+        Which::Db => Some(calls),
+    }
+}
+
+/// What the next life begins with: after a stop of the log the call that was answered Store stands.
+fn goes_on_with(which: Which) -> Left {
+    match which {
+        Which::Log => Left::Written,
+        Which::Db => Left::Synced,
+    }
+}
+
+/// The database file after a life, in which one of the two files stops after so many calls, and of
+/// which this is left. The desk that is opened in it bars the image.
+fn lived<D: Stopping>(
+    alloc: Global,
+    bytes: &[u8],
+    stops: Stops,
+    left: Left,
+    life: Life<'_>,
+    barred: &str,
+) -> Option<Vec<u8>> {
+    let stopping: Files<D> = files(alloc, bytes, stops)?;
+    let bytes = bytes_of(alloc, &after(alloc, stopping, left, life, barred)?)?;
+    if holds::<D>(alloc, bytes.as_slice(), barred)? {
+        Some(bytes)
+    } else {
+        None
+    }
+}
+
+/// The database file after a life, in which one of the two files stops. Whatever is left of them,
+/// the desk that is opened in it bars the image and gives both calls their answers.
 pub(super) fn outlived<D: Stopping>(
     alloc: Global,
     bytes: &[u8],
@@ -154,19 +278,11 @@ pub(super) fn outlived<D: Stopping>(
     barred: &str,
 ) -> Option<Vec<u8>> {
     let life = Life::read(line);
-    let goal = Goal::Call {
-        request: life.request,
-        told: life.first,
-    };
-    let calls = calls_to::<D>(alloc, bytes, which, goal)?;
-    let stopping: Files<D> = files(alloc, bytes, Stops::at(which, calls))?;
-    let left = after(alloc, stopping, life, barred)?;
-    let bytes = bytes_of(alloc, &left)?;
-    if holds::<D>(alloc, bytes.as_slice(), barred)? {
-        Some(bytes)
-    } else {
-        None
+    let stops = Stops::at(which, calls_of::<D>(alloc, bytes, which, life)?);
+    for left in [Left::Synced, Left::Written, Left::Torn] {
+        lived::<D>(alloc, bytes, stops, left, life, barred)?;
     }
+    lived::<D>(alloc, bytes, stops, goes_on_with(which), life, barred)
 }
 
 /// Gives the desk the calls of all lives.
@@ -210,8 +326,32 @@ fn other(which: Which) -> Which {
     }
 }
 
+/// A line of the minutes without the command's text: the number, the caller, the key and the reply.
+fn without_text(alloc: Global, line: &str) -> Option<String> {
+    let (number, rest) = line.split_once("\t")?;
+    let (caller, rest) = rest.split_once("\t")?;
+    let (key, rest) = rest.split_once("\t")?;
+    let (_, reply) = rest.split_once("\t")?;
+    let mut told = String::new(alloc);
+    for part in [number, " ", caller, " ", key, " ", reply, "\n"] {
+        told.push_str(part).ok()?;
+    }
+    Some(told)
+}
+
+/// The lines of the minutes of the desk in this file, without the texts.
+fn told<D: Stopping>(alloc: Global, bytes: &[u8]) -> Option<String> {
+    let whole: Files<D> = files(alloc, bytes, NEVER)?;
+    let text = minutes(alloc, opened(alloc, whole).ok()?)?;
+    let mut told = String::new(alloc);
+    for line in str::from_utf8(text.as_slice()).ok()?.lines() {
+        told.push_str(without_text(alloc, line)?.as_str()).ok()?;
+    }
+    Some(told)
+}
+
 /// Lives all lives, in which the log and the database file stop in turn, and compares the exports
-/// at their end.
+/// at their end, and the minutes.
 fn live<D: Stopping>(alloc: Global) -> Result<(), Fail> {
     let mut bytes = before_lives::<D>(alloc).ok_or("a desk before its lives")?;
     let wanted = whole::<D>(alloc, bytes.as_slice(), LIVES).ok_or("a desk without a stop")?;
@@ -222,6 +362,13 @@ fn live<D: Stopping>(alloc: Global) -> Result<(), Fail> {
     }
     if whole::<D>(alloc, bytes.as_slice(), "").ok_or("exports")? != wanted {
         return Err("each call once, in order")?;
+    }
+    if told::<D>(alloc, bytes.as_slice())
+        .ok_or("minutes")?
+        .as_str()
+        != MINUTES
+    {
+        return Err("the minutes")?;
     }
     Ok(())
 }

@@ -1,29 +1,58 @@
 //! The making of a desk, with a file that stops at each of its calls in turn.
 use super::asking::exports_these;
-use super::disks::{Stopping, Stops, Which, after_crash, crashed, files, made, opened};
+use super::disks::{
+    Remains, Stopping, Stops, Which, after_crash, connected, files, made, make, open, what_remains,
+};
 use super::*;
 
-/// The desk of the files of a machine that stopped while one was made: the one in them, or else a
-/// new one.
-fn at_last<D: Crash + Drop>(alloc: Global, files: Files<D>) -> Option<Desk<FileStore<D>>> {
-    match opened(alloc, crashed(files)) {
-        Ok(desk) => Some(desk),
-        Err(files) => made(alloc, files).ok(),
+/// The connection of a desk beside which no other can be made.
+fn refuses_another<S: Alter + Drop>(alloc: Global, desk: Desk<S>) -> Option<Connection<S>> {
+    match make(alloc, desk.release()) {
+        Err((Refusal::Exists, conn)) => Some(conn),
+        Ok(_) | Err(_) => None,
     }
 }
 
-/// Whether a desk is made in the files at once. After a crash it is there; otherwise there is one
-/// or none, and then one is made. It exports the level of a new desk, and nothing else.
-fn is_made<D: Crash + Drop>(alloc: Global, files: Files<D>) -> Option<bool> {
-    let (is_whole, desk) = match made(alloc, files) {
-        Ok(desk) => (true, after_crash(alloc, desk)?),
-        Err(files) => (false, at_last(alloc, files)?),
-    };
-    if exports_these(alloc, desk, NEW_LEVEL)? {
-        Some(is_whole)
-    } else {
-        None
+/// The desk in the files of a machine that stopped while one was made, beside which no other can be
+/// made; where they hold none, a new one.
+fn at_last<S: Alter + Drop>(alloc: Global, conn: Connection<S>) -> Option<Desk<S>> {
+    match open(alloc, conn) {
+        Ok(desk) => open(alloc, refuses_another(alloc, desk)?).ok(),
+        Err((Refusal::NotADesk, conn)) => make(alloc, conn).ok(),
+        Err(_) => None,
     }
+}
+
+/// Whether that desk exports the level of a new desk, and nothing else.
+fn is_new<D: Disk + Drop>(alloc: Global, files: Files<D>) -> Option<bool> {
+    let desk = at_last(alloc, connected(alloc, files).ok()?)?;
+    exports_these(alloc, desk, NEW_LEVEL)
+}
+
+/// Whether it does in each of these files.
+fn are_new<D: Disk + Drop>(alloc: Global, left: Remains<D>) -> Option<bool> {
+    let Remains {
+        synced,
+        written,
+        torn,
+    } = left;
+    Some(is_new(alloc, synced)? && is_new(alloc, written)? && is_new(alloc, torn)?)
+}
+
+/// Whether a desk that was made is there after a stop, and none can be made beside it.
+fn stays<D: Crash + Drop>(alloc: Global, desk: Desk<FileStore<D>>) -> Option<bool> {
+    let conn = refuses_another(alloc, after_crash(alloc, desk)?)?;
+    exports_these(alloc, open(alloc, conn).ok()?, NEW_LEVEL)
+}
+
+/// Whether a desk is made in the files at once. After a stop it is there; otherwise there is one or
+/// none, and then one is made.
+fn is_made<D: Stopping>(alloc: Global, files: Files<D>) -> Option<bool> {
+    let (is_whole, is_right) = match made(alloc, files) {
+        Ok(desk) => (true, stays(alloc, desk)?),
+        Err(files) => (false, are_new(alloc, what_remains(alloc, files)?)?),
+    };
+    if is_right { Some(is_whole) } else { None }
 }
 
 /// How often a desk wasn't made at once if the file stops after 0, 1, 2 .. calls, until it was made

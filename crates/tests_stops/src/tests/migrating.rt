@@ -2,8 +2,9 @@
 //! and stops within the opening.
 use super::asking::{does_each, exports, exports_these};
 use super::disks::{
-    Goal, NEVER, Stopping, Stops, Which, bytes_of, calls_to, close, close_connection, connected,
-    crashed, files, files_of, open, opened, release, reopened,
+    Goal, NEVER, Remains, Stopping, Stops, Which, after_opening, are_alike, bytes_of, calls_to,
+    close, close_connection, connected, files, files_of, open, opened, release, reopened,
+    what_remains,
 };
 use super::first_version::{first_exports, first_file};
 use super::selects::{ADDED, TABLES, VERSION, after_text, rows_of, selected};
@@ -121,24 +122,45 @@ fn left<D: Crash + Drop>(alloc: Global, files: Files<D>, original: &Original) ->
     }
 }
 
+/// The versions that a stop left in each of these files: what was synced, all that was written, and
+/// a torn log.
+fn left_in_each<D: Crash + Drop>(
+    alloc: Global,
+    remains: Remains<D>,
+    original: &Original,
+) -> Option<[u64; 3]> {
+    let Remains {
+        synced,
+        written,
+        torn,
+    } = remains;
+    Some([
+        left(alloc, synced, original)?,
+        left(alloc, written, original)?,
+        left(alloc, torn, original)?,
+    ])
+}
+
 /// The end of an opening of a desk in files one of which stops.
 #[derive(Drop)]
 enum Ended {
-    /// The desk wasn't opened, and a stop leaves this version.
-    Stopped(u64),
+    /// The desk wasn't opened, and a stop leaves one of these versions.
+    Stopped([u64; 3]),
     /// It was.
     Opened,
 }
 
 /// How the opening of the desk in these files ends; `None` if it doesn't end as it should.
-fn ending<D: Crash + Drop>(alloc: Global, files: Files<D>, original: &Original) -> Option<Ended> {
-    match reopened(alloc, files) {
-        Ok(desk) => match left(alloc, crashed(release(desk)), original)? {
-            2 => Some(Ended::Opened),
-            _ => None,
-        },
-        Err((Refusal::Store, Some(files))) => Some(Ended::Stopped(left(alloc, files, original)?)),
-        Err(_) => None,
+fn ending<D: Stopping>(alloc: Global, files: Files<D>, original: &Original) -> Option<Ended> {
+    let (is_opened, after) = after_opening(alloc, connected(alloc, files).ok()?)?;
+    let versions = left_in_each(alloc, what_remains(alloc, after)?, original)?;
+    if !is_opened {
+        return Some(Ended::Stopped(versions));
+    }
+    if versions == [2, 2, 2] {
+        Some(Ended::Opened)
+    } else {
+        None
     }
 }
 
@@ -172,7 +194,11 @@ fn stopped<D: Stopping>(alloc: Global, original: &Original, which: Which) -> Opt
     for calls in calls_to::<D>(alloc, bytes, which, Goal::Connection)?..100_000 {
         let stopping: Files<D> = files(alloc, bytes, Stops::at(which, calls))?;
         match ending(alloc, stopping, original)? {
-            Ended::Stopped(version) => counts.add(version),
+            Ended::Stopped(versions) => {
+                for version in versions {
+                    counts.add(version);
+                }
+            }
             Ended::Opened => opened = opened.saturating_add(1),
         }
         if opened == 64 {
@@ -203,11 +229,6 @@ fn a_stopped_opening_leaves_version_1_or_2(rt: HostRuntime) -> Result<(), Fail> 
 fn goes_on<S: Alter + Drop>(alloc: Global, mut desk: Desk<S>, wanted: &[u8]) -> Option<bool> {
     let exported = exports(alloc, &mut desk)?;
     Some(exported.as_slice() == wanted && does_each(alloc, &mut desk, ASKED)?)
-}
-
-/// Whether both have the same bytes.
-fn are_alike<D: Stopping>(these: &Files<D>, those: &Files<D>) -> bool {
-    these.log.bytes() == those.log.bytes() && these.db.bytes() == those.db.bytes()
 }
 
 /// The files of this file, connected to and released.
