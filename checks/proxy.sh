@@ -10,7 +10,8 @@
 # nothing is kept; other methods; a body that is too long; a flood from one address; too many
 # requests for signatures by one token; a call while the desk is stopped, which is repeated with its
 # key once it serves again. Then the site of packaging/nginx-certificates.conf: two people with
-# certificates, a forged token, a person taken out of the list, one revoked. The log has each request
+# certificates, a forged token, a person taken out of the list, one revoked, whose TLS session from
+# before doesn't help, nor where another site of the same port keeps it. The log has each request
 # and no token. Each run of the program, of curl and of nginx ends after a stated time. Not part of
 # the gate: it needs curl, openssl and python3, and nginx or the network to get it.
 set -eu
@@ -18,12 +19,14 @@ set -eu
 needs curl openssl python3
 find_program "$@"
 enter_room
-# Two ports at which nobody listens now.
+# Three ports at which nobody listens now: the desk's, the proxy's, that of people with certificates.
 port=$(some_port)
-tls=$(some_port)
-while [ "$tls" -eq "$port" ] || grep -q ":$(printf '%04X' "$port") \|:$(printf '%04X' "$tls") " /proc/net/tcp; do
+tls=$((port + 1))
+own=$((port + 2))
+while grep -q "$(printf ':%04X \\|:%04X \\|:%04X ' "$port" "$tls" "$own")" /proc/net/tcp; do
     port=$(some_port)
-    tls=$(some_port)
+    tls=$((port + 1))
+    own=$((port + 2))
 done
 site=desk.example.org
 base=https://$site:$tls
@@ -420,15 +423,15 @@ people_are() {
     for person in "$@"; do printf '"~^\\QCN=%s,O=Example\\E$" "%s";\n' "${person%%/*}" "${person#*/}"; done > list
 }
 people_are "olga/$(token_of olga)" "otto/$(token_of otto)"
-sed "s|listen 443 ssl;|listen 127.0.0.1:$tls ssl;|
-     /listen \[::\]:443 ssl;/d
+sed "s|listen 8443 ssl;|listen 127.0.0.1:$own ssl;|
+     /listen \[::\]:8443 ssl;/d
      s|/etc/nginx/kovelamiru-desk.people|$room/list|
      s|/etc/ssl/certs/$people.pem|$room/people.pem|
      s|/etc/ssl/private/$people.key|$room/people.key|
      s|/etc/ssl/certs/kovelamiru-desk-people.pem|$room/ca.pem|
      s|/etc/ssl/certs/kovelamiru-desk-people.crl|$room/ca.crl|
-     s|/var/log/nginx/|$room/|" "$root/packaging/nginx-certificates.conf" > site-certificates.conf
-[ "$(grep -c "$room/" site-certificates.conf)" -eq 6 ] || fail 'packaging/nginx-certificates.conf has other files than this check knows'
+     s|/var/log/nginx/|$room/|" "$root/packaging/nginx-certificates.conf" > site.people.conf
+[ "$(grep -c "$room/" site.people.conf)" -eq 6 ] || fail 'packaging/nginx-certificates.conf has other files than this check knows'
 "$nginx" -t -q -p "$room/" -e "$room/error.log" -c nginx.conf 2> said || fail "nginx -t: $(cat said)"
 serve_again 100000
 
@@ -436,14 +439,14 @@ serve_again 100000
 shows() {
     who=$1 path=$2
     shift 2
-    curl -sS --no-progress-meter --max-time 60 --cacert people.pem --resolve "$people:$tls:127.0.0.1" --cert "$who.pem" --key "$who.key" \
-        -o body -w '%{http_code}' "$@" "https://$people:$tls$path" > said 2> curl.err || fail "$path: $(cat curl.err)"
+    curl -sS --no-progress-meter --max-time 60 --cacert people.pem --resolve "$people:$own:127.0.0.1" --cert "$who.pem" --key "$who.key" \
+        -o body -w '%{http_code}' "$@" "https://$people:$own$path" > said 2> curl.err || fail "$path: $(cat curl.err)"
     requests=$((requests + 1))
 }
 # shown STATUS NAME: the level, with this certificate, is answered so.
 shown() {
-    curl -sS --no-progress-meter --max-time 60 --cacert people.pem --resolve "$people:$tls:127.0.0.1" --cert "$2.pem" --key "$2.key" \
-        -o body -w '%{http_code}' "https://$people:$tls/level" > said 2> curl.err || cat curl.err >> said
+    curl -sS --no-progress-meter --max-time 60 --cacert people.pem --resolve "$people:$own:127.0.0.1" --cert "$2.pem" --key "$2.key" \
+        -o body -w '%{http_code}' "https://$people:$own/level" > said 2> curl.err || cat curl.err >> said
     requests=$((requests + 1))
     [ "$(cat said)" = "$1" ]
 }
@@ -467,8 +470,8 @@ shown 200 otto || fail "otto with his certificate: $(cat said)"
 shown 403 stan || fail "a certificate that isn't in the list: $(cat said)"
 shown 400 forger || fail "a certificate of another authority: $(cat said)"
 before=$(kept)
-curl -sS --no-progress-meter --max-time 60 --cacert people.pem --resolve "$people:$tls:127.0.0.1" -o body -w '%{http_code}' -H 'Expect:' \
-    -H "Desk-Token: $(token_of olga)" --data-binary @longer "https://$people:$tls/verdict" > said 2> curl.err || fail "$(cat curl.err)"
+curl -sS --no-progress-meter --max-time 60 --cacert people.pem --resolve "$people:$own:127.0.0.1" -o body -w '%{http_code}' -H 'Expect:' \
+    -H "Desk-Token: $(token_of olga)" --data-binary @longer "https://$people:$own/verdict" > said 2> curl.err || fail "$(cat curl.err)"
 [ "$(cat said)" = 400 ] || fail "no certificate, a token: $(cat said)"
 shows stan /verdict -H 'Expect:' --data-binary @longer
 [ "$(cat said)" = 403 ] || fail "a long body of somebody who isn't in the list: $(cat said)"
@@ -497,24 +500,40 @@ people_are "olga/$(cat olga-2.token)"
 reread 'otto, taken out of the list' 403 otto
 people_are "olga/$(cat olga-2.token)" "otto/$(token_of otto)"
 reread 'otto, in the list again' 200 otto
-# A session of TLS from before the revocation doesn't help either: curl keeps none between runs.
+# session STATUS NAME VERSION PORT WORD..: the level in this version of TLS, with a session that is kept
+# or taken up, is answered so. (curl keeps none between its runs.)
+session() {
+    status=$1 who=$2 version=$3 at=$4
+    shift 4
+    {
+        printf 'GET /level HTTP/1.1\r\nHost: %s\r\nConnection: close\r\n\r\n' "$people"
+        sleep 2
+    } | timeout 20 openssl s_client -quiet -"$version" -connect "127.0.0.1:$at" -servername "$people" -CAfile people.pem \
+        -cert "$who.pem" -key "$who.key" "$@" > session.said 2> openssl.err || :
+    grep -q "^HTTP/1.1 $status" session.said || fail "$who by $version: $(head -c 300 session.said) $(cat openssl.err)"
+    requests=$((requests + 1))
+}
+# kept_session VERSION: a session of this version was kept; before TLS 1.3 that takes a number that nginx gives.
+kept_session() { [ -s "session.$1" ] || [ "$1" = tls1_2 ]; }
 for version in tls1_2 tls1_3; do
-    printf 'GET /level HTTP/1.1\r\nHost: %s\r\nConnection: close\r\n\r\n' "$people" | timeout 20 openssl s_client -quiet -"$version" \
-        -connect "127.0.0.1:$tls" -servername "$people" -CAfile people.pem -cert otto.pem -key otto.key -sess_out "session.$version" \
-        > "session.said" 2> openssl.err || :
-    grep -q '^HTTP/1.1 200' session.said || fail "otto by $version: $(cat session.said openssl.err)"
+    session 200 otto "$version" "$own" -sess_out "session.$version"
+    kept_session "$version" || fail "no session of $version"
 done
 openssl_ ca -config ca.conf -revoke otto.pem
 openssl_ ca -config ca.conf -gencrl -out ca.crl
 reread 'otto, revoked' 400 otto
 shown 200 olga || fail "olga after otto's revocation: $(cat said)"
 for version in tls1_2 tls1_3; do
-    [ -s "session.$version" ] || continue
-    printf 'GET /level HTTP/1.1\r\nHost: %s\r\nConnection: close\r\n\r\n' "$people" | timeout 20 openssl s_client -quiet -"$version" \
-        -connect "127.0.0.1:$tls" -servername "$people" -CAfile people.pem -cert otto.pem -key otto.key -sess_in "session.$version" \
-        > "session.said" 2> openssl.err || :
-    grep -q '^HTTP/1.1 400' session.said || fail "otto's session of $version after his revocation: $(cat session.said openssl.err)"
+    if [ -s "session.$version" ]; then session 400 otto "$version" "$own" -sess_in "session.$version"; fi
+    rm -f "session.$version"
 done
+# At a port where another site keeps sessions, one that is resumed is refused.
+sed -i "s|listen 127.0.0.1:$own ssl;|listen 127.0.0.1:$tls ssl;|" site.people.conf
+kill -HUP "$(cat nginx.pid)"
+soon 20 sh -c "! grep -q ':$(printf '%04X' "$own") 00000000:0000 0A' /proc/net/tcp"
+session 200 olga tls1_3 "$tls" -sess_out session.tls1_3
+[ -s session.tls1_3 ] || fail 'no session of the other site'
+session 403 olga tls1_3 "$tls" -sess_in session.tls1_3
 kill "$server"
 wait "$server" 2> /dev/null || :
 desk minutes desk.db > minutes
