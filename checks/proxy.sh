@@ -354,8 +354,6 @@ cat submits.* | sort | uniq -c > submits
 taken=$(sed -n 's/ 400$//p' submits | tr -d ' ')
 { [ "${taken:-0}" -ge 480 ] && [ "$taken" -le 700 ] && grep -q ' 429$' submits && [ "$(grep -vc ' 429$\| 400$' submits)" -eq 0 ]; } \
     || fail "780 submissions with one token: $(cat submits)"
-ask ann /requests -H 'Desk-Key: k7' -H 'Desk-Title: one more' --data-binary "@$plain"
-[ "$(cat said)" = 429 ] || fail "one more submission: $(cat said)"
 ask rita /requests -d x
 is 400 '{"name":"BadField","refused":51}'
 ask ann /level
