@@ -105,6 +105,17 @@ is_desks() {
 mkdir out
 publish 3 'takes --first'
 [ ! -e out/published ] || fail 'published without --first'
+# A desk(1) that lacks `audit` publishes nothing, unless that is asked for.
+printf '#!/bin/sh\nif [ "$1" = audit ]; then echo "no such subcommand" >&2; exit 2; fi\nexec "%s" "$@"\n' "$program" > honest/older
+chmod +x honest/older
+publish 3 'desk audit: no such subcommand' --first --program honest/older
+[ ! -e out/published ] || fail 'published without an audit'
+publish 0 'calls 4: published' --first --unaudited --program honest/older
+is_desks
+[ ! -e out/published/audit.txt ] || fail 'an audit that nobody made'
+rm -rf out
+mkdir out
+
 publish 0 'calls 4: published' --first
 shows 4
 is_desks
