@@ -1,6 +1,6 @@
 -- Minutes followed line by line.
-use Rattle.std.proofs.Common.{◌≡◌, ◌⊎◌, inl, inr, ℕ, suc, ◌+◌, ◌<◌, ◌==◌, ◌∙◌, Bool, true, false, List, [], ◌∷◌, ◌++◌, length, drop, Option, None, Some, IfSome, refl, sym, ap, subst, append_assoc, arith}
-use Rattle.std.specs.Prelude.{codes, if◌then◌else◌}
+use Rattle.std.proofs.Common.{◌≡◌, ◌⊎◌, inl, inr, ℕ, ◌+◌, ◌<◌, ◌==◌, ◌∙◌, Bool, true, false, List, [], ◌∷◌, ◌++◌, length, drop, Option, None, Some, IfSome, refl, sym, ap, subst, append_assoc, arith}
+use Rattle.std.specs.Prelude.{if◌then◌else◌}
 use Rattle.std.specs.Io.{StopsAt}
 use Rattle.std.specs.Io.BufRead.{drop_through, take_through}
 use Rattle.std.specs.Io.KnownBytes.{Consumes, IsAtEnd}
@@ -9,9 +9,8 @@ use Rattle.std.proofs.KnownBytes.{Consumes-nil, Consumes-trans}
 use Rattle.sqlite.specs.Store.{Ghosts}
 use Rattle.desk_history.specs.Calls.{History, item}
 use Rattle.desk_history.specs.Formed.{IsHistory}
-use Rattle.desk_history.specs.Replies.{minute}
-use Rattle.desk_exports.specs.Exports.{minute_line, minutes_text}
-use Rattle.desk_minutes.specs.Follows.{EndsLine, HasNoNext, IsOneLine, are_second}
+use Rattle.desk_exports.specs.Exports.{minutes_text}
+use Rattle.desk_minutes.specs.Follows.{EndsLine, HasNoNext, are_second}
 use Rattle.desk_minutes.proofs.FollowLemmas.{none_goes_through, one_more}
 use Rattle.desk_store.specs.Desks.{ShowsDesk}
 use Rattle.desk_store.specs.declared.desk.Desk.{Desk}

@@ -1,7 +1,6 @@
-use Rattle.std.proofs.Common.{◌≡◌, ◌≢◌, ◌∷◌, Err, Ok, arith, sym, subst, ◌∙◌}
+use Rattle.std.proofs.Common.{sym, subst, ◌∙◌}
 use Rattle.sqlite.specs.Held.{state}
 use Rattle.sqlite.specs.State.{HasCleanDisk}
-use Rattle.desk_bytes.specs.declared.refusal.Refusal.TheVariants as refusals
 use Rattle.desk_store.specs.Desks.{ShowsDesk}
 use Rattle.desk_audit.proofs.FollowingLemmas.{accepted_next, new_accepted, no_failure, repeat_refused}
 use Rattle.desk_audit.proofs.applying.reply_to_new.Goals as goal

@@ -1,4 +1,4 @@
-use Rattle.std.proofs.Common.{◌≡◌, ◌+◌, Err, IfSome, ap, sym, subst, ◌∙◌}
+use Rattle.std.proofs.Common.{◌+◌, Err, IfSome, ap, sym, subst}
 use Rattle.sqlite.specs.Held.{state}
 use Rattle.sqlite.specs.State.{HasCleanDisk}
 use Rattle.desk_minutes.specs.Follows.{HasNoNext}

@@ -1,4 +1,4 @@
-use Rattle.std.proofs.Common.{◌≡◌, Err, IfNone, IfSome, true, false, ap, sym, subst, ◌∙◌}
+use Rattle.std.proofs.Common.{◌≡◌, Err, IfNone, IfSome, true, false, ap, subst, ◌∙◌}
 use Rattle.std.specs.Prelude.{bytes_eq}
 use Rattle.desk_texts.specs.ReplyTexts.{reply_text_of}
 use Rattle.desk_history.specs.Replies.{reply}

@@ -1,4 +1,4 @@
-use Rattle.std.proofs.Common.{◌<◌, length, rules, arith}
+use Rattle.std.proofs.Common.{◌<◌, length, arith}
 use Rattle.std.proofs.lemmas.Grind.{common_steps}
 use Rattle.desk_audit.proofs.AuditLemmas.{takes_into}
 use Rattle.desk_audit.proofs.lines.next_line.Goals as goal
