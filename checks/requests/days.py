@@ -2,8 +2,8 @@
 from typing import NamedTuple
 
 from desk import (
-    CERTIFICATE, PEOPLE, PLAIN, SIGNED, TABLE, TBS, THREE_LISTS, authenticode, certificate_list, changed, digest, digest_list, got, octets, ok,
-    posted, refused, said, sha256, signature_list, signing, text, token, with_table, with_text, X509_KIND,
+    CERTIFICATE, PEOPLE, PLAIN, SIGNED, TABLE, TBS, THREE_LISTS, authenticode, certificate_list, changed, digest, digest_list, got, octets,
+    ok, posted, refused, said, sha256, signature_list, signing, text, token, with_table, with_text, X509_KIND,
 )
 
 
@@ -326,9 +326,8 @@ TWO_PROPOSALS = [
 # What an officer looks at before a Confirm: the proposal whole, and each image that it would bar, by each rule; after it the same
 # proposal is closed. Then proposals whose Confirm would be refused, the minutes and the people.
 TITLE = 'a "title" \\ of <it>'
-ODDLY = "kind,value,generation\n" + "".join(
-    f"{row}\n" for row in ("sbat,grub,2", f"sha256,{authenticode(ODD)},", "sbat,grub,3", f"x509_sha256,{TBS},", f"sha256,{authenticode(ODD)},")
-)
+DIGEST_ROW = f"sha256,{authenticode(ODD)},\n"
+ODDLY = f"kind,value,generation\nsbat,grub,2\n{DIGEST_ROW}sbat,grub,3\nx509_sha256,{TBS},\n{DIGEST_ROW}"
 NAMED_ODDLY = {"digests": [authenticode(ODD)] * 2, "certificates": [TBS], "components": [("grub", 2), ("grub", 3)], "stamp": 2024010100}
 BARRED_ODDLY = [
     bars(2, "submitted", "open", "ann", TITLE, True, verdict="sbat", component="grub", generation=2, level=3),

@@ -6,12 +6,12 @@ from concurrent.futures import ThreadPoolExecutor
 from typing import NamedTuple, Optional
 
 from days import (
-    LARGEST_IMAGE, MANY, Step, again, closes, confirms, der, drops, impact, judges, largest, lists, minutes, named, proposes, raising, reads,
-    refuses, submits, table_of, takes, vote, whole,
+    LARGEST_IMAGE, MANY, Step, again, closes, confirms, der, drops, impact, judges, largest, lists, minutes, named, proposes, raising,
+    reads, refuses, submits, takes, vote, whole,
 )
 from desk import (
-    CERTIFICATE, OWNER, PEOPLE, PLAIN, REFUSALS, STORED, TABLE, TBS, X509_KIND, Program, Server, authenticode, certificate_list, changed,
-    digest, digest_list, expect, fail, got, octets, ok, posted, refused, request, sha256, signature_list, text, token, with_table, with_text,
+    CERTIFICATE, OWNER, PEOPLE, PLAIN, REFUSALS, STORED, TBS, X509_KIND, Program, Server, authenticode, certificate_list, changed, digest,
+    digest_list, expect, fail, octets, ok, posted, refused, request, sha256, signature_list, text, token, with_table, with_text,
 )
 
 IMAGE_LIMIT, BODY_LIMIT, LINES_LIMIT = 134_217_728, 4_194_304, 8_388_608
@@ -43,7 +43,8 @@ def ends(program: Program, wanted: tuple[int, bytes, bytes], *words: str, given:
     """A run ends with this status and has written this to both outputs."""
     found = program.run(*words, given=given)
     if found != wanted:
-        fail(f"desk {' '.join(words)}: {found[0]}, {found[1][-300:]!r}, {found[2][-300:]!r} in place of {wanted[0]}, {wanted[1][-300:]!r}, {wanted[2]!r}")
+        came, due = ((status, out[-300:], err[-300:]) for status, out, err in (found, wanted))
+        fail(f"desk {' '.join(words)}: {came} in place of {due}")
     return 1
 
 
@@ -53,7 +54,8 @@ def ends(program: Program, wanted: tuple[int, bytes, bytes], *words: str, given:
 def with_sections(count: int) -> bytes:
     """The image with so many sections of 512 bytes."""
     head = -(-(328 + 40 * count) // 512) * 512
-    rows = (b".text\0\0\0" + b"".join(it.to_bytes(4, "little") for it in (0, 0, 512, head + 512 * place)) + bytes(16) for place in range(count))
+    places = ((0, 0, 512, head + 512 * place) for place in range(count))
+    rows = (b".text\0\0\0" + b"".join(it.to_bytes(4, "little") for it in fields) + bytes(16) for fields in places)
     image = changed(PLAIN[:328], (70, count.to_bytes(2, "little").hex()), (148, head.to_bytes(4, "little").hex()))
     return (image + b"".join(rows)).ljust(head + 512 * count, b"\0")
 
@@ -149,7 +151,8 @@ def long_files(program: Program, desk: str) -> int:
     image = head.ljust(IMAGE_LIMIT, b"\0")
     steps = [
         judges("ann", image, NOT_LISTED), submits("ann", "k1", image, "the longest", 1),
-        too_large("ann", "unused", "/verdict", IMAGE_LIMIT + 1), too_large("ann", "k2", "/requests", IMAGE_LIMIT + 1, ("Desk-Title", "longer")),
+        too_large("ann", "unused", "/verdict", IMAGE_LIMIT + 1),
+        too_large("ann", "k2", "/requests", IMAGE_LIMIT + 1, ("Desk-Title", "longer")),
     ]
     return runs + serves(program, desk, steps, "the longest image")
 
@@ -211,7 +214,8 @@ IMPORTS = {
         {"components": components(NAMES_128), "stamp": 2024010100}, (STAMP,),
     ),
     "lines of a level": Import(
-        "/imports/level", level(sbat_rows(TEN, 7)), level(sbat_rows(TEN + 1, 7)), {"components": components(sbat_rows(TEN, 7)), "stamp": 2024010100},
+        "/imports/level", level(sbat_rows(TEN, 7)), level(sbat_rows(TEN + 1, 7)),
+        {"components": components(sbat_rows(TEN, 7)), "stamp": 2024010100},
     ),
 }
 
@@ -272,8 +276,10 @@ def texts(program: Program, desk: str) -> int:
 
     aa, bb = named(digest("aa")), named(digest("bb"))
     by_longest = request("POST", "/dbx/digests", [("Desk-Token", "t" * 128), ("Desk-Key", key)], aa)
-    by_length = request("POST", "/dbx/digests", [("Desk-Token", token("olga")), ("Desk-Key", "k2"), ("Content-Length", f"{len(bb):010}")]) + bb
-    longer = request("POST", "/dbx/digests", [("Desk-Token", token("olga")), ("Desk-Key", "k2"), ("Content-Length", f"{len(bb):011}")]) + bb
+    by_length, longer = (
+        request("POST", "/dbx/digests", [("Desk-Token", token("olga")), ("Desk-Key", "k2"), ("Content-Length", length)]) + bb
+        for length in (f"{len(bb):010}", f"{len(bb):011}")
+    )
     component = "n" * 128
     steps = [
         Step(by("t" * 128, "/level"), text("sbat,1,2021030218\n")), Step(by("s" * 16, "/level"), text("sbat,1,2021030218\n")),
@@ -347,7 +353,8 @@ def full_of_people(program: Program, base: str) -> int:
     runs += ends(program, (1, b"", line(36)), "enrol", desk, *more, given=f"{digest('aa')}\n".encode())
     runs += ends(program, (0, b"added last\n", b""), "person", desk, *last, given=b"last-token-000001\n")
     people = sorted([*PEOPLE.items(), *((f"p{number:04}", "submitter") for number in range(1, 993)), ("last", "signer")])
-    return runs + serves(program, desk, [reads("olga", "/people", ok([{"name": name, "role": role} for name, role in people]))], "1,000 people")
+    shown = reads("olga", "/people", ok([{"name": name, "role": role} for name, role in people]))
+    return runs + serves(program, desk, [shown], "1,000 people")
 
 
 def shown_row(number: int) -> dict:
@@ -475,8 +482,8 @@ def full_of_calls(program: Program, base: str) -> int:
 
 
 PARTS = (
-    full_of_calls, long_files, full_of_requests, full_of_proposals, images, imports, texts, full_of_digests, full_of_listed, full_of_certificates,
-    full_of_names, full_of_people,
+    full_of_calls, long_files, full_of_requests, full_of_proposals, images, imports, texts, full_of_digests, full_of_listed,
+    full_of_certificates, full_of_names, full_of_people,
 )
 with Program(sys.argv[1]) as program:
     base = program.founded("base.db")
