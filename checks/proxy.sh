@@ -431,6 +431,11 @@ sed "s|listen 8443 ssl;|listen 127.0.0.1:$own ssl;|
      s|/var/log/nginx/|$room/|" "$root/packaging/nginx-certificates.conf" > site.people.conf
 [ "$(grep -c "$room/" site.people.conf)" -eq 6 ] || fail 'packaging/nginx-certificates.conf has other files than this check knows'
 "$nginx" -t -q -p "$room/" -e "$room/error.log" -c nginx.conf 2> said || fail "nginx -t: $(cat said)"
+# It also stands alone, beside the names of the other site.
+mkdir no-tokens
+sed '/^server {/,$d' site.conf > no-tokens/site.conf
+sed "s|include $room/site\*.conf;|include $room/no-tokens/site.conf; include $room/site.people.conf;|" nginx.conf > no-tokens/nginx.conf
+"$nginx" -t -q -p "$room/" -e "$room/error.log" -c no-tokens/nginx.conf 2> said || fail "nginx -t without the other site: $(cat said)"
 serve_again 100000
 
 # shows NAME PATH CURL-WORD..: a request with this person's certificate; `said` is its status.
