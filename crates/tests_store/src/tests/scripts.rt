@@ -222,11 +222,11 @@ olga o1 list-certificate 204 : listed
 olga o2 list 51 : listed
 ann a1 submit one 31 31 0 0 : submitted 1
 ann a2 submit two 41 41 0 0 : submitted 2
-ann a3 submit three 51 51 0 1 grub 2 : submitted 3
-ann a4 submit four 61 61 0 0 : submitted 4
 rita r1 yes 2 : reviewed 2 open
 raul r1 yes 2 : reviewed 2 approved
 sid s1 return 2 41 41 1 204 0 : returned 2
+ann a3 submit three 51 51 0 1 grub 2 : submitted 3
+ann a4 submit four 61 61 0 0 : submitted 4
 olga o3 revoke 61 : proposed 1
 proposal otto 1 : 1 olga digest 0 none open 61
 impact otto 1 : 4 submitted open ann four refused dbx-digest; adds 1 0 0 dbx 76
