@@ -98,10 +98,9 @@ def measured(program, desk, history):
 def shows(what, found):
     print(what)
     for it in found:
-        beyond = (it.more_instructions - it.instructions) / it.images
         print(
             f"  {it.calls:,} calls: {it.instructions:,.0f} instructions, {it.instructions / it.calls:,.0f} a call, {it.memory:,} bytes of"
-            f" memory; with {it.images:,} images, a response of {it.length:,} bytes: {beyond:,.0f} instructions more an image,"
+            f" memory; with {it.images:,} images {it.more_instructions:,.0f} instructions, a response of {it.length:,} bytes,"
             f" {it.more_memory:,} bytes of memory"
         )
     first, last = found[0], found[-1]
