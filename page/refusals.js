@@ -118,7 +118,7 @@ export const REFUSALS = {
     ],
     Version: ['The database holds a desk of a version that this program doesn’t know.', ADMIN],
     File: ['A device: a file can’t be opened.', ADMIN],
-    Exists: ['The database has a table, an index or a view already, so no desk is made in it.', ADMIN],
+    Exists: ['The database has a table, an index or a view with a name of the desk’s already, so no desk is made in it.', ADMIN],
     Minute: [
         'A line of minutes isn’t what the rules give there, or isn’t whole. The place is its number from 1.',
         'Fetch the minutes again, and compare them with other copies.',

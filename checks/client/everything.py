@@ -6,7 +6,6 @@ import sys
 import time
 
 from tools import end_with_parent
-from desk import RUNNING
 
 # The longest first.
 PARTS = ("losses", "commands", "mistakes", "imports", "routes", "signing", "readme")
@@ -17,9 +16,7 @@ def part(name: str) -> str:
         [sys.executable, "-B", os.path.join(os.path.dirname(__file__), f"{name}.py"), sys.argv[1]], stdout=subprocess.PIPE,
         stderr=subprocess.PIPE, text=True, preexec_fn=end_with_parent,
     )
-    RUNNING.add(process)
     out, err = process.communicate()
-    RUNNING.discard(process)
     if process.returncode:
         print(f"{name}: {out}{err}", file=sys.stderr)
         return ""
