@@ -1,7 +1,9 @@
 -- Requests and proposals as people see them.
 use Rattle.std.specs.Prelude.{◌≡◌, ℕ, ◌==◌, Bool, true, if◌then◌else◌, List, length, map, filter, find, reverse, Option, Some, option_map, ok_or, Result, Ok, Err, bytes_eq}
 use Rattle.std.specs.List.{AllZip}
-use Rattle.std.specs.List.Sorted.{IsPermutation}
+use Rattle.std.specs.List.Sorted.{IsPermutation, IsStrictlySortedBy}
+use Rattle.std.specs.Cmp.Lexicographic.{slice_cmp}
+use Rattle.std.specs.Ordering.{nat_cmp}
 use Rattle.std.specs.Result.{result_map_both}
 use Rattle.desk_bytes.specs.declared.refusal.Refusal.{Refusal}
 use Rattle.desk_bytes.specs.declared.refusal.Refusal.TheVariants as refusals
@@ -51,6 +53,10 @@ shown_vote v = record { reviewer = v.reviewer; vote = v.vote; note = v.note }
 abbrev pub shown_return : Returned → ShownReturn
 shown_return r = record { length = r.facts.extent.length; file = r.facts.file; digest = r.facts.digest }
 
+-- votes in the order of their reviewers: the names ascend byte by byte, and nobody has two votes
+abbrev pub AscendByReviewer : List ShownVote → Type 0
+AscendByReviewer shown = IsStrictlySortedBy (λ one other. slice_cmp nat_cmp one.reviewer other.reviewer) shown
+
 -- All of the request is shown, and nothing else. Its votes are in the order of their reviewers.
 pub record IsShown (w : Whole) (s : ShownRequest) : Type 0 where
   pub number : s.number ≡ w.request.number
@@ -59,6 +65,7 @@ pub record IsShown (w : Whole) (s : ShownRequest) : Type 0 where
   pub facts : s.facts ≡ w.request.facts
   pub state : s.state ≡ w.state
   pub votes : IsPermutation (map shown_vote w.votes) s.votes
+  pub order : AscendByReviewer s.votes
   pub returned : s.returned ≡ option_map shown_return w.returned
 
 -- the same for each request, in order

@@ -11,4 +11,5 @@ mod PartLemmas
 mod PeopleLemmas
 mod ProposedLemmas
 mod TellsLemmas
+mod VoteLemmas
 mod WholeLemmas

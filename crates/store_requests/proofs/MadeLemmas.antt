@@ -12,10 +12,12 @@ use Rattle.desk_history.specs.Shown.{IsShown, returned, shown_return, shown_vote
 use Rattle.desk_history.specs.Tables.{placed_from, request_row, return_row, tables}
 use Rattle.desk_history.specs.declared.rows.RequestRow.{RequestRow}
 use Rattle.desk_history.specs.declared.rows.ReturnRow.{ReturnRow}
+use Rattle.desk_history.proofs.RowLemmas.{rows_stand_once}
 use Rattle.store_reads.specs.Reads.{listed}
 use Rattle.store_requests.specs.Steps.{IsShownIn, shown_row}
 use Rattle.store_requests.proofs.ItemLemmas.{found_listed, unmapped}
 use Rattle.store_requests.proofs.PartLemmas.{carried_are, certificates_of_one, components_are, components_of_one, one_within, requests_within}
+use Rattle.store_requests.proofs.VoteLemmas.{in_order}
 
 -- the row of a request of the history
 abbrev pub row_of : History → Request → RequestRow
@@ -52,13 +54,16 @@ is_shown owner cs h r one s shown =
     components_are k r.facts.components s.facts.components
     (subst (IsPermutation (placed_from k 0 r.facts.components)) made.components
     (subst (λ l. IsPermutation l shown.parts.components.items) (components_of_one k (requests cs) r one) are.components)) in
+    let all : IsPermutation (map shown_vote (votes_on (votes cs) k)) s.votes =
+    IsPermutation-trans (map shown_vote (votes_on (votes cs) k)) (map shown_vote shown.parts.votes.items) s.votes
+    (IsPermutation-map shown_vote (votes_on (votes cs) k) shown.parts.votes.items are.votes) made.votes in
     record {
       number = made.number;
       submitter = made.submitter;
       title = made.title;
       facts = facts_same s.facts r.facts made.extent made.file made.digest made.signing carried components;
       state = made.state;
-      votes = IsPermutation-trans (map shown_vote (votes_on (votes cs) k)) (map shown_vote shown.parts.votes.items) s.votes
-          (IsPermutation-map shown_vote (votes_on (votes cs) k) shown.parts.votes.items are.votes) made.votes;
+      votes = all;
+      order = in_order k (votes cs) (rows_stand_once owner cs h.legal).votes s.votes all made.order;
       returned = made.returned ∙ return_is cs k shown.parts.returned are.returned;
     }

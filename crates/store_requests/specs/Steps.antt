@@ -6,6 +6,7 @@ use Rattle.desk_bytes.specs.Digests.{IsArranged}
 use Rattle.desk_texts.specs.declared.command.Person.{Person}
 use Rattle.desk_texts.specs.declared.shown.ShownRequest.{ShownRequest}
 use Rattle.desk_texts.specs.declared.shown.ShownReturn.{ShownReturn}
+use Rattle.desk_texts.specs.Shown.{AreByReviewer}
 use Rattle.desk_history.specs.Shown.{sees, shown_vote}
 use Rattle.desk_history.specs.Tables.{Tables, placed_from}
 use Rattle.desk_history.specs.declared.rows.RequestCertificateRow.{RequestCertificateRow}
@@ -42,6 +43,7 @@ pub record IsMadeOf (row : RequestRow) (parts : Parts) (s : ShownRequest) : Type
   pub carried : IsArranged (digests_of parts.certificates.items) s.facts.carried
   pub components : parts.components.items ≡ placed_from row.number 0 s.facts.components
   pub votes : IsPermutation (map shown_vote parts.votes.items) s.votes
+  pub order : AreByReviewer s.votes
   pub returned : s.returned ≡ option_map shown_row parts.returned
 
 -- the request's row is shown with the rows of these tables that belong to it

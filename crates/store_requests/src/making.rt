@@ -2,6 +2,7 @@
 ghost use Rattle.std.specs.Prelude.{◌≡◌, ◌++◌, ◌∷◌, [], IfOk, OnOk, map, option_map};
 ghost use Rattle.std.specs.List.Sorted.{IsPermutation};
 ghost use Rattle.desk_bytes.specs.Digests.{IsArranged};
+ghost use Rattle.desk_texts.specs.Shown.{AreByReviewer};
 ghost use Rattle.desk_history.specs.Shown.{shown_vote};
 ghost use Rattle.desk_history.specs.Tables.{placed_from};
 ghost use Rattle.store_requests.specs.Steps.{IsMadeOf, digests_of, shown_row};
@@ -112,7 +113,8 @@ fn vote_in(row: VoteRow) -> ShownVote
 
 /// The votes of the rows, in the order of their reviewers.
 fn votes_in(alloc: Global, rows: Vec<VoteRow>) -> Result<ShownVotes, ReadFault>
-    ensures { IfOk result (λ votes. IsPermutation (map shown_vote rows.items) votes) }
+    ensures all { IfOk result (λ votes. IsPermutation (map shown_vote rows.items) votes) }
+    ensures order { IfOk result (λ votes. AreByReviewer votes) }
 {
     let mut votes = Vec::new(alloc);
     for row in rows {

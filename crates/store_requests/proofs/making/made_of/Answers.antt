@@ -17,6 +17,7 @@ returns c =
       signing = facts.signing;
       carried = subst (λ rows. IsArranged (digests_of rows) c.in_ok-facts.facts.carried) c.deref.ensures.value facts.carried;
       components = facts.components;
-      votes = c.in_ok-votes.ensures;
+      votes = c.in_ok-votes.ensures.all;
+      order = c.in_ok-votes.ensures.order;
       returned = c.returned_in.ensures;
     }

@@ -20,8 +20,8 @@ loop-row-preserved c =
           omega arith,
     )
 
-pub returns : goal.returns
-returns c =
+pub returns-clause-all : goal.returns-clause-all
+returns-clause-all c =
     let at = c.loop-row in
     let empty : into_iter_items at.row-iterator ≡ [] = nothing_left _ (sym at.invariant.1 ∙ c.in-None.ensures.steps.0) in
     let all : at.votes.items ≡ map shown_vote c.args.rows.items =
