@@ -454,8 +454,14 @@ run 0 nothing '' nothing init other.db "$owner"
 run 1 nothing 'refused 46 Exists' nothing init other.db "$owner"
 exported first.level level other.db
 exported nothing minutes other.db
-[ "$(sqlite3 other.db 'PRAGMA integrity_check; SELECT id, body FROM note')" = 'ok
-1|kept' ] || fail 'a table of others was changed'
+# What others make after the desk stays too, and the desk goes on.
+sqlite3 other.db "CREATE TABLE later (id INTEGER PRIMARY KEY, body TEXT); CREATE INDEX laters ON later (body); CREATE VIEW lately AS SELECT body FROM later; INSERT INTO later VALUES (1, 'kept')"
+says 'added ann' added
+run 0 added '' ann person other.db ann submitter k1
+run 0 added '' ann person other.db ann submitter k1
+exported first.level level other.db
+[ "$(sqlite3 other.db 'PRAGMA integrity_check; SELECT n.body, l.body, v.body, no, key FROM note n, later l, lately v, calls')" = 'ok
+kept|kept|kept|1|k1' ] || fail 'a table of others was changed'
 # A row of version 1 with a table that version 2 adds isn't a desk's; an unknown version is Version.
 for refused in '1 43 NotADesk' '3 44 Version' '-1 44 Version'; do
     sqlite3 desk.db "UPDATE desk SET version = ${refused%% *}"
