@@ -58,7 +58,7 @@ place 644 "$here/kovelamiru-desk.sysusers" usr/lib/sysusers.d/kovelamiru-desk.co
 place 644 "$here/desk.bash" usr/share/bash-completion/completions/desk
 for example in nginx.conf nginx-certificates.conf desk.nft; do place 644 "$here/$example" "usr/share/doc/$name/examples/$example"; done
 for runbook in "$here"/runbooks/*.md; do place 644 "$runbook" "usr/share/doc/$name/runbooks/${runbook##*/}"; done
-for page in INTEROPERATION WALKTHROUGH; do place 644 "$root/docs/$page.md" "usr/share/doc/$name/$page.md"; done
+for page in AUDIT INTEROPERATION WALKTHROUGH; do place 644 "$root/docs/$page.md" "usr/share/doc/$name/$page.md"; done
 # The two programs and what they share; one of Python finds it by the path of the link.
 place 644 "$here/desk_http.py" "usr/lib/$name/desk_http.py"
 for tool in desk-publish desk-again; do

@@ -2,8 +2,8 @@
 """man.py PROGRAM DATE FOLDER: writes the manual pages desk.1 and desk-http.7 into the folder.
 
 Each text has one source: the program's help for subcommands, docs/FORMATS.md for formats and routes, docs/REFUSALS.md
-for refusals, packaging/README.md for the service and what stands around it, docs/INTEROPERATION.md for other tools. This
-script sets them in man(7), tables in tbl(1).
+for refusals, packaging/README.md for the service and what stands around it, docs/AUDIT.md for audits,
+docs/INTEROPERATION.md for other tools. This script sets them in man(7), tables in tbl(1).
 """
 
 import os
@@ -184,6 +184,17 @@ def section(file, title):
     return re.sub(r" \([^()]*\bdesk_\w+[^()]*\)", "", part)
 
 
+def audit():
+    """docs/AUDIT.md below its title, a subsection for each of its parts."""
+    with open(f"{ROOT}/docs/AUDIT.md", encoding="utf-8") as page:
+        first, *parts = page.read().split("\n", 1)[1].split("\n## ")
+    found = roff(first)
+    for part in parts:
+        title, text = part.split("\n", 1)
+        found += [f'.SS "{title}"'] + roff(text)
+    return found
+
+
 def interoperation():
     """docs/INTEROPERATION.md below its title; `both digests` stays in one line, where people search for it."""
     with open(f"{ROOT}/docs/INTEROPERATION.md", encoding="utf-8") as page:
@@ -285,6 +296,7 @@ def desk_page(said, date):
             ("A PROXY IN FRONT", roff(section("packaging/README.md", "A proxy in front"))),
             ("PEOPLE WITH CERTIFICATES", roff(section("packaging/README.md", "People with certificates"))),
             ("PUBLISHING", roff(section("packaging/README.md", "Publishing"))),
+            ("AUDITS", audit()),
             ("RUNBOOKS", roff(section("packaging/README.md", "Runbooks"))),
             ("OTHER TOOLS", roff(interoperation())),
             ("ENVIRONMENT", roff(ENVIRONMENT)),
