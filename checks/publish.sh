@@ -7,8 +7,7 @@
 # a signing command that fails or signs something else; published files that were changed; a token
 # file that others can read. It is killed at each of its steps, and what is published is then the old
 # files or the new ones, whole. efitools and dbxtool read what was published. Then the desk is asked
-# over HTTP while it serves. If the program has no subcommand `audit`, a script stands in for it,
-# and the last line says so. It needs curl, efitools, dbxtool (fwupd), openssl and python3.
+# over HTTP while it serves. It needs curl, efitools, dbxtool (fwupd), openssl and python3.
 set -eu
 . "$(dirname -- "$(readlink -f -- "$0")")/common.sh"
 needs curl dbxtool openssl python3 sig-list-to-certs sign-efi-sig-list
@@ -33,49 +32,27 @@ called() {
     } > request
     "$program" answer desk.db < request > response || fail "$name at $path: $(cat response)"
     head -n 1 response | grep -q ' 200 ' || fail "$name at $path: $(cat response)"
-    noted
 }
 text() { printf '%s' "$1" > body; }
 
-# noted: for the script that stands in for `audit`: what follows from the desk's minutes by now.
-mkdir truth
-noted() {
-    "$program" minutes desk.db > truth/minutes
-    sum=$(sha256sum < truth/minutes | cut -d' ' -f1)
-    {
-        echo "calls $(wc -l < truth/minutes)"
-        echo "minutes $sum"
-        for list in dbx db level; do echo "$list $("$program" "$list" desk.db | sha256sum | cut -d' ' -f1)"; done
-    } > "truth/$sum"
-}
-# A desk(1) that has `audit`; and one that lies where a file lie.SUBCOMMAND says what it prints.
-mkdir honest lying
-if "$program" audit --help > /dev/null 2>&1; then
-    by='desk audit'
-    ln -s "$program" honest/desk
-else
-    by='a script in place of desk audit, which this program lacks'
-    cat > honest/desk << STANDIN
-#!/bin/sh
-if [ "\$1" != audit ]; then exec "$program" "\$@"; fi
-sum=\$(sha256sum < "\$3" | cut -d' ' -f1)
-if [ -e "$room/truth/\$sum" ]; then exec cat "$room/truth/\$sum"; fi
-echo "refused 47 Minute at \$(wc -l < "\$3")" >&2
-exit 1
-STANDIN
-fi
+# A desk that lies where a file lie.SUBCOMMAND says what it prints; and a desk(1) without `audit`.
+mkdir lying older
 cat > lying/desk << LIES
 #!/bin/sh
 if [ -e "$room/lie.\$1" ]; then exec cat "$room/lie.\$1"; fi
-exec "$room/honest/desk" "\$@"
+exec "$program" "\$@"
 LIES
-chmod +x honest/* lying/*
+cat > older/desk << OLDER
+#!/bin/sh
+if [ "\$1" = audit ]; then echo 'no such subcommand' >&2; exit 2; fi
+exec "$program" "\$@"
+OLDER
+chmod +x lying/desk older/desk
 
 "$program" init desk.db "$owner"
 for person in ann/submitter olga/officer otto/officer oscar/officer; do
     printf '%s-token-for-the-desk' "${person%/*}" | sha256sum | "$program" enrol desk.db "${person%/*}" "${person#*/}" "k-${person%/*}" > said
 done
-noted
 
 # ---- one publication after another
 
@@ -84,7 +61,7 @@ publish() {
     status=$1 wanted=$2
     shift 2
     got=0
-    "$root/packaging/desk-publish" out/published --owner "$owner" --program honest/desk --db desk.db "$@" > said 2>&1 || got=$?
+    "$root/packaging/desk-publish" out/published --owner "$owner" --program "$program" --db desk.db "$@" > said 2>&1 || got=$?
     if [ "$got" -ne "$status" ] || ! grep -qF -e "$wanted" said; then fail "status $got in place of $status and of $wanted: $(cat said)"; fi
     found=$((found + 1))
 }
@@ -105,17 +82,8 @@ is_desks() {
 mkdir out
 publish 3 'takes --first'
 [ ! -e out/published ] || fail 'published without --first'
-# A desk(1) that lacks `audit` publishes nothing, unless that is asked for.
-printf '#!/bin/sh\nif [ "$1" = audit ]; then echo "no such subcommand" >&2; exit 2; fi\nexec "%s" "$@"\n' "$program" > honest/older
-chmod +x honest/older
-publish 3 'desk audit: no such subcommand' --first --program honest/older
+publish 3 'desk audit: no such subcommand' --first --program older/desk
 [ ! -e out/published ] || fail 'published without an audit'
-publish 0 'calls 4: published' --first --unaudited --program honest/older
-is_desks
-[ ! -e out/published/audit.txt ] || fail 'an audit that nobody made'
-rm -rf out
-mkdir out
-
 publish 0 'calls 4: published' --first
 shows 4
 is_desks
@@ -200,7 +168,6 @@ publish 1 'refused minutes: they differ from those published at call 6'
 rm -f desk.db*
 "$program" init desk.db "$owner"
 printf 'other-token-for-the-desk' | sha256sum | "$program" enrol desk.db other officer k > said
-noted
 publish 1 'refused minutes: they differ from those published at call 1'
 rm -f desk.db*
 mv desk.now desk.db
@@ -294,21 +261,12 @@ asks() {
     status=$1 wanted=$2
     shift 2
     got=0
-    "$root/packaging/desk-publish" out/published --owner "$owner" --program honest/desk --url "http://127.0.0.1:$port" "$@" > said 2>&1 || got=$?
+    "$root/packaging/desk-publish" out/published --owner "$owner" --program "$program" --url "http://127.0.0.1:$port" "$@" > said 2>&1 || got=$?
     if [ "$got" -ne "$status" ] || ! grep -qF -e "$wanted" said; then fail "status $got in place of $status and of $wanted: $(cat said)"; fi
     found=$((found + 1))
 }
 asks 0 'calls 15: nothing new' --token-file olga.token
 curl -sS -H 'Desk-Token: otto-token-for-the-desk' -H 'Desk-Key: k-http' -d '' "http://127.0.0.1:$port/proposals/5/confirm" > said
-curl -sS -H 'Desk-Token: otto-token-for-the-desk' "http://127.0.0.1:$port/minutes/1" > truth/minutes
-sum=$(sha256sum < truth/minutes | cut -d' ' -f1)
-{
-    echo "calls $(wc -l < truth/minutes)"
-    echo "minutes $sum"
-    for list in dbx db level; do
-        echo "$list $(curl -sS -H 'Desk-Token: otto-token-for-the-desk' "http://127.0.0.1:$port/$list" | sha256sum | cut -d' ' -f1)"
-    done
-} > "truth/$sum"
 asks 0 'calls 16: published' --token-file olga.token --public-minutes
 shows 16
 [ "$(stat -c %a out/published/minutes.txt)" = 644 ] || fail 'the mode of public minutes'
@@ -320,4 +278,4 @@ kill "$server"
 wait "$server" 2> /dev/null || :
 is_desks
 
-echo "$found publications and files, each as it has to be; killed at $((stop - 1)) steps; by $by"
+echo "$found publications and files, each as it has to be; killed at $((stop - 1)) steps"

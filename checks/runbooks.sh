@@ -3,9 +3,8 @@
 # runbooks.sh [PROGRAM [PAGE..]]. Each begins on a desk of its own behind nginx, in the state that
 # its page is for; its commands run in order, each in the shell of the person whose it is, and what
 # comes of them is compared with the page. Scripts stand in for systemctl, journalctl and runuser,
-# paths of the system are folders here, and nginx has packaging/nginx.conf without its TLS. If the
-# program has no subcommand `audit`, a script stands in for it too, and the last line says so. The
-# full disk is a file system in memory, so it needs root or user namespaces; and curl, efitools, nginx,
+# paths of the system are folders here, and nginx has packaging/nginx.conf without its TLS. The full
+# disk is a file system in memory, so it needs root or user namespaces; and curl, efitools, nginx,
 # openssl, python3, sqlite3, unshare and xxd. README's day is pasted as one block, too.
 set -eu
 . "$(dirname -- "$(readlink -f -- "$0")")/common.sh"

@@ -144,12 +144,6 @@ while :; do
     sleep 0.2
 done
 """
-# `desk`: an administrator's, with a stand-in where the program has no `audit`.
-DESK = """\
-#!/bin/sh
-if [ "$1" = audit ] && ! "{program}" audit --help > /dev/null 2>&1; then exec "{python}" -B "{here}/audit.py" "$3" {port} "{room}/etc/kovelamiru-publish.token"; fi
-exec "{program}" "$@"
-"""
 
 
 class Machine:
@@ -163,14 +157,14 @@ class Machine:
         self.keys = 0
         for folder in ("bin", "state", "publish", "etc/default", "etc/nginx", "srv", "root", "home", "nginx"):
             (room / folder).mkdir(parents=True)
-        for name, text in (("systemctl", SYSTEMCTL), ("supervise", SUPERVISE), ("desk", DESK)):
-            words = {"bin": room / "bin", "room": room, "port": self.port, "program": program, "here": Path(__file__).parent}
-            self.script(name, text.format(python=sys.executable, **words))
+        for name, text in (("systemctl", SYSTEMCTL), ("supervise", SUPERVISE)):
+            self.script(name, text.format(bin=room / "bin", room=room, port=self.port, program=program))
         self.script("listens", '#!/bin/sh\ngrep -q ":$(printf %04X "$1") 00000000:0000 0A" /proc/net/tcp\n')
         self.script("runuser", '#!/bin/sh\nshift 3\nexec "$@"\n')
         self.script("journalctl", f'#!/bin/sh\ntail -n 3 "{room}/journal"\n')
         for name, path in (("deskctl", "client"), ("desk-publish", "packaging"), ("desk-again", "packaging")):
             (room / "bin" / name).symlink_to(ROOT / path / name)
+        (room / "bin" / "desk").symlink_to(program)
         # What a page calls a path, and what it is here. The longest first.
         self.paths = {
             "https://desk.example.org": f"http://127.0.0.1:{self.proxy}", "/var/lib/kovelamiru-desk": f"{room}/state",
@@ -454,9 +448,7 @@ def main() -> None:
             counts[running[done]], seconds = done.result()
             print(f"{running[done]}: {counts[running[done]]} commands in {seconds:.0f} s", flush=True)
     lines = pasted(program, Path(room) / "pasted") if not names else 0
-    audit = subprocess.run([program, "audit", "--help"], capture_output=True).returncode == 0
-    by = "desk audit" if audit else "a script in place of desk audit, which this program lacks"
-    print(f"{sum(counts.values())} commands of {len(counts)} runbooks, each with the lines that its page has; {lines} lines of README pasted; published by {by}")
+    print(f"{sum(counts.values())} commands of {len(counts)} runbooks, each with the lines that its page has; {lines} lines of README pasted")
 
 
 main()
