@@ -75,6 +75,16 @@ run() {
     runs=$((runs + 1))
 }
 
+# audited OWNER DB: an audit passes the desk's minutes, and tells what the desk exports.
+audited() {
+    "$program" minutes "$2" > audited.minutes
+    {
+        echo "calls $(wc -l < audited.minutes)"
+        for export in minutes dbx db level; do echo "$export $("$program" "$export" "$2" | sha256sum | cut -d' ' -f1)"; done
+    } > audited.lines
+    run 0 audited.lines '' /dev/null audit "$1" audited.minutes
+}
+
 # ---- the desk's server
 
 is_running() { [ -e "/proc/$1/exe" ]; }

@@ -4,8 +4,8 @@
 # error line and status is compared with the expected one. Then each fault of each subcommand in
 # order, two terminals at one file, and a writer that is full. Then an image is submitted, and two
 # officers list, propose, look, confirm and drop by `answer`, one request each, and after each change
-# the exports, verdicts and impacts are compared. At the end sqlite3 reads the file: its schema and
-# its rows. Not part of `rt ci`: it needs sqlite3 and xxd.
+# the exports, verdicts and impacts are compared. An audit passes the minutes of the day. At the end
+# sqlite3 reads the file: its schema and its rows. Not part of `rt ci`: it needs sqlite3 and xxd.
 set -eu
 . "$(dirname -- "$(readlink -f -- "$0")")/common.sh"
 needs sqlite3 xxd
@@ -411,6 +411,7 @@ posts '200 OK' '{"proposal":4,"reply":"proposed"}' olga k9 /dbx/digests named_di
 posts '200 OK' '{"certificates":0,"components":0,"digests":1,"passed":0,"proposal":4,"reply":"confirmed"}' otto k5 \
     /proposals/4/confirm nothing
 exported minutes minutes desk.db
+audited "$owner" desk.db
 # ---- sqlite3 reads the file
 
 [ "$(sqlite3 desk.db 'PRAGMA integrity_check')" = ok ] || fail 'sqlite3 finds a fault'

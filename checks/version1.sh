@@ -1,13 +1,15 @@
 #!/usr/bin/env bash
 # checks/version1.sh [PROGRAM]: that each subcommand opens a real file of version 1
 # (examples/version-1), which keeps its calls and exports and becomes one of version 2; that the
-# next opening writes nothing; that earlier keys and revocations still count; and that images of
-# before are in the impacts of new proposals. PROGRAM: another program than ./desk. It needs gzip.
+# next opening writes nothing; that earlier keys and revocations still count; that images of before
+# are in the impacts of new proposals; and that an audit passes its minutes, with calls of before and
+# new ones. PROGRAM: another program than ./desk. It needs gzip.
 set -eu
 . "$(dirname -- "$(readlink -f -- "$0")")/common.sh"
 needs gzip
 find_program "$@"
 kept=$root/examples/version-1
+owner=00112233-4455-6677-8899-aabbccddeeff
 enter_room
 gzip -dc "$kept/desk.db.gz" > first.db
 openings=0
@@ -83,9 +85,11 @@ barred 'sbat grub 3 4' 76 > grub
 run 0 digest '' nothing impact desk.db 1
 run 1 certificate '' nothing impact desk.db 2
 run 1 grub '' nothing impact desk.db 3
+# Calls by the rules of one officer, and behind them calls by those of two.
+audited "$owner" desk.db
 
 cp first.db desk.db
 echo 'otto-token-for-the-desk' | "$program" person desk.db otto officer k-otto > out
 [ "$(cat out)" = 'added otto' ] || fail 'person'
 
-echo "$((openings + 2)) openings of a file of version 1 and $runs impacts of it, each as it has to be"
+echo "$((openings + 2)) openings of a file of version 1, $((runs - 1)) impacts of it and an audit, each as it has to be"

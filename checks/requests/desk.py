@@ -284,6 +284,12 @@ class Program:
     def exports(self, desk):
         return {it: self.gives(it, desk) for it in ("minutes", "dbx", "db", "level")}
 
+    def audited(self, exports):
+        """An audit passes the minutes, and tells these exports."""
+        lines = [f"calls {exports['minutes'].count(10)}", *(f"{name} {sha256(data)}" for name, data in exports.items())]
+        told = self.gives("audit", OWNER, "-", given=exports["minutes"])
+        expect(told, "".join(f"{line}\n" for line in lines).encode(), "an audit")
+
 
 def end_with_parent():
     """The process that begins here is ended when the one that asks for it ends (prctl's PR_SET_PDEATHSIG)."""

@@ -217,4 +217,7 @@ with Program(sys.argv[1]) as program:
     base = program.founded("base.db")
     with ThreadPoolExecutor(len(PARTS)) as pool:
         counts = [pool.submit(part, program, program.copied(base, f"{part.__name__}.db")) for part in PARTS]
-        print(f"{sum(it.result() for it in counts)} requests and runs of {len(PARTS)} kinds, each answered as it has to be")
+        total = sum(it.result() for it in counts)
+    for part in PARTS:
+        program.audited(program.exports(program.at(f"{part.__name__}.db")))
+    print(f"{total} requests and runs of {len(PARTS)} kinds, each answered as it has to be; {len(PARTS)} desks' minutes audited")

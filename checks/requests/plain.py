@@ -28,6 +28,7 @@ def passes(program, base, day, steps):
     serves(program, served, steps, day)
     exports, tables = program.exports(served), dump(served)
     expect(exports["minutes"].count(b"\n"), len(PEOPLE) + sum(it.accepted for it in steps), f"{day}: the minutes")
+    program.audited(exports)
     answers(program, answered, steps, day)
     expect(program.exports(answered), exports, f"{day}: what is exported")
     expect(dump(answered), tables, f"{day}: the tables")
