@@ -90,8 +90,8 @@ function minutesPart() {
     return section(
         'Minutes',
         p(
-            'Every accepted command, in order, with its reply. They hold names, titles, notes and the SHA-256 of ',
-            'each token: keep them where only officers read.',
+            'Every accepted command, in order, with its reply; desk audit follows them by the rules. They hold names, ',
+            'titles, notes, open proposals and the SHA-256 of each token: hand them only to people who may know that.',
         ),
         buttons(fetch),
         said,
