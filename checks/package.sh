@@ -114,7 +114,7 @@ for rows in routes refusals; do
 done
 found=$((found + $(cat routes refusals | wc -l)))
 
-# ---- completions: of nothing, of a file, of a role
+# ---- completions: of nothing, of a file, of a role, of an export
 
 mkdir shelf
 : > shelf/shim.efi
@@ -135,6 +135,8 @@ completes "${subcommands}help" help ''
 completes 'shelf/shim.efi' verdict desk.db shelf/sh
 completes 'submitter reviewer officer signer' person desk.db olga ''
 completes 'officer' person desk.db olga o
+completes 'dbx db level' audit OWNER minutes.txt ''
+completes 'level' audit OWNER minutes.txt l
 completes '' person desk.db ''
 
 # ---- the service

@@ -1,4 +1,4 @@
-# Completions of desk(1) for bash: subcommands, files and roles, as the program's own help has them.
+# Completions of desk(1) for bash: subcommands, files, roles and exports, as the program's own help has them.
 _desk() {
     local word=${COMP_WORDS[COMP_CWORD]} subcommand='' help name
     COMPREPLY=()
@@ -17,6 +17,9 @@ _desk() {
             ;;
         '<ROLE>')
             mapfile -t COMPREPLY < <(compgen -W "$(sed -n 's/^  <ROLE> *//p' <<< "$help" | sed 's/,\| or / /g')" -- "$word")
+            ;;
+        '[EXPORT]')
+            mapfile -t COMPREPLY < <(compgen -W "$(sed -n 's/^  \[EXPORT\] *\([^:]*\):.*/\1/p' <<< "$help" | sed 's/,\| or / /g')" -- "$word")
             ;;
     esac
 }
