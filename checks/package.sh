@@ -104,7 +104,7 @@ for subcommand in $subcommands; do
     tells desk.1 "desk $subcommand"
     grep -A 2 '^ *Example:$' desk.1.txt | grep -q "^ *desk $subcommand " || fail "desk.1 has no example of $subcommand"
 done
-for text in 'THE SERVICE' 'WHO MAY CONNECT' BACKUP PUBLISHING RUNBOOKS 'OTHER TOOLS' 'EXIT STATUS'; do tells desk.1 "$text"; done
+for text in 'THE SERVICE' 'WHO MAY CONNECT' BACKUP PUBLISHING AUDITS RUNBOOKS 'OTHER TOOLS' 'EXIT STATUS'; do tells desk.1 "$text"; done
 grep -qi 'both digests' desk.1.txt || fail 'grep finds no "both digests" in desk.1'
 sed -n '/^| Path/,/^$/s/^| \(`[^|]*\) |.*/\1/p' "$root/docs/FORMATS.md" | tr -d '`' > routes
 sed -n 's/^| \([0-9]*\) | \([A-Za-z0-9]*\) |.*/\1  *\2/p' "$root/docs/REFUSALS.md" > refusals
