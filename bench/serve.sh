@@ -12,8 +12,8 @@
 # Times are those of whole processes, and then the same less an idle one of the same round: a server
 # whose one connection has no request, a shell that counts one table. Processor time doesn't include
 # the client's; the clock does. Fails if a response isn't the expected one, or if the desk and the
-# shell hold different rows. The desks are in TMPDIR or /tmp, whose disk is measured. It takes ports
-# from 20000 on, and ends after half an hour at most. Not part of the gate: it needs python3,
+# shell hold different rows. The desks are in TMPDIR or /tmp, whose disk is measured. It ends after half
+# an hour at most. Not part of the gate: it needs python3,
 # sqlite3 and xxd.
 set -eu
 . "$(dirname -- "$(readlink -f -- "$0")")/../checks/common.sh"
@@ -71,13 +71,12 @@ import subprocess
 import sys
 import time
 
-from desk import listens
+from desk import Held, listens
 
 PROGRAM, ROOM = sys.argv[1:3]
 COUNT, ROUNDS = map(int, sys.argv[3:])
 GETS = 1_000
 SECONDS = 60
-PORTS = iter(range(20_000 + os.getpid() % 9_000, 32_000))
 
 signal.alarm(1_800)
 sys.stdout.reconfigure(line_buffering=True)
@@ -122,7 +121,8 @@ class Server(Child):
     """A process that takes so many connections at a port of its own."""
 
     def __init__(self, words, count):
-        self.port, self.is_there = free_port(), False
+        self.held, self.is_there = Held(), False
+        self.port = self.held.port
         super().__init__([*words, str(self.port), str(count)])
 
     def connect(self):
@@ -152,18 +152,6 @@ class Server(Child):
             found = b"".join(iter(lambda: peer.recv(65_536), b""))
         if found != wanted:
             sys.exit(f"{self.words}: {found[:300]} in place of {wanted[:300]}")
-
-
-def free_port():
-    """A port that nobody has, below those that clients are given."""
-    for port in PORTS:
-        with socket.socket() as probe:
-            try:
-                probe.bind(("127.0.0.1", port))
-                return port
-            except OSError:
-                pass
-    sys.exit("no port is free")
 
 
 # ---- requests and their responses

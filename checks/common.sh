@@ -8,7 +8,7 @@
 root=$(CDPATH='' cd -- "$(dirname -- "$(readlink -f -- "$0")")/.." && pwd -P)
 self=$(readlink -f -- "$0")
 self=${self#"$root"/}
-room='' started='' program='' server='' port=''
+room='' started='' program='' server='' port='' ports=''
 
 fail() {
     echo "$self: $*" >&2
@@ -102,24 +102,38 @@ listens() {
     return 1
 }
 
-# some_port: a port from 20000 to 31999, below those that the system gives to clients.
-some_port() { echo $((20000 + $(od -An -N2 -tu2 /dev/urandom) % 12000)); }
+# hold COUNT: `ports` are so many ports of 127.0.0.1 that this script holds until it ends, for servers
+# that it starts and stops. Nobody else is given them: see requests/ports.py. It needs python3.
+hold() {
+    needs python3
+    mkfifo holding
+    python3 -B "$root/checks/requests/ports.py" "$1" > holding &
+    started="$started $!"
+    read -r ports < holding || fail 'no port is free'
+    rm holding
+}
 
-# serve DB COUNT: serves so many connections in the background, for five minutes at most. `server`
-# is the process, `port` its port, `served` and `served.err` have what it writes.
-serve() {
-    for _ in 1 2 3 4 5 6 7 8 9 10; do
-        port=$(some_port)
-        timeout -k 5 300 "$program" serve "$1" "$port" "$2" > served 2> served.err &
-        server=$!
-        started="$started $server"
-        while is_running "$server"; do
-            if listens "$server" "$port"; then return 0; fi
-            sleep 0.01
-        done
-        wait "$server" || [ "$(cat served.err)" = 'device 14 Read' ] || break
+# until_listens PROCESS PORT: waits until the process listens at the port; fails if it ends before that.
+until_listens() {
+    started="$started $1"
+    while is_running "$1"; do
+        if listens "$1" "$2"; then return 0; fi
+        sleep 0.01
     done
-    fail "serve $1: $(cat served served.err)"
+    return 1
+}
+
+# serve DB COUNT [SECONDS]: serves so many connections in the background, for five minutes at most, or
+# for SECONDS (0: without end), always at the same port. `server` is the process, `port` its port,
+# `served` and `served.err` have what it writes.
+serve() {
+    if [ -z "$port" ]; then
+        hold 1
+        port=$ports
+    fi
+    timeout -k 5 "${3:-300}" "$program" serve "$1" "$port" "$2" > served 2> served.err &
+    server=$!
+    until_listens "$server" "$port" || fail "serve $1: $(cat served served.err)"
 }
 
 # served: the server has served them all, and ends.

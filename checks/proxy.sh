@@ -19,15 +19,11 @@ set -eu
 needs curl openssl python3
 find_program "$@"
 enter_room
-# Three ports at which nobody listens now: the desk's, the proxy's, that of people with certificates.
-port=$(some_port)
-tls=$((port + 1))
-own=$((port + 2))
-while grep -q "$(printf ':%04X \\|:%04X \\|:%04X ' "$port" "$tls" "$own")" /proc/net/tcp; do
-    port=$(some_port)
-    tls=$((port + 1))
-    own=$((port + 2))
-done
+# The desk's port, the proxy's, that of people with certificates.
+hold 3
+read -r port tls own << END
+$ports
+END
 site=desk.example.org
 base=https://$site:$tls
 requests=0
@@ -49,14 +45,6 @@ soon() {
 }
 # desk WORD..: the program, ended after five minutes.
 desk() { timeout -k 5 300 "$program" "$@"; }
-# serve_again COUNT: serves COUNT connections of the desk in the background, at the port that nginx
-# asks.
-serve_again() {
-    timeout -k 5 300 "$program" serve desk.db "$port" "$1" > served 2> served.err &
-    server=$!
-    started="$started $server"
-    soon 20 listens "$server" "$port"
-}
 
 # ---- nginx, its certificate, the site
 
@@ -93,8 +81,7 @@ done
 if [ -s said ] || [ -s error.log ]; then fail "nginx -t: $(cat said)"; fi
 timeout -k 5 400 "$nginx" -p "$room/" -e "$room/error.log" -c nginx.conf &
 proxy=$!
-started="$started $proxy"
-soon 20 listens "$proxy" "$tls"
+until_listens "$proxy" "$tls" || fail 'nginx ended'
 
 # ---- the desk, and the inputs
 
@@ -144,7 +131,7 @@ post() {
 # ---- a day at the desk
 
 # Each request takes two connections, a stranger's one.
-serve_again 65
+serve desk.db 65
 post 200 '{"reply":"submitted","request":1}' ann k1 /requests "$image" -H 'Desk-Title: a signed loader'
 post 200 '{"reply":"submitted","request":1}' ann k1 /requests "$image" -H 'Desk-Title: a signed loader'
 post 200 '{"reply":"reviewed","request":1,"state":"open"}' rita k1 /requests/1/review yes
@@ -238,7 +225,7 @@ got() {
     requests=$((requests + 1))
 }
 for how in sends takes; do
-    serve_again 2
+    serve desk.db 2
     begins "$how" "$port" ''
     slow=$peer
     curl -sS --max-time 60 -H "Desk-Token: $(token_of olga)" -o held "http://127.0.0.1:$port/level" &
@@ -258,7 +245,7 @@ done
 # ---- thirty clients at once, with one that sends slowly and one that takes slowly
 
 clients=30
-serve_again $((2 * (2 * clients + 2)))
+serve desk.db $((2 * (2 * clients + 2)))
 begins sends "$tls" "$site"
 slow=$peer
 begins takes "$tls" "$site"
@@ -297,7 +284,7 @@ requests=$((requests + 2 * clients))
 
 # ---- strangers and other methods
 
-serve_again 100000
+serve desk.db 100000
 # kept: when nginx made or removed the last file of a body.
 kept() { stat -c %y client_body; }
 before=$(kept)
@@ -377,7 +364,7 @@ for who in nobody olga; do
     ask "$who" /level
     [ "$(cat said)" = 502 ] || fail "$who without the desk: $(cat said)"
 done
-serve_again 4
+serve desk.db 4
 confirmed='"passed":0,"proposal":12,"reply":"confirmed"}'
 post 200 "{\"certificates\":0,\"components\":1,\"digests\":0,$confirmed" otto k4 /proposals/12/confirm nothing
 ask olga /level
@@ -436,7 +423,7 @@ mkdir no-tokens
 sed '/^server {/,$d' site.conf > no-tokens/site.conf
 sed "s|include $room/site\*.conf;|include $room/no-tokens/site.conf; include $room/site.people.conf;|" nginx.conf > no-tokens/nginx.conf
 "$nginx" -t -q -p "$room/" -e "$room/error.log" -c no-tokens/nginx.conf 2> said || fail "nginx -t without the other site: $(cat said)"
-serve_again 100000
+serve desk.db 100000
 
 # shows NAME PATH CURL-WORD..: a request with this person's certificate; `said` is its status.
 shows() {

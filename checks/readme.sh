@@ -11,14 +11,13 @@ enter_room
 cat > readme.py << 'PYTHON'
 import atexit
 import os
-import random
 import shutil
 import signal
 import subprocess
 import sys
 import time
 
-from desk import listens
+from desk import Held, listens
 
 MARK = "-- that was all of it --"
 PROGRAM, ROOT = sys.argv[1:]
@@ -108,7 +107,8 @@ for number in (signal.SIGHUP, signal.SIGINT, signal.SIGTERM):
     signal.signal(number, lambda *_: sys.exit(1))
 with open(f"{ROOT}/README.md", encoding="utf-8") as text:
     commands = day(text.read())
-for port in (8080, *random.sample(range(10_000, 20_000), 20)):
+held = Held()
+for port in (8080, held.port):
     try:
         passes(commands, f"{os.getcwd()}/day", port)
         break

@@ -3,10 +3,12 @@
 # (examples/version-1), which keeps its calls and exports and becomes one of version 2; that the
 # next opening writes nothing; that earlier keys and revocations still count; that images of before
 # are in the impacts of new proposals; and that an audit passes its minutes, with calls of before and
-# new ones. PROGRAM: another program than ./desk. It needs gzip.
+# new ones. A file with the same tables and rows, made in the opposite order, has the same exports,
+# and the same day at the served desk. PROGRAM: another program than ./desk. It needs gzip, python3
+# and sqlite3.
 set -eu
 . "$(dirname -- "$(readlink -f -- "$0")")/common.sh"
-needs gzip
+needs gzip python3 sqlite3
 find_program "$@"
 kept=$root/examples/version-1
 owner=00112233-4455-6677-8899-aabbccddeeff
@@ -35,13 +37,23 @@ opened() {
     openings=$((openings + 1))
 }
 
+# requested NAME METHOD PATH [KEY FILE [FIELD]]: the server's response to this person's request.
+requested() {
+    exec 3<> "/dev/tcp/127.0.0.1/$port"
+    {
+        printf '%s %s HTTP/1.1\r\nDesk-Token: %s-token-for-the-desk\r\n' "$2" "$3" "$1"
+        if [ $# -gt 3 ]; then printf 'Desk-Key: %s\r\nContent-Length: %s\r\n' "$4" "$(wc -c < "$5")"; fi
+        if [ $# -gt 5 ]; then printf '%s\r\n' "$6"; fi
+        printf '\r\n'
+        if [ $# -gt 4 ]; then cat "$5"; fi
+    } >&3
+    timeout 60 cat <&3
+    exec 3>&-
+}
 # level_of DB: the desk's server answers one connection, which requests the level, and ends.
 level_of() {
     serve "$1" 1
-    exec 3<> "/dev/tcp/127.0.0.1/$port"
-    printf 'GET /level HTTP/1.1\r\nDesk-Token: olga-token-for-the-desk\r\n\r\n' >&3
-    timeout 60 cat <&3
-    exec 3>&-
+    requested olga GET /level
     served
 }
 
@@ -92,4 +104,53 @@ cp first.db desk.db
 echo 'otto-token-for-the-desk' | "$program" person desk.db otto officer k-otto > out
 [ "$(cat out)" = 'added otto' ] || fail 'person'
 
-echo "$((openings + 2)) openings of a file of version 1, $((runs - 1)) impacts of it and an audit, each as it has to be"
+# ---- the same tables and rows, made in the opposite order
+
+{
+    echo "ATTACH 'first.db' AS first;"
+    echo 'PRAGMA journal_mode = WAL;'
+    sqlite3 'file:first.db?immutable=1' "SELECT sql || '; INSERT INTO main.' || name || ' SELECT * FROM first.' || name ||
+        ' ORDER BY rowid DESC;' FROM sqlite_schema WHERE type = 'table' ORDER BY rowid DESC"
+} | sqlite3 opposite.db > said
+names() { sqlite3 "file:$1?immutable=1" "SELECT name FROM sqlite_schema WHERE type = 'table' ORDER BY rowid"; }
+[ "$(names first.db | wc -l)" -eq 12 ] || fail 'another number of tables'
+names first.db | tac | cmp -s - <(names opposite.db) || fail 'the tables are in another order'
+
+echo "$digest" > revoke
+echo "$other" > revoke_other
+echo "$certificate" > revoke_certificate
+echo '{"component":"grub","generation":4,"stamp":2024010102}' > raise
+echo '{"note":"read it","vote":"yes"}' > yes
+# day DB: a day at the served desk, each response of it, and then what the desk exports.
+day() {
+    echo 'otto-token-for-the-desk' | "$program" person "$1" otto officer k-otto
+    serve "$1" 16
+    requested olga POST /dbx/digests k2 revoke
+    requested olga POST /dbx/digests k9 revoke
+    requested olga POST /dbx/digests k10 revoke_other
+    requested olga POST /dbx/certificates k11 revoke_certificate
+    requested olga POST /level k12 raise
+    requested otto GET /proposals/3/impact
+    requested ann POST /requests k2 "$root/examples/tiny.efi" 'Desk-Title: a loader'
+    requested rita POST /requests/2/review k2 yes
+    for number in 1 2 3; do requested otto POST "/proposals/$number/confirm" "k$number" nothing; done
+    for path in /requests /proposals /people /report /minutes/1; do requested olga GET "$path"; done
+    served
+    for export in dbx db level minutes; do "$program" "$export" "$1"; done
+}
+for export in dbx db level minutes; do
+    for file in first opposite; do
+        cp "$file.db" desk.db
+        "$program" "$export" desk.db > "$export.$file" || fail "$export of $file.db"
+    done
+    cmp -s "$export.first" "$export.opposite" || fail "$export: another one of tables in the opposite order"
+done
+for file in first opposite; do
+    cp "$file.db" desk.db
+    day desk.db > "day.$file"
+done
+cmp -s day.first day.opposite || fail "another day of tables in the opposite order: $(cmp day.first day.opposite)"
+[ "$(grep -ac '^HTTP/1.1 200 OK' day.first)" -eq 15 ] || fail "the day: $(grep -a '^HTTP/1.1' day.first)"
+
+echo "$((openings + 12)) openings of a file of version 1, $((runs - 1)) impacts of it and an audit, each as it has to be; a day of" \
+    "the same tables in the opposite order has the same $(wc -c < day.first) bytes"

@@ -3,13 +3,13 @@
 # of each role, requests in every state, two open proposals, images of examples/), serves it behind
 # nginx without TLS on loopback, and prints the address and a token for each person. Ctrl-C ends
 # both; a folder that wasn't named is then removed. The site is packaging/nginx.conf without its TLS
-# and with ports that are free. It needs curl and nginx. Not for work: whoever can read the folder
-# has the tokens.
+# and with ports that are free. It needs curl, nginx and python3. Not for work: whoever can read the
+# folder has the tokens.
 set -eu
 umask 077
 PATH=$PATH:/usr/sbin:/sbin
 . "$(dirname -- "$(readlink -f -- "$0")")/../checks/common.sh"
-needs curl nginx
+needs curl nginx python3
 find_program "$@"
 trap 'exit 0' INT
 if [ $# -gt 1 ]; then
@@ -32,25 +32,9 @@ for person in $people; do
     "$program" person desk.db "$name" "${person#*/}" "demo-$name" < "$name.token" > added
 done
 
-# begins PROCESS PORT: waits until the process listens at this port; fails if it ends before.
-begins() {
-    started="$started $1"
-    while is_running "$1"; do
-        if listens "$1" "$2"; then return 0; fi
-        sleep 0.05
-    done
-    return 1
-}
-# serves PORT: whether the desk serves at this port; another program may have it.
-serves() {
-    port=$1
-    "$program" serve desk.db "$port" 1000000 > served 2> served.err &
-    server=$!
-    begins "$server" "$port" && return 0
-    [ "$(cat served.err)" = 'device 14 Read' ] || fail "serve: $(cat served served.err)"
-    return 1
-}
-until serves "$(some_port)"; do :; done
+hold 2
+port=${ports% *}
+serve desk.db 1000000 0
 
 # ---- what happened at it so far
 
@@ -154,12 +138,15 @@ proxies() {
     } > nginx.conf
     nginx -p "$folder/" -e "$folder/nginx.err" -c nginx.conf 2> nginx.said &
     proxy=$!
-    begins "$proxy" "$1" && return 0
+    until_listens "$proxy" "$1" && return 0
     grep -q 'Address already in use' nginx.err || fail "nginx: $(cat nginx.said nginx.err)"
     return 1
 }
 address=8088
-until proxies "$address"; do address=$(some_port); done
+if ! proxies "$address"; then
+    address=${ports#* }
+    proxies "$address" || fail "nginx: $(cat nginx.err)"
+fi
 
 echo "http://127.0.0.1:$address/ has a demo desk. Sign in as one of these people; Ctrl-C ends it."
 for person in $people; do

@@ -10,7 +10,7 @@ from typing import Callable, Dict, List, Tuple
 
 from commands import TODAY, files
 from tools import Between, Part, Person, Program, answer, by_bytecode, calls, fail, module, people
-from desk import digest, said
+from desk import Held, digest, said
 
 Ask = Callable[[bytes], bytes]
 Rule = Callable[[bytes, Ask], bytes]
@@ -97,9 +97,8 @@ def out_of_reach(program: Program) -> None:
     """Where no connection comes nothing can have acted, and nothing stays in the journal; --new-key makes another command of a lost one."""
     with Part(program, "reach") as part:
         olga = part.people["olga"]
-        between = Between(part.server.port)
-        port = between.port
-        between.close()
+        nobody = Held()
+        port = nobody.port
         olga.at(f"http://127.0.0.1:{port}").ends(3, "revoke", "--digest", digest("12"), "--retries", "1", err=["no connection"])
         ann = part.people["ann"].at(f"http://127.0.0.1:{port}")
         ann.ends(3, "submit", "plain.efi", "--title", "T", "--retries", "0", err=["no connection", "Is the desk running there"])

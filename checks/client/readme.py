@@ -3,13 +3,11 @@ comes, and both leave the same minutes but for keys."""
 from __future__ import annotations
 
 import os
-import random
-import socket
 import subprocess
 from typing import List, Tuple
 
 from tools import ROOT, Program, fail, without_keys
-from desk import end_with_parent
+from desk import Held, end_with_parent
 
 
 def printed(title: str) -> Tuple[str, str]:
@@ -21,19 +19,6 @@ def printed(title: str) -> Tuple[str, str]:
     return "\n".join(commands) + "\n", "".join(line + "\n" for line in lines if not line.startswith(("$ ", "> ")))
 
 
-def free_port() -> str:
-    """A port for a desk that README starts, of those that no other check and no client takes."""
-    for _ in range(1000):
-        port = random.randrange(5_000, 10_000)
-        try:
-            socket.create_server(("127.0.0.1", port)).close()
-            return str(port)
-        except OSError:
-            pass
-    fail("no port is free")
-    return ""
-
-
 def day(program: Program, title: str) -> List[Tuple[str, ...]]:
     """The minutes that a day leaves. Its port is another one, since README's may be taken."""
     typed, wanted = printed(title)
@@ -41,10 +26,12 @@ def day(program: Program, title: str) -> List[Tuple[str, ...]]:
     os.makedirs(room)
     for name, path in (("desk", program.path), ("examples", os.path.join(ROOT, "examples")), ("client", os.path.join(ROOT, "client"))):
         os.symlink(path, os.path.join(room, name))
+    held = Held()
     ran = subprocess.run(
-        ["bash", "-c", typed.replace("8080", free_port()) + "wait\n"], cwd=room, stdin=subprocess.DEVNULL, capture_output=True, text=True,
+        ["bash", "-c", typed.replace("8080", str(held.port)) + "wait\n"], cwd=room, stdin=subprocess.DEVNULL, capture_output=True, text=True,
         check=False, timeout=200, env={"PATH": os.environ["PATH"], "HOME": room}, preexec_fn=end_with_parent,
     )
+    held.let_go()
     if ran.returncode or ran.stdout.replace("\n\n", "\n") != wanted:
         fail(f"README, {title}: status {ran.returncode}, in place of\n{wanted}\ncame\n{ran.stdout}\n{ran.stderr}")
     return without_keys(program.minutes(os.path.join(room, "desk.db")))

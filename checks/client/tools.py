@@ -21,7 +21,7 @@ from typing import Any, Callable, Dict, List, Optional, Sequence, Tuple
 
 ROOT = os.path.dirname(os.path.dirname(os.path.dirname(os.path.realpath(__file__))))
 sys.path.insert(0, os.path.join(ROOT, "checks", "requests"))
-from desk import PEOPLE, Program, Server, end_with_parent, fail, got, token  # noqa: E402
+from desk import PEOPLE, Held, Program, Server, end_with_parent, fail, got, token  # noqa: E402
 
 # Another one may be named, as that of a package.
 DESKCTL = os.environ.get("DESKCTL") or os.path.join(ROOT, "client", "deskctl")
@@ -287,32 +287,22 @@ def certificate(folder: str, issuer: str, name: str, subject: str, extension: st
 
 
 class Nginx:
-    """packaging/nginx.conf in front of a desk, with another port, certificate and name; and a second site that asks for client certificates.
-
-    Both ports are bound here, and nginx takes them over, as a newer nginx does from an older one (its variable NGINX)."""
+    """packaging/nginx.conf in front of a desk, with another port, certificate and name; and a second site that asks for client certificates."""
 
     def __init__(self, program: Program, port: int):
         self.folder = program.at("nginx")
         os.makedirs(self.folder)
         authority(self.folder, "ca")
         certificate(self.folder, "ca", "site", "/CN=localhost", "subjectAltName=DNS:localhost,IP:127.0.0.1")
-        bound = [socket.create_server(("127.0.0.1", 0), backlog=100) for _ in range(2)]
-        self.port, self.second = (it.getsockname()[1] for it in bound)
+        self.held = [Held() for _ in range(2)]
+        self.port, self.second = (it.port for it in self.held)
         self.url, self.second_url = f"https://127.0.0.1:{self.port}", f"https://127.0.0.1:{self.second}"
         self.ca = os.path.join(self.folder, "ca.pem")
         with open(os.path.join(self.folder, "nginx.conf"), "w", encoding="utf-8") as file:
             file.write(self.configuration(port))
         nginx = shutil.which("nginx") or "/usr/sbin/nginx"
         self.log = os.path.join(self.folder, "error.log")
-        for it in bound:
-            it.setblocking(False)
-        numbers = [it.fileno() for it in bound]
-        self.process = subprocess.Popen(
-            [nginx, "-p", self.folder + "/", "-e", self.log, "-c", "nginx.conf"], preexec_fn=end_with_parent, pass_fds=numbers,
-            env={**os.environ, "NGINX": "".join(f"{number};" for number in numbers)},
-        )
-        for it in bound:
-            it.close()
+        self.process = subprocess.Popen([nginx, "-p", self.folder + "/", "-e", self.log, "-c", "nginx.conf"], preexec_fn=end_with_parent)
         until = time.monotonic() + 60
         while not os.path.exists(f"{self.folder}/nginx.pid"):
             if time.monotonic() > until or self.process.poll() is not None:
@@ -359,6 +349,8 @@ server {{
         if self.process.poll() is None:
             self.process.terminate()
         self.process.wait(timeout=20)
+        for it in self.held:
+            it.let_go()
 
 
 FOUNDED: Dict[str, str] = {}

@@ -3,7 +3,6 @@ people are those of ../requests/desk.py."""
 import http.client
 import json
 import os
-import random
 import re
 import secrets
 import subprocess
@@ -14,7 +13,7 @@ from typing import Any, Callable, Dict, List, NamedTuple, NoReturn, Optional, Tu
 
 ROOT = Path(__file__).resolve().parents[2]
 sys.path.insert(0, str(ROOT / "checks" / "requests"))
-from desk import Program, Server, end_with_parent, listens, token  # noqa: E402
+from desk import Held, Program, Server, end_with_parent, listens, token  # noqa: E402
 
 SIGNED = (ROOT / "examples" / "signed.efi").read_bytes()
 CERTIFICATE = (ROOT / "examples" / "certificate.der").read_bytes()
@@ -79,7 +78,9 @@ class Place:
         self.path = program.copied(program.at("people.db"), f"{name}/desk.db")
         self.desk: Optional[Server] = None
         self.nginx: Optional[subprocess.Popen] = None
-        self.desk_port = self.port = 0
+        self.desk_port = 0
+        self.held = Held()
+        self.port = self.held.port
 
     def __enter__(self) -> "Place":
         self.serve()
@@ -89,6 +90,7 @@ class Place:
     def __exit__(self, *_: object) -> None:
         self.stop_proxy()
         self.stop()
+        self.held.let_go()
 
     @property
     def base(self) -> str:
@@ -126,19 +128,13 @@ class Place:
         )
 
     def start_proxy(self) -> None:
-        """At the port that it had, or at one that is free."""
-        for _ in range(10):
-            given = self.port
-            self.port = given or random.randrange(10_000, 20_000)
-            self.write_site()
-            words = ["nginx", "-p", f"{self.room}/", "-e", f"{self.room}/error.log", "-c", "nginx.conf"]
-            self.nginx = subprocess.Popen(words, stderr=subprocess.DEVNULL, preexec_fn=end_with_parent)
-            begun = self.nginx
-            until(60, "nginx listens", lambda: listens(begun.pid, self.port) or begun.poll() is not None)
-            if begun.poll() is None:
-                return
-            self.port = given
-        fail(f"nginx: {(self.room / 'error.log').read_text()[-1000:]}")
+        """Always at the same port."""
+        self.write_site()
+        words = ["nginx", "-p", f"{self.room}/", "-e", f"{self.room}/error.log", "-c", "nginx.conf"]
+        self.nginx = begun = subprocess.Popen(words, stderr=subprocess.DEVNULL, preexec_fn=end_with_parent)
+        until(60, "nginx listens", lambda: listens(begun.pid, self.port) or begun.poll() is not None)
+        if begun.poll() is not None:
+            fail(f"nginx: {(self.room / 'error.log').read_text()[-1000:]}")
 
     def stop_proxy(self) -> None:
         if self.nginx:

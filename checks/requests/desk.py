@@ -1,11 +1,9 @@
 """For the checks of this folder: the desk's program, run and asked over HTTP; images, lists and certificates, byte by byte; and the
 bytes of requests and of responses, as docs/FORMATS.md has them."""
 import contextlib
-import ctypes
 import hashlib
 import json
 import os
-import random
 import shutil
 import signal
 import socket
@@ -14,6 +12,8 @@ import subprocess
 import sys
 import tempfile
 import time
+
+from ports import Held, end_with_parent
 
 OWNER = "00112233-4455-6677-8899-aabbccddeeff"
 STORED = bytes.fromhex("33221100554477668899aabbccddeeff")
@@ -291,11 +291,6 @@ class Program:
         expect(told, "".join(f"{line}\n" for line in lines).encode(), "an audit")
 
 
-def end_with_parent():
-    """The process that begins here is ended when the one that asks for it ends (prctl's PR_SET_PDEATHSIG)."""
-    ctypes.CDLL(None).prctl(1, signal.SIGKILL)
-
-
 def sockets(process: int) -> set[str]:
     """The inodes of the sockets that a process holds."""
     found = set()
@@ -318,35 +313,28 @@ def listens(process: int, port: int) -> bool:
 
 
 class Server:
-    """`serve`, on a port that was free. It ends with the program that asks, or when that lets go of it."""
+    """`serve`, at a port that is held for it. It ends with the program that asks, or when that lets go of it."""
 
     def __init__(self, program, desk, count=1_000_000, env=None, under=(), zeros="", begin=end_with_parent):
-        self.desk = desk
-        for _ in range(50):
-            # (below those of common.sh, and those that the system gives to clients)
-            self.port = random.randrange(10_000, 20_000)
-            self.process = subprocess.Popen(
-                [*under, program.path, "serve", desk, f"{zeros}{self.port}", f"{zeros}{count}"], stdin=subprocess.DEVNULL,
-                stdout=subprocess.PIPE, stderr=subprocess.PIPE, env={**program.env, **(env or {})}, preexec_fn=begin,
-            )
-            if self.has_begun():
-                return
-        fail(f"serve {desk}: no port")
+        self.desk, self.held = desk, Held()
+        self.port = self.held.port
+        self.process = subprocess.Popen(
+            [*under, program.path, "serve", desk, f"{zeros}{self.port}", f"{zeros}{count}"], stdin=subprocess.DEVNULL,
+            stdout=subprocess.PIPE, stderr=subprocess.PIPE, env={**program.env, **(env or {})}, preexec_fn=begin,
+        )
+        self.begins()
 
-    def has_begun(self) -> bool:
-        """Waits until the server listens; not where somebody else has its port."""
+    def begins(self) -> None:
+        """Waits until the server listens."""
         until = time.monotonic() + 300
-        while time.monotonic() < until:
-            if listens(self.process.pid, self.port):
-                return True
+        while not listens(self.process.pid, self.port):
             if self.process.poll() is not None:
                 _, err = self.process.communicate()
-                if err == b"device 14 Read\n":
-                    return False
                 fail(f"serve {self.desk}: status {self.process.returncode}, {err!r}")
+            if time.monotonic() > until:
+                self.kill()
+                fail(f"serve {self.desk}: nobody listens")
             time.sleep(0.002)
-        self.kill()
-        fail(f"serve {self.desk}: nobody listens")
 
     def __enter__(self):
         return self
@@ -359,6 +347,7 @@ class Server:
         if self.process.poll() is None:
             self.process.kill()
         self.process.communicate()
+        self.held.let_go()
 
     def ended(self):
         """The server has ended by itself, with all connections served."""

@@ -18,6 +18,9 @@ from pathlib import Path
 from typing import Dict, List, NamedTuple, NoReturn, Optional, Tuple
 
 ROOT = Path(__file__).resolve().parents[2]
+sys.path.insert(0, str(ROOT / "checks" / "requests"))
+from ports import Held  # noqa: E402
+
 OWNER = "00112233-4455-6677-8899-aabbccddeeff"
 PEOPLE = {"ann": "submitter", "rita": "reviewer", "raul": "reviewer", "sid": "signer", "olga": "officer", "otto": "officer"}
 MARK = "-- that was all of it --"
@@ -35,13 +38,6 @@ def listens(port: int) -> bool:
     """Whether somebody listens there: a connection to find out would be one of those that are counted."""
     rows = [line.split() for line in Path("/proc/net/tcp").read_text().splitlines()[1:]]
     return any(row[1].endswith(f":{port:04X}") and row[3] == "0A" for row in rows)
-
-
-def some_port() -> int:
-    while True:
-        port = 20000 + secrets.randbelow(12000)
-        if not listens(port):
-            return port
 
 
 def until_listens(port: int) -> None:
@@ -151,7 +147,8 @@ class Machine:
 
     def __init__(self, program: str, room: Path):
         self.program, self.room = program, room
-        self.port, self.proxy = some_port(), some_port()
+        self.held = [Held() for _ in range(2)]
+        self.port, self.proxy = (it.port for it in self.held)
         self.shells: Dict[str, subprocess.Popen] = {}
         self.tokens: Dict[str, str] = {}
         self.keys = 0
@@ -285,6 +282,8 @@ class Machine:
             self.system("stop", "kovelamiru-desk")
         self.nginx.terminate()
         self.nginx.wait(20)
+        for it in self.held:
+            it.let_go()
 
 
 # ---- how things stand before each page
@@ -427,8 +426,10 @@ def pasted(program: str, room: Path) -> int:
     room.mkdir()
     (room / "desk").symlink_to(program)
     (room / "examples").symlink_to(ROOT / "examples")
-    block = "\n".join(typed).replace("8080", str(some_port())) + "\n"
+    held = Held()
+    block = "\n".join(typed).replace("8080", str(held.port)) + "\n"
     done = subprocess.run(["bash"], cwd=room, input=block, stdout=subprocess.PIPE, stderr=subprocess.PIPE, text=True, timeout=120)
+    held.let_go()
     got = [line for line in done.stdout.split("\n") if line]
     if got != wanted:
         fail("README's day, pasted, in place of\n" + "\n".join(wanted) + "\ncame\n" + "\n".join(got) + "\n" + done.stderr)
