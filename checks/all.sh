@@ -1,5 +1,5 @@
 #!/usr/bin/env bash
-# Runs each check of the built program, or of the named one, that takes under five minutes: all.sh
+# Runs each check of the built program, or of the named one, that takes under ten minutes: all.sh
 # [PROGRAM [CHECK..]]. CHECK: the names of the checks to run, instead of all. As many run at a time
 # as there are processors. Each prints one line when it ends: whether it passed, its name, its
 # seconds and its own summary; the output of a failed check goes to standard error. The last line is
@@ -8,14 +8,13 @@
 #
 # They need bash, cc, chromium, chromium-driver, curl, dbxtool, efitools, gzip, mount, nginx,
 # openssl, pyflakes3, python3, python3-selenium, rt, sbsigntool, sqlite3, unshare and xxd; a check
-# without a tool that it needs fails and names it. tables.sh runs only by name: it builds a program from the libraries that
-# ./prove left.
+# without a tool that it needs fails and names it.
 set -u
 . "$(dirname -- "$(readlink -f -- "$0")")/common.sh"
 find_program "$@"
 [ $# -eq 0 ] || shift
 # The longest first, so that the last ones fill the lanes.
-checks=${*:-page.sh client.sh refused-memory.sh refused-requests.sh proxy.sh publish.sh limits.sh http.sh requests.sh faults.sh
+checks=${*:-tables.sh page.sh client.sh refused-memory.sh refused-requests.sh proxy.sh publish.sh limits.sh http.sh requests.sh faults.sh
     runbooks.sh audit.sh cuts.sh day.sh exports.sh readme.sh version1.sh help.sh prove.sh runs.sh proved.sh}
 until=$((SECONDS + 1200))
 enter_room

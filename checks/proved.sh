@@ -165,8 +165,11 @@ for number, line in enumerate(open(page, encoding='utf-8'), 1):
             if not re.search(rf'\bpub\s+(?:record\s+|data\s+)?{word}\b', source):
                 say(f'{page}:{number}: no {word} in {path}')
 
-# docs/TESTS.md: each test is there, in the crate that its line begins with, and so is each script.
+# docs/TESTS.md: each test is there, in the crate that its line begins with, and so is each script and each day of requests.sh. It
+# names each script of checks/.
 page, tests = 'docs/TESTS.md', {}
+days = open('checks/requests/days.py', encoding='utf-8').read().split('\nDAYS = ', 1)[1]
+scripts = {os.path.basename(path) for path in glob.glob('checks/*.sh')} - {'common.sh'}
 for path in glob.glob('crates/tests_*/src/**/*.rt', recursive=True):
     tests.setdefault(path.split('/')[1], set()).update(re.findall(r'\bfn ([a-z_0-9]+)', open(path, encoding='utf-8').read()))
 crates = []
@@ -185,8 +188,14 @@ for number, line in enumerate(open(page, encoding='utf-8'), 1):
             if not any(name in tests.get(crate, ()) for crate in crates):
                 say(f'{page}:{number}: {", ".join(crates)} has no test {name}')
     for name in re.findall(r'([a-z0-9_-]+\.sh)', line):
+        scripts.discard(name)
         if not os.path.exists(f'checks/{name}'):
             say(f'{page}:{number}: there is no checks/{name}')
+    for name in re.findall(r'"([^"]+)"', line) if ' requests.sh:' in line else []:
+        if f'"{name}":' not in days:
+            say(f'{page}:{number}: requests.sh has no day "{name}"')
+for name in sorted(scripts):
+    say(f'{page}: nothing about checks/{name}')
 
 print(f'{rows} rows, {missing} missing')
 sys.exit(missing > 0)

@@ -1,9 +1,9 @@
 #!/bin/sh
 # Writes a day of a desk into a file with store_writes, and has sqlite3's own shell read it: its
 # integrity check, the schema, and every row. A taken name and a number past SQL's integers must be
-# refused. Not part of `rt ci`: it needs sqlite3. The program runs unproved
-# over the proved libraries, in a room of its own; if $TABLES_ROOM names a folder, that is the room,
-# and it is kept for the next run.
+# refused. Not part of `rt ci`: it needs sqlite3. The program is built from the sources, unproved, in
+# a room of its own: three minutes of one processor. If $TABLES_ROOM names a folder, that is the room,
+# and it is kept.
 set -eu
 . "$(dirname -- "$(readlink -f -- "$0")")/common.sh"
 needs rt sqlite3
@@ -18,10 +18,8 @@ below="desk_bytes pe_image sbat desk_texts desk_history store_sql store_schema s
 : > "$at/crates.txt"
 for crate in $below; do
     rm -rf "$at/crates/$crate"
-    mkdir -p "$at/crates/$crate/out"
+    mkdir -p "$at/crates/$crate"
     (cd "$root/crates/$crate" && tar -cf - --exclude=out --exclude=must-fail .) | (cd "$at/crates/$crate" && tar -xf -)
-    # (by links if the room is on the same disk)
-    cp -al "$root/crates/$crate/out/rlib" "$at/crates/$crate/out/" 2> /dev/null || cp -a "$root/crates/$crate/out/rlib" "$at/crates/$crate/out/"
     grep "^$crate:" "$root/crates.txt" >> "$at/crates.txt"
 done
 mkdir -p "$at/crates/write_day/src"
