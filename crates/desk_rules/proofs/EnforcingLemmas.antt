@@ -1,4 +1,4 @@
--- Entries that a Confirm puts into force.
+-- Entries that a call puts into force.
 use Rattle.std.proofs.Common.{◌≡◌, ℕ, ◌-◌, Bool, true, false, not, ◌&&◌, ◌||◌, cond, List, [], ◌∷◌, ◌++◌, map, filter, length, Option, Some, None, refl, sym, ◌∙◌, ap, arith}
 use Rattle.std.specs.Prelude.{if◌then◌else◌, IsTrue, bytes_eq, nat_lt, reverse, unwrap_or}
 use Rattle.std.specs.List.{list_any}
@@ -21,7 +21,7 @@ use Rattle.desk_texts.specs.declared.reply.Counts.{Counts}
 use Rattle.desk_history.specs.declared.rows.ProposalRow.{ProposalRow}
 use Rattle.desk_history.specs.declared.write.Write.{Write}
 use Rattle.desk_history.specs.declared.write.Write.TheVariants as writes
-use Rattle.desk_history.specs.Calls.{History, is_among, distinct, item}
+use Rattle.desk_history.specs.Calls.{History, Item, is_among, distinct, item}
 use Rattle.desk_history.specs.Forces.{InForce, enforced_by, forced, nothing}
 use Rattle.desk_history.specs.Level.{generations, greatest, is_above, is_sbat, names, raises, raises_some, stamp}
 use Rattle.desk_history.specs.Refusals.{is_later, refuse_if}
@@ -38,7 +38,7 @@ use Rattle.desk_rules.specs.declared.decisions.imports.SoFar.{SoFar}
 use Rattle.desk_rules.specs.declared.view.View.{View}
 use Rattle.desk_rules.specs.DecisionSteps.{force_refusal_in, is_lower_in, revocation_writes}
 use Rattle.desk_history.specs.Called.{called}
-use Rattle.desk_rules.specs.ImportSteps.{AreNew, HasTaken, HasTakenAll, PutsIntoForce, stamp_writes}
+use Rattle.desk_rules.specs.ImportSteps.{AreNew, HasTaken, HasTakenAll, PutsEntries, PutsIntoForce, stamp_writes}
 use Rattle.desk_rules.specs.Room.{takes_off}
 use Rattle.desk_rules.specs.Keys.{import_keys}
 use Rattle.desk_rules.specs.Views.{ShowsLists, generation_in, seen_standing}
@@ -101,6 +101,16 @@ lower_alike rows cs (x ∷ xs) each =
     ∙ ap (λ b. b || list_any (is_lower_in rows) xs) (named_lower (is_sbat x.name) x.generation 1 (greatest (generations cs) x.name))
     ∙ ap (λ b. is_lower cs x || b) (lower_alike rows cs xs (λ q h. each q (or_right (bytes_eq q x.name) (is_among (map (λ y. y.name) xs) q) h)))
 
+-- the tables where this is put into force, and these are the rows of proposals
+abbrev pub with_force : List ℕ → History → InForce → List ProposalRow → Tables
+with_force owner cs f rows = record (tables owner cs) {
+  desk = record (tables owner cs).desk { stamp = (if raises_some cs f then unwrap_or f.stamp (stamp cs) else stamp cs) };
+  revoked_digests = distinct (f.digests ++ revocations kinds.Digest cs);
+  revoked_certificates = distinct (f.certificates ++ revocations kinds.Certificate cs);
+  components = level_rows (f.components ++ generations cs);
+  proposals = rows;
+}
+
 -- of a view that shows the rows for all that is named, and the stamp
 module _ (v : View) (i : Imported) (owner : List ℕ) (cs : History) (lists : ShowsLists v.lists (tables owner cs) (import_keys i)) (stamp_seen : v.stamp ≡ stamp cs) (s : SoFar) (taken : HasTakenAll v i s) where
   so_far : HasTaken i.components (generations cs) (reverse i.components) s
@@ -142,16 +152,6 @@ module _ (v : View) (i : Imported) (owner : List ℕ) (cs : History) (lists : Sh
     | false ↦ ap (λ d. record t { desk = d }) is
   ]
 
-  -- the tables where this is put into force, and these are the rows of proposals
-  abbrev with_force : InForce → List ProposalRow → Tables
-  with_force f rows = record (tables owner cs) {
-    desk = record (tables owner cs).desk { stamp = (if raises_some cs f then unwrap_or f.stamp (stamp cs) else stamp cs) };
-    revoked_digests = distinct (f.digests ++ revocations kinds.Digest cs);
-    revoked_certificates = distinct (f.certificates ++ revocations kinds.Certificate cs);
-    components = level_rows (f.components ++ generations cs);
-    proposals = rows;
-  }
-
   -- these numbers, and as many entries skipped as are named
   abbrev counts_with : ℕ → ℕ → ℕ → Counts
   counts_with digests certificates components = record { digests = digests; certificates = certificates; components = components; passed = i.passed }
@@ -165,15 +165,16 @@ module _ (v : View) (i : Imported) (owner : List ℕ) (cs : History) (lists : Sh
     passed = option_map_or (λ n. n.passed) o 0;
   }
 
-  module _ (caller : Caller) (key : List ℕ) (k : ℕ) (enforced : enforced_by cs (item (called caller key (command.Confirm k))) ≡ Some i) (done : Enforced) (made : PutsIntoForce v i k s done) where
+  module _ (entered : Enforced) (made : PutsEntries v i s entered) where
     first : distinct (reverse i.digests ++ revocations kinds.Digest cs) ≡ reverse made.digests ++ distinct (revocations kinds.Digest cs)
     first = digest_rows made.digests made.new_digests
 
     second : distinct (reverse i.certificates ++ revocations kinds.Certificate cs) ≡ reverse made.certificates ++ distinct (revocations kinds.Certificate cs)
     second = certificate_rows made.certificates made.new_certificates
 
-    pub says : done.counts ≡ counted cs (item (called caller key (command.Confirm k)))
-    says =
+    -- the counts are those of a call that puts this into force
+    pub enters_as : (at : Item) → enforced_by cs at ≡ Some i → entered.counts ≡ counted cs at
+    enters_as at enforced =
         let digests : List (List ℕ) = distinct (revocations kinds.Digest cs) in
         let certificates : List (List ℕ) = distinct (revocations kinds.Certificate cs) in
         made.counts
@@ -182,18 +183,16 @@ module _ (v : View) (i : Imported) (owner : List ℕ) (cs : History) (lists : Sh
         ∙ (ap (λ n. counts_with (length (distinct (reverse i.digests ++ revocations kinds.Digest cs)) - length digests) (length (distinct (reverse i.certificates ++ revocations kinds.Certificate cs)) - length certificates) n) (sym raised)
         ∙ ap (λ o. counts_of o) (sym enforced))))
 
-    pub puts : all_written done.writes.items (tables owner cs) ≡ record (tables owner (item (called caller key (command.Confirm k)) ∷ cs)) { calls = minutes cs }
-    puts =
+    -- the writes put it into force
+    pub enters : all_written entered.writes.items (tables owner cs) ≡ with_force owner cs (forced i) (tables owner cs).proposals
+    enters =
         let t : Tables = record (tables owner cs) { components = level_rows (reverse i.components ++ generations cs) } in
         let u : Tables = record t { revoked_digests = distinct (reverse i.digests ++ revocations kinds.Digest cs) } in
         let w : Tables = record u { revoked_certificates = distinct (reverse i.certificates ++ revocations kinds.Certificate cs) } in
         let digests : List Write = revocation_writes kinds.Digest made.digests in
         let certificates : List Write = revocation_writes kinds.Certificate made.certificates in
-        let closing : Write = writes.ProposalState (record { proposal = k; state = states.Confirmed }) in
         ap (λ ws. all_written ws (tables owner cs)) made.wrote
-        ∙ (written-append (((s.writes.items ++ digests) ++ certificates) ++ stamp_writes s.names i.stamp) (closing ∷ []) (tables owner cs)
-        ∙ (ap (λ r. written closing r)
-        (written-append ((s.writes.items ++ digests) ++ certificates) (stamp_writes s.names i.stamp) (tables owner cs)
+        ∙ (written-append ((s.writes.items ++ digests) ++ certificates) (stamp_writes s.names i.stamp) (tables owner cs)
         ∙ (ap (λ r. all_written (stamp_writes s.names i.stamp) r)
         (written-append (s.writes.items ++ digests) certificates (tables owner cs)
         ∙ (ap (λ r. all_written certificates r)
@@ -203,18 +202,34 @@ module _ (v : View) (i : Imported) (owner : List ℕ) (cs : History) (lists : Sh
         ∙ (revocations_put kinds.Certificate made.certificates u ∙ ap (λ rows. record u { revoked_certificates = rows }) (sym second))))
         ∙ (stamped i.stamp w refl
         ∙ ap (λ b. record w { desk = record (tables owner cs).desk { stamp = (if b then unwrap_or i.stamp (stamp cs) else stamp cs) } }) names_some)))
-        ∙ (ap (λ rows. with_force (forced i) rows) (confirm_rows owner cs caller key k)
-        ∙ ap (λ o. with_force (option_map_or forced o nothing) (tables owner (item (called caller key (command.Confirm k)) ∷ cs)).proposals) (sym enforced))))
 
-    pub kept : list_any takes_off done.writes.items ≡ false
-    kept =
+    pub keeps : list_any takes_off entered.writes.items ≡ false
+    keeps =
         let digests : List Write = revocation_writes kinds.Digest made.digests in
         let certificates : List Write = revocation_writes kinds.Certificate made.certificates in
         ap (λ ws. list_any takes_off ws) made.wrote
-        ∙ none_of_two (((s.writes.items ++ digests) ++ certificates) ++ stamp_writes s.names i.stamp) (writes.ProposalState (record { proposal = k; state = states.Confirmed }) ∷ [])
-        (none_of_two ((s.writes.items ++ digests) ++ certificates) (stamp_writes s.names i.stamp)
+        ∙ none_of_two ((s.writes.items ++ digests) ++ certificates) (stamp_writes s.names i.stamp)
         (none_of_two (s.writes.items ++ digests) certificates
         (none_of_two s.writes.items digests so_far.kept (revocations_kept kinds.Digest made.digests))
         (revocations_kept kinds.Certificate made.certificates))
-        (stamp_kept s.names i.stamp))
-        refl
+        (stamp_kept s.names i.stamp)
+
+  module _ (caller : Caller) (key : List ℕ) (k : ℕ) (enforced : enforced_by cs (item (called caller key (command.Confirm k))) ≡ Some i) (done : Enforced) (made : PutsIntoForce v i k s done) where
+    abbrev closing : Write
+    closing = writes.ProposalState (record { proposal = k; state = states.Confirmed })
+
+    pub says : done.counts ≡ counted cs (item (called caller key (command.Confirm k)))
+    says = made.counts ∙ enters_as made.entries made.enters (item (called caller key (command.Confirm k))) enforced
+
+    pub puts : all_written done.writes.items (tables owner cs) ≡ record (tables owner (item (called caller key (command.Confirm k)) ∷ cs)) { calls = minutes cs }
+    puts =
+        ap (λ ws. all_written ws (tables owner cs)) made.wrote
+        ∙ (written-append made.entries.writes.items (closing ∷ []) (tables owner cs)
+        ∙ (ap (λ r. written closing r) (enters made.entries made.enters)
+        ∙ (ap (λ rows. with_force owner cs (forced i) rows) (confirm_rows owner cs caller key k)
+        ∙ ap (λ o. with_force owner cs (option_map_or forced o nothing) (tables owner (item (called caller key (command.Confirm k)) ∷ cs)).proposals) (sym enforced))))
+
+    pub kept : list_any takes_off done.writes.items ≡ false
+    kept =
+        ap (λ ws. list_any takes_off ws) made.wrote
+        ∙ none_of_two made.entries.writes.items (closing ∷ []) (keeps made.entries made.enters) refl

@@ -26,7 +26,8 @@ use Rattle.desk_rules.specs.Foreseen.{IsForeseen, dbx_with}
 use Rattle.desk_rules.specs.ImportSteps.{IsConfirmed}
 use Rattle.desk_rules.specs.Room.{has_room, puts}
 use Rattle.desk_rules.specs.Shown.{Shows}
-use Rattle.desk_rules.proofs.RoomLemmas.{certificates_step, digests_step, grows, room_is}
+use Rattle.desk_rules.proofs.RoomByRules.{room_is}
+use Rattle.desk_rules.proofs.RoomLemmas.{certificates_step, digests_step, grows}
 
 -- a table of as many rows as before and as many more as were gained has as many as after
 size_after : (size more count old new : ℕ) → size ≡ old → more ≡ new - old → new ≡ count + old → size + more ≡ new

@@ -3,6 +3,9 @@ pub mod CallLemmas
 pub mod DecisionLemmas
 pub mod EnforcingLemmas
 pub mod EntryLemmas
+pub mod FirstCallLemmas
+pub mod FirstOwnLemmas
+pub mod ForcingLemmas
 pub mod ForeseeingLemmas
 pub mod ForeseenRefusals
 pub mod ImportDigests
@@ -11,7 +14,10 @@ pub mod LevelDecisions
 pub mod OrderLemmas
 pub mod ProposalDecisions
 pub mod RequestDecisions
+pub mod RoomAfterLemmas
+pub mod RoomByRules
 pub mod RoomLemmas
+pub mod RulingLemmas
 pub mod ShownLemmas
 pub mod StandingLemmas
 pub mod SubmissionLemmas

@@ -85,16 +85,24 @@ HasTakenAll v n s =
     (old : List Component) → ((q : List ℕ) → IsTrue (is_among (map (λ x. x.name) n.components) q) → generation_in v.lists.components.items q ≡ greatest old q)
     → HasTaken n.components old (reverse n.components) s
 
--- These counts and writes put the entries of proposal k into force; `s` is the changes that its
--- components make. In order: its new digests, its new certificates, the generations, the stamp if
--- some rose, and last the proposal's state.
-pub record PutsIntoForce (v : View) (n : Imported) (k : ℕ) (s : SoFar) (e : Enforced) : Type 0 where
+-- These counts and writes put the named entries into force; `s` is the changes that their components
+-- make. In order: the generations, the new digests, the new certificates, and the stamp if some
+-- rose.
+pub record PutsEntries (v : View) (n : Imported) (s : SoFar) (e : Enforced) : Type 0 where
   pub digests : List (List ℕ)
   pub certificates : List (List ℕ)
   pub new_digests : AreNew v.lists.revoked_digests.items n.digests digests
   pub new_certificates : AreNew v.lists.revoked_certificates.items n.certificates certificates
   pub counts : e.counts ≡ record { digests = length digests; certificates = length certificates; components = s.names; passed = n.passed }
-  pub wrote : e.writes.items ≡ (((s.writes.items ++ revocation_writes kinds.Digest digests) ++ revocation_writes kinds.Certificate certificates) ++ stamp_writes s.names n.stamp) ++ writes.ProposalState (record { proposal = k; state = states.Confirmed }) ∷ []
+  pub wrote : e.writes.items ≡ ((s.writes.items ++ revocation_writes kinds.Digest digests) ++ revocation_writes kinds.Certificate certificates) ++ stamp_writes s.names n.stamp
+
+-- these counts and writes put the entries of proposal k into force: those of its entries, and last
+-- the write of its state
+pub record PutsIntoForce (v : View) (n : Imported) (k : ℕ) (s : SoFar) (e : Enforced) : Type 0 where
+  pub entries : Enforced
+  pub enters : PutsEntries v n s entries
+  pub counts : e.counts ≡ entries.counts
+  pub wrote : e.writes.items ≡ entries.writes.items ++ writes.ProposalState (record { proposal = k; state = states.Confirmed }) ∷ []
 
 -- Another officer can confirm the proposal k, but for the desk's limits. A Confirm of it has these
 -- counts, and the writes make the tables of the history with it, except for the call's own row;

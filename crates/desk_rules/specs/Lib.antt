@@ -2,6 +2,7 @@ pub mod DecisionSteps
 pub mod Decisions
 pub mod Entries
 pub mod First
+pub mod FirstSteps
 pub mod Foreseen
 pub mod ImportSteps
 pub mod Keys

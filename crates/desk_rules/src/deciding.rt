@@ -21,7 +21,7 @@ use std::alloc::Global;
 
 impl View {
     /// The minute of the caller's earlier call with this key.
-    fn earlier_minute(&self, call: &CallRef<'_>) -> Option<&Minute>
+    pub(crate) fn earlier_minute(&self, call: &CallRef<'_>) -> Option<&Minute>
         ensures { option_copied result
             ≡ find (has_key (caller_name call.now.caller) call.now.key) self.now.calls.items }
     {
@@ -33,7 +33,7 @@ impl View {
 }
 
 /// The canonical text of the command. Takes memory for it.
-fn text_of(alloc: Global, command: &Command) -> Result<CommandText, Refusal>
+pub(crate) fn text_of(alloc: Global, command: &Command) -> Result<CommandText, Refusal>
     ensures { MatchResult result (λ text. text ≡ canonical_text command.now)
         (λ refusal. refusal ≡ Refusal.NoMemory) }
 {
@@ -41,7 +41,7 @@ fn text_of(alloc: Global, command: &Command) -> Result<CommandText, Refusal>
 }
 
 /// The answer to a call with the key of this minute: its reply, if the command has the same text.
-fn repeat(alloc: Global, minute: &Minute, text: &CommandText) -> Result<Changes, Refusal>
+pub(crate) fn repeat(alloc: Global, minute: &Minute, text: &CommandText) -> Result<Changes, Refusal>
     ensures { steps.Repeats result minute.now text.now }
 {
     if minute.text.as_str() != text.as_str() {
@@ -54,7 +54,7 @@ fn repeat(alloc: Global, minute: &Minute, text: &CommandText) -> Result<Changes,
 }
 
 /// Puts the call's own row after the writes of its command, if there is room for all of them.
-fn join(
+pub(crate) fn join(
     view: &View,
     own: Changes,
     call: &CallRef<'_>,

@@ -1,4 +1,5 @@
 //! Decisions over a view: each command's own conditions, and the rows that it writes.
+mod forcing;
 mod imports;
 mod level;
 mod lists;
@@ -17,6 +18,7 @@ use crate::view::{Changes, View};
 use desk_bytes::Refusal;
 use desk_history::Write;
 use desk_texts::{Caller, Command, GREATEST_NUMBER, Reply, RequestNumber, Submission};
+pub(crate) use forcing::decide_own_first;
 pub(crate) use imports::set_of;
 use lists::{list_certificate, list_digest, unlist};
 use people::add_person;

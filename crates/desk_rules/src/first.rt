@@ -4,6 +4,9 @@ ghost use Rattle.desk_history.specs.Called.{called};
 ghost use Rattle.desk_history.specs.DecisionRefusals.{may_answer};
 ghost use Rattle.desk_rules.specs.First as spec;
 
+use crate::call_ref::CallRef;
+use crate::deciding::{join, repeat, text_of};
+use crate::decisions::decide_own_first;
 use crate::view::{Changes, View};
 use desk_bytes::Refusal;
 use desk_texts::{Caller, Command, Key};
@@ -23,10 +26,21 @@ pub fn decide_first(
     ensures exact { spec.DecidesFirstCall view.now (called caller.now key.now command.now) result }
     ensures only { IfErr result (λ refusal. IsTrue (may_answer refusal)) }
 {
-    let _ = alloc;
-    let _ = view;
-    let _ = caller;
-    let _ = key;
-    let _ = command;
-    Err(Refusal::NoMemory)
+    let call = CallRef {
+        caller,
+        key,
+        command,
+    };
+    if !view.is_known(caller) {
+        return Err(Refusal::UnknownCaller);
+    }
+    let text = text_of(alloc, command)?;
+    if let Some(minute) = view.earlier_minute(&call) {
+        return repeat(alloc, minute, &text);
+    }
+    if !view.may_give(caller, command) {
+        return Err(Refusal::NotYourRole);
+    }
+    let own = decide_own_first(alloc, view, caller, command)?;
+    join(view, own, &call, text)
 }

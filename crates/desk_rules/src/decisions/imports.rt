@@ -236,14 +236,42 @@ fn put_stamp(writes: &mut Vec<Write>, names: u64, stamp: Option<Stamp>) -> Resul
     Ok(())
 }
 
-/// What the entries of a proposal add when they are put into force, and the rows that this writes,
-/// in order.
+/// What named entries add when they are put into force, and the rows that this writes, in order.
 #[derive(Drop)]
 pub(crate) struct Enforced {
     /// The counts of the reply.
     pub(crate) counts: Counts,
     /// The writes, without the call's own.
     pub(crate) writes: Vec<Write>,
+}
+
+/// Puts the named entries into force. `so_far` is the changes that their components make.
+pub(crate) fn put_entries(
+    alloc: Global,
+    view: &View,
+    named: &Import,
+    so_far: SoFar,
+) -> Result<Enforced, Refusal>
+    ensures ok { IfOk result (λ enforced. spec.PutsEntries view.now named.now so_far enforced) }
+    ensures err { IfErr result (λ refusal. refusal ≡ Refusal.NoMemory) }
+{
+    let lists = &view.lists;
+    let names = so_far.names;
+    let digests = named.digests().as_slice();
+    let digests = new_digests(alloc, &lists.revoked_digests, digests)?;
+    let certificates = named.certificates().as_slice();
+    let certificates = new_digests(alloc, &lists.revoked_certificates, certificates)?;
+    let mut writes = so_far.writes;
+    put_revoked(&mut writes, ListedKind::Digest, &digests)?;
+    put_revoked(&mut writes, ListedKind::Certificate, &certificates)?;
+    put_stamp(&mut writes, names, named.stamp())?;
+    let counts = Counts {
+        digests: digests.len() as u64,
+        certificates: certificates.len() as u64,
+        components: names,
+        passed: named.passed(),
+    };
+    Ok(Enforced { counts, writes })
 }
 
 /// Puts the proposal's entries into force. `so_far` is the changes that its components make.
@@ -258,26 +286,13 @@ pub(crate) fn enforce(
         (λ enforced. spec.PutsIntoForce view.now named.now proposal so_far enforced) }
     ensures err { IfErr result (λ refusal. refusal ≡ Refusal.NoMemory) }
 {
-    let lists = &view.lists;
-    let names = so_far.names;
-    let digests = named.digests().as_slice();
-    let digests = new_digests(alloc, &lists.revoked_digests, digests)?;
-    let certificates = named.certificates().as_slice();
-    let certificates = new_digests(alloc, &lists.revoked_certificates, certificates)?;
-    let mut writes = so_far.writes;
-    put_revoked(&mut writes, ListedKind::Digest, &digests)?;
-    put_revoked(&mut writes, ListedKind::Certificate, &certificates)?;
-    put_stamp(&mut writes, names, named.stamp())?;
+    let entries = put_entries(alloc, view, named, so_far)?;
+    let counts = entries.counts;
+    let mut writes = entries.writes;
     let state = ProposalState::Confirmed;
     push(
         &mut writes,
         Write::ProposalState(ProposalOutcome { proposal, state }),
     )?;
-    let counts = Counts {
-        digests: digests.len() as u64,
-        certificates: certificates.len() as u64,
-        components: names,
-        passed: named.passed(),
-    };
     Ok(Enforced { counts, writes })
 }

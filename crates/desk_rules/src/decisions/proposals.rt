@@ -77,7 +77,12 @@ impl View {
 
     /// The refusal to put the named entries into force, by their kind and by the count of names
     /// that they raise.
-    fn force_refusal(&self, kind: ProposalKind, named: &Import, names: u64) -> Option<Refusal>
+    pub(super) fn force_refusal(
+        &self,
+        kind: ProposalKind,
+        named: &Import,
+        names: u64,
+    ) -> Option<Refusal>
         ensures { result ≡ spec.force_refusal_in self.now kind named.now names }
     {
         match kind {
