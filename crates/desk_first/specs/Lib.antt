@@ -1,1 +1,4 @@
 pub mod Desks
+pub mod Figures
+pub mod Acts
+pub mod Steps

@@ -6,21 +6,23 @@ ghost use Rattle.desk_history.specs.Calls.{History};
 ghost use Rattle.desk_store.specs.Desks.{ShowsDesk};
 ghost use Rattle.desk_first.specs.Desks.{AcceptsFirst, AcceptsNoneFirst, ShowsFirstDesk};
 
+use crate::acting::run;
+use crate::figures::Figures;
 use desk_bytes::Refusal;
+use desk_rules::CallRef;
 use desk_store::Desk;
-use desk_texts::{Call, Reply};
-use sbat::Stamp;
+use desk_texts::{Call, Reply, call_is_formed};
 use sqlite::{Alter, Connection};
 use std::alloc::Global;
-use store_views::Remembered;
+use store_sql::stop_leaves_what_is_shown;
 
-/// A desk whose calls are accepted by the first rules, in a store. It has the connection, and what it
-/// remembers between calls: the level's stamp, and the sizes of its tables that it has counted.
+/// A desk whose calls are accepted by the first rules, in a store. It has the connection, and keeps
+/// the level's stamp and the sizes of its tables between calls.
 #[derive(Drop)]
 pub struct FirstDesk<S: Alter> {
     alloc: Global,
     conn: Connection<S>,
-    remembered: Remembered,
+    figures: Figures,
 }
 
 impl<S: Alter + Drop> FirstDesk<S> {
@@ -34,7 +36,7 @@ impl<S: Alter + Drop> FirstDesk<S> {
         FirstDesk {
             alloc,
             conn: desk.release(),
-            remembered: Remembered::of_stamp(Stamp::original()),
+            figures: Figures::of_no_calls(),
         }
     }
 
@@ -51,8 +53,21 @@ impl<S: Alter + Drop> FirstDesk<S> {
         ensures clean { HasCleanDisk (state S.Store self.new.conn)
             → HasCleanDisk (state S.Store self.old.conn) }
     {
-        let _ = call;
-        Err(Refusal::NoMemory)
+        call_is_formed(&call.caller, &call.key, &call.command);
+        let parts = CallRef {
+            caller: &call.caller,
+            key: &call.key,
+            command: &call.command,
+        };
+        match run(self.alloc, &mut self.conn, &self.figures, &parts) {
+            Ok(Some(followed)) => {
+                stop_leaves_what_is_shown(&self.conn);
+                self.figures = followed.figures;
+                Ok(Some(followed.reply))
+            }
+            Ok(None) => Ok(None),
+            Err(refusal) => Err(refusal),
+        }
     }
 
     /// The desk, which goes on by the second rules. Takes memory.
@@ -65,7 +80,13 @@ impl<S: Alter + Drop> FirstDesk<S> {
         ensures clean { IfOk result (λ desk. HasCleanDisk (state S.Store desk.conn)
             → HasCleanDisk (state S.Store self.conn)) }
     {
-        let _ = self;
-        Err(Refusal::NoMemory)
+        let FirstDesk { alloc, conn, .. } = self;
+        if !conn.is_autocommit() {
+            return Err(Refusal::Store);
+        }
+        match Desk::open(alloc, conn) {
+            Ok(desk) => Ok(desk),
+            Err((refusal, _)) => Err(refusal),
+        }
     }
 }

@@ -2,6 +2,11 @@
 //! followed in a store.
 #![tactic(auto)]
 
+mod acting;
+mod deciding;
 mod desk;
+mod figures;
+mod viewing;
+mod writing;
 
 pub use desk::FirstDesk;

@@ -1,0 +1,101 @@
+-- From a call that the first rules accept to the history that the store shows after it.
+use Rattle.std.proofs.Common.{◌≡◌, ℕ, List, [], ◌∷◌, length, true, false, None, Some, refl, ap, subst, ◌∙◌, arith}
+use Rattle.std.proofs.lemmas.List.Elements.{All-cons}
+use Rattle.sqlite.specs.Store as store
+use Rattle.sqlite.specs.Held.{Held, state}
+use Rattle.sqlite.specs.State as states
+use Rattle.sqlite.specs.State.{HasCleanDisk, State}
+use Rattle.desk_texts.specs.Formed.{IsCall}
+use Rattle.desk_texts.specs.declared.command.Call.{Call}
+use Rattle.desk_texts.specs.declared.reply.Reply.{Reply}
+use Rattle.desk_history.specs.Calls.{First, History, under}
+use Rattle.desk_history.specs.Formed.{IsHistory, IsItem}
+use Rattle.desk_history.specs.Replies.{minutes}
+use Rattle.desk_history.specs.Runs.{is_legal, ruling}
+use Rattle.desk_history.specs.Tables.{MigratedRow, Tables, tables}
+use Rattle.desk_history.specs.Writes.{all_written}
+use Rattle.desk_history.specs.declared.answer.Answer.TheVariants.{Accepted}
+use Rattle.desk_history.proofs.RunLemmas.{next_legal}
+use Rattle.desk_rules.specs.First.{ShowsToFirst}
+use Rattle.desk_rules.specs.declared.view.Changes.{Changes as Decided}
+use Rattle.desk_rules.specs.declared.view.View.{View}
+use Rattle.store_migration.proofs.HistoryLemmas.{migrated_tables}
+use Rattle.store_schema.specs.Tables.{desk_schema}
+use Rattle.store_schema.specs.rows.Contents.{contents}
+use Rattle.store_schema.specs.rows.Histories.{AreFirst, ShowsHistory}
+use Rattle.store_sql.specs.States.{Changes, Sees}
+use Rattle.store_sql.proofs.CommitLemmas.{Worked}
+use Rattle.store_sql.proofs.StopLemmas.{shows_all}
+use Rattle.desk_first.specs.declared.acting.Followed.{Followed}
+use Rattle.desk_first.specs.declared.figures.Figures.{Figures}
+use Rattle.desk_first.specs.Acts.{Accepts, AcceptsWith, ActsFirst, FirstPast, FollowsInside, FollowsOutside, IsNotAccepted, after, before}
+use Rattle.desk_first.specs.Figures.{AreOf, TurnInto}
+use Rattle.desk_first.specs.Steps.{with_first_calls}
+use Rattle.desk_first.proofs.DecidingLemmas.{joined}
+
+-- a history with an accepted call is a desk's
+pub joined_history : (cs : History) (c : Call) (reply : Reply) → IsHistory cs → AreFirst cs → IsCall c → ruling cs (under First c) ≡ Accepted reply → IsHistory (under First c ∷ cs)
+joined_history cs c reply history first formed accepted = record {
+  legal = subst (λ h. is_legal h ≡ true) (joined cs (under First c) reply accepted) (next_legal cs (under First c) first history.legal);
+  formed = All-cons IsItem (under First c) cs formed history.formed;
+}
+
+-- the tables of a history of the first rules, by the number of its calls
+counted_tables : (owner : List ℕ) (cs : History) (n : ℕ) → AreFirst cs → n ≡ length (minutes cs) → record (tables owner cs) { migrated = record { id = 1; calls = n } ∷ [] } ≡ tables owner cs
+counted_tables owner cs n first is =
+    ap (λ (rows : List MigratedRow). record (tables owner cs) { migrated = rows }) (ap (λ (t : Tables). t.migrated) (migrated_tables owner cs n first is))
+
+-- ---- inside the transaction
+
+module _ (f : Figures) (c : Call) (v : View) (first read last : State) (decided : Decided) (later : Figures) (seen : Changes desk_schema contents first read (λ t. t))
+    (shown : (p : FirstPast f) → Sees desk_schema first (before f p) → ShowsToFirst v (tables p.owner p.calls) c) (accepts : Accepts v c decided)
+    (turns : TurnInto f c.command decided.writes.items later) (wrote : Changes desk_schema contents read last (λ t. with_first_calls later.sizes.calls (all_written decided.writes.items t))) where
+  told : (p : FirstPast f) → Sees desk_schema first (before f p) → AcceptsWith decided p.owner p.calls c
+  told p sees = accepts p.owner p.calls p.history.legal p.first (shown p sees)
+
+  right : (p : FirstPast f) → Sees desk_schema first (before f p) → AreOf later (tables p.owner (under First c ∷ p.calls))
+  right p sees =
+      let it = told p sees in
+      let legal : is_legal (under First c ∷ p.calls) ≡ true = subst (λ h. is_legal h ≡ true) (joined p.calls (under First c) decided.reply it.accepted) (next_legal p.calls (under First c) p.first p.history.legal) in
+      turns p.owner p.calls c legal refl it.made p.right
+
+  made : (p : FirstPast f) → Sees desk_schema first (before f p) → with_first_calls later.sizes.calls (all_written decided.writes.items (tables p.owner p.calls)) ≡ tables p.owner (under First c ∷ p.calls)
+  made p sees = ap (with_first_calls later.sizes.calls) (told p sees).made ∙ counted_tables p.owner (under First c ∷ p.calls) later.sizes.calls p.first (right p sees).calls
+
+  pub follows_inside : FollowsInside f c (record { reply = decided.reply; figures = later }) first last
+  follows_inside = record {
+    turned = record {
+      is_open = λ o. wrote.is_open (seen.is_open o);
+      inside = wrote.inside;
+      kept = record {
+        was_open = λ o. seen.kept.was_open (wrote.kept.was_open o);
+        committed = λ o. wrote.kept.committed o ∙ seen.kept.committed (wrote.kept.was_open o);
+      };
+      value = λ p sees. subst (λ (t : Tables). Sees desk_schema last (contents t)) (made p sees) (wrote.value (tables p.owner p.calls) (seen.value (tables p.owner p.calls) sees));
+    };
+    answered = λ p sees. record { accepted = (told p sees).accepted; right = right p sees };
+  }
+
+-- ---- the whole transaction
+
+module _ {S : Type 0} (g : store.Ghosts S) (old last end : Held S) (f : Figures) (c : Call) where
+  -- the transaction that began shows what the connection shows
+  sees_begun : (does : State → State → Type 0) → Worked g old last does → HasCleanDisk (state g last) → (p : FirstPast f) → ShowsHistory (state g old) p.owner p.calls
+      → Sees desk_schema (state g (record old { in_transaction = true })) (before f p)
+  sees_begun does did late p shows = record {
+    inside = refl;
+    holds = (shows.holds (omega (arith, did.spares.clean, late)) ((did.kept late).was_open (did.inside late).0)).0;
+  }
+
+  -- the call was accepted, and its rows are committed
+  pub committed : (followed : Followed) → Worked g old last (ActsFirst f c (Some followed)) → HasCleanDisk (state g last)
+      → states.Shows (state g last) (state g end) (state g last).now (state g last).now false → FollowsOutside f c followed (state g old) (state g end)
+  committed followed did late done = record {
+    is_open = done.is_open;
+    answered = λ p shows. (did.value late).answered p (sees_begun (ActsFirst f c (Some followed)) did late p shows);
+    shown = shows_all desk_schema (before f) (after f c) g old last end did.spares (λ clean. ((did.inside clean).0, (did.value clean).turned)) late done;
+  }
+
+  -- it wasn't accepted
+  pub passed : Worked g old last (ActsFirst f c None) → HasCleanDisk (state g last) → (p : FirstPast f) → ShowsHistory (state g old) p.owner p.calls → IsNotAccepted c p
+  passed did late p shows = did.value late p (sees_begun (ActsFirst f c None) did late p shows)

@@ -1,0 +1,5 @@
+mod MigratedLemmas
+mod FiguresLemmas
+mod KnownLemmas
+mod DecidingLemmas
+mod ActingLemmas

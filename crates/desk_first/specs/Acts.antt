@@ -1,0 +1,90 @@
+-- The effect of a call by the first rules on the tables: inside its transaction, and as a whole.
+use Rattle.std.specs.Prelude.{◌≡◌, ℕ, List, ◌∷◌, false, Option, Some, None, IsTrue}
+use Rattle.std.specs.List.{list_all}
+use Rattle.sqlite.specs.State.{State}
+use Rattle.desk_texts.specs.declared.command.Call.{Call}
+use Rattle.desk_history.specs.Calls.{First, History, is_first, under}
+use Rattle.desk_history.specs.Formed.{IsHistory}
+use Rattle.desk_history.specs.Runs.{is_accepted, is_legal, ruling}
+use Rattle.desk_history.specs.Tables.{tables}
+use Rattle.desk_history.specs.Writes.{all_written}
+use Rattle.desk_history.specs.declared.answer.Answer.TheVariants.{Accepted}
+use Rattle.desk_rules.specs.First.{ShowsToFirst}
+use Rattle.desk_rules.specs.declared.view.Changes.{Changes}
+use Rattle.desk_rules.specs.declared.view.View.{View}
+use Rattle.store_sql.specs.Contents.{Contents}
+use Rattle.store_sql.specs.States.{Sees, Turns}
+use Rattle.store_schema.specs.Tables.{desk_schema}
+use Rattle.store_schema.specs.rows.Histories.{AreFirst, ShowsHistory, rows_of}
+use Rattle.desk_first.specs.declared.acting.Followed.{Followed}
+use Rattle.desk_first.specs.declared.figures.Figures.{Figures}
+use Rattle.desk_first.specs.Figures.{AreOf, but_migrated}
+
+-- A history of the first rules that the tables may represent, with the desk's owner: a desk may have
+-- it, and the figures are those of its tables.
+pub record FirstPast (f : Figures) : Type 0 where
+  pub owner : List ℕ
+  pub calls : History
+  pub history : IsHistory calls
+  pub first : AreFirst calls
+  pub right : AreOf f (tables owner calls)
+
+-- its rows
+abbrev pub before : (f : Figures) → FirstPast f → Contents
+before f p = rows_of p.owner p.calls
+
+-- the rows of the history with the call
+abbrev pub after : (f : Figures) → Call → FirstPast f → Contents
+after f c p = rows_of p.owner (under First c ∷ p.calls)
+
+-- the call isn't accepted by the first rules
+abbrev pub IsNotAccepted : {f : Figures} → Call → FirstPast f → Type 0
+IsNotAccepted c p = is_accepted (ruling p.calls (under First c)) ≡ false
+
+-- ---- the decision
+
+-- the call is accepted with the reply, and its writes make the next history's tables, but for the
+-- count of calls
+pub record AcceptsWith (changes : Changes) (owner : List ℕ) (cs : History) (c : Call) : Type 0 where
+  pub accepted : ruling cs (under First c) ≡ Accepted changes.reply
+  pub made : all_written changes.writes.items (tables owner cs) ≡ but_migrated owner cs c
+
+-- so it is on each legal history of the first rules alone that the view shows for the call
+abbrev pub Accepts : View → Call → Changes → Type 0
+Accepts v c changes =
+    (owner : List ℕ) (cs : History) → IsTrue (is_legal cs) → IsTrue (list_all is_first cs) → ShowsToFirst v (tables owner cs) c
+    → AcceptsWith changes owner cs c
+
+-- on each of them the call isn't accepted
+abbrev pub AcceptsNot : View → Call → Type 0
+AcceptsNot v c =
+    (owner : List ℕ) (cs : History) → IsTrue (is_legal cs) → IsTrue (list_all is_first cs) → ShowsToFirst v (tables owner cs) c
+    → is_accepted (ruling cs (under First c)) ≡ false
+
+-- ---- the call
+
+-- the call is accepted with the reply, and the figures are those of the next history's tables
+pub record IsFollowed {f : Figures} (c : Call) (followed : Followed) (p : FirstPast f) : Type 0 where
+  pub accepted : ruling p.calls (under First c) ≡ Accepted followed.reply
+  pub right : AreOf followed.figures (tables p.owner (under First c ∷ p.calls))
+
+-- inside a transaction the tables turn into those of the next history, and the call is accepted
+pub record FollowsInside (f : Figures) (c : Call) (followed : Followed) (old new : State) : Type 0 where
+  pub turned : Turns desk_schema (before f) (after f c) old new
+  pub answered : (p : FirstPast f) → Sees desk_schema old (before f p) → IsFollowed c followed p
+
+-- it is followed inside a transaction, or isn't accepted
+abbrev pub ActsFirst : Figures → Call → Option Followed → State → State → Type 0
+ActsFirst f c (Some followed) old new = FollowsInside f c followed old new
+ActsFirst f c None old new = (p : FirstPast f) → Sees desk_schema old (before f p) → IsNotAccepted c p
+
+-- the same for the connection outside, which is open after an accepted call
+pub record FollowsOutside (f : Figures) (c : Call) (followed : Followed) (old new : State) : Type 0 where
+  pub is_open : IsTrue new.is_open
+  pub answered : (p : FirstPast f) → ShowsHistory old p.owner p.calls → IsFollowed c followed p
+  pub shown : (p : FirstPast f) → ShowsHistory old p.owner p.calls → ShowsHistory new p.owner (under First c ∷ p.calls)
+
+-- it is followed, or isn't accepted
+abbrev pub RunsFirst : Figures → Call → Option Followed → State → State → Type 0
+RunsFirst f c (Some followed) old new = FollowsOutside f c followed old new
+RunsFirst f c None old new = (p : FirstPast f) → ShowsHistory old p.owner p.calls → IsNotAccepted c p
