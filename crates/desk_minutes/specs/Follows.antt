@@ -1,32 +1,22 @@
 -- The histories whose minutes some bytes are.
-use Rattle.std.specs.Prelude.{◌≡◌, ◌≢◌, ◌⊎◌, ◌<◌, ℕ, Bool, not, true, List, [], ◌++◌, codes, length}
+use Rattle.std.specs.Prelude.{◌≡◌, ◌≢◌, ◌⊎◌, ◌<◌, ℕ, true, List, [], ◌++◌, codes, length}
 use Rattle.std.specs.Io.{StopsAt}
-use Rattle.std.specs.List.{list_all}
-use Rattle.desk_texts.specs.Formed.{IsCall}
-use Rattle.desk_texts.specs.declared.command.Call.{Call}
-use Rattle.desk_history.specs.Calls.{History, Item, is_first}
-use Rattle.desk_history.specs.Formed.{IsHistory}
-use Rattle.desk_history.specs.Replies.{minute}
-use Rattle.desk_history.specs.Runs.{answer, is_accepted}
+use Rattle.desk_history.specs.Calls.{History, Item}
+use Rattle.desk_history.specs.Formed.{IsHistory, IsItem}
+use Rattle.desk_history.specs.Replies.{minute_of}
+use Rattle.desk_history.specs.Runs.{joins}
 use Rattle.desk_exports.specs.Exports.{exported, minute_line, minutes_text}
 use Rattle.desk_exports.specs.declared.export.Export.{Export}
+use Rattle.desk_minutes.specs.Minuted.{as_minuted}
 
 -- The bytes are the minutes of this history, which a desk may have.
 pub record Follows (bytes : List ℕ) (cs : History) : Type 0 where
   pub history : IsHistory cs
   pub minutes : minutes_text cs ≡ bytes
 
--- the call was accepted by the second rules
-abbrev pub is_second : Item → Bool
-is_second i = not (is_first i)
-
--- each call was accepted by the second rules
-abbrev pub are_second : History → Bool
-are_second cs = list_all is_second cs
-
--- no call that is accepted after these, by the second rules, has this line
+-- no call that may come next, by either rules, has this line
 abbrev pub HasNoNext : History → List ℕ → Type 0
-HasNoNext cs line = (c : Call) → IsCall c → is_accepted (answer cs c) ≡ true → line ≢ minute_line (minute cs c)
+HasNoNext cs line = (i : Item) → IsItem i → joins cs i ≡ true → line ≢ minute_line (minute_of cs i)
 
 -- the bytes are a line, or the beginning of one: some, and none but the last is a line break
 abbrev pub IsOneLine : List ℕ → Type 0
@@ -40,18 +30,25 @@ EndsLine bytes = (front : List ℕ) × (bytes ≡ front ++ codes "\n")
 abbrev pub GoesThrough : List ℕ → List ℕ → List ℕ → Type 0
 GoesThrough text before line = (rest : List ℕ) × (text ≡ before ++ line ++ rest) × (EndsLine line ⊎ (rest ≡ []))
 
--- own: the minutes of no history go on after these lines with this line. Histories with calls by
--- the first rules, the first calls of a desk that was migrated, aren't spoken of.
+-- the minutes of no history go on after these lines with this line
 abbrev pub NoneGoesThrough : List ℕ → List ℕ → Type 0
-NoneGoesThrough before line =
-    (cs : History) → IsHistory cs → are_second cs ≡ true → GoesThrough (minutes_text cs) before line → ⊥
+NoneGoesThrough before line = (cs : History) → IsHistory cs → GoesThrough (minutes_text cs) before line → ⊥
 
 -- ---- laws
 
--- histories of the second rules alone that have the same minutes are the same
+-- a history as its minutes tell it is a desk's
+abbrev pub MinutedIsHistory : Type 0
+MinutedIsHistory = (cs : History) → IsHistory cs → IsHistory (as_minuted cs)
+
+-- and has these minutes
+abbrev pub MinutedKeepsMinutes : Type 0
+MinutedKeepsMinutes = (cs : History) → IsHistory cs → minutes_text (as_minuted cs) ≡ minutes_text cs
+
+-- histories that have the same minutes are the same as these tell it: they have the same calls, and
+-- differ in the rules of calls alone
 abbrev pub MinutesTellHistory : Type 0
 MinutesTellHistory =
-    (a b : History) → IsHistory a → IsHistory b → are_second a ≡ true → are_second b ≡ true → minutes_text a ≡ minutes_text b → a ≡ b
+    (a b : History) → IsHistory a → IsHistory b → minutes_text a ≡ minutes_text b → as_minuted a ≡ as_minuted b
 
 -- all histories whose minutes some bytes are have the same exports, whichever rules their calls were
 -- accepted by
@@ -60,8 +57,9 @@ MinutesTellExports =
     (bytes : List ℕ) (a b : History) → Follows bytes a → Follows bytes b
     → (what : Export) (owner : List ℕ) → exported what owner a ≡ exported what owner b
 
--- where no call has a line after these, no history goes through it
+-- where no call that may come next has a line after these calls, as the minutes tell them, no
+-- history goes through it
 abbrev pub NoNextNoHistory : Type 0
 NoNextNoHistory =
-    (cs : History) (line : List ℕ) → IsHistory cs → are_second cs ≡ true → IsOneLine line → HasNoNext cs line
+    (cs : History) (line : List ℕ) → IsHistory cs → IsOneLine line → HasNoNext (as_minuted cs) line
     → NoneGoesThrough (minutes_text cs) line

@@ -1,3 +1,4 @@
 pub mod Fields
 pub mod Follows
 pub mod Lines
+pub mod Minuted

@@ -8,9 +8,13 @@ pub fn lines_differ()
     ensures { LinesDiffer }
 {}
 
-/// Minutes tell the history: by the second rules alone, one history at most has these minutes.
-/// Where no call that is accepted after a history has a line, the minutes of no history go on so.
+/// Minutes tell the history, but for the rules of its calls, which they don't name: as the minutes
+/// tell it, a desk's history is a desk's with the same minutes, and all histories that have these
+/// minutes are the same. Where no call that may come next has a line, the minutes of no history go
+/// on so.
 pub fn minutes_tell_history()
+    ensures minuted { follows.MinutedIsHistory }
+    ensures kept { follows.MinutedKeepsMinutes }
     ensures same { follows.MinutesTellHistory }
     ensures none { follows.NoNextNoHistory }
 {}
