@@ -1,5 +1,5 @@
 -- The program's command line, as `clap` sees it.
-use Rattle.std.specs.Prelude.{ℕ, true, codes, List, [], ◌∷◌, map, take}
+use Rattle.std.specs.Prelude.{ℕ, true, codes, List, [], ◌∷◌, ◌++◌, length, map, take}
 use Rattle.std.specs.List.{slice_index_or}
 use Rattle.clap.specs.Words.{App, Rule, Shape, Text, new_app, new_rule, with_subcommand}
 use Rattle.clap.specs.Simple.{new_shape, on_top}
@@ -16,9 +16,17 @@ id_of place = slice_index_or ids place []
 abbrev pub word_rule : Text → Rule
 word_rule id = record (new_rule id) { required = true; value_names = 1 }
 
+-- a word that may be left out
+abbrev pub optional_rule : Text → Rule
+optional_rule id = record (new_rule id) { value_names = 1 }
+
 -- a subcommand of that name and this many words
 abbrev pub subcommand_shape : Text → ℕ → Shape
 subcommand_shape name count = record (new_shape name) { rules = map word_rule (take count ids) }
+
+-- a subcommand with a word more, the last, that may be left out
+abbrev pub with_optional : Shape → Shape
+with_optional s = record s { rules = s.rules ++ optional_rule (id_of (length s.rules)) ∷ [] }
 
 -- the command without its subcommands
 abbrev pub bare_app : App
@@ -65,14 +73,18 @@ with_exports app =
     (subcommand_shape (codes "dbx") 1))
     (subcommand_shape (codes "level") 1)
 
--- with the subcommands that work on signature lists without a desk
-abbrev pub with_lists : App → App
-with_lists app =
-    with_subcommand (with_subcommand app
+-- with the subcommand that follows minutes without a desk, which has a word that may be left out
+abbrev pub with_audit : App → App
+with_audit app = with_subcommand app (with_optional (subcommand_shape (codes "audit") 2))
+
+-- with the subcommands that work on files without a desk
+abbrev pub with_files : App → App
+with_files app =
+    with_subcommand (with_subcommand (with_audit app)
     (subcommand_shape (codes "list") 1))
     (subcommand_shape (codes "pack") 1)
 
 -- own: the program's command, its subcommands in the order of help
 abbrev pub desk_app : App
 desk_app =
-    with_lists (with_exports (with_proposals (with_images (with_requests (with_keeping bare_app)))))
+    with_files (with_exports (with_proposals (with_images (with_requests (with_keeping bare_app)))))

@@ -2,7 +2,8 @@
 ghost use Rattle.std.specs.Prelude.{◌≡◌, ◌<◌, ◌≤◌, IfOk, codes, false, length};
 ghost use Rattle.clap.specs.Words.{app_of, rule_of, shape_of, with_subcommand};
 ghost use Rattle.clap.specs.declared.builder.command.Command.TheViews.{out-Command};
-ghost use Rattle.cli_grammar.specs.Commands.{desk_app, id_of, ids, subcommand_shape, word_rule};
+ghost use Rattle.cli_grammar.specs.Commands.{desk_app, id_of, ids, optional_rule, subcommand_shape, with_optional};
+ghost use Rattle.cli_grammar.specs.Commands.{word_rule};
 ghost use Rattle.cli_grammar.specs.Commands as spec;
 
 use crate::help;
@@ -38,6 +39,14 @@ fn word<'a>(alloc: Global, id: &'a str, shown: &Shown<'a>) -> Arg<'a>
         .required(true)
         .value_name(shown.name)
         .help(shown.help)
+}
+
+/// A word that may be left out.
+fn optional_word<'a>(alloc: Global, id: &'a str, shown: &Shown<'a>) -> Arg<'a>
+    ensures rule { rule_of result ≡ optional_rule id.now }
+    ensures local { result.global ≡ false }
+{
+    Arg::new(alloc, id).value_name(shown.name).help(shown.help)
 }
 
 /// A subcommand that takes a word for each of `words`.
@@ -310,14 +319,47 @@ fn with_exports<'a>(alloc: Global, command: Command<'a>) -> Result<Command<'a>, 
     )
 }
 
-/// The command with the subcommands that work on signature lists without a desk.
-fn with_lists<'a>(alloc: Global, command: Command<'a>) -> Result<Command<'a>, AllocError>
-    ensures { IfOk result (λ c. app_of c ≡ spec.with_lists (app_of command.entry)) }
+/// `audit`.
+fn audit_subcommand<'a>(alloc: Global) -> Result<Command<'a>, AllocError>
+    ensures shape { IfOk result (λ c. shape_of c
+        ≡ with_optional (subcommand_shape (codes "audit") 2)) }
+    ensures local { IfOk result (λ c. (out-Command c).has_globals ≡ false) }
+{
+    let file = Shown {
+        name: "FILE",
+        help: "The path of the minutes, or - for standard input",
+    };
+    let export = Shown {
+        name: "EXPORT",
+        help: "dbx, db or level: the export that is written",
+    };
+    let command = subcommand(
+        alloc,
+        "audit",
+        "Follows the minutes of a desk, and prints what its exports must be",
+        help::AUDIT,
+        &[owner(), file],
+    )?;
+    command.arg(optional_word(alloc, id_at(2), &export))
+}
+
+/// The command with the subcommand that follows minutes without a desk.
+fn with_audit<'a>(alloc: Global, command: Command<'a>) -> Result<Command<'a>, AllocError>
+    ensures { IfOk result (λ c. app_of c ≡ spec.with_audit (app_of command.entry)) }
+{
+    let added = audit_subcommand(alloc)?;
+    command.subcommand(added)
+}
+
+/// The command with the subcommands that work on files without a desk.
+fn with_files<'a>(alloc: Global, command: Command<'a>) -> Result<Command<'a>, AllocError>
+    ensures { IfOk result (λ c. app_of c ≡ spec.with_files (app_of command.entry)) }
 {
     let lists = Shown {
         name: "FILE",
         help: "The path of the signature lists",
     };
+    let command = with_audit(alloc, command)?;
     let command = with_one_more(
         alloc,
         command,
@@ -358,5 +400,5 @@ pub fn desk_command<'a>(alloc: Global) -> Result<Command<'a>, AllocError>
     let command = with_images(alloc, command)?;
     let command = with_proposals(alloc, command)?;
     let command = with_exports(alloc, command)?;
-    with_lists(alloc, command)
+    with_files(alloc, command)
 }

@@ -36,6 +36,9 @@ Publish what a desk decided:
   dbx      Writes what a desk has revoked as signature lists (dbx)
   level    Writes the SBAT level of a desk
 
+Follow minutes without a desk:
+  audit    Follows the minutes of a desk, and prints what its exports must be
+
 Work on signature lists without a desk:
   list     Prints the place, kind and count of each signature list in a file
   pack     Packs the SHA-256 digests on standard input into a signature list
@@ -68,8 +71,10 @@ Exit status:
 
 pub const PERSON: &str = "\
 The token is the first line of standard input, 16 to 128 visible characters of
-ASCII; the desk keeps its SHA-256 alone. KEY names the call: the same call
-under the same key is answered again and changes nothing. Prints `added NAME`.
+ASCII; the desk keeps its SHA-256 alone. With `enrol` nobody but its owner
+knows the token. An officer lists entries alone; a revocation takes two
+officers. KEY names the call: the same call under the same key is answered
+again and changes nothing. Prints `added NAME`.
 
 Example:
   desk person desk.db olga officer k1 < token.txt
@@ -149,7 +154,8 @@ Exit status:
 
 pub const FACTS: &str = "\
 Prints a line for the length of FILE, for each of its digests, the gap, each
-certificate and each component: what a desk keeps of the image.
+certificate and each component: what a desk keeps of the image. It keeps no
+image.
 
 Example:
   desk facts shimx64.efi
@@ -177,7 +183,9 @@ Exit status:
 pub const VERDICT: &str = "\
 Prints `allowed`, or `refused` and why: `dbx-digest`, `dbx-certificate`,
 `not-listed`, or `sbat NAME HAS NEEDS` with the image's generation of a
-component and the one that the level needs.
+component and the one that the level needs. No signature is checked: `allowed`
+means that the digest, or a certificate that the image carries, is listed, and
+that nothing bars the image.
 
 Example:
   desk verdict desk.db shimx64.efi
@@ -193,9 +201,10 @@ Exit status:
 pub const IMPACT: &str = "\
 Prints a line for each image that another officer's Confirm of the proposal
 would bar and that isn't barred now: its request, `submitted` or `returned`, the
-request's state, the submitter, `allowed` or `refused` (the verdict now), the
-rule (`dbx-digest`, `dbx-certificate`, or `sbat NAME HAS NEEDS`) and the title,
-separated by tabs. Then `dbx N`: the length of dbx in bytes after the Confirm.
+request's state, the submitter, `allowed` or `refused` (the verdict now, which
+checks no signature), the rule (`dbx-digest`, `dbx-certificate`, or
+`sbat NAME HAS NEEDS`) and the title, separated by tabs. Then `dbx N`: the
+length of dbx in bytes after the Confirm.
 The desk knows the images that were submitted or returned to it, and no others.
 
 Example:
@@ -252,6 +261,24 @@ Exit status:
      version
   2  an argument is missing or wrong
   3  a device failed: 45 File, DB is missing or in use";
+
+pub const AUDIT: &str = "\
+FILE has minutes as `minutes` prints them. Follows them in memory, line by
+line: the number, caller, key, text and reply of each have to be what the rules
+give. Prints `calls N`, and with `minutes`, `dbx`, `db` and `level` the SHA-256
+of FILE and of what a desk of OWNER with these minutes exports. With EXPORT it
+writes the bytes of that export in place of the lines.
+
+Example:
+  desk audit 00112233-4455-6677-8899-aabbccddeeff minutes.txt
+
+Exit status:
+  0  each line is what the rules give; the lines are printed, or the export is
+     written
+  1  refused: 47 Minute, at the number of the first line that isn't what the
+     rules give, or isn't whole
+  2  an argument is missing or wrong
+  3  a device failed: 45 File, FILE can't be opened";
 
 pub const LIST: &str = "\
 Prints a line OFFSET KIND COUNT for each signature list in FILE: the byte where

@@ -1,2 +1,3 @@
+pub mod AuditLemmas
 pub mod LineLemmas
 pub mod WordLemmas

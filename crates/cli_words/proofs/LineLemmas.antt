@@ -5,40 +5,47 @@ use Rattle.std.specs.List.{All}
 use Rattle.std.specs.Option.{ok_or}
 use Rattle.clap.specs.Walk.{Row, Text}
 use Rattle.clap.specs.Takes.{takes}
-use Rattle.clap.specs.Simple.{App, HasMatchesOf, is_simple, subcommand_of, subcommand_rows_of}
+use Rattle.clap.specs.Simple.{App, HasMatchesOf, Shape, is_simple, subcommand_of, subcommand_rows_of}
 use Rattle.clap.specs.Words.{HasKind, IsAmong, fault_of, is_simple_and_free, kind_of}
 use Rattle.clap.specs.declared.error.Error.{Error}
 use Rattle.clap.specs.declared.error.kind.ErrorKind.TheVariants.{OutOfMemory}
 use Rattle.clap.specs.declared.parser.matches.ArgMatches.{ArgMatches}
 use Rattle.clap.proofs.OnLiterals.{clap_on_literals}
 use Rattle.cli_grammar.specs.Commands.{desk_app}
-use Rattle.cli_words.specs.Lines.{ReadsWords, IsPlainWord, Line, Spells, Takes, answer, db, dbx, enrol, facts, impact, init, level, line_found, line_in, line_of, list, minutes, pack, person, ranges, serve, subcommand_name, verdict, words_after}
+use Rattle.cli_words.specs.Lines.{ReadsWords, IsPlainWord, Line, Spells, Takes, answer, audit, db, dbx, enrol, facts, impact, init, level, line_found, line_in, line_of, list, minutes, pack, person, ranges, serve, subcommand_name, verdict, words_after}
 use Rattle.cli_words.specs.declared.line.Words.{Words}
 use Rattle.cli_words.specs.declared.line.WordsFault.{WordsFault}
 use Rattle.cli_words.specs.declared.line.WordsFault.TheVariants.{Missing}
+use Rattle.cli_words.proofs.AuditLemmas.{audit_leaf, takes_with, takes_without}
 use Rattle.cli_words.proofs.WordLemmas.{Begins, TakesWords, leaf, rows_after_name, rows_from, takes_after, takes_four, takes_one, takes_three, takes_two}
 
 -- ---- the lines of the program, a clause for each subcommand
 
-begins : (line : Line) → Begins (subcommand_name line) (leaf (subcommand_name line) (length (words_after line)))
-unfolding clap_on_literals
-begins (init path owner) = record { walks = refl; passes = refl; found = refl }
-begins (person path name role key) = record { walks = refl; passes = refl; found = refl }
-begins (enrol path name role key) = record { walks = refl; passes = refl; found = refl }
-begins (serve path port count) = record { walks = refl; passes = refl; found = refl }
-begins (answer path) = record { walks = refl; passes = refl; found = refl }
-begins (facts file) = record { walks = refl; passes = refl; found = refl }
-begins (ranges file) = record { walks = refl; passes = refl; found = refl }
-begins (verdict path file) = record { walks = refl; passes = refl; found = refl }
-begins (impact path number) = record { walks = refl; passes = refl; found = refl }
-begins (db path) = record { walks = refl; passes = refl; found = refl }
-begins (dbx path) = record { walks = refl; passes = refl; found = refl }
-begins (level path) = record { walks = refl; passes = refl; found = refl }
-begins (list file) = record { walks = refl; passes = refl; found = refl }
-begins (pack owner) = record { walks = refl; passes = refl; found = refl }
-begins (minutes path) = record { walks = refl; passes = refl; found = refl }
+-- the line's subcommand as building leaves it
+abbrev leaf_of : Line → Shape
+leaf_of (audit owner file export) = audit_leaf
+leaf_of line = leaf (subcommand_name line) (length (words_after line))
 
-takes_words : (line : Line) → All IsPlainWord (words_after line) → TakesWords (subcommand_name line) (words_after line)
+begins : (line : Line) → Begins (subcommand_name line) (leaf_of line)
+unfolding clap_on_literals
+begins (init path owner) = record { walks = refl; passes = refl; found = refl; named = refl }
+begins (person path name role key) = record { walks = refl; passes = refl; found = refl; named = refl }
+begins (enrol path name role key) = record { walks = refl; passes = refl; found = refl; named = refl }
+begins (serve path port count) = record { walks = refl; passes = refl; found = refl; named = refl }
+begins (answer path) = record { walks = refl; passes = refl; found = refl; named = refl }
+begins (facts file) = record { walks = refl; passes = refl; found = refl; named = refl }
+begins (ranges file) = record { walks = refl; passes = refl; found = refl; named = refl }
+begins (verdict path file) = record { walks = refl; passes = refl; found = refl; named = refl }
+begins (impact path number) = record { walks = refl; passes = refl; found = refl; named = refl }
+begins (db path) = record { walks = refl; passes = refl; found = refl; named = refl }
+begins (dbx path) = record { walks = refl; passes = refl; found = refl; named = refl }
+begins (level path) = record { walks = refl; passes = refl; found = refl; named = refl }
+begins (audit owner file export) = record { walks = refl; passes = refl; found = refl; named = refl }
+begins (list file) = record { walks = refl; passes = refl; found = refl; named = refl }
+begins (pack owner) = record { walks = refl; passes = refl; found = refl; named = refl }
+begins (minutes path) = record { walks = refl; passes = refl; found = refl; named = refl }
+
+takes_words : (line : Line) → All IsPlainWord (words_after line) → TakesWords (leaf_of line) (words_after line)
 takes_words (init path owner) plain = takes_two (codes "init") path owner plain
 takes_words (person path name role key) plain = takes_four (codes "person") path name role key plain
 takes_words (enrol path name role key) plain = takes_four (codes "enrol") path name role key plain
@@ -51,6 +58,8 @@ takes_words (impact path number) plain = takes_two (codes "impact") path number 
 takes_words (db path) plain = takes_one (codes "db") path plain
 takes_words (dbx path) plain = takes_one (codes "dbx") path plain
 takes_words (level path) plain = takes_one (codes "level") path plain
+takes_words (audit owner file None) plain = takes_without owner file plain
+takes_words (audit owner file (Some export)) plain = takes_with owner file export plain
 takes_words (list file) plain = takes_one (codes "list") file plain
 takes_words (pack owner) plain = takes_one (codes "pack") owner plain
 takes_words (minutes path) plain = takes_one (codes "minutes") path plain
@@ -68,6 +77,8 @@ reads_back (impact path number) = refl
 reads_back (db path) = refl
 reads_back (dbx path) = refl
 reads_back (level path) = refl
+reads_back (audit owner file None) = refl
+reads_back (audit owner file (Some export)) = refl
 reads_back (list file) = refl
 reads_back (pack owner) = refl
 reads_back (minutes path) = refl
@@ -86,7 +97,7 @@ line_read line words spells =
     ap (option_and_then line_in)
     (ap (subcommand_of desk_app) spells.same
     ∙ rows_after_name (subcommand_name line) _ (words_after line) (begins line)
-    ∙ ap (λ (rows : List Row). Some (subcommand_name line, rows)) (takes_words line spells.plain).rows)
+    ∙ ap₂ (λ (name : Text) (rows : List Row). Some (name, rows)) (begins line).named (takes_words line spells.plain).rows)
     ∙ reads_back line
 
 -- the line that is found is the one in the matches

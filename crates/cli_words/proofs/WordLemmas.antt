@@ -1,5 +1,5 @@
 -- The matches that `clap` gives for the name of a subcommand and plain words after it.
-use Rattle.std.proofs.Common.{◌≡◌, ◌≢◌, ◌∙◌, ℕ, Bool, true, false, ◌+◌, List, [], ◌∷◌, ◌++◌, Option, Some, None, length, fold, refl, sym, ap, arith}
+use Rattle.std.proofs.Common.{◌≡◌, ◌≢◌, ◌⊎◌, ◌∙◌, ℕ, Bool, true, false, ◌+◌, List, [], ◌∷◌, ◌++◌, Option, Some, None, length, fold, refl, sym, ap, ap₂, subst, inl, inr, arith}
 use Rattle.std.specs.Prelude.{◌&&◌, ◌==◌, is_some, find, option_map}
 use Rattle.std.specs.List.{All, list_all}
 use Rattle.std.specs.Option.{option_map_or}
@@ -17,33 +17,44 @@ use Rattle.cli_words.specs.Lines.{IsPlainWord}
 no_hyphen : (b : ℕ) → b ≢ 45 → (b == 45) ≡ false
 no_hyphen b other = grind (arith, nat_tests)
 
+-- it doesn't begin with a hyphen, or is one
+hyphen_alone : (b : ℕ) (bs : Text) → (b ≢ 45) ⊎ (bs ≡ []) → (b ≢ 45) ⊎ (b ∷ bs ≡ 45 ∷ [])
+hyphen_alone b bs (inl other) = inl other
+hyphen_alone b bs (inr none) = by (b == 45) refl
+  where
+    by : (v : Bool) → (b == 45) ≡ v → (b ≢ 45) ⊎ (b ∷ bs ≡ 45 ∷ [])
+    by true e = inr (ap₂ (λ (x : ℕ) (xs : Text). x ∷ xs) (let same : b ≡ 45 = grind (arith, nat_tests, e) in same) none)
+    by false e = inl (λ same. let bad : false ≡ true = sym e ∙ ap (λ n. n == 45) same in absurd (cc))
+
 -- it is a value
 plain_met : (rules : List Rule) (position : ℕ) (word : Text) (h : Held) → IsPlainWord word
     → word_met rules [] false idle position word h ≡ (h, value)
 plain_met rules position [] h plain = absurd plain
-plain_met rules position (b ∷ bs) h plain =
-    let differs : (b == 45) ≡ false = no_hyphen b plain in
-    rw (differs, differs) refl
+plain_met rules position (b ∷ bs) h plain = elim (hyphen_alone b bs plain) [
+  | inl other ↦ let differs : (b == 45) ≡ false = no_hyphen b other in rw (differs, differs) refl
+  | inr same ↦ subst (λ (w : Text). word_met rules [] false idle position w h ≡ (h, value)) (sym same) refl
+]
 
 -- it is no flag that could be refused
 plain_passes : (s : Shape) (word : Text) (h : Held) → IsPlainWord word → word_passes s [] false idle word h ≡ true
 plain_passes s [] h plain = absurd plain
-plain_passes s (b ∷ bs) h plain =
-    let differs : (b == 45) ≡ false = no_hyphen b plain in
-    rw (differs, differs) refl
+plain_passes s (b ∷ bs) h plain = elim (hyphen_alone b bs plain) [
+  | inl other ↦ let differs : (b == 45) ≡ false = no_hyphen b other in rw (differs, differs) refl
+  | inr same ↦ subst (λ (w : Text). word_passes s [] false idle w h ≡ true) (sym same) refl
+]
 
 -- the walk where nothing waits for a value
-abbrev at_position : ℕ → Held → Walk
+abbrev pub at_position : ℕ → Held → Walk
 at_position position h = record { held = h; waiting = idle; position = position; is_trailing = false; stopped = None }
 
 -- it goes to the positional whose turn it is
-walked_plain : (rules : List Rule) (a : Rule) (h : Held) (position : ℕ) (word : Text) → IsPlainWord word
+pub walked_plain : (rules : List Rule) (a : Rule) (h : Held) (position : ℕ) (word : Text) → IsPlainWord word
     → arg_by_index rules position ≡ Some a
     → walked rules [] (at_position position h) word ≡ to_positional rules (Some a) word (at_position position h) h
 unfolding walked
 walked_plain rules a h position word plain found = rw (plain_met rules position word h plain, found) refl
 
-turn_plain : (s : Shape) (a : Rule) (h : Held) (position : ℕ) (word : Text) → IsPlainWord word
+pub turn_plain : (s : Shape) (a : Rule) (h : Held) (position : ℕ) (word : Text) → IsPlainWord word
     → arg_by_index s.rules position ≡ Some a
     → turn_passes s [] (at_position position h) word ≡ positional_passes s.rules s.args_override_self a h
 turn_plain s a h position word plain found =
@@ -74,11 +85,11 @@ rows_from place [] = []
 rows_from place (word ∷ words) = row_at place word ∷ rows_from (place + 1) words
 
 -- the subcommand takes the words, each at its place
-pub record TakesWords (name : Text) (words : List Text) : Type 0 where
-  pub passes : level_passes (leaf name (length words)) [] nothing_held words false ≡ true
-  pub rows : rows_after (leaf name (length words)).rules [] words ≡ rows_from 0 words
+pub record TakesWords (s : Shape) (words : List Text) : Type 0 where
+  pub passes : level_passes s [] nothing_held words false ≡ true
+  pub rows : rows_after s.rules [] words ≡ rows_from 0 words
 
-pub takes_one : (name first : Text) → All IsPlainWord (first ∷ []) → TakesWords name (first ∷ [])
+pub takes_one : (name first : Text) → All IsPlainWord (first ∷ []) → TakesWords (leaf name 1) (first ∷ [])
 unfolding walk_passes
 takes_one name first plain = record {
   passes = rw (
@@ -99,7 +110,7 @@ held_two count first second = held_with count 1 (held_with count 0 nothing_held 
 abbrev held_three : ℕ → Text → Text → Text → Held
 held_three count first second third = held_with count 2 (held_two count first second) third
 
-pub takes_two : (name first second : Text) → All IsPlainWord (first ∷ second ∷ []) → TakesWords name (first ∷ second ∷ [])
+pub takes_two : (name first second : Text) → All IsPlainWord (first ∷ second ∷ []) → TakesWords (leaf name 2) (first ∷ second ∷ [])
 unfolding walk_passes
 takes_two name first second plain =
     let p0 : IsPlainWord first = plain 0 [] (omega arith) in
@@ -117,7 +128,7 @@ takes_two name first second plain =
       ) refl;
     }
 
-pub takes_three : (name first second third : Text) → All IsPlainWord (first ∷ second ∷ third ∷ []) → TakesWords name (first ∷ second ∷ third ∷ [])
+pub takes_three : (name first second third : Text) → All IsPlainWord (first ∷ second ∷ third ∷ []) → TakesWords (leaf name 3) (first ∷ second ∷ third ∷ [])
 unfolding walk_passes
 takes_three name first second third plain =
     let p0 : IsPlainWord first = plain 0 [] (omega arith) in
@@ -140,7 +151,7 @@ takes_three name first second third plain =
     }
 
 pub takes_four : (name first second third fourth : Text) → All IsPlainWord (first ∷ second ∷ third ∷ fourth ∷ [])
-    → TakesWords name (first ∷ second ∷ third ∷ fourth ∷ [])
+    → TakesWords (leaf name 4) (first ∷ second ∷ third ∷ fourth ∷ [])
 unfolding walk_passes
 takes_four name first second third fourth plain =
     let p0 : IsPlainWord first = plain 0 [] (omega arith) in
@@ -174,6 +185,7 @@ pub record Begins (name : Text) (subcommand : Shape) : Type 0 where
       ≡ record (walk_from nothing_held) { stopped = Some (name, []) }
   pub passes : turn_passes (built desk_app).top (names_of (built desk_app)) (walk_from nothing_held) name ≡ true
   pub found : find (λ s. answers_to name (label_of s)) (built desk_app).subs ≡ Some subcommand
+  pub named : subcommand.name ≡ name
 
 walk_is : (name : Text) (subcommand : Shape) (words : List Text) → Begins name subcommand
     → walk (built desk_app).top.rules (names_of (built desk_app)) nothing_held (name ∷ words)

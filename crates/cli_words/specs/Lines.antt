@@ -1,6 +1,6 @@
 -- The meanings of the program's words.
-use Rattle.std.specs.Prelude.{◌≡◌, ◌≢◌, ℕ, codes, List, [], ◌∷◌, Option, None, Result, Ok, Err}
-use Rattle.std.specs.Prelude.{⊤, Some, if◌then◌else◌, option_and_then}
+use Rattle.std.specs.Prelude.{◌≡◌, ◌≢◌, ◌⊎◌, ℕ, codes, List, [], ◌∷◌, Option, None, Result, Ok, Err}
+use Rattle.std.specs.Prelude.{⊤, Some, if◌then◌else◌, option_and_then, option_map, option_to_list}
 use Rattle.std.specs.List.{All}
 use Rattle.std.specs.Str.{bytes_eq}
 use Rattle.clap.specs.Words.{IsAmong, Row, Text, fault_of, first_of, kind_of, subcommand_of}
@@ -25,6 +25,7 @@ pub data Line : Type 0 where
   db : Text → Line
   dbx : Text → Line
   level : Text → Line
+  audit : Text → Text → Option Text → Line
   list : Text → Line
   pack : Text → Line
 
@@ -43,6 +44,7 @@ words_of (impact path number) = (codes "impact", path ∷ number ∷ [])
 words_of (db path) = (codes "db", path ∷ [])
 words_of (dbx path) = (codes "dbx", path ∷ [])
 words_of (level path) = (codes "level", path ∷ [])
+words_of (audit owner file export) = (codes "audit", owner ∷ file ∷ option_to_list export)
 words_of (list file) = (codes "list", file ∷ [])
 words_of (pack owner) = (codes "pack", owner ∷ [])
 
@@ -69,6 +71,7 @@ line_of (said.Impact path number) = impact path.now number.now
 line_of (said.Db path) = db path.now
 line_of (said.Dbx path) = dbx path.now
 line_of (said.Level path) = level path.now
+line_of (said.Audit words) = audit words.owner.now words.file.now (option_map (λ word. word.now) words.export)
 line_of (said.List file) = list file.now
 line_of (said.Pack owner) = pack owner.now
 
@@ -84,6 +87,11 @@ two_in line rows = with_word rows 0 (λ word. with_word rows 1 (λ other. Some (
 abbrev pub serve_in : List Row → Option Line
 serve_in rows =
     with_word rows 0 (λ path. with_word rows 1 (λ port. with_word rows 2 (λ count. Some (serve path port count))))
+
+-- the line of `audit`, whose third word may be left out
+abbrev pub audit_in : List Row → Option Line
+audit_in rows =
+    with_word rows 0 (λ owner. with_word rows 1 (λ file. Some (audit owner file (first_of (id_of 2) rows))))
 
 -- the line of a subcommand of four words, from its rows
 abbrev pub four_in : (Text → Text → Text → Text → Line) → List Row → Option Line
@@ -114,12 +122,13 @@ line_in (name, rows) =
     else if bytes_eq name (codes "serve") then serve_in rows
     else if bytes_eq name (codes "verdict") then two_in verdict rows
     else if bytes_eq name (codes "impact") then two_in impact rows
+    else if bytes_eq name (codes "audit") then audit_in rows
     else with_word rows 0 (of_one_word name)
 
--- a plain word, not an option: it isn't empty and doesn't begin with a hyphen (45)
+-- a plain word, not an option: it isn't empty, and is a hyphen (45) or doesn't begin with one
 abbrev pub IsPlainWord : Text → Type 0
 IsPlainWord [] = ⊥
-IsPlainWord (b ∷ bs) = b ≢ 45
+IsPlainWord (b ∷ bs) = (b ≢ 45) ⊎ (bs ≡ [])
 
 -- the words are the line's, and none after the subcommand could be an option
 pub record Spells (words : List Text) (line : Line) : Type 0 where

@@ -1,3 +1,4 @@
+pub mod Exports
 pub mod Numbers
 pub mod People
 pub mod Words

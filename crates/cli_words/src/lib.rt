@@ -5,8 +5,9 @@ mod line;
 mod values;
 mod words_reading;
 
-pub use line::{PersonWords, ServeWords, Words, WordsFault};
+pub use line::{AuditWords, PersonWords, ServeWords, Words, WordsFault};
 pub use values::{
-    Place, Stop, Word, enrolled_from, owner_from, person_from, place_from, proposal_from,
+    Place, Stop, Word, enrolled_from, export_from, owner_from, person_from, place_from,
+    proposal_from,
 };
 pub use words_reading::words;

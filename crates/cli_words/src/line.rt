@@ -21,6 +21,15 @@ pub struct ServeWords<'a> {
     pub count: &'a str,
 }
 
+/// The words of `audit`.
+#[derive(Clone, Copy, Debug, PartialEq, Eq)]
+pub struct AuditWords<'a> {
+    pub owner: &'a str,
+    pub file: &'a str,
+    /// The export that is written, if one is named.
+    pub export: Option<&'a str>,
+}
+
 /// A subcommand with its words.
 #[derive(Clone, Copy, Debug, PartialEq, Eq)]
 pub enum Words<'a> {
@@ -50,6 +59,8 @@ pub enum Words<'a> {
     Dbx { db: &'a str },
     /// Writes the SBAT level of the desk in this file.
     Level { db: &'a str },
+    /// Follows the minutes in a file, and prints what the exports of their desk must be.
+    Audit(AuditWords<'a>),
     /// Prints the signature lists in this file.
     List { file: &'a str },
     /// Packs the digests of the standard input under this owner's GUID.

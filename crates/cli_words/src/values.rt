@@ -1,6 +1,7 @@
 //! The values of a subcommand's words, or the first word that is malformed.
 
 mod enrolled;
+mod export;
 mod numbers;
 mod owner;
 mod person;
@@ -9,6 +10,7 @@ mod proposal;
 mod stop;
 
 pub use enrolled::enrolled_from;
+pub use export::export_from;
 pub use owner::owner_from;
 pub use person::person_from;
 pub use place::{Place, place_from};

@@ -2,10 +2,10 @@
 ghost use Rattle.std.specs.Prelude.{◌≡◌, ◌<◌, length, map, option_and_then, option_map, string_bytes};
 ghost use Rattle.clap.specs.Words.{Text, first_of, found_of, rows_of, subcommand_rows_of};
 ghost use Rattle.cli_grammar.specs.Commands.{id_of, ids};
-ghost use Rattle.cli_words.specs.Lines.{ReadsWords, Line, Spells, Takes, line_in, line_of};
+ghost use Rattle.cli_words.specs.Lines.{ReadsWords, Line, Spells, Takes, audit_in, line_in, line_of};
 ghost use Rattle.cli_words.specs.Lines.{enrol, four_in, impact, init, person, serve_in, two_in, verdict};
 
-use crate::line::{PersonWords, ServeWords, Words, WordsFault};
+use crate::line::{AuditWords, PersonWords, ServeWords, Words, WordsFault};
 use clap::ArgMatches;
 use clap::error::ErrorKind;
 use cli_grammar::{desk_command, id_at};
@@ -95,6 +95,20 @@ fn impact_at<'a>(matches: &ArgMatches<'a>) -> Option<Words<'a>>
     Some(Words::Impact { db, number })
 }
 
+/// `audit` with its words.
+fn audit_at<'a>(matches: &ArgMatches<'a>) -> Option<Words<'a>>
+    ensures { option_map line_of result ≡ audit_in (rows_of (found_of matches.now)) }
+{
+    let owner = word_at(matches, 0)?;
+    let file = word_at(matches, 1)?;
+    let export = word_at(matches, 2);
+    Some(Words::Audit(AuditWords {
+        owner,
+        file,
+        export,
+    }))
+}
+
 /// The subcommand of this name, with its words.
 fn line_at<'a>(name: &'a str, matches: &ArgMatches<'a>) -> Option<Words<'a>>
     ensures { option_map line_of result ≡ line_in (name.now, rows_of (found_of matches.now)) }
@@ -106,6 +120,7 @@ fn line_at<'a>(name: &'a str, matches: &ArgMatches<'a>) -> Option<Words<'a>>
         "serve" => serve_at(matches),
         "verdict" => verdict_at(matches),
         "impact" => impact_at(matches),
+        "audit" => audit_at(matches),
         _ => Words::from_one(name, word_at(matches, 0)?),
     }
 }

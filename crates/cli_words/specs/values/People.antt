@@ -48,6 +48,7 @@ module _ (form : TokenForm) (name role key : List ℕ) where
   IsFirstWrong given word.Port = ⊥
   IsFirstWrong given word.Count = ⊥
   IsFirstWrong given word.Number = ⊥
+  IsFirstWrong given word.Export = ⊥
 
   -- own: the first word that isn't in its form stops the subcommand, or refused memory, or a failed
   -- read after right words

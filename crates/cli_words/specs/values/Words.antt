@@ -18,6 +18,7 @@ name_of word.Token = codes "TOKEN"
 name_of word.Port = codes "PORT"
 name_of word.Count = codes "COUNT"
 name_of word.Number = codes "NUMBER"
+name_of word.Export = codes "EXPORT"
 
 -- own: a fault stops a subcommand as itself
 abbrev pub of_fault : Fault → Stop

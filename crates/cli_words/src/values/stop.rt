@@ -15,6 +15,7 @@ pub enum Word {
     Port,
     Count,
     Number,
+    Export,
 }
 
 impl Word {
@@ -31,6 +32,7 @@ impl Word {
             Word::Port => "PORT",
             Word::Count => "COUNT",
             Word::Number => "NUMBER",
+            Word::Export => "EXPORT",
         }
     }
 }
