@@ -1,5 +1,5 @@
 -- Commands that name no entries: by both rules they are decided alike.
-use Rattle.std.proofs.Common.{◌≡◌, ℕ, true, ◌&&◌, List, [], ◌∷◌, Option, Some, None, Ok, Err, Result, refl, sym, ◌∙◌, ap}
+use Rattle.std.proofs.Common.{◌≡◌, ℕ, true, List, [], ◌∷◌, Some, None, Ok, Err, Result, refl, sym, ◌∙◌, ap}
 use Rattle.std.specs.Prelude.{MatchResult, find}
 use Rattle.std.specs.List.{list_all}
 use Rattle.std.proofs.lemmas.Bool.{and_parts}
@@ -12,14 +12,14 @@ use Rattle.desk_texts.specs.declared.command.Command.TheVariants as command
 use Rattle.desk_history.specs.Called.{called}
 use Rattle.desk_history.specs.Calls.{First, History, Rules, Second, is_first, item, under}
 use Rattle.desk_history.specs.Limits.{is_within}
-use Rattle.desk_history.specs.Proposals.{Named, Proposal, is_proposal, named_by, proposal_state, proposals}
+use Rattle.desk_history.specs.Proposals.{Named, is_proposal, named_by, proposal_state, proposals}
 use Rattle.desk_history.specs.Refusals.{confirm_refusal, own_refusal}
 use Rattle.desk_history.specs.Replies.{minutes, reply, reply_to}
 use Rattle.desk_history.specs.Runs.{is_legal}
 use Rattle.desk_history.specs.Tables.{tables}
 use Rattle.desk_rules.specs.declared.view.Changes.{Changes}
 use Rattle.desk_rules.specs.declared.view.View.{View}
-use Rattle.desk_rules.specs.DecisionSteps.{IsCommandStep, MatchesOwn, RefusesOwn}
+use Rattle.desk_rules.specs.DecisionSteps.{MatchesOwn, RefusesOwn}
 use Rattle.desk_rules.specs.First.{ShowsToFirst}
 use Rattle.desk_rules.specs.FirstSteps.{IsFirstStep, next_tables}
 use Rattle.desk_rules.proofs.RoomByRules.{room_is}

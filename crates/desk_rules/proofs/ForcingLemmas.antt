@@ -1,5 +1,5 @@
 -- Entries that a command by the first rules puts into force at once.
-use Rattle.std.proofs.Common.{◌≡◌, ℕ, true, IfSome, List, ◌∷◌, Some, None, refl, sym, ◌∙◌, ap, subst, inl}
+use Rattle.std.proofs.Common.{◌≡◌, ℕ, true, IfSome, List, Some, None, refl, sym, ◌∙◌, ap, subst, inl}
 use Rattle.std.specs.Prelude.{is_some}
 use Rattle.desk_bytes.specs.declared.refusal.Refusal.{Refusal}
 use Rattle.desk_texts.specs.Callers.{caller_name}

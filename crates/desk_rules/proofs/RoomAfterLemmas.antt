@@ -5,7 +5,7 @@ use Rattle.std.specs.List.{list_any}
 use Rattle.std.proofs.lemmas.List.{length-map}
 use Rattle.desk_texts.specs.declared.kind.ListedKind.TheVariants as kinds
 use Rattle.desk_history.specs.declared.write.Write.{Write}
-use Rattle.desk_history.specs.Calls.{History, Item, distinct, is_first}
+use Rattle.desk_history.specs.Calls.{History, Item, distinct}
 use Rattle.desk_history.specs.Level.{generations, names}
 use Rattle.desk_history.specs.Limits.{is_within, most_calls, most_level_components, most_listed, most_people, most_proposals, most_requests, most_revoked_certificates, most_revoked_digests}
 use Rattle.desk_history.specs.Listing.{listed}

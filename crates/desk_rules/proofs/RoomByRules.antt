@@ -1,5 +1,5 @@
 -- Room in the tables after a call by the second rules, and after one by the first that names entries.
-use Rattle.std.proofs.Common.{◌≡◌, ℕ, ◌≤◌, Bool, true, false, List, ◌∷◌, length, inl, arith}
+use Rattle.std.proofs.Common.{◌≡◌, ℕ, ◌≤◌, true, false, List, ◌∷◌, length, inl, arith}
 use Rattle.std.specs.Prelude.{IsTrue, is_some}
 use Rattle.std.specs.List.{list_any}
 use Rattle.desk_texts.specs.declared.command.Call.{Call}

@@ -1,38 +1,22 @@
 -- Room in the tables after a call, where those before it have room for its writes.
-use Rattle.std.proofs.Common.{◌≡◌, ℕ, ◌+◌, ◌≤◌, Bool, true, false, ◌&&◌, List, [], ◌∷◌, length, refl, sym, ◌∙◌, ap, inl, inr, arith, suc}
-use Rattle.std.specs.Prelude.{IsTrue, count_by, nat_le}
+use Rattle.std.proofs.Common.{◌≡◌, ℕ, ◌+◌, ◌≤◌, Bool, true, false, List, [], ◌∷◌, length, refl, sym, ◌∙◌, ap, arith, suc}
+use Rattle.std.specs.Prelude.{count_by, nat_le}
 use Rattle.std.specs.List.{list_any}
 use Rattle.std.proofs.lemmas.Bool.{or_parts}
 use Rattle.std.proofs.lemmas.Bool.Decides.{nat_tests}
 use Rattle.std.proofs.lemmas.List.{length-map}
-use Rattle.desk_texts.specs.declared.command.Call.{Call}
 use Rattle.desk_texts.specs.declared.kind.ListedKind.TheVariants as kinds
 use Rattle.desk_history.specs.declared.write.Write.{Write}
 use Rattle.desk_history.specs.declared.write.Write.TheVariants as writes
-use Rattle.desk_texts.specs.declared.command.Command.{Command}
-use Rattle.desk_texts.specs.declared.command.Command.TheVariants as command
 use Rattle.desk_texts.specs.declared.kind.ListedKind.{ListedKind}
-use Rattle.desk_history.specs.Calls.{History, distinct, is_same_kind, item}
-use Rattle.desk_history.specs.Level.{generations, names}
-use Rattle.desk_history.specs.Listing.{listed}
-use Rattle.desk_history.specs.People.{people}
-use Rattle.desk_history.specs.Proposals.{proposal_state, proposals}
+use Rattle.desk_history.specs.Calls.{History, is_same_kind}
 use Rattle.desk_history.specs.Replies.{minutes}
-use Rattle.desk_history.specs.Requests.{requests, state}
-use Rattle.desk_history.specs.Revocations.{revocations}
-use Rattle.desk_history.specs.Tables.{Tables, level_row, proposal_row, request_row, tables}
+use Rattle.desk_history.specs.Tables.{Tables}
 use Rattle.desk_history.specs.Writes.{all_written, set_generation, set_proposal_state, set_state, with_revoked, written}
-use Rattle.desk_history.specs.Limits.{is_within, most_calls, most_level_components, most_listed, most_people, most_proposals, most_requests, most_revoked_certificates, most_revoked_digests}
 use Rattle.desk_rules.specs.declared.view.LimitedTable.TheVariants as kept
-use Rattle.desk_rules.specs.declared.view.Sizes.{Sizes}
-use Rattle.desk_rules.specs.Shown.{may_put, rows_in, size_in}
-use Rattle.desk_rules.specs.declared.view.LimitedTable.{LimitedTable}
-use Rattle.desk_rules.specs.Room.{IsRoomed, fits, has_room, puts, takes_off}
-use Rattle.desk_history.specs.Runs.{is_legal}
+use Rattle.desk_rules.specs.Room.{fits, puts, takes_off}
 use Rattle.desk_history.proofs.CountLemmas.{one_if}
 use Rattle.desk_history.proofs.RequestLemmas.{count_more}
-use Rattle.desk_history.proofs.EntryLemmas.{without_fewer}
-use Rattle.desk_history.proofs.RunLemmas.{Within, legal_parts}
 
 -- a measure of the tables that each write of a kind makes one more
 pub grows : (f : Tables → ℕ) (p : Write → Bool) → ((w : Write) (t : Tables) → f (written w t) ≡ one_if (p w) + f t) → (ws : List Write) (t : Tables) → f (all_written ws t) ≡ count_by p ws + f t

@@ -27,12 +27,7 @@ fn forced_reply(kind: ProposalKind, counts: Counts) -> Reply
 }
 
 /// Puts the named entries into force.
-fn force(
-    alloc: Global,
-    view: &View,
-    kind: ProposalKind,
-    named: &Import,
-) -> Result<Changes, Refusal>
+fn force(alloc: Global, view: &View, kind: ProposalKind, named: &Import) -> Result<Changes, Refusal>
     ensures exact { (caller : CallerValue) (command : CommandValue)
         → named_by command ≡ Some (record { kind = kind; entries = named.now })
         → spec.DecidesOwnFirst view.now caller command result }

@@ -1,4 +1,4 @@
-use Rattle.std.proofs.Common.{rules, refl}
+use Rattle.std.proofs.Common.{rules}
 use Rattle.desk_rules.proofs.AnswerLemmas.{force_only}
 use Rattle.desk_rules.proofs.ForcingLemmas.{forces_now, refuses_now}
 use Rattle.desk_rules.proofs.decisions.forcing.force.Goals as goal
