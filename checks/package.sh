@@ -42,6 +42,15 @@ has() {
 
 # ---- made twice, unpacked
 
+# The package names its commit: where there is none, that of a copy.
+if ! git -C "$root" log -1 > said 2>&1; then
+    mkdir copy
+    (cd "$root" && tar -cf - --exclude=.git --exclude='crates/*/out' .) | (cd copy && tar -xf -)
+    root=$room/copy
+    git -C copy init -q
+    git -C copy add -A
+    git -C copy -c user.name=checks -c user.email=checks@localhost commit -qm 'A copy' > said 2>&1
+fi
 mkdir one two unpacked
 holds 'deb.sh' "$root/packaging/deb.sh" "$program" one
 sleep 1
