@@ -1,5 +1,5 @@
 -- Minutes followed line by line.
-use Rattle.std.proofs.Common.{◌≡◌, ◌⊎◌, inl, inr, ℕ, ◌+◌, ◌<◌, ◌==◌, ◌∙◌, Bool, true, false, List, [], ◌∷◌, ◌++◌, length, drop, Option, None, Some, IfSome, refl, sym, ap, subst, append_assoc, arith}
+use Rattle.std.proofs.Common.{◌≡◌, ◌⊎◌, inl, inr, ℕ, ◌+◌, ◌<◌, ◌^◌, ◌==◌, ◌∙◌, Bool, true, false, ◌||◌, List, [], ◌∷◌, ◌++◌, length, drop, Option, None, Some, IfSome, refl, sym, ap, subst, append_assoc, arith}
 use Rattle.std.specs.Prelude.{if◌then◌else◌}
 use Rattle.std.specs.Io.{StopsAt}
 use Rattle.std.specs.Io.BufRead.{drop_through, take_through}
@@ -7,16 +7,26 @@ use Rattle.std.specs.Io.KnownBytes.{Consumes, IsAtEnd}
 use Rattle.std.proofs.lemmas.Bool.Decides.{nat_tests}
 use Rattle.std.proofs.KnownBytes.{Consumes-nil, Consumes-trans}
 use Rattle.sqlite.specs.Store.{Ghosts}
-use Rattle.desk_history.specs.Calls.{History, item}
+use Rattle.desk_history.specs.Calls.{First, History, Item, Second, under}
 use Rattle.desk_history.specs.Formed.{IsHistory}
-use Rattle.desk_exports.specs.Exports.{minutes_text}
-use Rattle.desk_minutes.specs.Follows.{EndsLine, HasNoNext, are_second}
-use Rattle.desk_minutes.proofs.FollowLemmas.{none_goes_through, one_more}
+use Rattle.desk_history.specs.Replies.{minute_of, reply_to}
+use Rattle.desk_exports.specs.Exports.{minute_line, minutes_text}
+use Rattle.desk_minutes.specs.Follows.{EndsLine, HasNoNext}
+use Rattle.desk_minutes.specs.Minuted.{as_minuted, is_of_second, shows_second}
+use Rattle.desk_minutes.proofs.FollowLemmas.{none_goes_through}
+use Rattle.desk_minutes.proofs.MinutedLemmas.{first_minuted, second_minuted}
+use Rattle.desk_minutes.proofs.TextLemmas.{one_more}
 use Rattle.desk_store.specs.Desks.{ShowsDesk}
 use Rattle.desk_store.specs.declared.desk.Desk.{Desk}
+use Rattle.desk_first.specs.Desks.{ShowsFirstDesk}
+use Rattle.desk_first.specs.declared.desk.FirstDesk.{FirstDesk}
 use Rattle.desk_audit.specs.Audits.{HasFollowed, IsWrongAt}
-use Rattle.desk_audit.specs.Following.{GoesOn}
+use Rattle.desk_audit.specs.Following.{EndsBefore, GoesOn, GoesOnWith}
 use Rattle.desk_audit.specs.Lines.{TakesLine}
+use Rattle.desk_audit.specs.Rules.{HasBegun, HasFollowedFirst, HasFollowedSecond, HasTurned}
+use Rattle.desk_audit.specs.declared.auditing.FirstEnd.{FirstEnd}
+use Rattle.desk_audit.specs.declared.auditing.FirstEnd.TheVariants.{All, Before}
+use Rattle.desk_audit.proofs.FollowingLemmas.{none_told, small_number, told_reply}
 
 -- ---- lines of a reader
 
@@ -50,44 +60,124 @@ pub takes_into : (old new : Option (List ℕ)) (before line : List ℕ) → befo
 takes_into old new [] line e some stops taken is rest = takes old new line some stops taken is rest
 takes_into old new (b ∷ bs) line e some stops taken is rest = absurd (cc)
 
+-- ---- the lines that were followed
+
+-- one more of them
+given_more : (cs : History) (i : Item) (first mid now : Option (List ℕ)) (line : List ℕ) → Consumes first mid (minutes_text cs) → TakesLine mid now line
+    → line ≡ minute_line (minute_of cs i) → Consumes first now (minutes_text (i ∷ cs))
+given_more cs i first mid now line given t is =
+    subst (Consumes first now) (ap (λ l. minutes_text cs ++ l) is ∙ sym (one_more cs i)) (Consumes-trans first mid now (minutes_text cs) line given t.taken)
+
+-- none more
+wrong_at : (cs : History) (calls : ℕ) (first mid now : Option (List ℕ)) (line : List ℕ) → IsHistory cs → as_minuted cs ≡ cs → length cs ≡ calls
+    → Consumes first mid (minutes_text cs) → TakesLine mid now line → HasNoNext cs line → IfSome first (λ given. IsWrongAt given (calls + 1))
+wrong_at cs calls None mid now line h m count given t none = tt
+wrong_at cs calls (Some bytes) None now line h m count given t none = absurd given
+wrong_at cs calls (Some bytes) (Some left) None line h m count given t none = absurd t.taken
+wrong_at cs calls (Some bytes) (Some left) (Some rest) line h m count given t none = record {
+  history = cs;
+  before = minutes_text cs;
+  line = line;
+  after = rest;
+  parts = given ∙ ap (λ l. minutes_text cs ++ l) t.taken ∙ sym (append_assoc (minutes_text cs) line rest);
+  follows = record { history = h; minutes = refl };
+  count = ap (λ n. n + 1) (sym count);
+  one = t.one;
+  ends = t.ends;
+  none = none_goes_through cs line h t.one (subst (λ l. HasNoNext l line) (sym m) none);
+}
+
+-- ---- replies that only the second rules give
+
+-- a later call keeps the reply that only the second rules give
+pub still_second : (cs : History) (i : Item) → shows_second cs ≡ true → shows_second (i ∷ cs) ≡ true
+still_second cs i h = by (is_of_second (reply_to cs i)) (shows_second cs) h
+  where
+    by : (a b : Bool) → b ≡ true → (a || b) ≡ true
+    by true b e = refl
+    by false b e = e
+
+pub now_second : (cs : History) (i : Item) → is_of_second (reply_to cs i) ≡ true → shows_second (i ∷ cs) ≡ true
+now_second cs i h = ap (λ b. b || shows_second cs) h
+
 -- ---- the desk that follows them
 
 module _ {S : Type 0} (g : Ghosts S) where
-  pub begins : (desk : Desk S) (owner : List ℕ) (left : Option (List ℕ)) → ShowsDesk g desk owner [] → HasFollowed g desk owner 0 left left
-  begins desk owner left h = record { history = []; shows = h; second = refl; count = refl; given = Consumes-nil left }
+  pub begins : (desk : FirstDesk S) (owner : List ℕ) (left : Option (List ℕ)) → ShowsFirstDesk g desk owner [] → HasFollowedFirst g desk owner 0 left left
+  begins desk owner left h = record { history = []; shows = h; count = refl; given = Consumes-nil left }
+
+  pub first_goes_on : (old new : FirstDesk S) (owner : List ℕ) (calls : ℕ) (first mid now : Option (List ℕ)) (line : List ℕ) (f : HasFollowedFirst g old owner calls first mid)
+      → TakesLine mid now line → GoesOn First (ShowsFirstDesk g new owner) f.history line → HasFollowedFirst g new owner (calls + 1) first now
+  first_goes_on old new owner calls first mid now line f t next = record {
+    history = under First next.call ∷ f.history;
+    shows = next.shows;
+    count = let longer : length (under First next.call ∷ f.history) ≡ calls + 1 = omega (arith, f.count) in longer;
+    given = given_more f.history (under First next.call) first mid now line f.given t next.is;
+  }
+
+  pub first_wrong : (old : FirstDesk S) (owner : List ℕ) (calls : ℕ) (first mid now : Option (List ℕ)) (line : List ℕ) (f : HasFollowedFirst g old owner calls first mid)
+      → TakesLine mid now line → HasNoNext f.history line → IfSome first (λ given. IsWrongAt given (calls + 1))
+  first_wrong old owner calls first mid now line f t none =
+      wrong_at f.history calls first mid now line f.shows.history (first_minuted f.history f.shows.history.legal f.shows.first) f.count f.given t none
+
+  -- the desk goes on by the second rules
+  handed : (old : FirstDesk S) (new : Desk S) (owner : List ℕ) (calls : ℕ) (first mid : Option (List ℕ)) → ((cs : History) → ShowsFirstDesk g old owner cs → ShowsDesk g new owner cs)
+      → HasFollowedFirst g old owner calls first mid → HasFollowed g new owner calls first mid
+  handed old new owner calls first mid shows f = record {
+    history = f.history;
+    shows = shows f.history f.shows;
+    minuted = first_minuted f.history f.shows.history.legal f.shows.first;
+    count = f.count;
+    given = f.given;
+  }
+
+  pub handed_over : (old : FirstDesk S) (new : Desk S) (owner : List ℕ) (end : FirstEnd) (first now : Option (List ℕ)) (line : List ℕ)
+      → ((cs : History) → ShowsFirstDesk g old owner cs → ShowsDesk g new owner cs) → HasBegun g old owner end first now line → HasTurned g new owner end first now line
+  handed_over old new owner (All calls) first now line shows h = (h.0, handed old new owner calls first h.0 shows h.1, h.2)
+  handed_over old new owner (Before number) first now line shows h = (h.0, h.1, handed old new owner h.0 first h.1 shows h.2, h.3)
 
   pub goes_on : (old new : Desk S) (owner : List ℕ) (calls : ℕ) (first mid now : Option (List ℕ)) (line : List ℕ) (f : HasFollowed g old owner calls first mid)
-      → TakesLine mid now line → GoesOn g new owner f.history line → HasFollowed g new owner (calls + 1) first now
-  goes_on old new owner calls first mid now line f t next =
-      let text : minutes_text f.history ++ line ≡ minutes_text (item next.call ∷ f.history) =
-      ap (λ l. minutes_text f.history ++ l) next.is ∙ sym (one_more f.history (item next.call)) in
-      let longer : length (item next.call ∷ f.history) ≡ calls + 1 = omega (arith, f.count) in
-      record {
-        history = item next.call ∷ f.history;
-        shows = next.shows;
-        second = f.second;
-        count = longer;
-        given = subst (Consumes first now) text (Consumes-trans first mid now (minutes_text f.history) line f.given t.taken);
-      }
-
-  pub wrong_at : (old : Desk S) (owner : List ℕ) (calls : ℕ) (first mid now : Option (List ℕ)) (line : List ℕ) (f : HasFollowed g old owner calls first mid)
-      → TakesLine mid now line → HasNoNext f.history line → IfSome first (λ given. IsWrongAt given (calls + 1))
-  wrong_at old owner calls None mid now line f t none = tt
-  wrong_at old owner calls (Some given) None now line f t none = absurd f.given
-  wrong_at old owner calls (Some given) (Some left) None line f t none = absurd t.taken
-  wrong_at old owner calls (Some given) (Some left) (Some rest) line f t none = record {
-    history = f.history;
-    before = minutes_text f.history;
-    line = line;
-    after = rest;
-    parts = f.given ∙ ap (λ l. minutes_text f.history ++ l) t.taken ∙ sym (append_assoc (minutes_text f.history) line rest);
-    follows = record { history = f.shows.history; minutes = refl };
-    second = f.second;
-    count = ap (λ n. n + 1) (sym f.count);
-    one = t.one;
-    ends = t.ends;
-    none = none_goes_through f.history line f.shows.history f.second t.one none;
+      → TakesLine mid now line → (next : GoesOn Second (ShowsDesk g new owner) f.history line) → shows_second (under Second next.call ∷ f.history) ≡ true
+      → HasFollowedSecond g new owner (calls + 1) first now
+  goes_on old new owner calls first mid now line f t next second = record {
+    followed = record {
+      history = under Second next.call ∷ f.history;
+      shows = next.shows;
+      minuted = second_minuted f.history next.call second f.minuted;
+      count = let longer : length (under Second next.call ∷ f.history) ≡ calls + 1 = omega (arith, f.count) in longer;
+      given = given_more f.history (under Second next.call) first mid now line f.given t next.is;
+    };
+    second = second;
   }
+
+  pub second_wrong : (old : Desk S) (owner : List ℕ) (calls : ℕ) (first mid now : Option (List ℕ)) (line : List ℕ) (f : HasFollowed g old owner calls first mid)
+      → TakesLine mid now line → HasNoNext f.history line → IfSome first (λ given. IsWrongAt given (calls + 1))
+  second_wrong old owner calls first mid now line f t none = wrong_at f.history calls first mid now line f.shows.history f.minuted f.count f.given t none
+
+  -- from the line on that only the second rules give
+  pub turns : (old new : Desk S) (owner : List ℕ) (number : ℕ) (first now : Option (List ℕ)) (line : List ℕ) → HasTurned g old owner (Before number) first now line
+      → GoesOnWith g old new number line → HasFollowedSecond g new owner number first now
+  turns old new owner number first now line was goes =
+      let f = was.2 in
+      let t = was.3 in
+      let is : number ≡ length f.history + 1 = t.is_next ∙ ap (λ n. n + 1) (sym f.count) in
+      let next = goes owner f.history f.shows is in
+      let i = under Second next.call in
+      let small = subst (λ n. n < 2 ^ 64) (sym is) (small_number f.history f.shows.history) in
+      let reply = told_reply f.history line number i next.shows.history small is next.is t.tells in
+      subst (λ n. HasFollowedSecond g new owner n first now) (sym t.is_next)
+      (goes_on old new owner was.0 first was.1 now line f t.takes next (now_second f.history i reply))
+
+  pub turn_wrong : (old : Desk S) (owner : List ℕ) (number : ℕ) (first now : Option (List ℕ)) (line : List ℕ) → HasTurned g old owner (Before number) first now line
+      → EndsBefore g old number line → IfSome first (λ given. IsWrongAt given number)
+  turn_wrong old owner number first now line was ends =
+      let f = was.2 in
+      let t = was.3 in
+      let h = f.shows.history in
+      let is : number ≡ length f.history + 1 = t.is_next ∙ ap (λ n. n + 1) (sym f.count) in
+      let small : number < 2 ^ 64 = subst (λ n. n < 2 ^ 64) (sym is) (small_number f.history h) in
+      let none = none_told f.history line number t.tells.call t.tells.reply h small is t.tells.told t.tells.is t.tells.second (ends owner f.history f.shows is) in
+      subst (λ n. IfSome first (λ given. IsWrongAt given n)) (sym t.is_next) (second_wrong old owner was.0 first was.1 now line f t.takes none)
 
   -- all was read
   pub ended : (desk : Desk S) (owner : List ℕ) (calls : ℕ) (first now : Option (List ℕ)) → HasFollowed g desk owner calls first now → IsAtEnd now
@@ -97,15 +187,14 @@ module _ {S : Type 0} (g : Ghosts S) where
   ended desk owner calls (Some given) (Some left) f end = record {
     history = f.history;
     shows = f.shows;
-    second = f.second;
+    minuted = f.minuted;
     count = f.count;
     given = f.given ∙ ap (λ l. minutes_text f.history ++ l) end;
   }
 
 -- minutes of a history have no wrong line
-pub none_wrong : (known : Option (List ℕ)) (n : ℕ) (cs : History) → IfSome known (λ given. IsWrongAt given n) → IsHistory cs → are_second cs ≡ true
-    → known ≡ Some (minutes_text cs) → ⊥
-none_wrong None n cs w h second same = absurd (cc)
-none_wrong (Some given) n cs w h second same =
+pub none_wrong : (known : Option (List ℕ)) (n : ℕ) (cs : History) → IfSome known (λ given. IsWrongAt given n) → IsHistory cs → known ≡ Some (minutes_text cs) → ⊥
+none_wrong None n cs w h same = absurd (cc)
+none_wrong (Some given) n cs w h same =
     let is : given ≡ minutes_text cs = cc in
-    w.none cs h second (w.after, sym is ∙ w.parts, w.ends)
+    w.none cs h (w.after, sym is ∙ w.parts, w.ends)

@@ -1,7 +1,9 @@
 -- Calls that are accepted and are no repeats, and the lines of their minutes.
-use Rattle.std.proofs.Common.{◌≡◌, ◌≢◌, ℕ, ◌+◌, ◌<◌, ◌^◌, ◌∙◌, Bool, true, false, not, ◌||◌, List, [], ◌∷◌, ◌++◌, length, Option, Some, None, Result, Ok, Err, find, bytes_eq, refl, sym, ap}
-use Rattle.std.specs.Prelude.{codes, decimal, if◌then◌else◌}
-use Rattle.std.specs.List.{list_any}
+use Rattle.std.proofs.Common.{◌≡◌, ◌≢◌, inr, ℕ, ◌+◌, ◌<◌, ◌≤◌, ◌^◌, ◌∙◌, Bool, true, false, not, ◌&&◌, ◌||◌, List, [], ◌∷◌, ◌++◌, length, Option, Some, None, Result, Ok, Err, find, bytes_eq, refl, sym, ap, arith}
+use Rattle.std.specs.Prelude.{codes, decimal, if◌then◌else◌, nat_le, IfNone, IfSome}
+use Rattle.std.specs.List.{list_all, list_any}
+use Rattle.std.proofs.lemmas.Bool.{and_parts}
+use Rattle.std.proofs.lemmas.Bool.Decides.{nat_tests}
 use Rattle.std.proofs.lemmas.List.Elements.{All-cons}
 use Rattle.std.proofs.lemmas.Option.{same_Some}
 use Rattle.desk_bytes.specs.declared.refusal.Refusal.{Refusal}
@@ -12,24 +14,31 @@ use Rattle.desk_texts.specs.Formed.{IsCall}
 use Rattle.desk_texts.specs.ReplyTexts.{reply_text_of}
 use Rattle.desk_texts.specs.declared.command.Call.{Call}
 use Rattle.desk_texts.specs.declared.reply.Reply.{Reply}
-use Rattle.desk_texts.proofs.FormLemmas.{joined}
-use Rattle.desk_history.specs.Calls.{History, item}
+use Rattle.desk_texts.proofs.FormLemmas.{both, joined}
+use Rattle.desk_history.specs.Calls.{First, History, Item, Rules, Second, is_first, item, under}
 use Rattle.desk_history.specs.Formed.{IsHistory, IsItem}
+use Rattle.desk_history.specs.Limits.{most_calls}
 use Rattle.desk_history.specs.Refusals.{is_known, refusal_of}
-use Rattle.desk_history.specs.Replies.{minute, reply, reply_to}
-use Rattle.desk_history.specs.Runs.{answer, answer_known, earlier, has_key, is_accepted, is_legal, joins, next, reply_in}
+use Rattle.desk_history.specs.Replies.{minute_of, reply_to}
+use Rattle.desk_history.specs.Runs.{answer, answer_known, earlier, has_key, is_accepted, is_legal, joins, may_follow, next, reply_in, ruling}
 use Rattle.desk_history.specs.Tables.{tables}
+use Rattle.desk_history.specs.declared.answer.Answer.{Answer}
 use Rattle.desk_history.specs.declared.answer.Answer.TheVariants.{Accepted, Refused, Repeated}
 use Rattle.desk_history.specs.declared.rows.Minute.{Minute}
 use Rattle.desk_history.proofs.ListLemmas.{bytes_eq-refl, same_text}
-use Rattle.desk_history.proofs.RunLemmas.{accepted_parts}
+use Rattle.desk_history.proofs.RunLemmas.{accepted_parts, newest}
 use Rattle.desk_rules.specs.Shown.{Shows}
 use Rattle.desk_rules.specs.declared.view.View.{View}
 use Rattle.desk_exports.specs.Exports.{minute_line}
 use Rattle.desk_minutes.specs.Follows.{HasNoNext}
 use Rattle.desk_minutes.specs.Lines.{IsTold, line_with}
-use Rattle.desk_minutes.proofs.FollowLemmas.{told_newest}
+use Rattle.desk_minutes.specs.Minuted.{is_of_second, shows_second}
+use Rattle.desk_minutes.proofs.AlikeLemmas.{alike, minute_same, ruling_same, second_neutral}
 use Rattle.desk_minutes.proofs.LineLemmas.{line_same}
+use Rattle.desk_minutes.proofs.MinutedLemmas.{first_of_first, first_shows_none}
+use Rattle.desk_minutes.proofs.SameLemmas.{itself}
+use Rattle.desk_minutes.proofs.TextLemmas.{told_newest}
+use Rattle.desk_audit.specs.Following.{HasNoneBy, TellsSecond}
 
 -- ---- repeats
 
@@ -73,12 +82,6 @@ new_accepted v owner cs c r shows h e =
 pub accepted_next : (cs : History) (c : Call) (r : Reply) → answer cs c ≡ Accepted r → next cs c ≡ item c ∷ cs
 accepted_next cs c r h = ap (λ a. if is_accepted a then item c ∷ cs else cs) h
 
-pub refused_not : (cs : History) (c : Call) (r : Refusal) → answer cs c ≡ Refused r → is_accepted (answer cs c) ≡ false
-refused_not cs c r h = ap is_accepted h
-
-pub accepted_is : (cs : History) (c : Call) (r : Reply) → answer cs c ≡ Accepted r → is_accepted (answer cs c) ≡ true
-accepted_is cs c r h = ap is_accepted h
-
 replied : (known : Bool) (m : Option Minute) (text : List ℕ) (refusal : Option Refusal) (given r : Reply)
     → ((if not known then Refused refusals.UnknownCaller else answer_known m text refusal given) ≡ Accepted r) → given ≡ r
 replied false m text refusal given r h = absurd (cc)
@@ -88,65 +91,124 @@ replied true None text (Some refusal) given r h = absurd (cc)
 replied true None text None given r h = cc
 
 -- it is accepted with the reply that is due
-pub accepted_reply : (cs : History) (c : Call) (r : Reply) → answer cs c ≡ Accepted r → reply cs c ≡ r
-accepted_reply cs c r h = replied (is_known cs c.caller) (earlier cs c) (text_of c.command) (refusal_of cs (item c)) (reply_to cs (item c)) r h
+pub accepted_reply : (cs : History) (i : Item) (r : Reply) → ruling cs i ≡ Accepted r → reply_to cs i ≡ r
+accepted_reply cs i r h = replied (is_known cs i.call.caller) (earlier cs i.call) (text_of i.call.command) (refusal_of cs i) (reply_to cs i) r h
 
 -- ---- lines
 
-pub history_more : (cs : History) (c : Call) → IsHistory cs → IsCall c → is_accepted (answer cs c) ≡ true → IsHistory (item c ∷ cs)
-history_more cs c h formed accepted = record {
-  legal = joined (joins cs (item c)) (is_legal cs) (joined (is_accepted (answer cs c)) true accepted refl) h.legal;
-  formed = All-cons IsItem (item c) cs formed h.formed;
+pub history_more : (cs : History) (i : Item) → IsHistory cs → IsItem i → joins cs i ≡ true → IsHistory (i ∷ cs)
+history_more cs i h formed may = record {
+  legal = joined (joins cs i) (is_legal cs) may h.legal;
+  formed = All-cons IsItem i cs formed h.formed;
 }
 
-pub told : (cs : History) (c : Call) → IsHistory cs → IsCall c → is_accepted (answer cs c) ≡ true → IsTold c (reply cs c)
-told cs c h formed accepted = told_newest cs (item c) (history_more cs c h formed accepted)
+pub told : (cs : History) (i : Item) → IsHistory cs → IsItem i → joins cs i ≡ true → IsTold i.call (reply_to cs i)
+told cs i h formed may = told_newest cs i (history_more cs i h formed may)
 
 -- the line of the next minute, under its number
-pub line_numbered : (cs : History) (n : ℕ) (c : Call) → n ≡ length cs + 1 → minute_line (minute cs c) ≡ line_with n c (reply cs c)
-line_numbered cs n c is = ap (λ m. line_with m c (reply cs c)) (sym is)
+pub line_numbered : (cs : History) (n : ℕ) (i : Item) → n ≡ length cs + 1 → minute_line (minute_of cs i) ≡ line_with n i.call (reply_to cs i)
+line_numbered cs n i is = ap (λ m. line_with m i.call (reply_to cs i)) (sym is)
+
+-- ---- the lines that no call has
+
+-- a line that isn't read is that of no call
+pub none_read : (cs : History) (line : List ℕ) (n : ℕ) → IsHistory cs → n ≡ length cs + 1 → ((c : Call) (r : Reply) → IsTold c r → line ≡ line_with n c r → ⊥) → HasNoNext cs line
+none_read cs line n h is none i formed may same = none i.call (reply_to cs i) (told cs i h formed may) (same ∙ line_numbered cs n i is)
 
 -- what was read of a line is the call and the reply of whichever call has it
-pub only_one : (cs : History) (line : List ℕ) (n : ℕ) (c : Call) (r : Reply) → IsHistory cs → n < 2 ^ 64 → n ≡ length cs + 1 → IsTold c r → line ≡ line_with n c r
-    → ((answer cs c ≡ Accepted r) → ⊥) → HasNoNext cs line
-only_one cs line n c r h small is read spelt none d formed accepted same =
-    let due = told cs d h formed accepted in
-    let one = line_same n c d r (reply cs d) small read due (sym spelt ∙ same ∙ line_numbered cs n d is) in
-    none (ap (answer cs) one.0 ∙ accepted_due cs d accepted ∙ ap Accepted (sym one.1))
+module _ (cs : History) (line : List ℕ) (n : ℕ) (c : Call) (r : Reply) (h : IsHistory cs) (small : n < 2 ^ 64) (is : n ≡ length cs + 1) (read : IsTold c r) (spelt : line ≡ line_with n c r) where
+  same_read : (i : Item) → IsItem i → joins cs i ≡ true → line ≡ minute_line (minute_of cs i) → (c ≡ i.call) × (r ≡ reply_to cs i)
+  same_read i formed may same = line_same n c i.call r (reply_to cs i) small read (told cs i h formed may) (sym spelt ∙ same ∙ line_numbered cs n i is)
+
+  pub only_by : (rules : Rules) → (joins cs (under rules c) ≡ true → reply_to cs (under rules c) ≡ r → ⊥) → HasNoneBy rules cs line
+  only_by rules none d formed may same =
+      let one = same_read (under rules d) formed may same in
+      none (ap (λ e. joins cs (under rules e)) one.0 ∙ may) (ap (λ e. reply_to cs (under rules e)) one.0 ∙ sym one.1)
+
+  -- a line that the first rules don't give is that of no call, unless only the second give its reply
+  pub none_first : list_all is_first cs ≡ true → is_of_second r ≡ false → HasNoneBy First cs line → HasNoNext cs line
+  none_first first given none i formed may same = by i.call i.rules formed may same
+    where
+      by : (d : Call) (s : Rules) → IsCall d → joins cs (under s d) ≡ true → line ≡ minute_line (minute_of cs (under s d)) → ⊥
+      by d First formed may same = none d formed may same
+      by d Second formed may same =
+          let one = same_read (under Second d) formed may same in
+          let quiet : is_of_second (reply_to cs (under Second d)) ≡ false = ap is_of_second (sym one.1) ∙ given in
+          let same_by = alike cs cs d First Second refl (inr (second_neutral cs d d.command quiet)) in
+          let accepted : is_accepted (ruling cs (under First d)) ≡ true =
+          ap is_accepted (ruling_same cs cs d First Second (itself cs) same_by) ∙ (both (is_accepted (ruling cs (under Second d))) true may).0 in
+          none d formed (joined (is_accepted (ruling cs (under First d))) (list_all is_first cs) accepted first)
+          (same ∙ ap minute_line (sym (minute_same cs cs d First Second (itself cs) same_by)))
+
+  -- the first rules give no reply of the second
+  pub none_told : is_of_second r ≡ true → HasNoneBy Second cs line → HasNoNext cs line
+  none_told given none i formed may same = by i.call i.rules formed may same
+    where
+      by : (d : Call) (s : Rules) → IsCall d → joins cs (under s d) ≡ true → line ≡ minute_line (minute_of cs (under s d)) → ⊥
+      by d Second formed may same = none d formed may same
+      by d First formed may same =
+          let one = same_read (under First d) formed may same in
+          let quiet = first_of_first cs d (joined (joins cs (under First d)) (is_legal cs) may h.legal) in
+          let told_so : is_of_second (reply_to cs (under First d)) ≡ true = ap is_of_second (sym one.1) ∙ given in
+          absurd (cc)
+
+-- a reply that only the second rules give is that of the line's call
+pub told_reply : (cs : History) (line : List ℕ) (n : ℕ) (i : Item) → IsHistory (i ∷ cs) → n < 2 ^ 64 → n ≡ length cs + 1 → line ≡ minute_line (minute_of cs i) → TellsSecond n line
+    → is_of_second (reply_to cs i) ≡ true
+told_reply cs line n i h small is same t =
+    let one = line_same n t.call i.call t.reply (reply_to cs i) small t.told (told_newest cs i h) (sym t.is ∙ same ∙ line_numbered cs n i is) in
+    ap is_of_second (sym one.1) ∙ t.second
+
+-- a desk's history has room for a line's number
+pub small_number : (cs : History) → IsHistory cs → length cs + 1 < 2 ^ 64
+small_number [] h = omega arith
+small_number (i ∷ cs) h =
+    let within = and_parts _ (nat_le (length (i ∷ cs)) most_calls) (newest cs i h.legal).new.within in
+    let most : nat_le (length (i ∷ cs)) 1000000 ≡ true = within.1 in
+    let few : length (i ∷ cs) ≤ 1000000 = grind (arith, nat_tests, most) in
+    omega (arith, few)
+
+-- the first rules accept nothing after a reply of the second
+pub none_second : (cs : History) (line : List ℕ) → IsHistory cs → shows_second cs ≡ true → HasNoneBy Second cs line → HasNoNext cs line
+none_second cs line h shows none i formed may same = by i.call i.rules formed may same
   where
-    by : (known : Bool) (m : Option Minute) (text : List ℕ) (refusal : Option Refusal) (given : Reply)
-        → is_accepted (if not known then Refused refusals.UnknownCaller else answer_known m text refusal given) ≡ true
-        → ((if not known then Refused refusals.UnknownCaller else answer_known m text refusal given) ≡ Accepted given)
-    by false m text refusal given e = absurd (cc)
-    by true (Some m) text refusal given e =
-        elim (bytes_eq m.text text) as (λ b. is_accepted (if b then Repeated m.reply else Refused refusals.KeyReused) ≡ true → (if b then Repeated m.reply else Refused refusals.KeyReused) ≡ Accepted given) [ true ↦ λ f. absurd (cc) | false ↦ λ f. absurd (cc) ] e
-    by true None text (Some refusal) given e = absurd (cc)
-    by true None text None given e = refl
+    by : (d : Call) (s : Rules) → IsCall d → joins cs (under s d) ≡ true → line ≡ minute_line (minute_of cs (under s d)) → ⊥
+    by d Second formed may same = none d formed may same
+    by d First formed may same =
+        let first = (both (is_accepted (ruling cs (under First d))) (list_all is_first cs) may).1 in
+        let quiet = first_shows_none cs h.legal first in
+        absurd (cc)
 
-    accepted_due : (cs : History) (d : Call) → is_accepted (answer cs d) ≡ true → answer cs d ≡ Accepted (reply cs d)
-    accepted_due cs d e = by (is_known cs d.caller) (earlier cs d) (text_of d.command) (refusal_of cs (item d)) (reply_to cs (item d)) e
+-- ---- calls that aren't accepted, and replies that differ
 
--- a call that isn't accepted has no reply
-pub not_accepted : (cs : History) (c : Call) (r : Reply) → is_accepted (answer cs c) ≡ false → (answer cs c ≡ Accepted r) → ⊥
-not_accepted cs c r h e = let yes_it_is : is_accepted (answer cs c) ≡ true = ap is_accepted e in absurd (cc)
+-- the rules accept no call, or give another reply
+pub by_reply : {X N : Type 0} (P Q : Reply → Type 0) (o : Option Reply) → IfNone o N → IfSome o P → IfSome o Q → (N → X) → ((r : Reply) → P r → Q r → X) → X
+by_reply P Q None none some differs f k = f none
+by_reply P Q (Some r) none some differs f k = k r some differs
+
+pub not_accepted : (a : Answer) (m : Bool) → is_accepted a ≡ false → (is_accepted a && m) ≡ true → ⊥
+not_accepted a m h e = let yes_it_is = (both (is_accepted a) m e).0 in absurd (cc)
 
 -- replies of other texts are others
-pub other_reply : (cs : History) (c : Call) (r s : Reply) → answer cs c ≡ Accepted r → bytes_eq (reply_text_of r) (reply_text_of s) ≡ false → (answer cs c ≡ Accepted s) → ⊥
-other_reply cs c r s h differ e =
-    let same : s ≡ r = sym (accepted_reply cs c s e) ∙ accepted_reply cs c r h in
+pub other_reply : (cs : History) (i : Item) (r s : Reply) → ruling cs i ≡ Accepted r → bytes_eq (reply_text_of r) (reply_text_of s) ≡ false → reply_to cs i ≡ s → ⊥
+other_reply cs i r s h differ e =
+    let same : s ≡ r = sym e ∙ accepted_reply cs i r h in
     let equal : bytes_eq (reply_text_of r) (reply_text_of s) ≡ true = ap (λ t. bytes_eq (reply_text_of r) (reply_text_of t)) same ∙ bytes_eq-refl (reply_text_of r) in
     absurd (cc)
 
 -- the line that was read is that of the call, if the reply has the same text
-pub read_is : (cs : History) (line : List ℕ) (n : ℕ) (c : Call) (r s : Reply) → n ≡ length cs + 1 → line ≡ line_with n c s → answer cs c ≡ Accepted r
-    → bytes_eq (reply_text_of r) (reply_text_of s) ≡ true → line ≡ minute_line (minute cs c)
-read_is cs line n c r s is spelt accepted same =
-    let text : reply_text_of s ≡ reply_text_of (reply cs c) = sym (same_text (reply_text_of r) (reply_text_of s) same) ∙ ap reply_text_of (sym (accepted_reply cs c r accepted)) in
-    spelt ∙ told_apart n c text ∙ sym (line_numbered cs n c is)
+pub read_is : (cs : History) (line : List ℕ) (n : ℕ) (i : Item) (r s : Reply) → n ≡ length cs + 1 → line ≡ line_with n i.call s → ruling cs i ≡ Accepted r
+    → bytes_eq (reply_text_of r) (reply_text_of s) ≡ true → line ≡ minute_line (minute_of cs i)
+read_is cs line n i r s is spelt accepted same =
+    let text : reply_text_of s ≡ reply_text_of (reply_to cs i) = sym (same_text (reply_text_of r) (reply_text_of s) same) ∙ ap reply_text_of (sym (accepted_reply cs i r accepted)) in
+    spelt ∙ told_apart n i.call text ∙ sym (line_numbered cs n i is)
   where
-    told_apart : (n : ℕ) (c : Call) → reply_text_of s ≡ reply_text_of (reply cs c) → line_with n c s ≡ line_with n c (reply cs c)
+    told_apart : (n : ℕ) (c : Call) → reply_text_of s ≡ reply_text_of (reply_to cs i) → line_with n c s ≡ line_with n c (reply_to cs i)
     told_apart n c e =
         ap (λ t. decimal n ++ codes "\t" ++ caller_name c.caller ++ codes "\t" ++ c.key ++ codes "\t" ++ text_of c.command ++ codes "\t" ++ t ++ codes "\n") e
+
+pub may_join : (cs : History) (i : Item) (r : Reply) → ruling cs i ≡ Accepted r → may_follow cs i ≡ true → joins cs i ≡ true
+may_join cs i r h e = joined (is_accepted (ruling cs i)) (may_follow cs i) (ap is_accepted h) e
 
 -- an Ok is no failure
 pub no_failure : {A : Type 0} (a : A) → ◌≢◌ {A = Result A Refusal} (Ok a) (Err refusals.Store)

@@ -1,3 +1,4 @@
 pub mod Audits
 pub mod Following
 pub mod Lines
+pub mod Rules

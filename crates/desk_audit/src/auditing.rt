@@ -1,17 +1,16 @@
 //! Minutes, followed from the first line to the last.
-ghost use Rattle.std.specs.Prelude.{◌≡◌, ◌≢◌, ℕ, List, [], IfErr, IfOk, IfSome, Some, true};
+ghost use Rattle.std.specs.Prelude.{◌≡◌, ℕ, List, [], IfErr, IfOk, IfSome, Option, Some};
 ghost use Rattle.sqlite.specs.Held.{state};
 ghost use Rattle.sqlite.specs.State.{HasCleanDisk};
-ghost use Rattle.desk_history.specs.Calls.{History};
-ghost use Rattle.desk_history.specs.Formed.{IsHistory};
-ghost use Rattle.desk_exports.specs.Exports.{minutes_text};
-ghost use Rattle.desk_minutes.specs.Follows.{are_second};
-ghost use Rattle.desk_store.specs.Desks.{ShowsDesk};
+ghost use Rattle.desk_first.specs.Desks.{ShowsFirstDesk};
 ghost use Rattle.desk_audit.specs.Audits.{HasFollowed, IsWrongAt};
+ghost use Rattle.desk_audit.specs.Rules.{HasBegun, HasFollowedSecond, HasTurned};
 
+use crate::beginning::{Step, follow_first};
 use crate::following::{FollowFault, follow};
 use crate::lines::next_line;
 use desk_bytes::Refusal;
+use desk_first::FirstDesk;
 use desk_store::Desk;
 use sqlite::Alter;
 use std::alloc::Global;
@@ -29,6 +28,15 @@ pub enum AuditFault {
     Device(Refusal),
 }
 
+/// Where the lines by the first rules end.
+#[derive(Clone, Copy, Debug, PartialEq, Eq)]
+pub(crate) enum FirstEnd {
+    /// With the last line: so many are all.
+    All(u64),
+    /// Before the line of this number, which only the second rules give.
+    Before(u64),
+}
+
 /// The fault of the line of this number.
 fn at_line(number: u64, fault: FollowFault) -> AuditFault
     ensures { (n : ℕ) → result ≡ AuditFault.Line n → (fault ≡ FollowFault.Line) × (n ≡ number) }
@@ -39,43 +47,118 @@ fn at_line(number: u64, fault: FollowFault) -> AuditFault
     }
 }
 
-/// Follows minutes, line by line, on a desk without calls: the count of their lines. Afterwards the
-/// desk shows the history whose minutes they are. Takes memory for one line, and the store's.
+/// Follows minutes by the first rules, line by line, on a desk without calls, up to their end or to
+/// a line that only the second rules give. That line is in the buffer then. Takes memory for one
+/// line, and the store's.
 ///
-/// `Line`: the first line that isn't what the rules give; a last line without a line break is such a
-/// line. `Device`: memory was refused, or the store or the reader failed.
-pub fn follow_all<S: Alter + Drop, R: BufRead>(
+/// `Line`: the first line that isn't what the rules give; a last line without a line break is such
+/// a line. `Device`: memory was refused, or the store or the reader failed.
+pub(crate) fn follow_beginning<S: Alter + Drop, R: BufRead>(
     alloc: Global,
-    desk: &mut Desk<S>,
+    desk: &mut FirstDesk<S>,
     reader: &mut R,
-) -> Result<u64, AuditFault>
-    ensures ok { HasCleanDisk (state S.Store desk.new.conn) → IfOk result (λ calls.
-        (owner : List ℕ) → ShowsDesk S.Store desk.old owner []
-        → IfSome (R.remaining reader.old) (λ given.
-        HasFollowed S.Store desk.new owner calls (Some given) (Some []))) }
+    line: &mut Vec<u8>,
+) -> Result<FirstEnd, AuditFault>
+    ensures ok { HasCleanDisk (state S.Store desk.new.conn) → IfOk result (λ end.
+        (owner : List ℕ) → ShowsFirstDesk S.Store desk.old owner []
+        → HasBegun S.Store desk.new owner end (R.remaining reader.old) (R.remaining reader.new)
+        line.new.items) }
     ensures wrong { HasCleanDisk (state S.Store desk.new.conn) → IfErr result (λ fault. (n : ℕ)
-        → fault ≡ AuditFault.Line n → (owner : List ℕ) → ShowsDesk S.Store desk.old owner []
+        → fault ≡ AuditFault.Line n → (owner : List ℕ) → ShowsFirstDesk S.Store desk.old owner []
         → IfSome (R.remaining reader.old) (λ given. IsWrongAt given n)) }
-    ensures passes { HasCleanDisk (state S.Store desk.new.conn) → IfErr result (λ fault. (n : ℕ)
-        → fault ≡ AuditFault.Line n → (owner : List ℕ) → ShowsDesk S.Store desk.old owner []
-        → (cs : History) → IsHistory cs → are_second cs ≡ true
-        → R.remaining reader.old ≢ Some (minutes_text cs)) }
     ensures clean { HasCleanDisk (state S.Store desk.new.conn)
         → HasCleanDisk (state S.Store desk.old.conn) }
 {
-    let mut line = Vec::new(alloc);
     let mut calls = 0;
     while calls < u64::MAX {
-        match next_line(reader, &mut line) {
+        match next_line(reader, line) {
+            Ok(true) => {}
+            Ok(false) => return Ok(FirstEnd::All(calls)),
+            Err(refusal) => return Err(AuditFault::Device(refusal)),
+        }
+        match follow_first(alloc, desk, calls + 1, line.as_slice()) {
+            Ok(Step::Joined) => {}
+            Ok(Step::Second) => return Ok(FirstEnd::Before(calls + 1)),
+            Err(fault) => return Err(at_line(calls + 1, fault)),
+        }
+        calls += 1;
+    }
+    Err(AuditFault::Device(Refusal::Full))
+}
+
+/// Follows the lines of minutes that are left after so many, one of which only the second rules
+/// give: the count of all. Takes memory for one line, and the store's.
+///
+/// `Line`: the first line that isn't what the rules give; a last line without a line break is such
+/// a line. `Device`: memory was refused, or the store or the reader failed.
+fn follow_rest<S: Alter + Drop, R: BufRead>(
+    alloc: Global,
+    desk: &mut Desk<S>,
+    before: u64,
+    reader: &mut R,
+    line: &mut Vec<u8>,
+) -> Result<u64, AuditFault>
+    ensures ok { HasCleanDisk (state S.Store desk.new.conn) → IfOk result (λ calls.
+        (owner : List ℕ) (first : Option (List ℕ))
+        → HasFollowedSecond S.Store desk.old owner before first (R.remaining reader.old)
+        → IfSome first (λ given.
+        HasFollowed S.Store desk.new owner calls (Some given) (Some []))) }
+    ensures wrong { HasCleanDisk (state S.Store desk.new.conn) → IfErr result (λ fault. (n : ℕ)
+        → fault ≡ AuditFault.Line n → (owner : List ℕ) (first : Option (List ℕ))
+        → HasFollowedSecond S.Store desk.old owner before first (R.remaining reader.old)
+        → IfSome first (λ given. IsWrongAt given n)) }
+    ensures clean { HasCleanDisk (state S.Store desk.new.conn)
+        → HasCleanDisk (state S.Store desk.old.conn) }
+{
+    let mut calls = before;
+    while calls < u64::MAX {
+        match next_line(reader, line) {
             Ok(true) => {}
             Ok(false) => return Ok(calls),
             Err(refusal) => return Err(AuditFault::Device(refusal)),
         }
-        match follow(alloc, desk, calls + 1, &line) {
+        match follow(alloc, desk, calls + 1, line.as_slice()) {
             Ok(()) => {}
             Err(fault) => return Err(at_line(calls + 1, fault)),
         }
         calls += 1;
     }
     Err(AuditFault::Device(Refusal::Full))
+}
+
+/// Follows the lines of minutes that are left after those by the first rules, of which the one in
+/// the buffer is the first, if there is one: the count of all. Takes memory for one line, and the
+/// store's.
+///
+/// `Line`: the first line that isn't what the rules give; a last line without a line break is such
+/// a line. `Device`: memory was refused, or the store or the reader failed.
+pub(crate) fn follow_on<S: Alter + Drop, R: BufRead>(
+    alloc: Global,
+    desk: &mut Desk<S>,
+    end: FirstEnd,
+    reader: &mut R,
+    line: &mut Vec<u8>,
+) -> Result<u64, AuditFault>
+    ensures ok { HasCleanDisk (state S.Store desk.new.conn) → IfOk result (λ calls.
+        (owner : List ℕ) (first : Option (List ℕ))
+        → HasTurned S.Store desk.old owner end first (R.remaining reader.old) line.old.items
+        → IfSome first (λ given.
+        HasFollowed S.Store desk.new owner calls (Some given) (Some []))) }
+    ensures wrong { HasCleanDisk (state S.Store desk.new.conn) → IfErr result (λ fault. (n : ℕ)
+        → fault ≡ AuditFault.Line n → (owner : List ℕ) (first : Option (List ℕ))
+        → HasTurned S.Store desk.old owner end first (R.remaining reader.old) line.old.items
+        → IfSome first (λ given. IsWrongAt given n)) }
+{
+    let number = match end {
+        FirstEnd::All(calls) => return Ok(calls),
+        FirstEnd::Before(number) => number,
+    };
+    match follow(alloc, desk, number, line.as_slice()) {
+        Ok(()) => {}
+        Err(fault) => return Err(at_line(number, fault)),
+    }
+    match follow_rest(alloc, desk, number, reader, line) {
+        Ok(calls) => Ok(calls),
+        Err(fault) => Err(fault),
+    }
 }

@@ -3,10 +3,10 @@
 
 mod applying;
 mod auditing;
+mod beginning;
 mod following;
 mod lines;
 mod memory;
 
-pub use auditing::{AuditFault, follow_all};
-pub use following::{FollowFault, follow};
+pub use auditing::AuditFault;
 pub use memory::{Audited, audit};

@@ -198,7 +198,7 @@ module _ (a b : History) (c : Call) (r s : Rules) (h : AreSame a b) (k : IsAlike
   pub reply_same : reply_to a (under r c) ≡ reply_to b (under s c)
   reply_same = reply_by_same c.command k.proposed
 
-  minute_same : minute_of a (under r c) ≡ minute_of b (under s c)
+  pub minute_same : minute_of a (under r c) ≡ minute_of b (under s c)
   minute_same = minute_is (length a + 1) (length b + 1) c (reply_to a (under r c)) (reply_to b (under s c)) (ap (λ n. n + 1) (length_same a b h.same_calls)) reply_same
 
   -- and the histories that they leave

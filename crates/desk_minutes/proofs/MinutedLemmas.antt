@@ -128,3 +128,20 @@ once (i ∷ a) (j ∷ b) h k same =
 
 pub minutes_tell : MinutesTellHistory
 minutes_tell a b h k same = once a b h k (same_minutes a b h k same)
+
+-- ---- histories that are as their minutes tell them
+
+-- one by the first rules alone
+pub first_minuted : (cs : History) → is_legal cs ≡ true → list_all is_first cs ≡ true → as_minuted cs ≡ cs
+first_minuted [] h f = refl
+first_minuted (i ∷ cs) h f =
+    let two = both (is_first i) (list_all is_first cs) f in
+    ap₂ ◌∷◌ (by i.call i.rules two.0 (ap (λ b. if b then Second else First) (first_shows_none (i ∷ cs) h f))) (first_minuted cs (newest cs i h).before two.1)
+  where
+    by : (c : Call) (r : Rules) → is_first (under r c) ≡ true → minuted_rules (i ∷ cs) ≡ First → under (minuted_rules (i ∷ cs)) c ≡ under r c
+    by c First e first = ap (λ r. under r c) first
+    by c Second e first = absurd (cc)
+
+-- and one call by the second more, from the first reply on that only these give
+pub second_minuted : (cs : History) (c : Call) → shows_second (under Second c ∷ cs) ≡ true → as_minuted cs ≡ cs → as_minuted (under Second c ∷ cs) ≡ under Second c ∷ cs
+second_minuted cs c h before = ap₂ ◌∷◌ (ap (λ b. under (if b then Second else First) c) h) before

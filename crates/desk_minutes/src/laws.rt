@@ -19,8 +19,8 @@ pub fn minutes_tell_history()
     ensures none { follows.NoNextNoHistory }
 {}
 
-/// Minutes tell the exports: all histories that have these minutes, whichever rules their calls were
-/// accepted by, have the same dbx, db and level.
+/// Minutes tell the exports: all histories that have these minutes, whichever rules their calls
+/// were accepted by, have the same dbx, db and level.
 pub fn minutes_tell_exports()
     ensures { follows.MinutesTellExports }
 {}

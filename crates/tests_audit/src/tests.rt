@@ -51,8 +51,11 @@ fn tells_the_calls_or_the_first_wrong_line(rt: HostRuntime) -> Result<(), Fail> 
 
 #[test]
 fn an_audited_desk_gives_the_minutes_back(rt: HostRuntime) -> Result<(), Fail> {
-    let (day, _) = days::DAYS.split_once("==\n").ok_or("a day")?;
+    let (day, others) = days::DAYS.split_once("==\n").ok_or("a day")?;
     let (_, minutes) = day.split_once("\n").ok_or("minutes")?;
+    assert!(rt; given_back(rt.alloc(), minutes.as_bytes()).as_slice() == minutes.as_bytes());
+    let (mixed, _) = others.split_once("==\n").ok_or("a day by either rules")?;
+    let (_, minutes) = mixed.split_once("\n").ok_or("minutes")?;
     assert!(rt; given_back(rt.alloc(), minutes.as_bytes()).as_slice() == minutes.as_bytes());
     Ok(())
 }

@@ -1,14 +1,43 @@
+use Rattle.sqlite.specs.Steps.{over_memory}
 use Rattle.sqlite.proofs.Callers.{memory_is_clean}
+use Rattle.desk_audit.proofs.AuditLemmas.{handed_over, none_wrong}
 use Rattle.desk_audit.proofs.memory.audit.Goals as goal
 
-pub returns-in-Ok-follow_all-clause-ok : goal.returns-in-Ok-follow_all-clause-ok
-returns-in-Ok-follow_all-clause-ok g c =
-    c.in-Ok-follow_all.ensures.ok (memory_is_clean c.follow_all.new.desk.conn) c.args.owner.now (c.in-Ok-create.ensures.ok (memory_is_clean c.in-Ok-create.desk.conn) c.in-Ok.ensures.empty.2)
+pub returns-in-Err-follow_beginning-clause-wrong : goal.returns-in-Err-follow_beginning-clause-wrong
+returns-in-Err-follow_beginning-clause-wrong g c = λ n is.
+    c.in-Err-follow_beginning.ensures.wrong (memory_is_clean c.follow_beginning.new.desk.conn) n is c.args.owner.now c.in-Ok.ensures
 
-pub returns-in-Err-follow_all-clause-wrong : goal.returns-in-Err-follow_all-clause-wrong
-returns-in-Err-follow_all-clause-wrong g c = λ n is.
-    c.in-Err-follow_all.ensures.wrong (memory_is_clean c.follow_all.new.desk.conn) n is c.args.owner.now (c.in-Ok-create.ensures.ok (memory_is_clean c.in-Ok-create.desk.conn) c.in-Ok.ensures.empty.2)
+pub returns-in-Err-follow_beginning-clause-passes : goal.returns-in-Err-follow_beginning-clause-passes
+returns-in-Err-follow_beginning-clause-passes g c = λ n is cs.
+    none_wrong (g.R.Read.remaining c.args.reader.now) n cs
+    (c.in-Err-follow_beginning.ensures.wrong (memory_is_clean c.follow_beginning.new.desk.conn) n is c.args.owner.now c.in-Ok.ensures)
 
-pub returns-in-Err-follow_all-clause-passes : goal.returns-in-Err-follow_all-clause-passes
-returns-in-Err-follow_all-clause-passes g c = λ n is.
-    c.in-Err-follow_all.ensures.passes (memory_is_clean c.follow_all.new.desk.conn) n is c.args.owner.now (c.in-Ok-create.ensures.ok (memory_is_clean c.in-Ok-create.desk.conn) c.in-Ok.ensures.empty.2)
+pub returns-in-Ok-follow_on-clause-ok : goal.returns-in-Ok-follow_on-clause-ok
+returns-in-Ok-follow_on-clause-ok g c =
+    let owner = c.args.owner.now in
+    let given = g.R.Read.remaining c.args.reader.now in
+    let first = c.follow_beginning.new.desk in
+    let desk = c.in-Ok-into_desk.desk in
+    c.in-Ok-follow_on.ensures.ok (memory_is_clean c.follow_on.new.desk.conn) owner given
+    (handed_over over_memory first desk owner c.in-Ok-follow_beginning.end given (g.R.Read.remaining c.follow_beginning.new.reader) c.follow_beginning.new.line.items
+    (c.in-Ok-into_desk.ensures.shown (memory_is_clean desk.conn) owner) (c.in-Ok-follow_beginning.ensures.ok (memory_is_clean first.conn) owner c.in-Ok.ensures))
+
+pub returns-clause-wrong : goal.returns-clause-wrong
+returns-clause-wrong g c = λ n is.
+    let owner = c.args.owner.now in
+    let given = g.R.Read.remaining c.args.reader.now in
+    let first = c.follow_beginning.new.desk in
+    let desk = c.in-Ok-into_desk.desk in
+    c.in-Err-follow_on.ensures.wrong (memory_is_clean c.follow_on.new.desk.conn) n is owner given
+    (handed_over over_memory first desk owner c.in-Ok-follow_beginning.end given (g.R.Read.remaining c.follow_beginning.new.reader) c.follow_beginning.new.line.items
+    (c.in-Ok-into_desk.ensures.shown (memory_is_clean desk.conn) owner) (c.in-Ok-follow_beginning.ensures.ok (memory_is_clean first.conn) owner c.in-Ok.ensures))
+
+pub returns-clause-passes : goal.returns-clause-passes
+returns-clause-passes g c = λ n is cs.
+    let owner = c.args.owner.now in
+    let given = g.R.Read.remaining c.args.reader.now in
+    let first = c.follow_beginning.new.desk in
+    let desk = c.in-Ok-into_desk.desk in
+    none_wrong given n cs (c.in-Err-follow_on.ensures.wrong (memory_is_clean c.follow_on.new.desk.conn) n is owner given
+    (handed_over over_memory first desk owner c.in-Ok-follow_beginning.end given (g.R.Read.remaining c.follow_beginning.new.reader) c.follow_beginning.new.line.items
+    (c.in-Ok-into_desk.ensures.shown (memory_is_clean desk.conn) owner) (c.in-Ok-follow_beginning.ensures.ok (memory_is_clean first.conn) owner c.in-Ok.ensures)))

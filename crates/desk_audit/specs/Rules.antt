@@ -1,0 +1,49 @@
+-- Minutes whose first lines are by the first rules, and whose others are by the second.
+use Rattle.std.specs.Prelude.{◌≡◌, ◌+◌, ℕ, List, length, Option, true}
+use Rattle.std.specs.Io.KnownBytes.{Consumes, IsAtEnd}
+use Rattle.sqlite.specs.Store.{Ghosts}
+use Rattle.desk_history.specs.Calls.{History}
+use Rattle.desk_exports.specs.Exports.{minutes_text}
+use Rattle.desk_minutes.specs.Minuted.{shows_second}
+use Rattle.desk_store.specs.declared.desk.Desk.{Desk}
+use Rattle.desk_first.specs.Desks.{ShowsFirstDesk}
+use Rattle.desk_first.specs.declared.desk.FirstDesk.{FirstDesk}
+use Rattle.desk_audit.specs.Audits.{HasFollowed}
+use Rattle.desk_audit.specs.Following.{TellsSecond}
+use Rattle.desk_audit.specs.Lines.{TakesLine}
+use Rattle.desk_audit.specs.declared.auditing.FirstEnd.{FirstEnd}
+use Rattle.desk_audit.specs.declared.auditing.FirstEnd.TheVariants.{All, Before}
+
+-- The desk shows a history of so many calls by the first rules whose minutes the reader gave.
+pub record HasFollowedFirst {S : Type 0} (g : Ghosts S) (desk : FirstDesk S) (owner : List ℕ) (calls : ℕ) (old new : Option (List ℕ)) : Type 0 where
+  pub history : History
+  pub shows : ShowsFirstDesk g desk owner history
+  pub count : length history ≡ calls
+  pub given : Consumes old new (minutes_text history)
+
+-- The desk has followed minutes, some line of which only the second rules give.
+pub record HasFollowedSecond {S : Type 0} (g : Ghosts S) (desk : Desk S) (owner : List ℕ) (calls : ℕ) (old new : Option (List ℕ)) : Type 0 where
+  pub followed : HasFollowed g desk owner calls old new
+  pub second : shows_second followed.history ≡ true
+
+-- The reader gave the line of this number, the next after so many, which only the second rules give.
+pub record TakesSecond (number : ℕ) (line : List ℕ) (calls : ℕ) (old new : Option (List ℕ)) : Type 0 where
+  pub is_next : number ≡ calls + 1
+  pub takes : TakesLine old new line
+  pub tells : TellsSecond number line
+
+-- so many lines were followed, which are all, or the reader gave then a line that only the second
+-- rules give
+abbrev pub EndsAt : (ℕ → Option (List ℕ) → Type 0) → FirstEnd → Option (List ℕ) → List ℕ → Type 0
+EndsAt followed (All calls) left line = (mid : Option (List ℕ)) × followed calls mid × IsAtEnd mid
+EndsAt followed (Before number) left line =
+    (calls : ℕ) × (mid : Option (List ℕ)) × followed calls mid × TakesSecond number line calls mid left
+
+module _ {S : Type 0} (g : Ghosts S) where
+  -- the desk has followed the lines by the first rules
+  abbrev pub HasBegun : FirstDesk S → List ℕ → FirstEnd → Option (List ℕ) → Option (List ℕ) → List ℕ → Type 0
+  HasBegun desk owner end old new line = EndsAt (λ calls left. HasFollowedFirst g desk owner calls old left) end new line
+
+  -- so does a desk that goes on by the second rules
+  abbrev pub HasTurned : Desk S → List ℕ → FirstEnd → Option (List ℕ) → Option (List ℕ) → List ℕ → Type 0
+  HasTurned desk owner end old new line = EndsAt (λ calls left. HasFollowed g desk owner calls old left) end new line
