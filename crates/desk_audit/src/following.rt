@@ -29,11 +29,7 @@ pub(crate) enum FollowFault {
 /// memory for both.
 ///
 /// `Line`: it is the line of no call and no reply in their forms and within their limits.
-pub(crate) fn read_line(
-    alloc: Global,
-    number: u64,
-    line: &[u8],
-) -> Result<MinuteRead, FollowFault>
+pub(crate) fn read_line(alloc: Global, number: u64, line: &[u8]) -> Result<MinuteRead, FollowFault>
     ensures found { IfOk result (λ read. IsTold read.call read.reply
         × (line.now ≡ line_with number read.call read.reply)) }
     ensures only { IsErrOf result FollowFault.Line → (c : Call) (given : Reply) → IsTold c given
@@ -60,11 +56,7 @@ fn is_same(alloc: Global, one: &Reply, other: &Reply) -> Result<bool, AllocError
 /// memory for both texts.
 ///
 /// `Line`: the rules don't accept the call, or the replies differ.
-pub(crate) fn compare(
-    alloc: Global,
-    given: Option<Reply>,
-    told: &Reply,
-) -> Result<(), FollowFault>
+pub(crate) fn compare(alloc: Global, given: Option<Reply>, told: &Reply) -> Result<(), FollowFault>
     ensures ok { OnOk result ((reply : Reply) × (given ≡ Some reply)
         × (bytes_eq (reply_text_of reply) (reply_text_of told.now) ≡ true)) }
     ensures wrong { IsErrOf result FollowFault.Line → IfSome given (λ reply.

@@ -17,10 +17,10 @@ returns-clause-wrong g c = λ clean fault owner cs shown is.
     let read = c.in-Ok.read in
     let found = c.in-Ok.ensures.found in
     only_by cs c.args.line.now c.args.number read.call read.reply shown.history c.ranges.number.fits is found.0 found.1 Second (λ may due.
-        by_reply (Accepts g.S.Store c.args.desk.now c.reply_to_new.new.desk read.call) (λ reply. bytes_eq (reply_text_of reply) (reply_text_of read.reply) ≡ false) c.in-Ok-reply_to_new.given
-        (c.in-Ok-reply_to_new.ensures.other clean) (c.in-Ok-reply_to_new.ensures.accepted clean) (c.in-Err-compare.ensures.wrong fault)
-        (λ refused. not_accepted (answer cs read.call) _ (refused owner cs shown) may)
-        (λ reply joins differ. other_reply cs (item read.call) reply read.reply (joins owner cs shown).0 differ due))
+    by_reply (Accepts g.S.Store c.args.desk.now c.reply_to_new.new.desk read.call) (λ reply. bytes_eq (reply_text_of reply) (reply_text_of read.reply) ≡ false) c.in-Ok-reply_to_new.given
+    (c.in-Ok-reply_to_new.ensures.other clean) (c.in-Ok-reply_to_new.ensures.accepted clean) (c.in-Err-compare.ensures.wrong fault)
+    (λ refused. not_accepted (answer cs read.call) _ (refused owner cs shown) may)
+    (λ reply joins differ. other_reply cs (item read.call) reply read.reply (joins owner cs shown).0 differ due))
 
 pub returns-in-Ok-compare-clause-ok : goal.returns-in-Ok-compare-clause-ok
 returns-in-Ok-compare-clause-ok g c = λ clean owner cs shown is.
