@@ -6,7 +6,7 @@ ghost use Rattle.cli_lines.specs.Faults.{IsRow, row_of};
 ghost use Rattle.cli_opening.specs.Faults.{IsFileRefusal};
 
 use cli_lines::{Fault, MOST_BYTES};
-use desk_bytes::{LONGEST_IMAGE, Refusal, read_all};
+use desk_bytes::{LONGEST_IMAGE, Refusal, Watch, read_all};
 use pe_image::Pieces;
 use std::rt::Files;
 use std::{fs, io};
@@ -50,5 +50,5 @@ pub fn read_image<R: Files + AllocGlobal>(rt: &R, path: &str) -> Result<Pieces, 
     ensures named { IfErr result (IsRow IsUnreadRefusal) }
 {
     let mut file = open(rt, path)?;
-    Ok(Pieces::take(rt.alloc(), &mut file, LONGEST_IMAGE + 1)?)
+    Ok(Pieces::take(rt.alloc(), &mut file, &mut Watch::new(), LONGEST_IMAGE + 1)?)
 }

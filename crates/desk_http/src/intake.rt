@@ -99,7 +99,7 @@ impl Intake {
         ensures input { IfErr result IsOfInput }
         ensures cause { IsCaused self.old self.new result }
     {
-        match Pieces::take_watched(alloc, reader, &mut self.watch, size as u64) {
+        match Pieces::take(alloc, reader, &mut self.watch, size as u64) {
             Ok(image) => {
                 if image.len() < size as u64 {
                     Ok(None)

@@ -107,8 +107,13 @@ fn read_piece<R: Read>(
 }
 
 impl Pieces {
-    /// Like `take`, but under a watch, which records a failed read. No read follows a failed one.
-    pub fn take_watched<R: Read>(
+    /// Reads until `most` bytes have come or the input ends, and never asks for more. An
+    /// interrupted read is a fault and isn't retried; no read follows a failed one. Takes memory
+    /// for what it reads, in pieces of 65,536 bytes.
+    ///
+    /// `Read`: the reader failed, or a read of this watch had failed before. `NoMemory`: memory was
+    /// refused; no read failed.
+    pub fn take<R: Read>(
         alloc: Global,
         reader: &mut R,
         watch: &mut Watch,
@@ -140,19 +145,6 @@ impl Pieces {
                 return Err(PiecesFault::NoMemory);
             }
         }
-    }
-
-    /// Reads until `most` bytes have come or the input ends, and never asks for more. An
-    /// interrupted read is a fault and isn't retried. Takes memory for what it reads, in pieces of
-    /// 65,536 bytes.
-    pub fn take<R: Read>(alloc: Global, reader: &mut R, most: u64) -> Result<Pieces, PiecesFault>
-        ensures whole { IfOk result (λ bytes.
-            Consumes (R.remaining reader.old) (R.remaining reader.new) bytes) }
-        ensures bound { IfOk result (λ bytes. length bytes ≤ most) }
-        ensures end { IfOk result (λ bytes. length bytes < most
-            → IsAtEnd (R.remaining reader.new)) }
-    {
-        Pieces::take_watched(alloc, reader, &mut Watch::new(), most)
     }
 
     /// The bytes from an offset to the end of its piece.

@@ -1,7 +1,7 @@
 //! Digests of images.
 use super::{Call, check, image};
 use authenticode::{digest, signing_digest, sums};
-use desk_bytes::Digest;
+use desk_bytes::{Digest, Watch};
 use pe_image::{Pieces, Ranges, layout, ranges};
 use sha2::{Digest as Hasher, Sha256};
 use std::alloc::Global;
@@ -60,7 +60,7 @@ pub fn of_digests(alloc: Global, told: &mut String, input: &str) -> Result<(), F
         calls: 0,
         fails_at: 0,
     };
-    let mut source = Pieces::take(alloc, &mut reader, u64::MAX)?;
+    let mut source = Pieces::take(alloc, &mut reader, &mut Watch::new(), u64::MAX)?;
     let places = layout(&mut source)?;
     let found = sums(&mut source, &places)?;
     let hashed = digest(&mut source, &places)?;

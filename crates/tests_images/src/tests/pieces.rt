@@ -1,5 +1,6 @@
 //! Sources in pieces.
 use super::image;
+use desk_bytes::Watch;
 use pe_image::{Pieces, PiecesFault, Source};
 use std::alloc::Global;
 use std::test::Fail;
@@ -17,7 +18,7 @@ fn takes(alloc: Global, bytes: &[u8], most: u64) -> Result<bool, Fail> {
         calls: 0,
         fails_at: 0,
     };
-    let mut pieces = Pieces::take(alloc, &mut reader, most)?;
+    let mut pieces = Pieces::take(alloc, &mut reader, &mut Watch::new(), most)?;
     let (given, left) = bytes.split_at(most.min(bytes.len() as u64) as usize);
     Ok(reader.rest == left && gives(alloc, &mut pieces, given)?)
 }
@@ -51,7 +52,7 @@ fn tells_of_each_read_of_a_reader_that_fails(rt: HostRuntime) {
             calls: 0,
             fails_at,
         };
-        let fault = Pieces::take(rt.alloc(), &mut reader, 100_000).err();
+        let fault = Pieces::take(rt.alloc(), &mut reader, &mut Watch::new(), 100_000).err();
         let wanted = if fails_at < 6 {
             Some(PiecesFault::Read)
         } else {

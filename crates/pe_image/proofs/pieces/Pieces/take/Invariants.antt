@@ -3,7 +3,7 @@ use Rattle.std.specs.Prelude.{All}
 use Rattle.std.specs.List.{flat_map}
 use Rattle.std.specs.Io.KnownBytes.{Consumes}
 use Rattle.pe_image.specs.declared.pieces.TheConstants.{PIECE}
-use Rattle.pe_image.proofs.pieces.Pieces.take_watched.Given as goal
+use Rattle.pe_image.proofs.pieces.Pieces.take.Given as goal
 
 abbrev pub invariant-loop-full : goal.invariant-loop-full
 invariant-loop-full g l = record {

@@ -2,7 +2,7 @@ use Rattle.std.proofs.Common.{◌≡◌, ℕ, length, length-append, arith, rule
 use Rattle.std.proofs.lemmas.Grind.{common_steps}
 use Rattle.std.specs.List.{flat_map}
 use Rattle.pe_image.proofs.PiecesLemmas.{length-pieces}
-use Rattle.pe_image.proofs.pieces.Pieces.take_watched.Goals as goal
+use Rattle.pe_image.proofs.pieces.Pieces.take.Goals as goal
 
 pub returns-then-len-lt-PIECE-clause-bound : goal.returns-then-len-lt-PIECE-clause-bound
 returns-then-len-lt-PIECE-clause-bound g c =
