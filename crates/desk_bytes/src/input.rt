@@ -1,9 +1,10 @@
 //! Input read to its end, up to a limit.
-ghost use Rattle.std.specs.Prelude.{◌≡◌, ◌<◌, ◌≤◌, ◌^◌, ◌-◌, IfOk, IfSome, IsErrOf, length};
+ghost use Rattle.std.specs.Prelude.{◌≡◌, ◌≢◌, ◌<◌, ◌≤◌, ◌^◌, ◌-◌, Err, IfErr, IfOk, IfSome, IsErrOf, length};
 ghost use Rattle.std.specs.Io.KnownBytes.{Consumes, IsAtEnd};
 ghost use Rattle.desk_bytes.specs.Inputs.{refusal_of};
+ghost use Rattle.desk_bytes.specs.Watches.{HasCause};
 
-use crate::Refusal;
+use crate::{ReadFailed, Refusal, Watch};
 use std::alloc::Global;
 use std::io::Read;
 use thiserror::Error;
@@ -38,21 +39,33 @@ impl InputFault {
 /// The most bytes that one read asks for.
 const PIECE: usize = 65_536;
 
-/// Reads until there are `most` bytes or the input ends.
-fn read_up_to<R: Read>(alloc: Global, reader: &mut R, most: usize) -> Result<Vec<u8>, InputFault>
+/// Reads until there are `most` bytes or the input ends, and never asks for more. An interrupted
+/// read is a fault and isn't retried; no read follows a failed one. Takes memory for what it reads,
+/// as it comes.
+///
+/// `Read`: the reader failed, or a read of this watch had failed before. `NoMemory`: memory was
+/// refused; no read failed.
+pub fn read_up_to<R: Read>(
+    alloc: Global,
+    reader: &mut R,
+    watch: &mut Watch,
+    most: usize,
+) -> Result<Vec<u8>, InputFault>
     ensures ok { IfOk result (λ bytes.
         Consumes (R.remaining reader.old) (R.remaining reader.new) bytes.items) }
     ensures bound { IfOk result (λ bytes. length bytes.items ≤ most) }
     ensures end { IfOk result (λ bytes. length bytes.items < most
         → IsAtEnd (R.remaining reader.new)) }
-    ensures short { IsErrOf result InputFault.TooLong → ⊥ }
+
+    ensures device { IfErr result (HasCause watch.new) }
+    ensures steady { result ≢ Err InputFault.Read → watch.new ≡ watch.old }
 {
     let mut bytes = Vec::new(alloc);
     let mut piece = [0; PIECE];
     while bytes.len() < most {
         let room = (most - bytes.len()).min(PIECE);
-        match reader.read(&mut piece[..room]) {
-            Err(_) => return Err(InputFault::Read),
+        match watch.read(reader, &mut piece[..room]) {
+            Err(ReadFailed) => return Err(InputFault::Read),
             Ok(0) => return Ok(bytes),
             Ok(count) => {
                 if bytes.extend_from_slice(&piece[..count]).is_err() {
@@ -75,7 +88,7 @@ pub fn read_all<R: Read>(alloc: Global, reader: &mut R, most: usize) -> Result<V
     ensures long { IsErrOf result InputFault.TooLong
         → IfSome (R.remaining reader.old) (λ given. most < length given) }
 {
-    let bytes = read_up_to(alloc, reader, most + 1)?;
+    let bytes = read_up_to(alloc, reader, &mut Watch::new(), most + 1)?;
     if bytes.len() > most {
         return Err(InputFault::TooLong);
     }

@@ -24,7 +24,7 @@ pub use der::{Element, NotDer};
 pub use digest::{BadDigest, Digest};
 pub use elements::element;
 pub use guid::{BadGuid, Guid};
-pub use input::{InputFault, read_all};
+pub use input::{InputFault, read_all, read_up_to};
 pub use laws::{
     arranged_is_one, digest_text_reads_back, element_is_one, element_is_read, guid_text_is_one,
     guid_texts_differ, refusal_numbers_differ, tbs_is_one,

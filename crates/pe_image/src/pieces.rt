@@ -1,5 +1,5 @@
 //! A source in memory, kept in pieces.
-ghost use Rattle.std.specs.Prelude.{◌≡◌, ◌≢◌, ◌+◌, ◌*◌, ◌<◌, ◌≤◌, ◌++◌, ℕ, List, All, Err, length, slice_range, take, IfOk, IsErrOf, OnOk, OnErr};
+ghost use Rattle.std.specs.Prelude.{◌≡◌, ◌≢◌, ◌+◌, ◌*◌, ◌<◌, ◌≤◌, ◌++◌, ℕ, List, All, Err, length, slice_range, IfOk, IsErrOf, OnOk, OnErr};
 ghost use Rattle.std.specs.Io.KnownBytes.{Consumes, IsAtEnd};
 ghost use Rattle.std.specs.List.{flat_map};
 ghost use Rattle.desk_bytes.specs.Watches.{HasFailed};
@@ -8,7 +8,7 @@ ghost use Rattle.pe_image.specs.Sources.{HaveRisen, OnlyReads};
 ghost use Rattle.pe_image.specs.declared.pieces.TheConstants.{PIECE};
 
 use crate::source::Source;
-use desk_bytes::{ReadFailed, Refusal, Watch};
+use desk_bytes::{InputFault, ReadFailed, Refusal, Watch, read_up_to};
 use std::alloc::Global;
 use std::io::Read;
 use std::marker::Model;
@@ -59,29 +59,6 @@ impl Model for Pieces {
         × (p.size ≡ PIECE * length p.full.items + length p.last.items) };
 }
 
-/// Reads until the slice is full or the input ends, and returns how many bytes came.
-fn fill<R: Read>(reader: &mut R, watch: &mut Watch, out: &mut [u8]) -> Result<usize, PiecesFault>
-    ensures ok { IfOk result (λ count.
-        Consumes (R.remaining reader.old) (R.remaining reader.new) (take count out.new)) }
-    ensures bound { IfOk result (λ count. count ≤ length out.old) }
-    ensures end { IfOk result (λ count. count < length out.old
-        → IsAtEnd (R.remaining reader.new)) }
-    ensures len { length out.new ≡ length out.old }
-
-    ensures device { IsErrOf result PiecesFault.Read → HasFailed watch.new }
-    ensures steady { result ≢ Err PiecesFault.Read → watch.new ≡ watch.old }
-{
-    let mut count = 0;
-    while count < out.len() {
-        match watch.read(reader, &mut out[count..]) {
-            Err(ReadFailed) => return Err(PiecesFault::Read),
-            Ok(0) => return Ok(count),
-            Ok(more) => count += more,
-        }
-    }
-    Ok(count)
-}
-
 /// Reads `most` bytes, or fewer if the input ends.
 fn read_piece<R: Read>(
     alloc: Global,
@@ -98,12 +75,12 @@ fn read_piece<R: Read>(
     ensures device { IsErrOf result PiecesFault.Read → HasFailed watch.new }
     ensures steady { result ≢ Err PiecesFault.Read → watch.new ≡ watch.old }
 {
-    let Ok(mut piece) = vec![in alloc; 0u8; most] else {
-        return Err(PiecesFault::NoMemory);
-    };
-    let count = fill(reader, watch, &mut piece)?;
-    piece.truncate(count);
-    Ok(piece)
+    match read_up_to(alloc, reader, watch, most) {
+        Ok(piece) => Ok(piece),
+        Err(InputFault::Read) => Err(PiecesFault::Read),
+        Err(InputFault::NoMemory) => Err(PiecesFault::NoMemory),
+        Err(InputFault::TooLong) => unreachable!(),
+    }
 }
 
 impl Pieces {

@@ -3,12 +3,9 @@ ghost use Rattle.std.specs.Prelude.{IfErr, IfOk};
 ghost use Rattle.desk_bytes.specs.Watches.{HasCause};
 ghost use Rattle.http_requests.specs.heads.Bodies.{TakesBody};
 
-use desk_bytes::{InputFault, ReadFailed, Watch};
+use desk_bytes::{InputFault, Watch, read_up_to};
 use std::alloc::Global;
 use std::io::Read;
-
-/// How many bytes are asked for at a time.
-const PIECE: usize = 8192;
 
 /// Reads the `size` bytes of a body, or gives `None` where the input ends before them. Nothing past
 /// them is asked for. An interrupted read is a fault. Takes memory for what it reads, as it comes.
@@ -21,19 +18,9 @@ pub fn read_body<R: Read>(
     ensures found { IfOk result (TakesBody size (R.remaining reader.old) (R.remaining reader.new)) }
     ensures device { IfErr result (HasCause watch.new) }
 {
-    let mut body = Vec::new(alloc);
-    let mut piece = [0; PIECE];
-    while body.len() < size {
-        let room = (size - body.len()).min(PIECE);
-        match watch.read(reader, &mut piece[..room]) {
-            Ok(0) => return Ok(None),
-            Ok(count) => {
-                if body.extend_from_slice(&piece[..count]).is_err() {
-                    return Err(InputFault::NoMemory);
-                }
-            }
-            Err(ReadFailed) => return Err(InputFault::Read),
-        }
+    let body = read_up_to(alloc, reader, watch, size)?;
+    if body.len() < size {
+        return Ok(None);
     }
     Ok(Some(body))
 }

@@ -7,6 +7,7 @@ abbrev pub invariant-loop-piece : goal.invariant-loop-piece
 invariant-loop-piece g l = record {
   bound : length l.bytes.items ≤ l.most;
   size : length l.piece ≡ PIECE;
+  steady : l.watch ≡ l.initial.watch;
   taken : Consumes (g.R.Read.remaining l.initial.reader) (g.R.Read.remaining l.reader) l.bytes.items;
 }
 
