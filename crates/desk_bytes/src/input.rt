@@ -40,8 +40,8 @@ impl InputFault {
 const PIECE: usize = 65_536;
 
 /// Reads until there are `most` bytes or the input ends, and never asks for more. An interrupted
-/// read is a fault and isn't retried; no read follows a failed one. Takes memory for what it reads,
-/// as it comes.
+/// read is a fault and isn't retried; no read follows a failed one. Takes memory for what it reads:
+/// 65,536 bytes or `most` at once, and more as it comes.
 ///
 /// `Read`: the reader failed, or a read of this watch had failed before. `NoMemory`: memory was
 /// refused; no read failed.
@@ -60,7 +60,9 @@ pub fn read_up_to<R: Read>(
     ensures device { IfErr result (HasCause watch.new) }
     ensures steady { result ≢ Err InputFault.Read → watch.new ≡ watch.old }
 {
-    let mut bytes = Vec::new(alloc);
+    let Ok(mut bytes) = Vec::with_capacity(alloc, most.min(PIECE)) else {
+        return Err(InputFault::NoMemory);
+    };
     let mut piece = [0; PIECE];
     while bytes.len() < most {
         let room = (most - bytes.len()).min(PIECE);
