@@ -130,9 +130,9 @@ for subcommand in $(cat shown); do
     done
     if [ "$subcommand" = impact ]; then "$program" answer good/desk.db < proposal.txt > out; fi
     if [ "$subcommand" = serve ]; then serves; else runs 0 good; fi
-    # No image, no list, no digest; the example of dbx writes over one of them.
-    for name in shimx64.efi dbx.esl digests.txt; do echo none > "refused/$name"; done
-    rm -f broken/dbx.esl
+    # No image, no list, no digest, no minutes; the examples of dbx and minutes write over two of them.
+    for name in shimx64.efi dbx.esl digests.txt minutes.txt; do echo none > "refused/$name"; done
+    rm -f broken/dbx.esl broken/minutes.txt
     # The desk is there already.
     if [ "$subcommand" = init ]; then runs 1 good; else runs 1 refused; fi
     got=0

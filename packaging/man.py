@@ -26,6 +26,7 @@ INPUT_AND_OUTPUT = [
     "Lines of `ranges`",
     "Lines of `facts`",
     "Lines of `list`",
+    "Lines of `audit`",
     "Signature lists (UEFI 2.10, section 32.4.1)",
     "SBAT text (shim's SBAT.md)",
 ]

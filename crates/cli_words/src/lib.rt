@@ -7,7 +7,7 @@ mod words_reading;
 
 pub use line::{AuditWords, PersonWords, ServeWords, Words, WordsFault};
 pub use values::{
-    Place, Stop, Word, enrolled_from, export_from, owner_from, person_from, place_from,
+    Place, Stop, Word, enrolled_from, export_named, owner_from, person_from, place_from,
     proposal_from,
 };
 pub use words_reading::words;

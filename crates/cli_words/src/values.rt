@@ -10,7 +10,7 @@ mod proposal;
 mod stop;
 
 pub use enrolled::enrolled_from;
-pub use export::export_from;
+pub use export::export_named;
 pub use owner::owner_from;
 pub use person::person_from;
 pub use place::{Place, place_from};

@@ -1,4 +1,5 @@
 //! The work of each line of words.
+use cli_audit::{audit_file, audit_input};
 use cli_files::{
     add_person, export_from, foretell_from, judge_image, make_desk, read_file, read_image,
 };
@@ -7,8 +8,8 @@ use cli_lines::{
 };
 use cli_requests::{answer_from, serve_from};
 use cli_words::{
-    PersonWords, ServeWords, Stop, Words, enrolled_from, owner_from, person_from, place_from,
-    proposal_from,
+    AuditWords, PersonWords, ServeWords, Stop, Words, enrolled_from, export_named, owner_from,
+    person_from, place_from, proposal_from,
 };
 use desk_bytes::{Guid, Refusal};
 use desk_exports::Export;
@@ -72,6 +73,32 @@ fn run_list(rt: &HostRuntime, file: &str) -> Result<(), Stop> {
     let mut out = buffered_writer(rt.alloc(), rt.stdout())?;
     print_list(rt.alloc(), &bytes, &mut out)?;
     out.flush_all().map_err(Fault::from)?;
+    Ok(())
+}
+
+/// The export that an audit writes, if a word names one.
+fn asked_export(word: Option<&str>) -> Result<Option<Export>, Stop> {
+    match word {
+        None => Ok(None),
+        Some(word) => Ok(Some(export_named(word)?)),
+    }
+}
+
+/// Follows the minutes in a file, or those of the standard input if it is named `-`.
+fn run_audit(rt: &HostRuntime, words: AuditWords<'_>) -> Result<(), Stop> {
+    let AuditWords {
+        owner,
+        file,
+        export,
+    } = words;
+    let owner = owner_from(owner)?;
+    let what = asked_export(export)?;
+    let mut out = buffered_writer(rt.alloc(), rt.stdout())?;
+    if file == "-" {
+        audit_input(rt.alloc(), &owner, rt.stdin(), what, &mut out)?;
+    } else {
+        audit_file(rt, &owner, file, what, &mut out)?;
+    }
     Ok(())
 }
 
@@ -198,6 +225,7 @@ pub fn run(rt: &HostRuntime, line: Words<'_>) -> ExitCode {
         Words::Db { db } => status_of_ending(rt, run_export(rt, db, Export::Db)),
         Words::Dbx { db } => status_of_ending(rt, run_export(rt, db, Export::Dbx)),
         Words::Level { db } => status_of_ending(rt, run_export(rt, db, Export::Level)),
+        Words::Audit(words) => status_of(rt, run_audit(rt, words)),
         Words::List { file } => status_of(rt, run_list(rt, file)),
         Words::Pack { owner } => status_of(rt, run_pack(rt, owner)),
         Words::Minutes { db } => status_of_ending(rt, run_export(rt, db, Export::Minutes)),

@@ -6,7 +6,7 @@ use crate::values::stop::{Stop, Word};
 use desk_exports::Export;
 
 /// The export that a word of `audit` names: dbx, db or level. Takes no memory.
-pub fn export_from(text: &str) -> Result<Export, Stop>
+pub fn export_named(text: &str) -> Result<Export, Stop>
     ensures { result ≡ named_export text.now }
 {
     match text {

@@ -1,0 +1,112 @@
+-- The end of an audit, from that of its parts.
+use Rattle.std.proofs.Common.{◌≡◌, ◌∙◌, ℕ, List, [], Option, None, Some, Result, Ok, Err, IfErr, IfSome, OnErr, OnOk, inl, inr, refl, sym, ap}
+use Rattle.std.specs.Prelude.{◌⊎◌, ◌==◌, if◌then◌else◌}
+use Rattle.std.specs.Io.Buffered.{reader_buffer, reader_capacity, reader_inner, reader_remaining}
+use Rattle.std.specs.Io.KnownBytes.{Appends, Keeps, prepend_known}
+use Rattle.std.specs.declared.io.buffered.BufReader.{BufReader}
+use Rattle.std.proofs.KnownBytes.{Keeps-refl, prepend_known-nil}
+use Rattle.std.proofs.lemmas.Option.{same_Some}
+use Rattle.sqlite.proofs.Callers.{memory_is_clean}
+use Rattle.sqlite.specs.Steps.{over_memory}
+use Rattle.sqlite_trees.specs.declared.memory.MemStore.{MemStore}
+use Rattle.desk_audit.specs.Audits.{HasFollowed, IsWrongAt}
+use Rattle.desk_audit.specs.declared.auditing.AuditFault.{AuditFault}
+use Rattle.desk_audit.specs.declared.auditing.AuditFault.TheVariants.{Device, Line}
+use Rattle.desk_bytes.specs.Output.{AppendsBeginning}
+use Rattle.desk_bytes.specs.declared.refusal.Refusal.{Refusal}
+use Rattle.desk_exports.specs.declared.export.Export.{Export}
+use Rattle.desk_store.specs.declared.desk.Desk.{Desk}
+use Rattle.cli_lines.specs.declared.fault.Fault.{Fault}
+use Rattle.cli_audit.specs.Audits.{AreNoMinutes, Audits, HasWritten, WritesCounted, WritesLast, audited}
+use Rattle.cli_audit.specs.Faults.{of_audit, wrong_line}
+
+-- ---- minutes that were followed
+
+module _ (what : Option Export) (owner : List ℕ) (desk : Desk MemStore) (calls : ℕ) (before after : Option (List ℕ)) where
+  -- all was written
+  whole : (known : Option (List ℕ)) (r : Result Unit Fault) → IfSome known (λ given. HasFollowed over_memory desk owner calls (Some given) (Some []))
+      → WritesCounted over_memory desk calls (audited what) before after r
+      → OnOk r (IfSome known (λ given. HasWritten what owner given (Appends before after)))
+  whole None (Ok u) f w = tt
+  whole (Some given) (Ok u) f w =
+      record { desk = desk; calls = calls; followed = f; written = w.0 owner f.history f.shows f.count }
+  whole known (Err fault) f w = tt
+
+  -- a prefix was written
+  part : (known : Option (List ℕ)) (r : Result Unit Fault) → IfSome known (λ given. HasFollowed over_memory desk owner calls (Some given) (Some []))
+      → WritesCounted over_memory desk calls (audited what) before after r
+      → OnErr r (Keeps before after ⊎ IfSome known (λ given. HasWritten what owner given (AppendsBeginning before after)))
+  part known (Ok u) f w = tt
+  part None (Err fault) f w = inr tt
+  part (Some given) (Err fault) f w =
+      inr (record { desk = desk; calls = calls; followed = f; written = w.1 owner f.history f.shows f.count })
+
+-- a row without a place is no line's
+no_line : (r : Result Unit Fault) (P : ℕ → Type 0) → IfErr r (λ fault. fault.place ≡ None) → IfErr r (λ fault. (n : ℕ) → fault ≡ wrong_line n → P n)
+no_line (Ok u) P h = tt
+no_line (Err fault) P h = λ n is. let bad : None ≡ Some n = sym h ∙ ap (λ (f : Fault). f.place) is in absurd (cc)
+
+no_place : (r : Result Unit Fault) → IfErr r (λ fault. fault.place ≡ None) → IfErr r (λ fault. (fault.place ≡ None) ⊎ ((n : ℕ) × (fault ≡ wrong_line n)))
+no_place (Ok u) h = tt
+no_place (Err fault) h = inl h
+
+-- the end of an audit whose minutes were followed
+pub followed : (what : Option Export) (owner : List ℕ) (desk : Desk MemStore) (calls : ℕ) (known before after : Option (List ℕ)) (r : Result Unit Fault)
+    → IfSome known (λ given. HasFollowed over_memory desk owner calls (Some given) (Some []))
+    → WritesLast over_memory desk calls (audited what) before after r → IfErr r (λ fault. fault.place ≡ None)
+    → Audits what owner known before after r
+followed what owner desk calls known before after r f (left, w) h =
+    let wrote = w (memory_is_clean left.conn) in
+    record {
+      ok = whole what owner desk calls before after known r f wrote;
+      stopped = part what owner desk calls before after known r f wrote;
+      placed = no_place r h;
+      wrong = no_line r (λ n. IfSome known (λ given. IsWrongAt given n)) h;
+      silent = no_line r (λ n. Keeps before after) h;
+      passes = no_line r (λ n. AreNoMinutes known) h;
+    }
+
+-- ---- minutes that weren't followed
+
+-- only a wrong line has the row of one
+line_of : (fault : AuditFault) (n : ℕ) → of_audit fault ≡ wrong_line n → fault ≡ Line n
+line_of (Line m) n e = ap Line (same_Some m n (ap (λ (f : Fault). f.place) e))
+line_of (Device refusal) n e = let bad : None ≡ Some n = ap (λ (f : Fault). f.place) e in absurd (cc)
+
+place_of : (fault : AuditFault) → ((of_audit fault).place ≡ None) ⊎ ((n : ℕ) × (of_audit fault ≡ wrong_line n))
+place_of (Line n) = inr (n, refl)
+place_of (Device refusal) = inl refl
+
+pub stopped_by : (what : Option Export) (owner : List ℕ) (known before : Option (List ℕ)) (fault : AuditFault) (row : Fault) → row ≡ of_audit fault
+    → ((n : ℕ) → fault ≡ Line n → IfSome known (λ given. IsWrongAt given n)) → ((n : ℕ) → fault ≡ Line n → AreNoMinutes known)
+    → Audits what owner known before before (Err row)
+stopped_by what owner known before fault row is wrong passes = record {
+  ok = tt;
+  stopped = inl (Keeps-refl before);
+  placed = rw is (place_of fault);
+  wrong = λ n same. wrong n (line_of fault n (sym is ∙ same));
+  silent = λ n same. Keeps-refl before;
+  passes = λ n same. passes n (line_of fault n (sym is ∙ same));
+}
+
+-- a device's fault, before anything was followed
+pub unread : (what : Option Export) (owner : List ℕ) (known before : Option (List ℕ)) (fault : Fault) → fault.place ≡ None → Audits what owner known before before (Err fault)
+unread what owner known before fault h = record {
+  ok = tt;
+  stopped = inl (Keeps-refl before);
+  placed = inl h;
+  wrong = no_line (Err fault) (λ n. IfSome known (λ given. IsWrongAt given n)) h;
+  silent = no_line (Err fault) (λ n. Keeps before before) h;
+  passes = no_line (Err fault) (λ n. AreNoMinutes known) h;
+}
+
+-- ---- a reader with a buffer
+
+-- a new one has the bytes of the reader within
+pub buffered : {T A : Type 0} (remaining : T → Option (List ℕ)) (r : BufReader T A) (inner : T) → reader_inner r ≡ inner → reader_buffer r ≡ [] → reader_capacity r ≡ 8192
+    → reader_remaining remaining r ≡ remaining inner
+buffered remaining r inner is empty room =
+    ap (λ (n : ℕ). if n == 0 then None else prepend_known (reader_buffer r) (remaining (reader_inner r))) room
+    ∙ ap (λ (bs : List ℕ). prepend_known bs (remaining (reader_inner r))) empty
+    ∙ prepend_known-nil (remaining (reader_inner r))
+    ∙ ap remaining is

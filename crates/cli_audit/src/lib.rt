@@ -1,0 +1,11 @@
+//! The subcommand `audit`: follows the minutes of a file in memory, and prints what the exports of
+//! their desk must be.
+#![tactic(auto)]
+
+mod auditing;
+mod digests;
+mod fault;
+mod told;
+mod writing;
+
+pub use auditing::{audit_file, audit_input};

@@ -1,0 +1,89 @@
+//! What an audit writes of a desk that has followed minutes.
+ghost use Rattle.std.specs.Prelude.{◌≡◌, None, IfErr, OnErr, OnOk};
+ghost use Rattle.std.specs.Io.KnownBytes.{Appends};
+ghost use Rattle.sqlite.specs.Held.{state};
+ghost use Rattle.sqlite.specs.State.{HasCleanDisk};
+ghost use Rattle.desk_bytes.specs.Output.{AppendsBeginning};
+ghost use Rattle.cli_audit.specs.Audits.{WritesCounted, WritesLast, audited};
+ghost use Rattle.cli_audit.specs.Lines.{audit_lines, told_lines};
+
+use crate::digests::told;
+use crate::told::{Told, put_told};
+use cli_commands::write_export;
+use cli_lines::{Buffered, Fault};
+use desk_exports::Export;
+use desk_store::Desk;
+use sqlite::Alter;
+use std::alloc::Global;
+
+/// Writes the lines of an audit, and flushes the writer.
+fn say<W: Buffered>(told: &Told, writer: &mut W) -> Result<(), Fault>
+    ensures ok { OnOk result (Appends (W.contents writer.old) (W.contents writer.new)
+        (told_lines told.now)) }
+    ensures flushed { OnOk result (W.flushed writer.new) }
+    ensures err { OnErr result (AppendsBeginning (W.contents writer.old) (W.contents writer.new)
+        (told_lines told.now)) }
+    ensures placed { IfErr result (λ fault. fault.place ≡ None) }
+{
+    put_told(told, writer)?;
+    writer.flush_all()?;
+    Ok(())
+}
+
+/// Writes the lines of an audit of a desk of so many calls, and flushes the writer.
+fn say_told<S: Alter + Drop, W: Buffered>(
+    alloc: Global,
+    desk: &mut Desk<S>,
+    calls: u64,
+    writer: &mut W,
+) -> Result<(), Fault>
+    ensures written { HasCleanDisk (state S.Store desk.new.conn)
+        → WritesCounted S.Store desk.old calls audit_lines
+        (W.contents writer.old) (W.contents writer.new) result }
+    ensures flushed { OnOk result (W.flushed writer.new) }
+    ensures placed { IfErr result (λ fault. fault.place ≡ None) }
+{
+    match told(alloc, desk, calls) {
+        Ok(told) => say(&told, writer),
+        Err(refusal) => Err(Fault::from(refusal)),
+    }
+}
+
+/// Writes what an audit of a desk of so many calls writes, and flushes the writer.
+fn write_audit<S: Alter + Drop, W: Buffered>(
+    alloc: Global,
+    desk: &mut Desk<S>,
+    calls: u64,
+    what: Option<Export>,
+    writer: &mut W,
+) -> Result<(), Fault>
+    ensures written { HasCleanDisk (state S.Store desk.new.conn)
+        → WritesCounted S.Store desk.old calls (audited what)
+        (W.contents writer.old) (W.contents writer.new) result }
+    ensures flushed { OnOk result (W.flushed writer.new) }
+    ensures placed { IfErr result (λ fault. fault.place ≡ None) }
+{
+    match what {
+        None => say_told(alloc, desk, calls, writer),
+        Some(what) => match write_export(desk, what, writer) {
+            Ok(_) => Ok(()),
+            Err(fault) => Err(fault),
+        },
+    }
+}
+
+/// Writes what an audit of a desk of so many calls writes, flushes the writer, and drops the desk.
+pub(crate) fn write_last<S: Alter + Drop, W: Buffered>(
+    alloc: Global,
+    mut desk: Desk<S>,
+    calls: u64,
+    what: Option<Export>,
+    writer: &mut W,
+) -> Result<(), Fault>
+    ensures written { WritesLast S.Store desk calls (audited what)
+        (W.contents writer.old) (W.contents writer.new) result }
+    ensures flushed { OnOk result (W.flushed writer.new) }
+    ensures placed { IfErr result (λ fault. fault.place ≡ None) }
+{
+    write_audit(alloc, &mut desk, calls, what, writer)
+}
