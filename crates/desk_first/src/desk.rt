@@ -41,8 +41,8 @@ impl<S: Alter + Drop> FirstDesk<S> {
     }
 
     /// The reply to a call that is accepted by the first rules, which joins the history. `None`: it
-    /// repeats a call, or the rules refuse it. After `None` or a refusal nothing is promised of what
-    /// the store shows. Takes memory.
+    /// repeats a call, or the rules refuse it. After `None` or a refusal nothing is promised of
+    /// what the store shows. Takes memory.
     ///
     /// `NoMemory`: memory was refused. `Store`: the store failed.
     pub fn follow(&mut self, call: &Call) -> Result<Option<Reply>, Refusal>

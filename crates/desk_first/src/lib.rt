@@ -1,5 +1,5 @@
-//! The calls that a desk accepted by the first rules, by which one officer alone revokes and raises,
-//! followed in a store.
+//! The calls that a desk accepted by the first rules, by which one officer alone revokes and
+//! raises, followed in a store.
 #![tactic(auto)]
 
 mod acting;
