@@ -1,15 +1,126 @@
 #!/bin/sh
-# A mirror's day with the built program or the named one: audit.sh [PROGRAM]. While a desk is served
-# and its people go on working, its minutes are fetched in parts by GET /minutes/{no}, put together,
-# and audited: the SHA-256 are those of what GET /dbx, /db and /level give, and of what `desk dbx`
-# and the others write. Then a line is changed, left out, doubled, repeated, moved or cut, each line
-# of the first in each way; lines are renumbered after one that the rules don't give; and each is
-# refused at its line. Other histories pass, and have other SHA-256; so has a dbx with a digest more,
-# and another owner changes those of dbx and db. Minutes of a desk that was migrated pass. At the end
-# the commands of docs/AUDIT.md are run on published files that are right, and wrong one at a time.
-# Not part of `rt ci`: it needs openssl, python3 and xxd.
+# `desk audit` of the built program, or of the named one: audit.sh [PROGRAM]. A desk has an afternoon
+# of calls: people, a request with its reviews and its return, listings, a digest and a generation
+# that two officers revoked. The audit of its minutes prints the SHA-256 that sha256sum prints of the
+# desk's own exports, and writes those exports byte for byte, from a file and from standard input.
+# Each line in turn is changed, left out, doubled and cut: the audit names it. The first wrong line
+# comes before a failed output, and a file that isn't there, a folder, a full output and a wrong word
+# have their statuses. It needs sha256sum.
 set -eu
 . "$(dirname -- "$(readlink -f -- "$0")")/common.sh"
-needs openssl python3 xxd
+needs sha256sum
 find_program "$@"
-exec timeout --foreground -k 20 600 python3 -B "$root/checks/requests/audit.py" "$program"
+owner=00112233-4455-6677-8899-aabbccddeeff
+enter_room
+
+# ---- a desk's minutes
+
+# asks NAME KEY PATH FILE [FIELD]: posts the file, which has to be accepted.
+asks() {
+    {
+        printf 'POST %s HTTP/1.1\r\nDesk-Token: %s-token-for-audits\r\nDesk-Key: %s\r\n' "$3" "$1" "$2"
+        [ -z "${5:-}" ] || printf '%s\r\n' "$5"
+        printf 'Content-Length: %s\r\n\r\n' "$(wc -c < "$4")"
+        cat "$4"
+    } > request
+    "$program" answer desk.db < request > response
+    tail -n 1 response | grep -q '"reply"' || fail "$3 by $1: $(cat response)"
+}
+: > none
+"$program" init desk.db "$owner"
+for person in ann/submitter rita/reviewer raul/reviewer sid/signer olga/officer otto/officer; do
+    name=${person%/*}
+    echo "$name-token-for-audits" | "$program" person desk.db "$name" "${person#*/}" "k-$name" > said
+done
+echo '{"note":"read it","vote":"yes"}' > yes
+printf '{"digest":"%064d"}' 7 > digest
+echo '{"component":"grub","generation":3,"stamp":2024010100}' > raise
+asks ann k1 /requests "$root/examples/signed.efi" 'Desk-Title: a signed loader'
+asks rita k1 /requests/1/review yes
+asks raul k1 /requests/1/review yes
+asks olga k1 /db/certificates "$root/examples/certificate.der"
+asks sid k1 /requests/1/return "$root/examples/signed.efi"
+asks olga k2 /dbx/digests digest
+asks otto k1 /proposals/1/confirm none
+asks olga k3 /level raise
+asks otto k2 /proposals/2/confirm none
+"$program" minutes desk.db > minutes
+lines=$(wc -l < minutes)
+
+# ---- they pass
+
+hash_of() { sha256sum < "$1" | cut -d ' ' -f 1; }
+{
+    echo "calls $lines"
+    echo "minutes $(hash_of minutes)"
+    for export in dbx db level; do
+        "$program" "$export" desk.db > "$export"
+        [ -s "$export" ] || fail "$export is empty"
+        echo "$export $(hash_of "$export")"
+    done
+} > told
+run 0 told '' none audit "$owner" minutes
+run 0 told '' minutes audit "$owner" -
+for export in dbx db level; do
+    run 0 "$export" '' none audit "$owner" minutes "$export"
+    run 0 "$export" '' minutes audit "$owner" - "$export"
+done
+{
+    echo 'calls 0'
+    for export in minutes dbx db; do echo "$export $(hash_of none)"; done
+    printf 'sbat,1,2021030218\n' > first
+    echo "level $(hash_of first)"
+} > empty
+run 0 empty '' none audit "$owner" none
+
+# ---- the first wrong line
+
+# wrong LINE WHAT: the minutes `turned` are refused at the line.
+wrong() {
+    for word in '' dbx; do
+        # shellcheck disable=SC2086
+        run 1 none "refused 47 Minute at $1" none audit "$owner" turned $word
+    done
+}
+line=0
+while [ "$line" -lt "$lines" ]; do
+    line=$((line + 1))
+    # (the last character of a reply, the key, the number)
+    sed "${line}s/.\$/~/" minutes > turned
+    wrong "$line"
+    sed "${line}s/^[0-9]*/99/" minutes > turned
+    wrong "$line"
+    sed "${line}p" minutes > turned
+    wrong $((line + 1))
+    head -n "$line" minutes | head -c -1 > turned
+    wrong "$line"
+    [ "$line" -eq "$lines" ] || {
+        sed "${line}d" minutes > turned
+        wrong "$line"
+    }
+done
+# A long last line, of some megabytes.
+{ cat minutes && head -c 4000000 /dev/zero | tr '\0' x; } > turned
+wrong $((lines + 1))
+
+# ---- devices and words
+
+run 3 none 'device 45 File' none audit "$owner" missing
+mkdir folder
+run 3 none 'device 14 Read' none audit "$owner" folder
+run 2 none 'bad OWNER' none audit nobody minutes
+run 2 none 'bad EXPORT' none audit "$owner" minutes minutes
+run 2 none 'bad EXPORT' none audit "$owner" missing report
+got=0
+"$program" audit "$owner" minutes > /dev/full 2> err || got=$?
+[ "$got" -eq 3 ] && [ "$(cat err)" = 'device 17 Write' ] || fail "a full output: status $got, $(cat err)"
+"$program" audit "$owner" turned > /dev/full 2> err && fail 'wrong minutes pass' || got=$?
+[ "$got" -eq 1 ] || fail "wrong minutes, a full output: status $got, $(cat err)"
+for words in '' "$owner" "$owner minutes dbx more"; do
+    got=0
+    # shellcheck disable=SC2086
+    "$program" audit $words > out 2> err < none || got=$?
+    [ "$got" -eq 2 ] || fail "audit $words: status $got in place of 2"
+done
+
+echo "$runs audits of $lines lines of minutes, and of others"

@@ -1,4 +1,4 @@
-"""A mirror's day: see ../audit.sh."""
+"""A mirror's day: see ../mirror.sh."""
 import os
 import re
 import subprocess
@@ -168,7 +168,8 @@ def fetched(server: Server, over: threading.Event) -> tuple[bytes, int, int]:
             return minutes, parts, early
         parts, early = parts + bool(part), early + (bool(part) and not over.is_set())
         minutes += part
-        time.sleep(0 if part else 0.02)
+        if part.count(b"\n") < PART:
+            time.sleep(0.1)
 
 
 def day(program: Program) -> tuple[Found, Work, str]:
@@ -210,28 +211,13 @@ def stops(program: Program, line: int, minutes: bytes, what: str) -> int:
     return 1
 
 
-def words(program: Program, found: Found, _: Work) -> int:
-    """Words, files that can't be read, and minutes without a line; the fourth word."""
-    path, none = program.file("words.txt", found.minutes), program.at("missing.txt")
-    for name in FILES:
-        expect(program.gives("audit", OWNER, path, name), getattr(found, name), f"audit, {name}")
-    for given, wanted in (
-        ((OWNER, none), (3, b"device 45 File\n")),
-        ((OWNER, program.room.name), (3, b"device 14 Read\n")),
-        (("owner", none), (2, b"bad OWNER\n")),
-    ):
-        status, out, err = program.run("audit", *given)
-        expect((status, out, err), (wanted[0], b"", wanted[1]), f"audit {' '.join(given)}")
-    for given in ((OWNER, path, "minutes"), (OWNER, path, ""), (OWNER, path, "dbx", "db"), (OWNER,), ()):
-        status, out, err = program.run("audit", *given)
-        if status != 2 or out or not err:
-            fail(f"audit {' '.join(given)}: status {status}, {out[:80]!r}, {err!r}")
+def beginnings(program: Program, found: Found, _: Work) -> int:
+    """Minutes without a line, and a longer history's beginnings, are those of shorter ones."""
+    lines, counts = found.minutes.splitlines(keepends=True), (1, len(PEOPLE), FIRST, PART, CALLS - 1)
     expect(passes(program, b"", "no minutes")[1:], (b"", b"", b"sbat,1,2021030218\n"), "what follows from no minutes")
-    # A longer history's minutes begin with the shorter one's.
-    lines = found.minutes.splitlines(keepends=True)
-    for count in (1, len(PEOPLE), FIRST, PART, len(lines) - 1):
+    for count in counts:
         passes(program, b"".join(lines[:count]), f"the first {count} lines")
-    return 17
+    return len(counts) + 1
 
 
 # The lines with a slip in the one at a place, from 0.
@@ -428,7 +414,7 @@ def page(program: Program, found: Found, work: Work) -> int:
     ))
 
 
-PARTS = (words, slips, rules, others, migrated, page)
+PARTS = (beginnings, slips, rules, others, migrated, page)
 with Program(sys.argv[1]) as program:
     found, work, said = day(program)
     counts = [part(program, found, work) for part in PARTS]
