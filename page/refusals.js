@@ -38,7 +38,7 @@ export const REFUSALS = {
         'The input passes a stated limit of size or count.',
         'An image has at most 128 MiB, 64 certificates and 256 components; a certificate 64 KiB; an import 10,000 entries: send it in parts.',
     ],
-    Read: ['A device: a read failed or was interrupted.', RETRY],
+    Read: ['A device: a read failed or was interrupted, or a port is taken.', RETRY],
     List: [
         'There is no signature list there. The place is its offset in bytes.',
         'Choose a file of signature lists without anything before them; deskctl takes headers off.',
@@ -117,7 +117,7 @@ export const REFUSALS = {
         ADMIN,
     ],
     Version: ['The database holds a desk of a version that this program doesn’t know.', ADMIN],
-    File: ['A device: a file can’t be opened.', ADMIN],
+    File: ['A device: a file can’t be opened, or is in use.', ADMIN],
     Exists: ['The database has a table, an index or a view with a name of the desk’s already, so no desk is made in it.', ADMIN],
     Minute: [
         'A line of minutes isn’t what the rules give there, or isn’t whole. The place is its number from 1.',
