@@ -1,11 +1,12 @@
 //! Decisions of a desk.
 mod days;
+mod first_days;
 mod limits;
 mod tables;
 
 use desk_bytes::{Digest, Refusal};
 use desk_history::{CommandText, Entry, Minute, ProposalRow, RequestRow, VoteRow, Write};
-use desk_rules::{Changes, ListView, Sizes, View, decide, verdict};
+use desk_rules::{Changes, ListView, Sizes, View, decide, decide_first, verdict};
 use desk_texts::{
     ListedKind, Listing, Outcome, Person, PersonName, ProposalOutcome, Role, reply_text,
 };

@@ -1,9 +1,16 @@
-//! Two days of a desk: calls with caller, key and command, and the answer, or an image and the
-//! desk's verdict on it.
+//! Days of a desk: calls with caller, key and command, and the answer, or an image and the desk's
+//! verdict on it.
 use super::tables::{new_tables, write_all};
 use super::*;
-use desk_texts::{Facts, Reply};
+use desk_texts::{Call, Facts, Reply};
 use std::fmt::Write as _;
+
+/// The rules by which the calls of a day are decided.
+#[derive(Clone, Copy)]
+pub(super) enum Rules {
+    First,
+    Second,
+}
 
 /// Appends a reply's text, with `again` before one that writes nothing.
 fn tell_reply(alloc: Global, told: &mut String, is_new: bool, reply: &Reply) -> Result<(), Fail> {
@@ -45,10 +52,24 @@ fn record(
     }
 }
 
+/// The decision on a call by the rules.
+fn decide_by(alloc: Global, rules: Rules, tables: &View, call: &Call) -> Result<Changes, Refusal> {
+    match rules {
+        Rules::First => decide_first(alloc, tables, &call.caller, &call.key, &call.command),
+        Rules::Second => decide(alloc, tables, &call.caller, &call.key, &call.command),
+    }
+}
+
 /// Gives one call.
-fn ask(alloc: Global, tables: &mut View, told: &mut String, given: &str) -> Result<(), Fail> {
+fn ask(
+    alloc: Global,
+    rules: Rules,
+    tables: &mut View,
+    told: &mut String,
+    given: &str,
+) -> Result<(), Fail> {
     let call = Words::new(alloc, given).call().ok_or("a call")?;
-    let decision = decide(alloc, tables, &call.caller, &call.key, &call.command);
+    let decision = decide_by(alloc, rules, tables, &call);
     record(alloc, tables, told, &decision)
 }
 
@@ -67,24 +88,30 @@ fn judge(alloc: Global, tables: &View, told: &mut String, given: &str) -> Result
 
 /// Plays a line, `WHO KEY VERB .. : ANSWER` or `verdict IMAGE : VERDICT`, and appends it with the
 /// actual answer.
-fn play_line(alloc: Global, tables: &mut View, told: &mut String, line: &str) -> Result<(), Fail> {
+fn play_line(
+    alloc: Global,
+    rules: Rules,
+    tables: &mut View,
+    told: &mut String,
+    line: &str,
+) -> Result<(), Fail> {
     let (given, _) = line.split_once(" : ").ok_or("an answer")?;
     told.push_str(given)?;
     told.push_str(" : ")?;
     match given.strip_prefix("verdict ") {
         Some(image) => judge(alloc, tables, told, image)?,
-        None => ask(alloc, tables, told, given)?,
+        None => ask(alloc, rules, tables, told, given)?,
     }
     told.push('\n')?;
     Ok(())
 }
 
-/// Plays the lines of a script on a new desk, and compares all answers.
-fn play(rt: &impl Abort, alloc: Global, script: &str) -> Result<(), Fail> {
+/// Plays the lines of a script on a new desk by the rules, and compares all answers.
+pub(super) fn play(rt: &impl Abort, alloc: Global, rules: Rules, script: &str) -> Result<(), Fail> {
     let mut tables = new_tables(alloc)?;
     let mut told = String::new(alloc);
     for line in script.lines() {
-        play_line(alloc, &mut tables, &mut told, line)?;
+        play_line(alloc, rules, &mut tables, &mut told, line)?;
     }
     assert!(rt; told.as_str() == script, "{told}");
     Ok(())
@@ -258,10 +285,10 @@ sid v2 return 1 33 33 0 1 grub 5 : returned 1
 
 #[test]
 fn a_day_of_requests(rt: HostRuntime) -> Result<(), Fail> {
-    play(&rt, rt.alloc(), REQUESTS)
+    play(&rt, rt.alloc(), Rules::Second, REQUESTS)
 }
 
 #[test]
 fn a_day_of_levels(rt: HostRuntime) -> Result<(), Fail> {
-    play(&rt, rt.alloc(), LEVELS)
+    play(&rt, rt.alloc(), Rules::Second, LEVELS)
 }
