@@ -31,15 +31,15 @@ fn audit_reader<R: BufRead, W: Buffered>(
     match audit(alloc, owner, reader) {
         Ok(audited) => {
             let Audited { desk, calls } = audited;
-            write_last(alloc, desk, calls, what, writer)
+            write_last(desk, calls, what, writer)
         }
         Err(fault) => Err(row(fault)),
     }
 }
 
 /// Follows the minutes of an input line by line, by the rules, on a desk in memory with this owner,
-/// and writes `calls N` and the SHA-256 of the minutes, dbx, db and the level, or the export that is
-/// named. Takes memory for the desk and for one export.
+/// and writes `calls N` and the SHA-256 of the minutes, dbx, db and the level, or the export that
+/// is named. Takes memory for the desk and for one line.
 ///
 /// Minute: the place is the first line that isn't what the rules give, or isn't whole; nothing is
 /// written. Read: a read failed. NoMemory: memory was refused. Write: a prefix may be written.

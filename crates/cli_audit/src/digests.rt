@@ -7,22 +7,18 @@ ghost use Rattle.desk_exports.specs.Exports.{exported};
 ghost use Rattle.desk_store.specs.Desks.{ForEachShown, KeepsDesk};
 ghost use Rattle.cli_audit.specs.Lines.{told_of};
 
+use crate::hashing::Hashing;
 use crate::told::Told;
 use desk_bytes::{Digest, Refusal};
 use desk_exports::Export;
 use desk_store::Desk;
-use sha2::{Digest as _, Sha256};
 use sqlite::Alter;
-use std::alloc::Global;
 
-/// The SHA-256 of an export of the desk, which doesn't change. Takes memory for the export.
+/// The SHA-256 of an export of the desk, which doesn't change. The bytes are hashed as the desk
+/// writes them: takes memory for one row.
 ///
-/// `NoMemory`: memory was refused. `Store`, `Reopen`: as for the export.
-fn digest_of<S: Alter + Drop>(
-    alloc: Global,
-    desk: &mut Desk<S>,
-    what: Export,
-) -> Result<Digest, Refusal>
+/// `NoMemory`, `Store`, `Reopen`: as for the export, whose writer doesn't fail here.
+fn digest_of<S: Alter + Drop>(desk: &mut Desk<S>, what: Export) -> Result<Digest, Refusal>
     ensures exact { HasCleanDisk (state S.Store desk.new.conn) → IfOk result (λ digest.
         ForEachShown S.Store desk.old (λ owner cs. digest ≡ sha256 (exported what owner cs))) }
     ensures same { HasCleanDisk (state S.Store desk.new.conn)
@@ -30,30 +26,23 @@ fn digest_of<S: Alter + Drop>(
     ensures clean { HasCleanDisk (state S.Store desk.new.conn)
         → HasCleanDisk (state S.Store desk.old.conn) }
 {
-    let mut bytes = Vec::new(alloc);
-    match desk.export(what, &mut bytes) {
-        Ok(()) => Ok(Digest::from(Sha256::digest(bytes.as_slice()))),
-        Err(Refusal::Write) => Err(Refusal::NoMemory),
-        Err(refusal) => Err(refusal),
-    }
+    let mut hashing = Hashing::new();
+    desk.export(what, &mut hashing)?;
+    Ok(hashing.digest())
 }
 
-/// What an audit tells of the minutes of a desk, of so many calls. Takes memory for one export.
+/// What an audit tells of the minutes of a desk, of so many calls. Takes memory for one row.
 ///
-/// `NoMemory`: memory was refused. `Store`, `Reopen`: as for the exports.
-pub(crate) fn told<S: Alter + Drop>(
-    alloc: Global,
-    desk: &mut Desk<S>,
-    calls: u64,
-) -> Result<Told, Refusal>
+/// `NoMemory`, `Store`, `Reopen`: as for `digest_of`.
+pub(crate) fn told<S: Alter + Drop>(desk: &mut Desk<S>, calls: u64) -> Result<Told, Refusal>
     ensures { HasCleanDisk (state S.Store desk.new.conn) → IfOk result (λ told.
         ForEachShown S.Store desk.old (λ owner cs. length cs ≡ calls
         → told ≡ told_of owner cs)) }
 {
-    let minutes = digest_of(alloc, desk, Export::Minutes)?;
-    let dbx = digest_of(alloc, desk, Export::Dbx)?;
-    let db = digest_of(alloc, desk, Export::Db)?;
-    let level = digest_of(alloc, desk, Export::Level)?;
+    let minutes = digest_of(desk, Export::Minutes)?;
+    let dbx = digest_of(desk, Export::Dbx)?;
+    let db = digest_of(desk, Export::Db)?;
+    let level = digest_of(desk, Export::Level)?;
     Ok(Told {
         calls,
         minutes,

@@ -5,6 +5,8 @@
 mod auditing;
 mod digests;
 mod fault;
+mod fed;
+mod hashing;
 mod told;
 mod writing;
 

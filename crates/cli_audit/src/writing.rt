@@ -14,7 +14,6 @@ use cli_lines::{Buffered, Fault};
 use desk_exports::Export;
 use desk_store::Desk;
 use sqlite::Alter;
-use std::alloc::Global;
 
 /// Writes the lines of an audit, and flushes the writer.
 fn say<W: Buffered>(told: &Told, writer: &mut W) -> Result<(), Fault>
@@ -32,7 +31,6 @@ fn say<W: Buffered>(told: &Told, writer: &mut W) -> Result<(), Fault>
 
 /// Writes the lines of an audit of a desk of so many calls, and flushes the writer.
 fn say_told<S: Alter + Drop, W: Buffered>(
-    alloc: Global,
     desk: &mut Desk<S>,
     calls: u64,
     writer: &mut W,
@@ -43,7 +41,7 @@ fn say_told<S: Alter + Drop, W: Buffered>(
     ensures flushed { OnOk result (W.flushed writer.new) }
     ensures placed { IfErr result (λ fault. fault.place ≡ None) }
 {
-    match told(alloc, desk, calls) {
+    match told(desk, calls) {
         Ok(told) => say(&told, writer),
         Err(refusal) => Err(Fault::from(refusal)),
     }
@@ -51,7 +49,6 @@ fn say_told<S: Alter + Drop, W: Buffered>(
 
 /// Writes what an audit of a desk of so many calls writes, and flushes the writer.
 fn write_audit<S: Alter + Drop, W: Buffered>(
-    alloc: Global,
     desk: &mut Desk<S>,
     calls: u64,
     what: Option<Export>,
@@ -64,7 +61,7 @@ fn write_audit<S: Alter + Drop, W: Buffered>(
     ensures placed { IfErr result (λ fault. fault.place ≡ None) }
 {
     match what {
-        None => say_told(alloc, desk, calls, writer),
+        None => say_told(desk, calls, writer),
         Some(what) => match write_export(desk, what, writer) {
             Ok(_) => Ok(()),
             Err(fault) => Err(fault),
@@ -74,7 +71,6 @@ fn write_audit<S: Alter + Drop, W: Buffered>(
 
 /// Writes what an audit of a desk of so many calls writes, flushes the writer, and drops the desk.
 pub(crate) fn write_last<S: Alter + Drop, W: Buffered>(
-    alloc: Global,
     mut desk: Desk<S>,
     calls: u64,
     what: Option<Export>,
@@ -85,5 +81,5 @@ pub(crate) fn write_last<S: Alter + Drop, W: Buffered>(
     ensures flushed { OnOk result (W.flushed writer.new) }
     ensures placed { IfErr result (λ fault. fault.place ≡ None) }
 {
-    write_audit(alloc, &mut desk, calls, what, writer)
+    write_audit(&mut desk, calls, what, writer)
 }
