@@ -37,7 +37,7 @@ has() {
     return 1
 }
 
-timeout -k 5 580 python3 -B "$root/checks/client/everything.py" "$program" > parts &
+timeout -k 5 900 python3 -B "$root/checks/client/everything.py" "$program" > parts &
 parts=$!
 started=$parts
 

@@ -30,4 +30,4 @@ enter_room
 # Whatever the browser leaves goes with the room.
 TMPDIR=$room
 export TMPDIR
-within 580 "$python" -B "$root/checks/page/plain.py" "$program" "$folder" "$@"
+within 900 "$python" -B "$root/checks/page/plain.py" "$program" "$folder" "$@"

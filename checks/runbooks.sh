@@ -19,4 +19,4 @@ own=-mpf
 # shellcheck disable=SC2086
 unshare $own --mount-proc --kill-child true || fail "it needs root or user namespaces, for a disk that is full"
 # shellcheck disable=SC2086
-within 580 unshare $own --mount-proc --kill-child python3 -B "$root/checks/runbooks/pages.py" "$program" "$room" "$@"
+within 900 unshare $own --mount-proc --kill-child python3 -B "$root/checks/runbooks/pages.py" "$program" "$room" "$@"
