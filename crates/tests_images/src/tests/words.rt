@@ -1,6 +1,6 @@
 //! The words of the command line.
 use super::{Call, check};
-use cli_words::{PersonWords, ServeWords, Words, WordsFault, words};
+use cli_words::{AuditWords, PersonWords, ServeWords, Words, WordsFault, words};
 use std::alloc::{AllocError, Global};
 use std::fmt::Write;
 use std::test::Fail;
@@ -18,6 +18,9 @@ impact a.db 7 = impact of a.db: 7
 db a.db = db of a.db
 dbx a.db = dbx of a.db
 level a.db = level of a.db
+audit 0011 m.txt = audit of m.txt for 0011
+audit 0011 - = audit of - for 0011
+audit 0011 m.txt dbx = audit of m.txt for 0011: dbx
 list a/b.esl = list of a/b.esl
 pack 0011 = pack of 0011
 minutes a.db = minutes of a.db
@@ -36,6 +39,7 @@ help impact = Usage: desk impact <DB> <NUMBER>
 help db = Usage: desk db <DB>
 help dbx = Usage: desk dbx <DB>
 help level = Usage: desk level <DB>
+help audit = Usage: desk audit <OWNER> <FILE> [EXPORT]
 help list = Usage: desk list <FILE>
 help pack = Usage: desk pack <OWNER>
 help minutes = Usage: desk minutes <DB>
@@ -74,6 +78,8 @@ dbx = mistake
 dbx a.db more = mistake
 level = mistake
 level a.db more = mistake
+audit 0011 = mistake
+audit 0011 m.txt dbx more = mistake
 list = mistake
 list a/b.esl more = mistake
 pack = mistake
@@ -107,6 +113,7 @@ fn tell_words(told: &mut String, line: Words<'_>) -> Result<(), AllocError> {
         Words::Db { db } => write!(told, "db of {db}"),
         Words::Dbx { db } => write!(told, "dbx of {db}"),
         Words::Level { db } => write!(told, "level of {db}"),
+        Words::Audit(words) => tell_audit(told, words),
         Words::List { file } => write!(told, "list of {file}"),
         Words::Pack { owner } => write!(told, "pack of {owner}"),
         Words::Minutes { db } => write!(told, "minutes of {db}"),
@@ -133,6 +140,20 @@ fn tell_person(
 fn tell_serve(told: &mut String, words: ServeWords<'_>) -> Result<(), AllocError> {
     let ServeWords { db, port, count } = words;
     write!(told, "serve of {db}: {port} {count}")
+}
+
+/// Appends the words of `audit`.
+fn tell_audit(told: &mut String, words: AuditWords<'_>) -> Result<(), AllocError> {
+    let AuditWords {
+        owner,
+        file,
+        export,
+    } = words;
+    write!(told, "audit of {file} for {owner}")?;
+    match export {
+        None => Ok(()),
+        Some(export) => write!(told, ": {export}"),
+    }
 }
 
 /// The words of a line.
