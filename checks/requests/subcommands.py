@@ -181,6 +181,10 @@ def cases():
     yield Case("impact", ("impact", "DESK", "1"), bars, status=1, most=len(bars), desk="proposed.db")
     minutes = program.minutes(program.at("listed.db"))
     yield Case("minutes", ("minutes", "DESK"), minutes, most=len(minutes), desk="listed.db")
+    exports = [program.gives(name, program.at("proposed.db")) for name in ("minutes", "dbx", "db", "level")]
+    sums = "".join(f"{name} {sha256(it)}\n" for name, it in zip(("minutes", "dbx", "db", "level"), exports))
+    calls = exports[0].count(b"\n")
+    yield Case("audit", ("audit", OWNER, "-"), f"calls {calls}\n{sums}".encode(), exports[0])
     # Its first opening makes of a file of version 1 one of version 2.
     with gzip.open(f"{ROOT}/examples/version-1/desk.db.gz") as it:
         program.file("first.db", it.read())
@@ -189,6 +193,7 @@ def cases():
     with open(f"{ROOT}/examples/version-1/dbx.esl", "rb") as it:
         dbx = it.read()
     yield Case("dbx of version 1", ("dbx", "DESK"), dbx, most=len(dbx), desk="first.db", minutes=minutes)
+    yield Case("audit of version 1", ("audit", OWNER, program.file("first.txt", minutes), "dbx"), dbx, most=len(dbx))
     level = text("sbat,1,2021030218\n")
     yield Case("answer", ("answer", "DESK"), level, got("olga", "/level"), most=len(level), answers=True, desk="people.db")
 
