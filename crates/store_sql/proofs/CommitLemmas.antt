@@ -7,12 +7,12 @@ use Rattle.sqlite.specs.Tree.{Trees}
 use Rattle.sqlite.specs.Held.{Held, state}
 use Rattle.sqlite.specs.Effect.{Database}
 use Rattle.sqlite.specs.Order.{Row}
-use Rattle.sqlite.specs.Schema.{Schema}
 use Rattle.sqlite.specs.State.{State, HasCleanDisk, IsNotRun, IsRolledBack, IsUnchanged, KeepsCommit, Survives}
 use Rattle.sqlite.specs.Steps.{FailsToCommit}
 use Rattle.sqlite.proofs.StateLemmas.{survives_then}
 use Rattle.sqlite.proofs.Callers.{survives_begin}
 use Rattle.store_sql.specs.Contents.{Contents, Holds}
+use Rattle.store_sql.specs.Layouts.{Layout}
 use Rattle.store_sql.specs.States.{CommitsNothing, Shows, Spares}
 
 -- a stop of a call that commits nothing leaves no more than one of a call that may commit
@@ -30,27 +30,27 @@ leaves_more P old new s = record {
 pub and_then : (P : Trees → Type 0) (old mid new : State) → Survives old mid P → Survives mid new (λ _. ⊥) → Survives old new P
 and_then P old mid new s more = survives_then old mid new P (λ _. ⊥) P (λ _ db p. p) (λ _ db none. absurd none) s more
 
-module _ (schema : Schema) (c : Contents) where
+module _ (layout : Layout) (c : Contents) where
   -- a connection that nothing changes shows the same
-  pub unchanged_shows : (old new : State) → HasCleanDisk old → IsUnchanged old new → Shows schema old c → Shows schema new c
+  pub unchanged_shows : (old new : State) → HasCleanDisk old → IsUnchanged old new → Shows layout old c → Shows layout new c
   unchanged_shows old new clean same shows = record {
     outside = same.0.mode ∙ shows.outside;
     holds = λ _ _. (let was = shows.holds clean same.0.was_open in
-        (subst (λ (d : Database). Holds schema d c) (sym same.0.now_is) was.0, same.0.now_is ∙ was.1 ∙ sym same.0.committed_is));
+        (subst (λ (d : Database). Holds layout d c) (sym same.0.now_is) was.0, same.0.now_is ∙ was.1 ∙ sym same.0.committed_is));
   }
 
   -- and so does one that is back at its last commit
-  back_shows : (old new : State) → HasCleanDisk old → IsRolledBack old new → Shows schema old c → Shows schema new c
+  back_shows : (old new : State) → HasCleanDisk old → IsRolledBack old new → Shows layout old c → Shows layout new c
   back_shows old new clean back shows = record {
     outside = back.autocommit;
     holds = λ _ live.
         let gone = back.undone live in
         let was = shows.holds clean (back.was_open live) in
-        (subst (λ (d : Database). Holds schema d c) (sym (gone.0 ∙ sym was.1)) was.0, gone.0 ∙ sym gone.1);
+        (subst (λ (d : Database). Holds layout d c) (sym (gone.0 ∙ sym was.1)) was.0, gone.0 ∙ sym gone.1);
   }
 
   -- a text that isn't run changes nothing outside a transaction
-  pub not_run_shows : (old new : State) (sql : List ℕ) (params : Row) (e : Error) → HasCleanDisk old → IsNotRun old new sql params e → Shows schema old c → Shows schema new c
+  pub not_run_shows : (old new : State) (sql : List ℕ) (params : Row) (e : Error) → HasCleanDisk old → IsNotRun old new sql params e → Shows layout old c → Shows layout new c
   unfolding IsNotRun
   not_run_shows old new sql params e clean (inl same) shows = unchanged_shows old new clean same.1 shows
   not_run_shows old new sql params e clean (inr fails) shows = back_shows old new clean fails.3 shows
@@ -61,16 +61,16 @@ begun g old = state g (record old { in_transaction = true })
 
 module _ {S : Type 0} (g : store.Ghosts S) (old last end : Held S) where
   -- a transaction that is rolled back leaves what the connection shows
-  pub undone_shows : (schema : Schema) (c : Contents) → HasCleanDisk (state g old) → KeepsCommit (begun g old) (state g last) → IsRolledBack (state g last) (state g end)
-      → Shows schema (state g old) c → Shows schema (state g end) c
-  undone_shows schema c clean kept rolled shows = record {
+  pub undone_shows : (layout : Layout) (c : Contents) → HasCleanDisk (state g old) → KeepsCommit (begun g old) (state g last) → IsRolledBack (state g last) (state g end)
+      → Shows layout (state g old) c → Shows layout (state g end) c
+  undone_shows layout c clean kept rolled shows = record {
     outside = rolled.autocommit;
     holds = λ _ live.
         let mid = rolled.was_open live in
         let gone = rolled.undone live in
         let was = shows.holds clean (kept.was_open mid) in
         let now : (state g end).now ≡ (state g old).now = gone.0 ∙ kept.committed mid ∙ sym was.1 in
-        (subst (λ (d : Database). Holds schema d c) (sym now) was.0, gone.0 ∙ sym gone.1);
+        (subst (λ (d : Database). Holds layout d c) (sym now) was.0, gone.0 ∙ sym gone.1);
   }
 
   -- a transaction that commits nothing
@@ -158,12 +158,12 @@ module _ {S : Type 0} (g : store.Ghosts S) (old last mid end new : Held S) (does
 
   module _ (unchanged : HasCleanDisk (state g new) → IsUnchanged (state g end) (state g new)) where
     -- it is open, and shows what it showed before the transaction
-    pub failed_shows : (schema : Schema) (c : Contents) → HasCleanDisk (state g new) → Shows schema (state g old) c → Shows schema (state g new) c
-    failed_shows schema c clean shows =
+    pub failed_shows : (layout : Layout) (c : Contents) → HasCleanDisk (state g new) → Shows layout (state g old) c → Shows layout (state g new) c
+    failed_shows layout c clean shows =
         let late : HasCleanDisk (state g end) = omega (arith, asked.clean, clean) in
         let before : HasCleanDisk (state g last) = omega (arith, ends.clean, late) in
-        unchanged_shows schema c (state g end) (state g new) late (unchanged clean)
-        (undone_shows g old last end schema c (omega (arith, did.spares.clean, before)) (did.kept before) (undoes late) shows)
+        unchanged_shows layout c (state g end) (state g new) late (unchanged clean)
+        (undone_shows g old last end layout c (omega (arith, did.spares.clean, before)) (did.kept before) (undoes late) shows)
 
     -- it is open, and nothing was committed
     pub failed_spares : ((db : Trees) → IsTrue (state g end).is_open → (state g end).may_leave db → db ≡ (state g end).committed.trees)

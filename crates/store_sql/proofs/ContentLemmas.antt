@@ -1,5 +1,5 @@
 -- The step from a change of one table's tree to the contents of all tables.
-use Rattle.std.proofs.Common.{◌≡◌, ◌≢◌, ℕ, zero, suc, ◌==◌, not, List, [], ◌∷◌, map, slice_get, true, Some, sym, subst, subst₂, ◌∙◌}
+use Rattle.std.proofs.Common.{◌≡◌, ◌≢◌, ℕ, zero, suc, ◌==◌, not, List, [], ◌∷◌, ◌++◌, map, slice_get, true, Some, sym, subst, subst₂, ◌∙◌}
 use Rattle.std.specs.List.{AllByRecursion}
 use Rattle.std.specs.List.Sorted.{IsPermutation}
 use Rattle.std.proofs.lemmas.Bool.{eq-eqb, and_parts}
@@ -10,20 +10,21 @@ use Rattle.sqlite.specs.State as states
 use Rattle.sqlite.specs.State.{State, KeepsCommit}
 use Rattle.sqlite.specs.Table.{Table}
 use Rattle.sqlite.specs.Tree.{Trees}
-use Rattle.sqlite_catalog.specs.Listing.{AreListed, IsSound}
+use Rattle.sqlite_catalog.specs.Listing.{AreListed}
 use Rattle.sqlite_trees.specs.Objects.{catalog_tree}
-use Rattle.store_sql.specs.Contents.{Contents, HoldRows, IsDatabaseOf, IsIn, IsKeyed, seen, change_at, are_other, is_apart}
+use Rattle.store_sql.specs.Contents.{Contents, HoldRows, IsDatabaseIn, IsIn, IsKeyed, seen, change_at}
+use Rattle.store_sql.specs.Layouts.{Fits, Layout, are_other, is_apart}
 use Rattle.store_sql.specs.Meanings.{StandsAt}
 use Rattle.store_sql.specs.States.{Moves}
 
 -- a database is one of its own schema
-pub database_of : (schema : Schema) (db : Database) → db.schema ≡ schema → IsDatabase db → IsDatabaseOf schema db.trees
-unfolding IsDatabaseOf
-database_of schema db is sound = subst (λ (s : Schema). IsSound s db.trees) is sound
+pub database_of : (db : Database) → IsDatabase db → IsDatabaseIn db.schema db.trees
+unfolding IsDatabaseIn
+database_of db sound = sound
 
 -- its catalog lists that schema
-pub catalog_of : (schema : Schema) (db : Trees) → IsDatabaseOf schema db → AreListed (db catalog_tree) schema
-unfolding IsDatabaseOf
+pub catalog_of : (schema : Schema) (db : Trees) → IsDatabaseIn schema db → AreListed (db catalog_tree) schema
+unfolding IsDatabaseIn
 catalog_of schema db sound = sound.lists.listed
 
 differs : (a b : ℕ) → not (a == b) ≡ true → a ≢ b
@@ -76,26 +77,33 @@ rows_at (t ∷ ts) (r ∷ c) zero table rows db is has h =
 rows_at (t ∷ ts) (r ∷ c) (suc at) table rows db is has h = rows_at ts c at table rows db is has h.1
 
 -- a statement's step: this table's rows change, and no other table's
-pub record Steps (schema : Schema) (table : Table) (change : List Row → List Row) (old new : Database) : Type 0 where
-  pub listed : new.schema ≡ schema
-  pub sound : IsDatabaseOf schema new.trees
-  pub tables : AllByRecursion (λ (t : Table). t.tree ≢ table.tree → new.trees t.tree ≡ old.trees t.tree) schema.tables
+pub record Steps (table : Table) (change : List Row → List Row) (old new : Database) : Type 0 where
+  pub listed : new.schema ≡ old.schema
+  pub sound : IsDatabaseIn new.schema new.trees
+  pub tables : AllByRecursion (λ (t : Table). t.tree ≢ table.tree → new.trees t.tree ≡ old.trees t.tree) old.schema.tables
   pub rows : (rows : List Row) → IsIn old.trees table rows → IsIn new.trees table (change rows)
 
-pub moves : (schema : Schema) (at : ℕ) (table : Table) → StandsAt schema at table → (change : List Row → List Row) (old new : State) → states.Shows old new new.now old.committed true
-    → (old.now.schema ≡ schema → Steps schema table change old.now new.now) → Moves schema (change_at at change) old new
-moves schema at table stands change old new shown steps = record {
+front : {X : Type 0} (P : X → Type 0) (xs ys : List X) → AllByRecursion P (xs ++ ys) → AllByRecursion P xs
+front P [] ys all = tt
+front P (x ∷ xs) ys all = (all.0, front P xs ys all.1)
+
+pub moves : (layout : Layout) (at : ℕ) (table : Table) → StandsAt layout.schema at table → (change : List Row → List Row) (old new : State) → states.Shows old new new.now old.committed true
+    → (Fits layout old.now.schema → Steps table change old.now new.now) → Moves layout (change_at at change) old new
+moves layout at table stands change old new shown steps = record {
   is_open = λ _. shown.is_open;
   inside = shown.mode;
   kept = record { was_open = λ _. shown.was_open; committed = λ _. shown.committed_is };
   value = λ c sees.
-      let it = steps sees.holds.listed in
+      let fits = sees.holds.fits in
+      let it = steps fits in
+      let same = λ (t : Table). t.tree ≢ table.tree → new.now.trees t.tree ≡ old.now.trees t.tree in
+      let first : AllByRecursion same layout.schema.tables = front same layout.schema.tables fits.others.tables (subst (λ (s : Schema). AllByRecursion same s.tables) fits.is it.tables) in
       record {
         inside = shown.mode;
         holds = record {
-          listed = it.listed;
+          fits = subst (Fits layout) (sym it.listed) fits;
           sound = it.sound;
-          rows = one_changes schema.tables c at table change old.now.trees new.now.trees stands.place stands.apart it.tables it.rows sees.holds.rows;
+          rows = one_changes layout.schema.tables c at table change old.now.trees new.now.trees stands.place stands.apart first it.rows sees.holds.rows;
         };
       };
 }

@@ -9,7 +9,6 @@ use Rattle.sqlite.specs.declared.types.Value.{Value}
 use Rattle.sqlite.specs.declared.types.Value.TheVariants.{Null, Int}
 use Rattle.sqlite.specs.Order.{Row, column}
 use Rattle.sqlite.specs.Query.{IsAnswer, output, Output}
-use Rattle.sqlite.specs.Schema.{Schema}
 use Rattle.sqlite.specs.State.{State, Shown}
 use Rattle.sqlite.specs.Table.{Table}
 use Rattle.sqlite.specs.Term.{Term, Env, holds}
@@ -18,9 +17,11 @@ use Rattle.sqlite_sql.specs.Group.{Aggregate, Grouping, IsSummary}
 use Rattle.sqlite_trees.proofs.ListLemmas.{IsPermutation-filter}
 use Rattle.store_sql.specs.Contents.{Contents, Holds, seen}
 use Rattle.store_sql.specs.Effects.{Counts, counted, passes}
+use Rattle.store_sql.specs.Layouts.{Layout}
 use Rattle.store_sql.specs.Meanings.{CountsRows, OverlooksRowid}
 use Rattle.store_sql.specs.Queries.{count_query, one_group, row_count, number_row, meets}
 use Rattle.store_sql.proofs.ContentLemmas.{rows_at}
+use Rattle.store_sql.proofs.LayoutLemmas.{fits_itself}
 use Rattle.store_sql.proofs.QueryLemmas.{kept_as_filter, no_overlay}
 use Rattle.store_sql.proofs.ReadLemmas.{stays}
 use Rattle.store_sql.proofs.RowLemmas.{picked}
@@ -59,24 +60,25 @@ always (Some _) = tt
 always None = λ id row. refl
 
 -- the answer, by the contents of the database, inside a transaction and outside
-pub tallies : (text : List ℕ) (params : Row) (old new : State) (answer : List Row) (schema : Schema) (at : ℕ) (table : Table) (terms : List Term) (names : List (List ℕ))
-    → CountsRows schema at table text terms names → Shown text params old new answer
-    → (c : Contents) (rows : List Row) → Holds schema old.now c → slice_get c at ≡ Some rows → answer ≡ number_row (counted (length (filter (passes table terms params) rows)))
-tallies text params old new answer schema at table terms names means h c rows held has =
-    let read = reads_as text params old new schema held.listed _ means.means means.plain means.unlisted answer h in
-    let all = old.now.trees table.tree in
-    let tree = rows_at schema.tables c at table rows old.now.trees means.place has held.rows in
+pub tallies : (text : List ℕ) (params : Row) (old new : State) (answer : List Row) (layout : Layout) (at : ℕ) (table : Table) (terms : List Term) (names : List (List ℕ))
+    → CountsRows layout at table text terms names → Shown text params old new answer
+    → (c : Contents) (rows : List Row) → Holds layout old.now c → slice_get c at ≡ Some rows → answer ≡ number_row (counted (length (filter (passes table terms params) rows)))
+tallies text params old new answer layout at table terms names all h c rows held has =
+    let means = all old.now.schema held.fits in
+    let read = reads_as text params old new old.now.schema refl _ means.means means.plain means.unlisted answer h in
+    let stored = old.now.trees table.tree in
+    let tree = rows_at layout.schema.tables c at table rows old.now.trees (all layout.schema (fits_itself layout)).place has held.rows in
     let p = meets terms params in
-    let alike = picked table.key p (means.overlooks params) (λ _. 0) (always table.key) all tree.keyed.1 in
-    let many : length (filter p all) ≡ length (filter (passes table terms params) rows) =
-    sym (length-map (filter p all) (λ _. 0)) ∙ ap length alike ∙ length-map (filter (passes table terms params) (map (seen table) all)) (λ _. 0)
+    let alike = picked table.key p (means.overlooks params) (λ _. 0) (always table.key) stored tree.keyed.1 in
+    let many : length (filter p stored) ≡ length (filter (passes table terms params) rows) =
+    sym (length-map (filter p stored) (λ _. 0)) ∙ ap length alike ∙ length-map (filter (passes table terms params) (map (seen table) stored)) (λ _. 0)
     ∙ length_permutation _ _ (IsPermutation-filter (passes table terms params) _ _ tree.same) in
     answers_count table.tree terms _ params answer (read.answer Null) ∙ ap (λ l. number_row (counted (length (filter p l)))) (no_overlay old.now.trees table.tree) ∙ ap (λ n. number_row (counted n)) many
 
 -- the number that the answer holds
 pub counts : (text : List ℕ) (params : Row) (old new : State) (answer : List Row) (n : ℕ) → IsTrue old.in_transaction → Shown text params old new answer
     → ((m : ℕ) → answer ≡ number_row m → n ≡ m) → Counts text params old new n
-counts text params old new answer n inside h only schema at table terms names means = (
-  stays schema text params old new answer means.plain inside h,
-  λ c rows sees has. only _ (tallies text params old new answer schema at table terms names means h c rows sees.holds has),
+counts text params old new answer n inside h only layout at table terms names means = (
+  stays layout text params old new answer (λ schema fits. (means schema fits).plain) inside h,
+  λ c rows sees has. only _ (tallies text params old new answer layout at table terms names means h c rows sees.holds has),
 )

@@ -4,7 +4,6 @@ use Rattle.std.specs.List.Sorted.{IsPermutation, IsSorted}
 use Rattle.std.proofs.lemmas.Bool.{cases_Bool}
 use Rattle.std.proofs.lemmas.List.{length-map}
 use Rattle.sqlite.specs.Order.{Row}
-use Rattle.sqlite.specs.Schema.{Schema}
 use Rattle.sqlite.specs.State.{State}
 use Rattle.sqlite.specs.Table.{Table}
 use Rattle.sqlite.specs.Term.{Term}
@@ -13,6 +12,7 @@ use Rattle.sqlite_trees.proofs.ListLemmas.{filter-map, map-map, pull_back}
 use Rattle.sqlite_value.specs.declared.keys.Key.{Key}
 use Rattle.store_sql.specs.Contents.{Contents, seen, whole, change_at}
 use Rattle.store_sql.specs.Effects.{IsSelected, passes, shown_of, updated}
+use Rattle.store_sql.specs.Layouts.{Layout}
 use Rattle.store_sql.specs.Queries.{keys_of, by_keys, rewritten}
 use Rattle.store_sql.specs.States.{Moves, Sees, Turns}
 
@@ -25,12 +25,12 @@ filter_same p q h [] = refl
 filter_same p q h (x ∷ xs) = rw (h x, filter_same p q h xs) refl
 
 -- the rows before and after may be those of different things
-pub turns : {T : Type 0} (schema : Schema) (before after : T → Contents) (change : Contents → Contents) (old new : State) → Moves schema change old new → ((t : T) → after t ≡ change (before t)) → Turns schema before after old new
-turns schema before after change old new m same = record {
+pub turns : {T : Type 0} (layout : Layout) (before after : T → Contents) (change : Contents → Contents) (old new : State) → Moves layout change old new → ((t : T) → after t ≡ change (before t)) → Turns layout before after old new
+turns layout before after change old new m same = record {
   is_open = m.is_open;
   inside = m.inside;
   kept = m.kept;
-  value = λ t sees. subst (Sees schema new) (sym (same t)) (m.value (before t) sees);
+  value = λ t sees. subst (Sees layout new) (sym (same t)) (m.value (before t) sees);
 }
 
 change_same : (at : ℕ) (f g : List Row → List Row) (c : Contents) (rows : List Row) → slice_get c at ≡ Some rows → f rows ≡ g rows → change_at at f c ≡ change_at at g c

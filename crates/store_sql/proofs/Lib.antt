@@ -6,6 +6,7 @@ pub mod RowLemmas
 pub mod InsertLemmas
 pub mod RowidLemmas
 pub mod EditLemmas
+pub mod LayoutLemmas
 pub mod ContentLemmas
 pub mod WriteLemmas
 pub mod TableLemmas

@@ -9,7 +9,6 @@ use Rattle.sqlite.specs.declared.types.Value.TheVariants.{Null}
 use Rattle.sqlite.specs.Effect.{Database}
 use Rattle.sqlite.specs.Listing.{understood, reads_listing, IsSourceOf}
 use Rattle.sqlite.specs.Order.{Row}
-use Rattle.sqlite.specs.Schema.{Schema}
 use Rattle.sqlite.specs.State as states
 use Rattle.sqlite.specs.State.{State, IsUnchanged, IsRolledBack, Shown, ShowsRows, FailsToQuery, FailsToShow, IsNotRun, KeepsCommit, IsTooLate}
 use Rattle.sqlite.specs.Table.{Table}
@@ -20,10 +19,12 @@ use Rattle.sqlite_trees.proofs.ListLemmas.{IsPermutation-filter}
 use Rattle.sqlite_value.specs.declared.keys.Key.{Key}
 use Rattle.store_sql.specs.Contents.{Contents, Holds}
 use Rattle.store_sql.specs.Effects.{Selects, Streams, TakesAll, IsSelected, passes, shown_of}
-use Rattle.store_sql.specs.Meanings.{SelectsRows}
+use Rattle.store_sql.specs.Layouts.{Layout}
+use Rattle.store_sql.specs.Meanings.{IsPlainIn, SelectsRows}
 use Rattle.store_sql.specs.Queries.{meets, projected, keys_of}
 use Rattle.store_sql.specs.States.{Moves}
 use Rattle.store_sql.proofs.ContentLemmas.{rows_at}
+use Rattle.store_sql.proofs.LayoutLemmas.{fits_itself}
 use Rattle.store_sql.proofs.QueryLemmas.{selected}
 use Rattle.store_sql.proofs.RowLemmas.{picked}
 
@@ -67,39 +68,40 @@ pub shown_keeps : (sql : List ℕ) (params : Row) (old new : State) (rows : List
 shown_keeps sql params old new rows inside h = let s = shown_inside sql params old new rows inside h in record { was_open = λ _. s.was_open; committed = λ _. s.committed_is }
 
 -- and where it is plain, changes nothing
-pub stays : (schema : Schema) (text : List ℕ) (params : Row) (old new : State) (answer : List Row) → IsPlain (understood schema text) → IsTrue old.in_transaction → Shown text params old new answer
-    → Moves schema (λ c. c) old new
-stays schema text params old new answer plain inside h =
+pub stays : (layout : Layout) (text : List ℕ) (params : Row) (old new : State) (answer : List Row) → IsPlainIn layout text → IsTrue old.in_transaction → Shown text params old new answer
+    → Moves layout (λ c. c) old new
+stays layout text params old new answer plain inside h =
     let s = shown_inside text params old new answer inside h in
     record {
       is_open = λ _. s.is_open;
       inside = s.mode;
       kept = record { was_open = λ _. s.was_open; committed = λ _. s.committed_is };
       value = λ c sees.
-          let same = shown_same text params old new answer (subst (λ k. IsPlain (understood k text)) (sym sees.holds.listed) plain) h in
-          record { inside = s.mode; holds = subst (λ (b : Database). Holds schema b c) (sym same.0.now_is) sees.holds };
+          let same = shown_same text params old new answer (plain old.now.schema sees.holds.fits) h in
+          record { inside = s.mode; holds = subst (λ (b : Database). Holds layout b c) (sym same.0.now_is) sees.holds };
     }
 
 -- the answer, by the contents of the database, inside a transaction and outside
-pub finds_rows : (text : List ℕ) (params : Row) (old new : State) (answer : List Row) (schema : Schema) (at : ℕ) (table : Table) (terms : List Term) (order : List (Term × Key)) (rest : List Term) (names : List (List ℕ))
-    → SelectsRows schema at table text terms order rest names → Shown text params old new answer
-    → (c : Contents) (rows : List Row) → Holds schema old.now c → slice_get c at ≡ Some rows → IsSelected table terms order rest params rows answer
-finds_rows text params old new answer schema at table terms order rest names means h c rows held has =
-    let read = reads_as text params old new schema held.listed _ means.means means.plain means.unlisted answer h in
-    let all = old.now.trees table.tree in
+pub finds_rows : (text : List ℕ) (params : Row) (old new : State) (answer : List Row) (layout : Layout) (at : ℕ) (table : Table) (terms : List Term) (order : List (Term × Key)) (rest : List Term) (names : List (List ℕ))
+    → SelectsRows layout at table text terms order rest names → Shown text params old new answer
+    → (c : Contents) (rows : List Row) → Holds layout old.now c → slice_get c at ≡ Some rows → IsSelected table terms order rest params rows answer
+finds_rows text params old new answer layout at table terms order rest names all h c rows held has =
+    let means = all old.now.schema held.fits in
+    let read = reads_as text params old new old.now.schema refl _ means.means means.plain means.unlisted answer h in
+    let stored = old.now.trees table.tree in
     let it = selected table.tree terms order rest old.now.trees params answer (read.answer Null) in
-    let tree = rows_at schema.tables c at table rows old.now.trees means.place has held.rows in
+    let tree = rows_at layout.schema.tables c at table rows old.now.trees (all layout.schema (fits_itself layout)).place has held.rows in
     let project = keys_of order ++ rest in
-    let alike = picked table.key (meets terms params) (means.overlooks params) (projected project params) (means.passes_over params) all tree.keyed.1 in
+    let alike = picked table.key (meets terms params) (means.overlooks params) (projected project params) (means.passes_over params) stored tree.keyed.1 in
     record {
       same = IsPermutation-trans _ _ _ (IsPermutation-map (shown_of table project params) _ _ (IsPermutation-filter (passes table terms params) _ _ tree.same)) (subst (λ l. IsPermutation l answer) alike it.0);
       sorted = it.1;
     }
 
 pub selects : (text : List ℕ) (params : Row) (old new : State) (answer : List Row) → IsTrue old.in_transaction → Shown text params old new answer → Selects text params old new answer
-selects text params old new answer inside h schema at table terms order rest names means = (
-  stays schema text params old new answer means.plain inside h,
-  λ c rows sees has. finds_rows text params old new answer schema at table terms order rest names means h c rows sees.holds has,
+selects text params old new answer inside h layout at table terms order rest names means = (
+  stays layout text params old new answer (λ schema fits. (means schema fits).plain) inside h,
+  λ c rows sees has. finds_rows text params old new answer layout at table terms order rest names means h c rows sees.holds has,
 )
 
 -- ---- outside a transaction
@@ -118,9 +120,9 @@ shown_after sql params old mid new rows plain same h =
     )
 
 pub streams : (text : List ℕ) (params : Row) (old new : State) (answer : List Row) → Shown text params old new answer → Streams text params old new answer
-streams text params old new answer h schema at table terms order rest names means has = (
-  shown_same text params old new answer (subst (λ (k : Schema). IsPlain (understood k text)) (sym has) means.plain) h,
-  λ c rows held found. finds_rows text params old new answer schema at table terms order rest names means h c rows held found,
+streams text params old new answer h layout at table terms order rest names means fits = (
+  shown_same text params old new answer (means old.now.schema fits).plain h,
+  λ c rows held found. finds_rows text params old new answer layout at table terms order rest names means h c rows held found,
 )
 
 -- ---- handing over

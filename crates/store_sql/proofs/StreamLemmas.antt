@@ -10,7 +10,6 @@ use Rattle.sqlite.specs.Given.{HasGiven, IsPlain}
 use Rattle.sqlite.specs.Held.{Held, state}
 use Rattle.sqlite.specs.Listing.{understood}
 use Rattle.sqlite.specs.Order.{Row}
-use Rattle.sqlite.specs.Schema.{Schema}
 use Rattle.sqlite.specs.State.{State, CommitsShowing, Fails, HasCleanDisk, IsNotRun, IsStatement, IsUnchanged, Shown, Survives, mode_of, text_of}
 use Rattle.sqlite.specs.Store as store
 use Rattle.sqlite.specs.Table.{Table}
@@ -20,7 +19,8 @@ use Rattle.sqlite_resolve.specs.declared.compiled.Compiled.{Compiled}
 use Rattle.sqlite_value.specs.declared.keys.Key.{Key}
 use Rattle.store_sql.specs.Contents.{Contents, Holds}
 use Rattle.store_sql.specs.Effects.{HandsOver, Streams}
-use Rattle.store_sql.specs.Meanings.{SelectsRows}
+use Rattle.store_sql.specs.Layouts.{Fits, Layout}
+use Rattle.store_sql.specs.Meanings.{IsPlainIn, SelectsRows}
 use Rattle.store_sql.specs.States.{Shows}
 use Rattle.store_sql.specs.Streaming.{BeginsAnswer, HandsFirst, StaysOrUndoes}
 use Rattle.store_sql.proofs.ReadLemmas.{finds_rows, shown_after}
@@ -65,25 +65,25 @@ undone_then a b c same (inr h) = inr (record {
 })
 
 -- outside a transaction nothing is lost by either
-pub still_shows : (schema : Schema) (c : Contents) (old new : State) → (HasCleanDisk new → HasCleanDisk old) → (HasCleanDisk new → StaysOrUndoes old new) → new.in_transaction ≡ false
-    → Shows schema old c → Shows schema new c
-still_shows schema c old new clean step outside shows = record { outside = outside; holds = λ late live. holds late live (step late) }
+pub still_shows : (layout : Layout) (c : Contents) (old new : State) → (HasCleanDisk new → HasCleanDisk old) → (HasCleanDisk new → StaysOrUndoes old new) → new.in_transaction ≡ false
+    → Shows layout old c → Shows layout new c
+still_shows layout c old new clean step outside shows = record { outside = outside; holds = λ late live. holds late live (step late) }
   where
-    holds : HasCleanDisk new → IsTrue new.is_open → StaysOrUndoes old new → Holds schema new.now c × (new.now ≡ new.committed)
+    holds : HasCleanDisk new → IsTrue new.is_open → StaysOrUndoes old new → Holds layout new.now c × (new.now ≡ new.committed)
     holds late live (inl same) =
         let was = shows.holds (clean late) same.0.was_open in
-        (subst (λ (d : Database). Holds schema d c) (sym same.0.now_is) was.0, same.0.now_is ∙ was.1 ∙ sym same.0.committed_is)
+        (subst (λ (d : Database). Holds layout d c) (sym same.0.now_is) was.0, same.0.now_is ∙ was.1 ∙ sym same.0.committed_is)
     holds late live (inr back) =
         let was = shows.holds (clean late) (back.was_open live) in
         let gone = back.undone live in
-        (subst (λ (d : Database). Holds schema d c) (sym (gone.0 ∙ sym was.1)) was.0, gone.0 ∙ sym gone.1)
+        (subst (λ (d : Database). Holds layout d c) (sym (gone.0 ∙ sym was.1)) was.0, gone.0 ∙ sym gone.1)
 
--- a text that is plain over the schema is so for the connection, once that was seen to be open
-pub plain_after : (schema : Schema) (text : List ℕ) (c : Contents) (old mid : State) → HasCleanDisk old → IsUnchanged old mid → Shows schema old c → IsPlain (understood schema text)
+-- a text that is plain in the layout is so for the connection, once that was seen to be open
+pub plain_after : (layout : Layout) (text : List ℕ) (c : Contents) (old mid : State) → HasCleanDisk old → IsUnchanged old mid → Shows layout old c → IsPlainIn layout text
     → IsPlain (understood mid.now.schema text)
-plain_after schema text c old mid clean same shows plain =
+plain_after layout text c old mid clean same shows plain =
     let was = shows.holds clean same.0.was_open in
-    subst (λ (d : Database). IsPlain (understood d.schema text)) (sym same.0.now_is) (subst (λ (k : Schema). IsPlain (understood k text)) (sym was.0.listed) plain)
+    subst (λ (d : Database). IsPlain (understood d.schema text)) (sym same.0.now_is) (plain old.now.schema was.0.fits)
 
 pub spares_any : (old new : State) (P : Trees → Type 0) → Survives old new (λ _. ⊥) → Survives old new P
 spares_any old new P s = record {
@@ -122,49 +122,49 @@ showing_before text params old mid same limit db h =
 -- ---- answers that rows begin
 
 -- a query without WITH ends
-ends_at_once : (text : List ℕ) (params : Row) (s : State) (schema : Schema) (at : ℕ) (table : Table) (terms : List Term) (order : List (Term × Key)) (rest : List Term) (names : List (List ℕ))
-    → SelectsRows schema at table text terms order rest names → s.now.schema ≡ schema → (c : Compiled) (db : Database) (it : IsStatement s text params c) → EndsIn c.command db (timed params c.formats it.now)
-ends_at_once text params s schema at table terms order rest names means has c db it =
-    let known : Ok c ≡ understood schema text = sym it.is ∙ ap (λ (k : Schema). understood k text) has in
-    subst (λ (k : Command). EndsIn k db (timed params c.formats it.now)) (sym (ap command_of known ∙ means.means)) tt
+ends_at_once : (text : List ℕ) (params : Row) (s : State) (layout : Layout) (at : ℕ) (table : Table) (terms : List Term) (order : List (Term × Key)) (rest : List Term) (names : List (List ℕ))
+    → SelectsRows layout at table text terms order rest names → Fits layout s.now.schema → (c : Compiled) (db : Database) (it : IsStatement s text params c) → EndsIn c.command db (timed params c.formats it.now)
+ends_at_once text params s layout at table terms order rest names means fits c db it =
+    let known : Ok c ≡ understood s.now.schema text = sym it.is in
+    subst (λ (k : Command). EndsIn k db (timed params c.formats it.now)) (sym (ap command_of known ∙ (means s.now.schema fits).means)) tt
 
 -- the rows that were given up to now begin the answer in the old state
 pub given_begins : {S : Type 0} (g : store.Ghosts S) (text : List ℕ) (params : Row) (old : State) (h : Held S) (given : List Row) → IsTrue old.is_open
     → (IsPlain (understood old.now.schema text) → HasGiven g text params h given × IsUnchanged old (state g h)) → BeginsAnswer text params old given
 given_begins g text params old h given live was = (
   live,
-  λ schema at table terms order rest names means has.
+  λ layout at table terms order rest names means fits.
       let now = state g h in
-      let it = was (subst (λ (k : Schema). IsPlain (understood k text)) (sym has) means.plain) in
+      let it = was (means old.now.schema fits).plain in
       let same : now.now ≡ old.now = it.1.0.now_is in
-      let here : now.now.schema ≡ schema = ap (λ (d : Database). d.schema) same ∙ has in
-      let plain : IsPlain (understood now.now.schema text) = subst (λ (k : Schema). IsPlain (understood k text)) (sym here) means.plain in
+      let here : Fits layout now.now.schema = subst (λ (d : Database). Fits layout d.schema) (sym same) fits in
+      let plain : IsPlain (understood now.now.schema text) = (means now.now.schema here).plain in
       let all = begins_shown text params now now given (given_begin g text params h given it.0) (unchanged_self now it.1.0.is_open)
-      (λ c db stated source. ends_at_once text params now schema at table terms order rest names means here c db stated) in
+      (λ c db stated source. ends_at_once text params now layout at table terms order rest names means here c db stated) in
       let shown : Shown text params old now (given ++ all.0) = shown_after text params old now now (given ++ all.0) plain it.1 all.1 in
-      (all.0, λ c rows held found. finds_rows text params old now (given ++ all.0) schema at table terms order rest names means shown c rows held found),
+      (all.0, λ c rows held found. finds_rows text params old now (given ++ all.0) layout at table terms order rest names means shown c rows held found),
 )
 
 -- ---- the same after a step that changed nothing
 
 module _ (text : List ℕ) (params : Row) (old mid : State) (same : IsUnchanged old mid) where
-  here_too : (schema : Schema) → old.now.schema ≡ schema → mid.now.schema ≡ schema
-  here_too schema has = ap (λ (d : Database). d.schema) same.0.now_is ∙ has
+  here_too : (layout : Layout) → Fits layout old.now.schema → Fits layout mid.now.schema
+  here_too layout fits = subst (λ (d : Database). Fits layout d.schema) (sym same.0.now_is) fits
 
-  held_too : (schema : Schema) (c : Contents) → Holds schema old.now c → Holds schema mid.now c
-  held_too schema c held = subst (λ (d : Database). Holds schema d c) (sym same.0.now_is) held
+  held_too : (layout : Layout) (c : Contents) → Holds layout old.now c → Holds layout mid.now c
+  held_too layout c held = subst (λ (d : Database). Holds layout d c) (sym same.0.now_is) held
 
   streams_after : (new : State) (answer : List Row) → Streams text params mid new answer → Streams text params old new answer
-  streams_after new answer h schema at table terms order rest names means has =
-      let it = h schema at table terms order rest names means (here_too schema has) in
-      (unchanged_then old mid new same it.0, λ c rows held found. it.1 c rows (held_too schema c held) found)
+  streams_after new answer h layout at table terms order rest names means fits =
+      let it = h layout at table terms order rest names means (here_too layout fits) in
+      (unchanged_then old mid new same it.0, λ c rows held found. it.1 c rows (held_too layout c held) found)
 
   begins_after : (given : List Row) → BeginsAnswer text params mid given → BeginsAnswer text params old given
   begins_after given h = (
     same.0.was_open,
-    λ schema at table terms order rest names means has.
-        let it = h.1 schema at table terms order rest names means (here_too schema has) in
-        (it.0, λ c rows held found. it.1 c rows (held_too schema c held) found),
+    λ layout at table terms order rest names means fits.
+        let it = h.1 layout at table terms order rest names means (here_too layout fits) in
+        (it.0, λ c rows held found. it.1 c rows (held_too layout c held) found),
   )
 
   pub hands_over_after : {T : Type 0} (takes : T → Row → T → Type 0) (new : State) (before after : T) → HandsOver takes text params mid new before after → HandsOver takes text params old new before after

@@ -14,9 +14,11 @@ use Rattle.sqlite.specs.State.{State, Writes, ExecutesInside}
 use Rattle.sqlite.proofs.Callers.{runs_as}
 use Rattle.store_sql.specs.Contents.{Contents, Holds, HoldRows, IsKeyed, seen, no_rows}
 use Rattle.store_sql.specs.Effects.{Creates, CreatesAll}
+use Rattle.store_sql.specs.Layouts.{Fits, alone}
 use Rattle.store_sql.specs.Meanings.{MakesTable, MakeTables, schema_after}
 use Rattle.store_sql.specs.States.{Makes}
 use Rattle.store_sql.proofs.ContentLemmas.{database_of}
+use Rattle.store_sql.proofs.LayoutLemmas.{fits_alone, is_alone}
 use Rattle.store_sql.proofs.PartLemmas.{went, same_value}
 use Rattle.std.specs.List.Sorted.{IsPermutation}
 
@@ -52,20 +54,21 @@ creates text old new count h schema table means = record {
   inside = h.1.mode;
   kept = record { was_open = λ _. h.1.was_open; committed = λ _. h.1.committed_is };
   value = λ c holds.
-      let w = subst (λ t. Writes old new None CreateTable t [] count) means.whole (runs_as text [] old new schema holds.listed CreateTable means.means means.plain count h.0) in
+      let has : old.now.schema ≡ schema = is_alone schema old.now.schema holds.fits in
+      let w = subst (λ t. Writes old new None CreateTable t [] count) means.whole (runs_as text [] old new schema has CreateTable means.means means.plain count h.0) in
       let each = went w.changed in
       let first = went each.1 in
       let it = first.1 in
       let both : Ok it.table ≡ Ok table = sym it.defined ∙ means.defined in
       let same : it.table ≡ table = cc in
-      let listed : first.0.schema ≡ created schema table = it.is ∙ ap (λ s. created s it.table) holds.listed ∙ ap (created schema) same in
+      let listed : first.0.schema ≡ created schema table = it.is ∙ ap (λ s. created s it.table) has ∙ ap (created schema) same in
       let lacks : lacks_sequence first.0.schema ≡ false = ap lacks_sequence listed ∙ means.complete in
       let now : new.now ≡ first.0 = ap (λ (p : Tally × Database). p.1) (same_value each.2) ∙ same_value (rw lacks at first.2) in
-      let kept = subst (λ (s : Schema). KeepsRows s.tables old.now.trees first.0.trees) holds.listed it.others in
-      let fresh : first.0.trees (next_tree schema) ≡ [] = subst (λ s. first.0.trees (next_tree s) ≡ []) holds.listed it.empty in
-      subst (λ (d : Database). Holds (created schema table) d (c ++ [] ∷ [])) (sym now) (record {
-        listed = listed;
-        sound = database_of (created schema table) first.0 listed (subst IsDatabase now w.sound);
+      let kept = subst (λ (s : Schema). KeepsRows s.tables old.now.trees first.0.trees) has it.others in
+      let fresh : first.0.trees (next_tree schema) ≡ [] = subst (λ s. first.0.trees (next_tree s) ≡ []) has it.empty in
+      subst (λ (d : Database). Holds (alone (created schema table)) d (c ++ [] ∷ [])) (sym now) (record {
+        fits = subst (Fits (alone (created schema table))) (sym listed) (fits_alone (created schema table));
+        sound = database_of first.0 (subst IsDatabase now w.sound);
         rows = with_empty schema.tables (record table { tree = next_tree schema }) first.0.trees c (kept_rows schema.tables old.now.trees first.0.trees c kept holds.rows) fresh;
       });
 }
@@ -73,7 +76,7 @@ creates text old new count h schema table means = record {
 -- ---- one table after another
 
 pub creates_none : (s : State) → IsTrue s.in_transaction → CreatesAll [] s s
-creates_none s inside schema [] make = record { is_open = λ o. o; inside = inside; kept = record { was_open = λ o. o; committed = λ _. refl }; value = λ c holds. subst (Holds schema s.now) (sym (append-nil c)) holds }
+creates_none s inside schema [] make = record { is_open = λ o. o; inside = inside; kept = record { was_open = λ o. o; committed = λ _. refl }; value = λ c holds. subst (Holds (alone schema) s.now) (sym (append-nil c)) holds }
 creates_none s inside schema (t ∷ ts) make = absurd make
 
 no_rows-append : (xs ys : List Table) → no_rows (xs ++ ys) ≡ no_rows xs ++ no_rows ys
@@ -86,7 +89,7 @@ makes_then first mid new before between after front back a b = record {
   is_open = λ o. b.is_open (a.is_open o);
   inside = b.inside;
   kept = record { was_open = λ o. a.kept.was_open (b.kept.was_open o); committed = λ o. b.kept.committed o ∙ a.kept.committed (b.kept.was_open o) };
-  value = λ c holds. subst (Holds after new.now) (append_assoc c (no_rows front) (no_rows back) ∙ ap (λ l. c ++ l) (sym (no_rows-append front back))) (b.value (c ++ no_rows front) (a.value c holds));
+  value = λ c holds. subst (Holds (alone after) new.now) (append_assoc c (no_rows front) (no_rows back) ∙ ap (λ l. c ++ l) (sym (no_rows-append front back))) (b.value (c ++ no_rows front) (a.value c holds));
 }
 
 record LastTable (schema : Schema) (tables : List Table) (texts : List (List ℕ)) (text : List ℕ) : Type 0 where

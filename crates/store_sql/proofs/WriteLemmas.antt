@@ -1,5 +1,5 @@
 -- The effect of INSERT, UPDATE and DELETE on the contents.
-use Rattle.std.proofs.Common.{◌≡◌, ℕ, List, [], ◌∷◌, ◌++◌, map, filter, drop, take, length, not, cond, Ok, sym, ap, subst, subst₂, ◌∙◌, arith}
+use Rattle.std.proofs.Common.{◌≡◌, ℕ, List, [], ◌∷◌, ◌++◌, map, filter, drop, take, length, not, cond, Ok, refl, sym, ap, subst, subst₂, ◌∙◌, arith}
 use Rattle.std.specs.List.Sorted.{IsPermutation}
 use Rattle.std.proofs.lemmas.List.{take_all}
 use Rattle.std.proofs.lemmas.List.Sorted.{IsPermutation-map, IsPermutation-trans, IsPermutation-cons, IsPermutation-append_left}
@@ -27,21 +27,24 @@ use Rattle.store_sql.specs.Queries.{finding, meets, projected, rewritten}
 use Rattle.store_sql.proofs.ContentLemmas.{database_of, moves}
 use Rattle.store_sql.proofs.EditLemmas.{Updated, updates as updates_tree, Deleted, deletes as deletes_tree}
 use Rattle.store_sql.proofs.InsertLemmas.{puts, put_permutes}
+use Rattle.store_sql.proofs.LayoutLemmas.{fits_itself}
 use Rattle.store_sql.proofs.QueryLemmas.{selected}
 use Rattle.store_sql.proofs.RowidLemmas.{ids, in_place, left_over, put_all_permutes, put_all_keyed, numbered_given}
 use Rattle.store_sql.proofs.RowLemmas.{left_alike, changed_alike}
 
 pub inserts : (text : List ℕ) (params : Row) (old new : State) (count : ℕ) → ExecutesInside 0 text params old new (Ok count) → Inserts text params old new
-inserts text params old new count h schema at table terms row means shape =
-    moves schema at table means.stands (λ rows. row ∷ rows) old new h.1 (λ has.
-    let w = runs_as text params old new schema has _ means.means means.plain count h.0 in
-    let p = puts schema at table means.stands.place means.uncounted means.unstamped means.stands.quiet terms (length terms) means.one old new params count (statement_of text (understood schema text)) has w in
+inserts text params old new count h layout at table terms row all shape =
+    moves layout at table (all layout.schema (fits_itself layout)).stands (λ rows. row ∷ rows) old new h.1 (λ fits.
+    let schema = old.now.schema in
+    let means = all schema fits in
+    let w = runs_as text params old new schema refl _ means.means means.plain count h.0 in
+    let p = puts schema at table means.stands.place means.uncounted means.unstamped means.stands.quiet terms (length terms) means.one old new params count (statement_of text (understood schema text)) refl w in
     let rows = old.now.trees table.tree in
     let put = with_rowid Chosen rows (cast_row table (eval_all (take (length terms) terms) (params ∷ []))) in
     let whole : seen table put ≡ row = ap (λ ts. seen table (with_rowid Chosen rows (cast_row table (eval_all ts (params ∷ []))))) (take_all (length terms) terms (omega arith)) ∙ shape rows in
     record {
       listed = p.listed;
-      sound = database_of schema new.now p.listed w.sound;
+      sound = database_of new.now w.sound;
       tables = p.tables;
       rows = λ l was. record {
         same = subst (λ k. IsPermutation (row ∷ l) (map (seen table) k)) (sym p.rows)
@@ -95,20 +98,22 @@ module _ (schema : Schema) (table : Table) (terms rest : List Term) (old new : T
       (rows, subst IsKeyed (sym rows) (IsShaped-filter shape.Table (λ r. not (p r)) all keyed))
 
 pub updates : (text : List ℕ) (params : Row) (old new : State) (count : ℕ) → ExecutesInside 0 text params old new (Ok count) → Updates text params old new
-updates text params old new count h schema at table terms rest means =
-    moves schema at table means.stands (map (updated table terms rest params)) old new h.1 (λ has.
-    let w = runs_as text params old new schema has _ means.means means.plain count h.0 in
-    let u = updates_tree schema at table means.stands.place means.stands.quiet _ old new params count (statement_of text (understood schema text)) has w in
+updates text params old new count h layout at table terms rest all =
+    moves layout at table (all layout.schema (fits_itself layout)).stands (map (updated table terms rest params)) old new h.1 (λ fits.
+    let schema = old.now.schema in
+    let means = all schema fits in
+    let w = runs_as text params old new schema refl _ means.means means.plain count h.0 in
+    let u = updates_tree schema at table means.stands.place means.stands.quiet _ old new params count (statement_of text (understood schema text)) refl w in
     let again : Updated schema (record { schema = new.now.schema; trees = old.now.trees }) (record { schema = new.now.schema; trees = new.now.trees }) table (finding table.tree terms (col 1 0 ∷ rest)) params =
     record { listed = u.listed; found = u.found; answer = u.answer; fresh = u.fresh; keyed = u.keyed; rows = u.rows; tables = u.tables } in
-    let all = old.now.trees table.tree in
+    let stored = old.now.trees table.tree in
     record {
       listed = u.listed;
-      sound = database_of schema new.now u.listed w.sound;
+      sound = database_of new.now w.sound;
       tables = u.tables;
       rows = λ l was.
           let tree = updated_tree schema table terms rest old.now.trees new.now.trees params was.keyed new.now.schema again in
-          let alike = changed_alike table.key (meets terms params) (means.overlooks params) (rewritten table rest params) (means.passes_over params) all was.keyed.1 in
+          let alike = changed_alike table.key (meets terms params) (means.overlooks params) (rewritten table rest params) (means.passes_over params) stored was.keyed.1 in
           record {
             same = IsPermutation-trans _ _ _ (IsPermutation-map (updated table terms rest params) _ _ was.same)
                 (subst (λ k. IsPermutation k (map (seen table) (new.now.trees table.tree))) alike (IsPermutation-map (seen table) _ _ tree.0));
@@ -117,21 +122,23 @@ updates text params old new count h schema at table terms rest means =
     })
 
 pub deletes : (text : List ℕ) (params : Row) (old new : State) (count : ℕ) → ExecutesInside 0 text params old new (Ok count) → Deletes text params old new
-deletes text params old new count h schema at table terms means =
+deletes text params old new count h layout at table terms all =
     let q = λ (r : Row). not (passes table terms params r) in
-    moves schema at table means.stands (filter q) old new h.1 (λ has.
-    let w = runs_as text params old new schema has _ means.means means.plain count h.0 in
-    let u = deletes_tree schema at table means.stands.place means.stands.quiet _ old new params count (statement_of text (understood schema text)) has w in
+    moves layout at table (all layout.schema (fits_itself layout)).stands (filter q) old new h.1 (λ fits.
+    let schema = old.now.schema in
+    let means = all schema fits in
+    let w = runs_as text params old new schema refl _ means.means means.plain count h.0 in
+    let u = deletes_tree schema at table means.stands.place means.stands.quiet _ old new params count (statement_of text (understood schema text)) refl w in
     let again : Deleted schema (record { schema = new.now.schema; trees = old.now.trees }) (record { schema = new.now.schema; trees = new.now.trees }) table (finding table.tree terms (col 1 0 ∷ [])) params =
     record { listed = u.listed; found = u.found; answer = u.answer; rows = u.rows; tables = u.tables } in
-    let all = old.now.trees table.tree in
+    let stored = old.now.trees table.tree in
     record {
       listed = u.listed;
-      sound = database_of schema new.now u.listed w.sound;
+      sound = database_of new.now w.sound;
       tables = u.tables;
       rows = λ l was.
           let tree = deleted_tree schema table terms [] old.now.trees new.now.trees params was.keyed new.now.schema again in
-          let alike = left_alike table.key (meets terms params) (means.overlooks params) all was.keyed.1 in
+          let alike = left_alike table.key (meets terms params) (means.overlooks params) stored was.keyed.1 in
           record {
             same = subst (IsPermutation _) (sym alike ∙ sym (ap (map (seen table)) tree.0)) (IsPermutation-filter q _ _ was.same);
             keyed = tree.1;

@@ -1,5 +1,5 @@
 -- The contents of a store's tables: the rows of each, in any order.
-use Rattle.std.specs.Prelude.{◌≡◌, ℕ, zero, suc, ◌==◌, Bool, true, not, ◌&&◌, IsTrue, List, [], ◌∷◌, map, drop, Option, Some, None}
+use Rattle.std.specs.Prelude.{ℕ, zero, suc, IsTrue, List, [], ◌∷◌, map, drop, Option, Some, None}
 use Rattle.std.specs.List.{AllByRecursion, AllZip}
 use Rattle.std.specs.List.Sorted.{IsPermutation}
 use Rattle.sqlite.specs.declared.types.Value.TheVariants.{Null}
@@ -10,6 +10,7 @@ use Rattle.sqlite.specs.Table.{Table}
 use Rattle.sqlite.specs.Tree.{Trees, IsTable, rowid}
 use Rattle.sqlite_catalog.specs.Listing.{IsSound}
 use Rattle.sqlite_trees.specs.View.{is_int}
+use Rattle.store_sql.specs.Layouts.{Fits, Layout}
 
 -- A stored row begins with its row id. If the table has an INTEGER PRIMARY KEY, which is that
 -- number, the whole row counts; in other tables, only the columns after the row id (SQLite, "Rowid
@@ -31,7 +32,7 @@ with_rowid_by_key None row = Null ∷ row
 abbrev pub whole : Table → Row → Row
 whole table row = with_rowid_by_key table.key row
 
--- the rows of each table of the schema, by the columns that count
+-- the rows of each table of a schema, by the columns that count
 abbrev pub Contents : Type 0
 Contents = List (List Row)
 
@@ -50,19 +51,25 @@ HoldRows db tables contents = AllZip (IsIn db) tables contents
 
 -- The trees are a database of this schema: their catalog lists its tables and no others, and the
 -- rows obey it. Opening them finds the schema in the catalog.
-unfoldable pub IsDatabaseOf : Schema → Trees → Type 0
-IsDatabaseOf schema db = IsSound schema db
+unfoldable pub IsDatabaseIn : Schema → Trees → Type 0
+IsDatabaseIn schema db = IsSound schema db
 
--- the trees also hold these rows
-pub record AreTablesOf (schema : Schema) (db : Trees) (contents : Contents) : Type 0 where
-  pub sound : IsDatabaseOf schema db
-  pub rows : HoldRows db schema.tables contents
+-- the trees are a database of a schema that fits the layout
+pub record IsDatabaseOf (layout : Layout) (db : Trees) : Type 0 where
+  pub schema : Schema
+  pub fits : Fits layout schema
+  pub sound : IsDatabaseIn schema db
 
--- the database has these tables and no others, with these rows
-pub record Holds (schema : Schema) (db : Database) (contents : Contents) : Type 0 where
-  pub listed : db.schema ≡ schema
-  pub sound : IsDatabaseOf schema db.trees
-  pub rows : HoldRows db.trees schema.tables contents
+-- the trees also hold these rows in the tables of the layout; nothing is said of rows elsewhere
+pub record AreTablesOf (layout : Layout) (db : Trees) (contents : Contents) : Type 0 where
+  pub sound : IsDatabaseOf layout db
+  pub rows : HoldRows db layout.schema.tables contents
+
+-- the database has the tables of the layout with these rows, and others only where they may follow
+pub record Holds (layout : Layout) (db : Database) (contents : Contents) : Type 0 where
+  pub fits : Fits layout db.schema
+  pub sound : IsDatabaseIn db.schema db.trees
+  pub rows : HoldRows db.trees layout.schema.tables contents
 
 -- the contents, with the rows of the table at this place changed
 abbrev pub change_at : ℕ → (List Row → List Row) → Contents → Contents
@@ -74,14 +81,3 @@ change_at (suc at) change (rows ∷ contents) = rows ∷ change_at at change con
 abbrev pub no_rows : List Table → Contents
 no_rows [] = []
 no_rows (t ∷ ts) = [] ∷ no_rows ts
-
--- no table has this tree
-abbrev pub are_other : ℕ → List Table → Bool
-are_other tree [] = true
-are_other tree (t ∷ ts) = not (t.tree == tree) && are_other tree ts
-
--- only the table at this place has this tree
-abbrev pub is_apart : ℕ → ℕ → List Table → Bool
-is_apart at tree [] = true
-is_apart zero tree (t ∷ ts) = are_other tree ts
-is_apart (suc at) tree (t ∷ ts) = not (t.tree == tree) && is_apart at tree ts

@@ -1,5 +1,5 @@
--- The effect of each kind of statement on the contents of a store, for any schema and any number of
--- matching rows.
+-- The effect of each kind of statement on the contents of a store, for any layout of its tables and
+-- any number of matching rows.
 use Rattle.std.specs.Prelude.{◌≡◌, ℕ, min, List, [], ◌∷◌, ◌++◌, length, map, filter, not, Bool, if◌then◌else◌, slice_get, Some}
 use Rattle.std.specs.List.Sorted.{IsPermutation, IsSorted}
 use Rattle.sqlite.specs.Cast.{cast_row}
@@ -13,6 +13,7 @@ use Rattle.sqlite.specs.Table.{Table}
 use Rattle.sqlite.specs.Term.{Term, eval_all}
 use Rattle.sqlite_value.specs.declared.keys.Key.{Key}
 use Rattle.store_sql.specs.Contents.{Contents, Holds, change_at, seen, whole}
+use Rattle.store_sql.specs.Layouts.{Fits, Layout}
 use Rattle.store_sql.specs.Meanings.{InsertsRow, UpdatesRows, DeletesRows, SelectsRows, CountsRows, MakesTable, MakeTables, schema_after}
 use Rattle.store_sql.specs.Queries.{meets, projected, rewritten, keys_of, by_keys}
 use Rattle.store_sql.specs.States.{Sees, Moves, Makes}
@@ -37,18 +38,18 @@ IsInserted table terms params row = (rows : List Row) → seen table (with_rowid
 
 -- INSERT: this row is added to its table, and no other table changes
 abbrev pub Inserts : List ℕ → Row → State → State → Type 0
-Inserts text params old new = (schema : Schema) (at : ℕ) (table : Table) (terms : List Term) (row : Row) → InsertsRow schema at table text terms → IsInserted table terms params row
-    → Moves schema (change_at at (λ rows. row ∷ rows)) old new
+Inserts text params old new = (layout : Layout) (at : ℕ) (table : Table) (terms : List Term) (row : Row) → InsertsRow layout at table text terms → IsInserted table terms params row
+    → Moves layout (change_at at (λ rows. row ∷ rows)) old new
 
 -- UPDATE: the rows of one table that satisfy WHERE are rewritten, and all else stays
 abbrev pub Updates : List ℕ → Row → State → State → Type 0
-Updates text params old new = (schema : Schema) (at : ℕ) (table : Table) (terms rest : List Term) → UpdatesRows schema at table text terms rest
-    → Moves schema (change_at at (map (updated table terms rest params))) old new
+Updates text params old new = (layout : Layout) (at : ℕ) (table : Table) (terms rest : List Term) → UpdatesRows layout at table text terms rest
+    → Moves layout (change_at at (map (updated table terms rest params))) old new
 
 -- DELETE: the rows of one table that satisfy WHERE are deleted, and all else stays
 abbrev pub Deletes : List ℕ → Row → State → State → Type 0
-Deletes text params old new = (schema : Schema) (at : ℕ) (table : Table) (terms : List Term) → DeletesRows schema at table text terms
-    → Moves schema (change_at at (filter (λ r. not (passes table terms params r)))) old new
+Deletes text params old new = (layout : Layout) (at : ℕ) (table : Table) (terms : List Term) → DeletesRows layout at table text terms
+    → Moves layout (change_at at (filter (λ r. not (passes table terms params r)))) old new
 
 -- CREATE TABLE: an empty table comes after the others, whose rows stay
 abbrev pub Creates : List ℕ → State → State → Type 0
@@ -66,15 +67,15 @@ pub record IsSelected (table : Table) (terms : List Term) (order : List (Term ×
 
 -- a query changes nothing
 abbrev pub Selects : List ℕ → Row → State → State → List Row → Type 0
-Selects text params old new answer = (schema : Schema) (at : ℕ) (table : Table) (terms : List Term) (order : List (Term × Key)) (rest : List Term) (names : List (List ℕ))
-    → SelectsRows schema at table text terms order rest names → Moves schema (λ c. c) old new
-    × ((c : Contents) (rows : List Row) → Sees schema old c → slice_get c at ≡ Some rows → IsSelected table terms order rest params rows answer)
+Selects text params old new answer = (layout : Layout) (at : ℕ) (table : Table) (terms : List Term) (order : List (Term × Key)) (rest : List Term) (names : List (List ℕ))
+    → SelectsRows layout at table text terms order rest names → Moves layout (λ c. c) old new
+    × ((c : Contents) (rows : List Row) → Sees layout old c → slice_get c at ≡ Some rows → IsSelected table terms order rest params rows answer)
 
 -- outside a transaction, over the contents of the database; a query still changes nothing
 abbrev pub Streams : List ℕ → Row → State → State → List Row → Type 0
-Streams text params old new answer = (schema : Schema) (at : ℕ) (table : Table) (terms : List Term) (order : List (Term × Key)) (rest : List Term) (names : List (List ℕ))
-    → SelectsRows schema at table text terms order rest names → old.now.schema ≡ schema → IsUnchanged old new
-    × ((c : Contents) (rows : List Row) → Holds schema old.now c → slice_get c at ≡ Some rows → IsSelected table terms order rest params rows answer)
+Streams text params old new answer = (layout : Layout) (at : ℕ) (table : Table) (terms : List Term) (order : List (Term × Key)) (rest : List Term) (names : List (List ℕ))
+    → SelectsRows layout at table text terms order rest names → Fits layout old.now.schema → IsUnchanged old new
+    × ((c : Contents) (rows : List Row) → Holds layout old.now c → slice_get c at ≡ Some rows → IsSelected table terms order rest params rows answer)
 
 -- a taker was passed these rows, one after another, and no others
 abbrev pub TakesAll : {T : Type 0} → (T → Row → T → Type 0) → T → List Row → T → Type 0
@@ -93,6 +94,6 @@ counted n = min n 9223372036854775807
 
 -- SELECT count(*): how many rows of the table satisfy WHERE; nothing changes
 abbrev pub Counts : List ℕ → Row → State → State → ℕ → Type 0
-Counts text params old new n = (schema : Schema) (at : ℕ) (table : Table) (terms : List Term) (names : List (List ℕ))
-    → CountsRows schema at table text terms names → Moves schema (λ c. c) old new
-    × ((c : Contents) (rows : List Row) → Sees schema old c → slice_get c at ≡ Some rows → n ≡ counted (length (filter (passes table terms params) rows)))
+Counts text params old new n = (layout : Layout) (at : ℕ) (table : Table) (terms : List Term) (names : List (List ℕ))
+    → CountsRows layout at table text terms names → Moves layout (λ c. c) old new
+    × ((c : Contents) (rows : List Row) → Sees layout old c → slice_get c at ≡ Some rows → n ≡ counted (length (filter (passes table terms params) rows)))

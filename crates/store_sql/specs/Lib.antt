@@ -1,3 +1,4 @@
+pub mod Layouts
 pub mod Contents
 pub mod States
 pub mod Queries

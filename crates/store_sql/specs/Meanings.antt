@@ -1,4 +1,5 @@
--- The meaning of a text under a schema. For a known schema and text each is shown by computing.
+-- The meaning of a text under a schema, and in a layout: under each schema that fits it. For a known
+-- schema and text each is shown by computing, whatever comes after the schema's tables.
 use Rattle.std.specs.Prelude.{◌≡◌, ℕ, ◌/◌, List, [], ◌∷◌, ◌++◌, length, true, false, slice_get, Option, Some, None, Ok, ⊤}
 use Rattle.sqlite.proofs.Callers.{IsPlain, command_of, statement_of}
 use Rattle.sqlite.specs.Change.{created}
@@ -16,7 +17,8 @@ use Rattle.sqlite.specs.Term.{Term, col}
 use Rattle.sqlite_rules.specs.Action.{works}
 use Rattle.sqlite_schema.specs.declared.schema.Keys.TheVariants.{Enforced}
 use Rattle.sqlite_value.specs.declared.keys.Key.{Key}
-use Rattle.store_sql.specs.Contents.{seen, is_apart}
+use Rattle.store_sql.specs.Contents.{seen}
+use Rattle.store_sql.specs.Layouts.{Fits, Layout, is_apart}
 use Rattle.store_sql.specs.Queries.{plain_query, count_query, finding, meets, projected, rewritten, keys_of}
 
 -- the table is at this place, no other has its tree, and no trigger or foreign key of another acts
@@ -27,7 +29,7 @@ pub record StandsAt (schema : Schema) (at : ℕ) (table : Table) : Type 0 where
   pub quiet : (olds news : List Row) → works schema Enforced 0 table.tree olds news ≡ []
 
 -- INSERT: one row of these terms, the first the row id
-pub record InsertsRow (schema : Schema) (at : ℕ) (table : Table) (text : List ℕ) (terms : List Term) : Type 0 where
+pub record InsertsIn (schema : Schema) (at : ℕ) (table : Table) (text : List ℕ) (terms : List Term) : Type 0 where
   pub stands : StandsAt schema at table
   pub uncounted : table.is_counted ≡ false
   pub unstamped : table.stamps.terms ≡ []
@@ -41,7 +43,7 @@ OverlooksRowid (Some _) f = ⊤
 OverlooksRowid None f = (id : Value) (row : Row) → f (id ∷ row) ≡ f (Null ∷ row)
 
 -- UPDATE: in the rows that satisfy the terms, these columns, the first the row id
-pub record UpdatesRows (schema : Schema) (at : ℕ) (table : Table) (text : List ℕ) (terms rest : List Term) : Type 0 where
+pub record UpdatesIn (schema : Schema) (at : ℕ) (table : Table) (text : List ℕ) (terms rest : List Term) : Type 0 where
   pub stands : StandsAt schema at table
   pub means : command_of (understood schema text) ≡ Update at (finding table.tree terms (col 1 0 ∷ rest))
   pub plain : IsPlain (understood schema text)
@@ -49,7 +51,7 @@ pub record UpdatesRows (schema : Schema) (at : ℕ) (table : Table) (text : List
   pub passes_over : (params : Row) → OverlooksRowid table.key (λ r. seen table (rewritten table rest params r))
 
 -- DELETE: the rows that satisfy the terms
-pub record DeletesRows (schema : Schema) (at : ℕ) (table : Table) (text : List ℕ) (terms : List Term) : Type 0 where
+pub record DeletesIn (schema : Schema) (at : ℕ) (table : Table) (text : List ℕ) (terms : List Term) : Type 0 where
   pub stands : StandsAt schema at table
   pub means : command_of (understood schema text) ≡ Delete at (finding table.tree terms (col 1 0 ∷ []))
   pub plain : IsPlain (understood schema text)
@@ -57,7 +59,7 @@ pub record DeletesRows (schema : Schema) (at : ℕ) (table : Table) (text : List
 
 -- SELECT: of the rows that satisfy the terms, the columns of ORDER BY and then these others, in
 -- that order of rows
-pub record SelectsRows (schema : Schema) (at : ℕ) (table : Table) (text : List ℕ) (terms : List Term) (order : List (Term × Key)) (rest : List Term) (names : List (List ℕ)) : Type 0 where
+pub record SelectsIn (schema : Schema) (at : ℕ) (table : Table) (text : List ℕ) (terms : List Term) (order : List (Term × Key)) (rest : List Term) (names : List (List ℕ)) : Type 0 where
   pub place : slice_get schema.tables at ≡ Some table
   pub means : command_of (understood schema text) ≡ Select (record { lets = []; body = plain_query table.tree terms (keys_of order ++ rest) order }) names
   pub unlisted : reads_listing schema text ≡ false
@@ -66,12 +68,35 @@ pub record SelectsRows (schema : Schema) (at : ℕ) (table : Table) (text : List
   pub passes_over : (params : Row) → OverlooksRowid table.key (projected (keys_of order ++ rest) params)
 
 -- SELECT count(*): the rows that satisfy the terms
-pub record CountsRows (schema : Schema) (at : ℕ) (table : Table) (text : List ℕ) (terms : List Term) (names : List (List ℕ)) : Type 0 where
+pub record CountsIn (schema : Schema) (at : ℕ) (table : Table) (text : List ℕ) (terms : List Term) (names : List (List ℕ)) : Type 0 where
   pub place : slice_get schema.tables at ≡ Some table
   pub means : command_of (understood schema text) ≡ Select (record { lets = []; body = count_query table.tree terms }) names
   pub unlisted : reads_listing schema text ≡ false
   pub plain : IsPlain (understood schema text)
   pub overlooks : (params : Row) → OverlooksRowid table.key (meets terms params)
+
+-- ---- the meanings in a layout
+
+abbrev pub InsertsRow : Layout → ℕ → Table → List ℕ → List Term → Type 0
+InsertsRow layout at table text terms = (schema : Schema) → Fits layout schema → InsertsIn schema at table text terms
+
+abbrev pub UpdatesRows : Layout → ℕ → Table → List ℕ → List Term → List Term → Type 0
+UpdatesRows layout at table text terms rest = (schema : Schema) → Fits layout schema → UpdatesIn schema at table text terms rest
+
+abbrev pub DeletesRows : Layout → ℕ → Table → List ℕ → List Term → Type 0
+DeletesRows layout at table text terms = (schema : Schema) → Fits layout schema → DeletesIn schema at table text terms
+
+abbrev pub SelectsRows : Layout → ℕ → Table → List ℕ → List Term → List (Term × Key) → List Term → List (List ℕ) → Type 0
+SelectsRows layout at table text terms order rest names = (schema : Schema) → Fits layout schema → SelectsIn schema at table text terms order rest names
+
+abbrev pub CountsRows : Layout → ℕ → Table → List ℕ → List Term → List (List ℕ) → Type 0
+CountsRows layout at table text terms names = (schema : Schema) → Fits layout schema → CountsIn schema at table text terms names
+
+-- the text has no RETURNING, and doesn't read the time
+abbrev pub IsPlainIn : Layout → List ℕ → Type 0
+IsPlainIn layout text = (schema : Schema) → Fits layout schema → IsPlain (understood schema text)
+
+-- ---- making tables, in a store without others
 
 -- CREATE TABLE: this table
 pub record MakesTable (schema : Schema) (table : Table) (text : List ℕ) : Type 0 where

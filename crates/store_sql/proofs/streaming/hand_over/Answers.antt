@@ -4,7 +4,6 @@ use Rattle.sqlite.specs.Effect.{Database}
 use Rattle.sqlite.specs.Given.{HasGiven}
 use Rattle.sqlite.specs.Held.{state}
 use Rattle.sqlite.specs.Listing.{understood}
-use Rattle.sqlite.specs.Schema.{Schema}
 use Rattle.sqlite.specs.State.{HasCleanDisk, IsUnchanged, Shown, Survives, CommitsShowing}
 use Rattle.sqlite.specs.Values.{bound}
 use Rattle.store_sql.proofs.ReadLemmas.{failed_same, shown_after, streams, takes_one_more}
@@ -56,14 +55,14 @@ returns-in_default-clause-value g c clean =
     record {
       answer = given;
       handed = before.1;
-      exact = λ schema at table terms order rest names means has.
-          let plain : IsPlain (understood old.now.schema text) = subst (λ (k : Schema). IsPlain (understood k text)) (sym has) means.plain in
+      exact = λ layout at table terms order rest names means fits.
+          let plain : IsPlain (understood old.now.schema text) = (means old.now.schema fits).plain in
           let was = before.2 (omega (arith, moved.survives.clean)) plain in
           let shown = (rw (c.in-Ok-next.is, c.in_default.is) at (moved.ok late)) text params given was.0 in
           let later = subst (λ (d : Database). IsPlain (understood d.schema text)) (sym was.1.0.now_is) plain in
           let all : Shown text params old (state g.S.Store c.conn-in_default-1.given.0) given =
           subst (λ h. Shown text params old (state g.S.Store h) given) same (shown_after text params old (state g.S.Store c.rows.rows.conn.now) (state g.S.Store now) given later was.1 shown) in
-          streams text params old (state g.S.Store c.conn-in_default-1.given.0) given all schema at table terms order rest names means has;
+          streams text params old (state g.S.Store c.conn-in_default-1.given.0) given all layout at table terms order rest names means fits;
     }
 
 pub returns-in-Err-clause-same : goal.returns-in-Err-clause-same

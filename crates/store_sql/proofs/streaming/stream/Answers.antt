@@ -29,7 +29,7 @@ returns-clause-begins g c clean =
     OnErr-so c.hand_over.result _ _ (hands_first_after text params old mid same g.T.TakesRow.takes g.T.TakesRow.gives_up c.args.taker.now c.hand_over.new.taker) (c.hand_over.ensures.begins clean same.0.is_open)
 
 pub returns-clause-spares : goal.returns-clause-spares
-returns-clause-spares g c schema held plain shows =
+returns-clause-spares g c layout held plain shows =
     let text = c.args.sql.now in
     let params = bound c.args.params.now in
     let old = state g.S.Store c.args.conn.now in
@@ -41,7 +41,7 @@ returns-clause-spares g c schema held plain shows =
     (λ clean db may.
     let late : HasCleanDisk mid = omega (arith, second.clean, clean) in
     let same : IsUnchanged old mid = c.in-Ok.ensures.same late in
-    never_commits text params mid db (plain_after schema text held old mid (omega (arith, first.clean, late)) same shows plain) may)
+    never_commits text params mid db (plain_after layout text held old mid (omega (arith, first.clean, late)) same shows plain) may)
     first second
 
 pub returns-clause-survives : goal.returns-clause-survives
