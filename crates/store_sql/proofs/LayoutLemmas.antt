@@ -1,16 +1,11 @@
 -- Schemas that fit a layout.
-use Rattle.std.proofs.Common.{◌≡◌, ◌≢◌, ◌∙◌, inl, inr, ℕ, zero, suc, ◌==◌, ◌&&◌, Bool, true, false, not, List, [], ◌∷◌, ◌++◌, slice_get, Option, None, Some, refl, sym, ap, ap₂, subst, append-nil}
-use Rattle.std.specs.List.{AllByRecursion, flat_map, filter_map}
-use Rattle.std.proofs.lemmas.Bool.{and_parts, and_from, cases_Bool, eq-eqb}
+use Rattle.std.proofs.Common.{◌≡◌, ◌∙◌, refl, sym, ap, ap₂, append-nil}
 use Rattle.sqlite.specs.Effect.{Database}
-use Rattle.sqlite.specs.Order.{Row}
 use Rattle.sqlite.specs.Schema.{Schema}
-use Rattle.sqlite.specs.State.{State, HasCleanDisk}
-use Rattle.sqlite.specs.Table.{Table}
+use Rattle.sqlite.specs.State.{State}
 use Rattle.sqlite.specs.Tree.{Trees}
-use Rattle.sqlite_schema.specs.declared.schema.Reference.{Reference}
 use Rattle.store_sql.specs.Contents.{AreTablesOf, Contents, Holds}
-use Rattle.store_sql.specs.Layouts.{Fits, Layout, Others, alone, beside, leading, no_others}
+use Rattle.store_sql.specs.Layouts.{Fits, Layout, alone, beside, leading, no_others}
 use Rattle.store_sql.specs.States.{Shows}
 
 beside_none : (schema : Schema) → beside schema no_others ≡ schema

@@ -7,6 +7,7 @@ pub mod InsertLemmas
 pub mod RowidLemmas
 pub mod EditLemmas
 pub mod LayoutLemmas
+pub mod BesideLemmas
 pub mod ContentLemmas
 pub mod WriteLemmas
 pub mod TableLemmas
