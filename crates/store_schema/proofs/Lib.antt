@@ -1,3 +1,4 @@
+pub mod StandingFacts
 pub mod CreateFacts
 pub mod InsertFacts
 pub mod ChangeFacts

@@ -8,6 +8,7 @@ use Rattle.sqlite.specs.Schema.{Schema}
 use Rattle.sqlite.specs.Table.{Table}
 use Rattle.sqlite_schema.specs.declared.schema.Column.{Column}
 use Rattle.sqlite_value.specs.Keys.{plain}
+use Rattle.store_sql.specs.Layouts.{Layout, alone, leading}
 use Rattle.store_sql.specs.Meanings.{schema_after}
 
 -- a column of a STRICT table, NOT NULL; text is compared byte by byte
@@ -156,10 +157,18 @@ defined table = record table { tree = 0 }
 abbrev pub no_schema : Schema
 no_schema = record { tables = []; indexes = []; views = [] }
 
--- a desk's store of version 1: its tables, the indexes of their keys, and nothing else
+-- the schema of a desk's store of version 1: its tables, the indexes of their keys, and nothing else
 abbrev pub first_schema : Schema
 first_schema = schema_after no_schema (map defined first_tables)
 
--- a desk's store: all fifteen tables, the indexes of their keys, and nothing else
+-- the schema of a new desk's store: all fifteen tables, the indexes of their keys, and nothing else
 abbrev pub desk_schema : Schema
 desk_schema = schema_after first_schema (map defined added_tables)
+
+-- a store with the tables of version 1 and no others
+abbrev pub first_layout : Layout
+first_layout = alone first_schema
+
+-- a store whose tables begin with the fifteen; others may follow that don't refer to them
+abbrev pub desk_layout : Layout
+desk_layout = leading desk_schema

@@ -10,19 +10,19 @@ use Rattle.sqlite.specs.Tree.{Trees}
 use Rattle.store_schema.specs.rows.Contents.{contents}
 use Rattle.store_sql.specs.Contents.{AreTablesOf, Contents}
 use Rattle.store_sql.specs.States.{Leaves, Shows}
-use Rattle.store_schema.specs.Tables.{desk_schema, first_schema}
+use Rattle.store_schema.specs.Tables.{desk_layout, first_layout}
 
 -- the rows of the tables of a desk with this owner and history
 abbrev pub rows_of : List ℕ → History → Contents
 rows_of owner cs = contents (tables owner cs)
 
--- the trees hold them, and are a database of the desk's tables
+-- the trees hold them, and are a database whose tables begin with the desk's
 abbrev pub HoldsHistory : Trees → List ℕ → History → Type 0
-HoldsHistory db owner cs = AreTablesOf desk_schema db (rows_of owner cs)
+HoldsHistory db owner cs = AreTablesOf desk_layout db (rows_of owner cs)
 
--- the connection shows them, and no other table
+-- the connection shows them; what other tables hold isn't said
 abbrev pub ShowsHistory : State → List ℕ → History → Type 0
-ShowsHistory s owner cs = Shows desk_schema s (rows_of owner cs)
+ShowsHistory s owner cs = Shows desk_layout s (rows_of owner cs)
 
 -- a stop leaves them
 abbrev pub LeavesHistory : State → List ℕ → History → Type 0
@@ -46,13 +46,13 @@ first_contents t = take 12 (contents (record t { desk = record t.desk { version 
 abbrev pub first_rows_of : List ℕ → History → Contents
 first_rows_of owner cs = first_contents (tables owner cs)
 
--- the trees hold them, and are a database of the twelve tables
+-- the trees hold them, and are a database of the twelve tables and no others
 abbrev pub HoldsFirst : Trees → List ℕ → History → Type 0
-HoldsFirst db owner cs = AreFirst cs × AreTablesOf first_schema db (first_rows_of owner cs)
+HoldsFirst db owner cs = AreFirst cs × AreTablesOf first_layout db (first_rows_of owner cs)
 
 -- the connection shows them, and no other table
 abbrev pub ShowsFirst : State → List ℕ → History → Type 0
-ShowsFirst s owner cs = AreFirst cs × Shows first_schema s (first_rows_of owner cs)
+ShowsFirst s owner cs = AreFirst cs × Shows first_layout s (first_rows_of owner cs)
 
 -- a stop leaves them
 abbrev pub LeavesFirst : State → List ℕ → History → Type 0
