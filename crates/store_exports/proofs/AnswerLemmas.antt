@@ -21,7 +21,7 @@ use Rattle.store_sql.specs.Queries.{by_keys, keys_of}
 use Rattle.store_sql.specs.Streaming.{BeginsAnswer}
 use Rattle.store_sql.proofs.ItemLemmas.{lists}
 use Rattle.store_schema.specs.Columns.{by_first}
-use Rattle.store_schema.specs.Tables.{desk_schema}
+use Rattle.store_schema.specs.Tables.{desk_layout}
 use Rattle.store_exports.specs.Exporting.{BeginsOf, WritesOf}
 use Rattle.store_exports.specs.Rows.{AreSpelt, IsPart, WritesAnswer, WritesFirst}
 
@@ -49,7 +49,7 @@ module _ {X : Type 0} (shown : X → Row) (bytes : X → List ℕ) where
   spelt_rows rows ys b is h = spelt ys b (subst (λ l. AreSpelt (IsPart shown bytes) l b) is h)
 
 module _ {X : Type 0} (at : ℕ) (table : Table) (text : List ℕ) (terms : List Term) (ordered : ℕ) (rest : List Term) (names : List (List ℕ))
-    (means : SelectsRows desk_schema at table text terms (by_first ordered table) rest names) (item shown : X → Row) (part : Tables → List X)
+    (means : SelectsRows desk_layout at table text terms (by_first ordered table) rest names) (item shown : X → Row) (part : Tables → List X)
     (has : (t : Tables) → slice_get (contents t) at ≡ Some (map item (part t))) (params : Row)
     (shows : (x : X) → shown_of table (keys_of (by_first ordered table) ++ rest) params (item x) ≡ shown x)
     (p : X → Bool) (tested : (x : X) → passes table terms params (item x) ≡ p x)
@@ -66,16 +66,16 @@ module _ {X : Type 0} (at : ℕ) (table : Table) (text : List ℕ) (terms : List
 
   pub writes : (new : State) (before after : Option (List ℕ)) → WritesAnswer (IsPart shown bytes) text params s new before after → WritesOf s before after (λ cs. flat_map bytes (wanted cs))
   writes new before after w owner cs was =
-      let held : Holds desk_schema s.now (contents (tables owner cs)) = (was.holds (clean owner cs was) w.live).0 in
-      let it = (w.exact desk_schema at table terms (by_first ordered table) rest names means held.listed).1 (contents (tables owner cs)) (map item (part (tables owner cs))) held (has (tables owner cs)) in
+      let held : Holds desk_layout s.now (contents (tables owner cs)) = (was.holds (clean owner cs was) w.live).0 in
+      let it = (w.exact desk_layout at table terms (by_first ordered table) rest names means held.fits).1 (contents (tables owner cs)) (map item (part (tables owner cs))) held (has (tables owner cs)) in
       subst (Appends before after) (spelt_rows shown bytes w.answer (wanted cs) w.bytes (listed owner cs w.answer it) w.spelt) w.written
 
   -- rows that begin the answer begin the list
   begun : (owner : List ℕ) (cs : History) → ShowsHistory s owner cs → (given : List Row) → BeginsAnswer text params s given
       → (ahead : List X) × (behind : List X) × (given ≡ map shown ahead) × (wanted cs ≡ ahead ++ behind)
   begun owner cs was given h =
-      let held : Holds desk_schema s.now (contents (tables owner cs)) = (was.holds (clean owner cs was) h.0).0 in
-      let it = h.1 desk_schema at table terms (by_first ordered table) rest names means held.listed in
+      let held : Holds desk_layout s.now (contents (tables owner cs)) = (was.holds (clean owner cs was) h.0).0 in
+      let it = h.1 desk_layout at table terms (by_first ordered table) rest names means held.fits in
       let all = listed owner cs (given ++ it.0) (it.1 (contents (tables owner cs)) (map item (part (tables owner cs))) held (has (tables owner cs))) in
       let parts = parted shown given it.0 (wanted cs) all in
       (parts.0, parts.1, parts.2, parts.4)

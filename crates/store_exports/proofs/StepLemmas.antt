@@ -4,9 +4,7 @@ use Rattle.std.specs.Prelude.{IfOk, IsTrue, MatchResult, OnOk}
 use Rattle.std.specs.Io.KnownBytes.{Appends}
 use Rattle.std.proofs.KnownBytes.{Appends-nil, Appends-trans}
 use Rattle.sqlite.proofs.StateLemmas.{survives_then}
-use Rattle.sqlite.specs.Given.{IsPlain}
 use Rattle.sqlite.specs.Held.{Held, state}
-use Rattle.sqlite.specs.Listing.{understood}
 use Rattle.sqlite.specs.Order.{Row}
 use Rattle.sqlite.specs.State.{State, HasCleanDisk, IsRolledBack, KeepsCommit, Survives}
 use Rattle.sqlite.specs.Store as store
@@ -17,7 +15,8 @@ use Rattle.desk_history.specs.Tables.{Tables, tables}
 use Rattle.store_reads.specs.Reads.{ReadsTables}
 use Rattle.store_schema.specs.rows.Histories.{ShowsHistory, rows_of}
 use Rattle.store_sql.proofs.CommitLemmas.{begun, undone_shows}
-use Rattle.store_schema.specs.Tables.{desk_schema}
+use Rattle.store_sql.specs.Meanings.{IsPlainIn}
+use Rattle.store_schema.specs.Tables.{desk_layout}
 use Rattle.store_exports.specs.Exporting.{BeginsOf, Exports, StaysOf, WritesOf}
 use Rattle.store_exports.specs.Rows.{IsPart, PutsRows, WritesAnswer, WritesFirst}
 use Rattle.store_exports.proofs.ExportLemmas.{Told}
@@ -110,13 +109,13 @@ module _ {S X E : Type 0} (g : store.Ghosts S) where
 
   -- a query of the desk's tables
   pub of_rows : {Y : Type 0} (shown : Y → Row) (bytes : Y → List ℕ) (text : List ℕ) (params : Row) (wanted : History → List Y) (a b : Held S) (x y : Option (List ℕ)) (r : Result X E)
-      → IsPlain (understood desk_schema text)
+      → IsPlainIn desk_layout text
       → (((owner : List ℕ) (cs : History) → ShowsHistory (state g a) owner cs → HasCleanDisk (state g a)) → Told shown bytes text params (state g a) wanted)
       → PutsRows g (IsPart shown bytes) text params a b x y r → Exports g a b x y r (λ cs. flat_map bytes (wanted cs))
   of_rows shown bytes text params wanted a b x y r plain told it = record {
     wrote = λ clean. go r clean (it.wrote clean);
-    same = λ owner cs was. it.same desk_schema (rows_of owner cs) plain was;
-    spares = λ owner cs was. it.spares desk_schema (rows_of owner cs) plain was;
+    same = λ owner cs was. it.same desk_layout (rows_of owner cs) plain was;
+    spares = λ owner cs was. it.spares desk_layout (rows_of owner cs) plain was;
     clean = it.clean;
   }
     where
@@ -136,7 +135,7 @@ module _ {S : Type 0} (g : store.Ghosts S) (old last end : Held S) where
   undone outside spared ended kept rolled owner cs was = record {
     outside = outside;
     holds = λ clean live. (let late : HasCleanDisk (state g last) = omega (arith, ended.clean, clean) in
-        (undone_shows g old last end desk_schema (rows_of owner cs) (omega (arith, spared.clean, late)) (kept late) (rolled clean) was).holds clean live);
+        (undone_shows g old last end desk_layout (rows_of owner cs) (omega (arith, spared.clean, late)) (kept late) (rolled clean) was).holds clean live);
   }
 
   -- its result is right for each history that the connection showed before

@@ -27,9 +27,9 @@ pub answer_is : (s new : State) (answer : List Row) → HasCleanDisk s → IsTru
     → (owner : List ℕ) (cs : History) → ShowsHistory s owner cs → answer ≡ map columns_row (reverse (called cs))
 answer_is s new answer clean live exact owner cs was =
     let t = tables owner cs in
-    let held : Holds schema.desk_schema s.now (contents t) = (was.holds clean live).0 in
+    let held : Holds schema.desk_layout s.now (contents t) = (was.holds clean live).0 in
     let it : IsSelected schema.calls [] (by_first 1 schema.calls) (columns_after 1 schema.calls) [] (map stored (called cs)) answer =
-    (exact schema.desk_schema 2 schema.calls [] (by_first 1 schema.calls) (columns_after 1 schema.calls) (names_of schema.calls) facts.select_calls held.listed).1
+    (exact schema.desk_layout 2 schema.calls [] (by_first 1 schema.calls) (columns_after 1 schema.calls) (names_of schema.calls) facts.select_calls held.fits).1
     (contents t) (map stored (called cs)) held (ap Some (sym (map-map stored columns_of t.calls))) in
     let ys = lists schema.calls [] [] stored (λ _. true) (λ x. refl) (by_first 1 schema.calls) (columns_after 1 schema.calls) columns_row (λ x. refl) (called cs) answer it in
     ys.2 ∙ ap (map columns_row) (calls_in_order cs ys.0 ys.1 ys.3)

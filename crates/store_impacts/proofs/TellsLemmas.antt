@@ -4,7 +4,7 @@ use Rattle.sqlite.specs.State.{State}
 use Rattle.desk_history.specs.Calls.{History}
 use Rattle.desk_history.specs.Formed.{IsHistory}
 use Rattle.desk_history.specs.Tables.{Tables, tables}
-use Rattle.store_schema.specs.Tables.{desk_schema}
+use Rattle.store_schema.specs.Tables.{desk_layout}
 use Rattle.store_schema.specs.rows.Contents.{contents}
 use Rattle.store_sql.proofs.StopLemmas.{changes_then, turns_none}
 use Rattle.store_reads.specs.Reads.{ReadsTables}
@@ -16,11 +16,11 @@ of_tables old new P Q f a = record { kept = a.kept; tells = λ owner cs h sees. 
 
 -- a fact of any history, without a read
 pub of_none : (s : State) (P : History → Type 0) → IsTrue s.in_transaction → ((cs : History) → P cs) → TellsOf P s s
-of_none s P inside p = record { kept = turns_none desk_schema contents s inside; tells = λ owner cs h sees. p cs }
+of_none s P inside p = record { kept = turns_none desk_layout contents s inside; tells = λ owner cs h sees. p cs }
 
 pub of_then : (first mid new : State) (P Q : History → Type 0) → TellsOf P first mid → TellsOf Q mid new → TellsOf (λ cs. P cs × Q cs) first new
 of_then first mid new P Q a b = record {
-  kept = changes_then desk_schema contents first mid new (λ t. t) (λ t. t) a.kept b.kept;
+  kept = changes_then desk_layout contents first mid new (λ t. t) (λ t. t) a.kept b.kept;
   tells = λ owner cs h sees. (a.tells owner cs h sees, b.tells owner cs h (a.kept.value (tables owner cs) sees));
 }
 

@@ -17,7 +17,7 @@ use Rattle.store_sql.specs.Meanings.{CountsRows, SelectsRows}
 use Rattle.store_sql.specs.Queries.{keys_of}
 use Rattle.store_sql.proofs.ItemLemmas.{lists, passed, turns}
 use Rattle.store_schema.specs.Columns.{by_first}
-use Rattle.store_schema.specs.Tables.{desk_schema}
+use Rattle.store_schema.specs.Tables.{desk_layout}
 use Rattle.store_reads.specs.Reads.{AreFound, Finds, IsCounted, ReadsTables, listed}
 
 -- a permutation of at most one value is that value
@@ -27,7 +27,7 @@ alone (x ∷ xs) None h = absurd (omega (arith, length_permutation (x ∷ xs) []
 alone xs (Some y) h = one_permutation y xs (IsPermutation-sym xs (y ∷ []) h)
 
 module _ {X : Type 0} (at : ℕ) (table : Table) (text : List ℕ) (terms : List Term) (ordered : ℕ) (rest : List Term) (names : List (List ℕ))
-    (means : SelectsRows desk_schema at table text terms (by_first ordered table) rest names) (item shown : X → Row) (part : Tables → List X)
+    (means : SelectsRows desk_layout at table text terms (by_first ordered table) rest names) (item shown : X → Row) (part : Tables → List X)
     (has : (t : Tables) → slice_get (contents t) at ≡ Some (map item (part t))) (params : Row)
     (shows : (x : X) → shown_of table (keys_of (by_first ordered table) ++ rest) params (item x) ≡ shown x)
     (p : X → Bool) (tested : (x : X) → passes table terms params (item x) ≡ p x) (old new : State) where
@@ -35,9 +35,9 @@ module _ {X : Type 0} (at : ℕ) (table : Table) (text : List ℕ) (terms : List
   pub tells_rows : (values : List X) → Finds shown text params values old new → ReadsTables (λ t. AreFound shown table ordered p (part t) values) old new
   tells_rows values f =
       let order = by_first ordered table in
-      let it = f.selects desk_schema at table terms order rest names means in
+      let it = f.selects desk_layout at table terms order rest names means in
       record {
-        kept = turns desk_schema contents contents (λ c. c) old new it.0 (λ t. refl);
+        kept = turns desk_layout contents contents (λ c. c) old new it.0 (λ t. refl);
         tells = λ t sees.
             let ys = lists table terms params item p tested order rest shown shows (part t) f.answer (it.1 (contents t) (map item (part t)) sees (has t)) in
             let same : values ≡ ys.0 = f.read.only ys.0 ys.2 in
@@ -60,21 +60,21 @@ below : (n a most : ℕ) → n ≡ min a most → n < most → n ≡ a
 below n a most is low = grind (arith)
 
 -- the number of rows of the table that meet the condition
-pub tells_count_of : {X : Type 0} (at : ℕ) (table : Table) (text : List ℕ) (terms : List Term) (names : List (List ℕ)) → CountsRows desk_schema at table text terms names
+pub tells_count_of : {X : Type 0} (at : ℕ) (table : Table) (text : List ℕ) (terms : List Term) (names : List (List ℕ)) → CountsRows desk_layout at table text terms names
     → (item : X → Row) (part : Tables → List X) → ((t : Tables) → slice_get (contents t) at ≡ Some (map item (part t)))
     → (params : Row) (p : X → Bool) → ((x : X) → passes table terms params (item x) ≡ p x)
     → (old new : State) (n : ℕ) → IsCounted text params n old new → ReadsTables (λ t. n ≡ count_by p (part t)) old new
 tells_count_of at table text terms names means item part has params p tested old new n f =
-    let it = f.counts desk_schema at table terms names means in
+    let it = f.counts desk_layout at table terms names means in
     record {
-      kept = turns desk_schema contents contents (λ c. c) old new it.0 (λ t. refl);
+      kept = turns desk_layout contents contents (λ c. c) old new it.0 (λ t. refl);
       tells = λ t sees.
           let all = passed table terms params item p tested (part t) ∙ length-filter p (part t) in
           below n (count_by p (part t)) 9223372036854775807 (it.1 (contents t) (map item (part t)) sees (has t) ∙ ap counted all) f.below;
     }
 
 -- the number of rows of the table
-pub tells_count : {X : Type 0} (at : ℕ) (table : Table) (text : List ℕ) (names : List (List ℕ)) → CountsRows desk_schema at table text [] names
+pub tells_count : {X : Type 0} (at : ℕ) (table : Table) (text : List ℕ) (names : List (List ℕ)) → CountsRows desk_layout at table text [] names
     → (item : X → Row) (part : Tables → List X) → ((t : Tables) → slice_get (contents t) at ≡ Some (map item (part t)))
     → (old new : State) (n : ℕ) → IsCounted text [] n old new → ReadsTables (λ t. n ≡ length (part t)) old new
 tells_count at table text names means item part has old new n f =

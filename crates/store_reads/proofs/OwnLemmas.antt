@@ -6,7 +6,7 @@ use Rattle.sqlite.specs.Order.{Row}
 use Rattle.sqlite.specs.State.{State, Shown}
 use Rattle.desk_history.specs.Tables.{DeskRow}
 use Rattle.store_schema.specs.Columns.{by_first, columns_after, names_of}
-use Rattle.store_schema.specs.Tables.{desk, desk_schema}
+use Rattle.store_schema.specs.Tables.{desk, desk_layout}
 use Rattle.store_schema.specs.declared.selecting.TheConstants.{SELECT_DESK}
 use Rattle.store_schema.specs.rows.Contents.{contents}
 use Rattle.store_schema.specs.rows.Values.{desk_values}
@@ -34,9 +34,9 @@ same_stamp d own e = cc
 pub tells_own : (old new : State) (answer : List Row) (own : OwnRow) → IsTrue old.in_transaction → Shown SELECT_DESK.now [] old new answer → ReadsBy answer own
     → ReadsTables (IsOwn own) old new
 tells_own old new answer own inside shown reads =
-    let it = selects SELECT_DESK.now [] old new answer inside shown desk_schema 0 desk [] (by_first 1 desk) (columns_after 1 desk) (names_of desk) select_desk in
+    let it = selects SELECT_DESK.now [] old new answer inside shown desk_layout 0 desk [] (by_first 1 desk) (columns_after 1 desk) (names_of desk) select_desk in
     record {
-      kept = turns desk_schema contents contents (λ c. c) old new it.0 (λ t. refl);
+      kept = turns desk_layout contents contents (λ c. c) old new it.0 (λ t. refl);
       tells = λ t sees.
           let one = one_permutation (shown_row t.desk) answer (it.1 (contents t) (desk_values t.desk ∷ []) sees refl).same in
           let same = sym one ∙ reads.2 in

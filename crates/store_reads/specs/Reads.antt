@@ -12,7 +12,7 @@ use Rattle.store_sql.specs.Effects.{Counts, Selects}
 use Rattle.store_sql.specs.Queries.{by_keys}
 use Rattle.store_sql.specs.States.{Changes, Sees}
 use Rattle.store_schema.specs.Columns.{by_first}
-use Rattle.store_schema.specs.Tables.{desk_schema}
+use Rattle.store_schema.specs.Tables.{desk_layout}
 
 -- the values are those of the answer's rows
 pub record AreRead {T : Type 0} (shown : T → Row) (answer : List Row) (values : List T) : Type 0 where
@@ -27,8 +27,8 @@ pub record Finds {T : Type 0} (shown : T → Row) (text : List ℕ) (params : Ro
 
 -- Nothing changes, and this holds of any tables that the store holds.
 pub record ReadsTables (told : Tables → Type 0) (old new : State) : Type 0 where
-  pub kept : Changes desk_schema contents old new (λ t. t)
-  pub tells : (t : Tables) → Sees desk_schema old (contents t) → told t
+  pub kept : Changes desk_layout contents old new (λ t. t)
+  pub tells : (t : Tables) → Sees desk_layout old (contents t) → told t
 
 -- no value, or one
 abbrev pub listed : {T : Type 0} → Option T → List T

@@ -4,7 +4,7 @@ use Rattle.sqlite.specs.State.{State}
 use Rattle.desk_history.specs.Calls.{History}
 use Rattle.desk_history.specs.Formed.{IsHistory}
 use Rattle.desk_history.specs.Tables.{Tables, tables}
-use Rattle.store_schema.specs.Tables.{desk_schema}
+use Rattle.store_schema.specs.Tables.{desk_layout}
 use Rattle.store_schema.specs.rows.Contents.{contents}
 use Rattle.store_sql.proofs.StopLemmas.{changes_then}
 use Rattle.store_reads.specs.Reads.{ReadsTables}
@@ -22,6 +22,6 @@ tells_on old new P Q f a = record { kept = a.kept; tells = λ owner cs h sees. f
 pub tells_after : (first mid new : State) (P : History → Type 0) (Q : Tables → Type 0) (R : History → Type 0)
     → ((owner : List ℕ) (cs : History) → IsHistory cs → P cs → Q (tables owner cs) → R cs) → TellsOf P first mid → ReadsTables Q mid new → TellsOf R first new
 tells_after first mid new P Q R f a b = record {
-  kept = changes_then desk_schema contents first mid new (λ t. t) (λ t. t) a.kept b.kept;
+  kept = changes_then desk_layout contents first mid new (λ t. t) (λ t. t) a.kept b.kept;
   tells = λ owner cs h sees. f owner cs h (a.tells owner cs h sees) (b.tells (tables owner cs) (a.kept.value (tables owner cs) sees));
 }

@@ -10,13 +10,13 @@ use Rattle.desk_history.specs.Shown.{IsGiven, officer, reader}
 use Rattle.store_schema.specs.rows.Contents.{contents}
 use Rattle.store_schema.specs.rows.Histories.{rows_of}
 use Rattle.store_sql.specs.States.{Changes, Sees}
-use Rattle.store_schema.specs.Tables.{desk_schema}
+use Rattle.store_schema.specs.Tables.{desk_layout}
 
 -- Nothing changes, and this holds of each history that a desk may have and whose tables the store
 -- holds.
 pub record TellsOf (told : History → Type 0) (old new : State) : Type 0 where
-  pub kept : Changes desk_schema contents old new (λ t. t)
-  pub tells : (owner : List ℕ) (cs : History) → IsHistory cs → Sees desk_schema old (rows_of owner cs) → told cs
+  pub kept : Changes desk_layout contents old new (λ t. t)
+  pub tells : (owner : List ℕ) (cs : History) → IsHistory cs → Sees desk_layout old (rows_of owner cs) → told cs
 
 -- own: nobody has the name
 abbrev pub IsReaderRefusal : Refusal → Type 0

@@ -9,7 +9,7 @@ ghost use Rattle.desk_rules.specs.Shown.{Shows};
 ghost use Rattle.store_views.specs.remembered.Current.{IsCurrent};
 ghost use Rattle.store_views.specs.sizes.Sizes.{AreRight};
 ghost use Rattle.store_sql.specs.States.{Changes, DoesInside, CommitsNothing, Sees, Spares, StaysInside};
-ghost use Rattle.store_schema.specs.Tables.{desk_schema};
+ghost use Rattle.store_schema.specs.Tables.{desk_layout};
 ghost use Rattle.store_reads.specs.Failures.{IsFailure};
 ghost use Rattle.store_views.specs.Named.{HoldsNoRowBeyond};
 ghost use Rattle.store_views.specs.Learning.{Learns};
@@ -84,10 +84,10 @@ pub fn view<S: Alter>(
 ) -> Result<View, Refusal>
     ensures same_reference { tx.new.conn.ghost_name ≡ tx.old.conn.ghost_name }
     ensures value { DoesInside S.Store tx.old.conn.now tx.new.conn.now result
-        (λ v before after. Changes desk_schema contents before after (λ t. t)) }
+        (λ v before after. Changes desk_layout contents before after (λ t. t)) }
     ensures shown { DoesInside S.Store tx.old.conn.now tx.new.conn.now result
         (λ v before after. (owner : List ℕ) (cs : History) → IsHistory cs
-        → Sees desk_schema before (contents (tables owner cs))
+        → Sees desk_layout before (contents (tables owner cs))
         → IsCurrent remembered.old (tables owner cs)
         → Shows v (tables owner cs) call.now
         × IsCurrent remembered.new (tables owner cs)) }

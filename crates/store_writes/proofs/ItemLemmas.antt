@@ -6,7 +6,7 @@ use Rattle.std.proofs.lemmas.Option.{get_or_from_slice_get, slice_get_within}
 use Rattle.sqlite.specs.State.{State}
 use Rattle.store_sql.specs.States.{Moves, Sees, Turns}
 use Rattle.store_sql.proofs.StopLemmas.{turns_then}
-use Rattle.store_schema.specs.Tables.{desk_schema}
+use Rattle.store_schema.specs.Tables.{desk_layout}
 use Rattle.desk_texts.specs.declared.proposal.ProposalOutcome.{ProposalOutcome}
 use Rattle.desk_texts.specs.declared.proposal.ProposalState.{ProposalState}
 use Rattle.desk_history.specs.declared.rows.ProposalItem.{ProposalItem}
@@ -18,7 +18,7 @@ use Rattle.desk_history.specs.Writes.{set_proposal_state, written}
 use Rattle.store_schema.specs.rows.Contents.{contents}
 use Rattle.store_schema.specs.rows.Values.{item_values, proposal_values}
 use Rattle.store_sql.specs.Contents.{change_at}
-use Rattle.store_writes.specs.Steps.{contents_with, with_item}
+use Rattle.store_writes.specs.Steps.{AddsItem, contents_with}
 
 -- ---- one step of the loop
 
@@ -29,14 +29,15 @@ from_place k p xs x h =
     ap (items_from k p) (drop_more xs p x (slice_get_within xs p x h) ∙ ap (λ y. y ∷ drop (p + 1) xs) (get_or_from_slice_get xs p x x h))
 
 pub one_put : (k n p : ℕ) (xs : List ProposalItem) (x : ProposalItem) (first mid new : State) → n ≡ p + 1 → slice_get xs p ≡ Some x
-    → Turns desk_schema contents (contents_with (items_from k n (drop n xs))) first mid
-    → Moves desk_schema (with_item (item_values (record { proposal = k; place = p; item = x }))) mid new
-    → Turns desk_schema contents (contents_with (items_from k p (drop p xs))) first new
+    → Turns desk_layout contents (contents_with (items_from k n (drop n xs))) first mid
+    → AddsItem (item_values (record { proposal = k; place = p; item = x })) mid new
+    → Turns desk_layout contents (contents_with (items_from k p (drop p xs))) first new
+unfolding AddsItem
 one_put k n p xs x first mid new next h before did =
     let after = items_from k (p + 1) (drop (p + 1) xs) in
-    subst (λ l. Turns desk_schema contents (contents_with l) first new) (sym (from_place k p xs x h))
-    (turns_then desk_schema contents (contents_with after) (contents_with (record { proposal = k; place = p; item = x } ∷ after)) first mid new
-    (subst (λ m. Turns desk_schema contents (contents_with (items_from k m (drop m xs))) first mid) next before)
+    subst (λ l. Turns desk_layout contents (contents_with l) first new) (sym (from_place k p xs x h))
+    (turns_then desk_layout contents (contents_with after) (contents_with (record { proposal = k; place = p; item = x } ∷ after)) first mid new
+    (subst (λ m. Turns desk_layout contents (contents_with (items_from k m (drop m xs))) first mid) next before)
     (λ t sees. did.value (contents_with after t) sees) did.is_open did.inside did.kept)
 
 -- ---- the proposal's own row, after its items
@@ -44,11 +45,11 @@ one_put k n p xs x first mid new next h before did =
 proposed : (p : ProposalRow) (t : Tables) → contents (written (writes.Propose p) t) ≡ change_at 12 (λ rows. proposal_values p ∷ rows) (contents_with (item_rows p) t)
 proposed p t = ap (λ rows. change_at 13 (λ _. rows) (contents (written (writes.Propose p) t))) (map-append item_values (item_rows p) (flat_map item_rows t.proposals))
 
-pub row_put : (p : ProposalRow) (first mid new : State) → Turns desk_schema contents (contents_with (item_rows p)) first mid
-    → Moves desk_schema (change_at 12 (λ rows. proposal_values p ∷ rows)) mid new → Turns desk_schema contents (λ t. contents (written (writes.Propose p) t)) first new
+pub row_put : (p : ProposalRow) (first mid new : State) → Turns desk_layout contents (contents_with (item_rows p)) first mid
+    → Moves desk_layout (change_at 12 (λ rows. proposal_values p ∷ rows)) mid new → Turns desk_layout contents (λ t. contents (written (writes.Propose p) t)) first new
 row_put p first mid new before did =
-    turns_then desk_schema contents (contents_with (item_rows p)) (λ t. contents (written (writes.Propose p) t)) first mid new before
-    (λ t sees. subst (Sees desk_schema new) (sym (proposed p t)) (did.value (contents_with (item_rows p) t) sees)) did.is_open did.inside did.kept
+    turns_then desk_layout contents (contents_with (item_rows p)) (λ t. contents (written (writes.Propose p) t)) first mid new before
+    (λ t sees. subst (Sees desk_layout new) (sym (proposed p t)) (did.value (contents_with (item_rows p) t) sees)) did.is_open did.inside did.kept
 
 -- ---- the state of a proposal, of which its items know nothing
 

@@ -3,11 +3,12 @@
 use Rattle.std.specs.Prelude.{⊤, ℕ, pos, List, [], ◌∷◌, ◌++◌, map, Result}
 use Rattle.sqlite.specs.declared.types.Value.TheVariants.{Int, Text, Blob}
 use Rattle.sqlite.specs.Order.{Row}
+use Rattle.sqlite.specs.State.{State}
 use Rattle.sqlite.specs.Store.{Ghosts}
 use Rattle.sqlite.specs.Held.{Held}
 use Rattle.store_sql.specs.Contents.{Contents, change_at, no_rows}
-use Rattle.store_sql.specs.States.{Changes, DoesInside, Turns}
-use Rattle.store_schema.specs.Tables.{desk_schema}
+use Rattle.store_sql.specs.States.{Changes, DoesInside, Moves, Turns}
+use Rattle.store_schema.specs.Tables.{desk_layout, desk_schema}
 use Rattle.desk_texts.specs.declared.proposal.ItemKind.{ItemKind}
 use Rattle.desk_texts.specs.Words.{item_kind_text}
 use Rattle.desk_history.specs.declared.rows.ProposalItemRow.{ProposalItemRow}
@@ -17,12 +18,12 @@ use Rattle.store_schema.specs.rows.Values.{item_values}
 
 -- after a success, the tables hold what this change makes of their contents
 abbrev pub Steps : {S X E : Type 0} → Ghosts S → Held S → Held S → Result X E → (Tables → Tables) → Type 0
-Steps g old new result change = DoesInside g old new result (λ _ before after. Changes desk_schema contents before after change)
+Steps g old new result change = DoesInside g old new result (λ _ before after. Changes desk_layout contents before after change)
 
 -- after a success in tables without rows, they hold those of this owner's desk without calls
 abbrev pub Begins : {S X E : Type 0} → Ghosts S → Held S → Held S → Result X E → List ℕ → Type 0
 Begins g old new result owner =
-    DoesInside g old new result (λ _ before after. Turns desk_schema (λ (_ : ⊤). no_rows desk_schema.tables) (λ _. contents (tables owner [])) before after)
+    DoesInside g old new result (λ _ before after. Turns desk_layout (λ (_ : ⊤). no_rows desk_schema.tables) (λ _. contents (tables owner [])) before after)
 
 -- the tables of a desk without calls, before the row that says how many calls were accepted by the
 -- first rules
@@ -32,7 +33,7 @@ unmigrated owner = record (tables owner []) { migrated = [] }
 -- after a success in tables without rows, they hold these
 abbrev pub Founds : {S X E : Type 0} → Ghosts S → Held S → Held S → Result X E → Tables → Type 0
 Founds g old new result t =
-    DoesInside g old new result (λ _ before after. Turns desk_schema (λ (_ : ⊤). no_rows desk_schema.tables) (λ _. contents t) before after)
+    DoesInside g old new result (λ _ before after. Turns desk_layout (λ (_ : ⊤). no_rows desk_schema.tables) (λ _. contents t) before after)
 
 -- the tables with the row that says how many calls were accepted by the first rules
 abbrev pub with_migrated : ℕ → Tables → Tables
@@ -50,6 +51,10 @@ item_columns proposal place kind digest name generation =
 -- the contents with one more row among the items of proposals
 abbrev pub with_item : Row → Contents → Contents
 with_item row c = change_at 13 (λ rows. row ∷ rows) c
+
+-- the row is added among the items of proposals, and nothing else changes
+unfoldable pub AddsItem : Row → State → State → Type 0
+AddsItem row old new = Moves desk_layout (with_item row) old new
 
 -- the rows of the tables, with these items of a proposal besides
 abbrev pub contents_with : List ProposalItemRow → Tables → Contents

@@ -5,9 +5,9 @@ ghost use Rattle.store_schema.specs.rows.Values.{item_values};
 ghost use Rattle.desk_history.specs.Items.{items_from, items_of};
 ghost use Rattle.desk_history.specs.Writes.{written};
 ghost use Rattle.desk_history.specs.declared.write.Write.TheVariants as writes;
-ghost use Rattle.store_sql.specs.States.{DoesInside, CommitsNothing, Moves, Spares, StaysInside, Turns};
-ghost use Rattle.store_schema.specs.Tables.{desk_schema};
-ghost use Rattle.store_writes.specs.Steps.{Steps, contents_with, item_columns, with_item};
+ghost use Rattle.store_sql.specs.States.{DoesInside, CommitsNothing, Spares, StaysInside, Turns};
+ghost use Rattle.store_schema.specs.Tables.{desk_layout};
+ghost use Rattle.store_writes.specs.Steps.{AddsItem, Steps, contents_with, item_columns};
 
 use crate::stored::integer_value;
 use desk_history::ProposalRow;
@@ -29,8 +29,8 @@ fn insert_item<S: Alter>(
 ) -> Result<(), StoreFault>
     ensures same_reference { tx.new.conn.ghost_name ≡ tx.old.conn.ghost_name }
     ensures value { DoesInside S.Store tx.old.conn.now tx.new.conn.now result
-        (λ _. Moves desk_schema (with_item (item_columns proposal place kind digest.now name.now
-        generation))) }
+        (λ _. AddsItem (item_columns proposal place kind digest.now name.now
+        generation)) }
     ensures inside { StaysInside S.Store tx.old.conn.now tx.new.conn.now result }
     ensures kept { CommitsNothing S.Store tx.old.conn.now tx.new.conn.now }
     ensures survives { Spares S.Store tx.old.conn.now tx.new.conn.now }
@@ -56,11 +56,11 @@ fn put_item<S: Alter>(
     ensures same_reference { tx.new.conn.ghost_name ≡ tx.old.conn.ghost_name }
     ensures value { DoesInside S.Store tx.old.conn.now tx.new.conn.now result
         (λ _ before after. (x : _) → slice_get (items_of named.now) place ≡ Some x
-        → Moves desk_schema (with_item (item_values (record {
+        → AddsItem (item_values (record {
           proposal = proposal;
           place = place;
           item = x;
-        }))) before after) }
+        })) before after) }
     ensures inside { StaysInside S.Store tx.old.conn.now tx.new.conn.now result }
     ensures kept { CommitsNothing S.Store tx.old.conn.now tx.new.conn.now }
     ensures survives { Spares S.Store tx.old.conn.now tx.new.conn.now }
@@ -109,7 +109,7 @@ fn put_items<S: Alter>(
 ) -> Result<(), StoreFault>
     ensures same_reference { tx.new.conn.ghost_name ≡ tx.old.conn.ghost_name }
     ensures value { DoesInside S.Store tx.old.conn.now tx.new.conn.now result
-        (λ _. Turns desk_schema contents (contents_with (items_from proposal 0
+        (λ _. Turns desk_layout contents (contents_with (items_from proposal 0
         (items_of named.now)))) }
     ensures kept { CommitsNothing S.Store tx.old.conn.now tx.new.conn.now }
     ensures survives { Spares S.Store tx.old.conn.now tx.new.conn.now }

@@ -3,7 +3,7 @@ use Rattle.sqlite.specs.Held.{state}
 use Rattle.sqlite.specs.State.{HasCleanDisk}
 use Rattle.store_schema.specs.rows.Contents.{contents}
 use Rattle.store_sql.proofs.StopLemmas.{changes_then}
-use Rattle.store_schema.specs.Tables.{desk_schema}
+use Rattle.store_schema.specs.Tables.{desk_layout}
 use Rattle.store_counts.proofs.counting.count_by_state.Goals as goal
 
 pub returns-clause-value : goal.returns-clause-value
@@ -18,7 +18,7 @@ returns-clause-value g c clean inside =
     let b = c.in_ok-waiting.ensures.value c2 a.kept.inside in
     let d = c.in_ok-ended.ensures.value clean b.kept.inside in
     record {
-      kept = changes_then desk_schema contents s0 s1 s3 (λ t. t) (λ t. t) a.kept (changes_then desk_schema contents s1 s2 s3 (λ t. t) (λ t. t) b.kept d.kept);
+      kept = changes_then desk_layout contents s0 s1 s3 (λ t. t) (λ t. t) a.kept (changes_then desk_layout contents s1 s2 s3 (λ t. t) (λ t. t) b.kept d.kept);
       tells = λ t sees.
           let sees1 = a.kept.value t sees in
           let sees2 = b.kept.value t sees1 in

@@ -3,7 +3,7 @@ use Rattle.sqlite.specs.Held.{state}
 use Rattle.sqlite.specs.State.{HasCleanDisk}
 use Rattle.store_schema.specs.rows.Contents.{contents}
 use Rattle.store_sql.proofs.StopLemmas.{changes_then}
-use Rattle.store_schema.specs.Tables.{desk_schema}
+use Rattle.store_schema.specs.Tables.{desk_layout}
 use Rattle.store_counts.proofs.counting.count_waiting.Goals as goal
 
 pub returns-clause-value : goal.returns-clause-value
@@ -15,7 +15,7 @@ returns-clause-value g c clean inside =
     let a = c.in_ok-still_open.ensures.value c1 inside in
     let b = c.in_ok-approved.ensures.value clean a.kept.inside in
     record {
-      kept = changes_then desk_schema contents s0 s1 s2 (λ t. t) (λ t. t) a.kept b.kept;
+      kept = changes_then desk_layout contents s0 s1 s2 (λ t. t) (λ t. t) a.kept b.kept;
       tells = λ t sees.
           let sees1 = a.kept.value t sees in
           record { still_open = a.tells t sees; approved = b.tells t sees1 };

@@ -17,5 +17,5 @@ pub returns : goal.returns
 returns g c =
     let old = c.args.conn.now in
     of_rows g.S.Store entry_values (λ e. spelling (x509_row c.args.owner e.body)) SELECT_LISTED_OF.now (Text (kind_text kinds.Certificate) ∷ []) (entries_of kinds.Certificate) old c.put_rows.new.conn
-    (g.W.Write.contents c.args.writer.now) (g.W.Write.contents c.put_rows.new.writer) c.put_rows.result facts.select_listed_of.plain
+    (g.W.Write.contents c.args.writer.now) (g.W.Write.contents c.put_rows.new.writer) c.put_rows.result (λ schema fits. (facts.select_listed_of schema fits).plain)
     (λ clean. tells_listed_certificates (state g.S.Store old) clean c.args.owner) (rw (c.params-to_sql.ensures, c.text-kind.ensures) at c.put_rows.ensures)

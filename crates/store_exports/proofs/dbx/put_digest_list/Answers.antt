@@ -58,4 +58,4 @@ returns g c =
     (λ clean by cs was. c.in_ok-count.ensures.0 ∙ c.in_ok-counted.ensures.ok clean by cs was)
     c.put_rows.new.conn (g.W.Write.contents c.args.writer.now) head all c.put_rows.result more c.in_ok-sha256_head.ensures.ok
     (of_rows g.S.Store digest_values (sha256_entry_bytes owner) SELECT_REVOKED_DIGESTS.now [] (revoked kinds.Digest) mid c.put_rows.new.conn head all c.put_rows.result
-    facts.select_revoked_digests.plain (λ clean. tells_digests (state g.S.Store mid) clean owner) c.put_rows.ensures)
+    (λ schema fits. (facts.select_revoked_digests schema fits).plain) (λ clean. tells_digests (state g.S.Store mid) clean owner) c.put_rows.ensures)

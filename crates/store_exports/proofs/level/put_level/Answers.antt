@@ -44,4 +44,4 @@ returns g c =
     same_bytes g.S.Store old end x z c.put_rows.result (λ cs. head_text n ++ flat_map (λ x. row_text x.name x.generation) (level_components cs)) (level_with n) (is_level n)
     (after_write g.S.Store old end x y z c.put_rows.result (head_text n) (λ cs. flat_map (λ x. row_text x.name x.generation) (level_components cs)) c.in_ok-level_head.ensures.ok
     (of_rows g.S.Store component_values (λ x. row_text x.name x.generation) SELECT_COMPONENTS.now [] level_components old end y z c.put_rows.result
-    facts.select_components.plain (tells_components (state g.S.Store old)) c.put_rows.ensures))
+    (λ schema fits. (facts.select_components schema fits).plain) (tells_components (state g.S.Store old)) c.put_rows.ensures))

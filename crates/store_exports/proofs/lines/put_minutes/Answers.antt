@@ -17,4 +17,4 @@ returns g c =
     let x = g.W.Write.contents c.args.writer.now in
     let y = g.W.Write.contents c.put_rows.new.writer in
     same_bytes g.S.Store old end x y c.put_rows.result (λ cs. flat_map line (reverse (called cs))) minutes_text (λ cs. lines_of (minutes cs))
-    (of_rows g.S.Store columns_row line SELECT_CALLS.now [] (λ cs. reverse (called cs)) old end x y c.put_rows.result facts.select_calls.plain (tells_calls (state g.S.Store old)) c.put_rows.ensures)
+    (of_rows g.S.Store columns_row line SELECT_CALLS.now [] (λ cs. reverse (called cs)) old end x y c.put_rows.result (λ schema fits. (facts.select_calls schema fits).plain) (tells_calls (state g.S.Store old)) c.put_rows.ensures)

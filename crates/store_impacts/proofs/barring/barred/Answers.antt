@@ -3,7 +3,7 @@ use Rattle.sqlite.specs.Held.{state}
 use Rattle.sqlite.specs.State.{HasCleanDisk}
 use Rattle.desk_history.specs.Impact.{impact_of, standing_of, would_force}
 use Rattle.desk_history.specs.ImpactShown.{shown_barred}
-use Rattle.store_schema.specs.Tables.{desk_schema}
+use Rattle.store_schema.specs.Tables.{desk_layout}
 use Rattle.store_schema.specs.rows.Contents.{contents}
 use Rattle.store_sql.proofs.StopLemmas.{changes_then}
 use Rattle.store_impacts.specs.Touching.{brought, is_touched, touched}
@@ -21,7 +21,7 @@ returns-clause-value g c clean inside =
     let a = c.in_ok-found.ensures.value c1 inside in
     let b = c.in_ok-own_row.ensures.value clean a.kept.inside in
     record {
-      kept = changes_then desk_schema contents s0 s1 s2 (λ t. t) (λ t. t) a.kept b.kept;
+      kept = changes_then desk_layout contents s0 s1 s2 (λ t. t) (λ t. t) a.kept b.kept;
       tells = λ owner cs history sees k alike are.
           all_told entries cs c.entries_bar_alone.ensures.tell k alike found
           (a.tells owner cs history sees (filter (is_touched entries) (reverse (brought cs))) (all_brought entries cs) (sym are));

@@ -2,7 +2,7 @@ use Rattle.std.proofs.Common.{ap, arith}
 use Rattle.sqlite.specs.Held.{state}
 use Rattle.sqlite.specs.State.{HasCleanDisk}
 use Rattle.store_schema.proofs.SelectFacts as facts
-use Rattle.store_schema.specs.Tables.{desk_schema}
+use Rattle.store_schema.specs.Tables.{desk_layout}
 use Rattle.store_schema.specs.rows.Histories.{rows_of}
 use Rattle.store_impacts.specs.Steps.{Seen}
 use Rattle.store_impacts.specs.declared.passing.Pass.{Pass}
@@ -22,19 +22,19 @@ returns-in-Ok-clause-ok g c clean owner cs history was =
     ap (λ (s : Seen). s.kept) seen
 
 pub returns-in-Ok-clause-same : goal.returns-in-Ok-clause-same
-returns-in-Ok-clause-same g c owner cs was = c.in-Ok.ensures.same desk_schema (rows_of owner cs) facts.select_calls.plain was
+returns-in-Ok-clause-same g c owner cs was = c.in-Ok.ensures.same desk_layout (rows_of owner cs) (λ schema fits. (facts.select_calls schema fits).plain) was
 
 pub returns-in-Ok-clause-spares : goal.returns-in-Ok-clause-spares
-returns-in-Ok-clause-spares g c owner cs was = c.in-Ok.ensures.spares desk_schema (rows_of owner cs) facts.select_calls.plain was
+returns-in-Ok-clause-spares g c owner cs was = c.in-Ok.ensures.spares desk_layout (rows_of owner cs) (λ schema fits. (facts.select_calls schema fits).plain) was
 
 pub returns-in-Err-Store-clause-same : goal.returns-in-Err-Store-clause-same
-returns-in-Err-Store-clause-same g c owner cs was = c.in-Err-Store.ensures.same desk_schema (rows_of owner cs) facts.select_calls.plain was
+returns-in-Err-Store-clause-same g c owner cs was = c.in-Err-Store.ensures.same desk_layout (rows_of owner cs) (λ schema fits. (facts.select_calls schema fits).plain) was
 
 pub returns-in-Err-Store-clause-spares : goal.returns-in-Err-Store-clause-spares
-returns-in-Err-Store-clause-spares g c owner cs was = c.in-Err-Store.ensures.spares desk_schema (rows_of owner cs) facts.select_calls.plain was
+returns-in-Err-Store-clause-spares g c owner cs was = c.in-Err-Store.ensures.spares desk_layout (rows_of owner cs) (λ schema fits. (facts.select_calls schema fits).plain) was
 
 pub returns-clause-same : goal.returns-clause-same
-returns-clause-same g c owner cs was = c.in-Err-Taker.ensures.same desk_schema (rows_of owner cs) facts.select_calls.plain was
+returns-clause-same g c owner cs was = c.in-Err-Taker.ensures.same desk_layout (rows_of owner cs) (λ schema fits. (facts.select_calls schema fits).plain) was
 
 pub returns-clause-spares : goal.returns-clause-spares
-returns-clause-spares g c owner cs was = c.in-Err-Taker.ensures.spares desk_schema (rows_of owner cs) facts.select_calls.plain was
+returns-clause-spares g c owner cs was = c.in-Err-Taker.ensures.spares desk_layout (rows_of owner cs) (λ schema fits. (facts.select_calls schema fits).plain) was

@@ -5,7 +5,7 @@ use Rattle.sqlite.specs.State.{HasCleanDisk}
 use Rattle.desk_history.specs.People.{has_name, people}
 use Rattle.store_reads.specs.People.{IsOneOf}
 use Rattle.store_reads.specs.Reads.{ReadsTables, listed}
-use Rattle.store_schema.specs.Tables.{desk_schema}
+use Rattle.store_schema.specs.Tables.{desk_layout}
 use Rattle.store_schema.specs.rows.Contents.{contents}
 use Rattle.store_sql.proofs.StopLemmas.{changes_then}
 use Rattle.store_impacts.specs.Reading.{refusal_by, refusal_to}
@@ -38,7 +38,7 @@ returns-clause-value g c clean inside =
     let first : ReadsTables (λ t. IsOneOf kept t.people → filter (has_name name) t.people ≡ listed person) s0 s1 = c.in_ok-person.ensures.value c1 inside in
     let second = c.in_ok-own_row.ensures.value clean first.kept.inside in
     let read : ReadsTables (λ t. IsOneOf kept t.people → filter (has_name name) t.people ≡ listed person) s0 s2 =
-    record { kept = changes_then desk_schema contents s0 s1 s2 (λ t. t) (λ t. t) first.kept second.kept; tells = first.tells } in
+    record { kept = changes_then desk_layout contents s0 s1 s2 (λ t. t) (λ t. t) first.kept second.kept; tells = first.tells } in
     let some : c.refusal_by.result ≡ Some c.in-Some.refusal = search (rules, c.in-Some.is) in
     of_tables s0 s2 (λ t. IsOneOf kept t.people → filter (has_name name) t.people ≡ listed person)
     (λ cs. IsOneOf kept (people cs) → Some c.in-Some.refusal ≡ refusal_to cs c.args.caller.now)

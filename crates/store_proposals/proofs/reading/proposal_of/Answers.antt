@@ -3,7 +3,7 @@ use Rattle.sqlite.specs.Held.{state}
 use Rattle.sqlite.specs.State.{HasCleanDisk}
 use Rattle.store_schema.specs.rows.Contents.{contents}
 use Rattle.store_sql.proofs.StopLemmas.{changes_then}
-use Rattle.store_schema.specs.Tables.{desk_schema}
+use Rattle.store_schema.specs.Tables.{desk_layout}
 use Rattle.desk_history.specs.Items.{items_from, items_of}
 use Rattle.store_reads.specs.ProposalColumns.{head_of}
 use Rattle.store_reads.specs.Reads.{listed}
@@ -35,7 +35,7 @@ returns-clause-value g c clean inside =
     let some : c.in_ok-head.field-0 ≡ Some head = search (rules, c.in-Some.is) in
     let compared : rows ≡ items_from k 0 (items_of named) = search (rules, c.if-not-are_items.ensures, c.if-not-are_items.false) in
     record {
-      kept = changes_then desk_schema contents s0 s1 s2 (λ t. t) (λ t. t) a.kept b.kept;
+      kept = changes_then desk_layout contents s0 s1 s2 (λ t. t) (λ t. t) a.kept b.kept;
       tells = λ t sees.
           read_one k t head named rows (subst (λ o. map head_of (filter (λ p. k == p.number) t.proposals) ≡ listed o) some (a.tells t sees)) (b.tells t (a.kept.value t sees)).all
           compared c.in_ok-named.ensures.stamp c.in_ok-named.ensures.passed;

@@ -11,7 +11,7 @@ use Rattle.store_proposals.specs.Listing.{AreListed}
 use Rattle.store_reads.specs.People.{IsOneOf}
 use Rattle.store_reads.specs.Reads.{ReadsTables, listed}
 use Rattle.store_reads.proofs.TellsLemmas.{tells_then}
-use Rattle.store_schema.specs.Tables.{desk_schema}
+use Rattle.store_schema.specs.Tables.{desk_layout}
 use Rattle.store_schema.specs.rows.Contents.{contents}
 use Rattle.store_sql.proofs.StopLemmas.{changes_then}
 use Rattle.store_requests.proofs.ProposedLemmas.{gives_all, gives_no_officer, gives_nobody}
@@ -43,7 +43,7 @@ returns-then-not-sees_proposals-clause-value g c clean inside =
     let first : ReadsTables (λ t. IsOneOf kept t.people → filter (has_name name) t.people ≡ listed found) s0 s1 = c.in_ok-found.ensures.value c1 inside in
     let second = c.in_ok-own_row.ensures.value clean first.kept.inside in
     let read : ReadsTables (λ t. IsOneOf kept t.people → filter (has_name name) t.people ≡ listed found) s0 s2 =
-    record { kept = changes_then desk_schema contents s0 s1 s2 (λ t. t) (λ t. t) first.kept second.kept; tells = first.tells } in
+    record { kept = changes_then desk_layout contents s0 s1 s2 (λ t. t) (λ t. t) first.kept second.kept; tells = first.tells } in
     let some : found ≡ Some reader = search (rules, c.in-Some.is) in
     let no : is_officer reader.role ≡ false = search rules in
     tells_of s0 s2 (λ t. IsOneOf kept t.people → filter (has_name name) t.people ≡ listed found) (λ cs. IsOneOf kept (people cs) → IsGiven (proposals_for cs (callers.Person name)) (Err refusals.NotYourRole) (λ ps shown. shown.items ≡ map (shown_proposal cs) ps))

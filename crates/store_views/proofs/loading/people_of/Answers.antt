@@ -6,7 +6,7 @@ use Rattle.desk_texts.specs.Callers.{caller_name}
 use Rattle.store_schema.specs.rows.Contents.{contents}
 use Rattle.desk_history.specs.People.{added_by, has_name}
 use Rattle.store_sql.proofs.StopLemmas.{changes_then}
-use Rattle.store_schema.specs.Tables.{desk_schema}
+use Rattle.store_schema.specs.Tables.{desk_layout}
 use Rattle.store_reads.specs.People.{IsOneOf}
 use Rattle.store_reads.specs.Reads.{ReadsTables, listed}
 use Rattle.store_views.specs.Steps.{ShowsPeople}
@@ -50,7 +50,7 @@ returns-clause-value g c clean inside =
     let all = put_thrice c.new-people.result.items c.push_some.new.rows.items c.push_some-2.new.rows.items rows (listed own) (listed namesake) (listed holder)
     c.new-people.ensures.items c.in_ok-push_some.ensures c.in_ok-push_some-2.ensures c.in_ok-push_some-3.ensures in
     record {
-      kept = changes_then desk_schema contents s0 s1 s3 (λ t. t) (λ t. t) a.kept (changes_then desk_schema contents s1 s2 s3 (λ t. t) (λ t. t) b.kept d.kept);
+      kept = changes_then desk_layout contents s0 s1 s3 (λ t. t) (λ t. t) a.kept (changes_then desk_layout contents s1 s2 s3 (λ t. t) (λ t. t) b.kept d.kept);
       tells = λ t sees known.
           let sees1 = a.kept.value t sees in
           let sees2 = b.kept.value t sees1 in

@@ -3,7 +3,7 @@ use Rattle.sqlite.specs.Held.{state}
 use Rattle.sqlite.specs.State.{HasCleanDisk}
 use Rattle.store_schema.specs.rows.Contents.{contents}
 use Rattle.store_sql.proofs.StopLemmas.{changes_then}
-use Rattle.store_schema.specs.Tables.{desk_schema}
+use Rattle.store_schema.specs.Tables.{desk_layout}
 use Rattle.store_views.proofs.loading.rows_of_call.Goals as goal
 
 pub returns-clause-value : goal.returns-clause-value
@@ -24,9 +24,9 @@ returns-clause-value g c clean inside =
     let e = c.in_ok-votes.ensures.value c4 d.kept.inside in
     let f = c.in_ok-proposals.ensures.value clean e.kept.inside in
     record {
-      kept = changes_then desk_schema contents s0 s1 s5 (λ t. t) (λ t. t) a.kept
-          (changes_then desk_schema contents s1 s2 s5 (λ t. t) (λ t. t) b.kept
-          (changes_then desk_schema contents s2 s3 s5 (λ t. t) (λ t. t) d.kept (changes_then desk_schema contents s3 s4 s5 (λ t. t) (λ t. t) e.kept f.kept)));
+      kept = changes_then desk_layout contents s0 s1 s5 (λ t. t) (λ t. t) a.kept
+          (changes_then desk_layout contents s1 s2 s5 (λ t. t) (λ t. t) b.kept
+          (changes_then desk_layout contents s2 s3 s5 (λ t. t) (λ t. t) d.kept (changes_then desk_layout contents s3 s4 s5 (λ t. t) (λ t. t) e.kept f.kept)));
       tells = λ t sees back known.
           let sees1 = a.kept.value t sees in
           let sees2 = b.kept.value t sees1 in

@@ -4,7 +4,7 @@ use Rattle.sqlite.specs.Held.{state}
 use Rattle.sqlite.specs.State.{HasCleanDisk}
 use Rattle.store_schema.specs.rows.Contents.{contents}
 use Rattle.store_sql.proofs.StopLemmas.{changes_then}
-use Rattle.store_schema.specs.Tables.{desk_schema}
+use Rattle.store_schema.specs.Tables.{desk_layout}
 use Rattle.desk_rules.specs.Shown.{is_proposal_row}
 use Rattle.desk_rules.specs.Views.{ShowsLists}
 use Rattle.store_reads.specs.People.{IsOneOf}
@@ -24,7 +24,7 @@ returns-clause-value g c clean inside =
     let d = c.in_ok-lists.ensures.value c2 b.kept.inside in
     let e = c.in_ok-known.ensures.value clean d.kept.inside in
     record {
-      kept = changes_then desk_schema contents s0 s1 s3 (λ t. t) (λ t. t) b.kept (changes_then desk_schema contents s1 s2 s3 (λ t. t) (λ t. t) d.kept e.kept);
+      kept = changes_then desk_layout contents s0 s1 s3 (λ t. t) (λ t. t) b.kept (changes_then desk_layout contents s1 s2 s3 (λ t. t) (λ t. t) d.kept e.kept);
       tells = λ t sees back current. rw (← c.call.view_is) (
           let sees1 = b.kept.value t sees in
           let sees2 = d.kept.value t sees1 in

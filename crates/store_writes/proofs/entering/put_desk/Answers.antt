@@ -4,7 +4,7 @@ use Rattle.sqlite.specs.Held.{state}
 use Rattle.sqlite.specs.State.{HasCleanDisk}
 use Rattle.store_sql.specs.Contents.{no_rows}
 use Rattle.store_sql.proofs.StopLemmas.{turns_then}
-use Rattle.store_schema.specs.Tables.{desk_schema}
+use Rattle.store_schema.specs.Tables.{desk_layout, desk_schema}
 use Rattle.desk_history.specs.Tables.{tables}
 use Rattle.store_schema.specs.rows.Contents.{contents}
 use Rattle.store_writes.specs.Steps.{unmigrated}
@@ -19,5 +19,5 @@ returns-clause-value g c clean inside =
     let late : HasCleanDisk mid = omega (arith, c.in_ok-put_migrated.ensures.survives.clean, clean) in
     let own = c.in_ok-put_own.ensures.value late inside in
     let it = c.in_ok-put_migrated.ensures.value clean own.inside in
-    turns_then desk_schema (λ (_ : ⊤). no_rows desk_schema.tables) (λ _. contents (unmigrated owner)) (λ _. contents (tables owner []))
+    turns_then desk_layout (λ (_ : ⊤). no_rows desk_schema.tables) (λ _. contents (unmigrated owner)) (λ _. contents (tables owner []))
     first mid new own (λ _ sees. it.value (unmigrated owner) sees) it.is_open it.inside it.kept

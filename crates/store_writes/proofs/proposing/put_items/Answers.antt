@@ -4,7 +4,7 @@ use Rattle.sqlite.specs.Held.{state}
 use Rattle.sqlite.specs.State.{HasCleanDisk}
 use Rattle.sqlite.proofs.StateLemmas.{survives_then}
 use Rattle.store_sql.specs.States.{Turns}
-use Rattle.store_schema.specs.Tables.{desk_schema}
+use Rattle.store_schema.specs.Tables.{desk_layout}
 use Rattle.desk_history.specs.declared.rows.ProposalItem.TheVariants as items
 use Rattle.desk_history.specs.Items.{items_from, items_of}
 use Rattle.store_schema.specs.rows.Contents.{contents}
@@ -40,4 +40,4 @@ returns-clause-value g c clean inside =
     let last = state g.S.Store c.loop-place.tx.conn.now in
     let all = items_of c.args.named.now in
     let none : c.loop-place.place ≡ 0 = omega (arith, c.loop-place-test.false) in
-    subst (λ n. Turns desk_schema contents (contents_with (items_from c.args.proposal n (drop n all))) first last) none (c.loop-place.invariant.3 clean inside)
+    subst (λ n. Turns desk_layout contents (contents_with (items_from c.args.proposal n (drop n all))) first last) none (c.loop-place.invariant.3 clean inside)

@@ -2,7 +2,7 @@ use Rattle.std.proofs.Common.{arith}
 use Rattle.sqlite.specs.Held.{state}
 use Rattle.sqlite.specs.State.{HasCleanDisk}
 use Rattle.store_schema.specs.Columns.{values_of}
-use Rattle.store_schema.specs.Tables.{desk_schema, proposals}
+use Rattle.store_schema.specs.Tables.{desk_layout, proposals}
 use Rattle.store_schema.proofs.InsertFacts.{insert_proposal}
 use Rattle.store_schema.specs.rows.Values.{proposal_values}
 use Rattle.store_writes.proofs.ItemLemmas.{row_put}
@@ -19,4 +19,4 @@ returns-clause-value g c clean inside =
     let named = c.in_ok-put_items.ensures.value late inside in
     row_put p first mid new named
     (rw (c.params-to_sql.ensures, c.params-to_sql-2.ensures, c.params-to_sql-3.ensures, c.params-to_sql-4.ensures, c.params-to_sql-5.ensures, c.params-to_sql-6.ensures, c.in_ok-number.ensures.value, c.in_ok-stamp.ensures.value, c.in_ok-passed.ensures.value, c.value.ensures.value, c.stamp_number.ensures, c.stamp.ensures, c.passed.ensures.value, c.as_str.ensures.value, c.text.ensures, c.text-2.ensures) at (c.in_ok-insert.ensures.value clean named.inside)
-    desk_schema 12 proposals (values_of proposals) (proposal_values p) insert_proposal (proposal_in p))
+    desk_layout 12 proposals (values_of proposals) (proposal_values p) insert_proposal (proposal_in p))

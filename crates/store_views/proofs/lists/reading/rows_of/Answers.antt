@@ -3,7 +3,7 @@ use Rattle.sqlite.specs.Held.{state}
 use Rattle.sqlite.specs.State.{HasCleanDisk}
 use Rattle.desk_texts.specs.declared.kind.ListedKind.TheVariants as kinds
 use Rattle.store_schema.specs.rows.Contents.{contents}
-use Rattle.store_schema.specs.Tables.{desk_schema}
+use Rattle.store_schema.specs.Tables.{desk_layout}
 use Rattle.store_sql.proofs.StopLemmas.{changes_then}
 use Rattle.store_views.specs.lists.Gathering.{keys_of}
 use Rattle.store_views.proofs.ShownLemmas.{gathered_components, gathered_revoked, shows_lists}
@@ -28,9 +28,9 @@ returns-clause-value g c clean inside =
     let e = certificates.value clean3 d.kept.inside in
     let f = components.value clean e.kept.inside in
     record {
-      kept = changes_then desk_schema contents at0 at1 at4 (λ t. t) (λ t. t) b.kept
-          (changes_then desk_schema contents at1 at2 at4 (λ t. t) (λ t. t) d.kept
-          (changes_then desk_schema contents at2 at3 at4 (λ t. t) (λ t. t) e.kept f.kept));
+      kept = changes_then desk_layout contents at0 at1 at4 (λ t. t) (λ t. t) b.kept
+          (changes_then desk_layout contents at1 at2 at4 (λ t. t) (λ t. t) d.kept
+          (changes_then desk_layout contents at2 at3 at4 (λ t. t) (λ t. t) e.kept f.kept));
       tells = λ t sees.
           let sees1 = b.kept.value t sees in
           let sees2 = d.kept.value t sees1 in
