@@ -20,7 +20,7 @@ use Rattle.desk_rules.specs.First.{ShowsToFirst}
 use Rattle.desk_rules.specs.declared.view.Changes.{Changes as Decided}
 use Rattle.desk_rules.specs.declared.view.View.{View}
 use Rattle.store_migration.proofs.HistoryLemmas.{migrated_tables}
-use Rattle.store_schema.specs.Tables.{desk_schema}
+use Rattle.store_schema.specs.Tables.{desk_layout}
 use Rattle.store_schema.specs.rows.Contents.{contents}
 use Rattle.store_schema.specs.rows.Histories.{AreFirst, ShowsHistory}
 use Rattle.store_sql.specs.States.{Changes, Sees}
@@ -47,19 +47,19 @@ counted_tables owner cs n first is =
 
 -- ---- inside the transaction
 
-module _ (f : Figures) (c : Call) (v : View) (first read last : State) (decided : Decided) (later : Figures) (seen : Changes desk_schema contents first read (λ t. t))
-    (shown : (p : FirstPast f) → Sees desk_schema first (before f p) → ShowsToFirst v (tables p.owner p.calls) c) (accepts : Accepts v c decided)
-    (turns : TurnInto f c.command decided.writes.items later) (wrote : Changes desk_schema contents read last (λ t. with_first_calls later.sizes.calls (all_written decided.writes.items t))) where
-  told : (p : FirstPast f) → Sees desk_schema first (before f p) → AcceptsWith decided p.owner p.calls c
+module _ (f : Figures) (c : Call) (v : View) (first read last : State) (decided : Decided) (later : Figures) (seen : Changes desk_layout contents first read (λ t. t))
+    (shown : (p : FirstPast f) → Sees desk_layout first (before f p) → ShowsToFirst v (tables p.owner p.calls) c) (accepts : Accepts v c decided)
+    (turns : TurnInto f c.command decided.writes.items later) (wrote : Changes desk_layout contents read last (λ t. with_first_calls later.sizes.calls (all_written decided.writes.items t))) where
+  told : (p : FirstPast f) → Sees desk_layout first (before f p) → AcceptsWith decided p.owner p.calls c
   told p sees = accepts p.owner p.calls p.history.legal p.first (shown p sees)
 
-  right : (p : FirstPast f) → Sees desk_schema first (before f p) → AreOf later (tables p.owner (under First c ∷ p.calls))
+  right : (p : FirstPast f) → Sees desk_layout first (before f p) → AreOf later (tables p.owner (under First c ∷ p.calls))
   right p sees =
       let it = told p sees in
       let legal : is_legal (under First c ∷ p.calls) ≡ true = subst (λ h. is_legal h ≡ true) (joined p.calls (under First c) decided.reply it.accepted) (next_legal p.calls (under First c) p.first p.history.legal) in
       turns p.owner p.calls c legal refl it.made p.right
 
-  made : (p : FirstPast f) → Sees desk_schema first (before f p) → with_first_calls later.sizes.calls (all_written decided.writes.items (tables p.owner p.calls)) ≡ tables p.owner (under First c ∷ p.calls)
+  made : (p : FirstPast f) → Sees desk_layout first (before f p) → with_first_calls later.sizes.calls (all_written decided.writes.items (tables p.owner p.calls)) ≡ tables p.owner (under First c ∷ p.calls)
   made p sees = ap (with_first_calls later.sizes.calls) (told p sees).made ∙ counted_tables p.owner (under First c ∷ p.calls) later.sizes.calls p.first (right p sees).calls
 
   pub follows_inside : FollowsInside f c (record { reply = decided.reply; figures = later }) first last
@@ -71,7 +71,7 @@ module _ (f : Figures) (c : Call) (v : View) (first read last : State) (decided 
         was_open = λ o. seen.kept.was_open (wrote.kept.was_open o);
         committed = λ o. wrote.kept.committed o ∙ seen.kept.committed (wrote.kept.was_open o);
       };
-      value = λ p sees. subst (λ (t : Tables). Sees desk_schema last (contents t)) (made p sees) (wrote.value (tables p.owner p.calls) (seen.value (tables p.owner p.calls) sees));
+      value = λ p sees. subst (λ (t : Tables). Sees desk_layout last (contents t)) (made p sees) (wrote.value (tables p.owner p.calls) (seen.value (tables p.owner p.calls) sees));
     };
     answered = λ p sees. record { accepted = (told p sees).accepted; right = right p sees };
   }
@@ -81,7 +81,7 @@ module _ (f : Figures) (c : Call) (v : View) (first read last : State) (decided 
 module _ {S : Type 0} (g : store.Ghosts S) (old last end : Held S) (f : Figures) (c : Call) where
   -- the transaction that began shows what the connection shows
   sees_begun : (does : State → State → Type 0) → Worked g old last does → HasCleanDisk (state g last) → (p : FirstPast f) → ShowsHistory (state g old) p.owner p.calls
-      → Sees desk_schema (state g (record old { in_transaction = true })) (before f p)
+      → Sees desk_layout (state g (record old { in_transaction = true })) (before f p)
   sees_begun does did late p shows = record {
     inside = refl;
     holds = (shows.holds (omega (arith, did.spares.clean, late)) ((did.kept late).was_open (did.inside late).0)).0;
@@ -93,7 +93,7 @@ module _ {S : Type 0} (g : store.Ghosts S) (old last end : Held S) (f : Figures)
   committed followed did late done = record {
     is_open = done.is_open;
     answered = λ p shows. (did.value late).answered p (sees_begun (ActsFirst f c (Some followed)) did late p shows);
-    shown = shows_all desk_schema (before f) (after f c) g old last end did.spares (λ clean. ((did.inside clean).0, (did.value clean).turned)) late done;
+    shown = shows_all desk_layout (before f) (after f c) g old last end did.spares (λ clean. ((did.inside clean).0, (did.value clean).turned)) late done;
   }
 
   -- it wasn't accepted

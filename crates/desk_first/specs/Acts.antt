@@ -14,7 +14,7 @@ use Rattle.desk_rules.specs.declared.view.Changes.{Changes}
 use Rattle.desk_rules.specs.declared.view.View.{View}
 use Rattle.store_sql.specs.Contents.{Contents}
 use Rattle.store_sql.specs.States.{Sees, Turns}
-use Rattle.store_schema.specs.Tables.{desk_schema}
+use Rattle.store_schema.specs.Tables.{desk_layout}
 use Rattle.store_schema.specs.rows.Histories.{AreFirst, ShowsHistory, rows_of}
 use Rattle.desk_first.specs.declared.acting.Followed.{Followed}
 use Rattle.desk_first.specs.declared.figures.Figures.{Figures}
@@ -70,13 +70,13 @@ pub record IsFollowed {f : Figures} (c : Call) (followed : Followed) (p : FirstP
 
 -- inside a transaction the tables turn into those of the next history, and the call is accepted
 pub record FollowsInside (f : Figures) (c : Call) (followed : Followed) (old new : State) : Type 0 where
-  pub turned : Turns desk_schema (before f) (after f c) old new
-  pub answered : (p : FirstPast f) → Sees desk_schema old (before f p) → IsFollowed c followed p
+  pub turned : Turns desk_layout (before f) (after f c) old new
+  pub answered : (p : FirstPast f) → Sees desk_layout old (before f p) → IsFollowed c followed p
 
 -- it is followed inside a transaction, or isn't accepted
 abbrev pub ActsFirst : Figures → Call → Option Followed → State → State → Type 0
 ActsFirst f c (Some followed) old new = FollowsInside f c followed old new
-ActsFirst f c None old new = (p : FirstPast f) → Sees desk_schema old (before f p) → IsNotAccepted c p
+ActsFirst f c None old new = (p : FirstPast f) → Sees desk_layout old (before f p) → IsNotAccepted c p
 
 -- the same for the connection outside, which is open after an accepted call
 pub record FollowsOutside (f : Figures) (c : Call) (followed : Followed) (old new : State) : Type 0 where

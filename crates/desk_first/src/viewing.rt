@@ -2,7 +2,7 @@
 ghost use Rattle.std.specs.Prelude.{◌≡◌};
 ghost use Rattle.desk_history.specs.Tables.{tables};
 ghost use Rattle.desk_rules.specs.First.{ShowsToFirst};
-ghost use Rattle.store_schema.specs.Tables.{desk_schema};
+ghost use Rattle.store_schema.specs.Tables.{desk_layout};
 ghost use Rattle.store_schema.specs.rows.Contents.{contents};
 ghost use Rattle.store_sql.specs.States.{Changes, CommitsNothing, DoesInside, Sees, Spares};
 ghost use Rattle.store_sql.specs.States.{StaysInside};
@@ -25,9 +25,9 @@ pub(crate) fn first_view<S: Alter>(
 ) -> Result<View, Refusal>
     ensures same_reference { tx.new.conn.ghost_name ≡ tx.old.conn.ghost_name }
     ensures value { DoesInside S.Store tx.old.conn.now tx.new.conn.now result
-        (λ v old new. Changes desk_schema contents old new (λ t. t)) }
+        (λ v old new. Changes desk_layout contents old new (λ t. t)) }
     ensures shown { DoesInside S.Store tx.old.conn.now tx.new.conn.now result
-        (λ v old new. (p : FirstPast figures.now) → Sees desk_schema old (before figures.now p)
+        (λ v old new. (p : FirstPast figures.now) → Sees desk_layout old (before figures.now p)
         → ShowsToFirst v (tables p.owner p.calls) call.now) }
     ensures inside { StaysInside S.Store tx.old.conn.now tx.new.conn.now result }
     ensures kept { CommitsNothing S.Store tx.old.conn.now tx.new.conn.now }

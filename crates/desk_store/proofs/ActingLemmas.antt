@@ -21,7 +21,7 @@ use Rattle.desk_rules.specs.declared.view.View.{View}
 use Rattle.store_views.specs.remembered.Current.{IsCurrent, StaysCurrent}
 use Rattle.store_views.specs.declared.remembered.Remembered.{Remembered}
 use Rattle.store_sql.specs.States.{Changes, Sees}
-use Rattle.store_schema.specs.Tables.{desk_schema}
+use Rattle.store_schema.specs.Tables.{desk_layout}
 use Rattle.desk_store.specs.Acts.{Acts}
 use Rattle.store_schema.specs.rows.Histories.{rows_of}
 use Rattle.desk_store.specs.Pasts.{Past, before}
@@ -51,8 +51,8 @@ module _ (r : Remembered) (c : Call) where
   -- the reads that made a view: it shows the tables, and what is remembered is current
   pub record Viewed (v : View) (counted : Remembered) (first read : State) : Type 0 where
     pub is_open : IsTrue read.is_open
-    pub changed : Changes desk_schema contents first read (λ t. t)
-    pub shown : (owner : List ℕ) (cs : History) → IsHistory cs → Sees desk_schema first (contents (tables owner cs))
+    pub changed : Changes desk_layout contents first read (λ t. t)
+    pub shown : (owner : List ℕ) (cs : History) → IsHistory cs → Sees desk_layout first (contents (tables owner cs))
         → IsCurrent r (tables owner cs) → Shows v (tables owner cs) c × IsCurrent counted (tables owner cs)
 
   -- the same, with nobody remembered
@@ -68,16 +68,16 @@ module _ (r : Remembered) (c : Call) where
       → ((owner : List ℕ) (cs : History) → IsTrue (is_legal cs) → Shows v (tables owner cs) c → answer cs c ≡ given)
       → Acts r c (record { answer = given; remembered = counted }) first read
   acts_not v counted first read given viewed out told =
-      let exact : (p : Past r) → Sees desk_schema first (before r p) → answer p.calls c ≡ given =
+      let exact : (p : Past r) → Sees desk_layout first (before r p) → answer p.calls c ≡ given =
       λ p sees. told p.owner p.calls p.history.legal (viewed.shown p.owner p.calls p.history sees p.right).0 in
-      let same : (p : Past r) → Sees desk_schema first (before r p) → next p.calls c ≡ p.calls =
+      let same : (p : Past r) → Sees desk_layout first (before r p) → next p.calls c ≡ p.calls =
       λ p sees. next_same p.calls c (ap is_accepted (exact p sees) ∙ out) in
       record {
         turned = record {
           is_open = viewed.changed.is_open;
           inside = viewed.changed.inside;
           kept = viewed.changed.kept;
-          value = λ p sees. subst (λ (cs : History). Sees desk_schema read (rows_of p.owner cs)) (sym (same p sees)) (viewed.changed.value (tables p.owner p.calls) sees);
+          value = λ p sees. subst (λ (cs : History). Sees desk_layout read (rows_of p.owner cs)) (sym (same p sees)) (viewed.changed.value (tables p.owner p.calls) sees);
         };
         answered = λ p sees. record {
           exact = exact p sees;
@@ -98,12 +98,12 @@ module _ (r : Remembered) (c : Call) where
   -- an accepted call, once its rows are written
   pub acts_accepted : (v : View) (counted later : Remembered) (first read last : State) (d : Decided) → Viewed v counted first read
       → length d.writes.items ≢ 0 → ((owner : List ℕ) (cs : History) → IsTrue (is_legal cs) → Shows v (tables owner cs) c → rules.Decides d owner cs c)
-      → Changes desk_schema contents read last (all_written d.writes.items) → StaysCurrent counted c.command d.writes.items later
+      → Changes desk_layout contents read last (all_written d.writes.items) → StaysCurrent counted c.command d.writes.items later
       → Acts r c (record { answer = Accepted d.reply; remembered = later }) first last
   acts_accepted v counted later first read last d viewed some told wrote follows =
-      let said : (p : Past r) → Sees desk_schema first (before r p) → rules.Decides d p.owner p.calls c =
+      let said : (p : Past r) → Sees desk_layout first (before r p) → rules.Decides d p.owner p.calls c =
       λ p sees. told p.owner p.calls p.history.legal (viewed.shown p.owner p.calls p.history sees p.right).0 in
-      let exact : (p : Past r) → Sees desk_schema first (before r p) → answer p.calls c ≡ Accepted d.reply =
+      let exact : (p : Past r) → Sees desk_layout first (before r p) → answer p.calls c ≡ Accepted d.reply =
       λ p sees. elim (said p sees).told [ inl accepted ↦ accepted | inr repeated ↦ absurd (some (ap length repeated.1)) ] in
       record {
         turned = record {
@@ -113,7 +113,7 @@ module _ (r : Remembered) (c : Call) where
             was_open = λ o. viewed.changed.kept.was_open (wrote.kept.was_open o);
             committed = λ o. wrote.kept.committed o ∙ viewed.changed.kept.committed (wrote.kept.was_open o);
           };
-          value = λ p sees. subst (λ (t : Tables). Sees desk_schema last (contents t)) (said p sees).made (wrote.value (tables p.owner p.calls) (viewed.changed.value (tables p.owner p.calls) sees));
+          value = λ p sees. subst (λ (t : Tables). Sees desk_layout last (contents t)) (said p sees).made (wrote.value (tables p.owner p.calls) (viewed.changed.value (tables p.owner p.calls) sees));
         };
         answered = λ p sees. (let yes_ : is_accepted (answer p.calls c) ≡ true = ap is_accepted (exact p sees) in
             let joined = next_joined p.calls c yes_ in

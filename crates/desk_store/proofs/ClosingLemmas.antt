@@ -17,7 +17,7 @@ use Rattle.sqlite_wal.specs.Reads.{AreClean}
 use Rattle.desk_bytes.specs.declared.refusal.Refusal.TheVariants as refusals
 use Rattle.store_schema.specs.rows.Histories.{HoldsHistory, rows_of}
 use Rattle.store_sql.proofs.StopLemmas.{committed_tables}
-use Rattle.store_schema.specs.Tables.{desk_schema}
+use Rattle.store_schema.specs.Tables.{desk_layout}
 use Rattle.desk_history.specs.Calls.{History}
 use Rattle.store_sql.specs.Faults.{fault_of, refusal_of}
 use Rattle.desk_store.specs.Closed.{AreClosed, OpenAgain}
@@ -28,7 +28,7 @@ module _ {D : Type 0} {g : Ghosts D} (desk : Desk (FileStore D g)) where
   -- the last commit of a desk has the rows of the history that it shows
   committed_rows : HasCleanDisk (file_state desk.conn) → IsTrue (file_state desk.conn).is_open
       → (owner : List ℕ) (cs : History) → ShowsDesk over_files desk owner cs → HoldsHistory (file_state desk.conn).committed.trees owner cs
-  committed_rows clean live owner cs was = committed_tables desk_schema (file_state desk.conn) (rows_of owner cs) was.shows clean live
+  committed_rows clean live owner cs was = committed_tables desk_layout (file_state desk.conn) (rows_of owner cs) was.shows clean live
 
   -- the rows that a close has copied
   pub copied_rows : (files : Files D) → IsCopied desk.conn files → (owner : List ℕ) (cs : History) → ShowsDesk over_files desk owner cs → AreClosed g files owner cs

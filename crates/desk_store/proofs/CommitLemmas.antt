@@ -10,7 +10,7 @@ use Rattle.desk_history.specs.Calls.{History}
 use Rattle.desk_history.specs.Runs.{is_accepted}
 use Rattle.store_sql.proofs.CommitLemmas.{Worked, undone_shows}
 use Rattle.store_sql.proofs.StopLemmas.{holds_all, shows_all, tables_of}
-use Rattle.store_schema.specs.Tables.{desk_schema}
+use Rattle.store_schema.specs.Tables.{desk_layout}
 use Rattle.desk_store.specs.Acts.{Acts, AnswersCurrently, LeavesNext, Runs}
 use Rattle.store_schema.specs.rows.Histories.{ShowsHistory, rows_of}
 use Rattle.store_views.specs.declared.remembered.Remembered.{Remembered}
@@ -30,7 +30,7 @@ module _ {S : Type 0} (g : store.Ghosts S) (old last : Held S) (r : Remembered) 
   committed end late done = record {
     is_open = λ _. done.is_open;
     answered = told late;
-    shown = shows_all desk_schema (before r) (after r c) g old last end did.spares (λ clean. ((did.inside clean).0, (did.value clean).turned)) late done;
+    shown = shows_all desk_layout (before r) (after r c) g old last end did.spares (λ clean. ((did.inside clean).0, (did.value clean).turned)) late done;
   }
 
   -- the call wasn't accepted, and nothing is committed
@@ -43,11 +43,11 @@ module _ {S : Type 0} (g : store.Ghosts S) (old last : Held S) (r : Remembered) 
         answered = told late;
         shown = λ p shows. subst (λ (cs : History). ShowsHistory (state g end) p.owner cs)
             (sym (next_same p.calls c (ap is_accepted (told late p shows).exact ∙ out)))
-            (undone_shows g old last end desk_schema (rows_of p.owner p.calls) (omega (arith, did.spares.clean, late)) (did.kept late) rolled shows);
+            (undone_shows g old last end desk_layout (rows_of p.owner p.calls) (omega (arith, did.spares.clean, late)) (did.kept late) rolled shows);
       }
 
   -- the trees of an accepted call are those of the next history
   pub next_trees : is_accepted acted.answer ≡ true → HasCleanDisk (state g last) → LeavesNext (state g old) r c (state g last).now.trees
   next_trees accepted late p shows =
-      let sees = holds_all desk_schema (before r) (after r c) g old last last p shows (omega (arith, did.spares.clean, late)) (did.inside late).0 (did.value late).turned in
-      (ap is_accepted (told late p shows).exact ∙ accepted, tables_of desk_schema (state g last).now (after r c p) sees.holds)
+      let sees = holds_all desk_layout (before r) (after r c) g old last last p shows (omega (arith, did.spares.clean, late)) (did.inside late).0 (did.value late).turned in
+      (ap is_accepted (told late p shows).exact ∙ accepted, tables_of desk_layout (state g last).now (after r c p) sees.holds)

@@ -18,6 +18,8 @@ use Rattle.sqlite_trees.specs.declared.error.StoreError.TheVariants.{OutOfMemory
 use Rattle.sqlite_resolve.specs.declared.error.CompileError.{CompileError}
 use Rattle.sqlite_schema.specs.Names.{same_name, table_named}
 use Rattle.store_sql.specs.Contents.{Holds}
+use Rattle.store_sql.specs.Layouts.{Fits, Layout, Others, beside}
+use Rattle.store_sql.proofs.LayoutLemmas.{is_alone}
 use Rattle.store_sql.specs.Effects.{IsSelected}
 use Rattle.store_sql.specs.Meanings.{SelectsRows}
 use Rattle.store_sql.proofs.ReadLemmas.{finds_rows}
@@ -26,14 +28,13 @@ use Rattle.desk_bytes.specs.declared.refusal.Refusal.TheVariants as refusals
 use Rattle.store_sql.specs.States.{Leaves}
 use Rattle.sqlite.specs.Tree.{Trees}
 use Rattle.store_schema.specs.Columns.{by_first, columns_after, names_of}
-use Rattle.store_schema.specs.Names.{takes_an_added_name}
-use Rattle.store_schema.specs.Tables.{desk, desk_schema, first_schema}
+use Rattle.store_schema.specs.Tables.{desk, desk_layout, desk_schema, first_layout, first_schema}
 use Rattle.store_schema.specs.declared.selecting.TheConstants.{SELECT_DESK}
 use Rattle.store_schema.proofs.SelectFacts.{select_desk, select_first_desk}
 use Rattle.store_reads.specs.Own.{ReadsAs, ReadsAsNone, ReadsBy, own_columns}
 use Rattle.store_reads.specs.declared.desk_row.OwnRow.{OwnRow}
 use Rattle.desk_store.specs.Rows.{AreBy, AreSelected}
-use Rattle.desk_store.specs.Steps.{AnswersRow, AreShownAs, FindsNone, FindsOther, IsDeskSchema, IsOwnOf, LacksRow, RefusesColumns, RefusesText, ShowsRows, TellsInside, TellsOutside}
+use Rattle.desk_store.specs.Steps.{AnswersRow, AreShownAs, FindsNone, FindsOther, IsDeskLayout, IsOwnOf, LacksRow, RefusesColumns, RefusesText, ShowsRows, TellsInside, TellsOutside}
 use Rattle.desk_store.proofs.VersionLemmas.{ShowsNone, ShowsOther, one_own}
 
 pub unchanged_keeps : (old new : State) → IsUnchanged old new → KeepsCommit old new
@@ -53,28 +54,30 @@ no_text Broken fault is = cc
 no_text Unstorable fault is = cc
 
 -- the query selects the desk's row from tables of either version
-asks_for_desk : (schema : Schema) → IsDeskSchema schema → SelectsRows schema 0 desk SELECT_DESK.now [] (by_first 1 desk) (columns_after 1 desk) (names_of desk)
-asks_for_desk schema (inl first) = subst (λ s. SelectsRows s 0 desk SELECT_DESK.now [] (by_first 1 desk) (columns_after 1 desk) (names_of desk)) (sym first) select_first_desk
-asks_for_desk schema (inr second) = subst (λ s. SelectsRows s 0 desk SELECT_DESK.now [] (by_first 1 desk) (columns_after 1 desk) (names_of desk)) (sym second) select_desk
+asks_for_desk : (layout : Layout) → IsDeskLayout layout → SelectsRows layout 0 desk SELECT_DESK.now [] (by_first 1 desk) (columns_after 1 desk) (names_of desk)
+asks_for_desk layout (inl first) = subst (λ l. SelectsRows l 0 desk SELECT_DESK.now [] (by_first 1 desk) (columns_after 1 desk) (names_of desk)) (sym first) select_first_desk
+asks_for_desk layout (inr second) = subst (λ l. SelectsRows l 0 desk SELECT_DESK.now [] (by_first 1 desk) (columns_after 1 desk) (names_of desk)) (sym second) select_desk
 
 -- both have a table `desk`
 named_first : is_some (table_named first_schema (codes "desk")) ≡ true
 unfolding same_name
 named_first = refl
 
-named_second : is_some (table_named desk_schema (codes "desk")) ≡ true
+named_second : (others : Others) → is_some (table_named (beside desk_schema others) (codes "desk")) ≡ true
 unfolding same_name
-named_second = refl
+named_second others = refl
 
 -- so they lack no row
-pub lacks_none : (schema : Schema) → IsDeskSchema schema → LacksRow schema → ⊥
-lacks_none schema (inl first) (inl unnamed) =
-    let none : is_some (table_named first_schema (codes "desk")) ≡ false = subst (λ s. is_some (table_named s (codes "desk")) ≡ false) first unnamed in
+pub lacks_none : (layout : Layout) (schema : Schema) → IsDeskLayout layout → Fits layout schema → LacksRow schema → ⊥
+lacks_none layout schema (inl first) fits (inl unnamed) =
+    let is = is_alone first_schema schema (subst (λ l. Fits l schema) first fits) in
+    let none : is_some (table_named first_schema (codes "desk")) ≡ false = subst (λ s. is_some (table_named s (codes "desk")) ≡ false) is unnamed in
     let clash = sym named_first ∙ none in cc
-lacks_none schema (inr second) (inl unnamed) =
-    let none : is_some (table_named desk_schema (codes "desk")) ≡ false = subst (λ s. is_some (table_named s (codes "desk")) ≡ false) second unnamed in
-    let clash = sym named_second ∙ none in cc
-lacks_none schema of_desk (inr (fault, bad)) = subst IsPlain bad (asks_for_desk schema of_desk).plain
+lacks_none layout schema (inr second) fits (inl unnamed) =
+    let it = subst (λ l. Fits l schema) second fits in
+    let none : is_some (table_named (beside desk_schema it.others) (codes "desk")) ≡ false = subst (λ s. is_some (table_named s (codes "desk")) ≡ false) it.is unnamed in
+    let clash = sym (named_second it.others) ∙ none in cc
+lacks_none layout schema of_desk fits (inr (fault, bad)) = subst IsPlain bad (asks_for_desk layout of_desk schema fits).plain
 
 -- where the text isn't understood, the open store lacks the row
 pub no_text_there : (old new : State) (e : Error) → IsNotRun old new SELECT_DESK.now [] e → RefusesText e → IsTrue old.is_open × LacksRow old.now.schema
@@ -106,11 +109,11 @@ read_alike rows answer own it other =
 module _ {S : Type 0} (g : store.Ghosts S) (conn : Held S) (clean : HasCleanDisk (state g conn)) (live : IsTrue (state g conn).is_open) where
   -- the answer of the query is one over the rows of a desk's tables
   pub answered : (told : List Row → Type 0) → AnswersRow g conn told → ShowsRows (state g conn) (λ _ rows. AreSelected rows told)
-  answered told it schema c rows of_desk shows has =
+  answered told it layout c rows of_desk shows has =
       let shown = it.3 in (
         shown.0,
-        finds_rows SELECT_DESK.now [] (state g it.0) (state g it.1) shown.0 schema 0 desk [] (by_first 1 desk) (columns_after 1 desk) (names_of desk) (asks_for_desk schema of_desk) shown.1 c rows
-            (subst (λ (d : Database). Holds schema d c) (sym it.2) (shows.holds clean live).0) has,
+        finds_rows SELECT_DESK.now [] (state g it.0) (state g it.1) shown.0 layout 0 desk [] (by_first 1 desk) (columns_after 1 desk) (names_of desk) (asks_for_desk layout of_desk) shown.1 c rows
+            (subst (λ (d : Database). Holds layout d c) (sym it.2) (shows.holds clean live).0) has,
         shown.2,
       )
 
@@ -132,16 +135,16 @@ other_shown g conn clean it = let found = it.2 in (found.0, found.1, found.2, an
 
 pub none_shown : {S : Type 0} (g : store.Ghosts S) (conn : Held S) → HasCleanDisk (state g conn) → FindsNone g conn → ShowsNone (state g conn)
 none_shown g conn clean (live, inl (inl lacks)) =
-    inl (λ schema c rows of_desk shows has version other. lacks_none schema of_desk (subst LacksRow (shows.holds clean live).0.listed lacks))
+    inl (λ layout c rows of_desk shows has version other. lacks_none layout (state g conn).now.schema of_desk (shows.holds clean live).0.fits lacks)
 none_shown g conn clean (live, inl (inr it)) =
-    inl (λ schema c rows of_desk shows has version other.
-    let here = answered g conn clean live ReadsAsNone it schema c rows of_desk shows has in
+    inl (λ layout c rows of_desk shows has version other.
+    let here = answered g conn clean live ReadsAsNone it layout c rows of_desk shows has in
     let reads = other.2 in
     here.2 version (reads.0, reads.1, read_alike rows here.0 (record { version = version; owner = reads.0; stamp = reads.1 }) here.1 (other.0, other.1, reads.2)))
 none_shown g conn clean (live, inr taken) =
-    inr (λ schema c rows of_desk shows has. (
-      answered g conn clean live (λ answer. ReadsAs answer (pos 1)) taken.0 schema c rows of_desk shows has,
-      subst (λ (x : Schema). IsTrue (takes_an_added_name x)) (shows.holds clean live).0.listed taken.1,
+    inr (λ layout c rows of_desk shows has. (
+      answered g conn clean live (λ answer. ReadsAs answer (pos 1)) taken.0 layout c rows of_desk shows has,
+      ((state g conn).now.schema, (shows.holds clean live).0.fits, taken.1),
     ))
 
 -- what was read inside a transaction that begins on the connection

@@ -4,7 +4,6 @@ use Rattle.std.proofs.Math.Logic.{∥∥₁_map₂}
 use Rattle.std.proofs.lemmas.Bool.{and_parts}
 use Rattle.sqlite.specs.Files.{file_state, image_of}
 use Rattle.sqlite.specs.Held.{AreDatabases, Held}
-use Rattle.sqlite.specs.Schema.{Schema}
 use Rattle.sqlite.specs.State.{State, HasCleanDisk, Survives}
 use Rattle.sqlite.proofs.Theorems.{next_run}
 use Rattle.sqlite_disk.specs.declared.Disk.{Ghosts}
@@ -21,8 +20,9 @@ use Rattle.std.proofs.lemmas.List.Folds.{list_all-append}
 use Rattle.desk_history.specs.Calls.{History, Second}
 use Rattle.desk_history.specs.Lives.{Life, NotOpened, is_opened_by_second}
 use Rattle.store_sql.specs.Contents.{AreTablesOf, Contents}
+use Rattle.store_sql.specs.Layouts.{Layout}
 use Rattle.store_sql.specs.States.{Leaves, Shows}
-use Rattle.store_schema.specs.Tables.{desk_schema, first_schema}
+use Rattle.store_schema.specs.Tables.{desk_layout, first_layout}
 use Rattle.store_schema.specs.rows.Histories.{HoldsFirst, HoldsHistory, ShowsFirst, ShowsHistory, first_rows_of, rows_of}
 use Rattle.desk_store.specs.Living.{and_refused}
 use Rattle.desk_store.specs.Headline.{HoldsEither, LeavesLives, Seen, none_by_second}
@@ -70,13 +70,13 @@ still_none lives none = list_all-append (λ (life : Life). not (is_opened_by_sec
 -- version 1
 pub refused_leaves : (s new : State) (owner : List ℕ) (lives : List Life) (cs : History) → Survives s new (Brings s) → HoldsEither s.committed.trees owner lives cs
     → (HoldsHistory s.committed.trees owner cs → ShowsHistory s owner cs) → (HoldsFirst s.committed.trees owner cs → ShowsFirst s owner cs)
-    → ((schema : Schema) (c : Contents) → Shows schema s c → Leaves s (λ db. AreTablesOf schema db c))
+    → ((layout : Layout) (c : Contents) → Shows layout s c → Leaves s (λ db. AreTablesOf layout db c))
     → Leaves new (λ db. HoldsEither db owner (and_refused lives) cs)
 refused_leaves s new owner lives cs stops (inl holds) second first left clean db may = elim (stops.crash clean db may) [
-  | inl was ↦ inl (left desk_schema (rows_of owner cs) (second holds) (omega (arith, stops.clean, clean)) db was)
+  | inl was ↦ inl (left desk_layout (rows_of owner cs) (second holds) (omega (arith, stops.clean, clean)) db was)
   | inr brings ↦ absurd (let one = second_version s owner cs (pos 1) brings.0 (second holds) in cc)
 ]
 refused_leaves s new owner lives cs stops (inr early) second first left clean db may = elim (stops.crash clean db may) [
-  | inl was ↦ inr (still_none lives early.0, (early.1.0, left first_schema (first_rows_of owner cs) (first early.1).1 (omega (arith, stops.clean, clean)) db was))
+  | inl was ↦ inr (still_none lives early.0, (early.1.0, left first_layout (first_rows_of owner cs) (first early.1).1 (omega (arith, stops.clean, clean)) db was))
   | inr brings ↦ inl (brings.1 owner cs (first early.1))
 ]

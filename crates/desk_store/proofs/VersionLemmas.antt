@@ -1,8 +1,9 @@
 -- The version in a desk's row, by the tables of a history, and the result of an opening.
-use Rattle.std.proofs.Common.{◌≡◌, ◌≢◌, ◌⊎◌, inl, inr, ℕ, ℤ, pos, List, [], ◌∷◌, length, refl, sym, ◌∙◌, arith, IsTrue}
+use Rattle.std.proofs.Common.{◌≡◌, ◌≢◌, ◌⊎◌, inl, inr, ℕ, ℤ, pos, List, [], ◌∷◌, length, refl, subst, sym, true, ◌∙◌, arith, IsTrue}
 use Rattle.std.proofs.lemmas.List.Sorted.{IsPermutation-refl}
 use Rattle.sqlite.proofs.Callers.{one_permutation}
 use Rattle.sqlite.specs.Order.{Row}
+use Rattle.sqlite.specs.Schema.{Schema}
 use Rattle.sqlite.specs.State.{State, HasCleanDisk, Survives}
 use Rattle.sqlite.proofs.StateLemmas.{survives_then}
 use Rattle.desk_bytes.specs.declared.refusal.Refusal.{Refusal}
@@ -12,7 +13,9 @@ use Rattle.desk_history.specs.Formed.{IsHistory}
 use Rattle.desk_history.specs.Level.{stamp}
 use Rattle.desk_history.specs.Tables.{tables}
 use Rattle.store_reads.specs.Failures.{IsFailure}
-use Rattle.store_schema.specs.Tables.{desk_schema, first_schema}
+use Rattle.store_sql.proofs.LayoutLemmas.{is_alone}
+use Rattle.store_sql.specs.Layouts.{Fits, Layout}
+use Rattle.store_schema.specs.Tables.{desk_layout, first_layout, first_schema}
 use Rattle.store_schema.specs.rows.Values.{desk_values}
 use Rattle.store_schema.specs.rows.Histories.{ShowsFirst, ShowsHistory, first_rows_of, rows_of}
 use Rattle.store_migration.specs.Migrations.{KeepsShown, Migrates}
@@ -28,9 +31,13 @@ use Rattle.desk_store.proofs.StampLemmas.{stamp_is_formed}
 abbrev pub ShowsOther : State → Type 0
 ShowsOther s = (version : ℤ) × (version ≢ pos 1) × (version ≢ pos 2) × AreShownAs s version
 
+-- a store of this layout has a name that version 2 adds
+abbrev pub TakesAName : Layout → Type 0
+TakesAName layout = (schema : Schema) × Fits layout schema × IsTrue (takes_an_added_name schema)
+
 -- no desk, or one of version 1 in which a name that version 2 adds is taken
 abbrev pub ShowsNone : State → Type 0
-ShowsNone s = ShowsRows s (λ _ rows. AreOfNone rows) ⊎ ShowsRows s (λ schema rows. AreOf rows (pos 1) × IsTrue (takes_an_added_name schema))
+ShowsNone s = ShowsRows s (λ _ rows. AreOfNone rows) ⊎ ShowsRows s (λ layout rows. AreOf rows (pos 1) × TakesAName layout)
 
 -- the row of a desk of this version with this owner and history
 abbrev desk_row : List ℕ → ℕ → History → List Row
@@ -69,17 +76,23 @@ reads_by_one owner n cs own it =
 
 -- what was read is that of each history that is shown
 pub one_own : (s : State) (own : OwnRow) → ShowsRows s (λ _ rows. AreBy rows own) → IsOwnOf s own
-one_own s own reads o cs (inl early) = reads_by_one o 1 cs own (reads first_schema (first_rows_of o cs) (desk_row o 1 cs) (inl refl) early.1 refl)
-one_own s own reads o cs (inr shows) = reads_by_one o 2 cs own (reads desk_schema (rows_of o cs) (desk_row o 2 cs) (inr refl) shows refl)
+one_own s own reads o cs (inl early) = reads_by_one o 1 cs own (reads first_layout (first_rows_of o cs) (desk_row o 1 cs) (inl refl) early.1 refl)
+one_own s own reads o cs (inr shows) = reads_by_one o 2 cs own (reads desk_layout (rows_of o cs) (desk_row o 2 cs) (inr refl) shows refl)
+
+-- the twelve tables of version 1 have none of the names
+takes_none : TakesAName first_layout → ⊥
+takes_none (schema, fits, takes) =
+    let there : takes_an_added_name first_schema ≡ true = subst (λ (x : Schema). takes_an_added_name x ≡ true) (is_alone first_schema schema fits) takes in
+    let clash = sym there ∙ none_taken in cc
 
 module _ (s : State) (owner : List ℕ) (cs : History) where
   -- the tables of a history of version 2 read as those of version 2
   pub second_version : (version : ℤ) → AreShownAs s version → ShowsHistory s owner cs → version ≡ pos 2
-  second_version version reads shows = reads_as_one owner 2 cs version (reads desk_schema (rows_of owner cs) (desk_row owner 2 cs) (inr refl) shows refl)
+  second_version version reads shows = reads_as_one owner 2 cs version (reads desk_layout (rows_of owner cs) (desk_row owner 2 cs) (inr refl) shows refl)
 
   -- and those of version 1 as those of version 1
   pub first_version : (version : ℤ) → AreShownAs s version → ShowsFirst s owner cs → version ≡ pos 1
-  first_version version reads shows = reads_as_one owner 1 cs version (reads first_schema (first_rows_of owner cs) (desk_row owner 1 cs) (inl refl) shows.1 refl)
+  first_version version reads shows = reads_as_one owner 1 cs version (reads first_layout (first_rows_of owner cs) (desk_row owner 1 cs) (inl refl) shows.1 refl)
 
   -- so an opening of a desk of version 2 fails only with its device
   pub second_fails : (refusal : Refusal) → (refusal ≡ refusals.Version) ⊎ IsReadRefusal refusal → (refusal ≡ refusals.Version → ShowsOther s) → (refusal ≡ refusals.NotADesk → ShowsNone s)
@@ -89,8 +102,8 @@ module _ (s : State) (owner : List ℕ) (cs : History) where
       absurd (found.2 (second_version found.0 found.3 shows))
   second_fails refusal (inr (inr failed)) other none long history shows = failed
   second_fails refusal (inr (inl is)) other none long history shows = elim (none is) [
-    | inl unread ↦ absurd (unread desk_schema (rows_of owner cs) (desk_row owner 2 cs) (inr refl) shows refl (pos 2) (reads_as owner 2 cs long history))
-    | inr taken ↦ absurd (let one = reads_as_one owner 2 cs (pos 1) (taken desk_schema (rows_of owner cs) (desk_row owner 2 cs) (inr refl) shows refl).0 in cc)
+    | inl unread ↦ absurd (unread desk_layout (rows_of owner cs) (desk_row owner 2 cs) (inr refl) shows refl (pos 2) (reads_as owner 2 cs long history))
+    | inr taken ↦ absurd (let one = reads_as_one owner 2 cs (pos 1) (taken desk_layout (rows_of owner cs) (desk_row owner 2 cs) (inr refl) shows refl).0 in cc)
   ]
 
   -- and one of version 1 too
@@ -101,8 +114,8 @@ module _ (s : State) (owner : List ℕ) (cs : History) where
       absurd (found.1 (first_version found.0 found.3 shows))
   first_fails refusal (inr (inr failed)) other none long history shows = failed
   first_fails refusal (inr (inl is)) other none long history shows = elim (none is) [
-    | inl unread ↦ absurd (unread first_schema (first_rows_of owner cs) (desk_row owner 1 cs) (inl refl) shows.1 refl (pos 1) (reads_as owner 1 cs long history))
-    | inr taken ↦ absurd (let two = (taken first_schema (first_rows_of owner cs) (desk_row owner 1 cs) (inl refl) shows.1 refl).1 in let free = none_taken in let clash = sym two ∙ free in cc)
+    | inl unread ↦ absurd (unread first_layout (first_rows_of owner cs) (desk_row owner 1 cs) (inl refl) shows.1 refl (pos 1) (reads_as owner 1 cs long history))
+    | inr taken ↦ absurd (takes_none (taken first_layout (first_rows_of owner cs) (desk_row owner 1 cs) (inl refl) shows.1 refl).1)
   ]
 
   -- an opening of a desk of version 2 commits nothing
@@ -124,5 +137,5 @@ pub brought_left : (s mid new : State) → Survives s mid (λ _. ⊥) → Surviv
 brought_left s mid new one two reads shown = survives_then s mid new (λ _. ⊥) (Migrates mid) (Brings s)
     (λ _ db none. absurd none)
     (λ clean db migrates. let late : HasCleanDisk mid = omega (arith, two.clean, clean) in
-    (reads late, λ owner cs early. migrates owner cs (early.0, shown late first_schema (first_rows_of owner cs) early.1)))
+    (reads late, λ owner cs early. migrates owner cs (early.0, shown late first_layout (first_rows_of owner cs) early.1)))
     one two

@@ -10,7 +10,7 @@ use Rattle.desk_history.specs.declared.answer.Answer.{Answer}
 use Rattle.desk_history.specs.declared.answer.Answer.TheVariants.{Accepted, Refused, Repeated}
 use Rattle.store_views.specs.remembered.Current.{IsCurrent}
 use Rattle.store_sql.specs.States.{Sees, Turns}
-use Rattle.store_schema.specs.Tables.{desk_schema}
+use Rattle.store_schema.specs.Tables.{desk_layout}
 use Rattle.store_schema.specs.rows.Histories.{HoldsHistory, ShowsHistory}
 use Rattle.store_views.specs.declared.remembered.Remembered.{Remembered}
 use Rattle.desk_store.specs.Pasts.{Past, after, before}
@@ -24,8 +24,8 @@ pub record AnswersCurrently {r : Remembered} (c : Call) (acted : Acted) (p : Pas
 
 -- inside a transaction the tables turn into those of the next history, and the call is answered
 pub record Acts (r : Remembered) (c : Call) (acted : Acted) (old new : State) : Type 0 where
-  pub turned : Turns desk_schema (before r) (after r c) old new
-  pub answered : (p : Past r) → Sees desk_schema old (before r p) → AnswersCurrently c acted p
+  pub turned : Turns desk_layout (before r) (after r c) old new
+  pub answered : (p : Past r) → Sees desk_layout old (before r p) → AnswersCurrently c acted p
 
 -- the same for the connection outside, which is open after an accepted call
 pub record Runs (r : Remembered) (c : Call) (acted : Acted) (old new : State) : Type 0 where

@@ -20,9 +20,10 @@ use Rattle.store_reads.specs.Failures.{IsFailure}
 use Rattle.store_reads.specs.Own.{ReadsAs, ReadsAsNone, ReadsBy, ShowsOwn}
 use Rattle.store_reads.specs.declared.desk_row.OwnRow.{OwnRow}
 use Rattle.store_sql.specs.Contents.{Contents}
+use Rattle.store_sql.specs.Layouts.{Layout}
 use Rattle.store_sql.specs.States.{Sees, Shows}
 use Rattle.store_schema.specs.Names.{takes_an_added_name}
-use Rattle.store_schema.specs.Tables.{desk_schema, first_schema, no_schema}
+use Rattle.store_schema.specs.Tables.{desk_layout, first_layout, no_schema}
 use Rattle.store_schema.specs.declared.selecting.TheConstants.{SELECT_DESK}
 use Rattle.store_schema.specs.rows.Histories.{ShowsFirst, ShowsHistory, rows_of}
 use Rattle.store_migration.specs.Migrations.{Migrates}
@@ -34,15 +35,15 @@ pub record Founds (old new : State) (owner : List ℕ) : Type 0 where
   pub is_open : IsTrue old.is_open → IsTrue new.is_open
   pub inside : IsTrue new.in_transaction
   pub kept : KeepsCommit old new
-  pub value : IsDatabase old.now → old.now.schema ≡ no_schema → Sees desk_schema new (rows_of owner [])
+  pub value : IsDatabase old.now → old.now.schema ≡ no_schema → Sees desk_layout new (rows_of owner [])
 
 -- the error is a compile error of the text
 abbrev pub RefusesText : Error → Type 0
 RefusesText e = (fault : CompileError) × (e ≡ SqlInputError fault)
 
--- the tables of a desk's store, of either version
-abbrev pub IsDeskSchema : Schema → Type 0
-IsDeskSchema schema = (schema ≡ first_schema) ⊎ (schema ≡ desk_schema)
+-- the layouts of a desk's store, of either version
+abbrev pub IsDeskLayout : Layout → Type 0
+IsDeskLayout layout = (layout ≡ first_layout) ⊎ (layout ≡ desk_layout)
 
 -- ---- what SQL shows of the desk's own row, whatever tables the store has
 
@@ -114,10 +115,10 @@ FindsNone g conn = IsTrue (state g conn).is_open
 
 -- ---- the same by the rows of a desk's tables, of either version
 
--- this holds of the tables and of the rows of `desk`
-abbrev pub ShowsRows : State → (Schema → List Row → Type 0) → Type 0
+-- this holds of the layout and of the rows of `desk`
+abbrev pub ShowsRows : State → (Layout → List Row → Type 0) → Type 0
 ShowsRows s told =
-    (schema : Schema) (c : Contents) (rows : List Row) → IsDeskSchema schema → Shows schema s c → slice_get c 0 ≡ Some rows → told schema rows
+    (layout : Layout) (c : Contents) (rows : List Row) → IsDeskLayout layout → Shows layout s c → slice_get c 0 ≡ Some rows → told layout rows
 
 -- they read as those of a desk of this version
 abbrev pub AreShownAs : State → ℤ → Type 0

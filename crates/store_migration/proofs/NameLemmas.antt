@@ -4,6 +4,7 @@ use Rattle.sqlite.specs.Schema.{Schema}
 use Rattle.sqlite.specs.State.{State, HasCleanDisk}
 use Rattle.sqlite_schema.specs.Names.{same_name}
 use Rattle.desk_history.specs.Calls.{History}
+use Rattle.store_sql.proofs.LayoutLemmas.{is_alone}
 use Rattle.store_schema.specs.Tables.{first_schema}
 use Rattle.store_schema.specs.rows.Histories.{ShowsFirst}
 use Rattle.store_schema.specs.Names.{takes_an_added_name}
@@ -14,6 +15,6 @@ none_taken = refl
 
 pub not_taken : (s : State) → HasCleanDisk s → IsTrue s.is_open → IsTrue (takes_an_added_name s.now.schema) → (owner : List ℕ) (cs : History) → ShowsFirst s owner cs → ⊥
 not_taken s clean live takes owner cs shows =
-    let there : takes_an_added_name first_schema ≡ true = subst (λ (x : Schema). takes_an_added_name x ≡ true) (shows.1.holds clean live).0.listed takes in
+    let there : takes_an_added_name first_schema ≡ true = subst (λ (x : Schema). takes_an_added_name x ≡ true) (is_alone first_schema s.now.schema (shows.1.holds clean live).0.fits) takes in
     let none = none_taken in
     cc

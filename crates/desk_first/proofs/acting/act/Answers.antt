@@ -2,7 +2,7 @@ use Rattle.std.proofs.Common.{subst, arith}
 use Rattle.sqlite.specs.Held.{state}
 use Rattle.sqlite.specs.State.{HasCleanDisk}
 use Rattle.desk_texts.specs.declared.command.Call.{Call}
-use Rattle.store_schema.specs.Tables.{desk_schema}
+use Rattle.store_schema.specs.Tables.{desk_layout}
 use Rattle.store_schema.specs.rows.Contents.{contents}
 use Rattle.store_sql.specs.States.{Changes}
 use Rattle.desk_history.specs.Writes.{all_written}
@@ -30,8 +30,8 @@ returns-in-Ok-write_first-clause-value g c clean inside =
     let late : HasCleanDisk read = omega (arith, wrote.survives.clean, clean) in
     let viewed = seen.value late inside in
     let accepts = rw c.in-Ok-Some.field-0-is at c.in-Ok-Some.ensures.taken in
-    let change : Changes desk_schema contents read last (λ t. with_first_calls later.sizes.calls (all_written changes.writes.items t)) =
-    subst (λ ws. Changes desk_schema contents read last (λ t. with_first_calls later.sizes.calls (all_written ws t))) c.deref-2.ensures.value (wrote.value clean viewed.inside) in
+    let change : Changes desk_layout contents read last (λ t. with_first_calls later.sizes.calls (all_written changes.writes.items t)) =
+    subst (λ ws. Changes desk_layout contents read last (λ t. with_first_calls later.sizes.calls (all_written ws t))) c.deref-2.ensures.value (wrote.value clean viewed.inside) in
     let turns : TurnInto f call.command changes.writes.items later = subst (λ (d : Call). TurnInto f d.command changes.writes.items later) c.call.view_is
     (subst (λ ws. TurnInto f c.call.inside.command.now ws later) c.deref.ensures.value c.after-later.ensures) in
     follows_inside f call c.in-Ok.view first read last changes later viewed (seen.shown late inside) accepts turns change

@@ -10,7 +10,7 @@ use Rattle.desk_rules.specs.Decisions.{DecidesCall}
 use Rattle.store_views.specs.remembered.Current.{StaysCurrent}
 use Rattle.store_views.specs.declared.remembered.Remembered.{Remembered}
 use Rattle.store_sql.specs.States.{Changes}
-use Rattle.store_schema.specs.Tables.{desk_schema}
+use Rattle.store_schema.specs.Tables.{desk_layout}
 use Rattle.desk_store.proofs.ActingLemmas.{Viewed, acts_accepted, acts_not, forgetting, repeats}
 use Rattle.desk_store.proofs.acting.act.Goals as goal
 
@@ -57,8 +57,8 @@ returns-in-Ok-write_all-clause-value g c clean inside =
     (record { is_open = (seen.inside late inside).0; changed = seen.value late inside; shown = seen.shown late inside }) in
     let exact : DecidesCall c.in-Ok.view call (Ok changes) = subst (λ (d : Call). DecidesCall c.in-Ok.view d (Ok changes)) c.call.view_is c.in-Ok-decide.ensures.exact in
     let some : length changes.writes.items ≢ 0 = (let e = c.is_empty.ensures in let h = c.if-is_empty.false in search (rules, e, h)) in
-    let change : Changes desk_schema contents read last (all_written changes.writes.items) =
-    subst (λ ws. Changes desk_schema contents read last (all_written ws)) c.deref.ensures.value (wrote.value clean viewed.changed.inside) in
+    let change : Changes desk_layout contents read last (all_written changes.writes.items) =
+    subst (λ ws. Changes desk_layout contents read last (all_written ws)) c.deref.ensures.value (wrote.value clean viewed.changed.inside) in
     acts_accepted c.args.remembered call c.in-Ok.view known c.after.result first read last changes viewed some exact change
     (subst (λ (d : Call). StaysCurrent known d.command changes.writes.items c.after.result) c.call.view_is
     (subst (λ ws. StaysCurrent known c.call.inside.command.now ws c.after.result) c.deref-in-Ok-write_all.ensures.value c.after.ensures))

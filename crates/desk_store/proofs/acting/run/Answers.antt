@@ -6,7 +6,7 @@ use Rattle.desk_history.specs.Calls.{History}
 use Rattle.desk_store.specs.Acts.{Acts, LeavesNext, Runs}
 use Rattle.store_sql.proofs.CommitLemmas.{begun, failed_leaves, failed_shows, failed_spares, leaves_made, leaves_more, through, undone_shows, worked}
 use Rattle.store_sql.specs.Faults.{refusal_of}
-use Rattle.store_schema.specs.Tables.{desk_schema}
+use Rattle.store_schema.specs.Tables.{desk_layout}
 use Rattle.store_schema.specs.rows.Histories.{ShowsHistory, rows_of}
 use Rattle.desk_store.proofs.CommitLemmas.{answered, committed, next_trees}
 use Rattle.desk_store.proofs.acting.run.Goals as goal
@@ -23,7 +23,7 @@ returns-in-Err-clause-err g c =
     subst (λ (x : Held _). HasCleanDisk (state g.S.Store x) → c.in-Err.failure ≢ refusals.Store → (owner : List ℕ) (cs : History) → ShowsHistory (state g.S.Store old) owner cs → ShowsHistory (state g.S.Store x) owner cs)
     same (λ clean other owner cs shows.
     let late : HasCleanDisk (state g.S.Store last) = omega (arith, c.drop-tx.ensures.survives.clean, clean) in
-    undone_shows g.S.Store old last c.drop-tx.new.self.0 desk_schema (rows_of owner cs) (omega (arith, spared.clean, late)) (kept late) (c.drop-tx.ensures.undone clean) shows)
+    undone_shows g.S.Store old last c.drop-tx.new.self.0 desk_layout (rows_of owner cs) (omega (arith, spared.clean, late)) (kept late) (c.drop-tx.ensures.undone clean) shows)
 
 -- accepted, and the commit was made
 pub returns-in-Ok-commit-clause-ok : goal.returns-in-Ok-commit-clause-ok
@@ -62,7 +62,7 @@ returns-in-Err-commit-clause-err g c clean other =
     let did = worked g.S.Store old _ last acts c.transaction-tx.ensures.begun e.value e.inside e.kept e.survives in
     λ owner cs shows. failed_shows g.S.Store old last c.commit.new.self.0 c.conn-then-is_accepted-1.given.0 c.failed_commit.new.conn acts c.in-Err-commit.error did
     (search rules) c.in-Err-commit.ensures.survives c.in-Err-commit.ensures.err c.failed_commit.ensures.survives
-    (λ late. c.failed_commit.ensures.open late (λ is. other (c.refusal.ensures ∙ ap refusal_of is))) desk_schema (rows_of owner cs) clean shows
+    (λ late. c.failed_commit.ensures.open late (λ is. other (c.refusal.ensures ∙ ap refusal_of is))) desk_layout (rows_of owner cs) clean shows
 
 pub returns-in-Err-commit-clause-unwritten : goal.returns-in-Err-commit-clause-unwritten
 returns-in-Err-commit-clause-unwritten g c other =

@@ -6,7 +6,7 @@ use Rattle.store_schema.specs.rows.Histories.{ShowsHistory, rows_of}
 use Rattle.desk_history.specs.Calls.{History}
 use Rattle.desk_history.specs.Formed.{IsHistory}
 use Rattle.store_sql.proofs.CommitLemmas.{begun, undone_shows}
-use Rattle.store_schema.specs.Tables.{desk_schema}
+use Rattle.store_schema.specs.Tables.{desk_layout}
 use Rattle.store_exports.specs.Exporting.{StaysOf}
 use Rattle.store_exports.proofs.StepLemmas.{undone}
 use Rattle.desk_store.proofs.QuestionLemmas.{read_told}
@@ -23,7 +23,7 @@ returns-clause-same g c =
     subst (λ (x : Held _). HasCleanDisk (state g.S.Store x) → (owner : List ℕ) (cs : History) → ShowsHistory (state g.S.Store old) owner cs → ShowsHistory (state g.S.Store x) owner cs)
     same (λ clean owner cs shows.
     let late : HasCleanDisk (state g.S.Store last) = omega (arith, c.rollback.ensures.survives.clean, clean) in
-    undone_shows g.S.Store old last c.rollback.new.self.0 desk_schema (rows_of owner cs) (omega (arith, spared.clean, late)) (kept late) (c.rollback.ensures.undone clean) shows)
+    undone_shows g.S.Store old last c.rollback.new.self.0 desk_layout (rows_of owner cs) (omega (arith, spared.clean, late)) (kept late) (c.rollback.ensures.undone clean) shows)
 
 pub returns-clause-ok : goal.returns-clause-ok
 returns-clause-ok g c =

@@ -2,7 +2,7 @@ use Rattle.std.proofs.Common.{◌≡◌, ◌≢◌, inl, inr, pos, rules, subst,
 use Rattle.sqlite.specs.Held.{state}
 use Rattle.sqlite.specs.State.{HasCleanDisk}
 use Rattle.store_sql.proofs.CommitLemmas.{and_then, leaves_more}
-use Rattle.store_schema.specs.Tables.{desk_schema, first_schema}
+use Rattle.store_schema.specs.Tables.{desk_layout, first_layout}
 use Rattle.store_schema.specs.rows.Histories.{first_rows_of, rows_of}
 use Rattle.sqlite.specs.Schema.{Schema}
 use Rattle.store_schema.specs.Names.{takes_an_added_name}
@@ -15,7 +15,7 @@ use Rattle.desk_store.proofs.opening.bring_up.Goals as goal
 -- ---- no version was read
 
 pub returns-in-Err-clause-second : goal.returns-in-Err-clause-second
-returns-in-Err-clause-second g c clean owner cs shows = c.in-Err.ensures.shown clean desk_schema (rows_of owner cs) shows
+returns-in-Err-clause-second g c clean owner cs shows = c.in-Err.ensures.shown clean desk_layout (rows_of owner cs) shows
 
 pub returns-in-Err-clause-other : goal.returns-in-Err-clause-other
 returns-in-Err-clause-other g c clean is = absurd (never_version c.in-Err.refusal is c.in-Err.ensures.named)
@@ -37,7 +37,7 @@ returns-in-Err-clause-survives g c =
 -- ---- version 2
 
 pub returns-then-is_version-clause-second : goal.returns-then-is_version-clause-second
-returns-then-is_version-clause-second g c clean owner cs shows = c.in-Ok.ensures.shown clean desk_schema (rows_of owner cs) shows
+returns-then-is_version-clause-second g c clean owner cs shows = c.in-Ok.ensures.shown clean desk_layout (rows_of owner cs) shows
 
 pub returns-then-is_version-clause-first : goal.returns-then-is_version-clause-first
 returns-then-is_version-clause-first g c clean owner cs early =
@@ -66,7 +66,7 @@ returns-then-is_version-clause-survives g c =
 -- ---- another version
 
 pub returns-then-not-is_version-clause-second : goal.returns-then-not-is_version-clause-second
-returns-then-not-is_version-clause-second g c clean owner cs shows = c.in-Ok.ensures.shown clean desk_schema (rows_of owner cs) shows
+returns-then-not-is_version-clause-second g c clean owner cs shows = c.in-Ok.ensures.shown clean desk_layout (rows_of owner cs) shows
 
 pub returns-then-not-is_version-clause-other : goal.returns-then-not-is_version-clause-other
 returns-then-not-is_version-clause-other g c clean is =
@@ -96,7 +96,7 @@ returns-in-Ok-migrate-clause-second g c clean owner cs shows =
 pub returns-in-Ok-migrate-clause-first : goal.returns-in-Ok-migrate-clause-first
 returns-in-Ok-migrate-clause-first g c clean owner cs early =
     let late : HasCleanDisk (state g.S.Store c.read_table.new.conn) = omega (arith, c.in-Ok-migrate.ensures.survives.clean, clean) in
-    let there = c.in-Ok.ensures.shown late first_schema (first_rows_of owner cs) early.1 in
+    let there = c.in-Ok.ensures.shown late first_layout (first_rows_of owner cs) early.1 in
     let did = c.in-Ok-migrate.ensures.ok clean in
     (did.0, did.1 owner cs (early.0, there))
 

@@ -1,6 +1,6 @@
 use Rattle.std.proofs.Common.{◌∷◌}
 use Rattle.desk_history.specs.Calls.{First, under}
-use Rattle.store_schema.specs.Tables.{desk_schema}
+use Rattle.store_schema.specs.Tables.{desk_layout}
 use Rattle.store_schema.specs.rows.Histories.{rows_of}
 use Rattle.desk_first.specs.Acts.{FirstPast}
 use Rattle.desk_first.proofs.ActingLemmas.{joined_history}
@@ -19,7 +19,7 @@ returns-in-Ok-Some-clause-accepted g c clean owner cs was =
         first = was.first;
         shows = shows;
         figures = it.right;
-        left = c.stop_leaves_what_is_shown.ensures desk_schema (rows_of owner (under First call ∷ cs)) shows ran.is_open;
+        left = c.stop_leaves_what_is_shown.ensures desk_layout (rows_of owner (under First call ∷ cs)) shows ran.is_open;
       },
     )
 

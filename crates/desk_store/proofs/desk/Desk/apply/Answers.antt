@@ -4,7 +4,7 @@ use Rattle.desk_bytes.specs.declared.refusal.Refusal.TheVariants as refusals
 use Rattle.desk_history.specs.Calls.{History}
 use Rattle.desk_history.specs.Runs.{is_accepted, reply_in}
 use Rattle.desk_history.specs.Called.{called}
-use Rattle.store_schema.specs.Tables.{desk_schema}
+use Rattle.store_schema.specs.Tables.{desk_layout}
 use Rattle.store_sql.specs.States.{Spares}
 use Rattle.desk_store.specs.Desks.{Refuses, Replies, ShowsDesk}
 use Rattle.store_schema.specs.rows.Histories.{rows_of}
@@ -23,7 +23,7 @@ returns-in-Ok-clause-ok g c clean =
     let new : Desk _ = record c.args.self.now { conn = c.run.new.conn; remembered = c.in-Ok.acted.remembered } in
     IfOk-weaker c.result_of.result _ (Replies g.S.Store old new call) (λ reply is owner cs was.
     let it = goes_on g.S.Store old new call took.result took.ensures.taken c.in-Ok.acted (c.in-Ok.ensures.ok clean) c.in-Ok.ensures.survives
-    (λ o h shows live. c.stop_leaves_what_is_shown.ensures desk_schema (rows_of o h) shows live) c.call_is_formed.ensures refl refl refl owner cs was in
+    (λ o h shows live. c.stop_leaves_what_is_shown.ensures desk_layout (rows_of o h) shows live) c.call_is_formed.ensures refl refl refl owner cs was in
     (ap reply_in it.0 ∙ is, it.1)) c.result_of.ensures.ok
 
 pub returns-in-Ok-clause-refused : goal.returns-in-Ok-clause-refused
@@ -34,7 +34,7 @@ returns-in-Ok-clause-refused g c clean =
     let new : Desk _ = record c.args.self.now { conn = c.run.new.conn; remembered = c.in-Ok.acted.remembered } in
     IfErr-weaker c.result_of.result _ (Refuses g.S.Store old new call) (λ refusal is no_store owner cs was.
     let it = goes_on g.S.Store old new call took.result took.ensures.taken c.in-Ok.acted (c.in-Ok.ensures.ok clean) c.in-Ok.ensures.survives
-    (λ o h shows live. c.stop_leaves_what_is_shown.ensures desk_schema (rows_of o h) shows live) c.call_is_formed.ensures refl refl refl owner cs was in
+    (λ o h shows live. c.stop_leaves_what_is_shown.ensures desk_layout (rows_of o h) shows live) c.call_is_formed.ensures refl refl refl owner cs was in
     let exact = it.0 ∙ is in
     (λ _. exact, subst (λ (h : History). ShowsDesk g.S.Store new owner h) (next_same cs call (ap is_accepted exact)) it.1)) c.result_of.ensures.err
 

@@ -4,7 +4,7 @@ use Rattle.std.proofs.lemmas.List.Elements.{All-nil}
 use Rattle.desk_history.specs.Formed.{IsItem}
 use Rattle.desk_history.specs.Tables.{tables}
 use Rattle.store_schema.specs.Names.{takes_a_desk_name}
-use Rattle.store_schema.specs.Tables.{desk_schema}
+use Rattle.store_schema.specs.Tables.{desk_layout}
 use Rattle.store_schema.specs.rows.Histories.{rows_of}
 use Rattle.desk_store.proofs.FoundingLemmas.{are_taken}
 use Rattle.desk_store.proofs.RememberedLemmas.{stamp_is_current}
@@ -21,7 +21,7 @@ returns-in-Ok-clause-ok g c clean free =
       shows = shows;
       own = refl;
       remembered = stamp_is_current c.of_stamp.result (tables owner []) c.original.result c.of_stamp.ensures.told c.of_stamp.ensures.unknown c.of_stamp.ensures.nobody c.original.ensures;
-      left = c.stop_leaves_what_is_shown.ensures desk_schema (rows_of owner []) shows made.0;
+      left = c.stop_leaves_what_is_shown.ensures desk_layout (rows_of owner []) shows made.0;
     }
 
 pub returns-then-not-names_are_free-clause-taken : goal.returns-then-not-names_are_free-clause-taken

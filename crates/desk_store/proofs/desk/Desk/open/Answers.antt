@@ -8,7 +8,7 @@ use Rattle.desk_history.proofs.LifeLemmas.{left_goes_on}
 use Rattle.desk_history.proofs.VerdictLemmas.{barred_not_allowed, what_is_barred_stays_barred}
 use Rattle.store_schema.specs.rows.Histories.{HoldsHistory, first_rows_of, rows_of}
 use Rattle.store_reads.specs.Failures.{IsFailure}
-use Rattle.store_schema.specs.Tables.{desk_schema, first_schema}
+use Rattle.store_schema.specs.Tables.{desk_layout, first_layout}
 use Rattle.desk_store.specs.Headline.{HoldsLives}
 use Rattle.desk_store.proofs.OpeningLemmas.{none_shown, other_shown, still_leaves}
 use Rattle.desk_store.proofs.ReopeningLemmas.{no_failure, no_version, not_missing}
@@ -40,7 +40,7 @@ returns-in-Ok-clause-migrated g c clean owner cs history early =
       shows = made.1;
       own = own.0;
       remembered = stamp_is_current c.of_stamp.result (tables owner cs) c.in-Ok.own.stamp c.of_stamp.ensures.told c.of_stamp.ensures.unknown c.of_stamp.ensures.nobody own.1;
-      left = c.stop_leaves_what_is_shown-in-Ok.ensures desk_schema (rows_of owner cs) made.1 made.0;
+      left = c.stop_leaves_what_is_shown-in-Ok.ensures desk_layout (rows_of owner cs) made.1 made.0;
     }
 
 pub returns-in-Ok-clause-lives : goal.returns-in-Ok-clause-lives
@@ -59,7 +59,7 @@ returns-in-Ok-clause-lives g c clean owner lives seen formed finds =
         bars = λ x is. what_is_barred_stays_barred seen.at cs x on is;
         shows = elim it.3 [
           | inl holds ↦ (let there = c.found_is_shown.ensures.second owner cs holds in
-              returns-in-Ok-clause-ok g c clean owner cs law.0 there (c.stop_leaves_what_is_shown.ensures desk_schema (rows_of owner cs) there live))
+              returns-in-Ok-clause-ok g c clean owner cs law.0 there (c.stop_leaves_what_is_shown.ensures desk_layout (rows_of owner cs) there live))
           | inr early ↦ returns-in-Ok-clause-migrated g c clean owner cs law.0 (c.found_is_shown.ensures.first owner cs early.1)
         ];
         once = c.keys_stand_once.ensures cs law.0.legal;
@@ -88,7 +88,7 @@ returns-in-Err-clause-known_first g c clean owner cs long history early =
     let before : HasCleanDisk (state g.S.Store c.args.conn) = omega (arith, c.in-Err.ensures.survives.clean, clean) in (
       first_fails (state g.S.Store c.args.conn) owner cs c.in-Err.refusal c.in-Err.ensures.named (λ is. other_shown g.S.Store c.args.conn before (c.in-Err.ensures.other clean is))
           (λ is. none_shown g.S.Store c.args.conn before (c.in-Err.ensures.unread clean is)) long history early,
-      λ other. (early.0, c.in-Err.ensures.kept clean other first_schema (first_rows_of owner cs) early.1),
+      λ other. (early.0, c.in-Err.ensures.kept clean other first_layout (first_rows_of owner cs) early.1),
     )
 
 pub returns-in-Err-clause-found : goal.returns-in-Err-clause-found

@@ -4,7 +4,7 @@ use Rattle.sqlite.specs.State.{HasCleanDisk}
 use Rattle.desk_history.specs.People.{people}
 use Rattle.desk_history.specs.Tables.{tables}
 use Rattle.store_reads.specs.People.{IsOneOf}
-use Rattle.store_schema.specs.Tables.{desk_schema}
+use Rattle.store_schema.specs.Tables.{desk_layout}
 use Rattle.store_schema.specs.rows.Contents.{contents}
 use Rattle.store_sql.proofs.StopLemmas.{changes_then}
 use Rattle.desk_store.proofs.ImpactLemmas.{gives_refusal}
@@ -20,7 +20,7 @@ returns-in-Ok-clause-value g c clean inside =
     let b = c.in-Ok.ensures.value clean a.kept.inside in
     let none : c.in-Ok-None.field-0 ≡ None = search (rules, c.in-Ok-None.is) in
     record {
-      same = changes_then desk_schema contents s0 s1 s2 (λ t. t) (λ t. t) a.kept b.same;
+      same = changes_then desk_layout contents s0 s1 s2 (λ t. t) (λ t. t) a.kept b.same;
       tells = λ owner cs history sees one current.
           b.tells owner cs history (a.kept.value (tables owner cs) sees) current
           (sym (a.tells owner cs history sees (subst (λ o. IsOneOf o (people cs)) (sym c.as_ref.ensures.value) one)) ∙ none);
