@@ -8,6 +8,7 @@ pub mod RowidLemmas
 pub mod EditLemmas
 pub mod LayoutLemmas
 pub mod BesideLemmas
+mod LaterLemmas
 pub mod ContentLemmas
 pub mod WriteLemmas
 pub mod TableLemmas

@@ -31,11 +31,15 @@ no_others = record { tables = []; indexes = [] }
 abbrev pub beside : Schema → Others → Schema
 beside schema others = record { tables = schema.tables ++ others.tables; indexes = schema.indexes ++ others.indexes; views = schema.views }
 
--- The table's tree is none of theirs, and no foreign key of its own has one of them as its parent. A
--- key names its parent, whatever the case of ASCII letters (SQLite, "Foreign Key Support").
+-- No foreign key of the table has one of these as its parent. A key names its parent, whatever the
+-- case of ASCII letters (SQLite, "Foreign Key Support").
+abbrev pub NamesNone : List Table → Table → Type 0
+NamesNone tables other = AllByRecursion (λ (key : Reference). AllByRecursion (λ (t : Table). same_name t.name key.parent ≡ false) tables) other.references
+
+-- nor is the table's tree one of theirs
 pub record RefersToNone (tables : List Table) (other : Table) : Type 0 where
   pub tree : are_other other.tree tables ≡ true
-  pub parents : AllByRecursion (λ (key : Reference). AllByRecursion (λ (t : Table). same_name t.name key.parent ≡ false) tables) other.references
+  pub parents : NamesNone tables other
 
 -- the tables and indexes that come first in a store, and whether others may follow
 pub record Layout : Type 0 where

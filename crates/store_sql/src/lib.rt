@@ -10,7 +10,7 @@ mod writing;
 
 pub use catalog::catalog_lists_one_schema;
 pub use fault::StoreFault;
-pub use laws::stop_leaves_what_is_shown;
+pub use laws::{stop_leaves_what_is_shown, what_is_made_later_fits};
 pub use reading::{count, select};
 pub use streaming::{Halt, TakesRow, stream};
 pub use writing::{create_tables, delete, insert, update};
