@@ -456,7 +456,7 @@ run 1 nothing 'refused 46 Exists' nothing init other.db "$owner"
 exported first.level level other.db
 exported nothing minutes other.db
 # What others make after the desk stays too, and the desk goes on.
-sqlite3 other.db "CREATE TABLE later (id INTEGER PRIMARY KEY, body TEXT); CREATE INDEX laters ON later (body); CREATE VIEW lately AS SELECT body FROM later; INSERT INTO later VALUES (1, 'kept')"
+sqlite3 other.db "CREATE TABLE later (id INTEGER PRIMARY KEY, body TEXT); CREATE INDEX laters ON later (body); CREATE INDEX callers ON calls (caller); CREATE VIEW lately AS SELECT body FROM later; INSERT INTO later VALUES (1, 'kept')"
 says 'added ann' added
 run 0 added '' ann person other.db ann submitter k1
 run 0 added '' ann person other.db ann submitter k1
