@@ -1,17 +1,17 @@
 //! The audit of minutes over a store in memory.
 ghost use Rattle.std.specs.Prelude.{◌≡◌, ◌≢◌, ℕ, [], IfErr, IfOk, IfSome, Some};
-ghost use Rattle.sqlite.specs.Steps.{over_memory};
 ghost use Rattle.desk_history.specs.Calls.{History};
 ghost use Rattle.desk_history.specs.Formed.{IsHistory};
 ghost use Rattle.desk_exports.specs.Exports.{minutes_text};
 ghost use Rattle.desk_first.specs.Desks.{ShowsFirstDesk};
 ghost use Rattle.desk_audit.specs.Audits.{HasFollowed, IsWrongAt};
+ghost use Rattle.memory_disk.specs.Disks.{over_memory};
 
 use crate::auditing::{AuditFault, follow_beginning, follow_on};
 use desk_bytes::{Guid, Refusal};
 use desk_first::FirstDesk;
 use desk_store::Desk;
-use sqlite::{Connection, MemStore};
+use memory_disk::{MemoryStore, connect};
 use std::alloc::Global;
 use std::io::BufRead;
 
@@ -19,7 +19,7 @@ use std::io::BufRead;
 #[derive(Drop)]
 pub struct Audited {
     /// The desk, which shows the history whose minutes they are.
-    pub desk: Desk<MemStore>,
+    pub desk: Desk<MemoryStore>,
     /// How many lines they have.
     pub calls: u64,
 }
@@ -28,10 +28,10 @@ pub struct Audited {
 /// memory for it.
 ///
 /// `NoMemory`, `Store`: memory was refused.
-fn begun(alloc: Global, owner: &Guid) -> Result<FirstDesk<MemStore>, Refusal>
+fn begun(alloc: Global, owner: &Guid) -> Result<FirstDesk<MemoryStore>, Refusal>
     ensures { IfOk result (λ desk. ShowsFirstDesk over_memory desk owner.now []) }
 {
-    let Ok(conn) = Connection::open_in_memory(alloc) else {
+    let Ok(conn) = connect(alloc) else {
         return Err(Refusal::NoMemory);
     };
     let desk = match Desk::create(alloc, conn, owner) {
@@ -39,6 +39,24 @@ fn begun(alloc: Global, owner: &Guid) -> Result<FirstDesk<MemStore>, Refusal>
         Err(refused) => return Err(refused.0),
     };
     Ok(FirstDesk::of(alloc, desk))
+}
+
+/// The refusal of a desk in memory: its store fails only where memory is refused.
+fn in_memory(refusal: Refusal) -> Refusal {
+    match refusal {
+        Refusal::Store => Refusal::NoMemory,
+        other => other,
+    }
+}
+
+/// The fault of an audit on a desk in memory.
+fn fault_in_memory(fault: AuditFault) -> AuditFault
+    ensures { (n : ℕ) → result ≡ AuditFault.Line n → fault ≡ AuditFault.Line n }
+{
+    match fault {
+        AuditFault::Line(number) => AuditFault::Line(number),
+        AuditFault::Device(refusal) => AuditFault::Device(in_memory(refusal)),
+    }
 }
 
 /// Follows minutes by the rules on a new desk in memory, with this owner of each exported entry:
@@ -58,19 +76,19 @@ pub fn audit<R: BufRead>(alloc: Global, owner: &Guid, reader: &mut R) -> Result<
 {
     let mut first = match begun(alloc, owner) {
         Ok(first) => first,
-        Err(refusal) => return Err(AuditFault::Device(refusal)),
+        Err(refusal) => return Err(AuditFault::Device(in_memory(refusal))),
     };
     let mut line = Vec::new(alloc);
     let end = match follow_beginning(alloc, &mut first, reader, &mut line) {
         Ok(end) => end,
-        Err(fault) => return Err(fault),
+        Err(fault) => return Err(fault_in_memory(fault)),
     };
     let mut desk = match first.into_desk() {
         Ok(desk) => desk,
-        Err(refusal) => return Err(AuditFault::Device(refusal)),
+        Err(refusal) => return Err(AuditFault::Device(in_memory(refusal))),
     };
     match follow_on(alloc, &mut desk, end, reader, &mut line) {
         Ok(calls) => Ok(Audited { desk, calls }),
-        Err(fault) => Err(fault),
+        Err(fault) => Err(fault_in_memory(fault)),
     }
 }

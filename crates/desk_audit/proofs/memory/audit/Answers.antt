@@ -1,16 +1,16 @@
-use Rattle.sqlite.specs.Steps.{over_memory}
-use Rattle.sqlite.proofs.Callers.{memory_is_clean}
+use Rattle.memory_disk.proofs.CleanLemmas.{memory_is_clean}
+use Rattle.memory_disk.specs.Disks.{over_memory}
 use Rattle.desk_audit.proofs.AuditLemmas.{handed_over, none_wrong}
 use Rattle.desk_audit.proofs.memory.audit.Goals as goal
 
 pub returns-in-Err-follow_beginning-clause-wrong : goal.returns-in-Err-follow_beginning-clause-wrong
 returns-in-Err-follow_beginning-clause-wrong g c = λ n is.
-    c.in-Err-follow_beginning.ensures.wrong (memory_is_clean c.follow_beginning.new.desk.conn) n is c.args.owner.now c.in-Ok.ensures
+    c.in-Err-follow_beginning.ensures.wrong (memory_is_clean c.follow_beginning.new.desk.conn) n (c.fault_in_memory.ensures n is) c.args.owner.now c.in-Ok.ensures
 
 pub returns-in-Err-follow_beginning-clause-passes : goal.returns-in-Err-follow_beginning-clause-passes
 returns-in-Err-follow_beginning-clause-passes g c = λ n is cs.
     none_wrong (g.R.Read.remaining c.args.reader.now) n cs
-    (c.in-Err-follow_beginning.ensures.wrong (memory_is_clean c.follow_beginning.new.desk.conn) n is c.args.owner.now c.in-Ok.ensures)
+    (c.in-Err-follow_beginning.ensures.wrong (memory_is_clean c.follow_beginning.new.desk.conn) n (c.fault_in_memory.ensures n is) c.args.owner.now c.in-Ok.ensures)
 
 pub returns-in-Ok-follow_on-clause-ok : goal.returns-in-Ok-follow_on-clause-ok
 returns-in-Ok-follow_on-clause-ok g c =
@@ -28,7 +28,7 @@ returns-clause-wrong g c = λ n is.
     let given = g.R.Read.remaining c.args.reader.now in
     let first = c.follow_beginning.new.desk in
     let desk = c.in-Ok-into_desk.desk in
-    c.in-Err-follow_on.ensures.wrong (memory_is_clean c.follow_on.new.desk.conn) n is owner given
+    c.in-Err-follow_on.ensures.wrong (memory_is_clean c.follow_on.new.desk.conn) n (c.fault_in_memory-in-Err-follow_on.ensures n is) owner given
     (handed_over over_memory first desk owner c.in-Ok-follow_beginning.end given (g.R.Read.remaining c.follow_beginning.new.reader) c.follow_beginning.new.line.items
     (c.in-Ok-into_desk.ensures.shown (memory_is_clean desk.conn) owner) (c.in-Ok-follow_beginning.ensures.ok (memory_is_clean first.conn) owner c.in-Ok.ensures))
 
@@ -38,6 +38,6 @@ returns-clause-passes g c = λ n is cs.
     let given = g.R.Read.remaining c.args.reader.now in
     let first = c.follow_beginning.new.desk in
     let desk = c.in-Ok-into_desk.desk in
-    none_wrong given n cs (c.in-Err-follow_on.ensures.wrong (memory_is_clean c.follow_on.new.desk.conn) n is owner given
+    none_wrong given n cs (c.in-Err-follow_on.ensures.wrong (memory_is_clean c.follow_on.new.desk.conn) n (c.fault_in_memory-in-Err-follow_on.ensures n is) owner given
     (handed_over over_memory first desk owner c.in-Ok-follow_beginning.end given (g.R.Read.remaining c.follow_beginning.new.reader) c.follow_beginning.new.line.items
     (c.in-Ok-into_desk.ensures.shown (memory_is_clean desk.conn) owner) (c.in-Ok-follow_beginning.ensures.ok (memory_is_clean first.conn) owner c.in-Ok.ensures)))

@@ -1,4 +1,4 @@
-use Rattle.sqlite.proofs.Callers.{memory_is_clean}
+use Rattle.memory_disk.proofs.CleanLemmas.{memory_is_clean}
 use Rattle.desk_audit.proofs.memory.begun.Goals as goal
 
 pub returns : goal.returns
