@@ -6,9 +6,8 @@ use Rattle.std.specs.Io.KnownBytes.{Appends, Keeps, prepend_known}
 use Rattle.std.specs.declared.io.buffered.BufReader.{BufReader}
 use Rattle.std.proofs.KnownBytes.{Keeps-refl, prepend_known-nil}
 use Rattle.std.proofs.lemmas.Option.{same_Some}
-use Rattle.sqlite.proofs.Callers.{memory_is_clean}
-use Rattle.sqlite.specs.Steps.{over_memory}
-use Rattle.sqlite_trees.specs.declared.memory.MemStore.{MemStore}
+use Rattle.memory_disk.proofs.CleanLemmas.{memory_is_clean}
+use Rattle.memory_disk.specs.Disks.{MemoryStore, over_memory}
 use Rattle.desk_audit.specs.Audits.{HasFollowed, IsWrongAt}
 use Rattle.desk_audit.specs.declared.auditing.AuditFault.{AuditFault}
 use Rattle.desk_audit.specs.declared.auditing.AuditFault.TheVariants.{Device, Line}
@@ -22,7 +21,7 @@ use Rattle.cli_audit.specs.Faults.{of_audit, wrong_line}
 
 -- ---- minutes that were followed
 
-module _ (what : Option Export) (owner : List ℕ) (desk : Desk MemStore) (calls : ℕ) (before after : Option (List ℕ)) where
+module _ (what : Option Export) (owner : List ℕ) (desk : Desk MemoryStore) (calls : ℕ) (before after : Option (List ℕ)) where
   -- all was written
   whole : (known : Option (List ℕ)) (r : Result Unit Fault) → IfSome known (λ given. HasFollowed over_memory desk owner calls (Some given) (Some []))
       → WritesCounted over_memory desk calls (audited what) before after r
@@ -51,7 +50,7 @@ no_place (Ok u) h = tt
 no_place (Err fault) h = inl h
 
 -- the end of an audit whose minutes were followed
-pub followed : (what : Option Export) (owner : List ℕ) (desk : Desk MemStore) (calls : ℕ) (known before after : Option (List ℕ)) (r : Result Unit Fault)
+pub followed : (what : Option Export) (owner : List ℕ) (desk : Desk MemoryStore) (calls : ℕ) (known before after : Option (List ℕ)) (r : Result Unit Fault)
     → IfSome known (λ given. HasFollowed over_memory desk owner calls (Some given) (Some []))
     → WritesLast over_memory desk calls (audited what) before after r → IfErr r (λ fault. fault.place ≡ None)
     → Audits what owner known before after r

@@ -4,9 +4,8 @@ use Rattle.std.specs.Prelude.{IfErr, IfSome, OnErr, OnOk}
 use Rattle.std.specs.Io.KnownBytes.{Appends, Keeps}
 use Rattle.sqlite.specs.Held.{state}
 use Rattle.sqlite.specs.State.{HasCleanDisk}
-use Rattle.sqlite.specs.Steps.{over_memory}
+use Rattle.memory_disk.specs.Disks.{MemoryStore, over_memory}
 use Rattle.sqlite.specs.Store.{Ghosts}
-use Rattle.sqlite_trees.specs.declared.memory.MemStore.{MemStore}
 use Rattle.desk_bytes.specs.Output.{AppendsBeginning}
 use Rattle.desk_history.specs.Calls.{History}
 use Rattle.desk_history.specs.Formed.{IsHistory}
@@ -43,7 +42,7 @@ WritesLast {S} g desk calls bytes before after result =
 -- These bytes are the minutes of the history that a desk with this owner shows after following them,
 -- and what an audit writes of that history was written so.
 pub record HasWritten (what : Option Export) (owner given : List ℕ) (wrote : List ℕ → Type 0) : Type 0 where
-  pub desk : Desk MemStore
+  pub desk : Desk MemoryStore
   pub calls : ℕ
   pub followed : HasFollowed over_memory desk owner calls (Some given) (Some [])
   pub written : wrote (audited what owner followed.history)
