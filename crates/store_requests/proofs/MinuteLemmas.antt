@@ -1,23 +1,18 @@
 -- The minutes from a number on, read call by call.
-use Rattle.std.proofs.Common.{◌≡◌, ◌⊎◌, inl, inr, ◌≤◌, ◌<◌, ℕ, zero, suc, ◌+◌, ◌-◌, ◌==◌, Bool, true, false, List, [], ◌∷◌, ◌++◌, map, filter, take, drop, length, min, Ok, Err, refl, sym, ap, ap₂, subst, ◌∙◌, append-nil, length-append, arith}
+use Rattle.std.proofs.Common.{◌≡◌, ◌⊎◌, inl, inr, ◌≤◌, ◌<◌, ℕ, zero, suc, ◌+◌, ◌-◌, ◌==◌, Bool, true, false, List, [], ◌∷◌, ◌++◌, map, filter, take, drop, length, min, refl, sym, ap, ap₂, subst, ◌∙◌, append-nil, length-append, arith}
 use Rattle.std.specs.Prelude.{⊤, flat_map, nat_le, reverse}
-use Rattle.std.specs.Result.{result_map_both}
 use Rattle.std.proofs.lemmas.Bool.{and_parts}
 use Rattle.std.proofs.lemmas.Bool.Decides.{nat_tests}
 use Rattle.std.proofs.lemmas.List.{length-reverse, reverse-append, take_all}
 use Rattle.std.proofs.lemmas.List.Concat.{flat_map-append}
 use Rattle.std.proofs.Math.ListN.{drop_of_length-le}
-use Rattle.desk_bytes.specs.declared.refusal.Refusal.{Refusal}
-use Rattle.desk_texts.specs.declared.caller.Caller.TheVariants as callers
-use Rattle.desk_texts.specs.declared.command.Person.{Person}
 use Rattle.desk_exports.specs.Exports.{minute_line}
-use Rattle.desk_exports.specs.MinutesShown.{minutes_for, minutes_from, most_lines}
+use Rattle.desk_exports.specs.MinutesShown.{minutes_from, most_lines}
 use Rattle.desk_history.specs.Calls.{History}
 use Rattle.desk_history.specs.Formed.{IsHistory}
 use Rattle.desk_history.specs.Limits.{most_calls}
 use Rattle.desk_history.specs.Replies.{minute_of, minutes}
 use Rattle.desk_history.specs.Runs.{is_legal}
-use Rattle.desk_history.specs.Shown.{IsGiven}
 use Rattle.desk_history.specs.Tables.{Tables, tables}
 use Rattle.desk_history.specs.declared.rows.Minute.{Minute}
 use Rattle.desk_history.proofs.ListLemmas.{number_itself}
@@ -25,9 +20,7 @@ use Rattle.desk_history.proofs.RunLemmas.{newest}
 use Rattle.store_reads.specs.CallColumns.{texts_of}
 use Rattle.store_reads.specs.declared.call_texts.CallTexts.{CallTexts}
 use Rattle.store_requests.specs.Lines.{AreAfter, HasFirst, HasLines, calls_at, line_of}
-use Rattle.store_requests.specs.Telling.{IsOfficer}
 use Rattle.store_requests.proofs.ItemLemmas.{drops, keeps}
-use Rattle.store_requests.proofs.OfficerLemmas.{allowed, refused}
 use Rattle.store_requests.proofs.OrderLemmas.{filter-reverse}
 
 -- ---- one line more
@@ -200,7 +193,7 @@ module _ (owner : List ℕ) (cs : History) where
           let above : length xs ≤ j = omega (arith, h, high) in
           ap (λ n. drop n xs) same ∙ drop_of_length-le xs h ∙ sym (drop_of_length-le xs above)
 
-  are_minutes : IsHistory cs → (number : ℕ) (bytes : List ℕ) → HasLines (tables owner cs) (min (number - 1) most_calls) bytes → bytes ≡ minutes_from cs number
+  pub are_minutes : IsHistory cs → (number : ℕ) (bytes : List ℕ) → HasLines (tables owner cs) (min (number - 1) most_calls) bytes → bytes ≡ minutes_from cs number
   are_minutes h number bytes it =
       let k = min (number - 1) most_calls in
       let calls : it.first.calls ≡ map texts_of (take it.lines (drop k oldest)) =
@@ -210,16 +203,3 @@ module _ (owner : List ℕ) (cs : History) where
       let all : length oldest ≤ most_calls = omega (arith, long, few) in
       it.first.spelt ∙ ap (flat_map line_of) calls ∙ lines_of (take it.lines (drop k oldest))
       ∙ ap (flat_map minute_line) (whole k it.lines it.most it.ends ∙ ap (take most_lines) (clamped (number - 1) most_calls oldest all))
-
-  module _ (name : List ℕ) (number : ℕ) {V : Type 0} (items : V → List ℕ) where
-    pub gives_refusal : (r : Refusal) → IsOfficer cs name (Err r) → IsGiven (minutes_for cs (callers.Person name) number) (Err r) (λ lines (v : V). items v ≡ lines)
-    gives_refusal r h =
-        subst (λ d. IsGiven d (Err r) (λ lines (v : V). items v ≡ lines))
-        (sym (ap (result_map_both (λ (p : Person). minutes_from cs number) (λ (e : Refusal). e)) (refused cs name r h))) refl
-
-    pub gives_lines : IsHistory cs → (given : Unit {0}) → IsOfficer cs name (Ok given) → (text : V) → HasLines (tables owner cs) (min (number - 1) most_calls) (items text)
-        → IsGiven (minutes_for cs (callers.Person name) number) (Ok text) (λ lines (v : V). items v ≡ lines)
-    gives_lines history given h text it =
-        subst (λ d. IsGiven d (Ok text) (λ lines (v : V). items v ≡ lines))
-        (sym (ap (result_map_both (λ (p : Person). minutes_from cs number) (λ (e : Refusal). e)) (allowed cs name given h).1))
-        (are_minutes history number (items text) it)

@@ -1,8 +1,7 @@
 -- All people, as an officer is shown them.
-use Rattle.std.proofs.Common.{◌≡◌, ℕ, ◌+◌, ◌<◌, Bool, true, List, [], ◌∷◌, map, length, get_or, Ok, Err, refl, sym, ap, ap₂, subst, ◌∙◌, arith}
+use Rattle.std.proofs.Common.{◌≡◌, ◌+◌, ◌<◌, Bool, true, List, [], ◌∷◌, map, length, get_or, refl, sym, ap, ap₂, subst, ◌∙◌, arith}
 use Rattle.std.specs.List.Sorted.{IsPermutation, IsSortedBy}
 use Rattle.std.specs.Ordering.{is_lt, ordering_then}
-use Rattle.std.specs.Result.{result_map_both}
 use Rattle.std.specs.declared.cmp.Ordering.{Ordering}
 use Rattle.std.specs.declared.cmp.Ordering.TheVariants.{Less, Equal, Greater}
 use Rattle.std.proofs.lemmas.List.{get_or-map, length-map}
@@ -11,21 +10,13 @@ use Rattle.sqlite.specs.declared.types.Value.TheVariants.{Text}
 use Rattle.sqlite_trees.proofs.ListLemmas.{all_of, filter_all}
 use Rattle.sqlite_value.specs.Order.{value_cmp}
 use Rattle.sqlite_value.proofs.OrderLemmas.{value_cmp-Text}
-use Rattle.desk_bytes.specs.declared.refusal.Refusal.{Refusal}
-use Rattle.desk_texts.specs.declared.caller.Caller.TheVariants as callers
 use Rattle.desk_texts.specs.declared.command.Person.{Person}
-use Rattle.desk_history.specs.Calls.{History}
-use Rattle.desk_history.specs.People.{people}
-use Rattle.desk_history.specs.PeopleShown.{ShowsPeople, by_name, people_for, shown_person}
-use Rattle.desk_history.specs.Shown.{IsGiven}
-use Rattle.desk_history.specs.declared.shown_person.ShownPerson.{ShownPerson}
+use Rattle.desk_history.specs.PeopleShown.{ShowsPeople, by_name, shown_person}
 use Rattle.store_sql.specs.Queries.{by_keys}
 use Rattle.store_schema.specs.Columns.{by_first}
 use Rattle.store_schema.specs.Tables as schema
 use Rattle.store_schema.specs.rows.Values.{person_values}
 use Rattle.store_reads.specs.Reads.{AreFound}
-use Rattle.store_requests.specs.Telling.{IsOfficer}
-use Rattle.store_requests.proofs.OfficerLemmas.{allowed, refused}
 
 -- ---- SQL's order of people is that of their names
 
@@ -53,21 +44,8 @@ module _ {X Y : Type 0} (f : X → Y) (before : X → X → Bool) (after : Y →
 
 -- ---- people
 
-are_shown : (ps found : List Person) → AreFound person_values schema.people 1 (λ p. true) ps found → ShowsPeople ps (map shown_person found)
+pub are_shown : (ps found : List Person) → AreFound person_values schema.people 1 (λ p. true) ps found → ShowsPeople ps (map shown_person found)
 are_shown ps found it = record {
   all = IsPermutation-map shown_person ps found (subst (λ l. IsPermutation l found) (filter_all (λ (p : Person). true) ps (all_of (λ (p : Person). true ≡ true) (λ p. refl) ps)) it.all);
   sorted = sorted_map shown_person (λ x y. is_lt (by_sql x y)) (λ x y. is_lt (by_name x y)) (λ x y. sym (ap is_lt (people_order x y))) found it.sorted;
 }
-
-module _ (cs : History) (name : List ℕ) {V : Type 0} (items : V → List ShownPerson) where
-  pub gives_refusal : (r : Refusal) → IsOfficer cs name (Err r) → IsGiven (people_for cs (callers.Person name)) (Err r) (λ ps (v : V). ShowsPeople ps (items v))
-  gives_refusal r h =
-      subst (λ d. IsGiven d (Err r) (λ ps (v : V). ShowsPeople ps (items v)))
-      (sym (ap (result_map_both (λ (p : Person). people cs) (λ (e : Refusal). e)) (refused cs name r h))) refl
-
-  pub gives_people : (given : Unit {0}) → IsOfficer cs name (Ok given) → (found : List Person) → AreFound person_values schema.people 1 (λ p. true) (people cs) found
-      → (shown : V) → items shown ≡ map shown_person found → IsGiven (people_for cs (callers.Person name)) (Ok shown) (λ ps (v : V). ShowsPeople ps (items v))
-  gives_people given h found it shown is =
-      subst (λ d. IsGiven d (Ok shown) (λ ps (v : V). ShowsPeople ps (items v)))
-      (sym (ap (result_map_both (λ (p : Person). people cs) (λ (e : Refusal). e)) (allowed cs name given h).1))
-      (subst (ShowsPeople (people cs)) (sym is) (are_shown (people cs) found it))

@@ -1,10 +1,9 @@
 -- The answer to a person who asks for all proposals.
-use Rattle.std.proofs.Common.{◌≡◌, ◌≢◌, ℕ, ◌+◌, ◌<◌, ◌≤◌, ◌==◌, pos, Bool, true, false, List, [], ◌∷◌, map, filter, length, Option, Some, None, Result, Ok, Err, refl, sym, ap, ap₂, subst, ◌∙◌, arith}
-use Rattle.std.specs.Prelude.{if◌then◌else◌, ok_or, reverse}
+use Rattle.std.proofs.Common.{◌≡◌, ◌≢◌, ℕ, ◌+◌, ◌<◌, ◌≤◌, ◌==◌, pos, Bool, true, false, List, [], ◌∷◌, map, filter, length, Option, Some, None, refl, sym, ap, ap₂, subst, ◌∙◌, arith}
+use Rattle.std.specs.Prelude.{reverse}
 use Rattle.std.specs.List.{AllByRecursion, AllZip}
 use Rattle.std.specs.List.Sorted.{IsPermutation}
 use Rattle.std.specs.Ordering.{int_cmp, is_lt, ordering_then}
-use Rattle.std.specs.Result.{result_map_both}
 use Rattle.std.specs.declared.cmp.Ordering.{Ordering}
 use Rattle.std.specs.declared.cmp.Ordering.TheVariants.{Less, Equal, Greater}
 use Rattle.std.proofs.lemmas.Bool.Decides.{nat_tests}
@@ -14,28 +13,21 @@ use Rattle.sqlite_trees.specs.Tree.{IsAscending}
 use Rattle.sqlite_trees.proofs.ListLemmas.{all-permutation, all_of, ascending-map, ascending_weaker, filter-map, filter_all, map-map}
 use Rattle.sqlite_value.specs.Order.{value_cmp}
 use Rattle.sqlite_value.proofs.OrderLemmas.{value_cmp-Int}
-use Rattle.desk_bytes.specs.declared.refusal.Refusal.{Refusal}
-use Rattle.desk_bytes.specs.declared.refusal.Refusal.TheVariants as refusals
-use Rattle.desk_texts.specs.declared.caller.Caller.TheVariants as callers
 use Rattle.desk_texts.specs.declared.command.Call.{Call}
-use Rattle.desk_texts.specs.declared.command.Person.{Person}
 use Rattle.desk_texts.specs.declared.proposal.Proposal.{Proposal as ShownProposal}
 use Rattle.desk_history.specs.Calls.{History}
-use Rattle.desk_history.specs.People.{has_name, people}
 use Rattle.desk_history.specs.Proposals.{Named, Proposal, proposal_state, proposals, proposed_by, with_next}
-use Rattle.desk_history.specs.Roles.{is_officer}
-use Rattle.desk_history.specs.Shown.{IsGiven, officer, proposals_for, shown_proposal}
+use Rattle.desk_history.specs.Shown.{shown_proposal}
 use Rattle.desk_history.specs.Tables.{proposal_row, tables}
 use Rattle.desk_history.specs.declared.rows.ProposalRow.{ProposalRow}
 use Rattle.store_sql.specs.Queries.{by_keys}
 use Rattle.store_schema.specs.Columns.{by_first}
 use Rattle.store_schema.specs.Tables as schema
 use Rattle.store_reads.specs.ProposalColumns.{head_columns, head_of}
-use Rattle.store_reads.specs.Reads.{AreFound, listed}
+use Rattle.store_reads.specs.Reads.{AreFound}
 use Rattle.store_reads.specs.declared.proposal_head.ProposalHead.{ProposalHead}
 use Rattle.store_reads.proofs.PartLemmas.{Ascends, one_order}
 use Rattle.store_proposals.specs.Listing.{AreListable, AreListed, IsShown, shown_row}
-use Rattle.store_requests.proofs.ItemLemmas.{found_listed}
 use Rattle.store_requests.proofs.OrderLemmas.{Differ, IsOnly, all_only, differ_along, map-reverse, sorted_ascends, turned}
 
 -- ---- numbers of proposals
@@ -124,39 +116,8 @@ module _ (owner : List ℕ) (cs : History) where
   each_shown (p ∷ ps) alone [] z = absurd z
   each_shown (p ∷ ps) alone (s ∷ given) z = ap₂ ◌∷◌ (one_shown p alone.0 z.0.0 s z.0.1 z.0.2) (each_shown ps alone.1 given z.1)
 
-  are_shown : AreListable (tables owner cs).proposals → (given : List ShownProposal) → AreListed given (tables owner cs) → given ≡ map (shown_proposal cs) (reverse (proposals cs))
+  pub are_shown : AreListable (tables owner cs).proposals → (given : List ShownProposal) → AreListed given (tables owner cs) → given ≡ map (shown_proposal cs) (reverse (proposals cs))
   are_shown can given it =
       let ps = proposals cs in
       let alone : AllByRecursion IsAlone (reverse ps) = all-permutation IsAlone ps (reverse ps) (IsPermutation-reverse ps) (all_only (λ (p : Proposal). p.number) ps (newest_first cs)) in
       each_shown (reverse ps) alone given (subst (λ l. AllZip (IsShown (tables owner cs)) l given) (heads_are it.0 it.1) (it.2 can))
-
-  -- ---- the answer that is due to the person of a name
-
-  module _ (name : List ℕ) {B : Type 0} (shows : List Proposal → B → Type 0) where
-    -- the answer that is due to an officer, or to one who is none
-    abbrev due_to : Result Person Refusal → Result (List Proposal) Refusal
-    due_to r = result_map_both (λ p. reverse (proposals cs)) (λ refusal. refusal) r
-
-    due : (found : Option Person) → filter (has_name name) (tables owner cs).people ≡ listed found → proposals_for cs (callers.Person name) ≡ due_to (officer (ok_or found refusals.UnknownCaller))
-    due found e = ap (λ o. due_to (officer (ok_or o refusals.UnknownCaller))) (found_listed (has_name name) (people cs) found e)
-
-    due_if : (p : Person) → filter (has_name name) (tables owner cs).people ≡ listed (Some p) → (b : Bool) → is_officer p.role ≡ b
-        → proposals_for cs (callers.Person name) ≡ due_to (if b then Ok p else Err refusals.NotYourRole)
-    due_if p e b h = due (Some p) e ∙ ap (λ (c : Bool). due_to (if c then Ok p else Err refusals.NotYourRole)) h
-
-    pub gives_nobody : filter (has_name name) (tables owner cs).people ≡ listed None → IsGiven (proposals_for cs (callers.Person name)) (Err refusals.UnknownCaller) shows
-    gives_nobody e = subst (λ d. IsGiven d (Err refusals.UnknownCaller) shows) (sym (due None e)) refl
-
-    pub gives_no_officer : (p : Person) → filter (has_name name) (tables owner cs).people ≡ listed (Some p) → is_officer p.role ≡ false
-        → IsGiven (proposals_for cs (callers.Person name)) (Err refusals.NotYourRole) shows
-    gives_no_officer p e h = subst (λ d. IsGiven d (Err refusals.NotYourRole) shows) (sym (due_if p e false h)) refl
-
-    pub gives_officer : (p : Person) → filter (has_name name) (tables owner cs).people ≡ listed (Some p) → is_officer p.role ≡ true → (given : B) → shows (reverse (proposals cs)) given
-        → IsGiven (proposals_for cs (callers.Person name)) (Ok given) shows
-    gives_officer p e h given shown = subst (λ d. IsGiven d (Ok given) shows) (sym (due_if p e true h)) shown
-
-  pub gives_all : (name : List ℕ) {B : Type 0} (p : Person) → filter (has_name name) (tables owner cs).people ≡ listed (Some p) → is_officer p.role ≡ true
-      → AreListable (tables owner cs).proposals → (given : B) (items : B → List ShownProposal) → AreListed (items given) (tables owner cs)
-      → IsGiven (proposals_for cs (callers.Person name)) (Ok given) (λ ps shown. items shown ≡ map (shown_proposal cs) ps)
-  gives_all name p e h can given items it =
-      gives_officer name (λ ps shown. items shown ≡ map (shown_proposal cs) ps) p e h given (are_shown can (items given) it)

@@ -40,7 +40,7 @@ module _ (owner : List ℕ) (cs : History) (k : ℕ) where
     pub gives_refusal : (r : Refusal) → IsOfficer cs name (Err r) → proposal_for cs (callers.Person name) k ≡ Err r
     gives_refusal r h = ap (shown_to_officer (proposal_shown cs k)) (refused cs name r h)
 
-    pub gives_found : (given : Unit {0}) → IsOfficer cs name (Ok given) → (found : Option ProposalRow) → IsFound found
+    pub gives_found : IsOfficer cs name (Ok tt) → (found : Option ProposalRow) → IsFound found
         → proposal_for cs (callers.Person name) k ≡ ok_or found refusals.NoSuchProposal
-    gives_found given h found e =
-        ap (shown_to_officer (proposal_shown cs k)) (allowed cs name given h).1 ∙ ap (λ o. ok_or o refusals.NoSuchProposal) (shown_is found e)
+    gives_found h found e =
+        ap (shown_to_officer (proposal_shown cs k)) (allowed cs name h).1 ∙ ap (λ o. ok_or o refusals.NoSuchProposal) (shown_is found e)

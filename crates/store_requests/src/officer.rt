@@ -1,17 +1,27 @@
 //! The officers, to whom alone people, proposals and minutes are shown.
 ghost use Rattle.std.specs.Prelude.{◌≡◌, IfErr, IfOk, option_copied};
 ghost use Rattle.desk_history.specs.People.{people};
+ghost use Rattle.desk_history.specs.Roles.{is_officer};
 ghost use Rattle.store_reads.specs.People.{IsOneOf};
 ghost use Rattle.store_requests.specs.Telling.{IsOfficer, IsOfficerRefusal, TellsOf};
 ghost use Rattle.store_sql.specs.States.{DoesInside, CommitsNothing, Spares, StaysInside};
 
-use crate::proposed::sees_proposals;
 use crate::reader::reader_of;
 use desk_bytes::Refusal;
-use desk_texts::{Person, PersonName};
+use desk_texts::{Person, PersonName, Role};
 use sqlite::{Alter, Transaction};
 use std::alloc::Global;
 use store_reads::{ReadFault, own_row};
+
+/// Whether the role is an officer's.
+fn is_officer(role: Role) -> bool
+    ensures { result ≡ is_officer role }
+{
+    match role {
+        Role::Officer => true,
+        Role::Submitter | Role::Reviewer | Role::Signer => false,
+    }
+}
 
 /// Whether the person of this name is an officer, or the refusal. The person isn't looked up if that
 /// is `kept_person`, who must be one of the desk's people (`value`). Takes memory for the person.
@@ -38,7 +48,7 @@ pub(crate) fn officer_of<S: Alter>(
     };
     // Only an open store gives Ok.
     own_row(tx)?;
-    if !sees_proposals(reader.role) {
+    if !is_officer(reader.role) {
         return Ok(Err(Refusal::NotYourRole));
     }
     Ok(Ok(()))

@@ -1,30 +1,19 @@
 //! All proposals, as an officer is shown them.
 ghost use Rattle.std.specs.Prelude.{◌≡◌, IfErr, IfOk, map, option_copied};
 ghost use Rattle.desk_history.specs.People.{people};
-ghost use Rattle.desk_history.specs.Roles.{is_officer};
 ghost use Rattle.desk_history.specs.Shown.{IsGiven, proposals_for, shown_proposal};
 ghost use Rattle.store_reads.specs.People.{IsOneOf};
 ghost use Rattle.store_requests.specs.Telling.{IsOfficerRefusal, TellsOf};
 ghost use Rattle.store_sql.specs.States.{DoesInside, CommitsNothing, Spares, StaysInside};
 ghost use Rattle.desk_texts.specs.declared.caller.Caller.TheVariants as callers;
 
-use crate::reader::reader_of;
+use crate::officer::officer_of;
 use desk_bytes::Refusal;
-use desk_texts::{Person, PersonName, Proposal, Role};
+use desk_texts::{Person, PersonName, Proposal};
 use sqlite::{Alter, Transaction};
 use std::alloc::Global;
 use store_proposals::{proposals, proposals_are_listable};
-use store_reads::{ReadFault, own_row};
-
-/// Whether the role is shown proposals.
-pub(crate) fn sees_proposals(role: Role) -> bool
-    ensures { result ≡ is_officer role }
-{
-    match role {
-        Role::Officer => true,
-        Role::Submitter | Role::Reviewer | Role::Signer => false,
-    }
-}
+use store_reads::ReadFault;
 
 /// All proposals, ascending by number, for the person of this name, who must be an officer. The
 /// person isn't looked up if that is `kept_person`, who must be one of the desk's people (`value`).
@@ -49,14 +38,9 @@ pub fn proposals_of<S: Alter>(
     ensures survives { Spares S.Store tx.old.conn.now tx.new.conn.now }
 {
     proposals_are_listable();
-    let found = reader_of(alloc, tx, kept_person, name)?;
-    let Some(reader) = found else {
-        return Ok(Err(Refusal::UnknownCaller));
-    };
-    if !sees_proposals(reader.role) {
-        // Only an open store gives Ok.
-        own_row(tx)?;
-        return Ok(Err(Refusal::NotYourRole));
+    let officer = officer_of(alloc, tx, kept_person, name)?;
+    if let Err(refusal) = officer {
+        return Ok(Err(refusal));
     }
     let shown = proposals(alloc, tx)?;
     Ok(Ok(shown))
