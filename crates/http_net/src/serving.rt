@@ -88,7 +88,8 @@ pub fn serve<C: Clock, D: Answering>(
     listener: &TcpListener,
     count: u32,
 ) -> Result<(), Refusal>
-    ensures in_turn { ServesInTurn (IsOneRequest D.shows D.clean D.failed) count desk.old desk.new result }
+    ensures in_turn { ServesInTurn (IsOneRequest D.shows D.clean D.failed) count desk.old desk.new
+        result }
     ensures named { IfErr result IsServingRefusal }
     ensures before { D.clean desk.new → D.clean desk.old }
     ensures poisons { IsErrOf result Refusal.Store → D.failed desk.new }
