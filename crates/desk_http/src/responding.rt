@@ -1,5 +1,5 @@
 //! Responses to answers.
-ghost use Rattle.std.specs.Prelude.{◌≡◌, IfOk, MatchOption, MatchResult, false};
+ghost use Rattle.std.specs.Prelude.{◌≡◌, IfOk, IfSome, MatchOption, MatchResult, Some, false};
 ghost use Rattle.std.specs.Io.KnownBytes.{Appends};
 ghost use Rattle.desk_bytes.specs.Output.{AppendsBeginning};
 ghost use Rattle.http_responses.specs.Responses.{response_text};
@@ -60,27 +60,15 @@ fn response_to(alloc: Global, answer: Answer) -> Result<Vec<u8>, AllocError>
     }
 }
 
-/// The outage that an answer reports, if it reports one.
-fn outage_in(answer: &Answer) -> Option<Outage>
-    ensures { MatchOption result (sending.is_outage answer.now ≡ false)
-        (λ outage. answer.now ≡ Answer.Refused (Refused.Unavailable outage)) }
+/// The outage that the refusal reports, if it reports one.
+fn outage_in(refused: Option<Refused>) -> Option<Outage>
+    ensures { MatchOption result
+        (IfSome refused (λ known. sending.is_outage (Answer.Refused known) ≡ false))
+        (λ outage. refused ≡ Some (Refused.Unavailable outage)) }
 {
-    match answer {
-        Answer::Refused(Refused::Unavailable(outage)) => Some(*outage),
-        Answer::Refused(_)
-        | Answer::Reply(_)
-        | Answer::Request(_)
-        | Answer::Requests(_)
-        | Answer::Proposals(_)
-        | Answer::Proposal(_)
-        | Answer::Impact(_, _)
-        | Answer::Verdict(_, _)
-        | Answer::Dbx(_)
-        | Answer::Db(_)
-        | Answer::Level(_)
-        | Answer::Report(_)
-        | Answer::People(_)
-        | Answer::Minutes(_) => None,
+    match refused {
+        Some(Refused::Unavailable(outage)) => Some(outage),
+        Some(_) | None => None,
     }
 }
 
@@ -119,11 +107,10 @@ pub(crate) fn send_answer<W: Write>(
     ensures { (told : Answer) × sending.Replaces answer told
         × sending.Sends (W.contents writer.old) (W.contents writer.new) told result }
 {
-    match outage_in(&answer) {
-        Some(outage) => return send_outage(outage, writer),
-        None => {}
-    }
     let says = Answered::of(&answer);
+    if let Some(outage) = outage_in(says.refused) {
+        return send_outage(outage, writer);
+    }
     match response_to(alloc, answer) {
         Ok(bytes) => send(&bytes, says, writer),
         Err(_) => send_outage(Outage::NoMemory, writer),

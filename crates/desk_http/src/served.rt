@@ -1,6 +1,8 @@
 //! The result of serving a connection.
-ghost use Rattle.std.specs.Prelude.{◌≡◌};
+ghost use Rattle.std.specs.Prelude.{◌≡◌, MatchOption, false};
+ghost use Rattle.desk_calls.specs.declared.answers.Answer.TheVariants as Answer;
 ghost use Rattle.desk_http.specs.Responses as spec;
+ghost use Rattle.desk_http.specs.Sending.{is_outage};
 
 use desk_calls::{Answer, Call};
 use http_responses::{Outage, Refused, Status};
@@ -15,7 +17,9 @@ pub struct Answered {
 impl Answered {
     /// What the response to an answer says.
     pub(crate) fn of(answer: &Answer) -> Answered
-        ensures { result ≡ spec.answered_of answer.now }
+        ensures value { result ≡ spec.answered_of answer.now }
+        ensures refused { MatchOption result.refused (is_outage answer.now ≡ false)
+            (λ refused. answer.now ≡ Answer.Refused refused) }
     {
         match answer {
             Answer::Refused(refused) => Answered {
