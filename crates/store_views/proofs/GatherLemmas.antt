@@ -1,11 +1,11 @@
 -- One key more.
-use Rattle.std.proofs.Common.{◌≡◌, ℕ, ◌<◌, ◌+◌, List, [], ◌∷◌, ◌++◌, take, length, get_or, add-one, append-nil, append_assoc, Option, Some, None, sym, ap, subst, ◌∙◌, map, true, IsTrue}
+use Rattle.std.proofs.Common.{◌≡◌, ℕ, ◌<◌, ◌+◌, List, [], ◌∷◌, ◌++◌, take, length, get_or, add-one, append-nil, arith, append_assoc, Option, Some, None, sym, ap, subst, ◌∙◌, map, true, IsTrue}
 use Rattle.std.specs.Prelude.{All, IfSome, flat_map, bytes_eq}
 use Rattle.std.proofs.Math.Seq.{take-suc}
 use Rattle.std.proofs.lemmas.List.{flat_map_more}
 use Rattle.std.proofs.lemmas.List.Elements.{All-append, All-cons, All-nil}
 use Rattle.std.proofs.lemmas.List.Folds.{list_any_at}
-use Rattle.sqlite.specs.State.{State}
+use Rattle.sqlite.specs.State.{HasCleanDisk, State, Survives}
 use Rattle.sbat.specs.declared.component.Component.{Component}
 use Rattle.desk_texts.specs.declared.command.Listing.{Listing}
 use Rattle.desk_texts.specs.declared.kind.ListedKind.{ListedKind}
@@ -15,6 +15,7 @@ use Rattle.desk_history.proofs.ListLemmas.{bytes_eq-refl}
 use Rattle.store_reads.specs.Reads.{ReadsTables, listed}
 use Rattle.store_views.specs.lists.Gathering.{Gathers, PutsOnly}
 use Rattle.store_views.proofs.ListedFindLemmas.{any_map}
+use Rattle.store_views.proofs.StepLemmas.{spares_then}
 use Rattle.store_reads.proofs.TellsLemmas.{tells_so, tells_then}
 
 module _ {K X : Type 0} (rows_of : Tables → K → List X) (keys : List K) where
@@ -56,6 +57,28 @@ module _ {X : Type 0} (P : X → Type 0) where
     is = put ∙ ap (λ l. l ++ listed found) a.is ∙ append_assoc start a.more (listed found);
     all = All-append P a.more (listed found) a.all (all_listed found holds);
   }
+
+-- ---- the loop over the keys
+
+module _ {K X : Type 0} (rows_of : Tables → K → List X) (keys : List K) (P : X → Type 0) (start : List X) where
+  -- after the first keys, in the state that the reads left
+  abbrev pub Gathered : ℕ → List X → State → State → Type 0
+  Gathered i rows first now = Survives first now (λ _. ⊥)
+      × (HasCleanDisk now → IsTrue first.in_transaction → ReadsTables (Gathers rows_of (take i keys) start rows) first now)
+      × PutsOnly P start rows
+
+  pub gathered_next : (i : ℕ) (key : K) (before after : List X) (found : Option X) (first mid new : State)
+      → i < length keys → key ≡ get_or keys i key → after ≡ before ++ listed found → IfSome found P
+      → Survives mid new (λ _. ⊥) → (HasCleanDisk new → IsTrue mid.in_transaction → ReadsTables (λ t. rows_of t key ≡ listed found) mid new)
+      → Gathered i before first mid → Gathered (i + 1) after first new
+  gathered_next i key before after found first mid new low is put holds spares read had = (
+    spares_then first mid new had.0 spares,
+    λ clean inside.
+        let late : HasCleanDisk mid = omega (arith, spares.clean, clean) in
+        let stood = had.1 late inside in
+        gathers_next rows_of keys i key start before after found first mid new low is put stood (read clean stood.kept.inside),
+    puts_next P start before after found put holds had.2,
+  )
 
 -- ---- each of a list of keys is among them
 

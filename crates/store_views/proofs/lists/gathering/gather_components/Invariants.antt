@@ -1,16 +1,13 @@
-use Rattle.std.proofs.Common.{◌≡◌, take, IsTrue, map}
+use Rattle.std.proofs.Common.{◌≡◌, IsTrue, map}
 use Rattle.sqlite.specs.Held.{state}
-use Rattle.sqlite.specs.State.{HasCleanDisk, Survives}
 use Rattle.desk_history.specs.Calls.{is_among}
-use Rattle.store_reads.specs.Reads.{ReadsTables}
-use Rattle.store_views.specs.lists.Gathering.{Gathers, PutsOnly, levels_of}
+use Rattle.store_views.specs.lists.Gathering.{levels_of}
+use Rattle.store_views.proofs.GatherLemmas.{Gathered}
 use Rattle.store_views.proofs.lists.gathering.gather_components.Given as goal
 
 abbrev pub invariant-loop-component : goal.invariant-loop-component
 invariant-loop-component g l =
     let first = state g.S.Store l.fn.tx.conn.now in
     let now = state g.S.Store l.tx.conn.now in
-    (l.tx.conn.ghost_name ≡ l.fn.tx.conn.ghost_name) × Survives first now (λ _. ⊥)
-    × (HasCleanDisk now → IsTrue first.in_transaction
-    → ReadsTables (Gathers levels_of (take l.component-index l.named) l.fn.rows.items l.rows.items) first now)
-    × PutsOnly (λ x. IsTrue (is_among (map (λ y. y.name) l.named) x.name)) l.fn.rows.items l.rows.items
+    (l.tx.conn.ghost_name ≡ l.fn.tx.conn.ghost_name)
+    × Gathered levels_of l.named (λ x. IsTrue (is_among (map (λ y. y.name) l.named) x.name)) l.fn.rows.items l.component-index l.rows.items first now

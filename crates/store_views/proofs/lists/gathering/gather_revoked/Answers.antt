@@ -1,31 +1,20 @@
-use Rattle.std.proofs.Common.{◌∙◌, arith, IsTrue}
+use Rattle.std.proofs.Common.{◌∙◌, IsTrue}
 use Rattle.sqlite.specs.Held.{state}
-use Rattle.sqlite.specs.State.{HasCleanDisk}
 use Rattle.desk_history.specs.Calls.{is_among}
 use Rattle.store_views.specs.lists.Gathering.{revocations_of}
-use Rattle.store_views.proofs.GatherLemmas.{gathers_next, puts_next, is_key, is_key_found}
-use Rattle.store_views.proofs.StepLemmas.{spares_then}
+use Rattle.store_views.proofs.GatherLemmas.{gathered_next, is_key, is_key_found}
 use Rattle.store_views.proofs.lists.gathering.gather_revoked.Goals as goal
 
 pub loop-digest-preserved : goal.loop-digest-preserved
 loop-digest-preserved g c =
-    let first = state g.S.Store c.args.tx.now.conn.now in
-    let mid = state g.S.Store c.loop-digest.tx.conn.now in
-    let new = state g.S.Store c.find_revoked.new.tx.conn.now in
-    let before = c.loop-digest.invariant in
-    let did = c.in_ok-row.ensures in
     let keys = c.args.digests.now in
+    let i = c.loop-digest.digest-index in
     let key = c.digest-item.result in
-    let start = c.args.rows.now.items in
-    let was = c.loop-digest.rows.items in
-    let is = c.push_some.new.rows.items in (
-      did.same_reference ∙ before.0,
-      spares_then first mid new before.1 did.survives,
-      λ clean inside.
-          let late : HasCleanDisk mid = omega (arith, did.survives.clean, clean) in
-          let stood = before.2 late inside in
-          gathers_next (revocations_of c.args.kind) keys c.loop-digest.digest-index key start was is c.in_ok-row.row first mid new c.loop-digest-test.true c.digest-item.is c.in_ok-push_some.ensures stood (did.value clean stood.kept.inside),
-      puts_next (λ x. IsTrue (is_among keys x)) start was is c.in_ok-row.row c.in_ok-push_some.ensures
-          (is_key_found keys key
-          (is_key keys c.loop-digest.digest-index key c.loop-digest-test.true c.digest-item.is) c.in_ok-row.row did.only) before.3,
+    let mid = state g.S.Store c.loop-digest.tx.conn.now in
+    let did = c.in_ok-row.ensures in (
+      did.same_reference ∙ c.loop-digest.invariant.0,
+      gathered_next (revocations_of c.args.kind) keys (λ x. IsTrue (is_among keys x)) c.args.rows.now.items i key c.loop-digest.rows.items c.push_some.new.rows.items c.in_ok-row.row
+          (state g.S.Store c.args.tx.now.conn.now) mid (state g.S.Store c.find_revoked.new.tx.conn.now) c.loop-digest-test.true c.digest-item.is c.in_ok-push_some.ensures
+          (is_key_found keys key (is_key keys i key c.loop-digest-test.true c.digest-item.is) c.in_ok-row.row did.only)
+          did.survives did.value c.loop-digest.invariant.1,
     )
