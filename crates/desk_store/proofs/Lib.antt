@@ -14,4 +14,5 @@ mod QuestionLemmas
 mod ReopeningLemmas
 mod LivingLemmas
 mod RestartLemmas
+mod StreamLemmas
 mod ImpactLemmas

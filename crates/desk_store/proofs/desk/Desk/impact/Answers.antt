@@ -3,12 +3,13 @@ use Rattle.desk_history.specs.ImpactShown.{impact_for}
 use Rattle.store_reads.specs.Failures.{IsFailure}
 use Rattle.desk_store.specs.Desks.{ForEachShown}
 use Rattle.desk_store.specs.Impacts.{Foretells, IsImpactRefusal}
-use Rattle.desk_store.proofs.ImpactLemmas.{all_shown, failed_unanswered, failures, refused_so, streams_err, streams_of, streams_ok, streams_then}
+use Rattle.desk_store.proofs.ImpactLemmas.{all_shown, refused_so}
+use Rattle.desk_store.proofs.StreamLemmas.{failed_unanswered, streams_barred, streams_err, streams_of, streams_ok, streams_touched}
 use Rattle.desk_store.proofs.desk.Desk.impact.Goals as goal
 
 pub returns-in-Err-clause-refused : goal.returns-in-Err-clause-refused
 returns-in-Err-clause-refused g c clean no_memory no_store owner cs was =
-    refused_so g.S.Store (impact_for cs c.args.caller.now c.args.number) c.in-Err.refusal (Foretells cs c.args.number) (c.in-Err.ensures.due clean no_memory no_store owner cs was)
+    refused_so (impact_for cs c.args.caller.now c.args.number) c.in-Err.refusal (Foretells cs c.args.number) (c.in-Err.ensures.due clean no_memory no_store owner cs was)
 
 pub returns-in-Err-clause-streams : goal.returns-in-Err-clause-streams
 returns-in-Err-clause-streams g c =
@@ -19,19 +20,17 @@ pub returns-in-Err-touched-clause-refused : goal.returns-in-Err-touched-clause-r
 returns-in-Err-touched-clause-refused g c clean no_memory no_store =
     let old = c.args.self.now in
     let mid = c.outlook.new.self in
-    let one = streams_of g.S.Store IsImpactRefusal old mid (Ok c.in-Ok.outlook) c.in-Ok.ensures.stays c.in-Ok.ensures.reads in
-    failed_unanswered g.S.Store IsImpactRefusal old mid c.touched.new.self c.in-Ok.outlook c.in-Err-touched.failure
-    (ForEachShown g.S.Store old (λ owner cs. impact_for cs c.args.caller.now c.args.number ≡ Err c.in-Err-touched.failure)) one c.in-Err-touched.ensures.streams no_memory no_store
+    let failure = c.in-Err-touched.failure in
+    failed_unanswered g.S.Store IsImpactRefusal old mid c.in-Ok.outlook failure (ForEachShown g.S.Store old (λ owner cs. impact_for cs c.args.caller.now c.args.number ≡ Err failure))
+    (streams_of g.S.Store IsImpactRefusal old mid (Ok c.in-Ok.outlook) c.in-Ok.ensures.stays c.in-Ok.ensures.reads) c.in-Err-touched.ensures.streams.named no_memory no_store
 
 pub returns-in-Err-touched-clause-streams : goal.returns-in-Err-touched-clause-streams
 returns-in-Err-touched-clause-streams g c =
     let old = c.args.self.now in
-    let mid = c.outlook.new.self in
     let late = c.touched.new.self in
     let failure = c.in-Err-touched.failure in
-    let one = streams_of g.S.Store IsImpactRefusal old mid (Ok c.in-Ok.outlook) c.in-Ok.ensures.stays c.in-Ok.ensures.reads in
     streams_err g.S.Store IsImpactRefusal old late failure
-    (streams_then g.S.Store IsImpactRefusal IsFailure IsImpactRefusal old mid late c.in-Ok.outlook (Err failure) failures one c.in-Err-touched.ensures.streams)
+    (streams_touched g.S.Store old c.outlook.new.self late c.in-Ok.outlook (Err failure) c.in-Ok.ensures.stays c.in-Ok.ensures.reads c.in-Err-touched.ensures.streams)
 
 pub returns-in-Ok-answer_question-clause-shown : goal.returns-in-Ok-answer_question-clause-shown
 returns-in-Ok-answer_question-clause-shown g c clean =
@@ -50,38 +49,31 @@ returns-in-Ok-answer_question-clause-shown g c clean =
 pub returns-in-Ok-answer_question-clause-streams : goal.returns-in-Ok-answer_question-clause-streams
 returns-in-Ok-answer_question-clause-streams g c =
     let old = c.args.self.now in
-    let mid = c.outlook.new.self in
     let late = c.touched.new.self in
     let new = c.answer_question.new.self in
     let images = c.in-Ok-touched.touched in
     let bars = c.in-Ok-answer_question.bars in
-    let one = streams_of g.S.Store IsImpactRefusal old mid (Ok c.in-Ok.outlook) c.in-Ok.ensures.stays c.in-Ok.ensures.reads in
-    let two = streams_then g.S.Store IsImpactRefusal IsFailure IsImpactRefusal old mid late c.in-Ok.outlook (Ok images) failures one c.in-Ok-touched.ensures.streams in
-    let three = streams_of g.S.Store IsFailure late new (Ok bars) c.in-Ok-answer_question.ensures.stays c.in-Ok-answer_question.ensures.reads in
-    streams_ok g.S.Store IsImpactRefusal old new bars _ (streams_then g.S.Store IsImpactRefusal IsFailure IsImpactRefusal old late new images (Ok bars) failures two three)
+    streams_ok g.S.Store IsImpactRefusal old new bars _
+    (streams_barred g.S.Store old late new images (Ok bars) c.in-Ok-answer_question.ensures.stays
+    (streams_touched g.S.Store old c.outlook.new.self late c.in-Ok.outlook (Ok images) c.in-Ok.ensures.stays c.in-Ok.ensures.reads c.in-Ok-touched.ensures.streams) c.in-Ok-answer_question.ensures.reads)
 
 pub returns-clause-refused : goal.returns-clause-refused
 returns-clause-refused g c clean no_memory no_store =
     let old = c.args.self.now in
-    let mid = c.outlook.new.self in
     let late = c.touched.new.self in
-    let new = c.answer_question.new.self in
     let images = c.in-Ok-touched.touched in
     let failure = c.in-Err-answer_question.failure in
-    let one = streams_of g.S.Store IsImpactRefusal old mid (Ok c.in-Ok.outlook) c.in-Ok.ensures.stays c.in-Ok.ensures.reads in
-    let two = streams_then g.S.Store IsImpactRefusal IsFailure IsImpactRefusal old mid late c.in-Ok.outlook (Ok images) failures one c.in-Ok-touched.ensures.streams in
-    let three = streams_of g.S.Store IsFailure late new (Err failure) c.in-Err-answer_question.ensures.stays c.in-Err-answer_question.ensures.reads in
-    failed_unanswered g.S.Store IsImpactRefusal old late new images failure (ForEachShown g.S.Store old (λ owner cs. impact_for cs c.args.caller.now c.args.number ≡ Err failure)) two three no_memory no_store
+    failed_unanswered g.S.Store IsImpactRefusal old late images failure (ForEachShown g.S.Store old (λ owner cs. impact_for cs c.args.caller.now c.args.number ≡ Err failure))
+    (streams_touched g.S.Store old c.outlook.new.self late c.in-Ok.outlook (Ok images) c.in-Ok.ensures.stays c.in-Ok.ensures.reads c.in-Ok-touched.ensures.streams)
+    c.in-Err-answer_question.ensures.reads.named no_memory no_store
 
 pub returns-clause-streams : goal.returns-clause-streams
 returns-clause-streams g c =
     let old = c.args.self.now in
-    let mid = c.outlook.new.self in
     let late = c.touched.new.self in
     let new = c.answer_question.new.self in
     let images = c.in-Ok-touched.touched in
     let failure = c.in-Err-answer_question.failure in
-    let one = streams_of g.S.Store IsImpactRefusal old mid (Ok c.in-Ok.outlook) c.in-Ok.ensures.stays c.in-Ok.ensures.reads in
-    let two = streams_then g.S.Store IsImpactRefusal IsFailure IsImpactRefusal old mid late c.in-Ok.outlook (Ok images) failures one c.in-Ok-touched.ensures.streams in
-    let three = streams_of g.S.Store IsFailure late new (Err failure) c.in-Err-answer_question.ensures.stays c.in-Err-answer_question.ensures.reads in
-    streams_err g.S.Store IsImpactRefusal old new failure (streams_then g.S.Store IsImpactRefusal IsFailure IsImpactRefusal old late new images (Err failure) failures two three)
+    streams_err g.S.Store IsImpactRefusal old new failure
+    (streams_barred g.S.Store old late new images (Err failure) c.in-Err-answer_question.ensures.stays
+    (streams_touched g.S.Store old c.outlook.new.self late c.in-Ok.outlook (Ok images) c.in-Ok.ensures.stays c.in-Ok.ensures.reads c.in-Ok-touched.ensures.streams) c.in-Err-answer_question.ensures.reads)

@@ -1,13 +1,13 @@
-use Rattle.std.proofs.Common.{◌≡◌, Ok, Err, false, rules, sym, subst, ◌∙◌}
+use Rattle.std.proofs.Common.{Err, false, sym, subst, ◌∙◌}
 use Rattle.desk_history.specs.People.{people}
 use Rattle.desk_history.specs.Tables.{tables}
 use Rattle.store_views.specs.remembered.Current.{IsCurrent}
 use Rattle.desk_store.proofs.RememberedLemmas.{forgets}
 use Rattle.store_reads.specs.Failures.{IsFailure}
 use Rattle.store_reads.specs.People.{IsOneOf}
-use Rattle.desk_store.specs.Desks.{ForEachShown, ReadsDesk}
-use Rattle.desk_store.specs.Impacts.{GivesOutlook, IsImpactRefusal}
-use Rattle.desk_store.proofs.ImpactLemmas.{answers, not_store, on_answer, on_failure, reads_wider}
+use Rattle.desk_store.specs.Desks.{ForEachShown}
+use Rattle.desk_store.specs.Impacts.{GivesOutlook}
+use Rattle.desk_store.proofs.StreamLemmas.{answers, not_store, on_answer, on_failure, reads_wider}
 use Rattle.desk_store.proofs.PersonLemmas.{reads_taken, without_person}
 use Rattle.desk_store.proofs.desk.Desk.outlook.Goals as goal
 
