@@ -23,6 +23,7 @@ pub record Others : Type 0 where
   pub tables : List Table
   pub indexes : List Index
 
+-- nothing comes after the tables and indexes of a schema
 abbrev pub no_others : Others
 no_others = record { tables = []; indexes = [] }
 

@@ -77,18 +77,23 @@ pub record CountsIn (schema : Schema) (at : ℕ) (table : Table) (text : List �
 
 -- ---- the meanings in a layout
 
+-- INSERT, under each schema that fits the layout
 abbrev pub InsertsRow : Layout → ℕ → Table → List ℕ → List Term → Type 0
 InsertsRow layout at table text terms = (schema : Schema) → Fits layout schema → InsertsIn schema at table text terms
 
+-- UPDATE, under each schema that fits the layout
 abbrev pub UpdatesRows : Layout → ℕ → Table → List ℕ → List Term → List Term → Type 0
 UpdatesRows layout at table text terms rest = (schema : Schema) → Fits layout schema → UpdatesIn schema at table text terms rest
 
+-- DELETE, under each schema that fits the layout
 abbrev pub DeletesRows : Layout → ℕ → Table → List ℕ → List Term → Type 0
 DeletesRows layout at table text terms = (schema : Schema) → Fits layout schema → DeletesIn schema at table text terms
 
+-- SELECT, under each schema that fits the layout
 abbrev pub SelectsRows : Layout → ℕ → Table → List ℕ → List Term → List (Term × Key) → List Term → List (List ℕ) → Type 0
 SelectsRows layout at table text terms order rest names = (schema : Schema) → Fits layout schema → SelectsIn schema at table text terms order rest names
 
+-- SELECT count(*), under each schema that fits the layout
 abbrev pub CountsRows : Layout → ℕ → Table → List ℕ → List Term → List (List ℕ) → Type 0
 CountsRows layout at table text terms names = (schema : Schema) → Fits layout schema → CountsIn schema at table text terms names
 
