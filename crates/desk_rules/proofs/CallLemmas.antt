@@ -1,68 +1,69 @@
--- The answer to a call, by a view that shows a history for it.
-use Rattle.std.proofs.Common.{◌≡◌, ℕ, ◌+◌, true, false, List, Some, None, Ok, Err, Result, refl}
-use Rattle.std.specs.Prelude.{MatchResult, find}
+-- Decisions by the second rules and by the first, from those by either.
+use Rattle.std.proofs.Common.{◌≡◌, ℕ, true, List, Ok, Err, Result, refl}
+use Rattle.std.specs.Prelude.{MatchResult}
+use Rattle.std.specs.List.{list_all}
 use Rattle.desk_bytes.specs.declared.refusal.Refusal.{Refusal}
-use Rattle.desk_bytes.specs.declared.refusal.Refusal.TheVariants as refusals
-use Rattle.desk_texts.specs.CommandTexts.{text_of}
-use Rattle.desk_texts.specs.Callers.{caller_name}
 use Rattle.desk_texts.specs.declared.caller.Caller.{Caller}
 use Rattle.desk_texts.specs.declared.command.Call.{Call}
 use Rattle.desk_texts.specs.declared.command.Command.{Command}
 use Rattle.desk_history.specs.Called.{called}
-use Rattle.desk_history.specs.Calls.{History, Second}
-use Rattle.desk_history.specs.Refusals.{is_one_of, is_theirs}
-use Rattle.desk_history.specs.Runs.{has_key, is_legal}
-use Rattle.desk_history.specs.Tables.{MigratedRow, tables}
-use Rattle.desk_history.specs.declared.rows.Minute.{Minute}
+use Rattle.desk_history.specs.Calls.{First, History, Second, is_first}
+use Rattle.desk_history.specs.Runs.{is_legal}
+use Rattle.desk_history.specs.Tables.{tables}
+use Rattle.desk_rules.specs.declared.deciding.Rules.{Rules as DecisionRules}
+use Rattle.desk_rules.specs.declared.deciding.Rules.TheVariants as chosen
 use Rattle.desk_rules.specs.declared.view.Changes.{Changes}
 use Rattle.desk_rules.specs.declared.view.View.{View}
-use Rattle.desk_rules.specs.DecisionSteps.{AppendsCallRow, IsCommandStep, RefusesOwn, Repeats}
+use Rattle.desk_rules.specs.DecisionSteps.{DecidesOwn, MatchesOwn, RefusesOwn}
 use Rattle.desk_rules.specs.Decisions.{Decides, RefusesCall}
+use Rattle.desk_rules.specs.First.{DecidesFirst, RefusesFirst, ShowsToFirst}
+use Rattle.desk_rules.specs.FirstSteps.{DecidesOwnFirst}
+use Rattle.desk_rules.specs.Ruled.{DecidesBy, DecidesOwnBy, IsStep, MatchesRuling, ShowsBy, rules_of}
 use Rattle.desk_rules.specs.Shown.{Shows}
 use Rattle.desk_rules.proofs.RoomByRules.{room_is}
-use Rattle.desk_rules.proofs.RulingLemmas as ruling
-use Rattle.desk_rules.proofs.RulingLemmas.{MatchesRuling}
 
--- the rows of `migrated` of a history
-abbrev rows : List ℕ → History → List MigratedRow
-rows owner at = (tables owner at).migrated
+module _ (v : View) (owner : List ℕ) (cs : History) (c : Call) where
+  shows_second : Shows v (tables owner cs) c → ShowsBy Second v owner cs c
+  shows_second shown = record { call = shown; first = λ e. cc }
 
--- the result is the answer to the call, or memory ran out
-abbrev MatchesAnswer : List ℕ → History → Call → Result Changes Refusal → Type 0
-MatchesAnswer owner cs c result = MatchResult result (λ changes. Decides changes owner cs c) (λ r. RefusesCall r cs c)
+  shows_first : list_all is_first cs ≡ true → ShowsToFirst v (tables owner cs) c → ShowsBy First v owner cs c
+  shows_first first shown = record { call = shown.call; first = λ e. (first, shown) }
 
--- a ruling by the second rules is the answer
-answers : (owner : List ℕ) (cs : History) (c : Call) (result : Result Changes Refusal) → MatchesRuling Second (rows owner) owner cs c result → MatchesAnswer owner cs c result
-answers owner cs c (Ok changes) h = record { told = h.told; made = h.made }
-answers owner cs c (Err r) h = h
+  -- what a command does by the second rules has room where the history with its call is within the
+  -- limits
+  second_step : (result : Result Changes Refusal) → is_legal cs ≡ true → Shows v (tables owner cs) c → MatchesOwn owner cs c result
+      → MatchResult result (λ changes. IsStep Second v changes owner cs c) (λ r. RefusesOwn r cs c)
+  second_step (Ok changes) legal shown makes = record {
+    accepted = makes.accepted;
+    replied = makes.replied;
+    made = makes.made;
+    room = room_is v.sizes owner cs c changes.writes.items shown.count shown.sizes legal makes.made makes.listed;
+  }
+  second_step (Err r) legal shown why = why
 
-module _ (v : View) (owner : List ℕ) (cs : History) (caller : Caller) (key : List ℕ) (command : Command) (shown : Shows v (tables owner cs) (called caller key command)) where
-  -- a caller who isn't known
-  pub unknown : is_one_of v.people.items caller ≡ false → RefusesCall refusals.UnknownCaller cs (called caller key command)
-  unknown h = ruling.unknown Second v owner cs caller key command shown (rows owner) refl h
+  -- a ruling by the second rules is the answer
+  answers : (result : Result Changes Refusal) → MatchesRuling Second owner cs c result → MatchResult result (λ changes. Decides changes owner cs c) (λ r. RefusesCall r cs c)
+  answers (Ok changes) h = record { told = h.told; made = h.made }
+  answers (Err r) h = h
 
-  module _ (is_one : is_one_of v.people.items caller ≡ true) where
-    -- a key that was given before
-    pub repeats : (m : Minute) → find (has_key (caller_name caller) key) v.calls.items ≡ Some m → (result : Result Changes Refusal) → Repeats result m (text_of command) →
-        MatchResult result (λ changes. Decides changes owner cs (called caller key command)) (λ r. RefusesCall r cs (called caller key command))
-    repeats m found result told = answers owner cs (called caller key command) result (ruling.repeats Second v owner cs caller key command shown (rows owner) refl is_one m found result told)
+  pub by_second : (result : Result Changes Refusal) → DecidesBy Second v c result → is_legal cs ≡ true → Shows v (tables owner cs) c
+      → MatchResult result (λ changes. Decides changes owner cs c) (λ r. RefusesCall r cs c)
+  by_second result told legal shown = answers result (told owner cs legal (shows_second shown))
 
-    module _ (fresh : find (has_key (caller_name caller) key) v.calls.items ≡ None) where
-      -- a command that isn't the caller's
-      pub not_theirs : is_theirs v.people.items caller command ≡ false → RefusesCall refusals.NotYourRole cs (called caller key command)
-      not_theirs h = ruling.not_theirs Second v owner cs caller key command shown (rows owner) refl is_one fresh h
+  answers_first : (result : Result Changes Refusal) → MatchesRuling First owner cs c result → MatchResult result (λ changes. DecidesFirst changes owner cs c) (λ r. RefusesFirst r cs c)
+  answers_first (Ok changes) h = record { told = h.told; made = h.made }
+  answers_first (Err r) h = h
 
-      module _ (theirs : is_theirs v.people.items caller command ≡ true) where
-        -- a command that its own conditions refuse
-        pub refuses_own : (r : Refusal) → RefusesOwn r cs (called caller key command) → (result : Result Changes Refusal) → result ≡ Err r →
-            MatchResult result (λ changes. Decides changes owner cs (called caller key command)) (λ r. RefusesCall r cs (called caller key command))
-        refuses_own r own result is = answers owner cs (called caller key command) result (ruling.refuses_own Second v owner cs caller key command shown (rows owner) refl is_one fresh theirs r own result is)
+  pub by_first : (result : Result Changes Refusal) → DecidesBy First v c result → is_legal cs ≡ true → list_all is_first cs ≡ true → ShowsToFirst v (tables owner cs) c
+      → MatchResult result (λ changes. DecidesFirst changes owner cs c) (λ r. RefusesFirst r cs c)
+  by_first result told legal first shown = answers_first result (told owner cs legal (shows_first first shown))
 
-        -- a command with room for what it writes
-        pub joins : is_legal cs ≡ true → (own : Changes) → IsCommandStep own owner cs (called caller key command) → (text : List ℕ) → text ≡ text_of command → (result : Result Changes Refusal) →
-            AppendsCallRow result v own (record { number = v.sizes.calls + 1; caller = caller; key = key; text = text; reply = own.reply }) →
-            MatchResult result (λ changes. Decides changes owner cs (called caller key command)) (λ r. RefusesCall r cs (called caller key command))
-        joins legal own makes text is result told =
-            let room = room_is v.sizes owner cs (called caller key command) own.writes.items shown.count shown.sizes legal makes.made makes.listed in
-            answers owner cs (called caller key command) result
-            (ruling.joins Second v owner cs caller key command shown (rows owner) refl is_one fresh theirs own makes.accepted makes.replied makes.made room text is result told)
+module _ (v : View) (caller : Caller) (key : List ℕ) (command : Command) (result : Result Changes Refusal) where
+  -- by the chosen rules a command does what it does by those
+  pub chosen_first : (r : DecisionRules) → r ≡ chosen.First → DecidesOwnFirst v caller command result → DecidesOwnBy (rules_of r) v (called caller key command) result
+  chosen_first chosen.First is told owner cs legal shown = let first = shown.first refl in told owner cs key legal first.0 first.1
+  chosen_first chosen.Second is told owner cs legal shown = cc
+
+  pub chosen_second : (r : DecisionRules) → r ≡ chosen.Second → DecidesOwn v caller command result → DecidesOwnBy (rules_of r) v (called caller key command) result
+  chosen_second chosen.First is told owner cs legal shown = cc
+  chosen_second chosen.Second is told owner cs legal shown = second_step v owner cs (called caller key command) result legal shown.call (told owner cs key legal shown.call)

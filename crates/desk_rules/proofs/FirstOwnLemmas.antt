@@ -21,7 +21,8 @@ use Rattle.desk_rules.specs.declared.view.Changes.{Changes}
 use Rattle.desk_rules.specs.declared.view.View.{View}
 use Rattle.desk_rules.specs.DecisionSteps.{MatchesOwn, RefusesOwn}
 use Rattle.desk_rules.specs.First.{ShowsToFirst}
-use Rattle.desk_rules.specs.FirstSteps.{IsFirstStep, next_tables}
+use Rattle.desk_rules.specs.FirstSteps.{next_tables}
+use Rattle.desk_rules.specs.Ruled.{IsStep}
 use Rattle.desk_rules.proofs.RoomByRules.{room_is}
 
 -- a history of the first rules has no proposal
@@ -60,7 +61,7 @@ alike owner cs caller key _ h accepted none = record { replied = refl; made = re
 
 pub decides_alike : (v : View) (caller : Caller) (c : Command) (owner : List ℕ) (cs : History) (key : List ℕ) → named_by c ≡ None → is_legal cs ≡ true → list_all is_first cs ≡ true
     → ShowsToFirst v (tables owner cs) (called caller key c) → (result : Result Changes Refusal) → MatchesOwn owner cs (called caller key c) result
-    → MatchResult result (λ changes. IsFirstStep v changes owner cs (called caller key c)) (λ refusal. RefusesOwn refusal cs (called caller key c))
+    → MatchResult result (λ changes. IsStep First v changes owner cs (called caller key c)) (λ refusal. RefusesOwn refusal cs (called caller key c))
 decides_alike v caller c owner cs key none legal first shown (Ok changes) step =
     let same = alike owner cs caller key c none step.accepted (none_proposed cs first) in
     record {

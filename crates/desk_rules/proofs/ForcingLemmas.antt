@@ -24,7 +24,8 @@ use Rattle.desk_rules.specs.declared.view.Changes.{Changes}
 use Rattle.desk_rules.specs.declared.view.View.{View}
 use Rattle.desk_rules.specs.DecisionSteps.{RefusesOwn, force_refusal_in}
 use Rattle.desk_rules.specs.First.{ShowsToFirst}
-use Rattle.desk_rules.specs.FirstSteps.{IsFirstStep, forced_reply, next_tables}
+use Rattle.desk_rules.specs.FirstSteps.{forced_reply, next_tables}
+use Rattle.desk_rules.specs.Ruled.{IsStep}
 use Rattle.desk_rules.specs.ImportSteps.{HasTakenAll, PutsEntries}
 use Rattle.desk_rules.specs.Keys.{import_keys}
 use Rattle.desk_rules.specs.Shown.{keys_asked}
@@ -64,10 +65,10 @@ module _ (v : View) (caller : Caller) (c : Command) (n : Named) (names : named_b
   refuses_now r h = inl (sym refusal_is ∙ h)
 
   pub forces_now : force_refusal_in v n.kind n.entries s.names ≡ None → (e : Enforced) → PutsEntries v n.entries s e → (changes : Changes)
-      → changes ≡ record { reply = forced_reply n.kind e.counts; writes = e.writes } → IsFirstStep v changes owner cs (called caller key c)
+      → changes ≡ record { reply = forced_reply n.kind e.counts; writes = e.writes } → IsStep First v changes owner cs (called caller key c)
   forces_now fine e entered changes is =
       let made : all_written e.writes.items (tables owner cs) ≡ next_tables owner cs (called caller key c) = enters v n.entries owner cs lists shown.call.stamp s taken e entered ∙ of.rows in
-      subst (λ (done : Changes). IsFirstStep v done owner cs (called caller key c)) (sym is) (record {
+      subst (λ (done : Changes). IsStep First v done owner cs (called caller key c)) (sym is) (record {
         accepted = sym refusal_is ∙ fine;
         replied = of.says e.counts (enters_as v n.entries owner cs lists shown.call.stamp s taken e entered (under First (called caller key c)) of.enforced);
         made = made;

@@ -3,7 +3,6 @@ pub mod CallLemmas
 pub mod DecisionLemmas
 pub mod EnforcingLemmas
 pub mod EntryLemmas
-pub mod FirstCallLemmas
 pub mod FirstOwnLemmas
 pub mod ForcingLemmas
 pub mod ForeseeingLemmas

@@ -1,8 +1,7 @@
 -- Words of the steps of a decision by the first rules, which private functions cite.
-use Rattle.std.specs.Prelude.{◌≡◌, ℕ, List, ◌∷◌, None, Result, MatchResult, IsTrue}
+use Rattle.std.specs.Prelude.{ℕ, List, ◌∷◌, Result, MatchResult, IsTrue}
 use Rattle.std.specs.List.{list_all}
 use Rattle.desk_bytes.specs.declared.refusal.Refusal.{Refusal}
-use Rattle.desk_texts.specs.Callers.{caller_name}
 use Rattle.desk_texts.specs.declared.caller.Caller.{Caller}
 use Rattle.desk_texts.specs.declared.command.Call.{Call}
 use Rattle.desk_texts.specs.declared.command.Command.{Command}
@@ -13,17 +12,14 @@ use Rattle.desk_texts.specs.declared.reply.Reply.{Reply}
 use Rattle.desk_texts.specs.declared.reply.Reply.TheVariants as replies
 use Rattle.desk_history.specs.Called.{called}
 use Rattle.desk_history.specs.Calls.{First, History, is_first, under}
-use Rattle.desk_history.specs.Limits.{is_within}
-use Rattle.desk_history.specs.Refusals.{own_refusal}
-use Rattle.desk_history.specs.Replies.{minutes, reply_to}
+use Rattle.desk_history.specs.Replies.{minutes}
 use Rattle.desk_history.specs.Runs.{is_legal}
 use Rattle.desk_history.specs.Tables.{Tables, tables}
-use Rattle.desk_history.specs.Writes.{all_written}
 use Rattle.desk_rules.specs.declared.view.Changes.{Changes}
 use Rattle.desk_rules.specs.declared.view.View.{View}
 use Rattle.desk_rules.specs.DecisionSteps.{RefusesOwn}
 use Rattle.desk_rules.specs.First.{ShowsToFirst}
-use Rattle.desk_rules.specs.Room.{has_room}
+use Rattle.desk_rules.specs.Ruled.{IsStep}
 
 -- the reply to a command of this kind by the first rules, of which these are the counts
 abbrev pub forced_reply : ProposalKind → Counts → Reply
@@ -37,18 +33,9 @@ forced_reply kinds.Import counts = replies.Imported counts
 abbrev pub next_tables : List ℕ → History → Call → Tables
 next_tables owner cs c = record (tables owner (under First c ∷ cs)) { calls = minutes cs; migrated = (tables owner cs).migrated }
 
--- The command's own conditions accept it, with this reply by the first rules, and the writes make
--- those tables. The view's sizes have room for them where the history with the call is within the
--- limits.
-pub record IsFirstStep (v : View) (changes : Changes) (owner : List ℕ) (cs : History) (c : Call) : Type 0 where
-  pub accepted : own_refusal cs (caller_name c.caller) c.command ≡ None
-  pub replied : changes.reply ≡ reply_to cs (under First c)
-  pub made : all_written changes.writes.items (tables owner cs) ≡ next_tables owner cs c
-  pub room : has_room v.sizes changes.writes.items ≡ is_within (under First c ∷ cs)
-
 -- on each legal history of the first rules alone that the view shows, the result agrees with the
 -- command's own conditions and with what it writes by the first rules
 abbrev pub DecidesOwnFirst : View → Caller → Command → Result Changes Refusal → Type 0
 DecidesOwnFirst v caller command result =
     (owner : List ℕ) (cs : History) (key : List ℕ) → IsTrue (is_legal cs) → IsTrue (list_all is_first cs) → ShowsToFirst v (tables owner cs) (called caller key command)
-    → MatchResult result (λ changes. IsFirstStep v changes owner cs (called caller key command)) (λ refusal. RefusesOwn refusal cs (called caller key command))
+    → MatchResult result (λ changes. IsStep First v changes owner cs (called caller key command)) (λ refusal. RefusesOwn refusal cs (called caller key command))

@@ -7,5 +7,6 @@ pub mod Foreseen
 pub mod ImportSteps
 pub mod Keys
 pub mod Room
+pub mod Ruled
 pub mod Shown
 pub mod Views

@@ -8,9 +8,10 @@ ghost use Rattle.desk_texts.specs.CommandTexts.{text_of as canonical_text};
 ghost use Rattle.desk_history.specs.Runs.{has_key};
 ghost use Rattle.desk_rules.specs.DecisionSteps as steps;
 ghost use Rattle.desk_rules.specs.Decisions as spec;
+ghost use Rattle.desk_rules.specs.Ruled as ruled;
 
 use crate::call_ref::CallRef;
-use crate::decisions::{decide_own, push};
+use crate::decisions::{decide_own, decide_own_first, push};
 use crate::room::has_room;
 use crate::rows::minute;
 use crate::view::{Changes, View};
@@ -21,7 +22,7 @@ use std::alloc::Global;
 
 impl View {
     /// The minute of the caller's earlier call with this key.
-    pub(crate) fn earlier_minute(&self, call: &CallRef<'_>) -> Option<&Minute>
+    fn earlier_minute(&self, call: &CallRef<'_>) -> Option<&Minute>
         ensures { option_copied result
             ≡ find (has_key (caller_name call.now.caller) call.now.key) self.now.calls.items }
     {
@@ -33,7 +34,7 @@ impl View {
 }
 
 /// The canonical text of the command. Takes memory for it.
-pub(crate) fn text_of(alloc: Global, command: &Command) -> Result<CommandText, Refusal>
+fn text_of(alloc: Global, command: &Command) -> Result<CommandText, Refusal>
     ensures { MatchResult result (λ text. text ≡ canonical_text command.now)
         (λ refusal. refusal ≡ Refusal.NoMemory) }
 {
@@ -41,7 +42,7 @@ pub(crate) fn text_of(alloc: Global, command: &Command) -> Result<CommandText, R
 }
 
 /// The answer to a call with the key of this minute: its reply, if the command has the same text.
-pub(crate) fn repeat(alloc: Global, minute: &Minute, text: &CommandText) -> Result<Changes, Refusal>
+fn repeat(alloc: Global, minute: &Minute, text: &CommandText) -> Result<Changes, Refusal>
     ensures { steps.Repeats result minute.now text.now }
 {
     if minute.text.as_str() != text.as_str() {
@@ -54,7 +55,7 @@ pub(crate) fn repeat(alloc: Global, minute: &Minute, text: &CommandText) -> Resu
 }
 
 /// Puts the call's own row after the writes of its command, if there is room for all of them.
-pub(crate) fn join(
+fn join(
     view: &View,
     own: Changes,
     call: &CallRef<'_>,
@@ -80,6 +81,53 @@ pub(crate) fn join(
     })
 }
 
+/// The rules by which a call is decided.
+#[derive(Clone, Copy)]
+pub(crate) enum Rules {
+    /// One officer alone revokes and raises.
+    First,
+    /// Another officer confirms.
+    Second,
+}
+
+impl Rules {
+    /// The answer by the command's own conditions, and the rows that it writes, without the call's
+    /// own.
+    fn decide_own(self, alloc: Global, view: &View, call: &CallRef<'_>) -> Result<Changes, Refusal>
+        ensures exact { ruled.DecidesOwnBy (ruled.rules_of self) view.now call.now result }
+        ensures only { IfErr result (λ refusal. IsTrue (may_answer refusal)) }
+    {
+        match self {
+            Rules::First => decide_own_first(alloc, view, call.caller, call.command),
+            Rules::Second => decide_own(alloc, view, call.caller, call.command),
+        }
+    }
+
+    /// The answer to the call, and the rows that it writes.
+    pub(crate) fn decide_call(
+        self,
+        alloc: Global,
+        view: &View,
+        call: &CallRef<'_>,
+    ) -> Result<Changes, Refusal>
+        ensures exact { ruled.DecidesBy (ruled.rules_of self) view.now call.now result }
+        ensures only { IfErr result (λ refusal. IsTrue (may_answer refusal)) }
+    {
+        if !view.is_known(call.caller) {
+            return Err(Refusal::UnknownCaller);
+        }
+        let text = text_of(alloc, call.command)?;
+        if let Some(minute) = view.earlier_minute(call) {
+            return repeat(alloc, minute, &text);
+        }
+        if !view.may_give(call.caller, call.command) {
+            return Err(Refusal::NotYourRole);
+        }
+        let own = self.decide_own(alloc, view, call)?;
+        join(view, own, call, text)
+    }
+}
+
 /// The answer to a call, and the rows that it writes, from the rows of the view. `UnknownCaller`
 /// comes first; then, for a key that the caller gave before, the reply given then or `KeyReused`;
 /// then `NotYourRole`, the command's own conditions and `Full`. `NoMemory` may come at any time.
@@ -99,16 +147,5 @@ pub fn decide(
         key,
         command,
     };
-    if !view.is_known(caller) {
-        return Err(Refusal::UnknownCaller);
-    }
-    let text = text_of(alloc, command)?;
-    if let Some(minute) = view.earlier_minute(&call) {
-        return repeat(alloc, minute, &text);
-    }
-    if !view.may_give(caller, command) {
-        return Err(Refusal::NotYourRole);
-    }
-    let own = decide_own(alloc, view, caller, command)?;
-    join(view, own, &call, text)
+    Rules::Second.decide_call(alloc, view, &call)
 }

@@ -5,8 +5,7 @@ ghost use Rattle.desk_history.specs.DecisionRefusals.{may_answer};
 ghost use Rattle.desk_rules.specs.First as spec;
 
 use crate::call_ref::CallRef;
-use crate::deciding::{join, repeat, text_of};
-use crate::decisions::decide_own_first;
+use crate::deciding::Rules;
 use crate::view::{Changes, View};
 use desk_bytes::Refusal;
 use desk_texts::{Caller, Command, Key};
@@ -31,16 +30,5 @@ pub fn decide_first(
         key,
         command,
     };
-    if !view.is_known(caller) {
-        return Err(Refusal::UnknownCaller);
-    }
-    let text = text_of(alloc, command)?;
-    if let Some(minute) = view.earlier_minute(&call) {
-        return repeat(alloc, minute, &text);
-    }
-    if !view.may_give(caller, command) {
-        return Err(Refusal::NotYourRole);
-    }
-    let own = decide_own_first(alloc, view, caller, command)?;
-    join(view, own, &call, text)
+    Rules::First.decide_call(alloc, view, &call)
 }
