@@ -1,6 +1,6 @@
 -- Entries that a call puts into force.
-use Rattle.std.proofs.Common.{◌≡◌, ℕ, ◌-◌, Bool, true, false, not, ◌&&◌, ◌||◌, cond, List, [], ◌∷◌, ◌++◌, map, filter, length, Option, Some, None, refl, sym, ◌∙◌, ap, arith}
-use Rattle.std.specs.Prelude.{if◌then◌else◌, IsTrue, bytes_eq, nat_lt, reverse, unwrap_or}
+use Rattle.std.proofs.Common.{◌≡◌, ℕ, ◌-◌, Bool, true, false, not, ◌&&◌, ◌||◌, cond, List, [], ◌∷◌, ◌++◌, map, filter, length, Option, Some, None, Ok, Err, Result, refl, sym, ◌∙◌, ap, arith}
+use Rattle.std.specs.Prelude.{if◌then◌else◌, IfOk, IsTrue, bytes_eq, nat_lt, reverse, unwrap_or}
 use Rattle.std.specs.List.{list_any}
 use Rattle.std.specs.Option.{option_map_or}
 use Rattle.std.proofs.lemmas.Bool.{or_left, or_right}
@@ -8,6 +8,7 @@ use Rattle.std.proofs.lemmas.Bool.Decides.{nat_tests}
 use Rattle.std.proofs.lemmas.List.Folds.{list_any-append}
 use Rattle.std.proofs.lemmas.List.{length-append, length-reverse}
 use Rattle.sbat.specs.declared.component.Component.{Component}
+use Rattle.desk_bytes.specs.declared.refusal.Refusal.{Refusal}
 use Rattle.desk_bytes.specs.declared.refusal.Refusal.TheVariants as refusals
 use Rattle.desk_texts.specs.Imports.{Imported}
 use Rattle.desk_texts.specs.declared.caller.Caller.{Caller}
@@ -38,7 +39,7 @@ use Rattle.desk_rules.specs.declared.decisions.imports.SoFar.{SoFar}
 use Rattle.desk_rules.specs.declared.view.View.{View}
 use Rattle.desk_rules.specs.DecisionSteps.{force_refusal_in, is_lower_in, revocation_writes}
 use Rattle.desk_history.specs.Called.{called}
-use Rattle.desk_rules.specs.ImportSteps.{AreNew, HasTaken, HasTakenAll, PutsEntries, PutsIntoForce, stamp_writes}
+use Rattle.desk_rules.specs.ImportSteps.{AreNew, HasTaken, HasTakenAll, PutsEntries, PutsIntoForce, PutsNamed, stamp_writes}
 use Rattle.desk_rules.specs.Room.{takes_off}
 use Rattle.desk_rules.specs.Keys.{import_keys}
 use Rattle.desk_rules.specs.Views.{ShowsLists, generation_in, seen_standing}
@@ -233,3 +234,9 @@ module _ (v : View) (i : Imported) (owner : List ℕ) (cs : History) (lists : Sh
     kept =
         ap (λ ws. list_any takes_off ws) made.wrote
         ∙ none_of_two made.entries.writes.items (closing ∷ []) (keeps made.entries made.enters) refl
+
+-- entries that nothing refuses
+pub puts_named : (v : View) (kind : ProposalKind) (n : Imported) (s : SoFar) → HasTakenAll v n s → force_refusal_in v kind n s.names ≡ None
+    → (result : Result Enforced Refusal) → IfOk result (PutsEntries v n s) → IfOk result (PutsNamed v kind n)
+puts_named v kind n s taken free (Ok e) enters = record { so_far = s; taken = taken; free = free; enters = enters }
+puts_named v kind n s taken free (Err r) enters = tt

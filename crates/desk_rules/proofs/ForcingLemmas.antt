@@ -1,6 +1,6 @@
 -- Entries that a command by the first rules puts into force at once.
-use Rattle.std.proofs.Common.{◌≡◌, ℕ, true, IfSome, List, Some, None, refl, sym, ◌∙◌, ap, subst, inl}
-use Rattle.std.specs.Prelude.{is_some}
+use Rattle.std.proofs.Common.{◌≡◌, ℕ, true, IfSome, List, Some, None, Err, Result, refl, sym, ◌∙◌, ap, subst, inl, inr}
+use Rattle.std.specs.Prelude.{MatchResult, is_some}
 use Rattle.desk_bytes.specs.declared.refusal.Refusal.{Refusal}
 use Rattle.desk_texts.specs.Callers.{caller_name}
 use Rattle.desk_texts.specs.declared.caller.Caller.{Caller}
@@ -26,7 +26,7 @@ use Rattle.desk_rules.specs.DecisionSteps.{RefusesOwn, force_refusal_in}
 use Rattle.desk_rules.specs.First.{ShowsToFirst}
 use Rattle.desk_rules.specs.FirstSteps.{forced_reply, next_tables}
 use Rattle.desk_rules.specs.Ruled.{IsStep}
-use Rattle.desk_rules.specs.ImportSteps.{HasTakenAll, PutsEntries}
+use Rattle.desk_rules.specs.ImportSteps.{FailsNamed, HasTakenAll, PutsEntries, PutsNamed}
 use Rattle.desk_rules.specs.Keys.{import_keys}
 use Rattle.desk_rules.specs.Shown.{keys_asked}
 use Rattle.desk_rules.specs.Views.{ShowsLists}
@@ -61,10 +61,10 @@ module _ (v : View) (caller : Caller) (c : Command) (n : Named) (names : named_b
   refusal_is : force_refusal_in v n.kind n.entries s.names ≡ own_refusal cs (caller_name caller) c
   refusal_is = force_seen v n.entries owner cs lists shown.call.stamp s taken n.kind ∙ (sym (refused_by-is cs c n names) ∙ sym of.own)
 
-  pub refuses_now : (r : Refusal) → force_refusal_in v n.kind n.entries s.names ≡ Some r → RefusesOwn r cs (called caller key c)
+  refuses_now : (r : Refusal) → force_refusal_in v n.kind n.entries s.names ≡ Some r → RefusesOwn r cs (called caller key c)
   refuses_now r h = inl (sym refusal_is ∙ h)
 
-  pub forces_now : force_refusal_in v n.kind n.entries s.names ≡ None → (e : Enforced) → PutsEntries v n.entries s e → (changes : Changes)
+  forces_now : force_refusal_in v n.kind n.entries s.names ≡ None → (e : Enforced) → PutsEntries v n.entries s e → (changes : Changes)
       → changes ≡ record { reply = forced_reply n.kind e.counts; writes = e.writes } → IsStep First v changes owner cs (called caller key c)
   forces_now fine e entered changes is =
       let made : all_written e.writes.items (tables owner cs) ≡ next_tables owner cs (called caller key c) = enters v n.entries owner cs lists shown.call.stamp s taken e entered ∙ of.rows in
@@ -76,3 +76,19 @@ module _ (v : View) (caller : Caller) (c : Command) (n : Named) (names : named_b
             room_first v.sizes owner cs (called caller key c) e.writes.items shown.call.count of.names (λ table into. shown.sizes table of.names into) legal made
             (keeps v n.entries owner cs lists shown.call.stamp s taken e entered);
       })
+
+-- of a command that names these entries
+module _ (v : View) (caller : Caller) (c : Command) (n : Named) (names : named_by c ≡ Some n) (owner : List ℕ) (cs : History) (key : List ℕ) (legal : is_legal cs ≡ true)
+    (shown : ShowsToFirst v (tables owner cs) (called caller key c)) where
+  fails_now : (r : Refusal) → FailsNamed v n.kind n.entries r → RefusesOwn r cs (called caller key c)
+  fails_now r (inl h) = refuses_now v caller c n names owner cs key legal shown h.so_far h.taken r h.refused
+  fails_now r (inr e) = inr e
+
+  pub not_now : (r : Refusal) → FailsNamed v n.kind n.entries r → (result : Result Changes Refusal) → result ≡ Err r
+      → MatchResult result (λ changes. IsStep First v changes owner cs (called caller key c)) (λ refusal. RefusesOwn refusal cs (called caller key c))
+  not_now r why result is =
+      subst (λ (out : Result Changes Refusal). MatchResult out (λ changes. IsStep First v changes owner cs (called caller key c)) (λ refusal. RefusesOwn refusal cs (called caller key c))) (sym is) (fails_now r why)
+
+  pub puts_now : (e : Enforced) → PutsNamed v n.kind n.entries e → (changes : Changes)
+      → changes ≡ record { reply = forced_reply n.kind e.counts; writes = e.writes } → IsStep First v changes owner cs (called caller key c)
+  puts_now e h changes is = forces_now v caller c n names owner cs key legal shown h.so_far h.taken h.free e h.enters changes is

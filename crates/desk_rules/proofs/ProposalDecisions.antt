@@ -1,6 +1,6 @@
 -- Proposals in a view that shows a history, and tables after their writes.
 use Rattle.std.proofs.Common.{◌≡◌, ◌⊎◌, ℕ, ◌+◌, ◌≤◌, Bool, true, false, IfSome, List, [], ◌∷◌, length, Option, Some, None, Ok, Err, Result, refl, sym, ◌∙◌, ap, subst, inl, inr, arith}
-use Rattle.std.specs.Prelude.{IfErr, IfOk, bytes_eq, find, option_map}
+use Rattle.std.specs.Prelude.{◌++◌, IfErr, IfOk, MatchResult, bytes_eq, find, option_map}
 use Rattle.std.specs.Option.{option_map_or}
 use Rattle.std.proofs.lemmas.List.{length-map}
 use Rattle.desk_bytes.specs.declared.refusal.Refusal.{Refusal}
@@ -33,7 +33,7 @@ use Rattle.desk_rules.specs.declared.view.LimitedTable.TheVariants as counted
 use Rattle.desk_rules.specs.declared.view.View.{View}
 use Rattle.desk_rules.specs.DecisionSteps.{Decided, DecidesOwn, IsCommandStep, MatchesOwn, RefusesOwn, drop_refusal_in, force_refusal_in, open_row}
 use Rattle.desk_history.specs.Called.{called}
-use Rattle.desk_rules.specs.ImportSteps.{ConfirmsAnother, HasTakenAll, IsConfirmed, PutsIntoForce}
+use Rattle.desk_rules.specs.ImportSteps.{ConfirmsAnother, FailsNamed, HasTakenAll, IsConfirmed, PutsIntoForce, PutsNamed}
 use Rattle.desk_rules.specs.Keys.{import_keys, row_keys}
 use Rattle.desk_rules.specs.Shown.{Shows, is_proposal_row, keys_asked, may_put}
 use Rattle.desk_rules.specs.Views.{ShowsLists}
@@ -165,10 +165,10 @@ module _ (v : View) (caller : Caller) (k : ℕ) (owner : List ℕ) (cs : History
       enforced : enforced_by cs (item (called caller key (command.Confirm k))) ≡ Some row.named
       enforced = entries_by (proposal_state cs k) (proposal cs k) ∙ ap (λ o. option_map (λ (q : ProposalRow). q.named) o) (sym (table_found owner cs k) ∙ there)
 
-      pub refuses_force : (r : Refusal) → force_refusal_in v row.kind row.named s.names ≡ Some r → another ≡ Some r
+      refuses_force : (r : Refusal) → force_refusal_in v row.kind row.named s.names ≡ Some r → another ≡ Some r
       refuses_force r h = sym refusal_is ∙ h
 
-      pub forces : force_refusal_in v row.kind row.named s.names ≡ None → (e : Enforced) → PutsIntoForce v row.named k s e → IsConfirmed e owner cs caller key k
+      forces : force_refusal_in v row.kind row.named s.names ≡ None → (e : Enforced) → PutsIntoForce v row.named k s e → IsConfirmed e owner cs caller key k
       forces fine e made = record {
         free = sym refusal_is ∙ fine;
         counts = says v row.named owner cs lists_seen shown.stamp s taken caller key k enforced e made;
@@ -201,11 +201,21 @@ module _ (v : View) (caller : Caller) (k : ℕ) (owner : List ℕ) (cs : History
       })
 
 -- another officer's Confirm, of an open proposal
-pub puts_in : (v : View) (k : ℕ) (row : ProposalRow) (s : SoFar) → HasTakenAll v row.named s → (result : Result Enforced Refusal)
-    → force_refusal_in v row.kind row.named s.names ≡ None → IfOk result (λ e. PutsIntoForce v row.named k s e) → IfErr result (λ r. r ≡ refusals.NoMemory)
-    → find (is_proposal_row k) v.proposals.items ≡ Some row → row.state ≡ states.Open → ConfirmsAnother v k result
-puts_in v k row s taken (Ok e) fine made failed found is_open owner cs caller key shown = forces v caller k owner cs key shown row found is_open s taken fine e made
-puts_in v k row s taken (Err r) fine made failed found is_open owner cs caller key shown = inr failed
+module _ (v : View) (k : ℕ) (row : ProposalRow) (found : find (is_proposal_row k) v.proposals.items ≡ Some row) (is_open : row.state ≡ states.Open) where
+  pub not_in : (r : Refusal) → FailsNamed v row.kind row.named r → (result : Result Enforced Refusal) → result ≡ Err r → ConfirmsAnother v k result
+  not_in r why result is owner cs caller key shown =
+      subst (λ (out : Result Enforced Refusal). MatchResult out (λ e. IsConfirmed e owner cs caller key k) (λ refusal. (another_refusal cs (proposal cs k) (proposal_state cs k) ≡ Some refusal) ⊎ (refusal ≡ refusals.NoMemory))) (sym is) (because why)
+    where
+      because : FailsNamed v row.kind row.named r → (another_refusal cs (proposal cs k) (proposal_state cs k) ≡ Some r) ⊎ (r ≡ refusals.NoMemory)
+      because (inl h) = inl (refuses_force v caller k owner cs key shown row found is_open h.so_far h.taken r h.refused)
+      because (inr e) = inr e
+
+  pub puts_in : (entries : Enforced) → PutsNamed v row.kind row.named entries → (result : Result Enforced Refusal) → IfOk result (λ e. e.counts ≡ entries.counts)
+      → IfOk result (λ e. e.writes.items ≡ entries.writes.items ++ writes.ProposalState (record { proposal = k; state = states.Confirmed }) ∷ []) → IfErr result (λ r. r ≡ refusals.NoMemory)
+      → ConfirmsAnother v k result
+  puts_in entries h (Ok e) counts wrote failed owner cs caller key shown =
+      forces v caller k owner cs key shown row found is_open h.so_far h.taken h.free e (record { entries = entries; enters = h.enters; counts = counts; wrote = wrote })
+  puts_in entries h (Err r) counts wrote failed owner cs caller key shown = inr failed
 
 -- ---- a Drop
 

@@ -11,6 +11,7 @@ use Rattle.desk_texts.specs.Raising.{names_no_sbat}
 use Rattle.desk_texts.specs.declared.caller.Caller.{Caller}
 use Rattle.desk_texts.specs.declared.command.Command.TheVariants as command
 use Rattle.desk_texts.specs.declared.kind.ListedKind.TheVariants as kinds
+use Rattle.desk_texts.specs.declared.proposal.ProposalKind.{ProposalKind}
 use Rattle.desk_texts.specs.declared.proposal.ProposalState.TheVariants as states
 use Rattle.desk_history.specs.declared.write.Write.{Write}
 use Rattle.desk_history.specs.declared.write.Write.TheVariants as writes
@@ -24,7 +25,7 @@ use Rattle.desk_history.specs.Writes.{all_written}
 use Rattle.desk_rules.specs.declared.decisions.imports.Enforced.{Enforced}
 use Rattle.desk_rules.specs.declared.decisions.imports.SoFar.{SoFar}
 use Rattle.desk_rules.specs.declared.view.View.{View}
-use Rattle.desk_rules.specs.DecisionSteps.{revocation_writes}
+use Rattle.desk_rules.specs.DecisionSteps.{force_refusal_in, revocation_writes}
 use Rattle.desk_history.specs.Called.{called}
 use Rattle.desk_rules.specs.Room.{takes_off}
 use Rattle.desk_rules.specs.Shown.{Shows}
@@ -95,6 +96,23 @@ pub record PutsEntries (v : View) (n : Imported) (s : SoFar) (e : Enforced) : Ty
   pub new_certificates : AreNew v.lists.revoked_certificates.items n.certificates certificates
   pub counts : e.counts ≡ record { digests = length digests; certificates = length certificates; components = s.names; passed = n.passed }
   pub wrote : e.writes.items ≡ ((s.writes.items ++ revocation_writes kinds.Digest digests) ++ revocation_writes kinds.Certificate certificates) ++ stamp_writes s.names n.stamp
+
+-- nothing refuses to put the named entries of this kind into force, and these counts and writes do
+pub record PutsNamed (v : View) (kind : ProposalKind) (n : Imported) (e : Enforced) : Type 0 where
+  pub so_far : SoFar
+  pub taken : HasTakenAll v n so_far
+  pub free : force_refusal_in v kind n so_far.names ≡ None
+  pub enters : PutsEntries v n so_far e
+
+-- this refuses to put them into force
+pub record RefusesNamed (v : View) (kind : ProposalKind) (n : Imported) (refusal : Refusal) : Type 0 where
+  pub so_far : SoFar
+  pub taken : HasTakenAll v n so_far
+  pub refused : force_refusal_in v kind n so_far.names ≡ Some refusal
+
+-- or memory ran out
+abbrev pub FailsNamed : View → ProposalKind → Imported → Refusal → Type 0
+FailsNamed v kind n refusal = RefusesNamed v kind n refusal ⊎ (refusal ≡ refusals.NoMemory)
 
 -- these counts and writes put the entries of proposal k into force: those of its entries, and last
 -- the write of its state

@@ -8,7 +8,7 @@ ghost use Rattle.desk_history.specs.Proposals.{named_by};
 ghost use Rattle.desk_rules.specs.FirstSteps as spec;
 
 use super::decide_own;
-use super::imports::{put_entries, take_named};
+use super::imports::put_named;
 use crate::view::{Changes, View};
 use desk_bytes::{Digest, Refusal};
 use desk_texts::{Caller, Command, Counts, Import, ProposalKind, Raise, Reply};
@@ -33,11 +33,7 @@ fn force(alloc: Global, view: &View, kind: ProposalKind, named: &Import) -> Resu
         → spec.DecidesOwnFirst view.now caller command result }
     ensures only { IfErr result (λ refusal. IsTrue (may_answer refusal)) }
 {
-    let so_far = take_named(alloc, view, named)?;
-    if let Some(refusal) = view.force_refusal(kind, named, so_far.names) {
-        return Err(refusal);
-    }
-    let enforced = put_entries(alloc, view, named, so_far)?;
+    let enforced = put_named(alloc, view, kind, named)?;
     Ok(Changes {
         reply: forced_reply(kind, enforced.counts),
         writes: enforced.writes,

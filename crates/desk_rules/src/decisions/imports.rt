@@ -6,6 +6,8 @@ ghost use Rattle.desk_history.specs.Calls.{is_among};
 ghost use Rattle.desk_history.specs.Level.{greatest, is_sbat as sbat_name};
 ghost use Rattle.desk_texts.specs.Raising.{names_no_sbat};
 ghost use Rattle.desk_rules.specs.DecisionSteps.{revocation_writes};
+ghost use Rattle.desk_history.specs.declared.write.Write.TheVariants as puts;
+ghost use Rattle.desk_rules.specs.Foreseen.{may_foresee};
 ghost use Rattle.desk_rules.specs.ImportSteps as spec;
 ghost use Rattle.desk_rules.specs.Views.{generation_in};
 
@@ -15,7 +17,8 @@ use crate::view::View;
 use desk_bytes::{Digest, Refusal};
 use desk_history::{Write, is_above};
 use desk_texts::{
-    Counts, Import, ListedKind, Listing, ProposalNumber, ProposalOutcome, ProposalState,
+    Counts, Import, ListedKind, Listing, ProposalKind, ProposalNumber, ProposalOutcome,
+    ProposalState,
 };
 use sbat::{Component, ComponentName, Generation, Level, Stamp};
 use std::alloc::{AllocError, Global};
@@ -246,7 +249,7 @@ pub(crate) struct Enforced {
 }
 
 /// Puts the named entries into force. `so_far` is the changes that their components make.
-pub(crate) fn put_entries(
+fn put_entries(
     alloc: Global,
     view: &View,
     named: &Import,
@@ -274,19 +277,32 @@ pub(crate) fn put_entries(
     Ok(Enforced { counts, writes })
 }
 
-/// Puts the proposal's entries into force. `so_far` is the changes that its components make.
-pub(crate) fn enforce(
+/// Puts the named entries of this kind into force, unless they are refused.
+pub(crate) fn put_named(
     alloc: Global,
     view: &View,
+    kind: ProposalKind,
     named: &Import,
-    proposal: ProposalNumber,
-    so_far: SoFar,
 ) -> Result<Enforced, Refusal>
-    ensures ok { IfOk result
-        (λ enforced. spec.PutsIntoForce view.now named.now proposal so_far enforced) }
+    ensures ok { IfOk result (λ enforced. spec.PutsNamed view.now kind named.now enforced) }
+    ensures err { IfErr result (λ refusal. spec.FailsNamed view.now kind named.now refusal) }
+    ensures only { IfErr result (λ refusal. IsTrue (may_foresee refusal)) }
+{
+    let so_far = take_named(alloc, view, named)?;
+    if let Some(refusal) = view.force_refusal(kind, named, so_far.names) {
+        return Err(refusal);
+    }
+    put_entries(alloc, view, named, so_far)
+}
+
+/// Confirms the proposal, after what puts its entries into force.
+pub(crate) fn enforce(proposal: ProposalNumber, entries: Enforced) -> Result<Enforced, Refusal>
+    ensures counts { IfOk result (λ enforced. enforced.counts ≡ entries.counts) }
+    ensures writes { IfOk result (λ enforced. enforced.writes.items ≡ entries.writes.items
+        ++ puts.ProposalState (record { proposal = proposal; state = ProposalState.Confirmed })
+        ∷ []) }
     ensures err { IfErr result (λ refusal. refusal ≡ Refusal.NoMemory) }
 {
-    let entries = put_entries(alloc, view, named, so_far)?;
     let counts = entries.counts;
     let mut writes = entries.writes;
     let state = ProposalState::Confirmed;

@@ -15,7 +15,7 @@ ghost use Rattle.desk_rules.specs.ImportSteps as steps;
 ghost use Rattle.desk_rules.specs.Shown.{is_proposal_row};
 ghost use Rattle.desk_rules.specs.Views.{seen_standing};
 
-use super::imports::{Enforced, enforce, take_named};
+use super::imports::{Enforced, enforce, put_named, take_named};
 use super::one_write;
 use crate::rows::open_proposal;
 use crate::view::{Changes, View};
@@ -234,11 +234,8 @@ fn put_into_force(
         → row.now.state ≡ ProposalState.Open → steps.ConfirmsAnother view.now number result }
     ensures only { IfErr result (λ refusal. IsTrue (may_foresee refusal)) }
 {
-    let so_far = take_named(alloc, view, &row.named)?;
-    if let Some(refusal) = view.force_refusal(row.kind, &row.named, so_far.names) {
-        return Err(refusal);
-    }
-    enforce(alloc, view, &row.named, number, so_far)
+    let entries = put_named(alloc, view, row.kind, &row.named)?;
+    enforce(number, entries)
 }
 
 /// Puts the proposal's entries into force, as a Confirm by another officer than its proposer does.
