@@ -3,6 +3,7 @@ pub mod ClosingLemmas
 pub mod CountLemmas
 pub mod EntriesAloneLemmas
 pub mod EntryLemmas
+pub mod ForetoldLemmas
 pub mod FormedLemmas
 pub mod ImageLemmas
 pub mod ImpactLemmas
@@ -12,6 +13,7 @@ pub mod LevelLemmas
 pub mod LifeLemmas
 pub mod ListLemmas
 pub mod ListingLemmas
+pub mod OfficerLemmas
 pub mod ProposalLemmas
 pub mod ProposalRowLemmas
 pub mod ProposalShownLemmas

@@ -1,4 +1,4 @@
-use Rattle.desk_history.proofs.ClosingLemmas as lemmas
+use Rattle.desk_history.proofs.OfficerLemmas as lemmas
 use Rattle.desk_history.proofs.proposal_laws.two_officers_put_into_force.Goals as goal
 
 pub returns : goal.returns
