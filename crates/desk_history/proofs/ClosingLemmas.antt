@@ -146,7 +146,7 @@ nothing_proposed c First h = refl
 nothing_proposed c Second h = clash (sym h)
 
 -- calls by the first rules propose nothing
-none_proposed : (cs : History) → list_all is_first cs ≡ true → proposals cs ≡ []
+pub none_proposed : (cs : History) → list_all is_first cs ≡ true → proposals cs ≡ []
 none_proposed [] h = refl
 none_proposed (i ∷ cs) h =
     let both = and_parts (is_first i) (list_all is_first cs) h in

@@ -2,7 +2,6 @@
 use Rattle.std.proofs.Common.{◌≡◌, ℕ, true, List, [], ◌∷◌, Some, None, Ok, Err, Result, refl, sym, ◌∙◌, ap}
 use Rattle.std.specs.Prelude.{MatchResult, find}
 use Rattle.std.specs.List.{list_all}
-use Rattle.std.proofs.lemmas.Bool.{and_parts}
 use Rattle.desk_bytes.specs.declared.refusal.Refusal.{Refusal}
 use Rattle.desk_texts.specs.Callers.{caller_name}
 use Rattle.desk_texts.specs.declared.caller.Caller.{Caller}
@@ -10,13 +9,14 @@ use Rattle.desk_texts.specs.declared.command.Call.{Call}
 use Rattle.desk_texts.specs.declared.command.Command.{Command}
 use Rattle.desk_texts.specs.declared.command.Command.TheVariants as command
 use Rattle.desk_history.specs.Called.{called}
-use Rattle.desk_history.specs.Calls.{First, History, Rules, Second, is_first, item, under}
+use Rattle.desk_history.specs.Calls.{First, History, is_first, item, under}
 use Rattle.desk_history.specs.Limits.{is_within}
 use Rattle.desk_history.specs.Proposals.{Named, is_proposal, named_by, proposal_state, proposals}
 use Rattle.desk_history.specs.Refusals.{confirm_refusal, own_refusal}
 use Rattle.desk_history.specs.Replies.{minutes, reply, reply_to}
 use Rattle.desk_history.specs.Runs.{is_legal}
 use Rattle.desk_history.specs.Tables.{tables}
+use Rattle.desk_history.proofs.ClosingLemmas.{none_proposed}
 use Rattle.desk_rules.specs.declared.view.Changes.{Changes}
 use Rattle.desk_rules.specs.declared.view.View.{View}
 use Rattle.desk_rules.specs.DecisionSteps.{MatchesOwn, RefusesOwn}
@@ -24,17 +24,6 @@ use Rattle.desk_rules.specs.First.{ShowsToFirst}
 use Rattle.desk_rules.specs.FirstSteps.{next_tables}
 use Rattle.desk_rules.specs.Ruled.{IsStep}
 use Rattle.desk_rules.proofs.RoomByRules.{room_is}
-
--- a history of the first rules has no proposal
-not_first : (c : Call) (rules : Rules) (cs : History) → is_first (under rules c) ≡ true → proposals cs ≡ [] → proposals (under rules c ∷ cs) ≡ []
-not_first c First cs h none = none
-not_first c Second cs h none = cc
-
-none_proposed : (cs : History) → list_all is_first cs ≡ true → proposals cs ≡ []
-none_proposed [] h = refl
-none_proposed (i ∷ cs) h =
-    let both = and_parts (is_first i) (list_all is_first cs) h in
-    not_first i.call i.rules cs both.0 (none_proposed cs both.1)
 
 -- the command does by the first rules what it does by the second
 record IsAlike (owner : List ℕ) (cs : History) (c : Call) : Type 0 where
