@@ -1,9 +1,6 @@
 -- Figures of the tables after an accepted call.
-use Rattle.std.proofs.Common.{◌≡◌, ℕ, ◌+◌, ◌<◌, ◌≤◌, Bool, true, ◌&&◌, List, [], ◌∷◌, length, refl, sym, ◌∙◌, ap, arith}
-use Rattle.std.specs.Prelude.{count_by, fold, nat_le}
-use Rattle.std.proofs.lemmas.Bool.{and_parts}
-use Rattle.std.proofs.lemmas.Bool.Decides.{nat_tests}
-use Rattle.std.proofs.lemmas.List.{length-map}
+use Rattle.std.proofs.Common.{◌≡◌, ℕ, ◌+◌, ◌<◌, Bool, true, List, [], ◌∷◌, length, refl, sym, ◌∙◌, ap, arith}
+use Rattle.std.specs.Prelude.{count_by, fold}
 use Rattle.desk_texts.specs.Callers.{caller_name}
 use Rattle.desk_texts.specs.declared.command.Call.{Call}
 use Rattle.desk_texts.specs.declared.command.Command.{Command}
@@ -12,26 +9,24 @@ use Rattle.desk_texts.specs.declared.kind.ListedKind.{ListedKind}
 use Rattle.desk_texts.specs.declared.kind.ListedKind.TheVariants as kinds
 use Rattle.desk_history.specs.declared.write.Write.{Write}
 use Rattle.desk_history.specs.declared.write.Write.TheVariants as writes
-use Rattle.desk_history.specs.Calls.{First, History, distinct, under}
-use Rattle.desk_history.specs.Level.{generations, names}
-use Rattle.desk_history.specs.Limits.{most_calls, most_level_components, most_listed, most_people, most_proposals, most_requests, most_revoked_certificates, most_revoked_digests}
+use Rattle.desk_history.specs.Calls.{First, History, under}
 use Rattle.desk_history.specs.Listing.{listed}
 use Rattle.desk_history.specs.People.{people}
-use Rattle.desk_history.specs.Proposals.{proposal_state, proposals}
+use Rattle.desk_history.specs.Proposals.{proposals}
 use Rattle.desk_history.specs.Replies.{minutes}
-use Rattle.desk_history.specs.Requests.{requests, state}
-use Rattle.desk_history.specs.Revocations.{revocations}
+use Rattle.desk_history.specs.Requests.{requests}
 use Rattle.desk_history.specs.Runs.{is_legal}
-use Rattle.desk_history.specs.Tables.{Tables, level_row, proposal_row, request_row, tables}
+use Rattle.desk_history.specs.Tables.{Tables, tables}
 use Rattle.desk_history.specs.Writes.{all_written, with_revoked, written}
 use Rattle.desk_history.proofs.CountLemmas.{one_if}
-use Rattle.desk_history.proofs.RunLemmas.{IsNewest, Within, legal_parts, newest}
+use Rattle.desk_history.proofs.RunLemmas.{IsNewest, newest}
 use Rattle.desk_rules.specs.declared.view.LimitedTable.{LimitedTable}
 use Rattle.desk_rules.specs.declared.view.LimitedTable.TheVariants as counted
 use Rattle.desk_rules.specs.declared.view.Sizes.{Sizes}
 use Rattle.desk_rules.specs.Room.{puts}
 use Rattle.desk_rules.specs.Shown.{rows_in, size_in}
-use Rattle.desk_rules.proofs.RoomLemmas.{certificates_step, components_step, digests_step, grows, minutes_length, people_step, proposals_step, requests_step}
+use Rattle.desk_rules.proofs.FewRows.{few_calls, few_rows}
+use Rattle.desk_rules.proofs.RoomLemmas.{certificates_step, components_step, digests_step, grows, people_step, proposals_step, requests_step}
 use Rattle.store_views.proofs.ListedLemmas.{Changed, listed_changes}
 use Rattle.desk_first.specs.declared.figures.Figures.{Figures}
 use Rattle.desk_first.specs.Figures.{AreOf, TurnInto, but_migrated}
@@ -73,13 +68,6 @@ listed_is size rows later (command.ImportRevocations _) same changed small = sam
 listed_is size rows later (command.Confirm _) same changed small = same ∙ sym changed
 listed_is size rows later (command.Drop _) same changed small = same ∙ sym changed
 
-below : (n most : ℕ) → nat_le n most ≡ true → most ≤ 1000000 → n < 18446744073709551616
-below n most h few = grind (arith, nat_tests, h, few)
-
--- the last of eight
-last : (a b d e f g h m : Bool) → (a && b && d && e && f && g && h && m) ≡ true → m ≡ true
-last a b d e f g h m all = (and_parts (a && b && d && e && f && g && h) m all).1
-
 -- ---- the sizes after an accepted call
 
 module _ (owner : List ℕ) (cs : History) (c : Call) (ws : List Write) (f : Figures) (legal : is_legal (under First c ∷ cs) ≡ true)
@@ -90,9 +78,6 @@ module _ (owner : List ℕ) (cs : History) (c : Call) (ws : List Write) (f : Fig
   at : IsNewest cs (under First c)
   at = newest cs (under First c) legal
 
-  within : Within later
-  within = legal_parts later legal
-
   -- the size of a table, by a measure that each write of a kind makes one more
   grown : (measure : Tables → ℕ) (p : Write → Bool) → ((w : Write) (t : Tables) → measure (written w t) ≡ one_if (p w) + measure t)
       → (size : ℕ) → size ≡ measure (tables owner cs) → measure (but_migrated owner cs c) < 18446744073709551616
@@ -100,36 +85,22 @@ module _ (owner : List ℕ) (cs : History) (c : Call) (ws : List Write) (f : Fig
   grown measure p step size same small =
       more_is size (count_by p ws) (measure (tables owner cs)) (measure (but_migrated owner cs c)) same (sym (grows measure p step ws (tables owner cs)) ∙ ap measure made) small
 
-  few_requests : rows_in (tables owner later) counted.Requests < 18446744073709551616
-  few_requests = rw (length-map (requests later) (λ r. request_row (state later r.number) r)) (below (length (requests later)) most_requests within.requests (omega arith))
-
-  few_proposals : rows_in (tables owner later) counted.Proposals < 18446744073709551616
-  few_proposals = rw (length-map (proposals later) (λ p. proposal_row (proposal_state later p.number) p)) (below (length (proposals later)) most_proposals within.proposals (omega arith))
-
-  few_components : rows_in (tables owner later) counted.Components < 18446744073709551616
-  few_components = rw (length-map (names (generations later)) (level_row (generations later))) (below (length (names (generations later))) most_level_components within.components (omega arith))
+  few : (table : LimitedTable) → rows_in (tables owner later) table < 18446744073709551616
+  few = few_rows owner cs (under First c) legal
 
   rows : (table : LimitedTable) → size_in (sizes_after f.sizes c.command ws) table ≡ rows_in (tables owner later) table
-  rows counted.People = grown (λ t. length t.people) (puts counted.People) people_step f.sizes.people (right.rows counted.People)
-      (below (length (people later)) most_people within.people (omega arith))
-  rows counted.Requests = grown (λ t. length t.requests) (puts counted.Requests) requests_step f.sizes.requests (right.rows counted.Requests) few_requests
+  rows counted.People = grown (λ t. length t.people) (puts counted.People) people_step f.sizes.people (right.rows counted.People) (few counted.People)
+  rows counted.Requests = grown (λ t. length t.requests) (puts counted.Requests) requests_step f.sizes.requests (right.rows counted.Requests) (few counted.Requests)
   rows counted.Listed = listed_is f.sizes.listed (length (listed cs)) (length (listed later)) c.command (right.rows counted.Listed)
-      (listed_changes owner cs at.before (caller_name c.caller) c.command at.new.own) (below (length (listed later)) most_listed within.listed (omega arith))
-  rows counted.RevokedDigests = grown (λ t. length t.revoked_digests) (puts counted.RevokedDigests) digests_step f.sizes.revoked_digests (right.rows counted.RevokedDigests)
-      (below (length (distinct (revocations kinds.Digest later))) most_revoked_digests within.digests (omega arith))
+      (listed_changes owner cs at.before (caller_name c.caller) c.command at.new.own) (few counted.Listed)
+  rows counted.RevokedDigests = grown (λ t. length t.revoked_digests) (puts counted.RevokedDigests) digests_step f.sizes.revoked_digests (right.rows counted.RevokedDigests) (few counted.RevokedDigests)
   rows counted.RevokedCertificates = grown (λ t. length t.revoked_certificates) (puts counted.RevokedCertificates) certificates_step f.sizes.revoked_certificates (right.rows counted.RevokedCertificates)
-      (below (length (distinct (revocations kinds.Certificate later))) most_revoked_certificates within.certificates (omega arith))
-  rows counted.Components = grown (λ t. length t.components) (puts counted.Components) components_step f.sizes.components (right.rows counted.Components) few_components
-  rows counted.Proposals = grown (λ t. length t.proposals) (puts counted.Proposals) proposals_step f.sizes.proposals (right.rows counted.Proposals) few_proposals
-
-  few_calls : nat_le (length later) most_calls ≡ true
-  few_calls = last (nat_le (length (people later)) most_people) (nat_le (length (requests later)) most_requests) (nat_le (length (proposals later)) most_proposals) (nat_le (length (listed later)) most_listed)
-      (nat_le (length (distinct (revocations kinds.Digest later))) most_revoked_digests) (nat_le (length (distinct (revocations kinds.Certificate later))) most_revoked_certificates)
-      (nat_le (length (names (generations later))) most_level_components) (nat_le (length later) most_calls) at.new.within
+      (few counted.RevokedCertificates)
+  rows counted.Components = grown (λ t. length t.components) (puts counted.Components) components_step f.sizes.components (right.rows counted.Components) (few counted.Components)
+  rows counted.Proposals = grown (λ t. length t.proposals) (puts counted.Proposals) proposals_step f.sizes.proposals (right.rows counted.Proposals) (few counted.Proposals)
 
   calls : more f.sizes.calls 1 ≡ length (minutes later)
-  calls = more_is f.sizes.calls 1 (length (minutes cs)) (length (minutes later)) right.calls (omega arith)
-      (rw (minutes_length later) (below (length later) most_calls few_calls (omega arith)))
+  calls = more_is f.sizes.calls 1 (length (minutes cs)) (length (minutes later)) right.calls (omega arith) (few_calls owner cs (under First c) legal)
 
   stamp_is : fold stamp_after f.stamp ws ≡ (tables owner later).desk.stamp
   stamp_is = ap (λ now. fold stamp_after now ws) right.stamp ∙ sym (all_stamped ws (tables owner cs)) ∙ ap (λ (t : Tables). t.desk.stamp) made

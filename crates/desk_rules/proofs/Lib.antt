@@ -3,6 +3,7 @@ pub mod CallLemmas
 pub mod DecisionLemmas
 pub mod EnforcingLemmas
 pub mod EntryLemmas
+pub mod FewRows
 pub mod FirstOwnLemmas
 pub mod ForcingLemmas
 pub mod ForeseeingLemmas
