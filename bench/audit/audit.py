@@ -11,9 +11,9 @@ from desk import CERTIFICATE, OWNER, PEOPLE, TBS, Program, expect, fail, sha256,
 
 sys.stdout.reconfigure(line_buffering=True)
 ROOM = sys.argv[2]
-SIZES = [int(it) for it in sys.argv[3:]] or [1_000, 10_000, 100_000]
+SIZES = [int(it) for it in sys.argv[3:]] or [1_000, 10_000, 100_000, 1_000_000]
 # An audit may take so many times the file's length in memory.
-MOST_MEMORY = 8
+MOST_MEMORY = 3
 STAMP = 2024010100
 
 
