@@ -24,6 +24,38 @@ pub(super) fn client(
     Ok(stream)
 }
 
+/// Clients that sent the bytes of the first line of each row, one after another.
+pub(super) fn clients(
+    rt: &HostRuntime,
+    listener: &TcpListener,
+    rows: &[(&str, &str)],
+) -> Result<Vec<TcpStream>, Fail> {
+    let mut clients = Vec::new(rt.alloc());
+    for (sent, _) in rows {
+        clients.push(client(rt, listener, *sent)?)?;
+    }
+    Ok(clients)
+}
+
+/// How many of the clients, from the first on, got the second line of their row.
+pub(super) fn got_each(
+    rt: &HostRuntime,
+    clients: &mut [TcpStream],
+    rows: &[(&str, &str)],
+) -> Result<usize, Fail> {
+    for (place, (_, due)) in rows.iter().enumerate() {
+        match clients.get_mut(place) {
+            Some(client) => {
+                if !got(rt, client, *due)? {
+                    return Ok(place);
+                }
+            }
+            None => return Ok(place),
+        }
+    }
+    Ok(rows.len())
+}
+
 /// Whether all that came to the client is the bytes of this line.
 pub(super) fn got(rt: &HostRuntime, client: &mut TcpStream, line: &str) -> Result<bool, Fail> {
     let wanted = bytes_of(rt.alloc(), line)?;

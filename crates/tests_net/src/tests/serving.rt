@@ -1,5 +1,5 @@
 //! `serve` and `listen` with clients.
-use super::clients::{client, connected, got};
+use super::clients::{client, clients, connected, got, got_each};
 use desk_bytes::Refusal;
 use http_net::{listen, serve};
 use http_requests::Routes;
@@ -64,20 +64,55 @@ fn anywhere(rt: &HostRuntime) -> Result<TcpListener, Fail> {
     }
 }
 
+/// The result of `serve` with this desk for so many connections.
+fn served(
+    rt: &HostRuntime,
+    desk: &mut StandIn,
+    listener: &TcpListener,
+    count: u32,
+) -> Result<(), Refusal> {
+    match Routes::new(rt.alloc()) {
+        Ok(routes) => serve(rt.alloc(), rt, &routes, desk, listener, count),
+        Err(_) => Err(Refusal::NoMemory),
+    }
+}
+
+/// What came of connections.
+#[derive(Drop)]
+struct Outcome {
+    served: Result<(), Refusal>,
+    /// The calls that the desk got.
+    asked: String,
+    /// The number of clients, from the first on, that got the response due to them.
+    got: usize,
+}
+
+/// What comes of this many connections, where a client sends the first line of each row, and the
+/// second is due to it.
+fn outcome_of(
+    rt: &HostRuntime,
+    listener: &TcpListener,
+    rows: &[(&str, &str)],
+    count: u32,
+) -> Result<Outcome, Fail> {
+    let mut clients = clients(rt, listener, rows)?;
+    let mut desk = StandIn::new(rt.alloc());
+    let served = served(rt, &mut desk, listener, count);
+    let got = got_each(rt, clients.as_mut_slice(), rows)?;
+    let asked = desk.asked;
+    Ok(Outcome { served, asked, got })
+}
+
 #[test]
 fn serves_three_clients_in_their_order(rt: HostRuntime) -> Result<(), Fail> {
+    let rows = [(LEVEL, LEVEL_DUE), (DBX, DBX_DUE), (REPORT, REPORT_DUE)];
     let listener = anywhere(&rt)?;
-    let mut one = client(&rt, &listener, LEVEL)?;
-    let mut two = client(&rt, &listener, DBX)?;
-    let mut three = client(&rt, &listener, REPORT)?;
-    let routes = Routes::new(rt.alloc())?;
-    let mut desk = StandIn::new(rt.alloc());
-    let served = serve(rt.alloc(), &rt, &routes, &mut desk, &listener, 3);
-    assert!(rt; served == Ok(()), "three connections");
-    assert!(rt; desk.asked.as_str() == "level dbx report", "the order");
-    assert!(rt; got(&rt, &mut one, LEVEL_DUE)?, "the first");
-    assert!(rt; got(&rt, &mut two, DBX_DUE)?, "the second");
-    assert!(rt; got(&rt, &mut three, REPORT_DUE)?, "the third");
+    let found = outcome_of(&rt, &listener, &rows, 3)?;
+    assert!(rt; found.served == Ok(()), "three connections");
+    assert!(rt; found.asked.as_str() == "level dbx report", "the order");
+    assert!(rt; found.got > 0, "the first");
+    assert!(rt; found.got > 1, "the second");
+    assert!(rt; found.got == 3, "the third");
     Ok(())
 }
 
@@ -98,50 +133,64 @@ fn listens_at_one_address_alone(rt: HostRuntime) -> Result<(), Fail> {
 
 #[test]
 fn acts_on_one_request_of_a_connection(rt: HostRuntime) -> Result<(), Fail> {
+    let rows = [(TWO, TWO_DUE), (LEVEL, LEVEL_DUE)];
     let listener = anywhere(&rt)?;
-    let mut one = client(&rt, &listener, TWO)?;
-    let mut two = client(&rt, &listener, LEVEL)?;
-    let routes = Routes::new(rt.alloc())?;
-    let mut desk = StandIn::new(rt.alloc());
-    let served = serve(rt.alloc(), &rt, &routes, &mut desk, &listener, 2);
-    assert!(rt; served == Ok(()), "two connections");
+    let found = outcome_of(&rt, &listener, &rows, 2)?;
+    assert!(rt; found.served == Ok(()), "two connections");
     assert!(rt;
-        desk.asked.as_str() == "olga k1 withdraw 7 level",
+        found.asked.as_str() == "olga k1 withdraw 7 level",
         "one command"
     );
-    assert!(rt; got(&rt, &mut one, TWO_DUE)?, "one response");
-    assert!(rt; got(&rt, &mut two, LEVEL_DUE)?, "the next connection");
+    assert!(rt; found.got > 0, "one response");
+    assert!(rt; found.got == 2, "the next connection");
     Ok(())
 }
 
 #[test]
 fn goes_on_after_a_connections_own_fault(rt: HostRuntime) -> Result<(), Fail> {
+    let rows = [(CUT, CUT_DUE), (LEVEL, LEVEL_DUE)];
     let listener = anywhere(&rt)?;
     drop(connected(&rt, &listener)?);
-    let mut broken = client(&rt, &listener, CUT)?;
-    let mut whole = client(&rt, &listener, LEVEL)?;
-    let routes = Routes::new(rt.alloc())?;
-    let mut desk = StandIn::new(rt.alloc());
-    let served = serve(rt.alloc(), &rt, &routes, &mut desk, &listener, 3);
-    assert!(rt; served == Ok(()), "three connections");
-    assert!(rt; desk.asked.as_str() == "level", "one request");
-    assert!(rt; got(&rt, &mut broken, CUT_DUE)?, "no head");
-    assert!(rt; got(&rt, &mut whole, LEVEL_DUE)?, "the next connection");
+    let found = outcome_of(&rt, &listener, &rows, 3)?;
+    assert!(rt; found.served == Ok(()), "three connections");
+    assert!(rt; found.asked.as_str() == "level", "one request");
+    assert!(rt; found.got > 0, "no head");
+    assert!(rt; found.got == 2, "the next connection");
     Ok(())
+}
+
+/// The result of `serve`, and whether the client then has the response due to it.
+fn step(
+    rt: &HostRuntime,
+    desk: &mut StandIn,
+    listener: &TcpListener,
+    client: &mut TcpStream,
+    due: &str,
+) -> Result<(Result<(), Refusal>, bool), Fail> {
+    let served = served(rt, desk, listener, 3);
+    Ok((served, got(rt, client, due)?))
+}
+
+/// The steps of a desk whose store fails under the first of two clients.
+fn steps(
+    rt: &HostRuntime,
+    listener: &TcpListener,
+) -> Result<[(Result<(), Refusal>, bool); 2], Fail> {
+    let mut one = client(rt, listener, STORE)?;
+    let mut two = client(rt, listener, LEVEL)?;
+    let mut desk = StandIn::new(rt.alloc());
+    let failed = step(rt, &mut desk, listener, &mut one, STORE_DUE)?;
+    let closed = step(rt, &mut desk, listener, &mut two, REOPEN_DUE)?;
+    Ok([failed, closed])
 }
 
 #[test]
 fn ends_where_the_desk_has_failed(rt: HostRuntime) -> Result<(), Fail> {
     let listener = anywhere(&rt)?;
-    let mut one = client(&rt, &listener, STORE)?;
-    let mut two = client(&rt, &listener, LEVEL)?;
-    let routes = Routes::new(rt.alloc())?;
-    let mut desk = StandIn::new(rt.alloc());
-    let failed = serve(rt.alloc(), &rt, &routes, &mut desk, &listener, 3);
+    let [(failed, is_told), (closed, is_last_told)] = steps(&rt, &listener)?;
     assert!(rt; failed == Err(Refusal::Store), "the store fails");
-    assert!(rt; got(&rt, &mut one, STORE_DUE)?, "it is told");
-    let closed = serve(rt.alloc(), &rt, &routes, &mut desk, &listener, 3);
+    assert!(rt; is_told, "it is told");
     assert!(rt; closed == Err(Refusal::Reopen), "the desk has failed");
-    assert!(rt; got(&rt, &mut two, REOPEN_DUE)?, "the next connection");
+    assert!(rt; is_last_told, "the next connection");
     Ok(())
 }

@@ -1,9 +1,10 @@
 //! Slow peers, by a made-up clock.
 ghost use Rattle.std.specs.Prelude.{◌≤◌, IfOk};
 
-use desk_http::HttpFault;
+use desk_http::{HttpFault, Served};
 use http_net::{Timed, Waits, answer_connection, read_off};
 use http_requests::Routes;
+use std::alloc::Global;
 use std::cell::Cell;
 use std::io;
 use std::io::{ErrorKind, Read, Write};
@@ -174,32 +175,38 @@ const TAKEN: [(usize, usize, u64, usize, u64); 6] = [
     (4_194_304, 8192, 200, 3_186_688, 78_000),
 ];
 
+/// How many of so many bytes come from a peer, and how many milliseconds pass.
+fn came_from(alloc: Global, all: usize, most: usize, pause: u64) -> Result<(usize, u64), Fail> {
+    let bytes = vec![in alloc; 0; all]?;
+    let clock = MadeUp::new();
+    let peer = Peer::new(&clock, bytes.as_slice(), most, pause);
+    let total = come(&mut Timed::new(&clock, peer));
+    Ok((total, clock.went()))
+}
+
 #[test]
 fn lets_a_slow_sender_go(rt: HostRuntime) -> Result<(), Fail> {
     for (all, most, pause, came, went) in SENT {
-        let bytes = vec![in rt.alloc(); 0; all]?;
-        let clock = MadeUp::new();
-        let peer = Peer::new(&clock, bytes.as_slice(), most, pause);
-        let total = come(&mut Timed::new(&clock, peer));
-        assert!(rt;
-            total == came && clock.went() == went,
-            "{all} by {most} after {pause}"
-        );
+        let found = came_from(rt.alloc(), all, most, pause)?;
+        assert!(rt; found == (came, went), "{all} by {most} after {pause}");
     }
     Ok(())
+}
+
+/// How many of so many bytes go to a peer, and how many milliseconds pass.
+fn went_to(alloc: Global, all: usize, most: usize, pause: u64) -> Result<(usize, u64), Fail> {
+    let bytes = vec![in alloc; 0; all]?;
+    let clock = MadeUp::new();
+    let peer = Peer::new(&clock, &[], most, pause);
+    let total = go(bytes.as_slice(), &mut Timed::new(&clock, peer));
+    Ok((total, clock.went()))
 }
 
 #[test]
 fn lets_a_slow_taker_go(rt: HostRuntime) -> Result<(), Fail> {
     for (all, most, pause, took, went) in TAKEN {
-        let bytes = vec![in rt.alloc(); 0; all]?;
-        let clock = MadeUp::new();
-        let peer = Peer::new(&clock, &[], most, pause);
-        let total = go(bytes.as_slice(), &mut Timed::new(&clock, peer));
-        assert!(rt;
-            total == took && clock.went() == went,
-            "{all} by {most} after {pause}"
-        );
+        let found = went_to(rt.alloc(), all, most, pause)?;
+        assert!(rt; found == (took, went), "{all} by {most} after {pause}");
     }
     Ok(())
 }
@@ -213,17 +220,20 @@ const READ_OFF: [(usize, usize, u64, usize, u64); 4] = [
     (10, 10, 5000, 10, 2000),
 ];
 
+/// How many of so many bytes of a peer are left, and how many milliseconds pass.
+fn left_of(alloc: Global, all: usize, most: usize, pause: u64) -> Result<(usize, u64), Fail> {
+    let bytes = vec![in alloc; 0; all]?;
+    let clock = MadeUp::new();
+    let mut peer = Peer::new(&clock, bytes.as_slice(), most, pause);
+    read_off(&clock, &mut peer);
+    Ok((peer.rest.len(), clock.went()))
+}
+
 #[test]
 fn reads_off_what_still_comes(rt: HostRuntime) -> Result<(), Fail> {
     for (all, most, pause, left, went) in READ_OFF {
-        let bytes = vec![in rt.alloc(); 0; all]?;
-        let clock = MadeUp::new();
-        let mut peer = Peer::new(&clock, bytes.as_slice(), most, pause);
-        read_off(&clock, &mut peer);
-        assert!(rt;
-            peer.rest.len() == left && clock.went() == went,
-            "{all} by {most} after {pause}"
-        );
+        let found = left_of(rt.alloc(), all, most, pause)?;
+        assert!(rt; found == (left, went), "{all} by {most} after {pause}");
     }
     Ok(())
 }
@@ -231,28 +241,53 @@ fn reads_off_what_still_comes(rt: HostRuntime) -> Result<(), Fail> {
 /// A request.
 const LEVEL: &str = "GET /level HTTP/1.1|Desk-Token: olga-token-000001||";
 
+/// The result of a connection with this desk.
+fn answered<R: Read + Drop, W: Write>(
+    alloc: Global,
+    desk: &mut StandIn,
+    reader: R,
+    writer: &mut W,
+) -> Result<Served, HttpFault> {
+    match Routes::new(alloc) {
+        Ok(routes) => answer_connection(alloc, &routes, desk, reader, writer),
+        Err(_) => Err(HttpFault::NoMemory),
+    }
+}
+
+/// The result for a slow sender of the request, and whether nothing is asked and nothing written.
+fn with_a_slow_sender(
+    alloc: Global,
+    clock: &MadeUp,
+    desk: &mut StandIn,
+    request: &[u8],
+) -> (Result<Served, HttpFault>, bool) {
+    let slow = Timed::new(clock, Peer::new(clock, request, 1, 1000));
+    let mut written = Vec::new(alloc);
+    let served = answered(alloc, desk, slow, &mut written);
+    (served, desk.asked.is_empty() && written.is_empty())
+}
+
+/// The result for a slow taker of the response to the request.
+fn with_a_slow_taker(
+    alloc: Global,
+    clock: &MadeUp,
+    desk: &mut StandIn,
+    request: &[u8],
+) -> Result<Served, HttpFault> {
+    let mut slow = Timed::new(clock, Peer::new(clock, &[], 1, 1000));
+    answered(alloc, desk, request, &mut slow)
+}
+
 #[test]
 fn asks_a_desk_nothing_for_a_slow_peer(rt: HostRuntime) -> Result<(), Fail> {
-    let request = bytes_of(rt.alloc(), LEVEL)?;
+    let bytes = bytes_of(rt.alloc(), LEVEL)?;
+    let request = bytes.as_slice();
     let clock = MadeUp::new();
-    let routes = Routes::new(rt.alloc())?;
     let mut desk = StandIn::new(rt.alloc());
-    let slow = Timed::new(&clock, Peer::new(&clock, request.as_slice(), 1, 1000));
-    let mut written = Vec::new(rt.alloc());
-    let served = answer_connection(rt.alloc(), &routes, &mut desk, slow, &mut written);
+    let (served, is_unasked) = with_a_slow_sender(rt.alloc(), &clock, &mut desk, request);
     assert!(rt; served == Err(HttpFault::Read), "a slow sender");
-    assert!(rt;
-        desk.asked.is_empty() && written.is_empty(),
-        "nothing is asked"
-    );
-    let mut slow = Timed::new(&clock, Peer::new(&clock, &[], 1, 1000));
-    let served = answer_connection(
-        rt.alloc(),
-        &routes,
-        &mut desk,
-        request.as_slice(),
-        &mut slow,
-    );
+    assert!(rt; is_unasked, "nothing is asked");
+    let served = with_a_slow_taker(rt.alloc(), &clock, &mut desk, request);
     assert!(rt; served == Err(HttpFault::Write), "a slow taker");
     assert!(rt; clock.went() == 60_000, "a minute for both");
     Ok(())
