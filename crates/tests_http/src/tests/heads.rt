@@ -6,7 +6,6 @@ use http_requests::{
     PostRoute, ReadAsked, Route, Routes, Wanted, check_head, command_asked, image_asked,
     read_asked, read_head,
 };
-use sbat::Stamp;
 use std::alloc::Global;
 use std::test::Fail;
 use testing::bytes_of;
@@ -206,9 +205,9 @@ fn ask(alloc: Global, wanted: &Wanted<'_>) -> Result<Asked, AskedFault> {
 
 /// The head that begins the bytes.
 fn parsed(alloc: Global, mut bytes: &[u8]) -> Option<ParsedHead> {
-    match read_head(alloc, &mut bytes, &mut Watch::new()) {
-        Ok(Begun::Head(head)) => Some(head),
-        Ok(Begun::Nothing | Begun::NoHead) | Err(_) => None,
+    match read_head(alloc, &mut bytes, &mut Watch::new()).ok()? {
+        Begun::Head(head) => Some(head),
+        Begun::Nothing | Begun::NoHead => None,
     }
 }
 
@@ -222,7 +221,7 @@ fn outcome(alloc: Global, routes: &Routes, bytes: &[u8]) -> &'static str {
         Err(fault) => return fault.refusal().name(),
     };
     match ask(alloc, &wanted) {
-        Ok(Asked::Read(asked)) => name_of_read(asked),
+        Ok(Asked::Read(asked)) => name_of_read(&asked),
         Ok(Asked::Image(asked)) => name_of_image(&asked),
         Ok(Asked::Command(keyed)) => name_of_command(&keyed.asked),
         Err(fault) => fault.refusal().name(),
@@ -230,7 +229,7 @@ fn outcome(alloc: Global, routes: &Routes, bytes: &[u8]) -> &'static str {
 }
 
 /// The name of a GET.
-fn name_of_read(asked: ReadAsked) -> &'static str {
+fn name_of_read(asked: &ReadAsked) -> &'static str {
     match asked {
         ReadAsked::Requests => "Requests",
         ReadAsked::Request(_) => "Request",
@@ -293,17 +292,17 @@ fn name_of_command(asked: &CommandAsked) -> &'static str {
 }
 
 /// Whether the line's head has the outcome that its first word names.
-fn is_told(alloc: Global, routes: &Routes, line: &str) -> Result<bool, Fail> {
+fn is_told(alloc: Global, line: &str) -> Result<bool, Fail> {
     let (name, head) = line.split_once(' ').ok_or("a name and a head")?;
+    let routes = Routes::new(alloc)?;
     let bytes = bytes_of(alloc, head)?;
-    Ok(outcome(alloc, routes, bytes.as_slice()) == name)
+    Ok(outcome(alloc, &routes, bytes.as_slice()) == name)
 }
 
 #[test]
 fn tells_the_first_check_that_fails(rt: HostRuntime) -> Result<(), Fail> {
-    let routes = Routes::new(rt.alloc())?;
     for line in HEADS.lines() {
-        assert!(rt; is_told(rt.alloc(), &routes, line)?, "{line}");
+        assert!(rt; is_told(rt.alloc(), line)?, "{line}");
     }
     Ok(())
 }
@@ -312,15 +311,30 @@ fn tells_the_first_check_that_fails(rt: HostRuntime) -> Result<(), Fail> {
 const CSV: &str = "POST /imports/csv HTTP/1.1|desk-KEY: k1\t|Content-Length: 0042|Desk-Token:  a b|\
 Desk-Stamp: 2024010100||rest";
 
+/// Whether the length is 42, the token `a b`, and there is no title.
+fn told_values(wanted: &Wanted<'_>) -> [bool; 3] {
+    let is_token = match wanted.token {
+        Some(token) => token == b"a b".as_slice(),
+        None => false,
+    };
+    [wanted.size == 42, is_token, wanted.title.is_none()]
+}
+
+/// Whether this head has its length, its token and no title.
+fn csv_values(alloc: Global) -> Result<[bool; 3], Fail> {
+    let routes = Routes::new(alloc)?;
+    let bytes = bytes_of(alloc, CSV)?;
+    let head = parsed(alloc, bytes.as_slice()).ok_or("a head")?;
+    let wanted = check_head(&routes, &head).ok().ok_or("what it asks for")?;
+    Ok(told_values(&wanted))
+}
+
 #[test]
 fn gives_the_values_of_fields(rt: HostRuntime) -> Result<(), Fail> {
-    let routes = Routes::new(rt.alloc())?;
-    let bytes = bytes_of(rt.alloc(), CSV)?;
-    let head = parsed(rt.alloc(), bytes.as_slice()).ok_or("a head")?;
-    let wanted = check_head(&routes, &head).ok().ok_or("what it asks for")?;
-    assert!(rt; wanted.size == 42, "the length");
-    assert!(rt; wanted.token == Some(b"a b".as_slice()), "the token");
-    assert!(rt; wanted.title.is_none(), "no title");
+    let [is_length, is_token, has_no_title] = csv_values(rt.alloc())?;
+    assert!(rt; is_length, "the length");
+    assert!(rt; is_token, "the token");
+    assert!(rt; has_no_title, "no title");
     Ok(())
 }
 
@@ -334,9 +348,9 @@ fn asked_by(alloc: Global, head: &str) -> Option<Asked> {
 }
 
 /// Whether the command is an import of CSV with this stamp.
-fn is_csv(asked: &CommandAsked, stamp: Option<Stamp>) -> bool {
+fn is_csv(asked: &CommandAsked, stamp: u64) -> bool {
     match asked {
-        CommandAsked::Bytes(BytesAsked::ImportCsv(found)) => *found == stamp,
+        CommandAsked::Bytes(BytesAsked::ImportCsv(Some(found))) => found.value() == stamp,
         CommandAsked::Bytes(_) | CommandAsked::Json(_) | CommandAsked::Whole(_) => false,
     }
 }
@@ -345,7 +359,7 @@ fn is_csv(asked: &CommandAsked, stamp: Option<Stamp>) -> bool {
 fn asks_for_csv(alloc: Global) -> bool {
     match asked_by(alloc, CSV) {
         Some(Asked::Command(keyed)) => {
-            keyed.key.as_str() == "k1" && is_csv(&keyed.asked, Stamp::new(2_024_010_100))
+            keyed.key.as_str() == "k1" && is_csv(&keyed.asked, 2_024_010_100)
         }
         Some(Asked::Read(_) | Asked::Image(_)) | None => false,
     }
@@ -354,21 +368,33 @@ fn asks_for_csv(alloc: Global) -> bool {
 /// A head with a title.
 const TITLE: &str = "POST /requests HTTP/1.1|Desk-Key: k|Desk-Title: shim 15.8|Content-Length: 1||";
 
+/// Whether the request is for a signature with this title.
+fn is_titled(asked: &ImageAsked, title: &str) -> bool {
+    match asked {
+        ImageAsked::Submit(_, found) => found.as_str() == title,
+        ImageAsked::Return(..) | ImageAsked::Verdict => false,
+    }
+}
+
 /// Whether this head requests a signature with its title.
 fn asks_for_title(alloc: Global) -> bool {
     match asked_by(alloc, TITLE) {
-        Some(Asked::Image(ImageAsked::Submit(_, title))) => title.as_str() == "shim 15.8",
-        Some(Asked::Image(_) | Asked::Read(_) | Asked::Command(_)) | None => false,
+        Some(Asked::Image(asked)) => is_titled(&asked, "shim 15.8"),
+        Some(Asked::Read(_) | Asked::Command(_)) | None => false,
+    }
+}
+
+/// The read that is asked for.
+fn read_of(asked: &Asked) -> Option<ReadAsked> {
+    match asked {
+        Asked::Read(read) => Some(*read),
+        Asked::Image(_) | Asked::Command(_) => None,
     }
 }
 
 /// The read that a head asks for.
 fn read_by(alloc: Global, head: &str) -> Option<ReadAsked> {
-    let found = asked_by(alloc, head);
-    match &found {
-        Some(Asked::Read(asked)) => Some(*asked),
-        Some(Asked::Image(_) | Asked::Command(_)) | None => None,
-    }
+    read_of(&asked_by(alloc, head)?)
 }
 
 /// Whether heads with a number ask for what has that number.
@@ -388,9 +414,7 @@ fn asks_for_number(alloc: Global) -> Option<bool> {
 /// Whether the command confirms the proposal of this number.
 fn is_confirmation(asked: &CommandAsked, number: u64) -> bool {
     match asked {
-        CommandAsked::Whole(Command::Confirm(found)) => {
-            Some(*found) == ProposalNumber::new(number)
-        }
+        CommandAsked::Whole(Command::Confirm(found)) => found.value() == number,
         CommandAsked::Whole(_) | CommandAsked::Json(_) | CommandAsked::Bytes(_) => false,
     }
 }

@@ -33,32 +33,39 @@ Reopen HTTP/1.1 503 Service Unavailable|Content-Type: application/json|Content-L
 NotADesk HTTP/1.1 503 Service Unavailable|Content-Type: application/json|Content-Length: 32|Connection: close||{"name":"NotADesk","refused":43}
 "#;
 
-/// The refusal of this name.
+/// The row of this name in the table of refusals.
+fn refusal(name: &str) -> Refusal {
+    match name {
+        "BadHead" => Refusal::BadHead,
+        "UnknownCaller" => Refusal::UnknownCaller,
+        "NotYourRole" => Refusal::NotYourRole,
+        "NoSuchRequest" => Refusal::NoSuchRequest,
+        "KeyReused" => Refusal::KeyReused,
+        "NoSuchProposal" => Refusal::NoSuchProposal,
+        "OwnProposal" => Refusal::OwnProposal,
+        "ProposalClosed" => Refusal::ProposalClosed,
+        "LengthNeeded" => Refusal::LengthNeeded,
+        "TooLarge" => Refusal::TooLarge,
+        "BadBody" => Refusal::BadBody,
+        "NotSupported" => Refusal::NotSupported,
+        "NoMemory" => Refusal::NoMemory,
+        "Store" => Refusal::Store,
+        "Reopen" => Refusal::Reopen,
+        _ => Refusal::NotADesk,
+    }
+}
+
+/// The refusal of this name, or of the path with these methods.
 fn refused(name: &str) -> Option<Refused> {
     match name {
-        "BadHead" => Refused::of(Refusal::BadHead),
-        "UnknownCaller" => Refused::of(Refusal::UnknownCaller),
-        "NotYourRole" => Refused::of(Refusal::NotYourRole),
-        "NoSuchRequest" => Refused::of(Refusal::NoSuchRequest),
         "Get" => Some(Refused::BadMethod(Methods::Get)),
         "Post" => Some(Refused::BadMethod(Methods::Post)),
         "GetAndPost" => Some(Refused::BadMethod(Methods::GetAndPost)),
-        "KeyReused" => Refused::of(Refusal::KeyReused),
-        "NoSuchProposal" => Refused::of(Refusal::NoSuchProposal),
-        "OwnProposal" => Refused::of(Refusal::OwnProposal),
-        "ProposalClosed" => Refused::of(Refusal::ProposalClosed),
-        "LengthNeeded" => Refused::of(Refusal::LengthNeeded),
-        "TooLarge" => Refused::of(Refusal::TooLarge),
-        "BadBody" => Refused::of(Refusal::BadBody),
         "SbatRow" => Some(Refused::SbatRow(7)),
         "List" => Some(Refused::List(0)),
         "EntrySize" => Some(Refused::EntrySize(28)),
         "CsvRow" => Some(Refused::CsvRow(u64::MAX)),
-        "NotSupported" => Refused::of(Refusal::NotSupported),
-        "NoMemory" => Refused::of(Refusal::NoMemory),
-        "Store" => Refused::of(Refusal::Store),
-        "Reopen" => Refused::of(Refusal::Reopen),
-        _ => Refused::of(Refusal::NotADesk),
+        _ => Refused::of(refusal(name)),
     }
 }
 

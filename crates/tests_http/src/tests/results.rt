@@ -1,6 +1,6 @@
 //! Results of `serve_one`.
-use desk_http::{Answered, HttpFault, Served, serve_one};
-use http_requests::Routes;
+use super::serving::served;
+use desk_http::{Answered, HttpFault, Served};
 use http_responses::{Outage, Refused, Status};
 use std::alloc::Global;
 use std::io::ErrorKind;
@@ -20,57 +20,64 @@ fn answered(status: Status, refused: Option<Refused>) -> Result<Served, HttpFaul
     Ok(Served::Answered(Answered { status, refused }))
 }
 
-/// The result for an input.
-fn served(alloc: Global, routes: &Routes, input: &[u8]) -> Result<Served, HttpFault> {
-    let mut desk = StandIn::new(alloc);
+/// The next result of the desk, for an input.
+fn next(alloc: Global, desk: &mut StandIn, input: &[u8]) -> Result<Served, HttpFault> {
     let mut reader = input;
     let mut writer = Vec::new(alloc);
-    serve_one(alloc, routes, &mut desk, &mut reader, &mut writer)
+    served(alloc, desk, &mut reader, &mut writer)
+}
+
+/// Whether a desk that has had no call gives this result for the line's bytes.
+fn is_result(alloc: Global, line: &str, due: Result<Served, HttpFault>) -> Result<bool, Fail> {
+    let input = bytes_of(alloc, line)?;
+    let mut desk = StandIn::new(alloc);
+    Ok(next(alloc, &mut desk, input.as_slice()) == due)
 }
 
 #[test]
 fn tells_what_was_served(rt: HostRuntime) -> Result<(), Fail> {
-    let alloc = rt.alloc();
-    let routes = Routes::new(alloc)?;
-    let input = bytes_of(alloc, LEVEL)?;
-    let level = served(alloc, &routes, input.as_slice());
-    assert!(rt; level == answered(Status::Ok, None), "a level");
-    let cut = served(alloc, &routes, b"GET".as_slice());
+    let level = answered(Status::Ok, None);
+    assert!(rt; is_result(rt.alloc(), LEVEL, level)?, "a level");
+    let cut = answered(Status::BadRequest, Some(Refused::BadHead));
     assert!(rt;
-        cut == answered(Status::BadRequest, Some(Refused::BadHead)),
+        is_result(rt.alloc(), "GET", cut)?,
         "a head that is cut short"
     );
-    let nothing = served(alloc, &routes, b"".as_slice());
-    assert!(rt; nothing == Ok(Served::Nothing), "no byte");
+    let nothing = Ok(Served::Nothing);
+    assert!(rt; is_result(rt.alloc(), "", nothing)?, "no byte");
     Ok(())
 }
 
-#[test]
-fn tells_that_a_read_fails(rt: HostRuntime) -> Result<(), Fail> {
-    let alloc = rt.alloc();
-    let routes = Routes::new(alloc)?;
-    let input = bytes_of(alloc, LEVEL)?;
+/// The result for the input where the seventh read fails, and whether nothing went out.
+fn with_a_failing_read(alloc: Global, input: &[u8]) -> (Result<Served, HttpFault>, bool) {
     let mut desk = StandIn::new(alloc);
     let mut reader = Slow {
-        rest: input.as_slice(),
+        rest: input,
         most: 1,
         calls: 0,
         fails_at: 7,
     };
     let mut writer = Vec::new(alloc);
-    let served = serve_one(alloc, &routes, &mut desk, &mut reader, &mut writer);
-    assert!(rt; served == Err(HttpFault::Read), "a read");
-    assert!(rt; writer.is_empty(), "nothing went out");
-    Ok(())
+    let served = served(alloc, &mut desk, &mut reader, &mut writer);
+    (served, writer.is_empty())
 }
 
 #[test]
-fn tells_that_a_write_fails(rt: HostRuntime) -> Result<(), Fail> {
-    let alloc = rt.alloc();
-    let routes = Routes::new(alloc)?;
-    let input = bytes_of(alloc, LEVEL)?;
+fn tells_that_a_read_fails(rt: HostRuntime) -> Result<(), Fail> {
+    let input = bytes_of(rt.alloc(), LEVEL)?;
+    let (served, is_silent) = with_a_failing_read(rt.alloc(), input.as_slice());
+    assert!(rt; served == Err(HttpFault::Read), "a read");
+    assert!(rt; is_silent, "nothing went out");
+    Ok(())
+}
+
+/// The beginning of a response.
+const BEGUN: &str = "HTTP/1.1 200 OK|Content-Type: t";
+
+/// The result for the input where the third write of 16 bytes fails, and what went out.
+fn with_a_failing_write(alloc: Global, input: &[u8]) -> (Result<Served, HttpFault>, Vec<u8>) {
     let mut desk = StandIn::new(alloc);
-    let mut reader = input.as_slice();
+    let mut reader = input;
     let mut writer = Narrow {
         taken: Vec::new(alloc),
         most: 16,
@@ -78,33 +85,57 @@ fn tells_that_a_write_fails(rt: HostRuntime) -> Result<(), Fail> {
         fails_at: 3,
         kind: ErrorKind::Interrupted,
     };
-    let served = serve_one(alloc, &routes, &mut desk, &mut reader, &mut writer);
+    let served = served(alloc, &mut desk, &mut reader, &mut writer);
+    (served, writer.taken)
+}
+
+/// The same for a request for the level, and whether what went out is a beginning of the response.
+fn level_with_a_failing_write(alloc: Global) -> Result<(Result<Served, HttpFault>, bool), Fail> {
+    let input = bytes_of(alloc, LEVEL)?;
+    let begun = bytes_of(alloc, BEGUN)?;
+    let (served, taken) = with_a_failing_write(alloc, input.as_slice());
+    Ok((served, taken.as_slice() == begun.as_slice()))
+}
+
+#[test]
+fn tells_that_a_write_fails(rt: HostRuntime) -> Result<(), Fail> {
+    let (served, is_begun) = level_with_a_failing_write(rt.alloc())?;
     assert!(rt; served == Err(HttpFault::Write), "a write");
-    let begun = b"HTTP/1.1 200 OK\r\nContent-Type: t".as_slice();
-    assert!(rt; writer.taken.as_slice() == begun, "a beginning went out");
+    assert!(rt; is_begun, "a beginning went out");
     Ok(())
+}
+
+/// The results of one desk for the command under which the store fails, a read, and the command
+/// again.
+fn with_a_failing_store(
+    alloc: Global,
+    store: &[u8],
+    level: &[u8],
+) -> [Result<Served, HttpFault>; 3] {
+    let mut desk = StandIn::new(alloc);
+    let failed = next(alloc, &mut desk, store);
+    let after = next(alloc, &mut desk, level);
+    let again = next(alloc, &mut desk, store);
+    [failed, after, again]
+}
+
+/// The result for a response of this outage.
+fn unavailable(outage: Outage) -> Result<Served, HttpFault> {
+    let refused = Some(Refused::Unavailable(outage));
+    answered(Status::ServiceUnavailable, refused)
 }
 
 #[test]
 fn tells_that_the_desk_failed_before(rt: HostRuntime) -> Result<(), Fail> {
-    let alloc = rt.alloc();
-    let routes = Routes::new(alloc)?;
-    let store = bytes_of(alloc, STORE)?;
-    let level = bytes_of(alloc, LEVEL)?;
-    let mut desk = StandIn::new(alloc);
-    for (input, outage) in [
-        (&store, Outage::Store),
-        (&level, Outage::Reopen),
-        (&store, Outage::Reopen),
-    ] {
-        let mut reader = input.as_slice();
-        let mut writer = Vec::new(alloc);
-        let served = serve_one(alloc, &routes, &mut desk, &mut reader, &mut writer);
-        let says = answered(
-            Status::ServiceUnavailable,
-            Some(Refused::Unavailable(outage)),
-        );
-        assert!(rt; served == says, "{outage:?}");
-    }
+    let store = bytes_of(rt.alloc(), STORE)?;
+    let level = bytes_of(rt.alloc(), LEVEL)?;
+    let [failed, after, again] = with_a_failing_store(
+        rt.alloc(),
+        store.as_slice(),
+        level.as_slice(),
+    );
+    assert!(rt; failed == unavailable(Outage::Store), "Store");
+    assert!(rt; after == unavailable(Outage::Reopen), "Reopen");
+    assert!(rt; again == unavailable(Outage::Reopen), "Reopen again");
     Ok(())
 }

@@ -1,10 +1,33 @@
-//! The service of a row.
-use desk_http::serve_one;
+//! The service of an input.
+use desk_http::{HttpFault, Served, serve_one};
 use http_requests::Routes;
 use std::alloc::Global;
+use std::io::{Read, Write};
 use std::test::Fail;
 use testing::bytes_of;
 use testing_desk::StandIn;
+
+/// The result of `serve_one` with this desk.
+pub(super) fn served<R: Read, W: Write>(
+    alloc: Global,
+    desk: &mut StandIn,
+    reader: &mut R,
+    writer: &mut W,
+) -> Result<Served, HttpFault> {
+    match Routes::new(alloc) {
+        Ok(routes) => serve_one(alloc, &routes, desk, reader, writer),
+        Err(_) => Err(HttpFault::NoMemory),
+    }
+}
+
+/// Whether the input gets this response, and a desk this call.
+fn is_served(alloc: Global, input: &[u8], asked: &str, response: &[u8]) -> bool {
+    let mut desk = StandIn::new(alloc);
+    let mut reader = input;
+    let mut writer = Vec::new(alloc);
+    let served = served(alloc, &mut desk, &mut reader, &mut writer);
+    served.is_ok() && desk.asked.as_str() == asked && writer.as_slice() == response
+}
 
 /// Whether the row's request gets its response, and the desk its call.
 pub(super) fn answers(alloc: Global, row: &str) -> Result<bool, Fail> {
@@ -12,11 +35,5 @@ pub(super) fn answers(alloc: Global, row: &str) -> Result<bool, Fail> {
     let (asked, response) = rest.split_once(" => ").ok_or("a response")?;
     let input = bytes_of(alloc, request)?;
     let wanted = bytes_of(alloc, response)?;
-    let routes = Routes::new(alloc)?;
-    let mut desk = StandIn::new(alloc);
-    let mut reader = input.as_slice();
-    let mut writer = Vec::new(alloc);
-    let served = serve_one(alloc, &routes, &mut desk, &mut reader, &mut writer);
-    let asked = desk.asked.as_str() == asked;
-    Ok(served.is_ok() && asked && writer.as_slice() == wanted.as_slice())
+    Ok(is_served(alloc, input.as_slice(), asked, wanted.as_slice()))
 }

@@ -18,10 +18,9 @@ use std::alloc::Global;
 use std::test::Fail;
 
 fn component(alloc: Global, name: &str, generation: u32) -> Result<Component, Fail> {
-    Ok(Component {
-        name: ComponentName::parse(alloc, name.as_bytes())?,
-        generation: Generation::new(generation).ok_or("a generation")?,
-    })
+    let generation = Generation::new(generation).ok_or("a generation")?;
+    let name = ComponentName::parse(alloc, name.as_bytes())?;
+    Ok(Component { name, generation })
 }
 
 /// Two certificates.
@@ -116,19 +115,30 @@ fn signed(alloc: Global) -> Result<ShownRequest, Fail> {
     request(alloc, number, State::Signed, none, Some(returned))
 }
 
+/// Whether the request's text is this one.
+fn is_request(alloc: Global, request: &ShownRequest, text: &str) -> Result<bool, Fail> {
+    Ok(request_json(alloc, request)?.as_slice() == text.as_bytes())
+}
+
+/// Whether the text of a request with two votes is its own.
+fn is_open(alloc: Global) -> Result<bool, Fail> {
+    is_request(alloc, &open(alloc)?, OPEN)
+}
+
+/// Whether the text of a request with a return is its own.
+fn is_signed(alloc: Global) -> Result<bool, Fail> {
+    is_request(alloc, &signed(alloc)?, SIGNED)
+}
+
 #[test]
 fn writes_a_request(rt: HostRuntime) -> Result<(), Fail> {
-    let open = open(rt.alloc())?;
-    let text = request_json(rt.alloc(), &open)?;
-    assert!(rt; text.as_slice() == OPEN.as_bytes(), "two votes");
+    assert!(rt; is_open(rt.alloc())?, "two votes");
     Ok(())
 }
 
 #[test]
 fn writes_a_request_with_a_return(rt: HostRuntime) -> Result<(), Fail> {
-    let signed = signed(rt.alloc())?;
-    let text = request_json(rt.alloc(), &signed)?;
-    assert!(rt; text.as_slice() == SIGNED.as_bytes(), "a return");
+    assert!(rt; is_signed(rt.alloc())?, "a return");
     Ok(())
 }
 
@@ -141,14 +151,35 @@ fn array_of(alloc: Global, requests: &[ShownRequest]) -> Result<Vec<u8>, Fail> {
     Ok(text.into_text()?)
 }
 
+/// The array of two requests.
+fn array_of_two(alloc: Global) -> Result<Vec<u8>, Fail> {
+    let mut two = Vec::new(alloc);
+    two.push(open(alloc)?)?;
+    two.push(signed(alloc)?)?;
+    array_of(alloc, two.as_slice())
+}
+
+/// The text of that array.
+fn text_of_two(alloc: Global) -> Result<String, Fail> {
+    let mut text = String::new(alloc);
+    for part in ["[", OPEN, ",", SIGNED, "]"] {
+        text.push_str(part)?;
+    }
+    Ok(text)
+}
+
+/// Whether the array of two requests is its text.
+fn is_text_of_two(alloc: Global) -> Result<bool, Fail> {
+    let text = array_of_two(alloc)?;
+    let wanted = text_of_two(alloc)?;
+    Ok(text.as_slice() == wanted.as_bytes())
+}
+
 #[test]
 fn writes_lists_of_requests(rt: HostRuntime) -> Result<(), Fail> {
     let none = array_of(rt.alloc(), &[])?;
     assert!(rt; none.as_slice() == b"[]".as_slice(), "none");
-    let two = [open(rt.alloc())?, signed(rt.alloc())?];
-    let text = array_of(rt.alloc(), &two)?;
-    let both = format!(in rt.alloc(); "[{OPEN},{SIGNED}]")?;
-    assert!(rt; text.as_slice() == both.as_bytes(), "two requests");
+    assert!(rt; is_text_of_two(rt.alloc())?, "two requests");
     Ok(())
 }
 
@@ -163,44 +194,78 @@ fn many(alloc: Global, count: usize) -> Result<String, Fail> {
     Ok(text)
 }
 
+/// The array of so many times this request.
+fn array_of_many(alloc: Global, request: &ShownRequest, count: usize) -> Result<Vec<u8>, Fail> {
+    let mut text = RequestsText::new(alloc);
+    for _ in 0..count {
+        text.push(request)?;
+    }
+    Ok(text.into_text()?)
+}
+
+/// The array of this many requests whose signed files were returned.
+fn array_of_signed(alloc: Global, count: usize) -> Result<Vec<u8>, Fail> {
+    array_of_many(alloc, &signed(alloc)?, count)
+}
+
+/// Whether the array of this many requests is its text.
+fn is_text_of_many(alloc: Global, count: usize) -> Result<bool, Fail> {
+    let text = array_of_signed(alloc, count)?;
+    let wanted = many(alloc, count)?;
+    Ok(text.as_slice() == wanted.as_bytes())
+}
+
 #[test]
 fn writes_hundreds_of_requests(rt: HostRuntime) -> Result<(), Fail> {
-    let signed = signed(rt.alloc())?;
-    let mut text = RequestsText::new(rt.alloc());
-    for _ in 0..300 {
-        text.push(&signed)?;
-    }
-    let wanted = many(rt.alloc(), 300)?;
-    assert!(rt; text.into_text()?.as_slice() == wanted.as_bytes());
+    assert!(rt; is_text_of_many(rt.alloc(), 300)?, "300 requests");
     Ok(())
 }
 
-/// A proposal of that number and state.
-fn proposal(alloc: Global, number: u64, state: ProposalState) -> Result<Proposal, Fail> {
-    Ok(Proposal {
-        number: ProposalNumber::new(number).ok_or("a number")?,
-        officer: PersonName::parse(alloc, b"olga")?,
+/// Adds a proposal of that number and state.
+fn put_proposal(
+    alloc: Global,
+    proposals: &mut Vec<Proposal>,
+    number: u64,
+    state: ProposalState,
+) -> Result<(), Fail> {
+    let digests = number;
+    let number = ProposalNumber::new(number).ok_or("a number")?;
+    let officer = PersonName::parse(alloc, b"olga")?;
+    proposals.push(Proposal {
+        number,
+        officer,
         state,
-        digests: number,
+        digests,
         certificates: 0,
         components: 1_000_000,
-    })
+    })?;
+    Ok(())
 }
 
 /// Three proposals.
 const PROPOSALS: &str =
     r#"[{"certificates":0,"components":1000000,"digests":1,"number":1,"officer":"olga","state":"open"},{"certificates":0,"components":1000000,"digests":2,"number":2,"officer":"olga","state":"confirmed"},{"certificates":0,"components":1000000,"digests":999999,"number":999999,"officer":"olga","state":"dropped"}]"#;
 
+/// Three proposals, one of each state.
+fn proposals(alloc: Global) -> Result<Vec<Proposal>, Fail> {
+    let mut proposals = Vec::new(alloc);
+    put_proposal(alloc, &mut proposals, 1, ProposalState::Open)?;
+    put_proposal(alloc, &mut proposals, 2, ProposalState::Confirmed)?;
+    put_proposal(alloc, &mut proposals, 999_999, ProposalState::Dropped)?;
+    Ok(proposals)
+}
+
+/// Whether the text of those proposals is their own.
+fn are_proposals(alloc: Global) -> Result<bool, Fail> {
+    let text = proposals_json(alloc, proposals(alloc)?.as_slice())?;
+    Ok(text.as_slice() == PROPOSALS.as_bytes())
+}
+
 #[test]
 fn writes_lists_of_proposals(rt: HostRuntime) -> Result<(), Fail> {
     let none = proposals_json(rt.alloc(), &[])?;
     assert!(rt; none.as_slice() == b"[]".as_slice(), "none");
-    let mut proposals = Vec::new(rt.alloc());
-    proposals.push(proposal(rt.alloc(), 1, ProposalState::Open)?)?;
-    proposals.push(proposal(rt.alloc(), 2, ProposalState::Confirmed)?)?;
-    proposals.push(proposal(rt.alloc(), 999_999, ProposalState::Dropped)?)?;
-    let text = proposals_json(rt.alloc(), proposals.as_slice())?;
-    assert!(rt; text.as_slice() == PROPOSALS.as_bytes(), "each state");
+    assert!(rt; are_proposals(rt.alloc())?, "each state");
     Ok(())
 }
 
@@ -241,17 +306,29 @@ fn import(alloc: Global) -> Result<Import, Fail> {
     Ok(Import::new(stamp, 7, digests, certificates, components).ok_or("an import")?)
 }
 
+/// The proposal of that import.
+fn whole(alloc: Global) -> Result<ProposalRow, Fail> {
+    let number = ProposalNumber::new(999_999).ok_or("a number")?;
+    let named = import(alloc)?;
+    let officer = PersonName::parse(alloc, b"olga")?;
+    Ok(ProposalRow {
+        number,
+        officer,
+        kind: ProposalKind::Import,
+        named,
+        state: ProposalState::Dropped,
+    })
+}
+
+/// Whether the text of that proposal is its own.
+fn is_whole(alloc: Global) -> Result<bool, Fail> {
+    let text = proposal_json(alloc, &whole(alloc)?)?;
+    Ok(text.as_slice() == WHOLE.as_bytes())
+}
+
 #[test]
 fn writes_a_whole_proposal(rt: HostRuntime) -> Result<(), Fail> {
-    let proposal = ProposalRow {
-        number: ProposalNumber::new(999_999).ok_or("a number")?,
-        officer: PersonName::parse(rt.alloc(), b"olga")?,
-        kind: ProposalKind::Import,
-        named: import(rt.alloc())?,
-        state: ProposalState::Dropped,
-    };
-    let text = proposal_json(rt.alloc(), &proposal)?;
-    assert!(rt; text.as_slice() == WHOLE.as_bytes());
+    assert!(rt; is_whole(rt.alloc())?, "an import");
     Ok(())
 }
 
@@ -310,16 +387,28 @@ fn impact(bars: Vec<BarredImage>, added: [u64; 3], dbx: u64) -> ShownImpact {
     }
 }
 
+/// Whether the impact of the proposal of this number is the text.
+fn is_impact(alloc: Global, number: u64, shown: &ShownImpact, text: &str) -> Result<bool, Fail> {
+    let number = ProposalNumber::new(number).ok_or("a number")?;
+    Ok(impact_json(alloc, number, shown)?.as_slice() == text.as_bytes())
+}
+
+/// Whether the text of an impact with an image for each rule is its own.
+fn is_impact_of_each(alloc: Global) -> Result<bool, Fail> {
+    let shown = impact(bars(alloc)?, [1, 2, 3], u64::MAX);
+    is_impact(alloc, 999_999, &shown, IMPACT)
+}
+
+/// Whether the text of an impact without an image is its own.
+fn is_impact_of_none(alloc: Global) -> Result<bool, Fail> {
+    let shown = impact(Vec::new(alloc), [0, 0, 0], 0);
+    is_impact(alloc, 1, &shown, NO_IMPACT)
+}
+
 #[test]
 fn writes_an_impact(rt: HostRuntime) -> Result<(), Fail> {
-    let number = ProposalNumber::new(999_999).ok_or("a number")?;
-    let shown = impact(bars(rt.alloc())?, [1, 2, 3], u64::MAX);
-    let text = impact_json(rt.alloc(), number, &shown)?;
-    assert!(rt; text.as_slice() == IMPACT.as_bytes(), "each rule");
-    let number = ProposalNumber::new(1).ok_or("a number")?;
-    let shown = impact(Vec::new(rt.alloc()), [0, 0, 0], 0);
-    let text = impact_json(rt.alloc(), number, &shown)?;
-    assert!(rt; text.as_slice() == NO_IMPACT.as_bytes(), "no image");
+    assert!(rt; is_impact_of_each(rt.alloc())?, "each rule");
+    assert!(rt; is_impact_of_none(rt.alloc())?, "no image");
     Ok(())
 }
 
@@ -327,23 +416,39 @@ fn writes_an_impact(rt: HostRuntime) -> Result<(), Fail> {
 const PEOPLE: &str =
     r#"[{"name":"ann","role":"submitter"},{"name":"otto","role":"officer"},{"name":"rita","role":"reviewer"},{"name":"sid","role":"signer"}]"#;
 
-/// A person of this name and role.
-fn person(alloc: Global, name: &str, role: Role) -> Result<ShownPerson, Fail> {
+/// Adds a person of this name and role.
+fn put_person(
+    alloc: Global,
+    people: &mut Vec<ShownPerson>,
+    name: &str,
+    role: Role,
+) -> Result<(), Fail> {
     let name = PersonName::parse(alloc, name.as_bytes())?;
-    Ok(ShownPerson { name, role })
+    people.push(ShownPerson { name, role })?;
+    Ok(())
+}
+
+/// A person of each role.
+fn people(alloc: Global) -> Result<Vec<ShownPerson>, Fail> {
+    let mut people = Vec::new(alloc);
+    put_person(alloc, &mut people, "ann", Role::Submitter)?;
+    put_person(alloc, &mut people, "otto", Role::Officer)?;
+    put_person(alloc, &mut people, "rita", Role::Reviewer)?;
+    put_person(alloc, &mut people, "sid", Role::Signer)?;
+    Ok(people)
+}
+
+/// Whether the text of those people is their own.
+fn are_people(alloc: Global) -> Result<bool, Fail> {
+    let text = people_json(alloc, people(alloc)?.as_slice())?;
+    Ok(text.as_slice() == PEOPLE.as_bytes())
 }
 
 #[test]
 fn writes_people(rt: HostRuntime) -> Result<(), Fail> {
     let none = people_json(rt.alloc(), &[])?;
     assert!(rt; none.as_slice() == b"[]".as_slice(), "none");
-    let mut people = Vec::new(rt.alloc());
-    people.push(person(rt.alloc(), "ann", Role::Submitter)?)?;
-    people.push(person(rt.alloc(), "otto", Role::Officer)?)?;
-    people.push(person(rt.alloc(), "rita", Role::Reviewer)?)?;
-    people.push(person(rt.alloc(), "sid", Role::Signer)?)?;
-    let text = people_json(rt.alloc(), people.as_slice())?;
-    assert!(rt; text.as_slice() == PEOPLE.as_bytes(), "each role");
+    assert!(rt; are_people(rt.alloc())?, "each role");
     Ok(())
 }
 
