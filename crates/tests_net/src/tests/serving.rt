@@ -83,7 +83,8 @@ struct Outcome {
     served: Result<(), Refusal>,
     /// The calls that the desk got.
     asked: String,
-    /// The number of clients, from the first on, that got the response due to them.
+    /// The number of clients, from the first on, that got the response due to them. If `serve`
+    /// failed it is 0, and none is waited for.
     got: usize,
 }
 
@@ -98,7 +99,10 @@ fn outcome_of(
     let mut clients = clients(rt, listener, rows)?;
     let mut desk = StandIn::new(rt.alloc());
     let served = served(rt, &mut desk, listener, count);
-    let got = got_each(rt, clients.as_mut_slice(), rows)?;
+    let got = match served {
+        Ok(()) => got_each(rt, clients.as_mut_slice(), rows)?,
+        Err(_) => 0,
+    };
     let asked = desk.asked;
     Ok(Outcome { served, asked, got })
 }
@@ -159,38 +163,43 @@ fn goes_on_after_a_connections_own_fault(rt: HostRuntime) -> Result<(), Fail> {
     Ok(())
 }
 
-/// The result of `serve`, and whether the client then has the response due to it.
-fn step(
+/// Whether `serve` ends with this refusal, and whether the client then has the response due to it.
+fn ends(
     rt: &HostRuntime,
     desk: &mut StandIn,
     listener: &TcpListener,
+    refusal: Refusal,
     client: &mut TcpStream,
     due: &str,
-) -> Result<(Result<(), Refusal>, bool), Fail> {
-    let served = served(rt, desk, listener, 3);
-    Ok((served, got(rt, client, due)?))
+) -> Result<(bool, bool), Fail> {
+    let is_end = served(rt, desk, listener, 3) == Err(refusal);
+    Ok((is_end, is_end && got(rt, client, due)?))
 }
 
-/// The steps of a desk whose store fails under the first of two clients.
-fn steps(
-    rt: &HostRuntime,
-    listener: &TcpListener,
-) -> Result<[(Result<(), Refusal>, bool); 2], Fail> {
+/// The two ends of a desk whose store fails under the first of two clients.
+fn two_ends(rt: &HostRuntime, listener: &TcpListener) -> Result<[(bool, bool); 2], Fail> {
     let mut one = client(rt, listener, STORE)?;
     let mut two = client(rt, listener, LEVEL)?;
     let mut desk = StandIn::new(rt.alloc());
-    let failed = step(rt, &mut desk, listener, &mut one, STORE_DUE)?;
-    let closed = step(rt, &mut desk, listener, &mut two, REOPEN_DUE)?;
+    let failed = ends(rt, &mut desk, listener, Refusal::Store, &mut one, STORE_DUE)?;
+    let closed = ends(
+        rt,
+        &mut desk,
+        listener,
+        Refusal::Reopen,
+        &mut two,
+        REOPEN_DUE,
+    )?;
     Ok([failed, closed])
 }
 
 #[test]
 fn ends_where_the_desk_has_failed(rt: HostRuntime) -> Result<(), Fail> {
     let listener = anywhere(&rt)?;
-    let [(failed, is_told), (closed, is_last_told)] = steps(&rt, &listener)?;
-    assert!(rt; failed == Err(Refusal::Store), "the store fails");
+    let [(fails, is_told), (has_failed, is_next_told)] = two_ends(&rt, &listener)?;
+    assert!(rt; fails, "the store fails");
     assert!(rt; is_told, "it is told");
-    assert!(rt; closed == Err(Refusal::Reopen), "the desk has failed");
-    assert!(rt; is_last_told, "the next connection");
+    assert!(rt; has_failed, "the desk has failed");
+    assert!(rt; is_next_told, "the next connection");
     Ok(())
 }
