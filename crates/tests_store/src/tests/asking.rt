@@ -9,7 +9,7 @@ use super::telling::{
 use super::*;
 
 /// Gives the desk one call.
-fn apply<S: Alter + Drop>(desk: &mut Desk<S>, call: &Call) -> Result<Reply, Refusal> {
+pub(super) fn apply<S: Alter + Drop>(desk: &mut Desk<S>, call: &Call) -> Result<Reply, Refusal> {
     desk.apply(&call.caller, &call.key, &call.command)
 }
 
@@ -217,6 +217,19 @@ fn proposed(alloc: Global, number: u64) -> Result<Line, AllocError> {
     Ok(line)
 }
 
+/// The answer to the caller's proposal of this number, and whether it is the one to be given.
+fn proposes<S: Alter + Drop>(
+    alloc: Global,
+    desk: &mut Desk<S>,
+    who: &str,
+    number: u64,
+) -> Option<(String, bool)> {
+    let line = revocation(alloc, who, number, number).ok()?;
+    let answer = asked(alloc, desk, line.text.as_str())?;
+    let is_so = answer == proposed(alloc, number).ok()?.text;
+    Some((answer, is_so))
+}
+
 /// The answer to the last of `count` calls of the caller, which are the first to propose anything,
 /// each a digest of its own; or the first other answer.
 fn proposed_to<S: Alter + Drop>(
@@ -227,12 +240,11 @@ fn proposed_to<S: Alter + Drop>(
     let who = words.text()?;
     let mut last = String::new(alloc);
     for number in 1..=words.number()? {
-        let line = revocation(alloc, who, number, number).ok()?;
-        let answer = asked(alloc, desk, line.text.as_str())?;
-        if answer != proposed(alloc, number).ok()?.text {
-            return Some(answer);
-        }
+        let (answer, is_so) = proposes(alloc, desk, who, number)?;
         last = answer;
+        if !is_so {
+            break;
+        }
     }
     Some(last)
 }
@@ -240,6 +252,44 @@ fn proposed_to<S: Alter + Drop>(
 /// Puts the text, if there is one.
 fn put_told(line: &mut Line, told: Option<String>) -> Option<()> {
     line.put(told?.as_str()).ok()
+}
+
+/// Puts requests or proposals as the caller is shown them, or the answer to a line with another
+/// verb.
+fn put_shown<S: Alter + Drop>(
+    alloc: Global,
+    desk: &mut Desk<S>,
+    verb: &str,
+    given: &str,
+    words: &mut Words,
+    line: &mut Line,
+) -> Option<()> {
+    match verb {
+        "shows" => shown(desk, words, line),
+        "lists" => all_shown(desk, words, line),
+        "proposals" => all_proposals(desk, words, line),
+        "proposal" => named(desk, words, line),
+        "impact" => foreseen(desk, words, line),
+        _ => put_told(line, asked(alloc, desk, given)),
+    }
+}
+
+/// Puts the rows of a view, a verdict or a person, or the answer to a line with another verb.
+fn put_found<S: Alter + Drop>(
+    alloc: Global,
+    desk: &mut Desk<S>,
+    verb: &str,
+    given: &str,
+    words: &mut Words,
+    line: &mut Line,
+) -> Option<()> {
+    match verb {
+        "rows" => rows(desk, words, line),
+        "image-rows" => seen(desk, words, line),
+        "verdict" => judged(desk, words, line),
+        "who" => who(desk, words, line),
+        _ => put_shown(alloc, desk, verb, given, words, line),
+    }
 }
 
 /// Puts the answer to a line.
@@ -253,19 +303,10 @@ fn put_answer<S: Alter + Drop>(
     let mut words = Words::new(alloc, rest);
     match verb {
         "alone" => put_told(line, answered(alloc, desk, rest)),
-        "rows" => rows(desk, &mut words, line),
         "propose-to" => put_told(line, proposed_to(alloc, desk, &mut words)),
-        "image-rows" => seen(desk, &mut words, line),
-        "verdict" => judged(desk, &mut words, line),
-        "shows" => shown(desk, &mut words, line),
-        "lists" => all_shown(desk, &mut words, line),
-        "proposals" => all_proposals(desk, &mut words, line),
-        "proposal" => named(desk, &mut words, line),
-        "impact" => foreseen(desk, &mut words, line),
-        "who" => who(desk, &mut words, line),
         "report" => counted(alloc, desk, line),
         "export" => exported(alloc, desk, &mut words, line),
-        _ => put_told(line, asked(alloc, desk, given)),
+        _ => put_found(alloc, desk, verb, given, &mut words, line),
     }
 }
 

@@ -1,6 +1,6 @@
 //! A desk over two files: closed, and opened again from the files that its close returned.
 use super::asking::answered;
-use super::founding::{make, open};
+use super::founding::{made, made_beside, opened, run};
 use super::*;
 use sqlite::{FileStore, Files, Options};
 use sqlite_disk::{Disk, Memory as MemoryFile};
@@ -12,6 +12,26 @@ const OPTIONS: Options = Options {
     checkpoint_frames: 16,
     seed: 1,
 };
+
+/// A file in memory.
+pub(super) trait Empty: Disk + Drop {
+    /// One without bytes.
+    fn empty(alloc: Global) -> Self;
+}
+
+impl Empty for MemoryFile {
+    fn empty(alloc: Global) -> MemoryFile {
+        MemoryFile::new(alloc)
+    }
+}
+
+/// Two files without bytes.
+fn empty_files<D: Empty>(alloc: Global) -> Files<D> {
+    Files {
+        log: D::empty(alloc),
+        db: D::empty(alloc),
+    }
+}
 
 /// A connection to the files.
 fn connected<D: Disk + Drop>(alloc: Global, files: Files<D>) -> Option<Connection<FileStore<D>>> {
@@ -33,107 +53,103 @@ fn with_log<D: Disk + Drop>(files: Files<D>, log: D) -> Files<D> {
 }
 
 /// A desk without calls over two files.
-pub(super) fn new_desk<D: Disk + Drop>(
-    alloc: Global,
-    files: Files<D>,
-) -> Option<Desk<FileStore<D>>> {
-    make(alloc, connected(alloc, files)?).ok()
+pub(super) fn new_desk<D: Empty>(alloc: Global) -> Option<Desk<FileStore<D>>> {
+    made(alloc, connected(alloc, empty_files(alloc))?)
 }
 
-/// The desk of the database file that the closed desk leaves, with this log.
-pub(super) fn opened_again<D: Disk + Drop>(
+/// The desk of the database file that the closed desk leaves, with an empty log.
+pub(super) fn opened_again<D: Empty>(
     alloc: Global,
     desk: Desk<FileStore<D>>,
-    log: D,
 ) -> Option<Desk<FileStore<D>>> {
-    let files = with_log(closed(desk)?, log);
-    open(alloc, connected(alloc, files)?).ok()
+    let files = with_log(closed(desk)?, D::empty(alloc));
+    opened(alloc, connected(alloc, files)?)
 }
 
-/// Whether the desk gives the call this answer.
-fn answers<S: Alter + Drop>(alloc: Global, desk: &mut Desk<S>, given: &str, wanted: &str) -> bool {
+/// Whether the desk gives the call of a line the answer after it.
+fn answers<S: Alter + Drop>(alloc: Global, desk: &mut Desk<S>, line: &str) -> bool {
+    let (given, wanted) = line.split_once(" : ").unwrap_or((line, ""));
     match answered(alloc, desk, given) {
         Some(told) => told.as_str() == wanted,
         None => false,
     }
 }
 
-/// Whether a desk in these files, opened with an empty log, has the person who was added before its
-/// close.
-fn goes_on<D: Disk + Drop>(alloc: Global, files: Files<D>, log: D) -> Option<bool> {
-    let mut desk = new_desk(alloc, files)?;
-    if !answers(
-        alloc,
-        &mut desk,
-        "console p1 add ann officer 1",
-        "added ann",
-    ) {
-        return Some(false);
+/// Whether a desk that is then dropped does.
+fn answers_once<S: Alter + Drop>(alloc: Global, desk: Desk<S>, line: &str) -> bool {
+    let mut desk = desk;
+    answers(alloc, &mut desk, line)
+}
+
+/// The desk after the call of a line, and whether it gave the answer after it.
+fn after<S: Alter + Drop>(alloc: Global, desk: Desk<S>, line: &str) -> (Desk<S>, bool) {
+    let mut desk = desk;
+    let is_so = answers(alloc, &mut desk, line);
+    (desk, is_so)
+}
+
+/// The desk after the calls of a script, if it gave each the answer after it.
+pub(super) fn if_it_answers<S: Alter + Drop>(
+    alloc: Global,
+    desk: Desk<S>,
+    script: &str,
+) -> Option<Desk<S>> {
+    let mut desk = desk;
+    for line in script.lines() {
+        if !answers(alloc, &mut desk, line) {
+            return None;
+        }
     }
-    let mut desk = opened_again(alloc, desk, log)?;
-    Some(answers(alloc, &mut desk, "ann a1 list 1", "listed"))
+    Some(desk)
+}
+
+/// A person is added.
+const ADDED: &str = "console p1 add ann officer 1 : added ann";
+
+/// The person lists a digest.
+const LISTED: &str = "ann a1 list 1 : listed";
+
+/// Whether a desk over two files, closed and opened again with an empty log, has the person who was
+/// added before its close.
+fn goes_on<D: Empty>(alloc: Global) -> Option<bool> {
+    let (desk, is_added) = after(alloc, new_desk::<D>(alloc)?, ADDED);
+    let is_there = answers_once(alloc, opened_again(alloc, desk)?, LISTED);
+    Some(is_added && is_there)
 }
 
 #[test]
 fn a_closed_desk_opens_again_without_its_log(rt: HostRuntime) -> Result<(), Fail> {
-    let alloc = rt.alloc();
-    let files = Files {
-        log: MemoryFile::new(alloc),
-        db: MemoryFile::new(alloc),
-    };
-    let is_there = goes_on(alloc, files, MemoryFile::new(alloc)).ok_or("a desk over files")?;
+    let is_there = goes_on::<MemoryFile>(rt.alloc()).ok_or("a desk over files")?;
     assert!(rt; is_there, "the person is there");
     Ok(())
 }
 
 /// A table of others, with one row.
-const OTHERS: [&str; 2] = [
-    "CREATE TABLE note (id INTEGER PRIMARY KEY, body TEXT)",
-    "INSERT INTO note VALUES (1, 'kept')",
-];
+const OTHERS: &str = "\
+CREATE TABLE note (id INTEGER PRIMARY KEY, body TEXT)
+INSERT INTO note VALUES (1, 'kept')";
 
 /// A desk without calls over two files, beside that table.
-fn desk_beside<D: Disk + Drop>(alloc: Global, files: Files<D>) -> Option<Desk<FileStore<D>>> {
-    let mut conn = connected(alloc, files)?;
-    for text in OTHERS {
-        conn.execute(text, &[]).ok()?;
-    }
-    make(alloc, conn).ok()
+fn desk_beside<D: Empty>(alloc: Global) -> Option<Desk<FileStore<D>>> {
+    made_beside(alloc, connected(alloc, empty_files(alloc))?, OTHERS)
 }
 
-/// The text in the others' row.
-fn body<D: Disk + Drop>(conn: &mut Connection<FileStore<D>>) -> Option<String> {
-    conn.query_row("SELECT body FROM note", &[])
-        .ok()?
-        .get(0)
-        .ok()
+/// The text in the others' row, in the store of a desk that is then dropped.
+fn body<S: Alter + Drop>(alloc: Global, desk: Desk<S>) -> Option<String> {
+    run(alloc, &mut desk.release(), "SELECT body FROM note")
 }
 
 /// The others' text after a desk beside it was closed, and was opened again with an empty log, if
 /// the desk has the person who was added before its close.
-fn stays_beside<D: Disk + Drop>(alloc: Global, files: Files<D>, log: D) -> Option<String> {
-    let mut desk = desk_beside(alloc, files)?;
-    let added = answers(
-        alloc,
-        &mut desk,
-        "console p1 add ann officer 1",
-        "added ann",
-    );
-    let mut desk = opened_again(alloc, desk, log)?;
-    if !added || !answers(alloc, &mut desk, "ann a1 list 1", "listed") {
-        return None;
-    }
-    body(&mut desk.release())
+fn stays_beside<D: Empty>(alloc: Global) -> Option<String> {
+    let desk = if_it_answers(alloc, desk_beside::<D>(alloc)?, ADDED)?;
+    let desk = if_it_answers(alloc, opened_again(alloc, desk)?, LISTED)?;
+    body(alloc, desk)
 }
 
 #[test]
 fn a_desk_over_files_stays_beside_another_table(rt: HostRuntime) -> Result<(), Fail> {
-    let alloc = rt.alloc();
-    let files = Files {
-        log: MemoryFile::new(alloc),
-        db: MemoryFile::new(alloc),
-    };
-    let told = stays_beside(alloc, files, MemoryFile::new(alloc)).ok_or("a desk over files")?;
+    let told = stays_beside::<MemoryFile>(rt.alloc()).ok_or("a desk over files")?;
     assert!(rt; told.as_str() == "kept", "the others' row");
     Ok(())
 }

@@ -1,6 +1,6 @@
 //! Days of a desk in a store: lines of calls to it, and its expected answers.
 use super::asking::answer;
-use super::founding::{make, open, run};
+use super::founding::{made, made_beside, opened, run};
 use super::scripts::{
     BARRED, EXPORTS, FAULTS, FORETOLD, HUNDRED, LARGEST, LEVELS, OFFICERS, REQUESTS, ROWS, SPOILT,
     TABLES,
@@ -9,7 +9,7 @@ use super::*;
 
 /// A desk without calls.
 fn new_desk(alloc: Global) -> Option<Memory> {
-    make(alloc, Connection::open_in_memory(alloc).ok()?).ok()
+    made(alloc, Connection::open_in_memory(alloc).ok()?)
 }
 
 /// Others' tables, an index and a view.
@@ -24,11 +24,7 @@ INSERT INTO other_calls VALUES (x'cc')";
 
 /// A desk without calls beside them.
 fn desk_beside(alloc: Global) -> Option<Memory> {
-    let mut conn = Connection::open_in_memory(alloc).ok()?;
-    for text in OTHERS.lines() {
-        run(alloc, &mut conn, text)?;
-    }
-    make(alloc, conn).ok()
+    made_beside(alloc, Connection::open_in_memory(alloc).ok()?, OTHERS)
 }
 
 /// The others' rows, after the desk was opened again.
@@ -47,8 +43,7 @@ fn again(alloc: Global, desk: Memory, text: &str) -> Option<(Memory, String)> {
     } else {
         run(alloc, &mut conn, text)?
     };
-    let desk = open(alloc, conn).ok()?;
-    Some((desk, told))
+    Some((opened(alloc, conn)?, told))
 }
 
 /// Whether the line is for the store under the desk.
@@ -82,19 +77,21 @@ fn played(rt: &impl Abort, alloc: Global, desk: Memory, script: &str) -> Result<
     Ok(desk)
 }
 
-/// Plays the lines of a script on a new desk.
-fn play(rt: &impl Abort, alloc: Global, script: &str) -> Result<(), Fail> {
-    let desk = new_desk(alloc).ok_or("a desk")?;
+/// Plays the lines of a script on a desk that is then dropped.
+fn end(rt: &impl Abort, alloc: Global, desk: Memory, script: &str) -> Result<(), Fail> {
     played(rt, alloc, desk, script)?;
     Ok(())
+}
+
+/// Plays the lines of a script on a new desk.
+fn play(rt: &impl Abort, alloc: Global, script: &str) -> Result<(), Fail> {
+    end(rt, alloc, new_desk(alloc).ok_or("a desk")?, script)
 }
 
 /// Plays them on a new desk beside others' tables, which stay as they are.
 fn play_beside(rt: &impl Abort, alloc: Global, script: &str) -> Result<(), Fail> {
     let desk = desk_beside(alloc).ok_or("a desk")?;
-    let desk = played(rt, alloc, desk, script)?;
-    played(rt, alloc, desk, UNTOUCHED)?;
-    Ok(())
+    end(rt, alloc, played(rt, alloc, desk, script)?, UNTOUCHED)
 }
 
 #[test]

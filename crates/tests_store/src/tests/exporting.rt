@@ -27,6 +27,13 @@ fn write<S: Alter + Drop>(
     }
 }
 
+/// The desk's minutes.
+pub(super) fn minutes<S: Alter + Drop>(alloc: Global, desk: &mut Desk<S>) -> Option<Vec<u8>> {
+    let mut text = Vec::new(alloc);
+    desk.export(Export::Minutes, &mut text).ok()?;
+    Some(text)
+}
+
 /// The length, the head of the first list, and the last entry of a digest.
 fn put_ends(line: &mut Line, bytes: &[u8]) -> Option<()> {
     line.number(bytes.len() as u64).ok()?;

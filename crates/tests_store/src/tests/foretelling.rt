@@ -1,7 +1,7 @@
 //! What proposals would bar at a desk with a thousand requests, signed and not, beside what a plain
 //! computation over the same images tells. Each image is known by its request's number.
 use super::asking::{answer, answered};
-use super::founding::make;
+use super::founding::made;
 use super::line::Line;
 use super::thousands::in_round;
 use super::*;
@@ -528,14 +528,20 @@ fn goes_through<S: Alter + Drop>(
     )
 }
 
-/// A desk with all requests.
-fn filled(alloc: Global) -> Option<Memory> {
-    let mut desk = make(alloc, Connection::open_in_memory(alloc).ok()?).ok()?;
+/// The desk, if it does.
+fn if_it_is_filled<S: Alter + Drop>(alloc: Global, desk: Desk<S>) -> Option<Desk<S>> {
+    let mut desk = desk;
     if is_filled(alloc, &mut desk)? {
         Some(desk)
     } else {
         None
     }
+}
+
+/// A desk with all requests.
+fn filled(alloc: Global) -> Option<Memory> {
+    let conn = Connection::open_in_memory(alloc).ok()?;
+    if_it_is_filled(alloc, made(alloc, conn)?)
 }
 
 #[test]

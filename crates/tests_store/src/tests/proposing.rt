@@ -1,12 +1,12 @@
 //! A thousand proposals to a desk over two files, and a plain list of them.
 use super::asking::{answered, revocation};
-use super::closing::{new_desk, opened_again};
+use super::closing::{Empty, if_it_answers, new_desk, opened_again};
 use super::line::Line;
 use super::telling::put_proposals;
 use super::*;
 use desk_texts::{Caller, ProposalState};
-use sqlite::{FileStore, Files};
-use sqlite_disk::{Disk, Memory as MemoryFile};
+use sqlite::FileStore;
+use sqlite_disk::Memory as MemoryFile;
 
 /// How many proposals there are at the end.
 const MANY: u64 = 1_000;
@@ -15,18 +15,6 @@ const MANY: u64 = 1_000;
 const OFFICERS: &str = "\
 console p1 add olga officer 1 : added olga
 console p2 add otto officer 2 : added otto";
-
-/// A file in memory.
-pub(super) trait Empty: Disk + Drop {
-    /// One without bytes.
-    fn empty(alloc: Global) -> Self;
-}
-
-impl Empty for MemoryFile {
-    fn empty(alloc: Global) -> MemoryFile {
-        MemoryFile::new(alloc)
-    }
-}
 
 /// A proposal: the byte of its digest, and its state.
 #[derive(Clone, Copy)]
@@ -157,29 +145,24 @@ fn agrees<S: Alter + Drop>(
     Some(told == answer.text)
 }
 
-/// Whether the desk adds the officers.
-fn adds<S: Alter + Drop>(alloc: Global, desk: &mut Desk<S>) -> Option<bool> {
-    for line in OFFICERS.lines() {
-        let (call, answer) = line.split_once(" : ")?;
-        if answered(alloc, desk, call)?.as_str() != answer {
-            return Some(false);
-        }
-    }
-    Some(true)
-}
-
-/// A desk over two files with its officers.
-fn founded<D: Empty>(alloc: Global) -> Option<Desk<FileStore<D>>> {
-    let files = Files {
-        log: D::empty(alloc),
-        db: D::empty(alloc),
-    };
-    let mut desk = new_desk(alloc, files)?;
-    if adds(alloc, &mut desk)? {
+/// The desk, if it does.
+fn if_it_agrees<S: Alter + Drop>(
+    alloc: Global,
+    desk: Desk<S>,
+    list: &mut List,
+    turn: u64,
+) -> Option<Desk<S>> {
+    let mut desk = desk;
+    if agrees(alloc, &mut desk, list, turn)? {
         Some(desk)
     } else {
         None
     }
+}
+
+/// A desk over two files with its officers.
+fn founded<D: Empty>(alloc: Global) -> Option<Desk<FileStore<D>>> {
+    if_it_answers(alloc, new_desk(alloc)?, OFFICERS)
 }
 
 /// The desk, closed and opened again after each hundredth turn.
@@ -189,28 +172,36 @@ fn kept<D: Empty>(
     turn: u64,
 ) -> Option<Desk<FileStore<D>>> {
     if turn % 100 == 0 {
-        return opened_again(alloc, desk, D::empty(alloc));
+        return opened_again(alloc, desk);
     }
     Some(desk)
 }
 
-/// The desk after all proposals of the list, if it answers each call as the list does.
+/// The desk after this turn, if it answers its call as the list does.
+fn after<D: Empty>(
+    alloc: Global,
+    desk: Desk<FileStore<D>>,
+    list: &mut List,
+    turn: u64,
+) -> Option<Desk<FileStore<D>>> {
+    kept(alloc, if_it_agrees(alloc, desk, list, turn)?, turn)
+}
+
+/// The desk once the list is full, if it answers each call as the list does.
 fn filled<D: Empty>(alloc: Global, list: &mut List) -> Option<Desk<FileStore<D>>> {
     let mut desk = founded::<D>(alloc)?;
     for turn in 1..u64::MAX {
         if list.is_full() {
-            return Some(desk);
+            break;
         }
-        if !agrees(alloc, &mut desk, list, turn)? {
-            return None;
-        }
-        desk = kept(alloc, desk, turn)?;
+        desk = after(alloc, desk, list, turn)?;
     }
-    None
+    Some(desk)
 }
 
-/// The proposals that the desk shows its second officer.
-fn told<S: Alter + Drop>(alloc: Global, desk: &mut Desk<S>) -> Option<Line> {
+/// The proposals that the desk, which is then dropped, shows its second officer.
+fn told<S: Alter + Drop>(alloc: Global, desk: Desk<S>) -> Option<Line> {
+    let mut desk = desk;
     let caller = Caller::parse(alloc, b"otto").ok()?;
     match desk.proposals(&caller) {
         Ok(proposals) => proposals_told(alloc, &proposals).ok(),
@@ -230,9 +221,9 @@ fn fill<D: Empty>(alloc: Global) -> Result<(), Fail> {
     let mut list = List {
         items: Vec::new(alloc),
     };
-    let mut desk = filled::<D>(alloc, &mut list).ok_or("a desk that answers as the list")?;
-    let told = told(alloc, &mut desk).ok_or("proposals")?;
-    if told.text != list.told(alloc)?.text {
+    let desk = filled::<D>(alloc, &mut list).ok_or("a desk that answers as the list")?;
+    let told = told(alloc, desk).ok_or("proposals")?;
+    if !list.is_full() || told.text != list.told(alloc)?.text {
         return Err("the proposals of the list")?;
     }
     Ok(())

@@ -1,6 +1,8 @@
 //! A day of requests over HTTP, on a desk in a store in memory. Each function makes one call of the
 //! desk.
-use super::founding::make;
+use super::asking::apply;
+use super::exporting::minutes;
+use super::founding::made;
 use super::*;
 use desk_answers::OpenDesk;
 use desk_calls::{Answer, Answering, Call as Asked, Octets, Task};
@@ -93,22 +95,41 @@ fn person(alloc: Global, line: &str) -> Option<Person> {
     })
 }
 
-/// Adds the person of a line, under the name as its key.
-fn add<S: Alter + Drop>(alloc: Global, desk: &mut Desk<S>, line: &str) -> Option<()> {
+/// The call that adds the person of a line, with the name as its key.
+fn adding(alloc: Global, line: &str) -> Option<Call> {
     let person = person(alloc, line)?;
     let key = Key::parse(alloc, person.name.as_str().as_bytes()).ok()?;
-    desk.apply(&Caller::Console, &key, &Command::AddPerson(person))
-        .ok()?;
-    Some(())
+    Some(Call {
+        caller: Caller::Console,
+        key,
+        command: Command::AddPerson(person),
+    })
 }
 
-/// A desk with its people.
-fn founded(alloc: Global) -> Option<Served> {
-    let mut desk = make(alloc, Connection::open_in_memory(alloc).ok()?).ok()?;
+/// Whether the desk accepts a call.
+fn accepts<S: Alter + Drop>(desk: &mut Desk<S>, call: &Call) -> bool {
+    apply(desk, call).is_ok()
+}
+
+/// Adds the person of a line.
+fn add<S: Alter + Drop>(alloc: Global, desk: &mut Desk<S>, line: &str) -> Option<()> {
+    let call = adding(alloc, line)?;
+    if accepts(desk, &call) { Some(()) } else { None }
+}
+
+/// The desk, once its people are added.
+fn with_people<S: Alter + Drop>(alloc: Global, desk: Desk<S>) -> Option<OpenDesk<S>> {
+    let mut desk = desk;
     for line in PEOPLE.lines() {
         add(alloc, &mut desk, line)?;
     }
     Some(OpenDesk::new(desk))
+}
+
+/// A desk with its people.
+fn founded(alloc: Global) -> Option<Served> {
+    let conn = Connection::open_in_memory(alloc).ok()?;
+    with_people(alloc, made(alloc, conn)?)
 }
 
 /// The response to an input.
@@ -161,21 +182,26 @@ fn replies(alloc: Global) -> Result<Vec<u8>, AllocError> {
     Ok(all)
 }
 
+/// Whether each of the requests is served.
+fn are_served<D: Answering>(
+    alloc: Global,
+    routes: &Routes,
+    desk: &mut D,
+    inputs: &[Octets],
+    writer: &mut Vec<u8>,
+) -> bool {
+    serve_each(alloc, routes, desk, inputs, writer) >= inputs.len()
+}
+
 /// The responses to the requests, one after another, if each is served.
 fn served_each<D: Answering>(alloc: Global, desk: &mut D, inputs: &[Octets]) -> Option<Vec<u8>> {
     let routes = Routes::new(alloc).ok()?;
     let mut writer = Vec::new(alloc);
-    if serve_each(alloc, &routes, desk, inputs, &mut writer) < inputs.len() {
-        return None;
+    if are_served(alloc, &routes, desk, inputs, &mut writer) {
+        Some(writer)
+    } else {
+        None
     }
-    Some(writer)
-}
-
-/// The desk's minutes.
-fn minutes<S: Alter + Drop>(alloc: Global, desk: &mut Desk<S>) -> Option<Vec<u8>> {
-    let mut text = Vec::new(alloc);
-    desk.export(Export::Minutes, &mut text).ok()?;
-    Some(text)
 }
 
 /// The desk, and its minutes.
@@ -188,41 +214,77 @@ fn with_minutes<S: Alter + Drop>(
     Some((OpenDesk::new(desk), text))
 }
 
-/// The level, as the answer to a call of this line's person.
-fn level<S: Alter + Drop>(alloc: Global, desk: &mut OpenDesk<S>, line: &str) -> Option<Octets> {
-    let call = Asked {
+/// The question of this line's person for the level.
+fn level_asked(alloc: Global, line: &str) -> Option<Asked> {
+    Some(Asked {
         person: person(alloc, line)?,
         task: Task::Read(ReadAsked::Level),
-    };
-    match desk_answers::answer(alloc, desk, call) {
+    })
+}
+
+/// The text of an answer that is a level.
+fn level_of(answer: Answer) -> Option<Octets> {
+    match answer {
         Answer::Level(text) => Some(text),
         _ => None,
     }
 }
 
+/// The level, as the answer to a call of this line's person.
+fn level<S: Alter + Drop>(alloc: Global, desk: &mut OpenDesk<S>, line: &str) -> Option<Octets> {
+    let call = level_asked(alloc, line)?;
+    level_of(desk_answers::answer(alloc, desk, call))
+}
+
+/// Plays the day on a desk.
+fn play<D: Answering>(rt: &impl Abort, alloc: Global, desk: &mut D) -> Result<(), Fail> {
+    for row in DAY.lines() {
+        let is_answered = answers(alloc, desk, row).ok_or(row)?;
+        assert!(rt; is_answered, "{row}");
+    }
+    Ok(())
+}
+
 /// A desk after the day.
 fn after_the_day(rt: &impl Abort, alloc: Global) -> Result<Served, Fail> {
     let mut desk = founded(alloc).ok_or("a desk")?;
-    for row in DAY.lines() {
-        let is_answered = answers(alloc, &mut desk, row).ok_or(row)?;
-        assert!(rt; is_answered, "{row}");
-    }
+    play(rt, alloc, &mut desk)?;
     Ok(desk)
+}
+
+/// Whether the desk gives the accepted commands the same answers.
+fn has_answers<D: Answering>(alloc: Global, desk: &mut D) -> Result<bool, Fail> {
+    let inputs = commands(alloc)?;
+    let told = served_each(alloc, desk, &inputs).ok_or("a day")?;
+    let wanted = replies(alloc)?;
+    Ok(told.as_slice() == wanted.as_slice())
+}
+
+/// Whether the desk has the level after the day.
+fn has_level<S: Alter + Drop>(alloc: Global, desk: &mut OpenDesk<S>) -> Result<bool, Fail> {
+    let text = level(alloc, desk, "ann submitter ann-token-000001").ok_or("a level")?;
+    let wanted = bytes_of(alloc, "sbat,1,2024010102~grub,4~shim,4~")?;
+    Ok(text.as_slice() == wanted.as_slice())
+}
+
+/// Serves a desk after the day the accepted commands once more.
+fn serve_again<S: Alter + Drop>(
+    rt: &impl Abort,
+    alloc: Global,
+    desk: OpenDesk<S>,
+) -> Result<(), Fail> {
+    let (mut desk, before) = with_minutes(alloc, desk).ok_or("minutes")?;
+    let is_same = has_answers(alloc, &mut desk)?;
+    assert!(rt; is_same, "the same answers");
+    let (mut desk, after) = with_minutes(alloc, desk).ok_or("minutes")?;
+    assert!(rt; before.as_slice() == after.as_slice(), "the same minutes");
+    let is_level = has_level(alloc, &mut desk)?;
+    assert!(rt; is_level, "the level");
+    Ok(())
 }
 
 #[test]
 fn a_day_over_http_twice(rt: HostRuntime) -> Result<(), Fail> {
     let alloc = rt.alloc();
-    let desk = after_the_day(&rt, alloc)?;
-    let (mut desk, before) = with_minutes(alloc, desk).ok_or("minutes")?;
-    let inputs = commands(alloc)?;
-    let told = served_each(alloc, &mut desk, &inputs).ok_or("a day")?;
-    let wanted = replies(alloc)?;
-    assert!(rt; told.as_slice() == wanted.as_slice(), "the same answers");
-    let (mut desk, after) = with_minutes(alloc, desk).ok_or("minutes")?;
-    assert!(rt; before.as_slice() == after.as_slice(), "the same minutes");
-    let text = level(alloc, &mut desk, "ann submitter ann-token-000001").ok_or("a level")?;
-    let wanted = bytes_of(alloc, "sbat,1,2024010102~grub,4~shim,4~")?;
-    assert!(rt; text.as_slice() == wanted.as_slice(), "the level");
-    Ok(())
+    serve_again(&rt, alloc, after_the_day(&rt, alloc)?)
 }

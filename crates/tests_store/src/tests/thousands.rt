@@ -1,10 +1,10 @@
 //! Two thousand calls to a desk over two files, and a plain list of the accepted ones.
 use super::asking::answered;
-use super::closing::{new_desk, opened_again};
+use super::closing::{Empty, new_desk, opened_again};
+use super::exporting::minutes;
 use super::line::Line;
-use super::proposing::Empty;
 use super::*;
-use sqlite::{FileStore, Files};
+use sqlite::FileStore;
 use sqlite_disk::Memory as MemoryFile;
 
 /// How often the round is played.
@@ -163,9 +163,14 @@ impl Accepted {
 
 /// Whether the desk's minutes have the accepted calls and no others.
 fn tells<S: Alter + Drop>(alloc: Global, desk: &mut Desk<S>, accepted: &Accepted) -> Option<bool> {
-    let mut minutes = Vec::new(alloc);
-    desk.export(Export::Minutes, &mut minutes).ok()?;
+    let minutes = minutes(alloc, desk)?;
     accepted.are_minuted(alloc, str::from_utf8(minutes.as_slice()).ok()?)
+}
+
+/// The same of a desk that is then dropped.
+fn tells_once<S: Alter + Drop>(alloc: Global, desk: Desk<S>, accepted: &Accepted) -> Option<bool> {
+    let mut desk = desk;
+    tells(alloc, &mut desk, accepted)
 }
 
 /// Whether the desk gives a call the answer after it.
@@ -183,18 +188,47 @@ fn takes<S: Alter + Drop>(
     Some(true)
 }
 
+/// The desk, if its minutes have the accepted calls and no others.
+fn if_it_tells<S: Alter + Drop>(
+    alloc: Global,
+    desk: Desk<S>,
+    accepted: &Accepted,
+) -> Option<Desk<S>> {
+    let mut desk = desk;
+    if tells(alloc, &mut desk, accepted)? {
+        Some(desk)
+    } else {
+        None
+    }
+}
+
+/// The desk, if it gives a call the answer after it.
+fn if_it_takes<S: Alter + Drop>(
+    alloc: Global,
+    desk: Desk<S>,
+    accepted: &mut Accepted,
+    told: &str,
+) -> Option<Desk<S>> {
+    let mut desk = desk;
+    if takes(alloc, &mut desk, accepted, told)? {
+        Some(desk)
+    } else {
+        None
+    }
+}
+
 /// The desk, closed and opened again, if its minutes have the accepted calls.
 fn kept<D: Empty>(
     alloc: Global,
     desk: Desk<FileStore<D>>,
     accepted: &Accepted,
 ) -> Option<Desk<FileStore<D>>> {
-    let mut desk = opened_again(alloc, desk, D::empty(alloc))?;
-    if tells(alloc, &mut desk, accepted)? {
-        Some(desk)
-    } else {
-        None
-    }
+    if_it_tells(alloc, opened_again(alloc, desk)?, accepted)
+}
+
+/// Whether the minutes of the desk, closed and opened again, have the accepted calls.
+fn ends<D: Empty>(alloc: Global, desk: Desk<FileStore<D>>, accepted: &Accepted) -> Option<bool> {
+    tells_once(alloc, opened_again(alloc, desk)?, accepted)
 }
 
 /// The desk after the call of this number, if it answers it. It is closed and opened again after
@@ -206,21 +240,11 @@ fn after<D: Empty>(
     told: &str,
     number: u64,
 ) -> Option<Desk<FileStore<D>>> {
-    let mut desk = desk;
-    if !takes(alloc, &mut desk, accepted, told)? {
-        return None;
-    }
+    let desk = if_it_takes(alloc, desk, accepted, told)?;
     if number % 100 == 0 {
         return kept(alloc, desk, accepted);
     }
     Some(desk)
-}
-
-/// A desk without calls over two files.
-fn founded<D: Empty>(alloc: Global) -> Option<Desk<FileStore<D>>> {
-    let log = D::empty(alloc);
-    let db = D::empty(alloc);
-    new_desk(alloc, Files { log, db })
 }
 
 /// The script of all rounds: the people, and then each round.
@@ -243,14 +267,14 @@ fn play<D: Empty>(alloc: Global) -> Result<(), Fail> {
     let mut accepted = Accepted {
         calls: Vec::new(alloc),
     };
-    let mut desk = founded::<D>(alloc).ok_or("a desk")?;
+    let mut desk = new_desk::<D>(alloc).ok_or("a desk")?;
     let mut number = 0u64;
     for line in &script {
         number = number.saturating_add(1);
         let told = line.text.as_str();
         desk = after(alloc, desk, &mut accepted, told, number).ok_or(told)?;
     }
-    if kept(alloc, desk, &accepted).is_none() {
+    if ends(alloc, desk, &accepted) != Some(true) {
         return Err("the minutes of the list")?;
     }
     Ok(())
