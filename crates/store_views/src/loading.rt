@@ -37,10 +37,22 @@ pub(crate) struct CallRows {
 fn person_added(command: &Command) -> Option<&Person>
     ensures { option_copied result ≡ added_by command.now }
 {
-    let Command::AddPerson(person) = command else {
-        return None;
-    };
-    Some(person)
+    match command {
+        Command::AddPerson(person) => Some(person),
+        Command::Submit(_)
+        | Command::Review(_)
+        | Command::Withdraw(_)
+        | Command::Return(_)
+        | Command::ListCertificate(_)
+        | Command::ListDigest(_)
+        | Command::Unlist(_)
+        | Command::RevokeDigest(_)
+        | Command::RevokeCertificate(_)
+        | Command::RaiseLevel(_)
+        | Command::ImportRevocations(_)
+        | Command::Confirm(_)
+        | Command::Drop(_) => None,
+    }
 }
 
 /// The number of the request that the command names.
@@ -69,10 +81,21 @@ fn request_of(command: &Command) -> Option<RequestNumber>
 fn proposal_of(command: &Command) -> Option<ProposalNumber>
     ensures { result ≡ spec.proposal_named command.now }
 {
-    let (Command::Confirm(number) | Command::Drop(number)) = command else {
-        return None;
-    };
-    Some(*number)
+    match command {
+        Command::Confirm(number) | Command::Drop(number) => Some(*number),
+        Command::AddPerson(_)
+        | Command::Submit(_)
+        | Command::Review(_)
+        | Command::Withdraw(_)
+        | Command::Return(_)
+        | Command::ListCertificate(_)
+        | Command::ListDigest(_)
+        | Command::Unlist(_)
+        | Command::RevokeDigest(_)
+        | Command::RevokeCertificate(_)
+        | Command::RaiseLevel(_)
+        | Command::ImportRevocations(_) => None,
+    }
 }
 
 /// The row of the proposal of this number.
