@@ -111,6 +111,8 @@ pub enum Refusal {
     /// A line of minutes isn't what the rules give there, or isn't whole. The place is its number
     /// from 1.
     Minute,
+    /// The desk in the database has another owner than the one given.
+    Owner,
     /// The head of an HTTP request is wrong, too long or cut short.
     BadHead,
     /// A field of an HTTP request is wrong, or is given twice.
@@ -190,6 +192,7 @@ impl Refusal {
             Refusal::File => 45,
             Refusal::Exists => 46,
             Refusal::Minute => 47,
+            Refusal::Owner => 48,
             Refusal::BadHead => 50,
             Refusal::BadField => 51,
             Refusal::BadBody => 52,
@@ -253,6 +256,7 @@ impl Refusal {
             Refusal::File => "File",
             Refusal::Exists => "Exists",
             Refusal::Minute => "Minute",
+            Refusal::Owner => "Owner",
             Refusal::BadHead => "BadHead",
             Refusal::BadField => "BadField",
             Refusal::BadBody => "BadBody",
@@ -317,6 +321,7 @@ impl Refusal {
             | Refusal::Version
             | Refusal::Exists
             | Refusal::Minute
+            | Refusal::Owner
             | Refusal::BadHead
             | Refusal::BadField
             | Refusal::BadBody

@@ -117,6 +117,7 @@ refused_of refusal.Version = None
 refused_of refusal.File = None
 refused_of refusal.Exists = None
 refused_of refusal.Minute = None
+refused_of refusal.Owner = None
 refused_of refusal.BadHead = Some refused.BadHead
 refused_of refusal.BadField = Some refused.BadField
 refused_of refusal.BadBody = Some refused.BadBody

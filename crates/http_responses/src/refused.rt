@@ -8,8 +8,9 @@ use desk_bytes::Refusal;
 use http_requests::Methods;
 
 /// Why a request is refused: a row of the table of refusals, with what its response adds. Rows that
-/// no desk gives to a request have no variant: Read, Write, Line, Version, File, Exists and Minute.
-/// NameTaken and NotADesk have one, though no request that the routes know is refused for them.
+/// no desk gives to a request have no variant: Read, Write, Line, Version, File, Exists, Minute and
+/// Owner. NameTaken and NotADesk have one, though no request that the routes know is refused for
+/// them.
 #[derive(Clone, Copy, Debug, PartialEq, Eq)]
 pub enum Refused {
     /// The file ends before a header that it needs.
@@ -169,7 +170,8 @@ impl Refused {
             | Refusal::Version
             | Refusal::File
             | Refusal::Exists
-            | Refusal::Minute => return None,
+            | Refusal::Minute
+            | Refusal::Owner => return None,
         };
         Some(refused)
     }
