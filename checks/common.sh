@@ -22,13 +22,16 @@ needs() {
     [ -z "$lacking" ] || fail "it needs$lacking"
 }
 
-# find_program [PROGRAM ..]: `program` is the named one, or that of ./desk, built if need be.
+# find_program [PROGRAM ..]: `program` is the named one, or the one that ./desk runs, built if need
+# be. bench/ measures no trial program.
 find_program() {
     if [ $# -gt 0 ]; then
         program=$(readlink -f -- "$1") || program=$1
     else
-        "$root/desk" --version > /dev/null || fail "there is no program"
-        program=$root/crates/desk/out/desk
+        program=$("$root/desk" --which) || fail "there is no program"
+        case $self:$program in
+            bench/*:*/out/trial/desk) fail "a trial program's speed says nothing: ./prove desk leaves a proved one" ;;
+        esac
     fi
     [ -x "$program" ] || fail "there is no program $program"
 }
