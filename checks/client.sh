@@ -43,7 +43,8 @@ started=$parts
 
 # ---- the text of it
 
-set -- "$root/client/deskctl" "$root/client/pages.py" "$root"/checks/client/*.py
+set -- "$root/client/deskctl" "$root"/client/*.py "$root"/client/src/*.py "$root"/client/src/deskctl/*.py \
+    "$root"/checks/client/*.py "$root"/checks/imports/*.py
 pyflakes3 "$@" > said 2>&1 || fail "pyflakes3: $(cat said)"
 python3 -c 'import ast, sys
 for path in sys.argv[1:]:

@@ -6,14 +6,20 @@ page's other sections, set in man(7). The date is that of SOURCE_DATE_EPOCH, or 
 """
 from __future__ import annotations
 
-import importlib.machinery
-import importlib.util
 import os
 import re
 import sys
 import textwrap
 import time
 from typing import Any, Dict, List, Sequence, Tuple
+
+sys.dont_write_bytecode = True
+sys.path.insert(0, os.path.join(os.path.dirname(os.path.realpath(__file__)), "src"))
+
+from deskctl import VERSION  # noqa: E402
+from deskctl.arguments import OPTIONS, STATUSES  # noqa: E402
+from deskctl.cli import shown_option  # noqa: E402
+from deskctl.commands import COMMANDS  # noqa: E402
 
 WIDTH = 78
 ABOUT = """\
@@ -95,17 +101,6 @@ An officer proposes to revoke what was built from a broken source, and another o
 """
 
 
-def deskctl() -> Any:
-    """The program as a module."""
-    sys.dont_write_bytecode = True
-    path = os.path.join(os.path.dirname(os.path.realpath(__file__)), "deskctl")
-    loader = importlib.machinery.SourceFileLoader("deskctl", path)
-    found = importlib.util.module_from_spec(importlib.util.spec_from_loader("deskctl", loader))  # type: ignore[arg-type]
-    sys.modules["deskctl"] = found
-    loader.exec_module(found)
-    return found
-
-
 # ---- the manual page
 
 
@@ -156,30 +151,30 @@ def named(rows: Sequence[Tuple[str, str]]) -> List[str]:
     return found
 
 
-def worded(ctl: Any, words: Sequence[Any]) -> List[Tuple[str, str]]:
-    return [(ctl.shown_option(names, more) if names[0].startswith("-") else more["metavar"], more["help"] + ".") for names, more in words]
+def worded(words: Sequence[Any]) -> List[Tuple[str, str]]:
+    return [(shown_option(names, more) if names[0].startswith("-") else more["metavar"], more["help"] + ".") for names, more in words]
 
 
-def commands_part(ctl: Any) -> List[str]:
+def commands_part() -> List[str]:
     found: List[str] = []
-    for one in ctl.COMMANDS:
+    for one in COMMANDS:
         found += [f'.SS "\\fBdeskctl {typed(one.name)}\\fR {typed(one.usage)}"']
         found += filled(one.does[0].upper() + one.does[1:] + "." + (f" It is for {one.who}." if one.who else ""))
-        found += named(worded(ctl, one.words)) + ([".PP"] + filled(one.more) if one.more else []) + example([one.example])
+        found += named(worded(one.words)) + ([".PP"] + filled(one.more) if one.more else []) + example([one.example])
     return found
 
 
-def page(ctl: Any) -> str:
+def page() -> str:
     date = time.strftime("%Y-%m-%d", time.gmtime(int(os.environ.get("SOURCE_DATE_EPOCH", time.time()))))
     parts = (
         ("SYNOPSIS", ["\\fBdeskctl\\fR \\fICOMMAND\\fR [\\fIWORD\\fR..] [\\fIOPTION\\fR..]"]), ("DESCRIPTION", roff(ABOUT)),
-        ("COMMANDS", commands_part(ctl)), ("OPTIONS", named(worded(ctl, ctl.OPTIONS))), ("SETTINGS", roff(SETTINGS)),
+        ("COMMANDS", commands_part()), ("OPTIONS", named(worded(OPTIONS))), ("SETTINGS", roff(SETTINGS)),
         ("A COMMAND ACTS ONCE", roff(ONCE)), ("QUESTIONS", roff(QUESTIONS)), ("IMPORTS", roff(IMPORTS)),
-        ("EXIT STATUS", named([(str(status), text[0].upper() + text[1:] + ".") for status, text in ctl.STATUSES])),
+        ("EXIT STATUS", named([(str(status), text[0].upper() + text[1:] + ".") for status, text in STATUSES])),
         ("FILES", named(FILES)), ("ENVIRONMENT", named(ENVIRONMENT)), ("EXAMPLES", roff(EXAMPLES)),
         ("SEE ALSO", ["desk(1), desk-http(7), sbverify(1), sbsign(1)"]),
     )
-    found = [".nr HY 0", ".ad l", f'.TH DESKCTL 1 {date} "Kovelamiru {ctl.VERSION}" Kovelamiru', ".SH NAME"]
+    found = [".nr HY 0", ".ad l", f'.TH DESKCTL 1 {date} "Kovelamiru {VERSION}" Kovelamiru', ".SH NAME"]
     found.append("deskctl \\- signing requests and revocations at a Secure Boot desk")
     for title, lines in parts:
         found += [f'.SH "{title}"'] + lines
@@ -203,18 +198,18 @@ def split(words: Sequence[Any]) -> Tuple[List[Any], List[Any]]:
     return [it for it in words if it[0][0].startswith("-")], [it for it in words if not it[0][0].startswith("-")]
 
 
-def bash(ctl: Any) -> str:
-    names = " ".join(one.name for one in ctl.COMMANDS)
-    general = " ".join(name for options, _ in ctl.OPTIONS for name in options)
+def bash() -> str:
+    names = " ".join(one.name for one in COMMANDS)
+    general = " ".join(name for options, _ in OPTIONS for name in options)
     rows: List[str] = []
-    for one in ctl.COMMANDS:
+    for one in COMMANDS:
         options, places = split(one.words)
         kinds = " ".join(f"'{kind_of(more)}'" for _, more in places) or "''"
         its = " ".join(name for named_, _ in options for name in named_)
         many = "yes" if any("nargs" in more for _, more in places) else ""
         rows.append(f"        {one.name}) options='{its}' places=({kinds}) many={many} ;;")
     values = {}
-    for names_, more in list(ctl.OPTIONS) + [it for one in ctl.COMMANDS for it in split(one.words)[0]]:
+    for names_, more in list(OPTIONS) + [it for one in COMMANDS for it in split(one.words)[0]]:
         if kind_of(more) != "-":
             for name in names_:
                 values.setdefault(name, kind_of(more))
@@ -283,23 +278,23 @@ def zsh_word(names: Sequence[str], more: Dict[str, Any], place: int) -> str:
     return " ".join(f"'{times}{name}[{does}]{value}'" for name in names)
 
 
-def zsh(ctl: Any) -> str:
+def zsh() -> str:
     lines = ["#compdef deskctl", "# Completions of deskctl(1) for zsh, written by client/pages.py."]
     lines += ["local context state line", "local -a commands options", "commands=("]
-    lines += [f"    '{one.name}:{quoted(one.does)}'" for one in ctl.COMMANDS] + [")", "options=("]
-    lines += [f"    {zsh_word(names, more, 0)}" for names, more in ctl.OPTIONS] + ["    '--help[show help]'", ")"]
+    lines += [f"    '{one.name}:{quoted(one.does)}'" for one in COMMANDS] + [")", "options=("]
+    lines += [f"    {zsh_word(names, more, 0)}" for names, more in OPTIONS] + ["    '--help[show help]'", ")"]
     lines += ["_arguments -C $options '1:command:->command' '*::word:->word' && return", "case $state in"]
     lines += ["    command) _describe command commands ;;", "    word)", "        case $words[1] in"]
-    for one in ctl.COMMANDS:
+    for one in COMMANDS:
         options, places = split(one.words)
         words = [zsh_word(names, more, 0) for names, more in options] + [zsh_word(names, more, at) for at, (names, more) in enumerate(places, 1)]
         lines.append(f"            {one.name}) _arguments $options {' '.join(words)} ;;")
     return "\n".join(lines + ["        esac", "        ;;", "esac"]) + "\n"
 
 
-def fish(ctl: Any) -> str:
+def fish() -> str:
     lines = ["# Completions of deskctl(1) for fish, written by client/pages.py.", "complete -c deskctl -f"]
-    for one in ctl.COMMANDS:
+    for one in COMMANDS:
         lines.append(f"complete -c deskctl -n __fish_use_subcommand -a {one.name} -d '{fish_text(one.does)}'")
         options, places = split(one.words)
         lines += [fish_option(names, more, one.name) for names, more in options]
@@ -308,7 +303,7 @@ def fish(ctl: Any) -> str:
                 lines.append(f"complete -c deskctl -n '__fish_seen_subcommand_from {one.name}' -F")
             elif kind:
                 lines.append(f"complete -c deskctl -n '__fish_seen_subcommand_from {one.name}' -a '{kind}'")
-    return "\n".join(lines + [fish_option(names, more, "") for names, more in ctl.OPTIONS]) + "\n"
+    return "\n".join(lines + [fish_option(names, more, "") for names, more in OPTIONS]) + "\n"
 
 
 def fish_text(text: str) -> str:
@@ -324,8 +319,7 @@ def fish_option(names: Sequence[str], more: Dict[str, Any], command: str) -> str
 
 
 def main() -> None:
-    ctl = deskctl()
-    for name, text in (("deskctl.1", page(ctl)), ("deskctl.bash", bash(ctl)), ("_deskctl", zsh(ctl)), ("deskctl.fish", fish(ctl))):
+    for name, text in (("deskctl.1", page()), ("deskctl.bash", bash()), ("_deskctl", zsh()), ("deskctl.fish", fish())):
         with open(os.path.join(sys.argv[1], name), "w", encoding="utf-8") as out:
             out.write(text)
 

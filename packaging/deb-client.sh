@@ -1,8 +1,9 @@
 #!/bin/sh
-# Makes the package kovelamiru-deskctl_VERSION_all.deb of client/deskctl, in the working folder or the named one, and prints its
-# path: deb-client.sh [OUT]. deskctl goes in unchanged, with the page and the completions that client/pages.py writes. Its version
-# must be the newest in CHANGELOG.md. The same tree and SOURCE_DATE_EPOCH (by default the commit's date) give the same bytes. It needs
-# dpkg-deb, git, gzip and python3.
+# Makes the package kovelamiru-deskctl_VERSION_all.deb of client/, in the working folder or the named
+# one, and prints its path: deb-client.sh [OUT]. deskctl is one file there, which client/one_file.py
+# makes of its modules; the page and the completions are those of client/pages.py. Its version must be
+# the newest in CHANGELOG.md. The same tree and SOURCE_DATE_EPOCH (by default the commit's date) give
+# the same bytes. It needs dpkg-deb, git, gzip and python3.
 set -eu
 umask 022
 export LC_ALL=C TZ=UTC
@@ -18,7 +19,7 @@ for tool in dpkg-deb git gzip python3; do
     command -v "$tool" > /dev/null || fail "$tool is needed"
 done
 name=kovelamiru-deskctl
-version=$(sed -n 's/^VERSION = "\(.*\)"$/\1/p' "$root/client/deskctl")
+version=$(sed -n 's/^VERSION = "\(.*\)"$/\1/p' "$root/client/src/deskctl/__init__.py")
 newest=$(sed -n '/^## /{s/^## \([^ ,]*\).*/\1/p;q}' "$root/CHANGELOG.md")
 [ "$version" = "$newest" ] || fail "deskctl has version $version, and CHANGELOG.md $newest"
 commit=$(git -C "$root" describe --always --dirty --abbrev=40 --exclude='*')
@@ -38,7 +39,8 @@ packed() { gzip -9n "$1"; }
 
 # ---- the files
 
-place 755 "$root/client/deskctl" usr/bin/deskctl
+python3 -B "$root/client/one_file.py" "$room/one"
+place 755 "$room/one" usr/bin/deskctl
 python3 "$root/client/pages.py" "$room"
 packed "$room/deskctl.1"
 place 644 "$room/deskctl.1.gz" usr/share/man/man1/deskctl.1.gz
@@ -70,7 +72,7 @@ done
 } > "$room/copyright"
 place 644 "$room/copyright" "usr/share/doc/$name/copyright"
 printf 'Commit %s. SHA-256 of /usr/bin/deskctl: %s.\n\ndeskctl is not proved. README.md and deskctl(1) say how to use it.\n' \
-    "$commit" "$(sha256sum < "$root/client/deskctl" | cut -d' ' -f1)" > "$room/README.Debian"
+    "$commit" "$(sha256sum < "$room/one" | cut -d' ' -f1)" > "$room/README.Debian"
 place 644 "$room/README.Debian" "usr/share/doc/$name/README.Debian"
 
 # ---- the package

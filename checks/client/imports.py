@@ -144,27 +144,26 @@ def refused(part: Part) -> None:
     nobody.does("import", "c.esl", "--dry-run", out=["digests       1\n", "no desk is named"])
 
 
-def read_cut(ctl: Any, program: Program, data: bytes) -> Optional[int]:
+def read_cut(program: Program, data: bytes) -> Optional[int]:
     """How many entries a cut file has, read in this process; nothing where it is refused, in words."""
     try:
-        return ctl.revocations_of(program.file("cut", data), None).entries()
-    except ctl.Stop as stop:
-        if stop.status != ctl.WORDS or not str(stop):
+        return module("formats").revocations_of(program.file("cut", data), None).entries()
+    except module("faults").Stop as stop:
+        if stop.status != module("faults").WORDS or not str(stop):
             fail(f"a file that is cut: {stop!r}")
         return None
 
 
 def cuts(program: Program) -> int:
     """Each beginning of each kind's header: a fault in words, never another file's kind and never fewer entries."""
-    ctl = module()
     lists = digest_list([digest("c1"), digest("c2")])
     tried = 0
     for data, header in ((lists, 28), (update(lists), 40 + 90 + 28), (ATTRIBUTES + lists, 32), (ATTRIBUTES + update(lists), 4 + 40 + 90 + 28)):
-        if read_cut(ctl, program, data) != 2:
+        if read_cut(program, data) != 2:
             fail("a whole file isn't read whole")
         for length in range(len(data)):
             tried += 1
-            entries = read_cut(ctl, program, data[:length])
+            entries = read_cut(program, data[:length])
             # (attributes alone are a variable without lists; so is an update without them)
             if entries or (entries == 0 and length not in (4, 40 + 90, 4 + 40 + 90)):
                 fail(f"cut at {length} of {len(data)}, with a header of {header}, it has {entries} entries")
@@ -173,15 +172,14 @@ def cuts(program: Program) -> int:
 
 def text_cuts(program: Program) -> int:
     """The same of the texts: cut within its first line a file names nothing, and JSON is whole or it isn't read."""
-    ctl = module()
     tried = 0
     for data in (f"kind,value,generation\nsha256,{digest('c1')},\n".encode(), f"sbat,1,{TODAY}01\ngrub,3\n".encode(), TABLE, PUBLISHED):
-        if not read_cut(ctl, program, data):
+        if not read_cut(program, data):
             fail("a whole file isn't read")
         whole = data.startswith(b"{")
         for length in range(len(data) if whole else data.index(b"\n") + 1):
             tried += 1
-            entries = read_cut(ctl, program, data[:length])
+            entries = read_cut(program, data[:length])
             if entries or (whole and entries is not None):
                 fail(f"cut at {length} of {len(data)} it has {entries} entries")
     return tried
@@ -189,17 +187,17 @@ def text_cuts(program: Program) -> int:
 
 def certificate_cuts(program: Program) -> int:
     """Each beginning of a certificate is a fault in words."""
-    ctl = module()
+    reader, faults = module("certificates"), module("faults")
     whole = self_signed(program.room.name, "c", "/CN=x")
-    if ctl.certificate_of(program.at("c.der")).subject != "CN=x":
+    if reader.certificate_of(program.at("c.der")).subject != "CN=x":
         fail("a certificate's subject")
     for length in range(len(whole)):
         program.file("cut", whole[:length])
         try:
-            ctl.certificate_of(program.at("cut"))
+            reader.certificate_of(program.at("cut"))
             fail(f"a certificate that is cut at {length} is one")
-        except ctl.Stop as stop:
-            if stop.status != ctl.WORDS:
+        except faults.Stop as stop:
+            if stop.status != faults.WORDS:
                 fail(f"{stop!r}")
     return len(whole)
 
@@ -238,7 +236,7 @@ def by_efitools(part: Part) -> None:
         lists = file.read() + digest_list([digest("e1")])
     program.file("tools.esl", lists)
     made("sign-efi-sig-list", "-t", "2026-11-27 10:11:12", "-k", "kek.key", "-c", "kek.pem", "dbx", "tools.esl", "tools.auth", cwd=room)
-    tbs = module().certificate_of(program.at("kek.der")).tbs
+    tbs = module("certificates").certificate_of(program.at("kek.der")).tbs
     with open(program.at("tools.auth"), "rb") as file:
         signed = file.read()
     takes(part, "tools.auth", signed, f"import 0 0 {digest('e1')} {tbs} -", "an authenticated update", "of 2026-11-27",

@@ -6,6 +6,7 @@ import io
 import signal
 import threading
 import time
+from dataclasses import replace
 from typing import Callable, Dict, List, Tuple
 
 from commands import TODAY, files
@@ -124,22 +125,22 @@ def each_length(program: Program) -> int:
     """An answer that is cut after each of its bytes, a request after each of its: asked again with the same key, it acts once.
 
     In this process, by deskctl's own way of asking, since these are some hundred tries."""
-    ctl = module()
-    ctl.FIRST_PAUSE = 0.0
+    api, journal = module("api"), module("journal")
+    api.FIRST_PAUSE = 0.0
     with Part(program, "lengths") as part:
         between = Between(part.server.port)
         olga = part.people["olga"]
-        terminal = ctl.Terminal(io.StringIO(), io.StringIO())
+        terminal = module("terminal").Terminal(io.StringIO(), io.StringIO())
         terminal.quiet = True
-        desk = ctl.Desk(ctl.Settings(between.url, olga.token_file, None, None, None, None, None, False, 1), terminal)
-        call = ctl.Call("POST", "/db/digests", said({"digest": digest("00")}), (), "listed")
+        desk = api.Desk(module("settings").Settings(between.url, olga.token_file, None, None, None, None, None, False, 1), terminal)
+        call = api.Call("POST", "/db/digests", said({"digest": digest("00")}), (), "listed")
         tried = 0
 
         def lost(rule: Rule) -> None:
             nonlocal tried
             body = said({"digest": f"{tried:064x}"})
             between.loses = [rule]
-            if ctl.replied(desk.ask(ctl.replace(call, body=body).with_key(ctl.new_key())), call) != {"reply": "listed"} or between.loses:
+            if journal.replied(desk.ask(replace(call, body=body).with_key(journal.new_key())), call) != {"reply": "listed"} or between.loses:
                 fail(f"cut at each length: try {tried}")
             tried += 1
 

@@ -313,8 +313,9 @@ def in_words() -> None:
     """deskctl has words for each refusal of docs/REFUSALS.md, and for no other number."""
     with open(os.path.join(ROOT, "docs", "REFUSALS.md"), encoding="utf-8") as page:
         numbers = {int(it) for it in re.findall(r"(?m)^\| (\d+) \|", page.read())}
-    if set(module().WHY) != numbers:
-        fail(f"the refusals of deskctl and of docs/REFUSALS.md differ: {sorted(set(module().WHY) ^ numbers)}")
+    words = set(module("words").WHY)
+    if words != numbers:
+        fail(f"the refusals of deskctl and of docs/REFUSALS.md differ: {sorted(words ^ numbers)}")
 
 
 def confirming(part: Part) -> None:

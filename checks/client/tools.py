@@ -4,8 +4,7 @@ The desk's program, its images and its people are those of ../requests/desk.py."
 from __future__ import annotations
 
 import atexit
-import importlib.machinery
-import importlib.util
+import importlib
 import json
 import os
 import pty
@@ -17,6 +16,7 @@ import sys
 import tempfile
 import threading
 import time
+import zipfile
 from typing import Any, Callable, Dict, List, Optional, Sequence, Tuple
 
 ROOT = os.path.dirname(os.path.dirname(os.path.dirname(os.path.realpath(__file__))))
@@ -29,26 +29,33 @@ DESKCTL = os.environ.get("DESKCTL") or os.path.join(ROOT, "client", "deskctl")
 COMMAND = [DESKCTL]
 
 
+def modules() -> str:
+    """Where deskctl's package is: in the one file of a package, or beside the checkout's."""
+    return DESKCTL if zipfile.is_zipfile(DESKCTL) else os.path.join(os.path.dirname(os.path.realpath(DESKCTL)), "src")
+
+
 def by_bytecode() -> None:
     """From here on deskctl is run from its bytecode, by the Python that its first line names: so many short runs spend their time otherwise
     than on compiling it."""
-    with open(DESKCTL, encoding="utf-8") as file:
-        python = file.readline()[2:].split()
+    with open(DESKCTL, "rb") as file:
+        python = file.readline()[2:].decode().split()
     folder = tempfile.mkdtemp(prefix="deskctl-")
     atexit.register(shutil.rmtree, folder, ignore_errors=True)
-    path = os.path.join(folder, "deskctl.pyc")
-    made(*python, "-c", "import py_compile, sys; py_compile.compile(sys.argv[1], sys.argv[2], doraise=True)", DESKCTL, path)
+    path = os.path.join(folder, "src")
+    if zipfile.is_zipfile(DESKCTL):
+        shutil.unpack_archive(DESKCTL, path, "zip")
+    else:
+        shutil.copytree(modules(), path)
+    made(*python, "-m", "compileall", "-q", path)
     COMMAND[:] = [*python, path]
 
 
-def module() -> Any:
-    """deskctl as a module, for what no process is needed for."""
+def module(name: str) -> Any:
+    """A module of deskctl, for what no process is needed for."""
     sys.dont_write_bytecode = True
-    loader = importlib.machinery.SourceFileLoader("deskctl", DESKCTL)
-    found = importlib.util.module_from_spec(importlib.util.spec_from_loader("deskctl", loader))  # type: ignore[arg-type]
-    sys.modules["deskctl"] = found
-    loader.exec_module(found)
-    return found
+    if modules() not in sys.path:
+        sys.path.insert(0, modules())
+    return importlib.import_module(f"deskctl.{name}")
 
 
 class Person:

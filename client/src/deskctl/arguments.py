@@ -1,0 +1,152 @@
+"""Arguments: how each is read, the options of all commands, exit statuses in words."""
+from __future__ import annotations
+
+import argparse
+import re
+from dataclasses import dataclass
+from typing import Any, Callable, Dict, Optional, Tuple
+
+from .api import RETRIES
+from .faults import DONE, LOST, NOT_ALLOWED, REFUSED, WORDS
+from .journal import Run
+from .words import printable
+
+
+def number_word(text: str) -> int:
+    if not re.fullmatch(r"[1-9][0-9]{0,5}", text):
+        raise argparse.ArgumentTypeError(f"{printable(text)} is no number of 1 to 999999")
+    return int(text)
+
+
+def stamp_word(text: str) -> int:
+    if re.fullmatch(r"[1-9][0-9]{9}", text):
+        return int(text)
+    digits = re.sub(r"\D", "", text)
+    like = f": {digits}01?" if len(digits) == 8 else ""
+    raise argparse.ArgumentTypeError(
+        f"{printable(text)} is no stamp; a stamp is ten digits, YYYYMMDDNN{like}"
+    )
+
+
+def generation_word(text: str) -> int:
+    if not re.fullmatch(r"[0-9]{1,10}", text) or not 1 <= int(text) <= 4_294_967_295:
+        raise argparse.ArgumentTypeError(f"{printable(text)} is no generation of 1 to 4294967295")
+    return int(text)
+
+
+def component_word(text: str) -> str:
+    if not re.fullmatch(r"[!-+\--~]{1,128}", text):
+        raise argparse.ArgumentTypeError(
+            f"{printable(text)} is no component's name: 1 to 128 ASCII characters, no space, no"
+            " comma"
+        )
+    return text
+
+
+def count_word(text: str) -> int:
+    if not re.fullmatch(r"[0-9]{1,7}", text):
+        raise argparse.ArgumentTypeError(f"{printable(text)} is no count")
+    return int(text)
+
+
+def seconds_word(text: str) -> float:
+    try:
+        found = float(text)
+    except ValueError:
+        found = -1
+    if not 0 <= found < 1e9:
+        raise argparse.ArgumentTypeError(f"{printable(text)} is no number of seconds")
+    return found
+
+
+Word = Tuple[Tuple[str, ...], Dict[str, Any]]
+
+
+def word(*names: str, **more: Any) -> Word:
+    return names, more
+
+
+@dataclass(frozen=True)
+class Command:
+    """A command: what it is called with, whose it is, and what its help says."""
+
+    name: str
+    group: str
+    usage: str
+    does: str
+    run: Callable[[Run], Optional[int]]
+    words: Tuple[Word, ...] = ()
+    who: str = ""
+    more: str = ""
+    example: str = ""
+
+
+OPTIONS: Tuple[Word, ...] = (
+    word("--url", metavar="URL", help="the desk: https://HOST or http://127.0.0.1:PORT (DESK_URL)"),
+    word(
+        "--token-file",
+        metavar="FILE",
+        help="your token, in a file that nobody else can read (DESK_TOKEN_FILE)",
+    ),
+    word(
+        "--ca",
+        metavar="FILE",
+        help="trust the certificates of this file, not the system's (DESK_CA)",
+    ),
+    word("--cert", metavar="FILE", help="a client certificate, in PEM (DESK_CERT)"),
+    word("--key", metavar="FILE", help="its key, if it is apart (DESK_CERT_KEY)"),
+    word("--name", metavar="NAME", help="your name at the desk, for --mine (DESK_NAME)"),
+    word(
+        "--program",
+        metavar="FILE",
+        help="the program desk, for the digests of images (DESK_PROGRAM)",
+    ),
+    word("--json", action="store_true", help="print the desk's own JSON"),
+    word("--yes", action="store_true", help="ask nothing: it is what you mean"),
+    word(
+        "--retries",
+        metavar="COUNT",
+        type=count_word,
+        help=f"ask again so many times where no answer came (default {RETRIES})",
+    ),
+    word(
+        "--new-key",
+        action="store_true",
+        help="forget the key of an earlier run without an answer: this is a new command",
+    ),
+    word(
+        "--insecure-http",
+        action="store_true",
+        help="send the token without TLS to a desk elsewhere",
+    ),
+    word(
+        "--quiet", action="store_true", help="no notes on standard error, only faults and questions"
+    ),
+)
+DEFAULTS = {
+    "json": False,
+    "yes": False,
+    "retries": RETRIES,
+    "new_key": False,
+    "insecure_http": False,
+    "quiet": False,
+}
+STATUSES: Tuple[Tuple[int, str], ...] = (
+    (DONE, "done"),
+    (
+        REFUSED,
+        (
+            "refused by the desk; a request that won't get the state waited for; minutes that don't"
+            " go on"
+        ),
+    ),
+    (WORDS, "wrong words or files, or a question that wasn't answered: nothing was sent"),
+    (
+        LOST,
+        (
+            "no connection, or the answer was lost: run the same command again; a wait whose time"
+            " is over"
+        ),
+    ),
+    (NOT_ALLOWED, "a verdict that isn't allowed"),
+)

@@ -1,0 +1,86 @@
+"""Files: read whole within a limit, known by their first bytes, written whole."""
+from __future__ import annotations
+
+import os
+import tempfile
+from typing import Sequence, Tuple
+
+from .faults import LOST, Stop, reason, wrong
+from .siglists import KINDS
+
+
+# docs/FORMATS.md: the most bytes of an image, of another body, of a certificate; the most entries
+# of an import.
+IMAGE_LIMIT, BODY_LIMIT, CERTIFICATE_LIMIT, ENTRY_LIMIT = 134_217_728, 4_194_304, 65_536, 10_000
+
+
+def read_file(path: str, limit: int, what: str) -> bytes:
+    """A file whole."""
+    try:
+        with open(path, "rb") as file:
+            data = file.read(limit + 1)
+            size = max(len(data), os.fstat(file.fileno()).st_size)
+    except OSError as error:
+        wrong(f"{path}: {reason(error)}")
+    if len(data) > limit:
+        wrong(f"{path} has {size:,} bytes, and {what} at most {limit:,}")
+    return data
+
+
+LOOKS: Sequence[Tuple[bytes, str]] = (
+    (b"\x1f\x8b", "compressed by gzip: unpack it first"),
+    (b"\xfd7zXZ", "compressed by xz: unpack it first"),
+    (b"\x28\xb5\x2f\xfd", "compressed by zstd: unpack it first"),
+    (b"PK\x03\x04", "a zip archive: unpack it first"),
+    (b"MSCF", "a cabinet archive: unpack it first"),
+    (b"!<arch>\n", "a Debian package or an archive: unpack it first"),
+    (b"\xed\xab\xee\xdb", "an RPM package: unpack it first"),
+    (b"\x7fELF", "an ELF program, no EFI image"),
+    (b"-----BEGIN CERTIFICATE", "a certificate in PEM"),
+    (b"-----BEGIN", "text in PEM"),
+    (b"MZ", "an image"),
+    (b"sbat,", "SBAT text"),
+    (b"kind,value,generation", "the desk's CSV"),
+    (b"{", "JSON"),
+    (b"[", "JSON"),
+    (b"0\x82", "DER"),
+)
+
+
+def looks_like(data: bytes) -> str:
+    """What a file seems to be, by its first bytes."""
+    if not data:
+        return "empty"
+    if data[:16] in KINDS:
+        return "signature lists"
+    return next(
+        (words for begin, words in LOOKS if data.startswith(begin)),
+        "no file of a kind that is known here",
+    )
+
+
+def fresh(path: str, data: bytes) -> None:
+    """A file whole, or as it was."""
+    path = os.path.realpath(path)
+    folder = os.path.dirname(path)
+    try:
+        if os.path.exists(path) and not os.path.isfile(path):
+            # A device, or a pipe: it stays what it is.
+            with open(path, "wb") as device:
+                device.write(data)
+            return
+        made, name = tempfile.mkstemp(prefix=".deskctl-", dir=folder)
+        try:
+            mask = os.umask(0)
+            os.umask(mask)
+            os.fchmod(made, 0o666 & ~mask)
+            with os.fdopen(made, "wb") as file:
+                file.write(data)
+                file.flush()
+                os.fsync(file.fileno())
+            os.replace(name, path)
+        except BaseException:
+            os.unlink(name)
+            raise
+    except OSError as error:
+        raise Stop(LOST, f"{path}: {reason(error)}") from None

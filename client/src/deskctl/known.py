@@ -1,0 +1,235 @@
+"""What the desk knows: its answers by their keys, and what makes an entry or a level doubtful."""
+from __future__ import annotations
+
+import datetime
+import hashlib
+from collections import Counter
+from dataclasses import dataclass, field, fields
+from typing import Any, Dict, List, Optional, Sequence, Set, Tuple, Type, TypeVar
+
+from .api import not_a_desk
+from .certificates import certificate_read
+from .faults import Lost
+from .formats import level_read
+from .journal import Run, now
+from .siglists import BadList, SignatureList, read_lists
+from .words import printable
+
+
+T = TypeVar("T")
+
+
+@dataclass(frozen=True)
+class Request:
+    """A request, as docs/FORMATS.md has it."""
+
+    number: int
+    state: str
+    submitter: str
+    title: str
+    length: int
+    file: str
+    digest: str
+    signing: str
+    gap: int
+    carried: List[str]
+    components: List[List[Any]]
+    returned: Optional[str]
+    votes: List[Dict[str, str]]
+
+
+@dataclass(frozen=True)
+class Counts:
+    """A proposal in the list of them: how many entries of each kind it names."""
+
+    number: int
+    state: str
+    officer: str
+    digests: int
+    certificates: int
+    components: int
+
+
+@dataclass(frozen=True)
+class Proposal:
+    """A proposal with all that it names."""
+
+    number: int
+    state: str
+    officer: str
+    kind: str
+    digests: List[str]
+    certificates: List[str]
+    components: List[List[Any]]
+    stamp: Optional[int]
+    passed: int
+
+
+@dataclass(frozen=True)
+class Impact:
+    """What a Confirm would put into force, and which known images it would bar."""
+
+    proposal: int
+    adds: Dict[str, int]
+    bars: List[Dict[str, Any]]
+    dbx: int
+
+
+def shaped(form: Type[T], value: Any) -> T:
+    """An answer's object by its keys."""
+    try:
+        return form(**{one.name: value[one.name] for one in fields(form)})  # type: ignore[arg-type]
+    except (KeyError, TypeError):
+        raise Lost(
+            "the answer isn't a desk's: its JSON has another form",
+            True,
+            "Look at the URL: is the desk there?",
+        ) from None
+
+
+def said_number(reply: Dict[str, Any], name: str) -> int:
+    found = reply.get(name)
+    if not isinstance(found, int):
+        raise Lost(f"the answer isn't a desk's: it names no {name}", True)
+    return found
+
+
+def titled(request: Request) -> str:
+    return f"request {request.number} ({printable(request.state)}, {printable(request.title)})"
+
+
+@dataclass
+class Known:
+    """What is known of some digests and certificates: what they are, and what makes them
+    doubtful."""
+
+    digests: Set[str]
+    certificates: Set[str]
+    doubts: List[str] = field(default_factory=list)
+    about: Dict[str, str] = field(default_factory=dict)
+    told: Counter = field(default_factory=Counter)
+
+    def tell(self, digest: str, text: str) -> None:
+        """Adds what is known of a digest or a certificate; of many facts the first three."""
+        self.told[digest] += 1
+        if self.told[digest] <= 4:
+            self.about[digest] = "; ".join(
+                filter(None, [self.about.get(digest), text if self.told[digest] < 4 else ".."])
+            )
+
+    def request(self, one: Request) -> None:
+        for whole, which in ((one.file, "file"), (one.returned, "returned file")):
+            if whole in self.digests or whole in self.certificates:
+                self.doubts.append(
+                    f"{whole} is the SHA-256 of the whole {which} of {titled(one)}, as sha256sum"
+                    f" gives it. It bars nothing: the image's digest is {one.digest}."
+                )
+        for digest in {one.digest, one.signing}:
+            if digest in self.digests:
+                self.tell(digest, titled(one))
+            if digest in self.certificates:
+                self.doubts.append(
+                    f"{digest} is the digest of the image of {titled(one)}, and no certificate."
+                )
+        for certificate in one.carried:
+            if certificate in self.digests:
+                self.doubts.append(
+                    f"{certificate} is a certificate, which the image of {titled(one)} carries, and"
+                    " no image's digest."
+                )
+            if certificate in self.certificates:
+                self.tell(certificate, f"carried by {titled(one)}")
+
+    def entry(self, name: str, body: bytes, where: str) -> None:
+        """An entry of the desk's own lists."""
+        if name == "x509":
+            fingerprint, found = hashlib.sha256(body).hexdigest(), None
+            try:
+                found = certificate_read(body)
+            except ValueError:
+                pass
+            if found and (fingerprint in self.digests or fingerprint in self.certificates):
+                self.doubts.append(
+                    f"{fingerprint} is the fingerprint of the listed certificate {found.subject}."
+                    f" It bars nothing: the SHA-256 of its TBSCertificate is {found.tbs}."
+                )
+            if found and found.tbs in self.digests:
+                self.doubts.append(
+                    f"{found.tbs} is the listed certificate {found.subject}, and no image's digest."
+                )
+            if found and found.tbs in self.certificates:
+                self.about[found.tbs] = "; ".join(
+                    filter(None, [f"listed: {found.subject}", self.about.get(found.tbs)])
+                )
+        elif name == "x509_sha256" and body[:32].hex() in self.digests:
+            self.doubts.append(
+                f"{body[:32].hex()} is a certificate in {where}, and no image's digest."
+            )
+        elif name == "sha256" and body.hex() in self.certificates:
+            self.doubts.append(f"{body.hex()} is an image's digest in {where}, and no certificate.")
+
+
+def lists_of(run: Run, path: str) -> List[SignatureList]:
+    answer = run.desk.get(path)
+    try:
+        return read_lists(answer.data())
+    except BadList:
+        raise not_a_desk(answer) from None
+
+
+def known(run: Run, digests: Sequence[str], certificates: Sequence[str]) -> Known:
+    """Looks for them among the desk's requests and lists."""
+    found = Known(set(digests), set(certificates))
+    if found.digests or found.certificates:
+        for value in run.desk.items("/requests"):
+            found.request(shaped(Request, value))
+        for path in ("/db", "/dbx"):
+            for one in lists_of(run, path):
+                for entry in one.entries:
+                    found.entry(one.name, entry[16:], path[1:])
+    found.doubts = list(dict.fromkeys(found.doubts))
+    return found
+
+
+def level_of(run: Run) -> Tuple[int, Dict[str, int]]:
+    return level_read(run.desk.get("/level").data().decode("utf-8", "replace"))
+
+
+def stamp_doubt(stamp: int) -> Optional[str]:
+    """Whether a stamp is a day of the last or of the next year, with two digits behind it."""
+    text = str(stamp)
+    try:
+        day = datetime.datetime.strptime(text[:8], "%Y%m%d").date()
+    except ValueError:
+        return (
+            f"the stamp {text} doesn't begin with a date. Stamps only rise, and nothing takes one"
+            " back."
+        )
+    days = (day - now().date()).days
+    if abs(days) > 366:
+        return (
+            f"the stamp {text} is of {day}, more than a year {'ahead' if days > 0 else 'ago'}."
+            " Stamps only rise, and nothing takes one back."
+        )
+    return None
+
+
+def level_doubts(
+    components: Sequence[Sequence[Any]], stamp: Optional[int], current: Dict[str, int]
+) -> List[str]:
+    """Generations and stamps that look like a slip of the hand."""
+    found = []
+    for name, generation in components:
+        present = current.get(name, 0)
+        if generation > 65_535:
+            found.append(
+                f"{printable(name)} {generation}: shim compares 16 bits, so no generation above"
+                " 65,535 has a meaning."
+            )
+        elif generation >= present + 10:
+            found.append(
+                f"{printable(name)} rises from {present or 'none'} to {generation}: every image"
+                " with a lower one is barred for good."
+            )
+    doubt = stamp_doubt(stamp) if stamp and components else None
+    return found + ([doubt] if doubt else [])
