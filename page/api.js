@@ -1,21 +1,30 @@
 // Requests to the desk, and what came of each. The token lives in this module's memory alone: it is
-// in no storage, no cookie and no address, and a reload forgets it.
+// in no storage, no cookie and no address, and a reload forgets it. What was asked with a token ends
+// with it: nothing of it reaches the next person.
 
 /**
- * What came: a value of the desk, its refusal, no answer of the desk (`lost`: whether a command was
- * accepted is open), or a stop by the person, `sent` if all bytes had gone out by then.
+ * What came: a value of the desk, its refusal or its proxy's, no answer of the desk (`lost`: whether a
+ * command was accepted is open), or a stop by the person, `sent` if all bytes had gone out by then.
  * @typedef {{ kind: 'value', value: any }
- *   | { kind: 'refused', status: number, name: string, number: number, at?: number }
+ *   | { kind: 'refused', status: number, name: string, number: number, at?: number, byDesk: boolean }
  *   | { kind: 'lost', status: number, name?: string }
  *   | { kind: 'stopped', sent: boolean }} Answer
  */
 
 let token = '';
 
+/** Ends what is asked with this token. */
+let person = new AbortController();
+
 /** @param {string} text what Desk-Token has from now on; empty for none */
 export function setToken(text) {
     token = text;
+    person.abort();
+    person = new AbortController();
 }
+
+/** What a person hears who has signed out: no answer ever comes. @returns {Promise<any>} */
+const never = () => new Promise(() => {});
 
 /** Whether a text has the form of a token. @param {string} text */
 export function isToken(text) {
@@ -43,14 +52,31 @@ function refusal(status, text) {
     }
     const name = typeof body?.name === 'string' ? body.name : '';
     if (status === 0 || status === 429 || status >= 500 && status !== 501) return { kind: 'lost', status, name };
-    if (name !== '') return { kind: 'refused', status, name, number: Number(body.refused), at: body.at };
+    if (name !== '') return { kind: 'refused', status, name, number: Number(body.refused), at: body.at, byDesk: true };
     const byStatus = { 401: ['UnknownCaller', 20], 413: ['TooLarge', 56] }[status];
     return {
         kind: 'refused',
         status,
         name: byStatus ? byStatus[0] : `HTTP ${status}`,
         number: byStatus ? byStatus[1] : 0,
+        byDesk: false,
     };
+}
+
+/**
+ * Those that come before the desk has looked at the key: an unknown caller, and what may be wrong
+ * with one try's request alone.
+ */
+const BEFORE_KEYS = [20, 50, 51, 53, 54, 55, 56, 57];
+
+/**
+ * Whether an answer shows that no earlier try under the same key was taken: the desk answers a key
+ * that it has with the old reply.
+ * @param {Answer} answer
+ */
+export function settles(answer) {
+    if (answer.kind !== 'refused') return answer.kind === 'value';
+    return answer.byDesk && !BEFORE_KEYS.includes(answer.number);
 }
 
 /** @param {number} milliseconds @param {AbortSignal} [stop] ends it before its time */
@@ -71,11 +97,12 @@ export const PAUSES = [1000, 2000, 4000];
  * @returns {Promise<Answer>}
  */
 export async function get(path, as = 'json') {
-    let answer = await once(path, as);
+    const { signal } = person;
+    let answer = await once(path, as, signal);
     for (const wait of PAUSES) {
         if (answer.kind !== 'lost') return answer;
         await pause(wait);
-        answer = await once(path, as);
+        answer = await once(path, as, signal);
     }
     return answer;
 }
@@ -83,20 +110,22 @@ export async function get(path, as = 'json') {
 /**
  * @param {string} path
  * @param {'json' | 'text' | 'bytes'} as
+ * @param {AbortSignal} signal of the person who asks
  * @returns {Promise<Answer>}
  */
-async function once(path, as) {
+async function once(path, as, signal) {
+    if (signal.aborted) return never();
     try {
         const response = await fetch(
             path,
-            { headers: headers({}), cache: 'no-store', redirect: 'error', referrerPolicy: 'no-referrer' },
+            { headers: headers({}), cache: 'no-store', redirect: 'error', referrerPolicy: 'no-referrer', signal },
         );
         if (response.status !== 200) return refusal(response.status, await response.text());
         if (as === 'json') return { kind: 'value', value: await response.json() };
         if (as === 'text') return { kind: 'value', value: await response.text() };
         return { kind: 'value', value: new Uint8Array(await response.arrayBuffer()) };
     } catch {
-        return { kind: 'lost', status: 0 };
+        return signal.aborted ? never() : { kind: 'lost', status: 0 };
     }
 }
 
@@ -111,6 +140,7 @@ async function once(path, as) {
 export function post(path, fields, body, how = {}) {
     return new Promise((resolve) => {
         const request = new XMLHttpRequest();
+        const { signal } = person;
         let sent = false;
         request.open('POST', path);
         for (const [name, value] of Object.entries(headers(fields))) request.setRequestHeader(name, value);
@@ -120,8 +150,8 @@ export function post(path, fields, body, how = {}) {
             how.progress?.(1, 1);
         });
         const stop = () => request.abort();
-        how.stop?.addEventListener('abort', stop);
-        request.addEventListener('abort', () => resolve({ kind: 'stopped', sent }));
+        for (const one of [how.stop, signal]) one?.addEventListener('abort', stop);
+        request.addEventListener('abort', () => signal.aborted || resolve({ kind: 'stopped', sent }));
         request.addEventListener('error', () => resolve({ kind: 'lost', status: 0 }));
         request.addEventListener(
             'load',
@@ -129,7 +159,9 @@ export function post(path, fields, body, how = {}) {
                 request.status === 200 ? reply(request.responseText) : refusal(request.status, request.responseText),
             ),
         );
-        request.addEventListener('loadend', () => how.stop?.removeEventListener('abort', stop));
+        request.addEventListener('loadend', () => {
+            for (const one of [how.stop, signal]) one?.removeEventListener('abort', stop);
+        });
         request.send(body);
     });
 }

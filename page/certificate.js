@@ -1,21 +1,28 @@
 // A certificate, by its file or by the SHA-256 of its TBSCertificate.
 
-import { derOf, subjectOf, tbsOf } from './der.js';
-import { box, field, fill, h, p, strong } from './dom.js';
+import { box, field, fill, h, strong } from './dom.js';
 import { fileField, sha256 } from './files.js';
+import { certificateIn } from './pem.js';
+import { told } from './subject.js';
 import { digest, digestTyped } from './words.js';
 
 /** The longest certificate that the desk lists. */
 export const MOST_CERTIFICATE = 65536;
 
+/**
+ * A certificate from a file.
+ * @typedef {{ der: Uint8Array, name: string, subject: string, issuer: string, key: string, authority: boolean }} Certificate
+ * `name` is the SHA-256 of its TBSCertificate, '' where the browser hashes only over https
+ */
+
 /** Fields for one certificate: `digest` gives its name in dbx, or null while there is none. */
 export function certificateField() {
     const input = h('input', { type: 'text', class: 'mono', autocomplete: 'off', spellcheck: 'false' });
-    const { place, told } = certificateFile('Its file', (tbs) => (input.value = tbs));
+    const { place, said } = certificateFile('Its file', (it) => (input.value = it ? it.name : ''));
     return {
         parts: [
             place,
-            told,
+            said,
             field(
                 'Or the SHA-256 of its TBSCertificate',
                 input,
@@ -27,32 +34,37 @@ export function certificateField() {
 }
 
 /**
+ * What a certificate says of itself, in rows.
+ * @param {Certificate} it
+ */
+export function certificateFacts(it) {
+    const rows = [
+        ['Subject', strong(it.subject)],
+        ['Issuer', it.issuer === it.subject ? 'the same: it is self-issued' : it.issuer],
+        ['Key', it.key],
+        ['CA', it.authority ? strong('yes, it can issue others') : 'no'],
+        ['SHA-256', it.name ? digest(it.name, 'the SHA-256 of the TBSCertificate') : 'isn’t worked out: browsers do it over https alone'],
+    ];
+    return h('dl', { class: 'facts' }, rows.map(([name, value]) => h('div', {}, h('dt', {}, name), h('dd', {}, value))));
+}
+
+/**
  * A field for a certificate's file, DER or PEM.
  * @param {string} label
- * @param {(tbs: string, der: Uint8Array | null) => void} take the SHA-256 of its TBSCertificate, and its DER
+ * @param {(it: Certificate | null) => void} take
  */
 export function certificateFile(label, take) {
-    const told = h('div', { role: 'status' });
+    const said = h('div', { role: 'status' });
     const { place, input } = fileField(label, 'DER or PEM. Choose it, or drop it here.', async (chosen) => {
-        fill(told);
-        take('', null);
+        fill(said);
+        take(null);
         if (!chosen) return;
-        const der = derOf(chosen.bytes);
-        const tbs = der && tbsOf(der);
-        if (!der || !tbs) return fill(
-            told,
-            h('p', { class: 'fault' }, `${chosen.file.name} isn’t a certificate in DER or PEM.`),
-        );
-        const name = await sha256(tbs);
-        fill(
-            told,
-            box(
-                'note',
-                p('Subject: ', strong(subjectOf(tbs) || 'no common name')),
-                p('SHA-256 of its TBSCertificate: ', digest(name, 'the SHA-256 of the TBSCertificate')),
-            ),
-        );
-        return take(name, der);
+        const found = certificateIn(chosen.bytes);
+        if ('fault' in found) return fill(said, h('p', { class: 'fault' }, `${chosen.file.name}: ${found.fault}`));
+        const { tbs, ...of } = told(found.der);
+        const it = { der: found.der, name: await sha256(tbs), ...of };
+        fill(said, box('note', certificateFacts(it)));
+        return take(it);
     }, MOST_CERTIFICATE * 2);
-    return { place, told, input };
+    return { place, said, input };
 }

@@ -15,7 +15,7 @@
 /** shim compares generations as 16 bits. */
 const MOST_GENERATION = 65535;
 
-/** How far above the present one a generation is usual. */
+/** From how far above the present one a generation is unusual. */
 const FAR = 10;
 
 const NO_DIGEST = ', not the image’s digest. db and dbx name images by their digests, so it would do nothing.';
@@ -122,7 +122,7 @@ export function generationDoubts(name, generation, { now, names }) {
     if (generation > MOST_GENERATION) doubts.push({
         text: `shim compares generations as 16 bits, so ${generation} isn’t what it compares with. Nothing lowers it again.`,
     });
-    else if (generation > (present ?? 0) + FAR) doubts.push({
+    else if (generation >= (present ?? 0) + FAR) doubts.push({
         text: `${generation} is far above the present generation of ${name}, ${present ?? 'none'}. Nothing lowers it again.`,
     });
     if (!names.has(name)) doubts.push({

@@ -1,9 +1,10 @@
 // A command acts once. Its key is made with it and is sent with each try; it is kept until an answer
-// of the desk came. A lost answer is asked for again with the same key: by itself three times, then
-// by a button. A command that was given up without an answer leaves its key to the next one that says
-// the same.
+// came that tells what the desk did. A lost answer is asked for again with the same key: by itself
+// three times, then by a button. Behind a lost answer a refusal by the proxy tells nothing, so it
+// counts as lost too. A command that was given up without an answer leaves its key to the next one
+// that says the same.
 
-import { PAUSES, pause, post } from './api.js';
+import { PAUSES, pause, post, settles } from './api.js';
 
 /** @returns {string} 128 random bits in hexadecimal digits */
 export function newKey() {
@@ -31,6 +32,7 @@ let turn = 0;
 export function forgetKeys() {
     turn += 1;
     for (const command of unanswered) command.forget();
+    unanswered.clear();
     left.clear();
 }
 
@@ -53,7 +55,10 @@ export class Command {
         this.path = path;
         this.body = body;
         this.fields = fields;
-        this.key = [...left].find((other) => same(this, other))?.key ?? newKey();
+        const before = [...left].find((other) => same(this, other))?.key;
+        this.key = before ?? newKey();
+        /** Whether a try under its key may have been taken, though no answer said so. */
+        this.open = before !== undefined;
         this.turn = turn;
         /** `idle`, `sending`, `again` while it asks by itself, `lost` while it waits for the button */
         this.state = 'idle';
@@ -86,8 +91,6 @@ export class Command {
             this.becomes('lost', show);
             const again = await new Promise((resolve) => (this.release = resolve));
             answer = again ? await this.tries(show, how) : STOPPED;
-            // What was lost before may have been accepted, however far this try came.
-            if (answer.kind === 'stopped') answer = STOPPED;
         }
         return this.ends(answer, show);
     }
@@ -108,14 +111,24 @@ export class Command {
             await pause(wait, how.stop);
             if (how.stop?.aborted || this.isGone()) return STOPPED;
             answer = await this.send(how);
-            if (answer.kind === 'stopped') return STOPPED;
         }
         return answer;
     }
 
-    /** @param {{ progress?: (sent: number, whole: number) => void, stop?: AbortSignal }} how */
-    send(how) {
-        return post(this.path, { ...this.fields, 'Desk-Key': this.key }, this.body, how);
+    /**
+     * One try. Behind one that may have been taken, what doesn't settle that is no answer, however far
+     * this one came.
+     * @param {{ progress?: (sent: number, whole: number) => void, stop?: AbortSignal }} how
+     * @returns {Promise<Answer>}
+     */
+    async send(how) {
+        const answer = await post(this.path, { ...this.fields, 'Desk-Key': this.key }, this.body, how);
+        if (answer.kind === 'refused' && this.open && !settles(answer)) {
+            return { kind: 'lost', status: answer.status, name: answer.name };
+        }
+        if (answer.kind === 'stopped' && this.open) return STOPPED;
+        if (answer.kind === 'lost') this.open = true;
+        return answer;
     }
 
     /** @param {Answer} answer @param {(command: Command) => void} show */

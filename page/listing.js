@@ -2,11 +2,11 @@
 
 import { act, refusalBox } from './act.js';
 import { known, settled } from './asking.js';
-import { certificateFile } from './certificate.js';
-import { answers, box, buttons, field, fill, h, strong } from './dom.js';
+import { certificateFacts, certificateFile } from './certificate.js';
+import { answers, box, buttons, field, fill, h, p, strong, sure } from './dom.js';
 import { digestDoubts } from './doubts.js';
 import { Command, jsonCommand } from './keys.js';
-import { changed } from './standing.js';
+import { changed, standing } from './standing.js';
 import { digestTyped } from './words.js';
 
 /** @param {(said: any) => void} again shows the lists anew */
@@ -22,16 +22,36 @@ export function listing(again) {
 function certificateForm(done) {
     const said = answers();
     const fault = h('p', { class: 'fault', role: 'status' });
-    /** @type {Uint8Array | null} */
-    let der = null;
-    const file = certificateFile('Certificate', (_tbs, bytes) => (der = bytes));
+    /** @type {import('./certificate.js').Certificate | null} */
+    let chosen = null;
+    const file = certificateFile('Certificate', (it) => (chosen = it));
     const go = h('button', { type: 'submit', class: 'main' }, 'List this certificate');
     return h('form', { class: 'act', novalidate: true, onsubmit: async (/** @type {Event} */ event) => {
         event.preventDefault();
-        fault.textContent = der ? '' : 'Choose a certificate’s file.';
-        if (!der) return file.input.focus();
-        return done(await act(new Command('List a certificate', '/db/certificates', der), said, { off: [go] }));
-    } }, file.place, file.told, fault, buttons(go), said);
+        fault.textContent = chosen ? '' : 'Choose a certificate’s file.';
+        if (!chosen) return file.input.focus();
+        const it = chosen;
+        const now = await standing();
+        if (now.kind !== 'value') return fill(said, refusalBox(now));
+        if (!(await meant(it, now.value.revoked.certificates.has(it.name)))) return undefined;
+        return done(await act(new Command('List a certificate', '/db/certificates', it.der), said, { off: [go] }));
+    } }, file.place, file.said, fault, buttons(go), said);
+}
+
+/** Asks before a certificate is listed. @param {import('./certificate.js').Certificate} it @param {boolean} revoked */
+function meant(it, revoked) {
+    return sure(
+        'List this certificate?',
+        [
+            certificateFacts(it),
+            revoked ? box('care', p(strong('It is revoked. '), 'Images that carry it stay barred, listed or not.')) : null,
+            it.authority
+                ? box('care', p(strong('It is a CA’s. '), 'In db it lets firmware start whatever any certificate under it signed.'))
+                : null,
+            p('Each image that carries it is then allowed, unless something bars it. No other officer confirms it.'),
+        ],
+        'List it',
+    );
 }
 
 /** @param {(reply: any) => void} done */

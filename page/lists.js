@@ -49,8 +49,8 @@ function downloads(now) {
             one('/level', 'level.csv', 'Download the level'),
         ),
         quiet(
-            'dbx and db are EFI signature lists without a signature: sign them before you publish them. ',
-            'A file without an entry has no bytes.',
+            'dbx and db are EFI signature lists without a signature, to look at and to compare. ',
+            'What mirrors and machines get is made by desk-publish. A file without an entry has no bytes.',
         ),
         said,
     );

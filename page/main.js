@@ -15,6 +15,7 @@ import { submitView } from './send.js';
 import { me, role, signIn, signOut, tokenFault } from './session.js';
 import { changed } from './standing.js';
 import { verdictView } from './verdict.js';
+import { isNumber } from './words.js';
 
 /** @param {string} id @returns {any} */
 const part = (id) => document.getElementById(id);
@@ -29,9 +30,6 @@ const VIEWS = [
     ['check', 'Check an image', () => true],
     ['report', 'Report', () => me.officer],
 ];
-
-/** Whether a word is the number of a request or a proposal. @param {string | undefined} word */
-const isNumber = (word) => /^[1-9][0-9]{0,5}$/.test(word ?? '');
 
 /** @type {Record<string, (place: HTMLElement, words: string[]) => any>} */
 const SHOWS = {
@@ -104,14 +102,22 @@ async function leave() {
         'Sign out',
         'Stay',
     ))) return;
+    forget();
+    history.replaceState(null, '', location.pathname);
+    part('token').focus();
+}
+
+/** Signs out: nothing of the person is left on the page or in its memory. */
+function forget() {
     forgetKeys();
     signOut();
     changed();
-    history.replaceState(null, '', location.pathname);
     document.title = 'Kovelamiru';
-    fill(part('main'));
+    for (const open of document.querySelectorAll('dialog')) open.close();
+    for (const place of ['main', 'elsewhere', 'waiting', 'views', 'who', 'sign-in-answer']) fill(part(place));
+    part('token').value = '';
+    part('enter').disabled = false;
     show();
-    part('token').focus();
 }
 
 onChange(waiting);
@@ -122,6 +128,11 @@ addEventListener('hashchange', () => {
 });
 addEventListener('beforeunload', (event) => {
     if (unanswered.size > 0) event.preventDefault();
+});
+// Whoever comes back to a page that the browser kept signs in anew, and to no view of before.
+addEventListener('pagehide', forget);
+addEventListener('pageshow', (event) => {
+    if (event.persisted) history.replaceState(null, '', location.pathname);
 });
 // A file that misses its field must not replace the page.
 addEventListener('dragover', (event) => event.preventDefault());

@@ -1,7 +1,8 @@
 // What an officer proposes: images, a certificate, a generation. Before it goes out the page asks
 // back about what looks like a slip; the officer decides, and the desk judges.
 
-import { refusalBox } from './act.js';
+import { read, refusalBox } from './act.js';
+import { get } from './api.js';
 import { known, propose, settled } from './asking.js';
 import { answers, buttons, field, fill, formPart, h, heading, quiet } from './dom.js';
 import { certificateDoubts, digestDoubts, generationDoubts, stampDoubts, stampOf } from './doubts.js';
@@ -9,7 +10,7 @@ import { certificateField } from './certificate.js';
 import { importForm } from './importing.js';
 import { Command, jsonCommand } from './keys.js';
 import { standing } from './standing.js';
-import { counted, digestTyped } from './words.js';
+import { counted, digestTyped, isNumber } from './words.js';
 
 /** @typedef {import('./doubts.js').Doubt} Doubt */
 /** @typedef {import('./doubts.js').Known} Known */
@@ -38,11 +39,16 @@ function form(title, body, make) {
     return formPart(title, submit, [body, fault, buttons(go)], said);
 }
 
-/** @param {string[]} digests */
-function imagesForm(digests) {
+/** @param {string} [number] of the request whose image is meant */
+function imagesForm(number) {
     const input = h('textarea', { rows: 3, spellcheck: 'false', class: 'mono' });
-    input.value = digests.join('\n');
+    const meant = h('div', { role: 'status' });
+    if (isNumber(number)) read(meant, () => get(`/requests/${number}`), (it) => {
+        input.value ||= [...new Set([it.digest, it.signing])].join('\n');
+        meant.append(quiet(`For request ${it.number}: ${it.title}`));
+    });
     return form('Revoke images by their digests', [
+        meant,
         field(
             'Digests, one a line',
             input,
@@ -147,8 +153,8 @@ const FORMS = [
     ['import', 'An import'],
 ];
 
-/** @param {HTMLElement} place @param {string[]} words which form, and digests for it */
-export function proposeView(place, [which = 'image', ...digests]) {
+/** @param {HTMLElement} place @param {string[]} words which form, and the number of a request for it */
+export function proposeView(place, [which = 'image', number]) {
     heading(place, 'Propose');
     place.append(quiet('A proposal changes nothing until another officer confirms it. Once confirmed, nothing takes it back.'),
         h(
@@ -165,6 +171,6 @@ export function proposeView(place, [which = 'image', ...digests]) {
     if (which === 'certificate') place.append(certificateForm());
     else if (which === 'level') place.append(levelForm(h('p', { class: 'quiet', role: 'status' })));
     else if (which === 'import') place.append(importForm());
-    else place.append(imagesForm(digests.filter((it) => digestTyped(it))));
+    else place.append(imagesForm(number));
 }
 

@@ -123,6 +123,7 @@ export const REFUSALS = {
         'A line of minutes isn’t what the rules give there, or isn’t whole. The place is its number from 1.',
         'Fetch the minutes again, and compare them with other copies.',
     ],
+    Owner: ['The desk in the database has another owner than the one given.', ADMIN],
     BadHead: ['The head of an HTTP request is wrong, too long or cut short.', PAGE],
     BadField: [
         'A field of an HTTP request is wrong, or is given twice.',

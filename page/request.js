@@ -29,7 +29,6 @@ async function show(place, number, ...first) {
 /** @param {HTMLElement} place @param {Request} it */
 function whole(place, it) {
     if (me.submitter && !me.reviewer) me.name = it.submitter;
-    document.title = `${it.number}: ${it.title} · Kovelamiru`;
     const again = (/** @type {any} */ said) => show(place, it.number, said);
     const today = section('What the lists say today');
     const facts = h('div', {}, factsPart(it, null));
@@ -62,14 +61,13 @@ function actions(it, again) {
     if (it.state === 'open' && me.reviewer) parts.push(reviewForm(it, again));
     if (it.state === 'approved' && me.signer) parts.push(returnForm(it, again));
     if (me.officer) {
-        const both = it.digest === it.signing ? [it.digest] : [it.digest, it.signing];
         parts.push(
             section(
                 'For officers',
                 p(
-                    h('a', { href: `#/propose/image/${both.join('/')}` }, 'Propose to revoke this image'),
+                    h('a', { href: `#/propose/image/${it.number}` }, 'Propose to revoke this image'),
                     '. It is named by its digest',
-                    both.length > 1 ? 's, both the one of today and the one that a padded signature holds' : '',
+                    it.digest !== it.signing ? 's, both the one of today and the one that a padded signature holds' : '',
                     '; another officer has to confirm it.',
                 ),
             ),

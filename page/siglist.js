@@ -1,21 +1,44 @@
-// EFI signature lists, as UEFI 2.10 has them in 32.4.1: read for people to look at. What counts is
-// what the desk reads; this page decides nothing.
+// EFI signature lists, as UEFI 2.10 has them in 32.4.1: read for people to look at, and made again
+// without the entries that name no image. What counts is what the desk reads; this page decides
+// nothing.
 
 import { hex } from './words.js';
 
 /**
- * @typedef {{ kind: string, owner: string, body: Uint8Array }} Entry
- * kind: `sha256`, `x509`, `x509_sha256`, or the GUID of another type
+ * An entry, whole and in its parts.
+ * @typedef {{ kind: string, owner: string, body: Uint8Array, whole: Uint8Array }} Entry
+ * kind: a name of KINDS, or the GUID of another type
+ * @typedef {{ kind: string, head: Uint8Array, entries: Entry[] }} List
+ * head: all that stands before the entries
  */
 
+/** What lists are of, by their GUIDs. The desk keeps the first three. */
 const KINDS = {
     'c1c41626-504c-4092-aca9-41f936934328': 'sha256',
     'a5c059a1-94e4-4aa7-87b5-ab155c2bf072': 'x509',
     '3bd2a492-96c0-4079-b420-fcf98ef103ed': 'x509_sha256',
+    '826ca512-cf10-4ac9-b187-be01496631bd': 'sha1',
+    '0b6e5233-a65c-44c9-9407-d9ab83bfc8bd': 'sha224',
+    'ff3e5307-9fd0-48c9-85f1-8ad56c701e01': 'sha384',
+    '093e0fae-a6c4-4f50-9f1b-d41e2b89c19a': 'sha512',
+    '3c5766e8-269c-4e34-aa14-ed776e85b3b6': 'rsa2048',
+    'e2b36190-879b-4a3d-ad8d-f2e7bba32784': 'rsa2048_sha256',
+    '7076876e-80c2-4ee6-aad2-28b349a6865b': 'x509_sha384',
+    '446dbf63-2502-4cda-bcfa-2465d2b0fe9d': 'x509_sha512',
+    '4aafd29d-68df-49ee-8aa9-347d375665a7': 'pkcs7',
 };
 
-/** EFI_CERT_TYPE_PKCS7_GUID, which an authenticated variable's certificate has. */
-const PKCS7 = '4aafd29d-68df-49ee-8aa9-347d375665a7';
+/** How long an entry of the desk's own kinds is: so long, or at least so long. */
+const SIZES = { sha256: [48, 48], x509: [17, Infinity], x509_sha256: [64, 64] };
+
+/**
+ * Versions of Windows' boot programs (SVN) stand in SHA-256 lists. They have the form of a digest and
+ * are no image's: their owner, or the GUID of the program that begins each, says so.
+ */
+const VERSIONS_OWNER = '9d132b6c-59d5-4388-ab1c-185cfcb2eb92';
+const VERSION = new RegExp(
+    '^01(?:612b139dd5598843ab1c185c3cb2eb92|9d2ef8e827e15841a4884c18abe2f284|c2ca99c9fe7f6f4981279e2a8a535976)[0-9a-f]{8}0{22}$',
+);
 
 /** @param {Uint8Array} bytes @param {number} at @returns {string} */
 export function guid(bytes, at) {
@@ -25,58 +48,68 @@ export function guid(bytes, at) {
     return [part([3, 2, 1, 0]), part([5, 4]), part([7, 6]), part([8, 9]), part([10, 11, 12, 13, 14, 15])].join('-');
 }
 
-/**
- * The entries of signature lists, in order, or where there is no list.
- * @param {Uint8Array} bytes
- * @returns {{ entries: Entry[] } | { wrongAt: number }}
- */
-export function entriesOf(bytes) {
-    const numbers = new DataView(bytes.buffer, bytes.byteOffset, bytes.byteLength);
-    /** @type {Entry[]} */
-    const entries = [];
-    for (let at = 0; at < bytes.length;) {
-        if (bytes.length - at < 28) return { wrongAt: at };
-        const [list, header, one] = [16, 20, 24].map((place) => numbers.getUint32(at + place, true));
-        if (list < 28 + header || at + list > bytes.length || one < 16 || (list - 28 - header) % one !== 0) {
-            return { wrongAt: at };
-        }
-        const type = guid(bytes, at);
-        const kind = KINDS[type] ?? type;
-        const needed = { sha256: 48, x509_sha256: 64 }[kind];
-        if (needed && one !== needed) return { wrongAt: at };
-        for (let entry = at + 28 + header; entry < at + list; entry += one) {
-            entries.push({ kind, owner: guid(bytes, entry), body: bytes.subarray(entry + 16, entry + one) });
-        }
-        at += list;
-    }
-    return { entries };
+/** Whether a list of a kind with a name begins here. @param {Uint8Array} bytes */
+export function beginsList(bytes) {
+    return bytes.length >= 16 && guid(bytes, 0) in KINDS;
 }
 
 /**
- * How many bytes stand before the signature lists: the header of an authenticated variable
- * (EFI_VARIABLE_AUTHENTICATION_2: EFI_TIME of 16 bytes, then a WIN_CERTIFICATE), or the four
- * attribute bytes of a file of efivarfs. `what` says which, '' if none.
+ * The signature lists that fill the bytes, in order, or where there is none.
  * @param {Uint8Array} bytes
+ * @returns {{ lists: List[] } | { wrongAt: number }}
  */
-export function before(bytes) {
-    if (bytes.length >= 40) {
-        const numbers = new DataView(bytes.buffer, bytes.byteOffset, bytes.byteLength);
-        const length = numbers.getUint32(16, true);
-        const isCertificate = numbers.getUint16(20, true) === 0x0200 && numbers.getUint16(22, true) === 0x0ef1;
-        if (isCertificate && guid(bytes, 24) === PKCS7 && length >= 24 && 16 + length <= bytes.length) {
-            const date = [
-                numbers.getUint16(0, true),
-                bytes[2],
-                bytes[3],
-            ].map((it) => String(it).padStart(2, '0')).join('-');
-            const what = `the header of an authenticated variable, of ${date}; nobody checks its signature here`;
-            return { bytes: 16 + length, what };
+export function listsOf(bytes) {
+    const numbers = new DataView(bytes.buffer, bytes.byteOffset, bytes.byteLength);
+    /** @type {List[]} */
+    const lists = [];
+    for (let at = 0; at < bytes.length;) {
+        if (bytes.length - at < 28) return { wrongAt: at };
+        const [total, header, size] = [16, 20, 24].map((place) => numbers.getUint32(at + place, true));
+        const room = total - 28 - header;
+        if (room < 0 || at + total > bytes.length || size < 16 || room % size !== 0) return { wrongAt: at };
+        const type = guid(bytes, at);
+        const kind = KINDS[type] ?? type;
+        const [least, most] = SIZES[kind] ?? [16, Infinity];
+        if (size < least || size > most || (kind in SIZES && header > 0)) return { wrongAt: at };
+        const begin = at + 28 + header;
+        const entries = [];
+        for (let entry = begin; entry < at + total; entry += size) {
+            const whole = bytes.subarray(entry, entry + size);
+            entries.push({ kind, owner: guid(whole, 0), body: whole.subarray(16), whole });
         }
+        lists.push({ kind, head: bytes.subarray(at, begin), entries });
+        at += total;
     }
-    if ('wrongAt' in entriesOf(bytes) && bytes.length > 4 && !('wrongAt' in entriesOf(bytes.subarray(4)))) {
-        return { bytes: 4, what: 'the four attribute bytes of a file of efivarfs' };
+    return { lists };
+}
+
+/** The entries of signature lists, in order; none where one of them isn't whole. @param {Uint8Array} bytes */
+export function entriesOf(bytes) {
+    const read = listsOf(bytes);
+    return 'lists' in read ? read.lists.flatMap((list) => list.entries) : [];
+}
+
+/** Lists with these entries of theirs alone; a list without one goes. @param {List[]} lists @param {(entry: Entry) => boolean} kept */
+export function listBytes(lists, kept) {
+    const parts = lists.flatMap(({ head, entries }) => {
+        const some = entries.filter(kept).map((entry) => entry.whole);
+        if (some.length === 0) return [];
+        const own = head.slice();
+        new DataView(own.buffer).setUint32(16, some.reduce((sum, one) => sum + one.length, own.length), true);
+        return [own, ...some];
+    });
+    const whole = new Uint8Array(parts.reduce((sum, one) => sum + one.length, 0));
+    let at = 0;
+    for (const one of parts) {
+        whole.set(one, at);
+        at += one.length;
     }
-    return { bytes: 0, what: '' };
+    return whole;
+}
+
+/** Whether an entry is the version of a boot program. @param {Entry} entry */
+export function isVersion(entry) {
+    return entry.kind === 'sha256' && (entry.owner === VERSIONS_OWNER || VERSION.test(digestIn(entry)));
 }
 
 /** The digest in an entry of kind sha256 or x509_sha256. @param {Entry} entry */

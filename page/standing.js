@@ -1,9 +1,10 @@
 // What stands now: the lists and the level, read from the desk's own exports and parsed here.
 
 import { get } from './api.js';
-import { subjectOf, tbsOf } from './der.js';
+import { tbsOf } from './der.js';
 import { sha256 } from './files.js';
 import { digestIn, entriesOf } from './siglist.js';
+import { subjectOf } from './subject.js';
 
 /**
  * @typedef {{ tbs: string, subject: string, fingerprint: string, length: number }} Listed
@@ -18,15 +19,19 @@ const FRESH = 20000;
 /** @type {{ at: number, value: Standing } | null} */
 let kept = null;
 
-/** Forgets what was read: a command of this page may have changed it. */
+/** Grows as `changed` is called: what was asked for before that isn't kept. */
+let turn = 0;
+
+/** Forgets what was read: a command of this page may have changed it, or its reader signs out. */
 export function changed() {
     kept = null;
+    turn += 1;
 }
 
 /** @returns {Promise<import('./api.js').Answer>} of a Standing */
 export async function standing() {
     if (kept && Date.now() - kept.at < FRESH) return { kind: 'value', value: kept.value };
-    const at = Date.now();
+    const [at, mine] = [Date.now(), turn];
     const answers = await Promise.all([get('/level', 'text'), get('/db', 'bytes'), get('/dbx', 'bytes')]);
     const fault = answers.find((answer) => answer.kind !== 'value');
     if (fault) return fault;
@@ -37,7 +42,7 @@ export async function standing() {
         revoked: revokedOf(dbx),
         bytes: { db: db.length, dbx: dbx.length },
     };
-    kept = { at, value };
+    if (mine === turn) kept = { at, value };
     return { kind: 'value', value };
 }
 
@@ -63,8 +68,7 @@ async function listedOf(db) {
     const digests = new Set();
     /** @type {Map<string, Listed>} */
     const certificates = new Map();
-    const read = entriesOf(db);
-    for (const entry of 'entries' in read ? read.entries : []) {
+    for (const entry of entriesOf(db)) {
         if (entry.kind === 'sha256') digests.add(digestIn(entry));
         const tbs = entry.kind === 'x509' ? tbsOf(entry.body) : null;
         if (!tbs) continue;
@@ -81,8 +85,7 @@ async function listedOf(db) {
 function revokedOf(dbx) {
     const digests = new Set();
     const certificates = new Set();
-    const read = entriesOf(dbx);
-    for (const entry of 'entries' in read ? read.entries : []) {
+    for (const entry of entriesOf(dbx)) {
         (entry.kind === 'sha256' ? digests : certificates).add(digestIn(entry));
     }
     return { digests, certificates };

@@ -12,6 +12,9 @@ export function counted(count, one, many = `${one}s`) {
     return `${grouped(count)} ${count === 1 ? one : many}`;
 }
 
+/** Whether a word is the number of a request or a proposal. @param {string | undefined} word */
+export const isNumber = (word) => /^[1-9][0-9]{0,5}$/.test(word ?? '');
+
 /** @param {string[]} parts joined as in a sentence */
 export function joined(parts) {
     if (parts.length < 2) return parts.join('');

@@ -7,7 +7,7 @@ from typing import Dict
 
 from access import looked
 from browser import Browser
-from place import CERTIFICATE, ROOT, Place, fail, image, token, unsigned, until, without_keys
+from place import CERTIFICATE, ROOT, SIGNER, Place, fail, image, token, unsigned, until, without_keys
 
 DIGEST = "ba7816bf8f01cfea414140de5dae2223b00361a396177a9cb410ff61f20015ad"
 STAMP = time.strftime("%Y%m%d", time.gmtime())
@@ -60,14 +60,28 @@ def requests_by_page(browser: Browser, at_hand: Dict[str, Path]) -> None:
     browser.go("lists")
     browser.press("List a certificate or a digest", "summary")
     browser.choose("Certificate", at_hand["certificate.der"])
-    browser.press("List this certificate")
-    browser.sees("It is in db now.")
+    lists_certificate(browser)
     browser.sign_in(token("sid"))
     browser.press(TITLE, "a")
     browser.choose("Signed file", at_hand["signed.efi"])
     browser.press("Return it")
     browser.sees("Request 1 is signed.")
     browser.sees("It arrived whole.")
+
+
+def lists_certificate(browser: Browser) -> None:
+    """One officer does it alone, so it is asked about, by what the certificate says of itself."""
+    browser.press("List this certificate")
+    asked = browser.one("dialog").text
+    for told in ("List this certificate?", SIGNER["subject"], SIGNER["issuer"], "EC, P-256", SIGNER["tbs"], "CA\nno", "No other officer confirms it."):
+        if told not in asked:
+            fail(f"the question before a certificate is listed doesn’t say {told}: {asked}")
+    looked(browser, "the question before a certificate is listed")
+    browser.press("Go back")
+    until(10, "the dialog is gone", lambda: not browser.all("dialog"))
+    browser.press("List this certificate")
+    browser.press("List it")
+    browser.sees("It is in db now.")
 
 
 def copies(browser: Browser, digest: str) -> None:
@@ -87,6 +101,7 @@ def confirms(browser: Browser, number: int, told: str, impact: str) -> None:
     browser.press("Confirm…")
     browser.sees(f"Confirm proposal {number} for good?")
     browser.sees("nothing takes it back")
+    browser.sees(f"At the desk {browser.base.removeprefix('http://')}.")
     if impact not in browser.one("dialog").text:
         fail(f"the last question before a Confirm doesn’t say {impact}")
     looked(browser, f"the question before the Confirm of {number}")

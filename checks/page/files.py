@@ -1,4 +1,5 @@
-"""What the page makes of odd files and odd answers, asked of its modules in the browser: each is refused in words, and nothing throws."""
+"""What the page says of odd files and odd answers, asked of its modules in the browser: what is in a file, or why it is refused. How
+files are read is tried without a browser: see ../modules.sh."""
 import base64
 import json
 import struct
@@ -16,6 +17,8 @@ def signature_list(kind: bytes, *bodies: bytes) -> bytes:
     return kind + struct.pack("<III", 28 + each * len(bodies), 0, each) + b"".join(bytes(16) + it for it in bodies)
 
 
+# A version of Windows' boot programs among digests.
+VERSION = bytes.fromhex("01612b139dd5598843ab1c185c3cb2eb92000007000000000000000000000000")
 LISTS = signature_list(SHA256_KIND, b"\xaa" * 32, b"\xbb" * 32) + signature_list(X509_KIND, CERTIFICATE) + signature_list(OTHER_KIND, b"\x01\x02")
 # EFI_VARIABLE_AUTHENTICATION_2: 16 bytes of a time, then a WIN_CERTIFICATE of 24 bytes and 8 more.
 HEADER = struct.pack("<HBB", 2026, 11, 27) + bytes(12) + struct.pack("<IHH", 32, 0x0200, 0x0EF1) + bytes.fromhex("9dd2af4adf68ee498aa9347d375665a7") + bytes(8)
@@ -24,13 +27,21 @@ CSV = "kind,value,generation\n"
 # A file; what a look at it says, which is a fault or a line; and whether it can be imported.
 LOOKS = [
     (LISTS, "2 digests, all of them new.", True),
-    (LISTS, "Skipped: 1 entry of type 00112233-4455-6677-8899-aabbccddeeff.", True),
-    (HEADER + LISTS, "The first 48 bytes are left out: the header of an authenticated variable, of 2026-11-27", True),
-    (b"\x27\0\0\0" + LISTS, "The first 4 bytes are left out: the four attribute bytes", True),
-    (LISTS[:-1], "There is no signature list at byte 175", False),
+    (LISTS, "Skipped by the desk: 1 entry of type 00112233-4455-6677-8899-aabbccddeeff.", True),
+    (HEADER + LISTS, "48 bytes before the lists are left out: the head of an authenticated update of 2026-11-27; nobody checks", True),
+    (bytes(16) + HEADER[16:] + LISTS, "the head of an authenticated update without a date;", True),
+    (b"\x27\0\0\0" + LISTS, "4 bytes before the lists are left out: the attributes of a variable", True),
+    (b"\x27\0\0\0" + HEADER + LISTS, "48 bytes before the lists are left out", True),
+    (signature_list(SHA256_KIND, b"\xaa" * 32, VERSION), "Left out: 1 version of Windows’ boot programs (SVN)", True),
+    (signature_list(SHA256_KIND, b"\xaa" * 32, VERSION), "1 digest, which is new.", True),
+    (signature_list(SHA256_KIND, VERSION), "It names nothing that the desk takes.", False),
+    (LISTS[:-1], f"There is no whole signature list at byte {len(LISTS) - 46}", False),
     (signature_list(OTHER_KIND, b"\x01\x02"), "It names nothing that the desk takes.", False),
-    (b"", "It names nothing that the desk takes.", False),
-    (b"a text of another kind", "There is no signature list at byte 0", False),
+    (b"", "The file has no byte.", False),
+    (b"a text of another kind", "It is of no kind that is known here.", False),
+    (b'{"images": {}}', "deskctl imports Microsoft’s lists.", False),
+    (CSV.encode("utf-16"), "It is text in UTF-16.", False),
+    (b"sep=,\n" + CSV.encode(), "The first line of CSV has to be kind,value,generation", False),
     ((CSV + f"sha256,{'a' * 64},\n").encode(), "1 digest, which is new.", True),
     ((CSV + f'"sha256","{"a" * 64}",""\r\n').encode(), "1 digest, which is new.", True),
     (b"\xef\xbb\xbf" + (CSV + "sbat,grub,5\n").encode(), "grub from none to 5.", True),
@@ -58,13 +69,13 @@ def odd(browser: Browser, place: Place) -> int:
         found = browser.module("imports.js", LOOK.replace("GIVEN", json.dumps(base64.b64encode(given).decode())))
         if not isinstance(found, dict) or not any(told in line for line in found["said"]) or found["imports"] != imports:
             fail(f"a look at {given[:60]!r}: {found} in place of {told}")
-        # What is left out before the lists isn't sent.
-        if imports and bytes(found["begins"]) != given[len(given) - found["length"] :][:4]:
+        # What is left out isn't sent.
+        if imports and bytes(found["begins"]) not in (SHA256_KIND[:4], b"kind", b"sbat"):
             fail(f"of {given[:60]!r} {found['length']} bytes would be sent")
     cut = browser.module("siglist.js", f"""(() => {{
         const bytes = Uint8Array.from(atob({json.dumps(base64.b64encode(LISTS).decode())}), (one) => one.charCodeAt(0));
         const whole = [];
-        for (let length = 0; length <= bytes.length; length += 1) if ('entries' in it.entriesOf(bytes.subarray(0, length))) whole.push(length);
+        for (let length = 0; length <= bytes.length; length += 1) if ('lists' in it.listsOf(bytes.subarray(0, length))) whole.push(length);
         return whole;
     }})()""")
     if cut != [0, 28 + 96, 28 + 96 + 28 + 16 + len(CERTIFICATE), len(LISTS)]:

@@ -3,11 +3,11 @@ import hashlib
 import http.server
 import json
 import re
-import signal
 import threading
 
 from browser import Browser
-from place import CERTIFICATE, Place, connections, fail, token, unsigned, until
+from place import CERTIFICATE, SIGNER, Place, fail, token, unsigned, until
+from relay import HOLD, LOSE, NOT_FOUND
 
 MARKUP = "<img src=x onerror=\"document.title='taken'\"><b>bold</b>"
 LONG = "W" * 120
@@ -101,13 +101,13 @@ def another_origin(browser: Browser, place: Place) -> None:
 
 
 def loses_answer(browser: Browser, place: Place) -> None:
-    """Votes yes, and stops the proxy while the desk has the vote; the desk takes it, and nobody hears of it."""
-    assert place.desk
-    place.desk.process.send_signal(signal.SIGSTOP)
+    """Votes yes, and stops the proxy once the desk has answered; nobody hears of it."""
+    assert place.relay
+    place.relay.plan = [HOLD]
+    place.relay.held.clear()
     browser.press("Vote yes")
-    until(20, "the vote is at the desk", lambda: any(int(row[4].split(":")[1], 16) > 0 for row in connections(place.desk.port)))
+    until(20, "the desk answers", place.relay.held.is_set)
     place.stop_proxy()
-    place.desk.process.send_signal(signal.SIGCONT)
 
 
 def lost(browser: Browser, place: Place) -> None:
@@ -155,6 +155,34 @@ def lost(browser: Browser, place: Place) -> None:
             fail(f"after lost answers request {at} has the votes of {votes}")
 
 
+def refused_unread(browser: Browser, place: Place) -> None:
+    """Behind a lost answer the proxy refuses, as one that is being changed: the key is kept, whatever is done next."""
+    title = "of an answer that is lost"
+    path = place.room / "lost.efi"
+    path.write_bytes(unsigned(108))
+    browser.sign_in(token("ann"))
+    for last in ("Ask again", "Give up"):
+        place.relay.plan = [LOSE, NOT_FOUND, NOT_FOUND, NOT_FOUND]
+        browser.go("submit")
+        browser.fill("Title", f"{title}: {last}")
+        browser.choose("EFI image", path)
+        browser.press("Submit")
+        browser.sees("This try was refused unread (404)", 20)
+        browser.sees("no answer.", 20)
+        if last == "Give up":
+            # Once more unread, before it comes through.
+            place.relay.plan = [NOT_FOUND] * 4
+            browser.press(last)
+            browser.sees("it has the same key, so it acts once")
+            browser.press("Submit")
+            browser.sees("no answer.", 20)
+        browser.press("Ask again")
+        browser.sees("This is request ")
+    titles = [it["title"] for it in place.ask("ann", "GET", "/requests").json() if it["title"].startswith(title)]
+    if titles != [f"{title}: Ask again", f"{title}: Give up"]:
+        fail(f"lost answers and a proxy that is being changed: the desk has the requests {titles}")
+
+
 def stopped(browser: Browser, place: Place) -> None:
     """An upload shows how far it is, and can be stopped."""
     before = place.ask("ann", "GET", "/requests").body
@@ -181,7 +209,7 @@ def slips(browser: Browser, place: Place) -> None:
     number = place.does("ann", "/requests", whole, Desk_Title="of a length that isn't a multiple of 8")["request"]
     facts = place.ask("olga", "GET", f"/requests/{number}").json()
     fingerprint = hashlib.sha256(CERTIFICATE).hexdigest()
-    tbs = hashlib.sha256(CERTIFICATE[2:]).hexdigest()
+    tbs = SIGNER["tbs"]
     before = place.ask("olga", "GET", "/proposals").body
     browser.sign_in(token("olga"))
     browser.go("propose")

@@ -1,10 +1,11 @@
 """A desk behind nginx, as packaging/nginx.conf has it without its TLS: started, stopped, asked. The program, its server and its
-people are those of ../requests/desk.py."""
+people are those of ../requests/desk.py; the certificate is one of ../imports/cases.json."""
 import http.client
 import json
 import os
 import re
 import secrets
+import struct
 import subprocess
 import sys
 import time
@@ -12,13 +13,18 @@ from pathlib import Path
 from typing import Any, Callable, Dict, List, NamedTuple, NoReturn, Optional, Tuple
 
 ROOT = Path(__file__).resolve().parents[2]
-sys.path.insert(0, str(ROOT / "checks" / "requests"))
-from desk import Held, Program, Server, end_with_parent, listens, token  # noqa: E402
+sys.path[:0] = [str(ROOT / "checks" / name) for name in ("requests", "imports")]
+from desk import Held, Program, Server, end_with_parent, listens, token, with_table  # noqa: E402
+from relay import Relay  # noqa: E402
+from table import cases  # noqa: E402
 
-SIGNED = (ROOT / "examples" / "signed.efi").read_bytes()
-CERTIFICATE = (ROOT / "examples" / "certificate.der").read_bytes()
-# The place of the certificate table in the image, and of its entry in the headers.
+# A signer's certificate, the SHA-256 of its TBSCertificate, its subject and issuer.
+SIGNER = next(case for case in cases("certificates") if case["name"] == "a signer that its CA issued, in DER")
+CERTIFICATE = SIGNER["bytes"]
+# The place of the certificate table in the image of examples/, and of its entry in the headers.
 TABLE, ENTRY = 1536, 232
+IMAGE = bytearray((ROOT / "examples" / "signed.efi").read_bytes()[:TABLE])
+IMAGE[ENTRY : ENTRY + 8] = bytes(8)
 
 
 def fail(what: str) -> NoReturn:
@@ -37,24 +43,33 @@ def until(seconds: float, what: str, holds: Callable[[], Any], seen: Callable[[]
         time.sleep(0.1)
 
 
-def connections(port: int) -> List[List[str]]:
-    """The rows of /proc/net/tcp at a local port, but for the one that listens."""
-    rows = [line.split() for line in Path("/proc/net/tcp").read_text().splitlines()[1:]]
-    return [row for row in rows if row[1].endswith(f":{port:04X}") and row[3] != "0A"]
+def der(tag: int, *parts: bytes) -> bytes:
+    """An element of these parts."""
+    content = b"".join(parts)
+    size = len(content)
+    if size < 128:
+        return bytes([tag, size]) + content
+    length = size.to_bytes(-(-size.bit_length() // 8), "big")
+    return bytes([tag, 128 + len(length)]) + length + content
 
 
-def image(number: int) -> bytes:
-    """A signed image that differs from the others."""
-    found = bytearray(SIGNED)
+def table_of(certificate: bytes) -> bytes:
+    """A certificate table of one entry: SignedData (RFC 5652) that carries the certificate and signs nothing."""
+    signed = der(0x30, bytes.fromhex("020101 3100 3000"), der(0xA0, certificate), bytes.fromhex("3100"))
+    body = der(0x30, bytes.fromhex("06092a864886f70d010702"), der(0xA0, signed))
+    return struct.pack("<IHH", 8 + len(body), 0x0200, 2) + body + bytes(-len(body) % 8)
+
+
+def unsigned(number: int) -> bytes:
+    """An image that differs from the others."""
+    found = bytearray(IMAGE)
     found[752:755] = number.to_bytes(3, "big")
     return bytes(found)
 
 
-def unsigned(number: int) -> bytes:
-    """The same before it was signed."""
-    found = bytearray(image(number)[:TABLE])
-    found[ENTRY : ENTRY + 8] = bytes(8)
-    return bytes(found)
+def image(number: int) -> bytes:
+    """The same once it was signed."""
+    return with_table(unsigned(number), table_of(CERTIFICATE))
 
 
 class Response(NamedTuple):
@@ -69,8 +84,11 @@ class Response(NamedTuple):
 class Place:
     """A desk with its people, whose server and nginx are started and stopped."""
 
-    def __init__(self, program: Program, name: str) -> None:
+    def __init__(self, program: Program, name: str, loses: bool = False) -> None:
+        """With `loses` a relay stands before the desk, which can lose answers."""
         self.program = program
+        self.loses = loses
+        self.relay: Optional[Relay] = None
         self.room = Path(program.at(name))
         self.room.mkdir()
         if not Path(program.at("people.db")).exists():
@@ -78,7 +96,8 @@ class Place:
         self.path = program.copied(program.at("people.db"), f"{name}/desk.db")
         self.desk: Optional[Server] = None
         self.nginx: Optional[subprocess.Popen] = None
-        self.desk_port = 0
+        # The port that nginx asks.
+        self.upstream = 0
         self.held = Held()
         self.port = self.held.port
 
@@ -103,20 +122,26 @@ class Place:
 
     def serve(self) -> None:
         self.desk = Server(self.program, self.path)
-        self.desk_port = self.desk.port
+        if self.loses:
+            self.relay = Relay(self.desk.port)
+        self.upstream = self.relay.port if self.relay else self.desk.port
 
     def stop(self) -> None:
         if self.desk:
             self.desk.kill()
             self.desk = None
+        if self.relay:
+            self.relay.shutdown()
+            self.relay.server_close()
+            self.relay = None
 
     def write_site(self) -> None:
         site = (ROOT / "packaging" / "nginx.conf").read_text()
-        site = re.sub(r"server 127\.0\.0\.1:\d+;", f"server 127.0.0.1:{self.desk_port};", site)
+        site = re.sub(r"server 127\.0\.0\.1:\d+;", f"server 127.0.0.1:{self.upstream};", site)
         site = re.sub(r"^ *(ssl_|listen \[).*\n", "", site, flags=re.M)
         site = site.replace("listen 443 ssl;", f"listen 127.0.0.1:{self.port};").replace("root /usr/share/kovelamiru-desk;", f"root {ROOT};")
         site = site.replace("/var/log/nginx/", f"{self.room}/")
-        for line in (f"server 127.0.0.1:{self.desk_port};", f"listen 127.0.0.1:{self.port};", f"root {ROOT};"):
+        for line in (f"server 127.0.0.1:{self.upstream};", f"listen 127.0.0.1:{self.port};", f"root {ROOT};"):
             if site.count(line) != 1:
                 fail(f"packaging/nginx.conf has no place for {line}")
         (self.room / "site.conf").write_text(site)

@@ -8,10 +8,12 @@ from pathlib import Path
 from typing import Callable, Dict
 
 import access
+import confirms
 import day
 import files
 import hostile
 import long
+import signouts
 import sources
 from browser import Browser
 from place import ROOT, Place, Program, end_with_parent, fail, until
@@ -44,7 +46,7 @@ def whole_day(program: Program, browser: Browser) -> str:
 
 
 def bad_days(program: Program, browser: Browser) -> str:
-    with Place(program, "hostile") as place:
+    with Place(program, "hostile", loses=True) as place:
         browser.base = place.base
         place.does("olga", "/db/certificates", day.CERTIFICATE)
         hostile.headers(place)
@@ -53,9 +55,15 @@ def bad_days(program: Program, browser: Browser) -> str:
         hostile.another_origin(browser, place)
         told("strangers, titles and another origin")
         hostile.lost(browser, place)
+        hostile.refused_unread(browser, place)
         told("lost answers act once")
+        signouts.leaves_nothing(browser, place)
+        signouts.comes_back(browser, place)
+        told("nothing of the person before")
         hostile.stopped(browser, place)
         hostile.slips(browser, place)
+        confirms.otherwise(browser, place)
+        confirms.blind(browser, place)
         told("a stopped upload, and slips that are asked back about")
         odd = files.odd(browser, place)
         told(f"{odd} odd files and answers")

@@ -1,0 +1,259 @@
+// The page's modules without a browser: see ../modules.sh. The files of ../imports/cases.json are
+// read as the table has it, and so are a few of the page's own; a command acts once, whatever comes
+// in place of an answer; slips are doubted at their limits.
+import assert from 'node:assert/strict';
+import { readFileSync } from 'node:fs';
+import { webcrypto } from 'node:crypto';
+
+// (Node 18 has it under this name alone.)
+globalThis.crypto ??= webcrypto;
+
+const [, , page, table, ...certificates] = process.argv;
+/** @param {string} name */
+const take = (name) => import(`${page}/${name}.js`);
+const { parts, imports, certificates: files } = JSON.parse(readFileSync(table, 'utf8'));
+let count = 0;
+
+// ---- the table's bytes, as its README has them
+
+const ofHex = (text) => Buffer.from(text.replaceAll(' ', ''), 'hex');
+const bigEndian = (text) => Buffer.from(text, 'utf16le').swap16();
+
+function pieceBytes(piece) {
+    if (typeof piece === 'string') return ofHex(piece);
+    if ('hex' in piece) return Buffer.concat(Array(piece.times).fill(ofHex(piece.hex)));
+    if ('part' in piece) return rowBytes(parts[piece.part]);
+    if ('base64' in piece) return Buffer.from(pem(rowBytes(parts[piece.base64]), piece.label ?? 'CERTIFICATE'));
+    if ('utf-16le' in piece) return Buffer.from(piece['utf-16le'], 'utf16le');
+    if ('utf-16be' in piece) return bigEndian(piece['utf-16be']);
+    return Buffer.from(piece.text);
+}
+
+const pem = (bytes, label) => [`-----BEGIN ${label}-----`, ...bytes.toString('base64').match(/.{1,64}/g), `-----END ${label}-----`, ''].join('\n');
+
+/** A row of pieces, as a part of a longer buffer: no reader may look at what is beside it. */
+function rowBytes(row) {
+    const bytes = Buffer.concat(row.map(pieceBytes));
+    return Buffer.concat([ofHex('ffee'), bytes, ofHex('dd')]).subarray(2, 2 + bytes.length);
+}
+
+// ---- files of revocations, and of certificates
+
+const sorted = (set) => [...set].sort();
+const total = (counts) => [...counts.values()].reduce((sum, one) => sum + one, 0);
+/** What the page says of those that only the other client reads. */
+const TAKEN = 'The page takes signature lists, the desk’s CSV and a level’s text.';
+
+async function oneImport(it) {
+    const { revocationsOf } = await take('revocations');
+    const bytes = new Uint8Array(rowBytes(it.bytes));
+    const found = await revocationsOf(bytes);
+    const other = it.clients && !it.clients.includes('page');
+    if (it.refused || other) {
+        if (!other) assert.equal(found.refused, it.refused);
+        else assert.ok(found.refused && found.fault.includes(TAKEN), found.fault);
+        assert.notEqual(found.fault, '');
+        return;
+    }
+    assert.equal(found.fault, '');
+    assert.equal(found.refused, '');
+    assert.equal(found.kind, it.kind);
+    assert.deepEqual(sorted(found.digests), it.digests ?? []);
+    assert.deepEqual(sorted(found.certificates), it.certificates ?? []);
+    assert.deepEqual(sorted(found.components), it.components ?? []);
+    assert.equal(found.stamp, it.stamp ?? null);
+    assert.deepEqual(found.versions > 0 ? { svn: found.versions } : {}, it.aside ?? {});
+    assert.equal(total(found.skipped), it.skipped ?? 0);
+    assert.equal(found.timed, it.timed ?? 0);
+    const sent = Buffer.from(found.body);
+    if (it.body) assert.deepEqual(sent, Buffer.from(rowBytes(it.body)));
+    else assert.deepEqual(sent, Buffer.from(bytes.subarray(bytes.length - sent.length)));
+}
+
+async function oneCertificate(it) {
+    const { certificateIn } = await take('pem');
+    const { told } = await take('subject');
+    const { sha256 } = await take('files');
+    const found = certificateIn(new Uint8Array(rowBytes(it.bytes)));
+    if (it.refused) {
+        assert.equal(found.refused, it.refused);
+        assert.notEqual(found.fault, '');
+        return;
+    }
+    assert.ok(found.der, found.fault);
+    const { tbs, subject, issuer, authority } = told(found.der);
+    assert.deepEqual({ tbs: await sha256(tbs), subject, issuer, ca: authority }, { tbs: it.tbs, subject: it.subject, issuer: it.issuer, ca: it.ca });
+}
+
+/** Each beginning of each file is read or refused in words: nothing throws. */
+async function cut(row, read) {
+    const bytes = new Uint8Array(rowBytes(row));
+    const step = Math.max(1, Math.floor(bytes.length / 400));
+    for (let length = 0; length < bytes.length; length += step) {
+        const found = await read(bytes.subarray(0, length));
+        if (found.fault !== undefined) assert.equal(typeof found.fault, 'string');
+    }
+}
+
+/** What openssl made: the key's kind, and names that would move a line. */
+async function ownCertificates() {
+    const { certificateIn } = await take('pem');
+    const { told, subjectOf } = await take('subject');
+    const kinds = ['RSA, 2048 bits', 'EC, P-384', 'Ed25519'];
+    certificates.forEach((path, at) => {
+        const found = certificateIn(new Uint8Array(readFileSync(path)));
+        assert.ok(found.der, `${path}: ${found.fault}`);
+        const it = told(found.der);
+        assert.equal(it.key, kinds[at]);
+        assert.equal(it.subject, 'CN=A\\u{202e}B\\u{a}C');
+        assert.equal(subjectOf(it.tbs), 'A\\u{202e}B\\u{a}C');
+    });
+}
+
+// ---- a command acts once
+
+/** The answers that a proxy and a desk give to each try in turn, by status and text; 0 loses the connection. */
+class Line {
+    constructor(...answers) {
+        this.answers = answers;
+        this.keys = [];
+        const line = this;
+        globalThis.XMLHttpRequest = class extends EventTarget {
+            upload = new EventTarget();
+            open() {}
+            setRequestHeader(name, value) {
+                if (name === 'Desk-Key') line.keys.push(value);
+            }
+            abort() {
+                this.dispatchEvent(new Event('abort'));
+            }
+            send() {
+                const [status, text = ''] = line.answers.shift();
+                this.status = status;
+                this.responseText = text;
+                if (status === 'never') return;
+                setTimeout(() => [status === 0 ? 'error' : 'load', 'loadend'].forEach((kind) => this.dispatchEvent(new Event(kind))));
+            }
+        };
+    }
+}
+
+const REFUSED = (name, number) => JSON.stringify({ name, refused: number });
+const DONE = '{"reply":"submitted","request":1}';
+/** What doesn't tell whether the try before it acted. */
+const UNREAD = [
+    [404, '<html>'], [403, ''], [413, ''], [301, ''], [401, REFUSED('UnknownCaller', 20)], [405, REFUSED('BadMethod', 54)], [400, REFUSED('BadHead', 50)],
+    [502, ''], [503, REFUSED('NoMemory', 41)], [429, ''], [200, 'captive'],
+];
+
+async function keys() {
+    const api = await take('api');
+    const { Command, forgetKeys, unanswered } = await take('keys');
+    api.PAUSES.fill(1);
+    const command = () => new Command('Submit', '/requests', 'body');
+    // An answer of the desk to a first try is an end: the next command has another key.
+    for (const answer of [[200, DONE], [409, REFUSED('WrongState', 24)], [404, '<html>'], [401, REFUSED('UnknownCaller', 20)]]) {
+        const line = new Line(answer, [200, DONE]);
+        assert.equal((await command().run()).kind, answer[0] === 200 ? 'value' : 'refused');
+        await command().run();
+        assert.equal(new Set(line.keys).size, 2, `after ${answer}`);
+    }
+    // Behind a lost answer such an end doesn't come by what was refused unread.
+    for (const answer of UNREAD) {
+        const line = new Line([0], answer, answer, answer, answer, [200, DONE]);
+        const states = [];
+        const it = command();
+        const ended = it.run((of) => {
+            states.push(of.state);
+            if (of.state === 'lost') setTimeout(() => of.askAgain());
+        });
+        assert.equal((await ended).kind, 'value', `behind ${answer}`);
+        assert.ok(states.includes('lost'), `behind ${answer}: ${states}`);
+        assert.equal(new Set(line.keys).size, 1, `behind ${answer}: ${line.keys}`);
+    }
+    // Nor by a refusal that comes to the same command when it is given again.
+    const line = new Line([0], [404, ''], [404, ''], [404, ''], [404, ''], [404, ''], [404, ''], [404, ''], [200, DONE]);
+    const given = (of) => of.state === 'lost' && setTimeout(() => of.forget());
+    for (let times = 0; times < 2; times += 1) assert.deepEqual(await command().run(given), { kind: 'stopped', sent: true });
+    assert.equal((await command().run()).kind, 'value');
+    assert.equal(new Set(line.keys).size, 1, `given again: ${line.keys}`);
+    // The desk's own refusal settles it.
+    const settled = new Line([0], [409, REFUSED('WrongState', 24)], [200, DONE]);
+    assert.equal((await command().run()).kind, 'refused');
+    await command().run();
+    assert.equal(new Set(settled.keys).size, 2);
+    // One who signs out hears of nothing more, and leaves no key.
+    const gone = new Line(['never'], [200, DONE]);
+    let heard = false;
+    command().run(() => (heard = true)).then(() => assert.fail('an answer after the sign-out'));
+    heard = false;
+    forgetKeys();
+    api.setToken('');
+    await new Promise((resolve) => setTimeout(resolve, 20));
+    assert.equal(heard, false);
+    assert.equal(unanswered.size, 0);
+    await command().run();
+    assert.equal(new Set(gone.keys).size, 2);
+}
+
+/** A read that one person began isn't asked again in the next one's name. */
+async function reads() {
+    const { get, setToken } = await take('api');
+    const asked = [];
+    globalThis.fetch = async (path, { headers, signal }) => {
+        asked.push(headers['Desk-Token']);
+        await new Promise((resolve) => setTimeout(resolve, 5));
+        if (signal.aborted) throw new Error('aborted');
+        return { status: 502, text: async () => '' };
+    };
+    setToken('the-token-of-one-person');
+    get('/requests').then(() => assert.fail('an answer to the person before'));
+    setToken('the-token-of-the-next-one');
+    assert.equal((await get('/requests')).kind, 'lost');
+    assert.deepEqual(asked.filter((one) => one === 'the-token-of-one-person').length, 1);
+}
+
+// ---- slips
+
+async function doubts() {
+    const { generationDoubts, knownOf, stampDoubts } = await take('doubts');
+    const now = {
+        listed: { digests: new Set(), certificates: new Map() },
+        revoked: { digests: new Set(), certificates: new Set() },
+        level: { stamp: 2026112700, names: new Map([['grub', 4]]) },
+    };
+    const known = knownOf([], now);
+    for (const [name, generation, told] of [
+        ['grub', 4, 'is at 4 already'], ['grub', 5, ''], ['grub', 13, ''], ['grub', 14, 'far above'], ['grub', 65535, 'far above'],
+        ['grub', 65536, '16 bits'], ['gurb', 2, 'Is it spelt right?'], ['sbat', 2, 'stays 1'],
+    ]) {
+        const found = generationDoubts(name, generation, known).map((it) => it.text).join(' ');
+        assert.ok(told === '' ? found === '' : found.includes(told), `${name} ${generation}: ${found}`);
+    }
+    const today = new Date('2026-11-28T12:00:00Z');
+    for (const [stamp, told] of [[2026112800, ''], [2026112700, 'isn’t above'], [2027113000, 'isn’t a date'], [2026133000, 'isn’t a date'], [9999999999, 'isn’t a date']]) {
+        const found = stampDoubts(stamp, 2026112700, today).map((it) => it.text).join(' ');
+        assert.ok(told === '' ? found === '' : found.includes(told), `${stamp}: ${found}`);
+    }
+}
+
+/** @param {string} what @param {() => any} test */
+async function tries(what, test) {
+    count += 1;
+    try {
+        await test();
+    } catch (fault) {
+        console.error(`checks/modules.sh: ${what}: ${fault.stack}`);
+        process.exitCode = 1;
+    }
+}
+
+for (const it of imports) await tries(`the import of “${it.name}”`, () => oneImport(it));
+for (const it of files) await tries(`the certificate “${it.name}”`, () => oneCertificate(it));
+for (const it of imports) await tries(`beginnings of “${it.name}”`, async () => cut(it.bytes, (await take('revocations')).revocationsOf));
+for (const it of files) await tries(`beginnings of “${it.name}”`, async () => cut(it.bytes, (await take('pem')).certificateIn));
+await tries('certificates by openssl', ownCertificates);
+await tries('keys', keys);
+await tries('reads', reads);
+await tries('doubts', doubts);
+console.log(`${imports.length} files of revocations and ${files.length} of certificates as the table has them; ${count} tests of modules`);

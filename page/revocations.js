@@ -1,0 +1,162 @@
+// What a file of revocations names, by its bytes alone: signature lists, with or without what stands
+// before them; the desk's CSV; a level's text. The desk reads what is sent again, and its reading is
+// what counts.
+
+import { tbsOf } from './der.js';
+import { sha256 } from './files.js';
+import { beginsList, digestIn, hasTime, isVersion, listBytes, listsOf } from './siglist.js';
+import { greatest, levelOf } from './standing.js';
+import { unwrapped } from './update.js';
+
+/**
+ * @typedef {import('./siglist.js').Entry} Entry
+ * @typedef {{ kind: string, path: string, body: Uint8Array, digests: Set<string>, certificates: Set<string>,
+ *   components: Map<string, number>, stamp: number | null, count: number, versions: number, skipped: Map<string, number>,
+ *   timed: number, owners: Set<string>, before: string[], refused: string, fault: string }} Revocations
+ * kind: `lists`, `csv` or `level`; `path` and `body` are what is sent; `stamp` is a level's. `count` is of all entries that
+ * are sent, `skipped` of those that the desk skips, by their kind; `versions` are left out here. `timed` have a time of
+ * revocation. `before` says what stood before the lists. `refused` says in a word why it can't be imported, `fault` in a
+ * sentence; both are empty if it can.
+ */
+
+const TAKEN = 'The page takes signature lists, the desk’s CSV and a level’s text.';
+const MICROSOFT = `${TAKEN} deskctl imports Microsoft’s lists.`;
+const HEADER = 'kind,value,generation';
+
+/**
+ * What a file names; EF BB BF before a text is left out.
+ * @param {Uint8Array} bytes
+ * @returns {Promise<Revocations>}
+ */
+export async function revocationsOf(bytes) {
+    const plain = textOf(bytes.subarray(0, 3)) === 'ï»¿' ? bytes.subarray(3) : bytes;
+    const text = textOf(plain.subarray(0, 4096));
+    if (bytes.length === 0) return refused('empty', 'The file has no byte.');
+    if (isUtf16(bytes)) return refused('utf-16', 'It is text in UTF-16. Save it as UTF-8, or as plain CSV.');
+    if (/^kind,value,generation\r?\n/.test(text)) return whole(csv(plain));
+    if (/^sbat,/.test(text)) return whole(level(plain));
+    const fault = text.includes('\0') ? null : textFault(text);
+    return fault ?? whole(await lists(bytes));
+}
+
+/** What is wrong with a text that is neither CSV nor a level, if it looks like one. @param {string} text */
+function textFault(text) {
+    if (/^\s*[[{]/.test(text) || /authenticode/i.test(text)) return refused('unknown', `It has a form that the page doesn’t read. ${MICROSOFT}`);
+    if (!/^\W*kind\W+value\W+generation\W*$/im.test(text)) return null;
+    return refused('header', `The first line of CSV has to be ${HEADER}, with commas and nothing before it.`);
+}
+
+/** @param {string} kind @param {string} path @param {Uint8Array} body @returns {Revocations} */
+function empty(kind, path, body) {
+    return {
+        kind,
+        path,
+        body,
+        digests: new Set(),
+        certificates: new Set(),
+        components: new Map(),
+        stamp: null,
+        count: 0,
+        versions: 0,
+        skipped: new Map(),
+        timed: 0,
+        owners: new Set(),
+        before: [],
+        refused: '',
+        fault: '',
+    };
+}
+
+/** @param {string} why @param {string} fault */
+function refused(why, fault) {
+    return { ...empty('', '', new Uint8Array(0)), refused: why, fault };
+}
+
+/** Refuses what names nothing. @param {Revocations} found */
+function whole(found) {
+    const named = found.digests.size + found.certificates.size + found.components.size;
+    if (found.refused !== '' || named > 0) return found;
+    return { ...found, refused: 'nothing', fault: 'It names nothing that the desk takes.' };
+}
+
+/** A file as text, a byte a character. @param {Uint8Array} bytes */
+function textOf(bytes) {
+    return new TextDecoder('latin1').decode(bytes);
+}
+
+/** Whether it is text in UTF-16, by its mark or by every other byte of its first eight characters. @param {Uint8Array} bytes */
+function isUtf16(bytes) {
+    const [first, second] = bytes;
+    if ((first === 0xff && second === 0xfe) || (first === 0xfe && second === 0xff)) return true;
+    const begin = [...bytes.subarray(0, 16)];
+    const isText = (/** @type {number} */ zero) => begin.every((byte, at) => (at % 2 === zero ? byte === 0 : byte >= 0x20 && byte < 0x7f));
+    return begin.length === 16 && (isText(0) || isText(1));
+}
+
+/** @param {Uint8Array} bytes */
+async function lists(bytes) {
+    const inner = unwrapped(bytes);
+    if ('fault' in inner) return refused('update', inner.fault);
+    const read = listsOf(inner.body);
+    if ('wrongAt' in read) {
+        if (inner.before.length === 0 && !beginsList(bytes)) return refused('unknown', `It is of no kind that is known here. ${TAKEN}`);
+        const at = bytes.length - inner.body.length + read.wrongAt;
+        return refused('list', `There is no whole signature list at byte ${at}.`);
+    }
+    const found = { ...empty('lists', '/imports/dbx', inner.body), before: inner.before };
+    for (const entry of read.lists.flatMap((list) => list.entries)) await take(entry, found);
+    if (found.versions > 0) found.body = listBytes(read.lists, (entry) => !isVersion(entry));
+    return found;
+}
+
+/** @param {Entry} entry @param {Revocations} found */
+async function take(entry, found) {
+    if (isVersion(entry)) {
+        found.versions += 1;
+        return;
+    }
+    found.count += 1;
+    found.owners.add(entry.owner);
+    if (hasTime(entry)) found.timed += 1;
+    const tbs = entry.kind === 'x509' ? tbsOf(entry.body) : null;
+    const skipped = entry.kind === 'x509' ? 'x509 that isn’t one certificate' : entry.kind;
+    if (entry.kind === 'sha256') found.digests.add(digestIn(entry));
+    else if (entry.kind === 'x509_sha256') found.certificates.add(digestIn(entry));
+    else if (tbs) found.certificates.add(await sha256(tbs));
+    else found.skipped.set(skipped, (found.skipped.get(skipped) ?? 0) + 1);
+}
+
+/** @param {Uint8Array} bytes */
+function csv(bytes) {
+    const found = empty('csv', '/imports/csv', bytes);
+    const lines = textOf(bytes).split(/\r?\n/).filter((line) => line !== '');
+    const rows = lines.slice(1).map((line) => line.split(',').map((cell) => cell.replace(/^"(.*)"$/, '$1')));
+    const odd = rows.findIndex((row) => !isRecord(row));
+    if (odd >= 0) return refused('csv', `Record ${odd + 1} isn’t sha256,HEX, or x509_sha256,HEX, or sbat,NAME,GENERATION.`);
+    const of = (/** @type {string} */ wanted) => rows.filter(([kind]) => kind === wanted);
+    const values = (/** @type {string} */ wanted) => new Set(of(wanted).map(([, value]) => value.toLowerCase()));
+    found.digests = values('sha256');
+    found.certificates = values('x509_sha256');
+    found.components = greatest(of('sbat').map(([, name, generation]) => [name, Number(generation)]));
+    found.count = rows.length;
+    return found;
+}
+
+/** @param {string[]} row */
+function isRecord([kind, value, generation, ...more]) {
+    if (generation === undefined || more.length > 0) return false;
+    if (kind === 'sbat') return value !== '' && /^[1-9][0-9]*$/.test(generation);
+    return (kind === 'sha256' || kind === 'x509_sha256') && /^[0-9a-fA-F]{64}$/.test(value) && generation === '';
+}
+
+/** @param {Uint8Array} bytes */
+function level(bytes) {
+    const text = textOf(bytes).split('\0')[0];
+    if (!/^sbat,1,[0-9]+\r?(\n|$)/.test(text)) return refused('level', 'Its first line isn’t sbat,1,STAMP.');
+    const read = levelOf(text);
+    const found = empty('level', '/imports/level', bytes);
+    found.components = read.names;
+    found.stamp = read.stamp;
+    found.count = read.names.size;
+    return found;
+}
