@@ -7,9 +7,13 @@
 #         day by curl, except for the keys; each view is looked at for names of controls, contrast of
 #         each pair of colours, sizes and widths
 #   bad   what mustn't work: a wrong token, titles that look like markup, pages of another origin; lost
-#         answers act once; an upload is stopped; slips are asked back about; files that can't be
-#         imported are refused in words; a request is reviewed by keyboard alone
+#         answers act once, whatever a proxy says behind them; an upload is stopped; slips are asked
+#         back about; files that can't be imported are refused in words; a request is reviewed by
+#         keyboard alone
+#   people  a Confirm goes out only if it does what was shown; nothing of one person is left for the
+#         next
 #   long  10,000 requests are shown
+# modules.sh tries the page's modules without a browser.
 # It also compares the refusals of page/refusals.js with docs/REFUSALS.md. It needs chromium,
 # chromium-driver, curl, nginx, python3 and python3-selenium.
 set -eu

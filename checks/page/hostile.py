@@ -163,6 +163,7 @@ def refused_unread(browser: Browser, place: Place) -> None:
     browser.sign_in(token("ann"))
     for last in ("Ask again", "Give up"):
         place.relay.plan = [LOSE, NOT_FOUND, NOT_FOUND, NOT_FOUND]
+        browser.go("requests")
         browser.go("submit")
         browser.fill("Title", f"{title}: {last}")
         browser.choose("EFI image", path)

@@ -57,19 +57,26 @@ def bad_days(program: Program, browser: Browser) -> str:
         hostile.lost(browser, place)
         hostile.refused_unread(browser, place)
         told("lost answers act once")
-        signouts.leaves_nothing(browser, place)
-        signouts.comes_back(browser, place)
-        told("nothing of the person before")
         hostile.stopped(browser, place)
         hostile.slips(browser, place)
-        confirms.otherwise(browser, place)
-        confirms.blind(browser, place)
         told("a stopped upload, and slips that are asked back about")
         odd = files.odd(browser, place)
         told(f"{odd} odd files and answers")
         access.keyboard(browser, place)
         told("a vote by keyboard alone")
         return f"strangers, lost answers, slips and {odd} odd files and answers"
+
+
+def people(program: Program, browser: Browser) -> str:
+    with Place(program, "bound", loses=True) as place:
+        browser.base = place.base
+        confirms.otherwise(browser, place)
+        confirms.blind(browser, place)
+        told("a Confirm is what was shown")
+        signouts.leaves_nothing(browser, place)
+        signouts.comes_back(browser, place)
+        told("nothing of the person before")
+        return "a Confirm bound to what was shown, and nothing left of a person"
 
 
 def many(browser: Browser, place: Place, filling: long.Filling) -> str:
@@ -119,13 +126,14 @@ def main() -> None:
     # An end by a signal ends what this started, too.
     signal.signal(signal.SIGTERM, lambda *_: sys.exit("checks/page.sh: ended by a signal"))
     path, folder, *words = sys.argv[1:]
-    wanted = words or ["demo", "day", "bad", "long"]
+    wanted = words or ["demo", "day", "bad", "people", "long"]
     said = [f"{sources.modules()} modules, {sources.refusals()} refusals in words"]
     with Program(path) as program, ExitStack() as ends:
         parts: Dict[str, Callable[[], str]] = {
             "demo": lambda: demo(program, browser, Path(folder)),
             "day": lambda: whole_day(program, browser),
             "bad": lambda: bad_days(program, browser),
+            "people": lambda: people(program, browser),
         }
         if "long" in wanted:
             place = ends.enter_context(Place(program, "long"))

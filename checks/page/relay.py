@@ -23,6 +23,9 @@ class Relay(socketserver.ThreadingTCPServer):
         super().__init__(("127.0.0.1", 0), Handler)
         threading.Thread(target=self.serve_forever, daemon=True).start()
 
+    def handle_error(self, *_: Any) -> None:
+        """nginx went, or doesn't want the answer any more."""
+
     @property
     def port(self) -> int:
         return self.server_address[1]
