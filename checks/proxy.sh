@@ -1,27 +1,30 @@
 #!/bin/sh
 # nginx in front of `desk serve`, with the built program or the named one: proxy.sh [PROGRAM].
 # packaging/nginx.conf is used unchanged, except for its ports and its certificate, which is made
-# here; nginx is that of the system, or else of the distribution's package, unpacked in the room.
+# here, and the other sites of packaging/ likewise; nginx is that of the system, or else of the
+# distribution's package, unpacked in the room.
 # curl does a day at the desk through it, over TLS, and each status and body is compared with the
 # expected one. Then one peer sends an image slowly, one takes a long dbx slowly, and thirty more
 # send requests at once, from addresses of their own: all of them are answered while both slow ones
 # are still running, and then these get their responses. Without the proxy each slow peer holds the
 # next one up; that is shown first. Then the refusals of nginx: a stranger's long body, of which
-# nothing is kept; other methods; a body that is too long; a flood from one address; too many
-# requests for signatures by one token; a call while the desk is stopped, which is repeated with its
-# key once it serves again. Then the site of packaging/nginx-certificates.conf: two people with
-# certificates, a forged token, a person taken out of the list, one revoked, whose TLS session from
-# before doesn't help, nor where another site of the same port keeps it. The log has each request
-# and no token. Each run of the program, of curl and of nginx ends after a stated time. Not part of
-# the gate: it needs curl, openssl and python3, and nginx or the network to get it.
+# nothing is kept; other methods; a body that is too long; a flood from one address, and from one
+# network of IPv6; too many requests for signatures, and too many proposals, by one token; a call
+# while the desk is stopped, which is repeated with its key once it serves again; a token that is
+# refused, with tabs, spaces and control bytes about it. A closed site, and the way in by
+# packaging/nginx-maintenance.conf. Then the site of packaging/nginx-certificates.conf: two people
+# with certificates, its page, a forged token, a person taken out of the list, one revoked, whose TLS
+# session from before doesn't help, nor where another site of the same port keeps it. The log has each
+# request and no token. Each run of the program, of curl and of nginx ends after a stated time. Not
+# part of the gate: it needs curl, openssl and python3, and nginx or the network to get it.
 set -eu
 . "$(dirname -- "$(readlink -f -- "$0")")/common.sh"
 needs curl openssl python3
 find_program "$@"
 enter_room
-# The desk's port, the proxy's, that of people with certificates.
-hold 3
-read -r port tls own << END
+# The desk's port, the proxy's, that of people with certificates, that of maintenance.
+hold 4
+read -r port tls own back << END
 $ports
 END
 site=desk.example.org
@@ -58,21 +61,45 @@ openssl req -x509 -newkey ec -pkeyopt ec_paramgen_curve:prime256v1 -nodes -days 
     -addext "subjectAltName=DNS:$site" -keyout site.key -out site.pem 2> openssl.err || fail "$(cat openssl.err)"
 # sndbuf: the system keeps so little of a response on its way to a peer that nginx has to.
 listen="listen 127.0.0.1:$tls ssl sndbuf=65536;"
-sed "s|127.0.0.1:880;|127.0.0.1:$port;|
-     s|listen 443 ssl;|$listen|
-     /listen \[::\]:443 ssl;/d
-     s|/etc/ssl/certs/$site.pem|$room/site.pem|
-     s|/etc/ssl/private/$site.key|$room/site.key|
-     s|/var/log/nginx/|$room/|" "$root/packaging/nginx.conf" > site.conf
-for line in "server 127.0.0.1:$port;" "$listen" "$room/site.pem;" "$room/site.key;" "$room/kovelamiru-desk.log "; do
-    [ "$(grep -cF "$line" site.conf)" -eq 1 ] || fail "packaging/nginx.conf has no place for $line"
-done
+# sited FILE: a site of packaging/, with this check's ports, files and folders.
+sited() {
+    sed "/^ *#/d
+         s|127.0.0.1:880;|127.0.0.1:$port;|
+         s|listen 443 ssl;|$listen|
+         s|listen 8443 ssl;|listen 127.0.0.1:$own ssl;|
+         s|listen 8444 ssl;|listen 127.0.0.1:$back ssl;|
+         /listen \[::\]:[0-9]* ssl;/d
+         s|/etc/ssl/certs/$site.pem|$room/site.pem|
+         s|/etc/ssl/private/$site.key|$room/site.key|
+         s|/etc/ssl/certs/people.$site.pem|$room/people.pem|
+         s|/etc/ssl/private/people.$site.key|$room/people.key|
+         s|/etc/ssl/certs/kovelamiru-desk-people.pem|$room/ca.pem|
+         s|/etc/ssl/certs/kovelamiru-desk-people.crl|$room/ca.crl|
+         s|/etc/nginx/|$room/|
+         s|root /usr/share/kovelamiru-desk;|root $root;|
+         s|include /usr/share/kovelamiru-desk/|include $root/packaging/|
+         s|/var/log/nginx/|$room/|" "$root/packaging/$1"
+}
+# has_places FILE SITE LINE..: the site that was made of the file has each of these once.
+has_places() {
+    from=$1 made=$2
+    shift 2
+    for line in "root $root;" "include $root/packaging/nginx-desk.conf;" "$room/kovelamiru-desk.log " "$@"; do
+        [ "$(grep -cF "$line" "$made")" -eq 1 ] || fail "packaging/$from has no place for $line"
+    done
+    if grep -q '/etc/\|/usr/share/' "$made"; then fail "packaging/$from has other files than this check knows: $(grep '/etc/\|/usr/share/' "$made")"; fi
+}
+sited nginx.conf > site.conf
+has_places nginx.conf site.conf "server 127.0.0.1:$port;" "$listen" "$room/site.pem;" "$room/site.key;" "include $room/kovelamiru-desk.leaked*;" \
+    "-e $room/kovelamiru-desk.closed)"
 {
     if [ "$(id -u)" -eq 0 ]; then echo 'user root root;'; fi
     echo "daemon off; worker_processes 2; pid $room/nginx.pid; error_log $room/error.log warn;"
     echo "events { worker_connections 512; }"
     echo "http {"
     echo "    access_log $room/access.log;"
+    # Peers of IPv6: whoever comes from 127.0.0.250 is the address that it says.
+    echo "    set_real_ip_from 127.0.0.250; real_ip_header X-Peer;"
     for kind in client_body proxy fastcgi uwsgi scgi; do echo "    ${kind}_temp_path $room/$kind;"; done
     echo "    include $room/site*.conf;"
     echo "}"
@@ -87,7 +114,7 @@ until_listens "$proxy" "$tls" || fail 'nginx ended'
 
 token_of() { echo "$1-token-for-the-desk"; }
 desk init desk.db 00112233-4455-6677-8899-aabbccddeeff
-for person in ann/submitter rita/reviewer raul/reviewer sid/signer olga/officer otto/officer; do
+for person in ann/submitter rita/reviewer raul/reviewer sid/signer olga/officer otto/officer oscar/officer; do
     token_of "${person%/*}" | desk person desk.db "${person%/*}" "${person#*/}" "k-${person%/*}" > said
 done
 image=$root/examples/signed.efi
@@ -96,6 +123,7 @@ hex='ba7816bf8f01cfea414140de5dae2223b00361a396177a9cb410ff61f20015ad'
 printf '\060\005\060\003\002\001\001' > certificate
 echo '{"note":"read it","vote":"yes"}' > yes
 echo "{\"digest\":\"$hex\"}" > digest
+for number in 2 3; do echo "{\"digest\":\"$(printf '%064d' "$number")\"}" > "digest$number"; done
 echo '{"component":"grub","generation":3,"stamp":2024010100}' > raise
 
 # https NAME CURL-WORD..: curl as this person, over TLS; the certificate must be that of the site.
@@ -329,22 +357,60 @@ grep -q ' 429$' flood || fail "nobody of the flood was refused: $(cat flood)"
 [ "$(grep -vc ' 429$\| 404$' flood)" -eq 0 ] || fail "the flood: $(cat flood)"
 ask olga /level
 is 200 'sbat,1,2021030218'
-# 780 requests for signatures with one token, from 26 addresses: 500 are taken at once. The desk
-# refuses each, since it has no key.
-waiting=''
-for client in $(seq 101 126); do
-    https ann --interface "127.0.0.$client" -o /dev/null -w '%{http_code}\n' -d x "$base/requests#[1-30]" > "submits.$client" &
-    waiting="$waiting $!"
-done
-for client in $waiting; do wait "$client" || fail 'one of the submissions'; done
-cat submits.* | sort | uniq -c > submits
-taken=$(sed -n 's/ 400$//p' submits | tr -d ' ')
-{ [ "${taken:-0}" -ge 480 ] && [ "$taken" -le 700 ] && grep -q ' 429$' submits && [ "$(grep -vc ' 429$\| 400$' submits)" -eq 0 ]; } \
-    || fail "780 submissions with one token: $(cat submits)"
+# 150 requests from addresses of IPv6: of one network of 64 bits they are one peer's; of a network
+# each, or of IPv4 as IPv6 writes it, they aren't.
+# floods BEFORE BEHIND: each client's address is its number between the two.
+floods() {
+    waiting=''
+    rm -f flood.*
+    for client in $(seq 15); do
+        https ann --interface 127.0.0.250 -H "X-Peer: $1$client$2" -Z --parallel-max 10 -o /dev/null -w '%{http_code}\n' \
+            "$base/level?[1-10]" > "flood.$client" &
+        waiting="$waiting $!"
+    done
+    for client in $waiting; do wait "$client" || fail "one of the flood from $1..$2"; done
+    cat flood.* | sort | uniq -c > flood
+}
+floods 2001:db8:0:1: ::1
+grep -q ' 429$' flood || fail "nobody of the flood from one network was refused: $(cat flood)"
+floods 2001:db8:1: ::1
+if grep -q ' 429$' flood; then fail "networks of 64 bits are counted as one: $(cat flood)"; fi
+floods ::ffff:192.0.2. ''
+if grep -q ' 429$' flood; then fail "addresses of IPv4 are counted as one: $(cat flood)"; fi
+# 780 commands with one token, from 26 addresses: 500 are taken at once. The desk refuses each, since
+# it has no key.
+# commands NAME PATH..: 780 in all, of these paths in turn; `taken` is how many went to the desk.
+commands() {
+    who=$1
+    shift
+    waiting=''
+    rm -f submits.*
+    for client in $(seq 101 126); do
+        paths=''
+        for at in "$@"; do paths="$paths -o /dev/null $base$at#[1-$((30 / $#))]"; done
+        # shellcheck disable=SC2086
+        https "$who" --interface "127.0.0.$client" -w '%{http_code}\n' -d x $paths > "submits.$client" &
+        waiting="$waiting $!"
+    done
+    for client in $waiting; do wait "$client" || fail "one of the commands of $who"; done
+    cat submits.* | sort | uniq -c > submits
+    taken=$(sed -n 's/ 400$//p' submits | tr -d ' ')
+    { [ "${taken:-0}" -ge 480 ] && [ "$taken" -le 700 ] && grep -q ' 429$' submits && [ "$(grep -vc ' 429$\| 400$' submits)" -eq 0 ]; } \
+        || fail "780 commands with the token of $who: $(cat submits)"
+}
+commands oscar /dbx/digests /dbx/certificates /level /imports/csv /proposals/1/confirm
+taken_of_oscar=$taken
+commands ann /requests
 ask rita /requests -d x
 is 400 '{"name":"BadField","refused":51}'
-ask ann /level
-is 200 'sbat,1,2021030218'
+for who in ann oscar; do
+    ask "$who" /requests/1/withdraw -d x
+    [ "$(cat said)" = 429 ] || fail "$who behind 780 commands: $(cat said)"
+    ask "$who" /level
+    is 200 'sbat,1,2021030218'
+    ask "$who" /verdict --data-binary "@$image"
+    is 200 '{"verdict":"allowed"}'
+done
 
 # ---- the desk is stopped at any moment, and acknowledged commands stay
 
@@ -373,6 +439,112 @@ grub,3'
 served
 desk minutes desk.db > minutes
 [ "$(tail -n 1 minutes | cut -f2-)" = 'otto	k4	confirm 12	confirmed 12 0 0 1 0' ] || fail "the minutes: $(tail -n 1 minutes)"
+
+# ---- a token that leaked
+
+# gone PROCESS..: they have ended.
+gone() {
+    for process in "$@"; do
+        if is_running "$process"; then return 1; fi
+    done
+}
+# rereads: nginx reads its sites again, and no worker of before is left.
+rereads() {
+    master=$(cat nginx.pid)
+    workers=$(cat "/proc/$master/task/$master/children")
+    kill -HUP "$master"
+    # shellcheck disable=SC2086
+    soon 20 gone $workers
+}
+# sends WORD..: curl to the proxy without a token of its own; `said` is the status.
+sends() {
+    curl -sS --no-progress-meter --max-time 60 --cacert site.pem --resolve "$site:$tls:127.0.0.1" -o body -w '%{http_code}' "$@" > said 2> curl.err \
+        || fail "$*: $(cat curl.err)"
+    requests=$((requests + 1))
+}
+serve desk.db 100000
+tab=$(printf '\t')
+control=$(printf '\001')
+leaked=$(token_of otto)
+post 200 '{"proposal":13,"reply":"proposed"}' olga k-leak /dbx/digests digest2
+printf '"~^\\Q%s\\E$" "";\n' "$leaked" > kovelamiru-desk.leaked
+rereads
+for form in "$leaked" "$leaked$tab" "$tab$leaked" "$tab$tab$leaked $tab " "$leaked $tab" "$leaked$control" "$control$leaked" "$leaked," "x $leaked" \
+    "$leaked;$leaked" "\"$leaked\""; do
+    sends -H "Desk-Token: $form" "$base/report"
+    [ "$(cat said)" = 401 ] || fail "a leaked token as <$form>: $(cat said)"
+    sends -H "Desk-Token: $form" -H 'Desk-Key: leaked' -d '' "$base/proposals/13/confirm"
+    [ "$(cat said)" = 401 ] || fail "a Confirm with a leaked token as <$form>: $(cat said)"
+done
+# Two fields: the one that is asked about is the one that is sent.
+for second in Desk-Token desk-token DESK-TOKEN Desk_Token; do
+    sends -H "Desk-Token: $leaked" -H "$second: $(token_of olga)" "$base/report"
+    [ "$(cat said)" = 401 ] || fail "a leaked token, then $second: $(cat said)"
+    sends -H "Desk-Token: $(token_of olga)" -H "$second: $leaked" -H 'Desk-Key: leaked' -d '' "$base/proposals/13/confirm"
+    case $(cat said) in
+        401) ;;
+        *) is 409 '{"name":"OwnProposal","refused":38}' ;;
+    esac
+done
+# Tabs and spaces about a token that is good make it none either, so nobody has a count for each.
+for form in "$(token_of olga)$tab" "$tab$(token_of olga)" "$(token_of olga)$control"; do
+    sends -H "Desk-Token: $form" "$base/level"
+    [ "$(cat said)" = 401 ] || fail "a token as <$form>: $(cat said)"
+done
+ask olga /proposals/13
+grep -q '"state":"open"' body || fail "a leaked token confirmed: $(cat body)"
+: > kovelamiru-desk.leaked
+rereads
+ask otto /level
+[ "$(cat said)" = 200 ] || fail "a token that is no more in the list: $(cat said)"
+post 200 '{"proposal":13,"reply":"dropped"}' olga k-unleak /proposals/13/drop nothing
+
+# ---- headers, a closed site, maintenance
+
+strict='Strict-Transport-Security: max-age=63072000'
+# strictly WHAT: the fields of the response forbid HTTP without TLS.
+strictly() { tr -d '\r' < fields | grep -qx "$strict" || fail "$1 without $strict: $(cat fields)"; }
+for at in / /page/main.js /level /nowhere; do
+    ask olga "$at" -D fields
+    strictly "$at"
+done
+ask nobody /level -D fields
+strictly 401
+ask olga /level -D fields -X PUT
+strictly 405
+: > kovelamiru-desk.closed
+for at in / /page/main.js /level; do
+    ask olga "$at"
+    [ "$(cat said)" = 503 ] || fail "$at of a closed site: $(cat said)"
+done
+before=$(kept)
+sends -H 'Expect:' -H "Desk-Token: $(token_of olga)" -H 'Desk-Key: closed' --data-binary @longer "$base/dbx/digests"
+[ "$(cat said)" = 503 ] || fail "a command at a closed site: $(cat said)"
+[ "$(kept)" = "$before" ] || fail 'a closed site kept a body'
+sited nginx-maintenance.conf > site.back.conf
+has_places nginx-maintenance.conf site.back.conf "listen 127.0.0.1:$back ssl;" "$room/site.pem;" "$room/site.key;"
+rereads
+# returns STATUS NAME PATH CURL-WORD..: at the site of maintenance.
+returns() {
+    status=$1 who=$2 path=$3
+    shift 3
+    https "$who" --resolve "$site:$back:127.0.0.1" -o body -w '%{http_code}' "$@" "https://$site:$back$path" > said 2> curl.err || fail "$path: $(cat curl.err)"
+    requests=$((requests + 1))
+    [ "$(cat said)" = "$status" ] || fail "$who at $path of the site of maintenance: $(cat said)"
+}
+returns 401 nobody /level
+returns 200 olga /level
+returns 200 olga /dbx/digests -H 'Desk-Key: k-closed' --data-binary @digest3
+is 200 '{"proposal":14,"reply":"proposed"}'
+# A list of ten thousand entries is listed there again: no limit of a token.
+https oscar --resolve "$site:$back:127.0.0.1" -o /dev/null -w '%{http_code}\n' -d x "https://$site:$back/db/digests#[1-20]" > codes || fail 'at the site of maintenance'
+[ "$(sort -u codes)" = 400 ] || fail "oscar at the site of maintenance: $(sort codes | uniq -c)"
+rm kovelamiru-desk.closed site.back.conf
+ask olga /level
+[ "$(cat said)" = 200 ] || fail "a site that is open again: $(cat said)"
+rereads
+kill "$server"
+wait "$server" 2> /dev/null || :
 
 # ---- people with certificates
 
@@ -405,18 +577,12 @@ sha256sum_of() { tr -d '\n' < "$1" | sha256sum; }
 sha256sum_of olga-2.token | desk enrol desk.db olga-2 officer k-olga-2 > said
 # people_are NAME/TOKEN..: the list that nginx reads.
 people_are() {
-    for person in "$@"; do printf '"~^\\QCN=%s,O=Example\\E$" "%s";\n' "${person%%/*}" "${person#*/}"; done > list
+    for person in "$@"; do printf '"~^\\QCN=%s,O=Example\\E$" "%s";\n' "${person%%/*}" "${person#*/}"; done > kovelamiru-desk.people
 }
 people_are "olga/$(token_of olga)" "otto/$(token_of otto)"
-sed "s|listen 8443 ssl;|listen 127.0.0.1:$own ssl;|
-     /listen \[::\]:8443 ssl;/d
-     s|/etc/nginx/kovelamiru-desk.people|$room/list|
-     s|/etc/ssl/certs/$people.pem|$room/people.pem|
-     s|/etc/ssl/private/$people.key|$room/people.key|
-     s|/etc/ssl/certs/kovelamiru-desk-people.pem|$room/ca.pem|
-     s|/etc/ssl/certs/kovelamiru-desk-people.crl|$room/ca.crl|
-     s|/var/log/nginx/|$room/|" "$root/packaging/nginx-certificates.conf" > site.people.conf
-[ "$(grep -c "$room/" site.people.conf)" -eq 6 ] || fail 'packaging/nginx-certificates.conf has other files than this check knows'
+sited nginx-certificates.conf > site.people.conf
+has_places nginx-certificates.conf site.people.conf "listen 127.0.0.1:$own ssl;" "$room/people.pem;" "$room/people.key;" "$room/ca.pem;" "$room/ca.crl;" \
+    "include $room/kovelamiru-desk.people;" "-e $room/kovelamiru-people.closed)"
 "$nginx" -t -q -p "$room/" -e "$room/error.log" -c nginx.conf 2> said || fail "nginx -t: $(cat said)"
 # It also stands alone, beside the names of the other site.
 mkdir no-tokens
@@ -440,19 +606,9 @@ shown() {
     requests=$((requests + 1))
     [ "$(cat said)" = "$1" ]
 }
-# gone PROCESS..: they have ended.
-gone() {
-    for process in "$@"; do
-        if is_running "$process"; then return 1; fi
-    done
-}
 # reread WHAT STATUS NAME: nginx reads its site again, and then answers this certificate so.
 reread() {
-    master=$(cat nginx.pid)
-    workers=$(cat "/proc/$master/task/$master/children")
-    kill -HUP "$master"
-    # shellcheck disable=SC2086
-    soon 20 gone $workers
+    rereads
     shown "$2" "$3" || fail "$1: $(cat said)"
 }
 reread 'olga with her certificate' 200 olga
@@ -466,8 +622,28 @@ curl -sS --no-progress-meter --max-time 60 --cacert people.pem --resolve "$peopl
 shows stan /verdict -H 'Expect:' --data-binary @longer
 [ "$(cat said)" = 403 ] || fail "a long body of somebody who isn't in the list: $(cat said)"
 [ "$(kept)" = "$before" ] || fail 'a body was kept that nobody sent'
+# The page is there, for whoever is in the list, and signs in without a token: /me says who it is.
+shows olga / -D fields
+cmp -s body "$root/page/index.html" || fail "no page for people with certificates: $(cat said) $(head -c 300 body)"
+strictly 'the page for people with certificates'
+grep -q "^Content-Security-Policy: default-src 'none';" fields || fail "the page for people with certificates: $(cat fields)"
+shows olga /me -D fields
+grep -q '"olga"' body || fail "who olga is: $(cat body)"
+strictly '/me'
+shows stan /
+[ "$(cat said)" = 403 ] || fail "the page, for somebody who isn't in the list: $(cat said)"
+# A browser sends her certificate for any page that she looks at: without a key there is no command,
+# and a page of another origin may send none.
+shows olga /dbx/digests -d "{\"digest\":\"$(printf '%064d' 9)\"}"
+is 400 '{"name":"BadField","refused":51}'
+shows olga /dbx/digests -X OPTIONS -H 'Origin: https://example.net' -H 'Access-Control-Request-Method: POST' -H 'Access-Control-Request-Headers: desk-key'
+is 405 '{"name":"BadMethod","refused":54}'
+: > kovelamiru-people.closed
+shows olga /level
+[ "$(cat said)" = 503 ] || fail "a closed site for people with certificates: $(cat said)"
+rm kovelamiru-people.closed
 # otto's token has no effect in olga's connection, however its field is written.
-proposal=13
+proposal=15
 for field in 'Desk-Token' 'desk-token' 'DESK-TOKEN' 'Desk_Token'; do
     shows olga /dbx/digests -H "$field: $(token_of otto)" -H "$field: $(token_of otto)" -H "Desk-Key: forged-$proposal" \
         -d "{\"digest\":\"$(printf '%064d' "$proposal")\"}"
@@ -476,16 +652,16 @@ for field in 'Desk-Token' 'desk-token' 'DESK-TOKEN' 'Desk_Token'; do
     grep -q '"officer":"olga"' body || fail "the proposal of a forged $field: $(cat body)"
     proposal=$((proposal + 1))
 done
-shows olga /proposals/13/confirm -H "Desk-Token: $(token_of otto)" -H 'Desk-Key: forged' -d ''
+shows olga /proposals/15/confirm -H "Desk-Token: $(token_of otto)" -H 'Desk-Key: forged' -d ''
 is 409 '{"name":"OwnProposal","refused":38}'
-shows otto /proposals/13/confirm -H 'Desk-Key: of-otto' -d ''
-is 200 '{"certificates":0,"components":0,"digests":1,"passed":0,"proposal":13,"reply":"confirmed"}'
+shows otto /proposals/15/confirm -H 'Desk-Key: of-otto' -d ''
+is 200 '{"certificates":0,"components":0,"digests":1,"passed":0,"proposal":15,"reply":"confirmed"}'
 # Another token for olga's certificate; then none for otto's.
 people_are "olga/$(cat olga-2.token)" "otto/$(token_of otto)"
 reread 'the list again' 200 olga
-soon_olga() { shows olga /proposals/14/drop -H "Desk-Key: $1" -d ''; }
+soon_olga() { shows olga /proposals/16/drop -H "Desk-Key: $1" -d ''; }
 soon_olga of-olga-2
-is 200 '{"proposal":14,"reply":"dropped"}'
+is 200 '{"proposal":16,"reply":"dropped"}'
 people_are "olga/$(cat olga-2.token)"
 reread 'otto, taken out of the list' 403 otto
 people_are "olga/$(cat olga-2.token)" "otto/$(token_of otto)"
@@ -527,13 +703,13 @@ session 403 olga tls1_3 "$tls" -sess_in session.tls1_3
 kill "$server"
 wait "$server" 2> /dev/null || :
 desk minutes desk.db > minutes
-[ "$(cut -f2,3,5 minutes | grep -c '^olga	forged-1[3-6]	proposed 1[3-6]$')" -eq 4 ] || fail "the forged calls: $(tail -n 8 minutes)"
-[ "$(tail -n 1 minutes | cut -f2-)" = 'olga-2	of-olga-2	drop 14	dropped 14' ] || fail "the minutes: $(tail -n 1 minutes)"
+[ "$(cut -f2,3,5 minutes | grep -c '^olga	forged-1[5-8]	proposed 1[5-8]$')" -eq 4 ] || fail "the forged calls: $(tail -n 8 minutes)"
+[ "$(tail -n 1 minutes | cut -f2-)" = 'olga-2	of-olga-2	drop 16	dropped 16' ] || fail "the minutes: $(tail -n 1 minutes)"
 
 # ---- the log
 
 grep -q '^20[0-9T:+-]* 127\.0\.0\.1 POST /requests 200 [0-9.]* "k1"$' kovelamiru-desk.log || fail "the log: $(tail -n 3 kovelamiru-desk.log)"
-grep -q '"CN=otto,O=Example" POST /proposals/13/confirm 200 [0-9.]* "of-otto"$' kovelamiru-desk.log || fail "the log: $(tail -n 3 kovelamiru-desk.log)"
+grep -q '"CN=otto,O=Example" POST /proposals/15/confirm 200 [0-9.]* "of-otto"$' kovelamiru-desk.log || fail "the log: $(tail -n 3 kovelamiru-desk.log)"
 for status in 400 401 403 405 409 413 422 429 502; do
     grep -q " $status [0-9.]* " kovelamiru-desk.log || fail "the log has no $status"
 done
@@ -541,4 +717,5 @@ if grep -q "token-for-the-desk\|$(cat olga-2.token)" ./*.log; then fail 'a token
 kill "$proxy"
 wait "$proxy" 2> /dev/null || :
 echo "$requests requests through the proxy, each answered as it has to be; beside two slow ones, $clients clients of two requests" \
-    "each took $took ms, the longest request $longest s; nothing of a stranger's body was kept, $taken of 780 submissions were taken"
+    "each took $took ms, the longest request $longest s; nothing of a stranger's body was kept, $taken of 780 submissions were taken and $taken_of_oscar" \
+    'of 780 proposals'

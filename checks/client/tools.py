@@ -322,6 +322,7 @@ class Nginx:
         site = re.sub(r"server 127\.0\.0\.1:\d+;", f"server 127.0.0.1:{port};", site)
         site = re.sub(r"(?m)^ *listen \[::\].*\n", "", site)
         site = site.replace("/var/log/nginx/", f"{self.folder}/")
+        site = site.replace("include /usr/share/kovelamiru-desk/", f"include {ROOT}/packaging/")
         site = re.sub(r"listen 443 ssl;", f"listen 127.0.0.1:{self.port} ssl;", site)
         site = re.sub(r"ssl_certificate [^;]*;", f"ssl_certificate {self.folder}/site.pem;", site)
         site = re.sub(r"ssl_certificate_key [^;]*;", f"ssl_certificate_key {self.folder}/site.key;", site)

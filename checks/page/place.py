@@ -141,6 +141,7 @@ class Place:
         site = re.sub(r"^ *(ssl_|listen \[).*\n", "", site, flags=re.M)
         site = site.replace("listen 443 ssl;", f"listen 127.0.0.1:{self.port};").replace("root /usr/share/kovelamiru-desk;", f"root {ROOT};")
         site = site.replace("/var/log/nginx/", f"{self.room}/")
+        site = site.replace("include /usr/share/kovelamiru-desk/", f"include {ROOT}/packaging/")
         for line in (f"server 127.0.0.1:{self.upstream};", f"listen 127.0.0.1:{self.port};", f"root {ROOT};"):
             if site.count(line) != 1:
                 fail(f"packaging/nginx.conf has no place for {line}")

@@ -202,6 +202,7 @@ class Machine:
         site = site.replace("listen 443 ssl;", f"listen 127.0.0.1:{self.proxy};")
         for named in ("/var/log/nginx", "/etc/"):
             site = site.replace(named, self.paths[named])
+        site = site.replace("include /usr/share/kovelamiru-desk/", f"include {ROOT}/packaging/")
         folder = self.room / "nginx"
         (folder / "site.conf").write_text(site)
         user = "user root root;" if os.getuid() == 0 else ""
