@@ -1,0 +1,101 @@
+#!/bin/sh
+# The package's scripts around an upgrade, with the built program or the named one: upgrade.sh
+# [PROGRAM]. They run as dpkg runs them, on a root of their own, with scripts in place of systemd. A
+# desk of version 1 (examples/version-1) that serves is stopped, and then copied with its log, before
+# the new program comes; that one makes it a desk of version 2, and the copy stays the one of version 1.
+# It is started again by the configuration, and by an upgrade that comes to nothing. Where no copy can
+# be made there is no upgrade, and it goes on. A purge takes the token for publishing and the links of
+# the units, and no desk. It needs gzip.
+set -eu
+. "$(dirname -- "$(readlink -f -- "$0")")/common.sh"
+needs gzip
+find_program "$@"
+enter_room
+own=$room/own
+state=$own/var/lib/kovelamiru-desk
+copies=$own/var/backups/kovelamiru-desk
+steps=0
+mkdir -p bin "$state" "$own/run/systemd/system" "$own/var/backups"
+
+# stands NAME TEXT: a script in place of a program of the system's. `did` has what they were asked.
+stands() {
+    printf '#!/bin/sh\n%s\n' "$2" > "bin/$1"
+    chmod +x "bin/$1"
+}
+# shellcheck disable=SC2016
+{
+    stands systemctl 'case $1 in is-active) cat "$ROOM/state" && grep -q "^active" "$ROOM/state" ;; *) echo "systemctl $*" >> "$ROOM/did" ;; esac'
+    stands deb-systemd-invoke 'echo "$*" >> "$ROOM/did"
+case $1 in start) echo active > "$ROOM/state" ;; stop) echo inactive > "$ROOM/state" ;; esac'
+    stands systemd-sysusers ':'
+    # (Users are made by systemd-sysusers; and no desk is copied that serves.)
+    stands install 'for word in "$@"; do case $word in -o | -g) exec mkdir -p "$DPKG_ROOT/var/lib/kovelamiru-desk" ;; esac; done
+exec /usr/bin/install "$@"'
+    stands cp 'if grep -q "^activ" "$ROOM/state"; then echo "it still serves" >&2; exit 1; fi
+if [ -e "$ROOM/full" ]; then : > "$4/desk.db"; echo "no space" >&2; exit 1; fi
+exec /bin/cp "$@"'
+}
+# script NAME WORD..: a script of the package, as dpkg runs it; its status is `got`.
+script() {
+    got=0
+    which=$1
+    shift
+    : > did
+    DPKG_ROOT=$own ROOM=$room PATH=$room/bin:$PATH sh "$root/packaging/$which" "$@" > said 2>&1 || got=$?
+    steps=$((steps + 1))
+}
+# ended STATUS LINES: it ended so, and systemd was asked for these, but for reading its units anew.
+ended() {
+    if [ "$got" -ne "$1" ] || [ "$(grep -v daemon-reload did)" != "$2" ]; then fail "$which: status $got, $(cat said did), in place of $1 and $2"; fi
+}
+
+script preinst install
+ended 0 ''
+gzip -dc "$root/examples/version-1/desk.db.gz" > "$state/desk.db"
+echo 'a log' > "$state/desk.db-wal"
+mkdir first
+cp "$state"/desk.db* first
+for how in active activating inactive; do
+    echo "$how" > state
+    script preinst upgrade 0.0.9 0.1.0
+    serves=$([ "$how" = inactive ] || echo kovelamiru-desk.service)
+    ended 0 "${serves:+stop $serves}"
+    copy=$(echo "$copies"/0.0.9-*)
+    diff -r first "$copy" > said || fail "the copy of $how: $(cat said)"
+    [ "$(stat -c %a "$copy")$(stat -c %a "$copies")" = 700700 ] || fail "others read the copy: $(ls -la "$copies")"
+    script postinst configure 0.0.9
+    if [ -n "$serves" ]; then ended 0 "start $serves"; else ended 0 'try-restart kovelamiru-desk.service'; fi
+    script preinst upgrade 0.0.9 0.1.0
+    script postinst abort-upgrade 0.1.0
+    ended 0 "${serves:+start $serves}"
+    [ ! -e "$own/run/kovelamiru-desk.stopped" ] || fail 'it counts as stopped'
+    rm -r "$copies"
+    : > full
+    script preinst upgrade 0.0.9 0.1.0
+    ended 1 "${serves:+stop $serves
+start $serves}"
+    grep -q 'no copy of the desk' said || fail "no room for a copy: $(cat said)"
+    [ -z "$(ls -A "$copies")" ] || fail "part of a copy: $(ls "$copies")"
+    [ ! -e "$own/run/kovelamiru-desk.stopped" ] || fail 'it counts as stopped'
+    rm full
+    rmdir "$copies"
+done
+
+# The new program changes the file, and the copy is the old one.
+rm "$state/desk.db-wal" first/desk.db-wal
+echo inactive > state
+script preinst upgrade 0.0.9 0.1.0
+"$program" minutes "$state/desk.db" > minutes || fail 'the minutes'
+cmp -s "$state/desk.db" first/desk.db && fail 'the new program leaves the file as it was'
+diff -r first "$copies"/0.0.9-* > said || fail "the copy: $(cat said)"
+
+for link in multi-user.target.wants/kovelamiru-desk.service timers.target.wants/kovelamiru-publish.timer; do
+    mkdir -p "$own/etc/systemd/system/${link%/*}"
+    ln -s "/usr/lib/systemd/system/${link#*/}" "$own/etc/systemd/system/$link"
+done
+echo token > "$own/etc/kovelamiru-publish.token"
+script postrm purge
+ended 0 ''
+[ -z "$(find "$own/etc" -type f -o -type l)" ] || fail "a purge leaves $(find "$own/etc" -type f -o -type l)"
+if [ ! -e "$state/desk.db" ] || ! diff -r first "$copies"/0.0.9-* > said; then fail "a purge takes the desk: $(cat said)"; fi
+echo "$steps runs of the package's scripts, each as it has to be"
