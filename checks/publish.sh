@@ -2,19 +2,24 @@
 # packaging/desk-publish, with the built program or the named one: publish.sh [PROGRAM]. A desk is
 # made, and what it decided is published, again after each change. Each rule fires once: the first
 # publication without --first; minutes that the desk's audit refuses, or from which dbx, db or the
-# level doesn't follow; a desk restored from an older copy, and another desk; an entry of dbx,
-# a generation or the stamp that went back; db changed without consent, or with that of the wrong person;
-# a signing command that fails or signs something else; published files that were changed; a token
-# file that others can read. It is killed at each of its steps, and what is published is then the old
-# files or the new ones, whole. efitools and dbxtool read what was published. Then the desk is asked
-# over HTTP while it serves. It needs curl, efitools, dbxtool (fwupd), openssl and python3.
+# level doesn't follow; a desk restored from an older copy, also together with what it published, and
+# another desk; an entry of dbx, a generation or the stamp that went back; db changed without consent,
+# or with that of the wrong person, of nobody, or of another change; a signing command that fails,
+# signs something else, leaves more than its update, or doesn't end; published files that were
+# changed or emptied; a token file of somebody else, or that others can read; a lock that is a link; a
+# server that is no desk. It is killed at each of its steps, and what is published is then the old
+# files or the new ones, whole. Another user checks each publication with its sums and their
+# signature, as its help says, and a mirror takes one publication while the next is made. efitools and
+# dbxtool read what was published. Then the desk is asked over HTTP while it serves. It needs curl,
+# efitools, dbxtool (fwupd), openssl, python3, setpriv and ssh-keygen.
 set -eu
 . "$(dirname -- "$(readlink -f -- "$0")")/common.sh"
-needs curl dbxtool openssl python3 sig-list-to-certs sign-efi-sig-list
+needs curl dbxtool openssl python3 setpriv sig-list-to-certs sign-efi-sig-list ssh-keygen
 find_program "$@"
 # In memory, where there is room for it: each of some hundred publications waits for its disk.
 if [ -w /dev/shm ]; then export TMPDIR=/dev/shm; fi
 enter_room
+chmod 711 "$room"
 owner=00112233-4455-6677-8899-aabbccddeeff
 found=0
 
@@ -65,13 +70,39 @@ publish() {
     if [ "$got" -ne "$status" ] || ! grep -qF -e "$wanted" said; then fail "status $got in place of $status and of $wanted: $(cat said)"; fi
     found=$((found + 1))
 }
-# shows CALLS: what is published is whole, and is the desk's after so many calls.
+# anybody COMMAND WORD..: the command, run by a user who has nothing to do with the desk, where this is root.
+if [ "$(id -u)" -eq 0 ]; then
+    anybody() { setpriv --reuid=65534 --regid=65534 --clear-groups --no-new-privs "$@"; }
+else
+    anybody() { "$@"; }
+fi
+# shows CALLS: what is published is whole for anybody, and is the desk's after so many calls. The sums
+# need no other file than those that anybody can read, and each of those is in them.
 shows() {
-    (cd out/published && sha256sum --quiet -c SHA256SUMS) > said 2>&1 || fail "the published sums: $(cat said)"
+    (cd out/published && anybody sha256sum --quiet --strict -c SHA256SUMS) > said 2>&1 || fail "the published sums: $(cat said)"
+    if [ -e out/published/SHA256SUMS.sig ]; then
+        (cd out/published && anybody ssh-keygen -Y verify -f ../../mirror.signers -I desk.example.org -n kovelamiru-publish -s SHA256SUMS.sig < SHA256SUMS) \
+            > said 2>&1 || fail "the signature of the sums: $(cat said)"
+    fi
+    (cd out/published && find . -type f -printf '%P\n' | sort) > names
+    { sed -n 's/^[0-9a-f]\{64\}  //p' out/published/SHA256SUMS && cat; } << NAMES | sort > wanted
+SHA256SUMS
+minutes.txt
+$([ ! -e out/published/SHA256SUMS.sig ] || echo SHA256SUMS.sig)
+NAMES
+    sed -i '/^$/d' wanted
+    cmp -s names wanted || fail "published: $(cat names), in place of $(cat wanted)"
+    for name in dbx.esl db.esl level.csv audit.txt; do grep -q "  $name\$" out/published/SHA256SUMS || fail "no sum of $name: $(cat out/published/SHA256SUMS)"; done
+    [ "$(sed -n 's/^# calls //p' out/published/SHA256SUMS)" = "$1" ] || fail "the sums are of other calls than $1: $(cat out/published/SHA256SUMS)"
+    [ "$(sed -n 's/^# folder //p' out/published/SHA256SUMS)" = "$(readlink out/published)" ] || fail "the sums name another folder: $(cat out/published/SHA256SUMS)"
+    date=$(sed -n 's/^# date \(....-..-..T..:..:..Z\)$/\1/p' out/published/SHA256SUMS)
+    if [ -z "$date" ] || [ $(($(date +%s) - $(date -d "$date" +%s))) -gt 600 ]; then fail "the sums are of another day: $(cat out/published/SHA256SUMS)"; fi
     [ "$(head -n 1 out/published/audit.txt)" = "calls $1" ] || fail "published: $(cat out/published/audit.txt), in place of calls $1"
     [ "$(wc -l < out/published/minutes.txt)" -eq "$1" ] || fail "the published minutes have $(wc -l < out/published/minutes.txt) calls"
     found=$((found + 1))
 }
+# left: what broken runs left beside the folders.
+left() { find out -name '*.new' -o -name '*.link' -o -name '*.sign'; }
 # is_desks: each published file is the desk's.
 is_desks() {
     for pair in minutes/minutes.txt dbx/dbx.esl db/db.esl level/level.csv; do
@@ -91,7 +122,7 @@ publish 0 'calls 4: nothing new'
 for file in minutes.txt/600 dbx.esl/644 audit.txt/644 SHA256SUMS/644 ./755; do
     [ "$(stat -c %a "out/published/${file%/*}")" = "${file#*/}" ] || fail "the mode of ${file%/*}"
 done
-[ "$(find out -name '*.new' -o -name '*.link' | wc -l)" -eq 0 ] || fail "left: $(ls out)"
+[ -z "$(left)" ] || fail "left: $(left)"
 
 # A certificate is listed; db has its second look.
 openssl req -x509 -newkey rsa:2048 -nodes -days 2 -subj /CN=signer -keyout signer.key -out signer.pem 2> openssl.err
@@ -99,25 +130,88 @@ openssl x509 -in signer.pem -outform DER -out signer.der
 called olga k1 /db/certificates signer.der
 "$program" db desk.db > db
 sum=$(sha256sum < db | cut -d' ' -f1)
-publish 1 "refused consent: db changed by olga; consent isn't there, and takes a line \`$sum NAME\`" --consent consent
-shows 4
-echo "$sum olga" > consent
-publish 1 "names olga: it takes an officer who didn't change db" --consent consent
-echo "$sum ann" > consent
-publish 1 'names ann' --consent consent
-printf '%064d otto\n' 0 > consent
-publish 1 'has no line' --consent consent
-echo "$sum otto" > consent
-chmod 664 consent
-publish 1 'can be written by others' --consent consent
-chmod 644 consent
-publish 0 'calls 5: published' --consent consent
-shows 5
-is_desks
+for name in ann olga otto oscar mallory; do ssh-keygen -q -t ed25519 -N '' -C "$name" -f "key.$name" > said || fail "$(cat said)"; done
+for name in ann olga otto oscar; do echo "$name $(cut -d' ' -f1,2 "key.$name.pub")"; done > signers
+# signs KEY NAMESPACE TEXT: the file of consent has this line, signed so.
+signs() {
+    printf '%s\n' "$3" > consent
+    rm -f consent.sig
+    ssh-keygen -q -Y sign -f "key.$1" -n "$2" consent 2> said || fail "ssh-keygen: $(cat said)"
+}
+publish 2 'go together' --consent consent
+with='--consent consent --signers signers'
+# shellcheck disable=SC2086
+{
+    publish 1 "refused consent: db changed by olga; consent isn't there, and takes a line \`$sum 5 NAME\`" $with
+    shows 4
+    for line in "$sum otto" "$(printf '%064d' 0) 5 otto" "$sum 4 otto" "$sum 6 otto" "$sum 5 otto more" "$sum 5"; do
+        signs otto kovelamiru-consent "$line"
+        publish 1 "consent isn't the line \`$sum 5 NAME\`" $with
+    done
+    for name in olga ann nobody; do
+        signs otto kovelamiru-consent "$sum 5 $name"
+        publish 1 "names $name: it takes an officer who didn't change db" $with
+    done
+    # The right line: of whoever could write the file, of others' keys, of a signature for something else.
+    rm consent consent.sig
+    echo "$sum 5 otto" > consent
+    [ "$(id -u)" -ne 0 ] || chown 65534 consent
+    publish 1 "consent isn't signed by otto" $with
+    rm consent
+    for name in olga oscar mallory; do
+        signs "$name" kovelamiru-consent "$sum 5 otto"
+        publish 1 "consent isn't signed by otto" $with
+    done
+    signs otto git "$sum 5 otto"
+    publish 1 "consent isn't signed by otto" $with
+    signs otto kovelamiru-consent "$sum 5 oscar"
+    publish 1 "consent isn't signed by oscar" $with
+    signs otto kovelamiru-consent "$sum 5 otto"
+    chmod 664 signers
+    publish 2 'others can write signers' $with
+    chmod 644 signers
+    shows 4
+    publish 0 'calls 5: published' $with
+    shows 5
+    is_desks
+    cp consent consent.first
+    cp consent.sig consent.first.sig
+    publish 0 'calls 5: nothing new' $with
+}
+# Unlisted, and listed again: what otto saw first counts no more, though db is the same again.
+cp -a desk.db desk.before
+cp -a desk.db-wal desk.before-wal 2> /dev/null || :
+cp -a out out.before
+certificate=$("$program" minutes desk.db | sed -n 's/.*\tlist-certificate \([0-9a-f]*\) .*/\1/p')
+text "{\"digest\":\"$certificate\",\"kind\":\"certificate\"}"
+called olga k-unlist /db/unlist body
+"$program" db desk.db | cmp -s - db && fail 'unlisted, and db stays'
+sum_without=$("$program" db desk.db | sha256sum | cut -d' ' -f1)
+# shellcheck disable=SC2086
+{
+    publish 1 "\`$sum_without 6 NAME\`" $with
+    signs otto kovelamiru-consent "$sum_without 6 otto"
+    publish 0 'calls 6: published' $with
+    called olga k-again /db/certificates signer.der
+    "$program" db desk.db | cmp -s - db || fail 'listed again, and db is another one'
+    cp consent.first consent
+    cp consent.first.sig consent.sig
+    publish 1 "isn't the line \`$sum 7 NAME\`" $with
+    signs otto kovelamiru-consent "$sum 7 otto"
+    publish 0 'calls 7: published' $with
+    shows 7
+    is_desks
+}
+# The day goes on from before that.
+rm -rf desk.db* out
+mv desk.before desk.db
+mv desk.before-wal desk.db-wal 2> /dev/null || :
+mv out.before out
 
 # Two images are revoked and a level is raised, by two officers; the lists are signed.
 mkdir copy
 cp desk.db* copy
+cp -a out copy
 for number in 1 2; do
     text "{\"digest\":\"$(printf '%064d' "$number")\"}"
     called olga "k-digest-$number" /dbx/digests body
@@ -138,14 +232,62 @@ signing() { printf '#!/bin/sh\n%s\n' "$1" > "$2" && chmod +x "$2"; }
     signing 'head -c 100 "$2" > "$3"' no-update
     signing ': ' silent
     signing "printf x > x && exec $room/sign"' "$1" x "$3"' another
+    signing "cd $room; $room/sign"' "$1" "$2" made && ln -s "'"$room"'/made" "$3"' linked
+    signing 'mkfifo "$3"' fifo
+    # What it leaves beside its update is nobody's, whatever its name.
+    signing 'for name in KEK.key.tmp SHA256SUMS more.esl; do cp "$(dirname "$0")/KEK.key" "$(dirname "$3")/$name"; done
+printf "%s\n" "${CREDENTIALS_DIRECTORY:-none}" >> "$(dirname "$0")/credentials"
+exec "$(dirname "$0")/sign" "$@"' leaving
+    signing 'sleep 600 & echo $! > "$(dirname "$0")/sleeps"; wait' card
+    signing 'sleep 600 & echo $! > "$(dirname "$0")/sleeps"' card-behind
 }
 publish 1 'refused signature: ' --sign "$room/no-card"
 grep -q 'no card' said || fail "of the signing command: $(cat said)"
 for command in no-update silent another; do publish 1 'refused signature: ' --sign "$room/$command"; done
+publish 3 'dbx.auth: ' --sign "$room/linked"
+publish 3 'dbx.auth is no file' --sign "$room/fifo"
+# One that waits, or something that it left, is ended: two minutes are two seconds here.
+mkdir quick
+sed 's/^\(PROGRAM_SECONDS, SIGNING_SECONDS, WITNESS_SECONDS =\) 300, 120, 30$/\1 300, 2, 2/' "$root/packaging/desk-publish" > quick/desk-publish
+sed 's/^\(ANSWER_SECONDS, ANSWER_BYTES =\) 300, 1 << 30$/\1 2, 1 << 20/' "$root/packaging/desk_http.py" > quick/desk_http.py
+for file in desk-publish desk_http.py; do
+    if cmp -s "quick/$file" "$root/packaging/$file"; then fail "$file has other limits than this check knows"; fi
+done
+chmod +x quick/desk-publish
+# quickly STATUS TEXT WORD..: the same with these limits, in a minute.
+quickly() {
+    status=$1 wanted=$2
+    shift 2
+    got=0
+    within 60 quick/desk-publish out/published --owner "$owner" --program "$program" "$@" > said 2>&1 || got=$?
+    if [ "$got" -ne "$status" ] || ! grep -qF -e "$wanted" said; then fail "quickly: status $got in place of $status and of $wanted: $(cat said)"; fi
+    found=$((found + 1))
+}
+for command in card card-behind; do
+    quickly 3 "it hadn't ended after 2 seconds" --db desk.db --sign "$room/$command"
+    if is_running "$(cat sleeps)"; then fail "what $command started goes on"; fi
+done
 shows 5
-publish 0 'calls 11: published' --sign "$room/sign"
+ssh-keygen -q -t ed25519 -N '' -C publish -f publisher > said
+echo "desk.example.org namespaces=\"kovelamiru-publish\" $(cut -d' ' -f1,2 publisher.pub)" > mirror.signers
+chmod 644 mirror.signers
+publish 3 'ssh-keygen signs nothing with' --sign "$room/sign" --key none
+CREDENTIALS_DIRECTORY=$room publish 0 'calls 11: published' --sign "$room/leaving" --key publisher
 shows 11
 is_desks
+if grep -v '^none$' credentials; then fail 'the signing command is told of credentials'; fi
+for file in dbx.auth db.auth SHA256SUMS.sig; do
+    [ "$(stat -c %a "out/published/$file")" = 644 ] || fail "the mode of $file: $(stat -c %a "out/published/$file")"
+    anybody cat "out/published/$file" > said 2>&1 || fail "$file: $(cat said)"
+done
+if grep -rqF "$(sed -n 2p KEK.key)" out; then fail 'a private key is published'; fi
+# Sums with another date, or of older calls, aren't those that were signed.
+for change in 's/^# date 2/# date 3/' 's/^# calls 11/# calls 12/' '/ dbx.esl$/d'; do
+    sed "$change" out/published/SHA256SUMS > changed
+    if ssh-keygen -Y verify -f mirror.signers -I desk.example.org -n kovelamiru-publish -s out/published/SHA256SUMS.sig < changed > said 2>&1; then
+        fail "changed by $change, and signed"
+    fi
+done
 dbxtool -l -d out/published/dbx.auth > listed 2>&1 || fail "dbxtool: $(cat listed)"
 for number in 1 2; do grep -qi "$(printf '%064d' "$number")" listed || fail "dbxtool doesn't list digest $number: $(cat listed)"; done
 mkdir certs
@@ -172,6 +314,41 @@ publish 1 'refused minutes: they differ from those published at call 1'
 rm -f desk.db*
 mv desk.now desk.db
 mv desk.now-wal desk.db-wal 2> /dev/null || :
+shows 11
+
+# Desk and folder are restored from one copy, and the desk is worked with: nothing on this machine
+# tells. The audit that a mirror has does, in a file or at its URL.
+mkdir mirror
+cp out/published/audit.txt mirror
+hold 2
+read -r mirror_port lying_port << END
+$ports
+END
+mirror=http://127.0.0.1:$mirror_port/audit.txt
+mkdir now
+mv desk.db* out now
+cp copy/desk.db* .
+cp -a copy/out .
+publish 3 "the witness $mirror: " --witness "$mirror"
+python3 -m http.server -b 127.0.0.1 -d mirror "$mirror_port" > mirror.log 2>&1 &
+until_listens "$!" "$mirror_port" || fail "the mirror: $(cat mirror.log)"
+for where in mirror/audit.txt "$mirror"; do
+    publish 1 "refused witness: they have 5 calls, and those of $where 11: an older copy of the desk" --witness "$where"
+done
+for number in 1 2 3 4 5 6; do
+    text "{\"digest\":\"$(printf '%064d' "7$number")\"}"
+    called oscar "k-other-$number" /dbx/digests body
+done
+publish 1 "refused witness: their first 11 calls aren't those of $mirror: an older copy of the desk, or another desk" --witness "$mirror"
+publish 1 'refused witness: their first 11 calls' --witness copy/out/published/audit.txt --witness mirror/audit.txt
+: > mirror/empty
+publish 3 "the witness mirror/empty has no audit" --witness mirror/empty
+publish 3 'HTTP Error 404' --witness "http://127.0.0.1:$mirror_port/none"
+shows 5
+publish 0 'calls 11: published' --witness copy/out/published/audit.txt
+rm -rf desk.db* out
+mv now/desk.db* now/out .
+publish 0 'calls 11: nothing new' --witness "$mirror" --witness copy/out/published/audit.txt
 shows 11
 
 # What no desk does, of one that lies.
@@ -201,15 +378,18 @@ rm lie.db
 } > lie.minutes
 publish 1 'refused audit: refused 47 Minute at 14' --program lying/desk
 rm lie.minutes
-# The published files are what the next ones are judged by.
-cp -a out changed
-mv out kept
-mv changed out
-chmod 600 out/published/dbx.esl
-: > out/published/dbx.esl
-publish 3 "isn't what was published"
-rm -r out
-mv kept out
+# The published files are what the next ones are judged by: none is changed, emptied or gone, and so
+# are their sums. A fault is told by status 3.
+cp -a out kept
+for change in ': > dbx.esl' ': > SHA256SUMS' ': > dbx.esl; : > SHA256SUMS' ': > minutes.txt' ': > minutes.txt; : > dbx.esl; : > SHA256SUMS' 'rm level.csv' \
+    'echo spoiled > SHA256SUMS' 'printf "\377\n" >> SHA256SUMS' 'sed -i s/level.csv/level.txt/ SHA256SUMS' 'sed -i /db.esl/d SHA256SUMS' \
+    ': > audit.txt; sed -i "s/.*  audit.txt/$(sha256sum < /dev/null | cut -d" " -f1)  audit.txt/" SHA256SUMS' 'echo >> minutes.txt'; do
+    (cd out/published && chmod u+w ./* && eval "$change")
+    publish 3 'desk-publish: '
+    rm -r out
+    cp -a kept out
+done
+rm -r kept
 shows 11
 
 # ---- killed at each step
@@ -225,7 +405,7 @@ while :; do
     cp -a before out
     got=0
     python3 -B "$root/checks/publish/kills.py" "$stop" "$room/out" "$root/packaging/desk-publish" "$room/out/published" --owner "$owner" \
-        --program "$room/lying/desk" --db desk.db --sign "$room/sign" > said 2>&1 || got=$?
+        --program "$room/lying/desk" --db desk.db --sign "$room/sign" --key "$room/publisher" > said 2>&1 || got=$?
     case $(head -n 1 out/published/audit.txt) in
         'calls 11') shows 11 ;;
         'calls 13') shows 13 ;;
@@ -236,19 +416,54 @@ while :; do
     # The next run goes on from there, and takes away what was left.
     publish 0 'calls 13: ' --program lying/desk
     shows 13
-    [ "$(find out -name '*.new' -o -name '*.link' | wc -l)" -eq 0 ] || fail "left by step $stop: $(ls out)"
+    [ -z "$(left)" ] || fail "left by step $stop: $(left)"
 done
 [ "$stop" -ge 15 ] || fail "only $stop steps"
 rm lie.*
 is_desks
-# Two at once; folders of old publications.
+# Two at once; a lock that is a link to another's file, which stays as it is.
 (flock 9 && publish 3 'another run is publishing') 9> out/published.lock
+echo precious > victim
+ln -sf ../victim out/published.lock
+publish 3 'published.lock'
+[ "$(cat victim)" = precious ] || fail "the lock took another's file: $(cat victim)"
+rm out/published.lock
+# A mirror has read the sums, and the next publication is made: by the folder's name it gets the files
+# of these sums, through the link it doesn't.
+cp out/published/SHA256SUMS mirror
+folder=$(sed -n 's/^# folder //p' mirror/SHA256SUMS)
+# Folders of old publications.
 for number in 5 6; do
     text "{\"digest\":\"$(printf '%064d' "$number")\"}"
     called olga "k-digest-$number" /dbx/digests body
-    publish 0 ': published in' --keep 2
+    publish 0 ': published in' --keep "$number" --key publisher
 done
+mkdir fetched mixed
+for name in $(sed -n 's/^[0-9a-f]\{64\}  //p' mirror/SHA256SUMS); do
+    anybody cat "out/$folder/$name" > "fetched/$name" || fail "a mirror takes $folder/$name"
+    anybody cat "out/published/$name" > "mixed/$name" || fail "a mirror takes published/$name"
+done
+(cd fetched && sha256sum --quiet --strict -c ../mirror/SHA256SUMS) > said 2>&1 || fail "a mirror's files: $(cat said)"
+if (cd mixed && sha256sum --quiet -c ../mirror/SHA256SUMS) > said 2>&1; then fail 'another publication has the same sums'; fi
+text "{\"digest\":\"$(printf '%064d' 7)\"}"
+called olga k-digest-7 /dbx/digests body
+publish 0 ': published in' --keep 2 --key publisher
 [ "$(find out -maxdepth 1 -type d -name 'published.*-calls-*' | wc -l)" -eq 2 ] || fail "kept: $(ls out)"
+# Published again with a new date once the last one is a day old, so that nobody is shown an old one.
+publish 0 'calls 16: nothing new' --renew 24
+date=$(date -u -d '25 hours ago' +%Y-%m-%dT%H:%M:%SZ)
+sed -i "s/^# date .*/# date $date/" out/published/SHA256SUMS
+publish 0 'calls 16: nothing new'
+publish 0 'calls 16: nothing new' --renew 26
+publish 0 'calls 16: published' --renew 24 --key publisher
+shows 16
+# The clock goes back, and the date doesn't.
+date=$(date -u -d '1 hour' +%Y-%m-%dT%H:%M:%SZ)
+sed -i "s/^# date .*/# date $date/" out/published/SHA256SUMS
+text "{\"digest\":\"$(printf '%064d' 8)\"}"
+called olga k-digest-8 /dbx/digests body
+publish 0 'calls 17: published' --key publisher
+[ "$(sed -n 's/^# date //p' out/published/SHA256SUMS)" = "$date" ] || fail "an earlier date than the last: $(cat out/published/SHA256SUMS)"
 
 # ---- over HTTP, while it serves
 
@@ -265,17 +480,63 @@ asks() {
     if [ "$got" -ne "$status" ] || ! grep -qF -e "$wanted" said; then fail "status $got in place of $status and of $wanted: $(cat said)"; fi
     found=$((found + 1))
 }
-asks 0 'calls 15: nothing new' --token-file olga.token
+asks 0 'calls 17: nothing new' --token-file olga.token
 curl -sS -H 'Desk-Token: otto-token-for-the-desk' -H 'Desk-Key: k-http' -d '' "http://127.0.0.1:$port/proposals/5/confirm" > said
-asks 0 'calls 16: published' --token-file olga.token --public-minutes
-shows 16
+asks 0 'calls 18: published' --token-file olga.token --public-minutes
+shows 18
 [ "$(stat -c %a out/published/minutes.txt)" = 644 ] || fail 'the mode of public minutes'
 asks 3 'GET /minutes/1: 403' --token-file ann.token
 chmod 640 olga.token
 asks 2 'others can read' --token-file olga.token
 chmod 600 olga.token
+if [ "$(id -u)" -eq 0 ]; then
+    chown 65534 ann.token
+    asks 2 "ann.token is somebody else's" --token-file ann.token
+fi
 kill "$server"
 wait "$server" 2> /dev/null || :
 is_desks
+# A server that says 200 to all, and is no desk; and one whose answer never ends, or is as long as may be.
+cat > lies.py << 'end'
+import http.server
+import sys
+import time
+
+PAUSE, COUNT = {"slowly": (0.2, 1000), "long": (0, 3000)}.get(sys.argv[2], (0, 0))
+
+
+class Lies(http.server.BaseHTTPRequestHandler):
+    def do_GET(self):
+        text = sys.argv[2].encode().decode("unicode_escape").encode()
+        self.send_response(200)
+        if not COUNT:
+            self.send_header("Content-Length", str(len(text)))
+        self.end_headers()
+        self.wfile.write(text)
+        for _ in range(COUNT):
+            self.wfile.write(bytes(1000))
+            time.sleep(PAUSE)
+
+    def log_message(self, *_):
+        pass
+
+
+http.server.HTTPServer(("127.0.0.1", int(sys.argv[1])), Lies).serve_forever()
+end
+for text in '<html>\n' 'no line' '1\tolga\tk\tx\ty\n1\tolga\tk\tx\ty\n' '2\tolga\tk\tx\ty\n' '1\tolga\tk\tx\ty\n' slowly long; do
+    python3 lies.py "$lying_port" "$text" > lies.log 2>&1 &
+    lies=$!
+    until_listens "$lies" "$lying_port" || fail 'no lies'
+    case $text in
+        slowly) quickly 3 "an answer wasn't whole after 2 seconds" --url "http://127.0.0.1:$lying_port" --token-file olga.token ;;
+        long) quickly 3 'an answer has more than' --url "http://127.0.0.1:$lying_port" --token-file olga.token ;;
+        *) quickly 3 "what came isn't minutes" --url "http://127.0.0.1:$lying_port" --token-file olga.token ;;
+    esac
+    if [ "$text" = slowly ]; then
+        quickly 3 "an answer wasn't whole after 2 seconds" --db desk.db --witness "http://127.0.0.1:$lying_port/audit.txt"
+    fi
+    kill "$lies"
+    wait "$lies" 2> /dev/null || :
+done
 
 echo "$found publications and files, each as it has to be; killed at $((stop - 1)) steps"

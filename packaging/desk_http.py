@@ -11,6 +11,8 @@ import urllib.parse
 from typing import Dict, NoReturn, Optional, Tuple
 
 DONE, REFUSED, WORDS, DEVICE = 0, 1, 2, 3
+# How long a desk's answer may take from its first byte on, and be: a list of 10,000 certificates has 625 MiB.
+ANSWER_SECONDS, ANSWER_BYTES = 300, 1 << 30
 
 
 class Stop(Exception):
@@ -35,17 +37,35 @@ def read_token(path: str) -> str:
     """The first line of a file that nobody else can read."""
     try:
         with open(path, "rb") as file:
-            mode, line = os.fstat(file.fileno()).st_mode, file.readline(4096).rstrip(b"\r\n")
+            found, line = os.fstat(file.fileno()), file.readline(4096).rstrip(b"\r\n")
     except OSError as error:
         broken(f"the token file {path}: {error.strerror}")
+    if found.st_uid not in (0, os.geteuid()):
+        wrong(f"the token file {path} is somebody else's")
     # systemd shows the mask of a credential's access list as the group's bits.
     given = os.environ.get("CREDENTIALS_DIRECTORY", "")
     others = 0o007 if given and os.path.realpath(path).startswith(os.path.realpath(given) + "/") else 0o077
-    if stat.S_IMODE(mode) & others:
+    if stat.S_IMODE(found.st_mode) & others:
         wrong(f"others can read the token file {path}: chmod 600")
     if not re.fullmatch(rb"[!-~]{16,128}", line):
         wrong(f"the first line of {path} is no token")
     return line.decode()
+
+
+def body_of(answer: http.client.HTTPResponse, seconds: int, limit: int) -> bytes:
+    """The whole body, if it comes in time and isn't too long: each piece of it may come in time, and all of it never."""
+    until, found = time.monotonic() + seconds, bytearray()
+    while True:
+        piece = answer.read1(1 << 20)
+        found += piece
+        if not piece:
+            if answer.length:
+                raise http.client.IncompleteRead(bytes(found), answer.length)
+            return bytes(found)
+        if len(found) > limit:
+            broken(f"an answer has more than {limit} bytes")
+        if time.monotonic() > until:
+            broken(f"an answer wasn't whole after {seconds} seconds")
 
 
 class Http:
@@ -68,7 +88,7 @@ class Http:
         try:
             connection.request(method, path, body or (b"" if method == "POST" else None), fields)
             answer = connection.getresponse()
-            return answer.status, answer.read()
+            return answer.status, body_of(answer, ANSWER_SECONDS, ANSWER_BYTES)
         finally:
             connection.close()
 
@@ -101,5 +121,7 @@ class Http:
             lines = self.get(token, f"/minutes/{last + 1}")
             if not lines:
                 return b"".join(found)
+            if not lines.endswith(b"\n") or any(not line.startswith(b"%d\t" % at) for at, line in enumerate(lines.split(b"\n")[:-1], last + 1)):
+                broken(f"GET /minutes/{last + 1}: what came isn't minutes")
             found.append(lines)
             last += lines.count(b"\n")
