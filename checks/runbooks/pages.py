@@ -1,21 +1,25 @@
 """pages.py PROGRAM ROOM PAGE..: runs the commands of these runbooks as they are printed: see ../runbooks.sh.
 
 A line `olga$ COMMAND` is olga's, `root# COMMAND` that of the desk's machine; `> ` goes on with a command, and what comes of it, of
-both streams, stands below: `...` is any lines, and `(status N)` a status other than 0. Each person has a shell, a home and a token.
+both streams, stands below: `...` is any lines, and `(status N)` a status other than 0. Each person has a shell, a home and a token,
+and as root an account of their own, that nobody else's files are open to; so have the desk, its publication and nginx.
 """
 import concurrent.futures
 import fnmatch
 import hashlib
 import http.client
+import json
 import os
+import pwd
 import re
 import secrets
+import shutil
 import signal
 import subprocess
 import sys
 import time
 from pathlib import Path
-from typing import Dict, List, NamedTuple, NoReturn, Optional, Tuple
+from typing import Any, Callable, Dict, List, NamedTuple, NoReturn, Optional, Tuple
 
 ROOT = Path(__file__).resolve().parents[2]
 sys.path.insert(0, str(ROOT / "checks" / "requests"))
@@ -23,6 +27,9 @@ from ports import Held  # noqa: E402
 
 OWNER = "00112233-4455-6677-8899-aabbccddeeff"
 PEOPLE = {"ann": "submitter", "rita": "reviewer", "raul": "reviewer", "sid": "signer", "olga": "officer", "otto": "officer"}
+# Who has an account: the desk, its publication, people, and somebody who comes later.
+DESK, PUBLISH = "kovelamiru-desk", "kovelamiru-publish"
+ACCOUNTS = [DESK, PUBLISH, *PEOPLE, "nadia", "rosa"]
 MARK = "-- that was all of it --"
 SIGNED = (ROOT / "examples" / "signed.efi").read_bytes()
 CERTIFICATE = (ROOT / "examples" / "certificate.der").read_bytes()
@@ -93,6 +100,29 @@ def matches(wanted: List[str], got: List[str]) -> bool:
     return bool(got) and fnmatch.fnmatchcase(got[0], wanted[0].replace("[", "[[]")) and matches(wanted[1:], got[1:])
 
 
+# ---- accounts
+
+
+def accounts(room: Path) -> Dict[str, int]:
+    """The number of each account, as root: in a passwd that only this process and its children see. None, as anybody else."""
+    if os.getuid() != 0:
+        return {}
+    rows, known = Path("/etc/passwd").read_text(), {it.pw_name for it in pwd.getpwall()}
+    rows += "".join(f"{name}:x:{64100 + at}:{64100 + at}::/nonexistent:/bin/sh\n" for at, name in enumerate(ACCOUNTS) if name not in known)
+    (room / "passwd").write_text(rows)
+    subprocess.run(["mount", "--bind", str(room / "passwd"), "/etc/passwd"], check=True)
+    return {name: pwd.getpwnam(name).pw_uid for name in ACCOUNTS}
+
+
+def reachable(room: Path) -> Path:
+    """The repository where any account gets at it, wherever it lies."""
+    if os.getuid() != 0:
+        return ROOT
+    (room / "repository").mkdir()
+    subprocess.run(["mount", "--bind", str(ROOT), str(room / "repository")], check=True)
+    return room / "repository"
+
+
 # ---- a machine with a desk
 
 
@@ -119,8 +149,14 @@ case "$*" in
         ;;
     'start kovelamiru-publish')
         . "{room}/etc/default/kovelamiru-publish"
+        # As LoadCredential does.
+        rm -rf "{room}/credentials"
+        mkdir -m 711 "{room}/credentials"
+        {as_publish} sh -c 'umask 077; cat > "{room}/publish/token"' < "{room}/etc/kovelamiru-publish.token"
+        mv "{room}/publish/token" "{room}/credentials/token"
         # shellcheck disable=SC2086
-        exec "{bin}/desk-publish" "{room}/publish/published" --token-file "{room}/etc/kovelamiru-publish.token" $PUBLISH
+        CREDENTIALS_DIRECTORY="{room}/credentials" exec {as_publish} "{bin}/desk-publish" "{room}/publish/published" \\
+            --token-file "{room}/credentials/token" $PUBLISH
         ;;
     *)
         echo "checks/runbooks: no systemctl $*" >&2
@@ -134,7 +170,7 @@ echo $$ > "{room}/supervise.pid"
 trap 'kill "$child"; wait "$child"; rm "{room}/supervise.pid"; exit 0' TERM
 cd "{room}/state"
 while :; do
-    "{program}" serve desk.db {port} 1000000 2>> "{room}/journal" &
+    {as_desk} "{program}" serve desk.db {port} 1000000 2>> "{room}/journal" &
     child=$!
     wait "$child" || :
     sleep 0.2
@@ -142,32 +178,62 @@ done
 """
 
 
+def replaced(text: str, names: Dict[str, str]) -> str:
+    """Each of these names by its other one, the longest first."""
+    return re.sub("|".join(re.escape(name) for name in sorted(names, key=len, reverse=True)), lambda found: names[found[0]], text)
+
+
 class Machine:
     """A folder that stands for a machine: its desk behind nginx, the people's homes, and programs in place of the system's."""
 
-    def __init__(self, program: str, room: Path):
-        self.program, self.room = program, room
-        self.held = [Held() for _ in range(2)]
-        self.port, self.proxy = (it.port for it in self.held)
+    def __init__(self, program: str, room: Path, users: Dict[str, int], repository: Path):
+        self.room, self.users, self.repository = room, users, repository
+        self.held = [Held() for _ in range(3)]
+        self.port, self.proxy, self.back = (it.port for it in self.held)
         self.shells: Dict[str, subprocess.Popen] = {}
         self.tokens: Dict[str, str] = {}
         self.keys = 0
-        for folder in ("bin", "state", "publish", "etc/default", "etc/nginx", "srv", "root", "home", "nginx"):
+        for folder in ("bin", "state", "publish", "etc/default", "etc/nginx/sites-enabled", "srv", "root", "home", "nginx", "examples", "tmp"):
             (room / folder).mkdir(parents=True)
+        self.program = str(room / "bin" / "desk")
+        shutil.copyfile(program, self.program)
+        Path(self.program).chmod(0o755)
+        for folder, mode, name in (("state", 0o700, DESK), ("publish", 0o755, PUBLISH), ("root", 0o700, ""), ("tmp", 0o1777, "")):
+            self.owned(room / folder, name, mode)
+        self.write_scripts()
+        # What a page calls a path, and what it is here.
+        self.paths = {
+            "https://desk.example.org": f"http://127.0.0.1:{self.proxy}", "https://desk.example.org:8444": f"http://127.0.0.1:{self.back}",
+            "/var/lib/kovelamiru-desk": f"{room}/state", "/var/lib/kovelamiru-publish": f"{room}/publish", "/var/log/nginx": f"{room}/nginx",
+            "/usr/share/doc/kovelamiru-desk/examples": f"{room}/examples", "/etc/": f"{room}/etc/", "/root/": f"{room}/root/",
+            "/srv/": f"{room}/srv/", "/tmp/": f"{room}/tmp/",
+        }
+
+    def write_scripts(self) -> None:
+        """In place of the system's programs; and the repository's own."""
+        room, runs_as = self.room, "setpriv --reuid={0} --regid={0} --clear-groups --"
+        words = {"as_desk": runs_as.format(self.users[DESK]), "as_publish": runs_as.format(self.users[PUBLISH])} if self.users else {"as_desk": "", "as_publish": ""}
         for name, text in (("systemctl", SYSTEMCTL), ("supervise", SUPERVISE)):
-            self.script(name, text.format(bin=room / "bin", room=room, port=self.port, program=program))
+            self.script(name, text.format(bin=room / "bin", room=room, port=self.port, program=self.program, **words))
         self.script("listens", '#!/bin/sh\ngrep -q ":$(printf %04X "$1") 00000000:0000 0A" /proc/net/tcp\n')
-        self.script("runuser", '#!/bin/sh\nshift 3\nexec "$@"\n')
+        change = 'setpriv --reuid="$(id -u "$user")" --regid="$(id -u "$user")" --clear-groups --' if self.users else ""
+        self.script("runuser", f'#!/bin/sh\nuser=$2\nshift 3\nexec {change} "$@"\n')
+        if not self.users:
+            self.script("chown", "#!/bin/sh\n")
         self.script("journalctl", f'#!/bin/sh\ntail -n 3 "{room}/journal"\n')
         for name, path in (("deskctl", "client"), ("desk-publish", "packaging"), ("desk-again", "packaging")):
-            (room / "bin" / name).symlink_to(ROOT / path / name)
-        (room / "bin" / "desk").symlink_to(program)
-        # What a page calls a path, and what it is here. The longest first.
-        self.paths = {
-            "https://desk.example.org": f"http://127.0.0.1:{self.proxy}", "/var/lib/kovelamiru-desk": f"{room}/state",
-            "/var/lib/kovelamiru-publish": f"{room}/publish", "/var/log/nginx": f"{room}/nginx", "/etc/": f"{room}/etc/",
-            "/root/": f"{room}/root/", "/srv/": f"{room}/srv/",
-        }
+            (room / "bin" / name).symlink_to(self.repository / path / name)
+
+    def owned(self, path: Path, name: str, mode: int) -> Path:
+        """The path belongs to this account, or to root."""
+        if self.users:
+            os.chown(path, *[self.users.get(name, 0)] * 2)
+        path.chmod(mode)
+        return path
+
+    def account(self, name: str) -> Dict[str, Any]:
+        """How a process becomes this account's."""
+        return {"user": self.users[name], "group": self.users[name], "extra_groups": []} if name in self.users else {}
 
     def script(self, name: str, text: str) -> None:
         path = self.room / "bin" / name
@@ -175,7 +241,7 @@ class Machine:
         path.chmod(0o755)
 
     def run(self, *words: str, given: bytes = b"") -> bytes:
-        done = subprocess.run([self.program, *words], cwd=self.room / "state", input=given, capture_output=True, timeout=120)
+        done = subprocess.run([self.program, *words], cwd=self.room / "state", input=given, capture_output=True, timeout=900, **self.account(DESK))
         if done.returncode != 0:
             fail(f"desk {' '.join(words)}: {done.returncode} {done.stderr.decode()}")
         return done.stdout
@@ -187,29 +253,35 @@ class Machine:
             self.home(name)
             path = self.room / "home" / name / "desk.token"
             path.write_text(self.tokens[name] + "\n")
-            path.chmod(0o600)
+            self.owned(path, name, 0o600)
             self.run("enrol", "desk.db", name, role, f"enrol-{name}", given=hashlib.sha256(self.tokens[name].encode()).hexdigest().encode())
 
     def home(self, name: str) -> Path:
         path = self.room / "home" / name
-        path.mkdir(exist_ok=True)
+        if not path.exists():
+            path.mkdir()
+            self.owned(path, name, 0o700)
         return path
 
-    def start_proxy(self) -> None:
-        site = (ROOT / "packaging" / "nginx.conf").read_text()
+    def site(self, name: str) -> str:
+        """A site of packaging/ without its TLS, at this machine's ports."""
+        site = (self.repository / "packaging" / name).read_text()
         site = re.sub(r"server 127\.0\.0\.1:\d+;", f"server 127.0.0.1:{self.port};", site)
         site = re.sub(r"^ *(ssl_|listen \[).*\n", "", site, flags=re.M)
-        site = site.replace("listen 443 ssl;", f"listen 127.0.0.1:{self.proxy};")
-        for named in ("/var/log/nginx", "/etc/"):
-            site = site.replace(named, self.paths[named])
-        site = site.replace("include /usr/share/kovelamiru-desk/", f"include {ROOT}/packaging/")
+        for port, here in ((443, self.proxy), (8444, self.back)):
+            site = site.replace(f"listen {port} ssl;", f"listen 127.0.0.1:{here};")
+        site = site.replace("include /usr/share/kovelamiru-desk/", f"include {self.repository}/packaging/")
+        return re.sub("/var/log/nginx|/etc/", lambda found: self.paths[found[0]], site)
+
+    def start_proxy(self) -> None:
         folder = self.room / "nginx"
-        (folder / "site.conf").write_text(site)
-        user = "user root root;" if os.getuid() == 0 else ""
+        (folder / "site.conf").write_text(self.site("nginx.conf"))
+        (self.room / "examples" / "nginx-maintenance.conf").write_text(self.site("nginx-maintenance.conf"))
+        user = "user www-data;" if self.users else ""
         temporary = "".join(f"{kind}_temp_path {folder}/{kind};" for kind in ("client_body", "proxy", "fastcgi", "uwsgi", "scgi"))
         (folder / "nginx.conf").write_text(
             f"{user} daemon off; worker_processes 1; pid {folder}/pid; error_log {folder}/error.log warn; events {{ worker_connections 256; }}\n"
-            f"http {{ access_log off; {temporary} include {folder}/site.conf; }}\n"
+            f"http {{ access_log off; {temporary} include {folder}/site.conf; include {self.room}/etc/nginx/sites-enabled/*; }}\n"
         )
         path = "/usr/sbin/nginx" if Path("/usr/sbin/nginx").exists() else "nginx"
         self.nginx = subprocess.Popen([path, "-p", f"{folder}/", "-e", f"{folder}/error.log", "-c", "nginx.conf"])
@@ -227,31 +299,37 @@ class Machine:
         if answer.status != 200:
             fail(f"{name} at {path}: {answer.status} {said.decode()}")
 
+    def status(self, name: str, path: str, port: int, body: Optional[bytes] = None) -> Tuple[int, bytes]:
+        """What comes of this person's request without a key."""
+        connection = http.client.HTTPConnection("127.0.0.1", port, timeout=300)
+        try:
+            connection.request("GET" if body is None else "POST", path, body, {"Desk-Token": self.tokens[name]})
+            answer = connection.getresponse()
+            return answer.status, answer.read()
+        finally:
+            connection.close()
+
     def system(self, *words: str) -> None:
-        subprocess.run([str(self.room / "bin" / "systemctl"), *words], check=True, timeout=60)
+        subprocess.run([str(self.room / "bin" / "systemctl"), *words], check=True, timeout=600)
 
     # ---- its shells
 
     def here(self, text: str) -> str:
-        for named, path in self.paths.items():
-            text = text.replace(named, path)
-        return text
+        return replaced(text, self.paths)
 
     def printed(self, text: str) -> str:
-        for named, path in self.paths.items():
-            text = text.replace(path, named)
-        return text
+        return replaced(text, {path: named for named, path in self.paths.items()})
 
     def shell(self, who: str) -> subprocess.Popen:
         if who not in self.shells:
             home = self.room / "root" if who == "root" else self.home(who)
             given = {
                 "HOME": str(home), "PATH": f"{self.room}/bin:{os.environ['PATH']}:/usr/sbin:/sbin", "DESK_URL": f"http://127.0.0.1:{self.proxy}",
-                "DESK_TOKEN_FILE": str(home / "desk.token"), "DESK_NAME": who, "LC_ALL": "C.UTF-8", "TMPDIR": str(self.room),
+                "DESK_TOKEN_FILE": str(home / "desk.token"), "DESK_NAME": who, "LC_ALL": "C.UTF-8", "TMPDIR": str(self.room / "tmp"),
             }
             self.shells[who] = subprocess.Popen(
                 ["bash", "--norc", "--noprofile"], stdin=subprocess.PIPE, stdout=subprocess.PIPE, stderr=subprocess.STDOUT, text=True, bufsize=1,
-                start_new_session=True, env=given, cwd=home,
+                start_new_session=True, umask=0o022, env=given, cwd=home, **self.account(who),
             )
         return self.shells[who]
 
@@ -260,8 +338,9 @@ class Machine:
         shell = self.shell(command.who)
         script = self.room / "typed"
         script.write_text(self.here(command.text) + "\n")
+        self.owned(script, command.who, 0o600)
         assert shell.stdin and shell.stdout
-        shell.stdin.write(f"umask 022; . {script} < /dev/null; printf '\\n%s %s\\n' '{MARK}' \"$?\"\n")
+        shell.stdin.write(f". {script} < /dev/null; printf '\\n%s %s\\n' '{MARK}' \"$?\"\n")
         shell.stdin.flush()
         got: List[str] = []
         for line in iter(shell.stdout.readline, ""):
@@ -311,7 +390,7 @@ def publishes(machine: Machine, first: str = " --first") -> None:
     """What was decided is published."""
     token = machine.room / "etc" / "kovelamiru-publish.token"
     token.write_text(machine.tokens["olga"] + "\n")
-    token.chmod(0o600)
+    machine.owned(token, "", 0o600)
     options = machine.room / "etc" / "default" / "kovelamiru-publish"
     options.write_text(f"PUBLISH='--url http://127.0.0.1:{machine.proxy} --owner {OWNER} --program {machine.room}/bin/desk{first}'\n")
     machine.system("start", "kovelamiru-publish")
@@ -324,7 +403,10 @@ def embargo(machine: Machine) -> None:
     folder = machine.room / "srv" / "embargo"
     folder.mkdir()
     for number in range(1, 301):
-        (folder / f"grubx64-{number:03d}.efi").write_bytes(signed(number))
+        path = folder / f"grubx64-{number:03d}.efi"
+        path.write_bytes(signed(number))
+        machine.owned(path, "olga", 0o600)
+    machine.owned(folder, "olga", 0o700)
 
 
 def full_disk(machine: Machine) -> None:
@@ -336,8 +418,10 @@ def full_disk(machine: Machine) -> None:
     state.rename(saved)
     state.mkdir()
     subprocess.run(["mount", "-t", "tmpfs", "-o", "size=4m", "none", str(state)], check=True)
+    machine.owned(state, DESK, 0o700)
     for file in saved.iterdir():
         (state / file.name).write_bytes(file.read_bytes())
+        machine.owned(state / file.name, DESK, 0o600)
     with open(state / "old-copy.tar.gz", "wb", buffering=0) as filler:
         try:
             while True:
@@ -352,6 +436,9 @@ def full_desk(machine: Machine) -> None:
     machine.does("olga", "/db/digests", b'{"digest":"%064d"}' % 9)
     machine.does("olga", "/level", b'{"component":"grub","generation":3,"stamp":2026112700}')
     machine.does("otto", "/proposals/2/confirm", b"")
+    # An image that is listed by its certificate, and revoked.
+    machine.does("olga", "/dbx/digests", json.dumps({"digest": digest_of(machine, signed(2))}).encode())
+    machine.does("otto", "/proposals/3/confirm", b"")
     publishes(machine)
     machine.system("stop", "kovelamiru-desk")
     # As many people as a desk takes: 1,000.
@@ -360,7 +447,7 @@ def full_desk(machine: Machine) -> None:
         f"INSERT INTO calls(no,caller,key,text,reply) SELECT MAX(no)+1,'console','k-p{one}','add-person p{one} submitter {one:064x}','added p{one}' FROM calls;\n"
         for one in range(1000 - len(PEOPLE))
     )
-    subprocess.run(["sqlite3", machine.room / "state" / "desk.db"], input=f"BEGIN;\n{rows}COMMIT;\n", text=True, check=True)
+    subprocess.run(["sqlite3", machine.room / "state" / "desk.db"], input=f"BEGIN;\n{rows}COMMIT;\n", text=True, check=True, **machine.account(DESK))
     machine.system("start", "kovelamiru-desk")
     publishes(machine, "")
 
@@ -370,6 +457,7 @@ def restore(machine: Machine) -> None:
     machine.system("stop", "kovelamiru-desk")
     copy = machine.room / "root" / "desk-backup.tar.gz"
     subprocess.run(["tar", "-C", machine.room / "state", "-czf", copy, "."], check=True)
+    machine.owned(copy, "", 0o600)
     machine.system("start", "kovelamiru-desk")
     # What the copy lacks.
     machine.does("rita", "/requests/3/review", b'{"note":"","vote":"yes"}')
@@ -388,22 +476,80 @@ def restore(machine: Machine) -> None:
 
 
 def leaked(machine: Machine) -> None:
+    """Somebody else has otto's token, and proposes. raul's leaked before, and is refused."""
     worked(machine)
-    (machine.room / "srv" / "otto.token").write_text(machine.tokens["otto"] + "\n")
-    # Somebody else has it, and proposes.
     machine.does("otto", "/dbx/digests", b'{"digest":"%064d"}' % 8, machine.proxy)
+    before = machine.room / "etc" / "nginx" / "kovelamiru-desk.leaked"
+    before.write_text('"~^\\Q%s\\E$" "";\n' % machine.tokens["raul"])
+    machine.owned(before, "", 0o600)
+    machine.system("reload", "nginx")
 
 
-BEFORE = {
+def lost(machine: Machine) -> None:
+    leaked(machine)
+    gave = machine.room / "root" / "otto.token"
+    gave.write_text(machine.tokens["otto"] + "\n")
+    machine.owned(gave, "", 0o600)
+
+
+BEFORE: Dict[str, Callable[[Machine], None]] = {
     "embargo": embargo, "leaked-token": leaked, "full-disk": full_disk, "full-desk": full_desk, "restore": restore,
-    "new-officer": worked, "lost-officer": leaked,
+    "new-officer": worked, "lost-officer": lost,
 }
 
 
-def run_page(program: str, room: Path, name: str) -> Tuple[int, float]:
+def digest_of(machine: Machine, image: bytes) -> str:
+    """As `desk facts` prints it."""
+    path = machine.room / "image"
+    path.write_bytes(image)
+    machine.owned(path, DESK, 0o600)
+    return next(line[7:] for line in machine.run("facts", str(path)).decode().splitlines() if line.startswith("digest "))
+
+
+# ---- what holds beside what is printed
+
+
+def refused(machine: Machine) -> None:
+    """Both tokens that leaked are nobody's, and the list of them is root's."""
+    for name in ("otto", "raul"):
+        for token in (machine.tokens[name], machine.tokens[name] + "\t"):
+            machine.tokens["leaked"] = token
+            status, _ = machine.status("leaked", "/level", machine.proxy)
+            if status != 401:
+                fail(f"a token of {name} that leaked: {status}")
+    mode = (machine.room / "etc" / "nginx" / "kovelamiru-desk.leaked").stat().st_mode
+    if mode & 0o077:
+        fail("others can read the list of leaked tokens")
+
+
+def handed_over(machine: Machine) -> None:
+    """Nothing that others can read has the SHA-256 of a token, or another one's call."""
+    sums = [hashlib.sha256(machine.tokens[name].encode()).hexdigest() for name in PEOPLE]
+    found = subprocess.run(
+        ["grep", "-rlsE", "|".join(sums) + "|import 2026112701", str(machine.room / "srv"), str(machine.room / "tmp"), str(machine.room / "publish")],
+        stdout=subprocess.PIPE, check=False, **machine.account("ann"),
+    )
+    if machine.users and found.stdout:
+        fail(f"ann reads {found.stdout.decode()}")
+
+
+def never_allowed(machine: Machine) -> None:
+    """The revoked image isn't allowed by the desk, old or new, at any time."""
+    if listens(machine.port):
+        status, verdict = machine.status("ann", "/verdict", machine.port, signed(2))
+        if status == 200 and b'"allowed"' in verdict:
+            fail("full-desk: a revoked image is allowed")
+
+
+# After each command of a page, and after the last one.
+DURING = {"full-desk": never_allowed, "restore": handed_over}
+AFTER = {"leaked-token": refused, "lost-officer": refused}
+
+
+def run_page(program: str, room: Path, name: str, users: Dict[str, int], repository: Path) -> Tuple[int, float]:
     begun = time.monotonic()
     page = (ROOT / "packaging" / "runbooks" / f"{name}.md").read_text()
-    machine = Machine(program, room)
+    machine = Machine(program, room, users, repository)
     machine.make_desk()
     machine.start_proxy()
     try:
@@ -414,6 +560,10 @@ def run_page(program: str, room: Path, name: str) -> Tuple[int, float]:
             got = machine.typed(command)
             if not matches(command.wanted, got):
                 fail(f"{name}: {command.who}: {command.text}\nin place of\n" + "\n".join(command.wanted) + "\ncame\n" + "\n".join(got[-30:]))
+            if name in DURING:
+                DURING[name](machine)
+        if name in AFTER:
+            AFTER[name](machine)
     finally:
         machine.end()
     return len(found), time.monotonic() - begun
@@ -444,13 +594,15 @@ def main() -> None:
     if unknown:
         fail(f"pages or beginnings that lack the other: {', '.join(sorted(unknown))}")
     counts = {}
+    users, repository = accounts(Path(room)), reachable(Path(room))
     with concurrent.futures.ThreadPoolExecutor(4) as lanes:
-        running = {lanes.submit(run_page, program, Path(room) / name, name): name for name in names or BEFORE}
+        running = {lanes.submit(run_page, program, Path(room) / name, name, users, repository): name for name in names or BEFORE}
         for done in concurrent.futures.as_completed(running):
             counts[running[done]], seconds = done.result()
             print(f"{running[done]}: {counts[running[done]]} commands in {seconds:.0f} s", flush=True)
     lines = pasted(program, Path(room) / "pasted") if not names else 0
-    print(f"{sum(counts.values())} commands of {len(counts)} runbooks, each with the lines that its page has; {lines} lines of README pasted")
+    print(f"{sum(counts.values())} commands of {len(counts)} runbooks, each with the lines that its page has, as "
+          f"{len(users) or 'one'} users; {lines} lines of README pasted")
 
 
 main()
