@@ -7,15 +7,15 @@
 # those still running are ended, as failed.
 #
 # They need bash, cc, chromium, chromium-driver, curl, dbxtool, dpkg-dev, efitools, git, groff, gzip,
-# man, mount, nginx, node, openssl, pyflakes3, python3, python3-selenium, rt, sbsigntool, sqlite3,
-# unshare and xxd; a check without a tool that it needs fails and names it.
+# man, mount, nginx, node, openssl, pyflakes3, python3, python3-selenium, rt, sbsigntool, setpriv,
+# sqlite3, ssh-keygen, unshare and xxd; a check without a tool that it needs fails and names it.
 set -u
 . "$(dirname -- "$(readlink -f -- "$0")")/common.sh"
 find_program "$@"
 [ $# -eq 0 ] || shift
 # The longest first, so that the last ones fill the lanes.
 checks=${*:-tables.sh page.sh client.sh refused-memory.sh refused-requests.sh proxy.sh publish.sh package.sh mirror.sh limits.sh http.sh
-    requests.sh faults.sh runbooks.sh audit.sh cuts.sh day.sh exports.sh readme.sh version1.sh help.sh modules.sh prove.sh runs.sh proved.sh}
+    requests.sh faults.sh runbooks.sh audit.sh cuts.sh day.sh exports.sh readme.sh version1.sh help.sh upgrade.sh modules.sh prove.sh runs.sh proved.sh}
 until=$((SECONDS + 1200))
 enter_room
 trap 'kill $(jobs -p) 2> /dev/null; wait; exit 1' HUP INT TERM
