@@ -144,6 +144,10 @@ WHY: Dict[int, Tuple[str, str]] = {
         "a line of minutes isn't what the rules give there, or isn't whole",
         "Compare the copy with the desk's: deskctl minutes --into COPY",
     ),
+    48: (
+        "the desk in the database has another owner than the one given",
+        "Whoever keeps the desk gives the owner that `desk init` was given.",
+    ),
     50: (
         "the request's head is wrong or was cut",
         "A proxy changed it, or the connection was cut: run the same command again.",
