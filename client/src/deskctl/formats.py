@@ -2,6 +2,7 @@
 from __future__ import annotations
 
 import csv
+import hashlib
 import io
 import json
 import re
@@ -9,7 +10,7 @@ from collections import Counter
 from dataclasses import dataclass, field
 from typing import Any, Dict, Iterator, List, Optional, Sequence, Tuple
 
-from .certificates import certificate_read
+from .certificates import BadDer, tbs_of
 from .faults import wrong
 from .files import looks_like, read_file
 from .siglists import (
@@ -53,6 +54,13 @@ class Revocations:
             + sum(self.passed.values())
         )
 
+    def names_nothing(self) -> bool:
+        """Whether it names nothing that the desk takes. A text's wrong lines are the desk's to
+        refuse."""
+        if self.digests or self.certificates or self.components:
+            return False
+        return self.route == "/imports/dbx" or b"\n" not in self.body.strip()
+
 
 def lists_named(data: bytes, kind: str) -> Revocations:
     """What signature lists name. Versions have the form of a digest, but aren't the digest of an
@@ -84,14 +92,40 @@ def lists_named(data: bytes, kind: str) -> Revocations:
 
 def whole_certificate(body: bytes, found: Revocations) -> None:
     try:
-        found.certificates.append(certificate_read(body).tbs)
-    except ValueError:
+        found.certificates.append(hashlib.sha256(tbs_of(body)).hexdigest())
+    except BadDer:
         found.passed["x509 that isn't one certificate"] += 1
 
 
-def csv_records(data: bytes) -> List[List[str]]:
+class BadText(BadList):
+    """A text that can't be read as what it seems to be."""
+
+    def __init__(self, text: str, step: str):
+        super().__init__(text)
+        self.step = step
+
+
+def records_of(data: bytes) -> Iterator[List[str]]:
     text = data.decode("utf-8-sig", "replace")
-    return [record for record in csv.reader(io.StringIO(text, newline="")) if record]
+    return csv.reader(io.StringIO(text, newline=""))
+
+
+def first_record(data: bytes) -> List[str]:
+    """The first line's fields."""
+    try:
+        return next(records_of(data[:65536]), [])
+    except csv.Error:
+        return []
+
+
+def csv_records(data: bytes) -> List[List[str]]:
+    """The records of CSV, without empty lines."""
+    try:
+        return [record for record in records_of(data) if record]
+    except csv.Error as error:
+        raise BadText(
+            f"a record of the CSV can't be read: {error}", "Is a quotation mark missing?"
+        ) from None
 
 
 def csv_named(data: bytes) -> Revocations:
@@ -176,7 +210,8 @@ def one_image(said: Dict[str, str], found: Revocations) -> None:
     no digest: both are set aside."""
     hashes = [text for name, text in said.items() if "authenticode" in name]
     flat = [text for name, text in said.items() if "flat" in name and HEX.match(text.strip())]
-    digest = next((text.strip().lower() for text in hashes if HEX.match(text.strip())), "")
+    sha256 = plainly(said.get("hashtype", "") or "SHA256") == "sha256"
+    digest = next((it.strip().lower() for it in hashes if sha256 and HEX.match(it.strip())), "")
     if digest and VERSION_ENTRY.match(digest):
         found.aside[VERSIONS] += 1
     elif digest:
@@ -231,50 +266,90 @@ def json_named(data: bytes, arch: Optional[str]) -> Revocations:
 
 
 def table_named(data: bytes, arch: Optional[str]) -> Optional[Revocations]:
-    """Microsoft's CSV, if its header names an Authenticode hash."""
-    try:
-        records = csv_records(data)
-    except csv.Error:
-        return None
-    names = [plainly(name) for name in records[0]] if records else []
+    """Microsoft's CSV, if its first line names an Authenticode hash."""
+    names = [plainly(name) for name in first_record(data)]
     if not any("authenticode" in name for name in names):
         return None
     pairs = []
-    for record in records[1:]:
+    for record in csv_records(data)[1:]:
         said = dict(zip(names, record))
         arches = [text for name, text in said.items() if "arch" in name]
         pairs.append((arch_named(arches[0]) if arches else "", said))
     return microsoft_named(pairs, "Microsoft's dbx_info (CSV)", arch)
 
 
+# -- the kind of a file
+
+
+def is_utf16(data: bytes) -> bool:
+    """Whether it is text in UTF-16: by its mark, or by every other byte of eight characters."""
+    if data.startswith((b"\xff\xfe", b"\xfe\xff")):
+        return True
+    begin, zeros = data[:16], bytes(8)
+    pairs = ((begin[::2], begin[1::2]), (begin[1::2], begin[::2]))
+    return any(zero == zeros and re.fullmatch(rb"[ -~]{8}", text) for zero, text in pairs)
+
+
+# What the header of a table looks like, wherever it stands.
+HEADER_LIKE = re.compile(
+    r"(?im)^\W*kind\W+value\W+generation\W*$|authenticode|^(?:x509_)?sha256[,;\t]"
+)
+
+
+def text_named(data: bytes, arch: Optional[str]) -> Optional[Revocations]:
+    """What a text names; nothing where it is none."""
+    text = data[3:] if data.startswith(b"\xef\xbb\xbf") else data
+    if is_utf16(data):
+        raise BadText(
+            "it is text in UTF-16", "Save it as UTF-8: iconv -f UTF-16 -t UTF-8 FILE > OTHER"
+        )
+    if text.lstrip()[:1] in (b"{", b"["):
+        return json_named(data, arch)
+    if b"\0" in data[:4096] and not text.startswith(b"sbat,"):
+        return None
+    if not text.startswith((b"sbat,", b"kind,")):
+        found = table_named(data, arch)
+        begin = text[:4096].decode("utf-8", "replace")
+        if found is None and HEADER_LIKE.search(begin):
+            raise BadText(
+                f"its first line is {begin.splitlines()[0][:60]!r}, and no header that is known",
+                (
+                    "Nothing stands before a header. The desk's is kind,value,generation;"
+                    " Microsoft's names a column with Authenticode. Commas are between."
+                ),
+            )
+        return found
+    if arch:
+        return None
+    return level_named(data) if text.startswith(b"sbat,") else csv_named(data)
+
+
+def lists_in(data: bytes) -> Optional[Revocations]:
+    """What signature lists name, and what stands before them; nothing where there are none."""
+    lists, before = unwrapped(data)
+    kind = "signature lists" + (" behind " + ", then ".join(before) if before else "")
+    try:
+        return lists_named(lists, kind)
+    except BadList:
+        if before or data[:16] in KINDS:
+            raise
+        return None
+
+
 def revocations_of(path: str, arch: Optional[str]) -> Revocations:
     """What a file names; its kind is found by its bytes."""
     data = read_file(path, 256 << 20, "a file of revocations has here")
-    text = data[3:] if data.startswith(b"\xef\xbb\xbf") else data
     try:
-        if text.lstrip()[:1] in (b"{", b"["):
-            return json_named(data, arch)
-        table = (
-            b"," in data[:4096]
-            and b"\0" not in data[:4096]
-            and not text.startswith((b"sbat,", b"kind,"))
-        )
-        found = table_named(data, arch) if table else None
-        if found:
-            return found
-        if arch:
+        found = text_named(data, arch)
+        if found is None and arch:
             wrong("--arch is for Microsoft's list alone")
-        if text.startswith(b"sbat,"):
-            return level_named(data)
-        if text.startswith(b"kind,"):
-            return csv_named(data)
-        lists, before = unwrapped(data)
-        if data[:16] in KINDS or before:
-            kind = "signature lists" + (" behind " + ", then ".join(before) if before else "")
-            return lists_named(lists, kind)
+        if found is None and data:
+            found = lists_in(data)
     except BadList as fault:
-        wrong(f"{path}: {fault}", "Is the file whole? Nothing was sent.")
-    wrong(
-        f"{path} is no file of revocations; it is {looks_like(data)}",
-        "`deskctl import --help` lists the kinds.",
-    )
+        wrong(f"{path}: {fault}", fault.step)
+    if found is None:
+        wrong(
+            f"{path} is no file of revocations; it is {looks_like(data)}",
+            "`deskctl import --help` lists the kinds.",
+        )
+    return found

@@ -161,17 +161,15 @@ def import_doubts(run: Run, found: Revocations, stamp: Optional[int], force: For
     """What looks like a slip of the hand in a file of revocations."""
     doubts = known(run, found.digests, found.certificates).doubts
     doubts += level_doubts(found.components, stamp, force.level)
-    if not any(force.new(found).values()) and (found.entries() or b"\n" not in found.body.strip()):
-        what = "Nothing in it is new" if found.entries() else "It names nothing"
-        doubts.append(f"{what}: a Confirm would change nothing.")
+    if found.entries() and not any(force.new(found).values()):
+        doubts.append("Nothing in it is new: a Confirm would change nothing.")
     return doubts
 
 
 def import_file(run: Run) -> None:
     path, words = run.words.file, run.words
     found = revocations_of(path, words.arch)
-    names_none = not found.entries() and (found.route == "/imports/dbx" or not found.body)
-    calls = [] if names_none else import_calls(found, words.stamp, path)
+    calls = [] if found.names_nothing() else import_calls(found, words.stamp, path)
     stamp = words.stamp or found.stamp
     if words.dry_run and not run.settings.url:
         for line in previewed(path, found, calls, None) + [

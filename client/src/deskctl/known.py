@@ -8,7 +8,7 @@ from dataclasses import dataclass, field, fields
 from typing import Any, Dict, List, Optional, Sequence, Set, Tuple, Type, TypeVar
 
 from .api import not_a_desk
-from .certificates import certificate_read
+from .certificates import BadDer, certificate_in, tbs_of
 from .faults import Lost
 from .formats import level_read
 from .journal import Run, now
@@ -140,27 +140,28 @@ class Known:
             if certificate in self.certificates:
                 self.tell(certificate, f"carried by {titled(one)}")
 
+    def listed(self, body: bytes) -> None:
+        """A listed certificate. The desk takes more than what is one."""
+        try:
+            tbs = hashlib.sha256(tbs_of(body)).hexdigest()
+        except BadDer:
+            return
+        fingerprint, certificate = hashlib.sha256(body).hexdigest(), certificate_in(body)
+        subject = certificate.subject if certificate else "(not readable)"
+        if fingerprint in self.digests or fingerprint in self.certificates:
+            self.doubts.append(
+                f"{fingerprint} is the fingerprint of the listed certificate {subject}."
+                f" It bars nothing: the SHA-256 of its TBSCertificate is {tbs}."
+            )
+        if tbs in self.digests:
+            self.doubts.append(f"{tbs} is the listed certificate {subject}, and no image's digest.")
+        if tbs in self.certificates:
+            self.about[tbs] = "; ".join(filter(None, [f"listed: {subject}", self.about.get(tbs)]))
+
     def entry(self, name: str, body: bytes, where: str) -> None:
         """An entry of the desk's own lists."""
         if name == "x509":
-            fingerprint, found = hashlib.sha256(body).hexdigest(), None
-            try:
-                found = certificate_read(body)
-            except ValueError:
-                pass
-            if found and (fingerprint in self.digests or fingerprint in self.certificates):
-                self.doubts.append(
-                    f"{fingerprint} is the fingerprint of the listed certificate {found.subject}."
-                    f" It bars nothing: the SHA-256 of its TBSCertificate is {found.tbs}."
-                )
-            if found and found.tbs in self.digests:
-                self.doubts.append(
-                    f"{found.tbs} is the listed certificate {found.subject}, and no image's digest."
-                )
-            if found and found.tbs in self.certificates:
-                self.about[found.tbs] = "; ".join(
-                    filter(None, [f"listed: {found.subject}", self.about.get(found.tbs)])
-                )
+            self.listed(body)
         elif name == "x509_sha256" and body[:32].hex() in self.digests:
             self.doubts.append(
                 f"{body[:32].hex()} is a certificate in {where}, and no image's digest."

@@ -70,7 +70,9 @@ class SignatureList:
 
 
 class BadList(ValueError):
-    """There is no list at an offset."""
+    """Bytes that can't be read as what they seem to be; `step` says what to do."""
+
+    step = "Is the file whole? Nothing was sent."
 
 
 def read_lists(data: bytes) -> List[SignatureList]:
@@ -106,6 +108,9 @@ def read_lists(data: bytes) -> List[SignatureList]:
 
 ATTRIBUTE_BITS = 0x7F
 PKCS7 = stored("4aafd29d-68df-49ee-8aa9-347d375665a7")
+# wCertificateType and CertType, which stand at 22 in an authenticated update, whatever its time is:
+# efitools writes zeros there for an update that appends.
+UPDATE = b"\xf1\x0e" + PKCS7
 
 
 def efi_time(data: bytes) -> Optional[str]:
@@ -134,10 +139,10 @@ def unwrapped(data: bytes) -> Tuple[bytes, List[str]]:
         found.append(f"a variable as efivarfs gives it, attributes 0x{attributes:02x}")
         data = data[4:]
     when = efi_time(data)
-    if when and data[:16] not in KINDS:
+    if data[22:40] == UPDATE or when and data[:16] not in KINDS:
         found.append(
-            f"an authenticated update (EFI_VARIABLE_AUTHENTICATION_2) of {when}; its signature"
-            " isn't verified"
+            "an authenticated update (EFI_VARIABLE_AUTHENTICATION_2)"
+            f" {f'of {when}' if when else 'without a date'}; its signature isn't verified"
         )
         data = data[16 + certificate_length(data) :]
     return data, found
@@ -149,8 +154,8 @@ def certificate_length(data: bytes) -> int:
         raise BadList(
             f"an authenticated update has a header of 40 bytes, and the file ends after {len(data)}"
         )
-    length, revision, kind = struct.unpack_from("<IHH", data, 16)
-    if revision != 0x0200 or kind != 0x0EF1 or data[24:40] != PKCS7:
+    length, revision = struct.unpack_from("<IH", data, 16)
+    if revision != 0x0200 or data[22:40] != UPDATE:
         raise BadList(
             "behind a time there is no WIN_CERTIFICATE_UEFI_GUID of PKCS #7, as an authenticated"
             " update has it"
