@@ -3,6 +3,7 @@ from __future__ import annotations
 
 import concurrent.futures
 import io
+import os
 import signal
 import threading
 import time
@@ -10,7 +11,7 @@ from dataclasses import replace
 from typing import Callable, Dict, List, Tuple
 
 from commands import TODAY, files
-from tools import Between, Part, Person, Program, answer, by_bytecode, calls, fail, module, people
+from tools import Between, Part, Person, Program, Secured, answer, by_bytecode, calls, fail, module, people
 from desk import Held, digest, said
 
 Ask = Callable[[bytes], bytes]
@@ -58,7 +59,7 @@ POINTS: Dict[str, Rule] = {
 # Each command that the minutes keep.
 COMMANDS: List[Tuple[str, Tuple[str, ...]]] = [
     ("ann", ("submit", "signed.efi", "--title", "one")), ("rita", ("review", "1", "yes")), ("raul", ("review", "1", "yes")),
-    ("olga", ("list-certificate", "certificate.der")), ("sid", ("return", "1", "signed.efi")), ("ann", ("submit", "plain.efi", "--title", "two")),
+    ("olga", ("list-certificate", "certificate.der", "--yes")), ("sid", ("return", "1", "signed.efi")), ("ann", ("submit", "plain.efi", "--title", "two")),
     ("ann", ("withdraw", "2")), ("olga", ("list-digest", digest("11"))), ("olga", ("unlist", "digest", digest("11"))),
     ("olga", ("revoke", "--digest", digest("12"))), ("otto", ("confirm", "1", "--yes")), ("olga", ("revoke", "odd.efi")), ("otto", ("drop", "2")),
     ("olga", ("raise", "grub", "3", "--stamp", TODAY + "01")), ("olga", ("import", "lists.esl")),
@@ -200,6 +201,28 @@ def unsettled(program: Program) -> None:
         between.close()
 
 
+def certificate_fault(program: Program) -> None:
+    """Behind a lost answer a certificate that isn't trusted leaves the key for the next run; alone it leaves nothing."""
+    with Part(program, "trust") as part:
+        folder = program.at("trust")
+        os.makedirs(folder)
+        between = Secured(part.server.port, folder)
+        ann = Person(program, "ann", between.url, "trust", DESK_CA=os.path.join(folder, "ca.pem"))
+        words = ("submit", "plain.efi", "--title", "T")
+        between.shown = ["foreign"]
+        ann.ends(3, *words, err=["isn't trusted"])
+        if ann.pending():
+            fail("a certificate that isn't trusted leaves a key")
+        between.loses, between.shown = [POINTS["no answer"]], ["site", "foreign"]
+        ann.ends(3, *words, err=["isn't trusted", "Run the same command again"])
+        if len(ann.pending()) != 1:
+            fail("a certificate that isn't trusted lets the key of a lost answer go")
+        ann.does(*words, out=["request 1 submitted"], err=["taking up the keys of"])
+        if len(calls(part.minutes())) != 1:
+            fail("behind a certificate that isn't trusted a command acted twice")
+        between.close()
+
+
 def store_failed(program: Program) -> None:
     """503 of a device isn't asked again by the same run, since each try may end the desk once more; the key stays for the next one."""
     with Part(program, "store") as part:
@@ -327,6 +350,7 @@ def check(program: Program) -> str:
     tried = each_length(program)
     out_of_reach(program)
     unsettled(program)
+    certificate_fault(program)
     store_failed(program)
     waiting(program)
     killed_in_flight(program)

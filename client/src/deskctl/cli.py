@@ -6,6 +6,7 @@ import difflib
 import os
 import re
 import sys
+import traceback
 from typing import Any, Callable, Dict, List, NoReturn, Optional, Sequence, Tuple
 
 from . import VERSION
@@ -213,4 +214,11 @@ def main() -> int:
     except OSError as error:
         terminal.warn(f"deskctl: {reason(error)}")
         os.dup2(os.open(os.devnull, os.O_WRONLY), 1)
+        return LOST
+    except Exception:
+        # Python's own status would be 1, which says that the desk refused.
+        terminal.warn(TOKEN.sub("(a token)", traceback.format_exc()))
+        terminal.warn(
+            "deskctl: a fault of its own. If a command was sent, run it again: it acts once."
+        )
         return LOST

@@ -8,10 +8,10 @@ import json
 import os
 import secrets
 from dataclasses import dataclass, field
-from typing import Any, Callable, Dict, List, Optional, Sequence
+from typing import Any, Callable, Dict, List, NoReturn, Optional, Sequence
 
 from .api import Answer, Call, Desk, not_a_desk
-from .faults import Causes, Lost, Refused, Stop, explained, reason, wrong
+from .faults import Causes, DONE, Lost, Refused, Stop, explained, reason, wrong
 from .settings import Names, Settings, folder_of
 from .terminal import Terminal
 
@@ -78,6 +78,12 @@ class Entry:
     def done(self) -> None:
         os.unlink(self.path)
 
+    def over(self) -> NoReturn:
+        """Ends the run: its answers were shown. Killed between the two lines, and run again, it
+        acts again."""
+        os.unlink(self.path)
+        os._exit(DONE)
+
     def close(self) -> None:
         os.close(self.file)
 
@@ -110,6 +116,11 @@ class Journal:
         return sorted(found, key=lambda it: str(it.get("since")))
 
 
+def desk_json(value: Any) -> str:
+    """The desk's own form of JSON."""
+    return json.dumps(value, separators=(",", ":"), sort_keys=True)
+
+
 @dataclass
 class Run:
     """One run of deskctl: its words, and what it works with."""
@@ -127,8 +138,7 @@ class Run:
         return self.opened[0]
 
     def print_json(self, value: Any) -> None:
-        """The desk's own form of JSON."""
-        self.terminal.say(json.dumps(value, separators=(",", ":"), sort_keys=True))
+        self.terminal.say(desk_json(value))
 
 
 Replies = List[Dict[str, Any]]
@@ -140,11 +150,12 @@ def act(
     show: Callable[[Replies], None],
     asks: Optional[Callable[[bool], None]] = None,
     causes: Optional[Causes] = None,
-) -> None:
+) -> NoReturn:
     """Makes each of the calls once, whatever becomes of this run.
 
     `asks` puts the questions before the first try; it is told whether keys are taken up from a run
-    without an answer. The answers are shown before the journal lets go of the keys.
+    without an answer. The answers are shown before the journal lets go of the keys, and with them
+    the run ends.
     """
     desk = run.desk
     entry = run.journal.entry(
@@ -162,7 +173,7 @@ def act(
         else:
             show(replies)
         run.terminal.flush()
-        entry.done()
+        entry.over()
     finally:
         entry.close()
 
@@ -201,7 +212,7 @@ def exchange_all(
         try:
             replies.append(replied(run.desk.ask(call.with_key(key)), call))
         except Lost as lost:
-            if not lost.sent and not taken and not replies:
+            if not (lost.sent or lost.tried or taken or replies):
                 entry.done()
                 raise
             lost.more.append(
