@@ -6,7 +6,7 @@ import os
 from typing import Any
 
 from commands import TODAY, files
-from tools import Between, Part, Program, answer, by_bytecode, fail
+from tools import Between, Part, Person, Program, answer, by_bytecode, fail
 from desk import PEOPLE, PLAIN, authenticode, digest, refused, said, sha256, with_text
 
 
@@ -40,7 +40,8 @@ def older(part: Part) -> None:
     otto.ends(1, "proposal", "1", out=[counts], err=["doesn't show what a proposal names"])
     otto.ends(1, "proposal", "1", "--json", err=["refused 53 NoRoute"])
     otto.ends(2, "confirm", "1", err=["2 digests", "doesn't show what a proposal names", "no terminal"])
-    otto.ends(2, "confirm", "1", "--bars", "0", "--yes", err=["can't be compared"])
+    otto.ends(2, "confirm", "1", "--bars", "0", "--yes", err=["--bars can't be compared"])
+    otto.ends(2, "confirm", "1", "--expect", digest("00"), "--yes", err=["--expect can't be compared"])
     for typed, status in (("1", 2), ("2", 0)):
         ended, found = otto.asked("confirm", "1", answer=typed, size=(60, 300))
         if ended != status or "how many entries it has" not in found or ("proposal 1 confirmed" in found) != (status == 0):
@@ -51,6 +52,11 @@ def older(part: Part) -> None:
     otto.at(part.url)
 
 
+def expected(value: Any) -> str:
+    """The name of a proposal for --expect: that of the line that --json prints."""
+    return sha256(said(value) + b"\n")
+
+
 def by_proxy(part: Part) -> None:
     """A proposal whose two slips of the hand the second officer sees, and the number that a Confirm asks for."""
     between = Between(part.server.port)
@@ -59,8 +65,9 @@ def by_proxy(part: Part) -> None:
     texts = [
         digest("aa"), digest("bb"), "shim 4294967295", "stamp       9999999999", "no generation above 65,535", "doesn't begin with a date",
         "2 entries of kinds",
-        "bars request 1 (submitted, signed, of ann), ALLOWED NOW: its digest is revoked; a loader",
-        "shim has generation 4, and the level requires 4294967295",
+        "bars request 1 (submitted, signed, of ann), ALLOWED NOW: its digest would be revoked; a loader",
+        "shim has generation 4, and the level would require 4294967295",
+        f"desk        {between.url}", f"expect      {expected(PROPOSAL)}",
         "It bars 2 known images, 1 of them allowed now.", "dbx then has 216 bytes",
     ]
     otto.does("proposal", "1", out=texts)
@@ -68,11 +75,14 @@ def by_proxy(part: Part) -> None:
         fail("proposal --json")
     otto.ends(2, "confirm", "1", err=texts + ["no terminal to ask at"])
     otto.ends(2, "confirm", "1", "--bars", "1", "--yes", err=["bars 2 known images, and not 1"])
-    otto.ends(2, "confirm", "1", "--bars", "2", err=["no terminal to ask at"])
-    between.shows["/proposals/1"] = shown({**PROPOSAL, "components": [], "stamp": None})
+    otto.ends(2, "confirm", "1", "--bars", "2", "--expect", expected(PROPOSAL), err=["no terminal to ask at"])
+    plain = {**PROPOSAL, "components": [], "stamp": None}
+    between.shows["/proposals/1"] = shown(plain)
+    bound(between, otto, plain)
     for typed, status in (("yes", 2), ("1", 2), ("2", 0)):
         ended, found = otto.asked("confirm", "1", answer=typed, size=(60, 300))
-        if ended != status or "It bars 2 known images" not in found or ("proposal 1 confirmed" in found) != (status == 0):
+        asked = "It bars 2 known images" in found and f"At {between.url} nothing takes it back" in found
+        if ended != status or not asked or ("proposal 1 confirmed" in found) != (status == 0):
             fail(f"confirm, {typed!r} typed: status {ended}: {found!r}")
     otto.does("people", out=["ann\tsubmitter"])
     for path, body in (("/people", b"<html>"), ("/proposals/1", b"[]"), ("/proposals/1/impact", b'{"bars":3}')):
@@ -82,6 +92,29 @@ def by_proxy(part: Part) -> None:
         between.shows[path] = before
     between.close()
     otto.at(part.url)
+
+
+def bound(between: Between, otto: Person, plain: Any) -> None:
+    """A Confirm is bound to what was shown: by --expect, which another desk's proposal hasn't, and where what it names or bars changes while
+    its officer is asked."""
+    other, more = {**plain, "digests": [digest("ab")]}, {**IMPACT, "bars": IMPACT["bars"][:1]}
+    name, sent = ("--expect", expected(plain)), len(between.seen)
+    otto.ends(2, "confirm", "1", "--bars", "2", err=[between.url, "no terminal to ask at", f"--expect {expected(plain)} --bars 2"])
+    otto.ends(2, "confirm", "1", *name, err=["no terminal to ask at"])
+    otto.ends(2, "confirm", "1", "--expect", "12ab", err=["isn't 64 hexadecimal digits"])
+    between.shows["/proposals/1"] = shown(other)
+    otto.ends(2, "confirm", "1", *name, "--bars", "2", err=[f"proposal 1 of {between.url} isn't the one that you looked at"])
+    otto.ends(2, "confirm", "1", *name, "--yes", err=["isn't the one that you looked at"])
+    for path, first, then in (("/proposals/1", plain, other), ("/proposals/1/impact", IMPACT, more)):
+        between.shows["/proposals/1"], between.shows[path] = shown(plain), shown(first)
+        ended, found = otto.asked(
+            "confirm", "1", answer="2", size=(60, 300), meanwhile=lambda path=path, then=then: between.shows.update({path: shown(then)}),
+        )
+        if ended != 2 or "isn't what was shown; nothing was sent" not in found:
+            fail(f"{path} changes while its officer is asked: status {ended}: {found!r}")
+    between.shows.update({"/proposals/1": shown(plain), "/proposals/1/impact": shown(IMPACT)})
+    if any(b"/confirm " in head for head in between.seen[sent:]):
+        fail("a Confirm went out that wasn't bound to what was shown")
 
 
 def minutes_by_proxy(part: Part) -> None:
@@ -123,17 +156,19 @@ def by_desk(part: Part) -> None:
     program.file("shim.efi", image)
     ann.does("submit", "shim.efi", "--title", "shim", out=["request 1 submitted"])
     olga.does("raise", "shim", "4", "--stamp", TODAY + "01", out=["proposal 2"])
-    bars = "bars request 1 (submitted, open, of ann), refused now: shim has generation 3, and the level requires 4"
+    bars = "bars request 1 (submitted, open, of ann), refused now: shim has generation 3, and the level would require 4"
     wanted = ["component   shim 4", bars, "bars 1 known image"]
     otto.does("proposal", "2", out=wanted)
     otto.ends(2, "confirm", "2", "--bars", "0", err=["bars 1 known image, and not 0"])
-    otto.does("confirm", "2", "--bars", "1", err=wanted, out=["1 new component"])
+    name = expected(otto.json_lines("proposal", "2")[0])
+    otto.does("proposal", "2", out=[f"expect      {name}"])
+    otto.does("confirm", "2", "--bars", "1", "--expect", name.upper(), err=wanted, out=["1 new component"])
     for number in (3, 4):
         olga.does("revoke", "shim.efi", out=[f"proposal {number}"])
     known = f"digest      {authenticode(image)}  request 1 (open, shim)"
     otto.does("proposal", "3", out=[known, "bars 0 known images"])
     otto.does("proposal", "2", out=["confirmed"])
-    otto.does("confirm", "3", "--bars", "0")
+    otto.does("confirm", "3", "--bars", "0", "--yes")
     # The other one can't be confirmed any more, and says so before anybody is asked.
     shown_ = otto.does("proposal", "4", out=[known, "A Confirm would be refused 30 AlreadyRevoked", "deskctl drop 4"])
     if otto.json_lines("proposal", "4")[1] != {"name": "AlreadyRevoked", "refused": 30}:

@@ -1,11 +1,13 @@
 """The commands of proposals: proposals, proposal, confirm, drop."""
 from __future__ import annotations
 
+import hashlib
+from dataclasses import dataclass
 from typing import Any, Dict, List, Optional, Tuple
 
 from .api import Call
 from .faults import REFUSED, Refused, Stop, wrong
-from .journal import Replies, Run, act
+from .journal import Replies, Run, act, desk_json
 from .known import Counts, Impact, Proposal, known, level_doubts, level_of, said_number, shaped
 from .requests import verdict_words
 from .words import counted, printable
@@ -60,12 +62,21 @@ def impact_of(run: Run, number: int) -> Dict[str, Any]:
     return run.desk.get(f"/proposals/{number}/impact").object()
 
 
-def named_lines(one: Proposal, about: Dict[str, str]) -> List[str]:
-    """All that a proposal names, an entry a line."""
+def expected(value: Dict[str, Any]) -> str:
+    """What --expect compares: the SHA-256 of the first line of `deskctl proposal N --json`."""
+    return hashlib.sha256(desk_json(value).encode() + b"\n").hexdigest()
+
+
+def named_lines(run: Run, one: Proposal, value: Dict[str, Any], about: Dict[str, str]) -> List[str]:
+    """The desk, and all that a proposal names, an entry a line."""
     lines = [
-        f"proposal {one.number} of {printable(one.officer)}: {printable(one.kind)},"
-        f" {printable(one.state)}"
+        (
+            f"proposal {one.number} of {printable(one.officer)}: {printable(one.kind)},"
+            f" {printable(one.state)}"
+        ),
+        f"  desk        {run.desk.where}",
     ]
+    lines += [f"  expect      {expected(value)}"] if one.state == "open" else []
     if one.stamp:
         lines.append(f"  stamp       {one.stamp}")
     for name, entries in (("digest", one.digests), ("certificate", one.certificates)):
@@ -97,7 +108,7 @@ def impact_lines(impact: Impact) -> List[str]:
         lines.append(
             f"  bars request {one.get('request')} ({printable(one.get('file'))},"
             f" {printable(one.get('state'))}, of {printable(one.get('submitter'))}), {now_}:"
-            f" {printable(verdict_words(one.get('by') or {}))}; {printable(one.get('title'))}"
+            f" {printable(verdict_words(one.get('by') or {}, True))}; {printable(one.get('title'))}"
         )
     allowed = sum(bool(one.get("allowed")) for one in impact.bars)
     lines.append(
@@ -142,7 +153,7 @@ def proposal(run: Run) -> None:
             run.print_json(impact)
         return
     found = known(run, one.digests, one.certificates)
-    for line in named_lines(one, found.about) + lines:
+    for line in named_lines(run, one, value, found.about) + lines:
         run.terminal.say(line)
     for doubt in found.doubts + (
         level_doubts(one.components, one.stamp, level_of(run)[1]) if lines else []
@@ -166,9 +177,37 @@ def closing(number: int) -> List[str]:
     return [f"As it stands it can't be confirmed; an officer closes it: deskctl drop {number}"]
 
 
+@dataclass(frozen=True)
+class Seen:
+    """What an officer is shown before a Confirm: the desk's answers, and what is doubtful."""
+
+    proposal: Dict[str, Any]
+    impact: Dict[str, Any]
+    doubts: List[str]
+
+    def bars(self) -> int:
+        return len(shaped(Impact, self.impact).bars)
+
+
+def show_all(run: Run, value: Dict[str, Any], one: Proposal) -> Seen:
+    """Shows all that an open proposal names, and what a Confirm of it would do."""
+    found = known(run, one.digests, one.certificates)
+    for line in named_lines(run, one, value, found.about):
+        run.terminal.warn(line)
+    try:
+        impact = impact_of(run, one.number)
+    except Refused as refused:
+        refused.more = closing(one.number)
+        raise
+    for line in impact_lines(shaped(Impact, impact)):
+        run.terminal.warn(line)
+    doubts = found.doubts + level_doubts(one.components, one.stamp, level_of(run)[1])
+    return Seen(value, impact, doubts)
+
+
 def confirm_asks(run: Run, taken: bool) -> None:
-    """What a Confirm does, and the question."""
-    number, bars = run.words.number, run.words.bars
+    """What a Confirm would do, and the question."""
+    number, words = run.words.number, run.words
     value = shown_proposal(run, number)
     if value is None:
         confirm_blind(run, taken)
@@ -177,29 +216,32 @@ def confirm_asks(run: Run, taken: bool) -> None:
     if one.state != "open":
         # The desk answers: the old reply to the old key, or ProposalClosed.
         return
-    found = known(run, one.digests, one.certificates)
-    for line in named_lines(one, found.about):
-        run.terminal.warn(line)
-    try:
-        impact = shaped(Impact, impact_of(run, number))
-    except Refused as refused:
-        refused.more = closing(number)
-        raise
-    for line in impact_lines(impact):
-        run.terminal.warn(line)
-    doubts = found.doubts + level_doubts(one.components, one.stamp, level_of(run)[1])
-    if bars is not None and bars != len(impact.bars):
-        wrong(f"proposal {number} bars {counted(len(impact.bars), 'known image')}, and not {bars}")
-    if bars is None:
-        count = str(len(impact.bars))
-        run.terminal.confirm(
-            doubts,
-            "Nothing takes it back. To confirm, type how many known images it bars:",
-            count,
-            f"--bars {count}",
+    seen = show_all(run, value, one)
+    if words.expect not in (None, expected(value)):
+        wrong(f"proposal {number} of {run.desk.where} isn't the one that you looked at")
+    if words.bars not in (None, seen.bars()):
+        bars = counted(seen.bars(), "known image")
+        wrong(f"proposal {number} bars {bars}, and not {words.bars}")
+    if words.expect is None or words.bars is None or seen.doubts:
+        confirm_question(run, seen)
+
+
+def confirm_question(run: Run, seen: Seen) -> None:
+    """Asks for the count of known images that it bars, or for a yes if that was given; what was
+    shown has to stand when the answer comes."""
+    number, count = run.words.number, str(seen.bars())
+    begin = f"At {run.desk.where} nothing takes it back."
+    word = "--yes" if seen.doubts else f"--expect {expected(seen.proposal)} --bars {count}"
+    if run.words.bars is None:
+        question, wanted = "To confirm, type how many known images it bars:", count
+    else:
+        question, wanted = "Confirm it? Type yes:", "yes"
+    run.terminal.confirm(seen.doubts, f"{begin} {question}", wanted, word)
+    if shown_proposal(run, number) != seen.proposal or impact_of(run, number) != seen.impact:
+        wrong(
+            f"what proposal {number} names or bars isn't what was shown; nothing was sent",
+            f"Look at it again: deskctl proposal {number}",
         )
-    elif doubts:
-        run.terminal.confirm(doubts, "Nothing takes it back. Confirm it all the same? Type yes:")
 
 
 def confirm_blind(run: Run, taken: bool) -> None:
@@ -208,14 +250,18 @@ def confirm_blind(run: Run, taken: bool) -> None:
         return
     for line in blind_lines(one):
         run.terminal.warn(line)
-    if run.words.bars is not None:
-        wrong(
-            f"--bars can't be compared: {BLIND}", "Look at what it names by other ways; then --yes."
-        )
+    for name in ("bars", "expect"):
+        if getattr(run.words, name) is not None:
+            wrong(
+                f"--{name} can't be compared: {BLIND}",
+                "Look at what it names by other ways; then --yes.",
+            )
     entries = one.digests + one.certificates + one.components
     doubts = [f"{BLIND}. Ask its proposer what it names, and compare."]
     run.terminal.confirm(
-        doubts, "Nothing takes it back. To confirm, type how many entries it has:", str(entries)
+        doubts,
+        f"At {run.desk.where} nothing takes it back. To confirm, type how many entries it has:",
+        str(entries),
     )
 
 

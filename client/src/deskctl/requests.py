@@ -41,18 +41,20 @@ def body_causes(path: str, data: bytes) -> Causes:
     }
 
 
-def verdict_words(verdict: Dict[str, Any]) -> str:
+def verdict_words(verdict: Dict[str, Any], would: bool = False) -> str:
+    """A verdict in words: as it is, or as it would be behind a Confirm."""
+    revoked, requires = ("would be", "would require") if would else ("is", "requires")
     words = {
         "allowed": "nothing bars it, and it is listed",
-        "dbx-digest": "its digest is revoked",
-        "dbx-certificate": "a certificate that it carries is revoked",
+        "dbx-digest": f"its digest {revoked} revoked",
+        "dbx-certificate": f"a certificate that it carries {revoked} revoked",
         "not-listed": "neither its digest nor a certificate that it carries is listed",
     }
     found = verdict.get("verdict")
     if found == "sbat":
         return (
             f"{verdict.get('component')} has generation {verdict.get('generation')}, and the level"
-            f" requires {verdict.get('level')}"
+            f" {requires} {verdict.get('level')}"
         )
     return words.get(str(found), str(found))
 
