@@ -6,16 +6,20 @@
 #             plain requests leaves the same minutes but for keys
 #   losses    answers that are lost at each point, of each command; runs that are killed between
 #             journal and answer, and at any moment: the minutes have each command once
+#   lines     runs that are killed before each line of the journal's module
+#   cases     the files of checks/imports, read, refused and proposed as the table has them
 #   mistakes  whole files' hashes, fingerprints, entries of the other kind, slips in generations and
 #             stamps, texts, tokens, settings, lengths
 #   imports   each kind of a file of revocations, cut at each length of its header; more entries
 #             than an import may have
-#   routes    proposals shown whole, impacts, minutes in parts, people
+#   routes    proposals shown whole, impacts, minutes in parts, people; a Confirm that is bound to
+#             what was shown
 #   signing   the job, the loop and the evening of client/README.md, as printed;
 #             a foreign signature that carries a listed certificate
 #   readme    README.md's day by curl and by deskctl, as printed: the same minutes but for keys
 # Then deskctl and the check's own Python have the syntax of Python 3.9 and no finding of pyflakes3,
-# and help, page and completions are written and read. deskctl isn't proved, and neither is what
+# its modules have at most 500 lines of 100 columns and functions under 40 lines, as one file it has
+# the same bytes each time, and help, page and completions are written and read. deskctl isn't proved, and neither is what
 # stands in front of it here. It needs bash, curl, efitools, nginx, openssl, pyflakes3, python3,
 # sbsigntool; fish, man and zsh are used where they are installed, and otherwise named at the end.
 set -eu
@@ -49,10 +53,22 @@ pyflakes3 "$@" > said 2>&1 || fail "pyflakes3: $(cat said)"
 python3 -c 'import ast, sys
 for path in sys.argv[1:]:
     ast.parse(open(path, encoding="utf-8").read(), path, feature_version=(3, 9))' "$@" > said 2>&1 || fail "not of Python 3.9: $(tail -n 1 said)"
+python3 -c 'import ast, sys
+for path in sys.argv[1:]:
+    text = open(path, encoding="utf-8").read()
+    wide = [line for line in text.split("\n") if len(line) > 100]
+    long = [one.name for one in ast.walk(ast.parse(text)) if isinstance(one, ast.FunctionDef) and one.end_lineno - one.lineno >= 40]
+    if wide or long or text.count("\n") > 500:
+        sys.exit(f"{path}: {text.count(chr(10))} lines, wide ones {wide}, long functions {long}")' "$root"/client/src/deskctl/*.py ||
+    fail 'a module of deskctl is too long'
+python3 -B "$root/client/one_file.py" one
+(umask 077 && TZ=Asia/Tokyo python3 -B "$root/client/one_file.py" two)
+cmp -s one two || fail 'deskctl as one file has other bytes each time'
 mkdir pages
 python3 -B "$root/client/pages.py" pages
 deskctl=$root/client/deskctl
 "$deskctl" --help > help
+./one --help | cmp -s - help || fail 'deskctl as one file has another help'
 commands=$(sed -n 's/^  \([a-z-]*[a-z]\)  .*/\1/p' help | grep -v '^-' | tr '\n' ' ' | sed 's, $,,')
 case $commands in
     'submit requests request wait review withdraw return verdict list-certificate list-digest unlist revoke raise import proposals proposal confirm drop get minutes people report token pending') ;;

@@ -48,8 +48,11 @@ have it. The key and what it is for are written into a journal before the reques
 printed. Where no answer comes (the connection fails, the proxy says 408, 429, 500, 502, 503 or 504, the desk has no memory) deskctl asks
 again with the same key, with growing pauses. If it gives up or is ended, the next run of the same command (the same desk, caller, words
 and files) takes that key, and says so. So a command acts once, whatever was lost. A refusal ends that, unless an answer was lost before
-and the refusal says nothing of it, as one of the proxy's. `--new-key` forgets the key, and the run is another command.
-`deskctl pending` lists the journal. Two runs of the same command at once follow one another.
+and the refusal says nothing of it, as one of the proxy's, or a certificate that isn't trusted. `--new-key` forgets the key, and the run
+is another command. `deskctl pending` lists the journal. Two runs of the same command at once follow one another.
+
+A run ends as soon as the journal has let go of its key. One that is killed between these two steps, and is run again though its answer was
+printed, acts again.
 
 An import of several parts has a key a part; the same command goes on where it was stopped."""
 QUESTIONS = """\
@@ -59,16 +62,24 @@ Nothing takes a revocation back, and an entry that names nothing stays in dbx fo
 other kind at the desk;
 - a generation above 65,535, or ten or more above the present one;
 - a stamp that doesn't begin with a date of the last or the next year;
-- an import that names nothing, or in which nothing is new.
+- an import in which nothing is new.
 
-`confirm` shows all that the proposal names, which known images it would bar, and asks how many these are; `--bars COUNT` answers
-beforehand, and ends with status 2 if there are others. Without a terminal deskctl sends nothing where it would ask, unless `--yes` is
-given. A desk that is older than deskctl doesn't show what a proposal names: then `confirm` says so, and asks for the count of its entries."""
+`list-certificate` always asks, since one officer lists alone: it shows the certificate's subject, its issuer and whether it is a CA's. A
+file of two certificates, of a request, a key or a CRL isn't taken, here and wherever a certificate is named by its file.
+
+`confirm` names the desk, shows all that the proposal names and which known images it would bar, and asks how many these are. When the
+answer comes it looks again, and sends nothing if one of them changed. `--expect HEX` names the proposal that was looked at, by what
+`deskctl proposal` shows as `expect`: the SHA-256 of the first line that it prints with `--json`. `--bars COUNT` is the count that is expected.
+If both are given, and nothing is doubtful, it asks nothing; if one isn't so, it ends with status 2.
+
+Without a terminal deskctl sends nothing where it would ask, unless `--yes` is given. A desk that is older than deskctl doesn't show what a
+proposal names: then `confirm` says so, and asks for the count of its entries."""
 IMPORTS = """\
 The kind of a file is found by its bytes. Signature lists may stand behind EFI_VARIABLE_AUTHENTICATION_2, as sign-efi-sig-list
-writes it (its lengths and GUIDs are tested, its time is shown, its signature isn't verified), or behind the four bytes
-of attributes that efivarfs puts before a variable. The desk's CSV and a level's text go as they are. Of Microsoft's dbx_info_msft, JSON
-or CSV, the Authenticode hashes are taken, of all architectures or of `--arch`.
+and sbvarsign write it (its lengths and GUIDs are tested, its time is shown, which may be zeros, its signature isn't verified), behind the
+four bytes of attributes that efivarfs puts before a variable, or behind both. The desk's CSV and a level's text go as they are. Of Microsoft's dbx_info_msft, JSON
+or CSV, the Authenticode hashes are taken, of all architectures or of `--arch`. Texts are read as UTF-8, and nothing stands before the header
+of CSV.
 
 Left out, and counted: hashes of whole files, certificates without their TBSCertificate, and versions of Windows' boot programs, which have
 the form of a digest in a list but are none. The desk doesn't keep the owner of an entry, nor a certificate's time of revocation: it is

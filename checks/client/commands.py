@@ -7,11 +7,12 @@ import os
 import threading
 from typing import Any, Dict, List, Sequence, Tuple
 
-from tools import Nginx, Part, Person, Program, Server, certificate, fail, people, without_keys
-from desk import CERTIFICATE, PEOPLE, PLAIN, SIGNED, TBS, THREE_LISTS, authenticode, digest, posted, said, sha256
+from tools import CERTIFICATE, TBS, Nginx, Part, Person, Program, Server, certificate, fail, people, table_of, without_keys
+from desk import PEOPLE, PLAIN, THREE_LISTS, authenticode, digest, posted, said, sha256, with_table
 
 TODAY = datetime.datetime.now(datetime.timezone.utc).strftime("%Y%m%d")
 HEX = "ba7816bf8f01cfea414140de5dae2223b00361a396177a9cb410ff61f20015ad"
+SIGNED = with_table(PLAIN, table_of(CERTIFICATE))
 # Its digest isn't the one that a signature holds.
 ODD = PLAIN + b"12345"
 CSV = f"kind,value,generation\nsha256,{digest('cc')},\nsbat,grub,4\n".encode()
@@ -119,7 +120,7 @@ def by_deskctl(who: Dict[str, Person]) -> None:
     ann.ends(3, "wait", "1", "--timeout", "0.1", err=["still open"])
     raul.does("review", "1", "yes", out=["approved"])
     ann.does("wait", "1", "--timeout", "5", out=["request 1 approved"])
-    olga.does("list-certificate", "certificate.der", out=[TBS])
+    olga.does("list-certificate", "certificate.der", "--yes", out=[TBS])
     sid.does("return", "1", "signed.efi", out=["request 1 signed"], err=["sbverify"])
     ann.does("verdict", "signed.efi", out=["allowed"], err=["no signature was checked"])
     ann.ends(4, "verdict", "signed.efi", "plain.efi", out=["allowed", "not-listed"])

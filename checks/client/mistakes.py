@@ -7,9 +7,9 @@ import subprocess
 import time
 from typing import List, Tuple
 
-from commands import HEX, TODAY, files
-from tools import DESKCTL, ROOT, Between, Part, Person, Program, by_bytecode, calls, fail, made, module, self_signed, token
-from desk import PLAIN, SIGNED, TBS, authenticode, digest, digest_list, sha256, with_text
+from commands import HEX, SIGNED, TODAY, files
+from tools import DESKCTL, TBS, ROOT, Between, Part, Person, Program, by_bytecode, calls, cases, fail, made, module, self_signed, token
+from desk import PLAIN, authenticode, digest, digest_list, sha256, with_text
 
 
 def certificates(program: Program) -> Tuple[str, str, str]:
@@ -36,8 +36,8 @@ def three_mistakes(part: Part) -> None:
     program, olga, ann = part.program, part.people["olga"], part.people["ann"]
     tbs, fingerprint, colons = certificates(program)
     ann.does("submit", "signed.efi", "--title", "grub 2.12")
-    olga.does("list-certificate", "real.pem", out=[tbs], err=["O=A distribution, CN=Boot signer"])
-    olga.does("list-certificate", "certificate.der", out=[TBS])
+    olga.does("list-certificate", "real.pem", "--yes", out=[tbs], err=["O=A distribution, CN=Boot signer"])
+    olga.does("list-certificate", "certificate.der", "--yes", out=[TBS])
     whole = sha256(SIGNED)
     doubts = [
         (("revoke", "--digest", whole), f"{whole} is the SHA-256 of the whole file of request 1 (open, grub 2.12)"),
@@ -318,6 +318,26 @@ def in_words() -> None:
         fail(f"the refusals of deskctl and of docs/REFUSALS.md differ: {sorted(words ^ numbers)}")
 
 
+def listing(part: Part) -> None:
+    """A certificate is listed by one officer alone, so its subject, its issuer and whether it is a CA's are shown, and the desk, before a yes."""
+    olga = part.people["olga"]
+    names = ["subject     O=A distribution, CN=Boot signer 2026", "issuer      C=DE, O=A distribution, CN=Boot CA", "CA          no", TBS]
+    unsent(part, olga, ("list-certificate", "certificate.der"), *names, "no terminal to ask at", "--yes")
+    for case in cases("certificates"):
+        if case.get("ca"):
+            part.program.file("ca.der", case["bytes"])
+            unsent(part, olga, ("list-certificate", "ca.der"), "CA          yes", "! It says that it is a CA's", case["subject"])
+    for typed, status in (("", 2), ("no", 2), ("yes", 0)):
+        ended, shown = olga.asked("list-certificate", "certificate.der", answer=typed, size=(40, 300))
+        told = all(name in shown for name in names) and f"At {part.url} each image that carries it is then allowed. List it?" in shown
+        if ended != status or not told or ("listed" in shown.replace("list-", "")) != (status == 0):
+            fail(f"list-certificate, {typed!r} typed: status {ended}: {shown!r}")
+    # What isn't one names nothing anywhere.
+    part.program.file("request.der", next(case["bytes"] for case in cases("certificates") if case["name"] == "a certificate request in DER"))
+    for words in (("revoke", "--certificate"), ("unlist", "certificate"), ("list-certificate",)):
+        unsent(part, olga, (*words, "request.der"), "is no certificate in PEM or DER", "a request, a key, a CRL and a bundle")
+
+
 def confirming(part: Part) -> None:
     """At a terminal a Confirm asks for a number, and only that number goes on."""
     olga, otto = part.people["olga"], part.people["otto"]
@@ -326,13 +346,13 @@ def confirming(part: Part) -> None:
     unsent(part, otto, ("confirm", "1"), "no terminal to ask at")
     for typed, status in (("yes", 2), ("7", 2), ("0", 0)):
         ended, shown = otto.asked("confirm", "1", answer=typed, size=(40, 300))
-        if ended != status or "Nothing takes it back" not in shown or ("confirmed: 3 new digests" in shown) != (status == 0):
+        if ended != status or f"At {part.url} nothing takes it back" not in shown or ("confirmed: 3 new digests" in shown) != (status == 0):
             fail(f"confirm, {typed!r} typed: status {ended}: {shown!r}")
     unsent(part, olga, ("import", "three.esl"), "Nothing in it is new")
 
 
 def check(program: Program) -> str:
-    parts: List = [three_mistakes, levels, texts, refusals, same_words_anew, tokens, settings, lengths, confirming]
+    parts: List = [three_mistakes, levels, texts, refusals, same_words_anew, tokens, settings, lengths, listing, confirming]
     files(program)
     certificates(program)
     in_words()

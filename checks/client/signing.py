@@ -54,6 +54,29 @@ def foreign(part: Part, who: Dict[str, Person]) -> None:
         fail("sbverify takes a foreign signature")
 
 
+def kept(person: Person) -> List[str]:
+    """What is in the signing machine's folder, which is nobody else's."""
+    folder = os.path.join(person.folder, "signing")
+    if os.stat(folder).st_mode & 0o077:
+        fail("the signing machine's folder is open to others")
+    return os.listdir(folder)
+
+
+def exchanged(part: Part, who: Dict[str, Person]) -> str:
+    """The loop, while a build job puts another file into an image's place as soon as its SHA-256 is known; what is signed is what was hashed."""
+    program = part.program
+    image = program.at(f"images/{who['ann'].json('request', '1')['file']}")
+    with open(program.at("bin/sha256sum"), "w", encoding="ascii") as file:
+        file.write(f'#!/bin/sh\n{shutil.which("sha256sum")} "$@"\nif [ -e other.efi ]; then mv other.efi {image}; fi\n')
+    os.chmod(program.at("bin/sha256sum"), 0o700)
+    program.file("other.efi", with_text(PLAIN, b"sbat,1,SBAT Version,sbat,1,https://example.org\n"))
+    said = typed(part, who["sid"], printed("A signing machine's loop"), KEY=program.at("signer.key"))
+    os.unlink(program.at("bin/sha256sum"))
+    if os.path.exists(program.at("other.efi")):
+        fail("the signing machine hashes nothing")
+    return said
+
+
 def day(part: Part) -> None:
     who, program = part.people, part.program
     job = printed("A build system's job")
@@ -66,14 +89,20 @@ def day(part: Part) -> None:
     who["raul"].does("review", "1", "yes")
     if "request 1 approved" not in typed(part, who["ann"], job, VERSION="16.1", ARCH="amd64"):
         fail("the job doesn't see the approval")
-    who["olga"].does("list-certificate", "signer.pem", err=["CN=signer"])
+    # Before its certificate is listed the desk refuses what was signed, and it is removed.
+    typed(part, who["sid"], printed("A signing machine's loop"), KEY=program.at("signer.key"))
+    if who["ann"].json("request", "1")["state"] != "approved" or "image.efi" not in kept(who["sid"]) or len(kept(who["sid"])) != 1:
+        fail(f"the signing machine keeps what the desk refused: {kept(who['sid'])}")
+    who["olga"].does("list-certificate", "signer.pem", "--yes", err=["CN=signer"])
     foreign(part, who)
-    said = typed(part, who["sid"], printed("A signing machine's loop"), KEY=program.at("signer.key"))
-    with open(program.at("signed.efi"), "rb") as file:
+    said = exchanged(part, who)
+    one = who["ann"].json("request", "1")
+    path = os.path.join(who["sid"].folder, "signing", one["file"])
+    with open(path, "rb") as file:
         whole = sha256(file.read())
-    if "request 1 signed" not in said or who["ann"].json("request", "1")["returned"] != whole:
+    if "request 1 signed" not in said or one["returned"] != whole:
         fail(f"the signing machine's loop: {said}")
-    made("sbverify", "--cert", "signer.pem", "signed.efi", cwd=program.room.name)
+    made("sbverify", "--cert", "signer.pem", path, cwd=program.room.name)
     # Another file under an image's name isn't signed.
     who["ann"].does("submit", "odd.efi", "--title", "another")
     who["rita"].does("review", "2", "yes")

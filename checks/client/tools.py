@@ -11,6 +11,8 @@ import pty
 import re
 import shutil
 import socket
+import ssl
+import struct
 import subprocess
 import sys
 import tempfile
@@ -23,10 +25,30 @@ ROOT = os.path.dirname(os.path.dirname(os.path.dirname(os.path.realpath(__file__
 sys.path.insert(0, os.path.join(ROOT, "checks", "requests"))
 from desk import PEOPLE, Held, Program, Server, end_with_parent, fail, got, token  # noqa: E402
 
+sys.path.insert(0, os.path.join(ROOT, "checks", "imports"))
+from table import cases  # noqa: E402
+
 # Another one may be named, as that of a package.
 DESKCTL = os.environ.get("DESKCTL") or os.path.join(ROOT, "client", "deskctl")
 # How a person's deskctl is begun.
 COMMAND = [DESKCTL]
+# A certificate in its whole form, and the SHA-256 of its TBSCertificate.
+SIGNER = next(case for case in cases("certificates") if case["name"] == "a signer that its CA issued, in DER")
+CERTIFICATE, TBS = SIGNER["bytes"], SIGNER["tbs"]
+
+
+def der(tag: int, *inner: bytes) -> bytes:
+    """An element of DER of up to 65,535 bytes."""
+    content = b"".join(inner)
+    size = len(content)
+    return bytes([tag]) + (bytes([size]) if size < 128 else b"\x82" + size.to_bytes(2, "big")) + content
+
+
+def table_of(certificate: bytes) -> bytes:
+    """A certificate table of one entry, a SignedData (RFC 5652) that holds the certificate and signs nothing."""
+    data = der(0x30, bytes.fromhex("020101"), der(0x31), der(0x30), der(0xA0, certificate), der(0x31))
+    entry = der(0x30, bytes.fromhex("06092a864886f70d010702"), der(0xA0, data))
+    return struct.pack("<IHH", 8 + len(entry), 0x0200, 2) + entry + bytes(-len(entry) % 8)
 
 
 def modules() -> str:
@@ -120,8 +142,11 @@ class Person:
         names = os.listdir(self.journal) if os.path.isdir(self.journal) else []
         return [name for name in names if os.path.getsize(os.path.join(self.journal, name))]
 
-    def asked(self, *words: str, answer: str, size: Tuple[int, int] = (40, 100)) -> Tuple[int, str]:
-        """A run at a terminal, whose question gets this answer: its status, and all that was shown."""
+    def asked(
+        self, *words: str, answer: str, size: Tuple[int, int] = (40, 100), meanwhile: Optional[Callable[[], None]] = None,
+    ) -> Tuple[int, str]:
+        """A run at a terminal, whose question gets this answer: its status, and all that was shown. `meanwhile` is what happens before the
+        answer is typed."""
         child, master = pty.fork()
         if child == 0:
             end_with_parent()
@@ -137,6 +162,8 @@ class Person:
                 break
             shown += piece
             if not typed and shown.rstrip().endswith(b":") and b"\n" not in shown[shown.rstrip().rfind(b":") :].strip():
+                if meanwhile:
+                    meanwhile()
                 os.write(master, answer.encode() + b"\n")
                 typed = True
         os.close(master)
@@ -249,6 +276,31 @@ class Between:
 
     def close(self) -> None:
         self.socket.close()
+
+
+class Secured(Between):
+    """The same with TLS. `shown` has the names of the certificates that the next connections get; then each gets `site`."""
+
+    def __init__(self, port: int, folder: str):
+        authority(folder, "ca")
+        certificate(folder, "ca", "site", "/CN=localhost", "subjectAltName=IP:127.0.0.1")
+        self_signed(folder, "foreign", "/CN=localhost")
+        self.contexts = {}
+        for name in ("site", "foreign"):
+            self.contexts[name] = ssl.SSLContext(ssl.PROTOCOL_TLS_SERVER)
+            self.contexts[name].load_cert_chain(os.path.join(folder, f"{name}.pem"), os.path.join(folder, f"{name}.key"))
+        self.shown: List[str] = []
+        super().__init__(port)
+        self.url = self.url.replace("http:", "https:")
+
+    def one(self, peer: socket.socket) -> None:
+        name = self.shown.pop(0) if self.shown else "site"
+        try:
+            peer = self.contexts[name].wrap_socket(peer, server_side=True)
+        except OSError:
+            peer.close()
+            return
+        super().one(peer)
 
 
 # ---- nginx with TLS

@@ -9,7 +9,7 @@ from typing import Any, Callable, Dict, Optional, Tuple
 from .api import RETRIES
 from .faults import DONE, LOST, NOT_ALLOWED, REFUSED, WORDS
 from .journal import Run
-from .words import printable
+from .words import HEX, printable
 
 
 def number_word(text: str) -> int:
@@ -47,6 +47,12 @@ def count_word(text: str) -> int:
     if not re.fullmatch(r"[0-9]{1,7}", text):
         raise argparse.ArgumentTypeError(f"{printable(text)} is no count")
     return int(text)
+
+
+def hash_word(text: str) -> str:
+    if not HEX.match(text):
+        raise argparse.ArgumentTypeError(f"{printable(text)} isn't 64 hexadecimal digits")
+    return text.lower()
 
 
 def seconds_word(text: str) -> float:

@@ -8,6 +8,7 @@ from .arguments import (
     component_word,
     count_word,
     generation_word,
+    hash_word,
     number_word,
     seconds_word,
     stamp_word,
@@ -23,11 +24,17 @@ from .requests import give_back, request, requests, review, submit, verdict, wai
 STATES = ("open", "approved", "rejected", "withdrawn", "signed")
 NUMBER = word("number", metavar="N", type=number_word, help="the request's number")
 PROPOSAL = word("number", metavar="N", type=number_word, help="the proposal's number")
+EXPECT = word(
+    "--expect",
+    metavar="HEX",
+    type=hash_word,
+    help="go on only if it is what `deskctl proposal N` showed with this name",
+)
 BARS = word(
     "--bars",
     metavar="COUNT",
     type=count_word,
-    help="don't ask; go on only if it bars exactly so many known images",
+    help="go on only if it bars exactly so many known images",
 )
 ALLOWING = "Listing (db), by one officer"
 REVOKING = "Revoking (dbx and the level), proposed by one officer and confirmed by another"
@@ -186,7 +193,11 @@ COMMANDS: Tuple[Command, ...] = (
         list_certificate,
         (word("file", metavar="FILE", help="one certificate, in PEM or DER"),),
         "officers",
-        "Shows its subject. The desk then allows each image that carries this certificate.",
+        (
+            "Shows its subject, its issuer and whether it is a CA's, and asks. The desk then allows"
+            " each image that carries this certificate. A file of two, of a request, of a key or"
+            " of a CRL isn't taken."
+        ),
         "deskctl list-certificate signer.pem",
     ),
     Command(
@@ -361,21 +372,23 @@ COMMANDS: Tuple[Command, ...] = (
         "officers",
         (
             "Each digest and certificate with what is known of it, and the known images that a"
-            " Confirm would bar."
+            " Confirm would bar. What follows `expect` is a name for what is shown of the proposal,"
+            " for --expect of `deskctl confirm`: the SHA-256 of the first line that --json prints."
         ),
         "deskctl proposal 1",
     ),
     Command(
         "confirm",
         REVOKING,
-        "N [--bars COUNT]",
+        "N [--expect HEX] [--bars COUNT]",
         "put another officer's proposal into force",
         confirm,
-        (PROPOSAL, BARS),
+        (PROPOSAL, EXPECT, BARS),
         "officers",
         (
-            "Shows all that it names and which known images it bars, and goes on once you have"
-            " typed how many these are. Nothing takes a Confirm back."
+            "Names the desk, shows all that the proposal names and which known images it would bar,"
+            " and goes on once you have typed how many these are, if it is still what was shown."
+            " Nothing takes a Confirm back."
         ),
         "deskctl confirm 1",
     ),

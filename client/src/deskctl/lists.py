@@ -52,6 +52,12 @@ def certificate_named(run: Run, text: str) -> str:
     return found.tbs
 
 
+CA_DOUBT = (
+    "It says that it is a CA's: an image that carries it beside its signer's is allowed, whoever"
+    " the signer is."
+)
+
+
 def list_certificate(run: Run) -> None:
     found = certificate_of(run.words.file)
     if len(found.data) > CERTIFICATE_LIMIT:
@@ -59,11 +65,28 @@ def list_certificate(run: Run) -> None:
             f"{run.words.file} has {len(found.data):,} bytes, and a certificate at most"
             f" {CERTIFICATE_LIMIT:,}"
         )
-    run.terminal.note(f"{run.words.file}: {found.subject}")
     call = Call(
         "POST", "/db/certificates", found.data, (), "listed", f"list-certificate {found.tbs}"
     )
-    act(run, [call], lambda _: run.terminal.say(f"certificate {found.tbs} listed"))
+
+    def asks(taken: bool) -> None:
+        for name, text in (
+            ("subject", found.subject),
+            ("issuer", found.issuer),
+            ("CA", "yes" if found.authority else "no"),
+            ("certificate", f"{found.tbs} (the SHA-256 of its TBSCertificate)"),
+        ):
+            run.terminal.warn(f"  {name:<11} {text}")
+        if not taken:
+            run.terminal.confirm(
+                [CA_DOUBT] if found.authority else [],
+                (
+                    f"At {run.desk.where} each image that carries it is then allowed. List it? Type"
+                    " yes:"
+                ),
+            )
+
+    act(run, [call], lambda _: run.terminal.say(f"certificate {found.tbs} listed"), asks)
 
 
 def named_body(digest: str, **more: str) -> bytes:
