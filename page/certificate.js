@@ -43,7 +43,7 @@ export function certificateFacts(it) {
         ['Issuer', it.issuer === it.subject ? 'the same: it is self-issued' : it.issuer],
         ['Key', it.key],
         ['CA', it.authority ? strong('yes, it can issue others') : 'no'],
-        ['SHA-256', it.name ? digest(it.name, 'the SHA-256 of the TBSCertificate') : 'isn’t worked out: browsers do it over https alone'],
+        ['SHA-256 of its TBSCertificate', it.name ? digest(it.name, 'the SHA-256 of the TBSCertificate') : 'isn’t worked out: browsers do it over https alone'],
     ];
     return h('dl', { class: 'facts' }, rows.map(([name, value]) => h('div', {}, h('dt', {}, name), h('dd', {}, value))));
 }

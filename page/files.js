@@ -49,7 +49,7 @@ export function fileField(label, hint, take, most = MOST_IMAGE) {
             told,
             p(`${file.name}, ${size(bytes.length)}`),
             p(
-                'SHA-256 ',
+                'SHA-256 of the file ',
                 sum ? digest(sum, 'the SHA-256 of this file') : 'isn’t worked out: browsers do it over https alone.',
             ),
         );

@@ -81,7 +81,7 @@ function part(all, some) {
 function lost(shown, found) {
     if (found.versions > 0) {
         const versions = `${counted(found.versions, 'version')} of Windows’ boot programs (SVN)`;
-        shown.lines.push(`Left out: ${versions}, which stand among digests and name no image.`);
+        shown.lines.push(`Left out: ${versions}. Such entries look like digests, and name no image.`);
     }
     for (const [kind, count] of found.skipped) {
         shown.lines.push(`Skipped by the desk: ${counted(count, 'entry', 'entries')} of type ${kind}.`);
