@@ -31,7 +31,9 @@ function certificateForm(done) {
         fault.textContent = chosen ? '' : 'Choose a certificate’s file.';
         if (!chosen) return file.input.focus();
         const it = chosen;
+        go.disabled = true;
         const now = await standing();
+        go.disabled = false;
         if (now.kind !== 'value') return fill(said, refusalBox(now));
         if (!(await meant(it, now.value.revoked.certificates.has(it.name)))) return undefined;
         return done(await act(new Command('List a certificate', '/db/certificates', it.der), said, { off: [go] }));

@@ -21,9 +21,10 @@ from table import cases  # noqa: E402
 # A signer's certificate, the SHA-256 of its TBSCertificate, its subject and issuer.
 SIGNER = next(case for case in cases("certificates") if case["name"] == "a signer that its CA issued, in DER")
 CERTIFICATE = SIGNER["bytes"]
-# The place of the certificate table in the image of examples/, and of its entry in the headers.
-TABLE, ENTRY = 1536, 232
-IMAGE = bytearray((ROOT / "examples" / "signed.efi").read_bytes()[:TABLE])
+# The image of examples/ without its certificate table; where the headers have the table's entry, its place and its size.
+ENTRY = 232
+EXAMPLE = (ROOT / "examples" / "signed.efi").read_bytes()
+IMAGE = bytearray(EXAMPLE[: struct.unpack_from("<I", EXAMPLE, ENTRY)[0]])
 IMAGE[ENTRY : ENTRY + 8] = bytes(8)
 
 
@@ -97,7 +98,7 @@ class Place:
         self.desk: Optional[Server] = None
         self.nginx: Optional[subprocess.Popen] = None
         # The port that nginx asks.
-        self.upstream = 0
+        self.desk_port = 0
         self.held = Held()
         self.port = self.held.port
 
@@ -124,7 +125,7 @@ class Place:
         self.desk = Server(self.program, self.path)
         if self.loses:
             self.relay = Relay(self.desk.port)
-        self.upstream = self.relay.port if self.relay else self.desk.port
+        self.desk_port = self.relay.port if self.relay else self.desk.port
 
     def stop(self) -> None:
         if self.desk:
@@ -137,12 +138,12 @@ class Place:
 
     def write_site(self) -> None:
         site = (ROOT / "packaging" / "nginx.conf").read_text()
-        site = re.sub(r"server 127\.0\.0\.1:\d+;", f"server 127.0.0.1:{self.upstream};", site)
+        site = re.sub(r"server 127\.0\.0\.1:\d+;", f"server 127.0.0.1:{self.desk_port};", site)
         site = re.sub(r"^ *(ssl_|listen \[).*\n", "", site, flags=re.M)
         site = site.replace("listen 443 ssl;", f"listen 127.0.0.1:{self.port};").replace("root /usr/share/kovelamiru-desk;", f"root {ROOT};")
         site = site.replace("/var/log/nginx/", f"{self.room}/")
         site = site.replace("include /usr/share/kovelamiru-desk/", f"include {ROOT}/packaging/")
-        for line in (f"server 127.0.0.1:{self.upstream};", f"listen 127.0.0.1:{self.port};", f"root {ROOT};"):
+        for line in (f"server 127.0.0.1:{self.desk_port};", f"listen 127.0.0.1:{self.port};", f"root {ROOT};"):
             if site.count(line) != 1:
                 fail(f"packaging/nginx.conf has no place for {line}")
         (self.room / "site.conf").write_text(site)
