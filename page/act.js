@@ -96,6 +96,7 @@ export function lostWords(status) {
     if (status === 504) return 'The desk didn’t answer the proxy in time (504).';
     if (status === 503) return 'The desk has no memory, or its disk failed (503).';
     if (status >= 500) return `The proxy failed (${status}).`;
+    if (status === 200) return 'Something else answered in the desk’s place (200).';
     if (status >= 400) return `This try was refused unread (${status}), which doesn’t tell what came of the one before.`;
     return 'The connection was lost.';
 }

@@ -61,7 +61,7 @@ function queue(place, requests) {
             ['size', size(it.length).replace(/ \(.*/, '')],
         ],
     });
-    const search = h('input', { type: 'search', value: last.text, oninput: () => {
+    const search = h('input', { type: 'search', autocomplete: 'off', value: last.text, oninput: () => {
         last.text = search.value;
         show();
     } });

@@ -196,21 +196,23 @@ async function keys() {
     assert.equal(new Set(gone.keys).size, 2);
 }
 
-/** A read that one person began isn't asked again in the next one's name. */
+/** A read that one person began, under way or between two tries, isn't asked in the next one's name, and nobody hears of it. */
 async function reads() {
-    const { get, setToken } = await take('api');
+    const { PAUSES, get, setToken } = await take('api');
+    PAUSES.fill(5);
     const asked = [];
     globalThis.fetch = async (path, { headers, signal }) => {
         asked.push(headers['Desk-Token']);
-        await new Promise((resolve) => setTimeout(resolve, 5));
+        await new Promise((resolve) => setTimeout(resolve, path === '/slow' ? 20 : 0));
         if (signal.aborted) throw new Error('aborted');
         return { status: 502, text: async () => '' };
     };
-    setToken('the-token-of-one-person');
-    get('/requests').then(() => assert.fail('an answer to the person before'));
-    setToken('the-token-of-the-next-one');
-    assert.equal((await get('/requests')).kind, 'lost');
-    assert.deepEqual(asked.filter((one) => one === 'the-token-of-one-person').length, 1);
+    setToken('the-first-person');
+    for (const path of ['/slow', '/quick']) get(path).then(() => assert.fail('an answer to the person before'));
+    await new Promise((resolve) => setTimeout(resolve, 2));
+    setToken('the-next-person');
+    assert.equal((await get('/slow')).kind, 'lost');
+    assert.deepEqual(asked, [...Array(2).fill('the-first-person'), ...Array(4).fill('the-next-person')]);
 }
 
 // ---- slips
