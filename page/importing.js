@@ -25,7 +25,7 @@ export function importForm() {
     let found = null;
     let present = 0;
     let name = '';
-    const hint = 'Signature lists, as a published dbx; the desk’s CSV; or a level’s text. Choose it, or drop it here.';
+    const hint = 'Signature lists, as a published dbx; the desk’s CSV; a level’s text; or Microsoft’s dbx_info. Choose it, or drop it here.';
     const { place, input } = fileField('File', hint, async (chosen) => {
         found = null;
         stampField.hidden = true;

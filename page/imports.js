@@ -16,7 +16,15 @@ import { counted, grouped } from './words.js';
 const MOST = 10000;
 const MOST_BYTES = 4194304;
 
-const KINDS = { lists: 'Signature lists', csv: 'CSV', level: 'A level’s text' };
+const KINDS = { lists: 'Signature lists', csv: 'CSV', level: 'A level’s text', microsoft: 'Microsoft’s list' };
+
+/** What is left out, and why: with one, and with several. @type {Record<string, [string, string, string]>} */
+const ASIDE = {
+    svn: ['version of Windows’ boot programs (SVN)', 'versions of Windows’ boot programs (SVN)', 'They look like digests, and name no image.'],
+    flat: ['hash of a whole file', 'hashes of whole files', 'As digests they would bar nothing.'],
+    certificate: ['certificate', 'certificates', 'It has no SHA-256 of their TBSCertificates: propose them by their files.'],
+    other: ['image without a SHA-256', 'images without a SHA-256', ''],
+};
 
 /**
  * @param {Uint8Array} bytes
@@ -28,7 +36,7 @@ export async function look(bytes, known) {
     const kind = KINDS[found.kind] ?? (bytes.length === 0 ? 'Empty' : 'It can’t be imported');
     const { path, body, fault } = found;
     /** @type {Look} */
-    const shown = { kind, path, body, lines: [...found.before], doubts: [], asksStamp: false, raises: false, fault };
+    const shown = { kind, path, body, lines: [...found.notes], doubts: [], asksStamp: false, raises: false, fault };
     named(shown, found, known);
     lost(shown, found);
     return shown;
@@ -79,9 +87,9 @@ function part(all, some) {
 
 /** What of signature lists isn't sent, or the desk doesn't keep. @param {Look} shown @param {Revocations} found */
 function lost(shown, found) {
-    if (found.versions > 0) {
-        const versions = `${counted(found.versions, 'version')} of Windows’ boot programs (SVN)`;
-        shown.lines.push(`Left out: ${versions}. Such entries look like digests, and name no image.`);
+    for (const [why, count] of found.aside) {
+        const [one, many, told] = ASIDE[why];
+        shown.lines.push(`Left out: ${counted(count, one, many)}. ${told}`);
     }
     for (const [kind, count] of found.skipped) {
         shown.lines.push(`Skipped by the desk: ${counted(count, 'entry', 'entries')} of type ${kind}.`);

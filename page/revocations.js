@@ -1,9 +1,11 @@
 // What a file of revocations names, by its bytes alone: signature lists, with or without what stands
-// before them; the desk's CSV; a level's text. The desk reads what is sent again, and its reading is
-// what counts.
+// before them; the desk's CSV; a level's text; Microsoft's lists. The desk reads what is sent again,
+// and its reading is what counts.
 
+import { recordsOf } from './csv.js';
 import { tbsOf } from './der.js';
 import { sha256 } from './files.js';
+import { archWords, imagesOfJson, imagesOfTable } from './microsoft.js';
 import { beginsList, digestIn, hasTime, isVersion, listBytes, listsOf } from './siglist.js';
 import { greatest, levelOf } from './standing.js';
 import { unwrapped } from './update.js';
@@ -11,16 +13,15 @@ import { unwrapped } from './update.js';
 /**
  * @typedef {import('./siglist.js').Entry} Entry
  * @typedef {{ kind: string, path: string, body: Uint8Array, digests: Set<string>, certificates: Set<string>,
- *   components: Map<string, number>, stamp: number | null, count: number, versions: number, skipped: Map<string, number>,
- *   timed: number, owners: Set<string>, before: string[], refused: string, fault: string }} Revocations
- * kind: `lists`, `csv` or `level`; `path` and `body` are what is sent; `stamp` is a level's. `count` is of all entries that
- * are sent, `skipped` of those that the desk skips, by their kind; `versions` are left out here. `timed` have a time of
- * revocation. `before` says what stood before the lists. `refused` says in a word why it can't be imported, `fault` in a
- * sentence; both are empty if it can.
+ *   components: Map<string, number>, stamp: number | null, count: number, aside: Map<string, number>, skipped: Map<string, number>,
+ *   timed: number, owners: Set<string>, notes: string[], refused: string, fault: string }} Revocations
+ * kind: `lists`, `csv`, `level` or `microsoft`; `path` and `body` are what is sent; `stamp` is a level's. `count` is of all
+ * entries that are sent, `skipped` of those that the desk skips, by their kind, `aside` of those that are left out here, by
+ * why. `timed` have a time of revocation. `notes` say what stood before lists, and what else there is to say. `refused` says
+ * in a word why it can't be imported, `fault` in a sentence; both are empty if it can.
  */
 
-const TAKEN = 'The page takes signature lists, the desk’s CSV and a level’s text.';
-const MICROSOFT = `${TAKEN} deskctl imports Microsoft’s lists.`;
+const TAKEN = 'The page takes signature lists, the desk’s CSV, a level’s text and Microsoft’s lists.';
 const HEADER = 'kind,value,generation';
 
 /**
@@ -35,15 +36,28 @@ export async function revocationsOf(bytes) {
     if (isUtf16(bytes)) return refused('utf-16', 'It is text in UTF-16. Save it as UTF-8, or as plain CSV.');
     if (/^kind,value,generation\r?\n/.test(text)) return whole(csv(plain));
     if (/^sbat,/.test(text)) return whole(level(plain));
-    const fault = text.includes('\0') ? null : textFault(text);
-    return fault ?? whole(await lists(bytes));
+    const table = text.includes('\0') ? null : microsoft(plain, text);
+    return whole(table ?? await lists(bytes));
 }
 
-/** What is wrong with a text that is neither CSV nor a level, if it looks like one. @param {string} text */
-function textFault(text) {
-    if (/^\s*[[{]/.test(text) || /authenticode/i.test(text)) return refused('unknown', `It has a form that the page doesn’t read. ${MICROSOFT}`);
-    if (!/^\W*kind\W+value\W+generation\W*$/im.test(text)) return null;
-    return refused('header', `The first line of CSV has to be ${HEADER}, with commas and nothing before it.`);
+/** What Microsoft's lists name; null if a text isn't one, nor like a table. @param {Uint8Array} bytes @param {string} begin */
+function microsoft(bytes, begin) {
+    const text = new TextDecoder().decode(bytes);
+    if (/^\s*[[{]/.test(begin)) {
+        const images = imagesOfJson(text);
+        return images ? named(images) : refused('json', 'The JSON is cut, or has no images with an authenticodeHash, as Microsoft’s has.');
+    }
+    const images = /^.*authenticode/i.test(begin) ? imagesOfTable(recordsOf(text) ?? []) : null;
+    if (images) return named(images);
+    if (!/^\W*kind\W+value\W+generation\W*$|authenticode|^(x509_)?sha256[,;\t]/im.test(begin)) return null;
+    return refused('header', `The first line of a table has to be its header, as ${HEADER}, with commas and nothing before it.`);
+}
+
+/** @param {import('./microsoft.js').Images} images */
+function named(images) {
+    const rows = [...images.digests].map((digest) => `sha256,${digest},\n`);
+    const found = empty('microsoft', '/imports/csv', new TextEncoder().encode(`${HEADER}\n${rows.join('')}`));
+    return { ...found, digests: images.digests, aside: images.aside, count: images.digests.size, notes: [archWords(images)] };
 }
 
 /** @param {string} kind @param {string} path @param {Uint8Array} body @returns {Revocations} */
@@ -57,11 +71,11 @@ function empty(kind, path, body) {
         components: new Map(),
         stamp: null,
         count: 0,
-        versions: 0,
+        aside: new Map(),
         skipped: new Map(),
         timed: 0,
         owners: new Set(),
-        before: [],
+        notes: [],
         refused: '',
         fault: '',
     };
@@ -103,16 +117,16 @@ async function lists(bytes) {
         const at = bytes.length - inner.body.length + read.wrongAt;
         return refused('list', `There is no whole signature list at byte ${at}.`);
     }
-    const found = { ...empty('lists', '/imports/dbx', inner.body), before: inner.before };
+    const found = { ...empty('lists', '/imports/dbx', inner.body), notes: inner.before };
     for (const entry of read.lists.flatMap((list) => list.entries)) await take(entry, found);
-    if (found.versions > 0) found.body = listBytes(read.lists, (entry) => !isVersion(entry));
+    if (found.aside.size > 0) found.body = listBytes(read.lists, (entry) => !isVersion(entry));
     return found;
 }
 
 /** @param {Entry} entry @param {Revocations} found */
 async function take(entry, found) {
     if (isVersion(entry)) {
-        found.versions += 1;
+        found.aside.set('svn', (found.aside.get('svn') ?? 0) + 1);
         return;
     }
     found.count += 1;
@@ -129,8 +143,9 @@ async function take(entry, found) {
 /** @param {Uint8Array} bytes */
 function csv(bytes) {
     const found = empty('csv', '/imports/csv', bytes);
-    const lines = textOf(bytes).split(/\r?\n/).filter((line) => line !== '');
-    const rows = lines.slice(1).map((line) => line.split(',').map((cell) => cell.replace(/^"(.*)"$/, '$1')));
+    const records = recordsOf(textOf(bytes));
+    if (!records) return refused('csv', 'A field of it isn’t whole: is a quotation mark missing?');
+    const rows = records.slice(1);
     const odd = rows.findIndex((row) => !isRecord(row));
     if (odd >= 0) return refused('csv', `Record ${odd + 1} isn’t sha256,HEX, or x509_sha256,HEX, or sbat,NAME,GENERATION.`);
     const of = (/** @type {string} */ wanted) => rows.filter(([kind]) => kind === wanted);

@@ -109,7 +109,12 @@ export function listBytes(lists, kept) {
 
 /** Whether an entry is the version of a boot program. @param {Entry} entry */
 export function isVersion(entry) {
-    return entry.kind === 'sha256' && (entry.owner === VERSIONS_OWNER || VERSION.test(digestIn(entry)));
+    return entry.kind === 'sha256' && (entry.owner === VERSIONS_OWNER || isVersionDigest(digestIn(entry)));
+}
+
+/** @param {string} digest in lower case, that has the form of a version */
+export function isVersionDigest(digest) {
+    return VERSION.test(digest);
 }
 
 /** The digest in an entry of kind sha256 or x509_sha256. @param {Entry} entry */

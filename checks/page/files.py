@@ -23,6 +23,7 @@ LISTS = signature_list(SHA256_KIND, b"\xaa" * 32, b"\xbb" * 32) + signature_list
 # EFI_VARIABLE_AUTHENTICATION_2: 16 bytes of a time, then a WIN_CERTIFICATE of 24 bytes and 8 more.
 HEADER = struct.pack("<HBB", 2026, 11, 27) + bytes(12) + struct.pack("<IHH", 32, 0x0200, 0x0EF1) + bytes.fromhex("9dd2af4adf68ee498aa9347d375665a7") + bytes(8)
 CSV = "kind,value,generation\n"
+MICROSOFT = json.dumps({"images": {"x64": [{"authenticodeHash": "A1" * 32, "hashType": "SHA256"}, {"flatHash": "F1" * 32}], "amd64": [], "arm64": [{"authenticodeHash": "A1" * 32}]}}).encode()
 
 # A file; what a look at it says, which is a fault or a line; and whether it can be imported.
 LOOKS = [
@@ -39,9 +40,13 @@ LOOKS = [
     (signature_list(OTHER_KIND, b"\x01\x02"), "It names nothing that the desk takes.", False),
     (b"", "The file has no byte.", False),
     (b"a text of another kind", "It is of no kind that is known here.", False),
-    (b'{"images": {}}', "deskctl imports Microsoft’s lists.", False),
+    (b'{"images": {}}', "has no images with an authenticodeHash", False),
+    (MICROSOFT, "1 digest, which is new.", True),
+    (MICROSOFT, "Left out: 1 hash of a whole file. As digests they would bar nothing.", True),
+    (MICROSOFT, "Images of arm64 and x64; all of them are taken.", True),
     (CSV.encode("utf-16"), "It is text in UTF-16.", False),
-    (b"sep=,\n" + CSV.encode(), "The first line of CSV has to be kind,value,generation", False),
+    (b"sep=,\n" + CSV.encode(), "The first line of a table has to be its header, as kind,value,generation", False),
+    (f"sha256,{'a' * 64},\n".encode(), "The first line of a table has to be its header", False),
     ((CSV + f"sha256,{'a' * 64},\n").encode(), "1 digest, which is new.", True),
     ((CSV + f'"sha256","{"a" * 64}",""\r\n').encode(), "1 digest, which is new.", True),
     (b"\xef\xbb\xbf" + (CSV + "sbat,grub,5\n").encode(), "grub from none to 5.", True),
