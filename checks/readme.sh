@@ -38,10 +38,10 @@ def day(readme):
 
 
 def server(room):
-    """The process of the program that runs in the room, where there is one."""
+    """The process of the program that runs in a folder of the room, where there is one."""
     for process in filter(str.isdigit, os.listdir("/proc")):
         try:
-            if os.readlink(f"/proc/{process}/exe") == PROGRAM and os.readlink(f"/proc/{process}/cwd") == room:
+            if os.readlink(f"/proc/{process}/exe") == PROGRAM and os.readlink(f"/proc/{process}/cwd").startswith(f"{room}/"):
                 return int(process)
         except OSError:
             pass  # (one that has ended, or another's)
@@ -76,14 +76,14 @@ def leave(shell):
 
 
 def passes(commands, room, port):
-    """The commands in a folder of their own, with this port for 8080."""
+    """The commands in a folder that stands for the repository's, which they leave as it was, with this port for 8080."""
     shutil.rmtree(room, ignore_errors=True)
-    os.mkdir(room)
-    os.symlink(PROGRAM, f"{room}/desk")
-    os.symlink(f"{ROOT}/examples", f"{room}/examples")
-    shell = subprocess.Popen(
-        ["bash"], stdin=subprocess.PIPE, stdout=subprocess.PIPE, text=True, bufsize=1, start_new_session=True, cwd=room
-    )
+    tree = f"{room}/tree"
+    os.makedirs(tree)
+    os.symlink(PROGRAM, f"{tree}/desk")
+    os.symlink(f"{ROOT}/examples", f"{tree}/examples")
+    how = {"stdin": subprocess.PIPE, "stdout": subprocess.PIPE, "text": True, "bufsize": 1}
+    shell = subprocess.Popen(["bash"], cwd=tree, env={**os.environ, "TMPDIR": room}, start_new_session=True, **how)
     atexit.register(leave, shell)
     for command, wanted in commands:
         shell.stdin.write(f"{command.replace('8080', str(port))}\necho\necho '{MARK}'\n")
@@ -101,6 +101,8 @@ def passes(commands, room, port):
     shell.stdin.close()
     if shell.wait() != 0 or server(room) is not None:
         sys.exit("checks/readme.sh: the shell failed, or serve goes on")
+    if sorted(os.listdir(tree)) != ["desk", "examples"]:
+        sys.exit(f"checks/readme.sh: the day leaves files in the repository: {os.listdir(tree)}")
 
 
 for number in (signal.SIGHUP, signal.SIGINT, signal.SIGTERM):

@@ -2,6 +2,7 @@
 comes, and both leave the same minutes but for keys."""
 from __future__ import annotations
 
+import glob
 import os
 import subprocess
 from typing import List, Tuple
@@ -29,12 +30,13 @@ def day(program: Program, title: str) -> List[Tuple[str, ...]]:
     held = Held()
     ran = subprocess.run(
         ["bash", "-c", typed.replace("8080", str(held.port)) + "wait\n"], cwd=room, stdin=subprocess.DEVNULL, capture_output=True, text=True,
-        check=False, timeout=200, env={"PATH": os.environ["PATH"], "HOME": room}, preexec_fn=end_with_parent,
+        check=False, timeout=200, env={"PATH": os.environ["PATH"], "HOME": room, "TMPDIR": room}, preexec_fn=end_with_parent,
     )
     held.let_go()
     if ran.returncode or ran.stdout.replace("\n\n", "\n").replace(f":{held.port}", ":8080") != wanted:
         fail(f"README, {title}: status {ran.returncode}, in place of\n{wanted}\ncame\n{ran.stdout}\n{ran.stderr}")
-    return without_keys(program.minutes(os.path.join(room, "desk.db")))
+    (desk,) = glob.glob(os.path.join(room, "tmp.*", "desk.db"))
+    return without_keys(program.minutes(desk))
 
 
 def check(program: Program) -> str:

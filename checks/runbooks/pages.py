@@ -579,7 +579,9 @@ def pasted(program: str, room: Path) -> int:
     (room / "examples").symlink_to(ROOT / "examples")
     held = Held()
     block = "\n".join(typed).replace("8080", str(held.port)) + "\n"
-    done = subprocess.run(["bash"], cwd=room, input=block, stdout=subprocess.PIPE, stderr=subprocess.PIPE, text=True, timeout=120)
+    done = subprocess.run(
+        ["bash"], cwd=room, env={**os.environ, "TMPDIR": str(room)}, input=block, stdout=subprocess.PIPE, stderr=subprocess.PIPE, text=True, timeout=120
+    )
     held.let_go()
     got = [line for line in done.stdout.split("\n") if line]
     if got != wanted:
