@@ -623,14 +623,15 @@ curl -sS --no-progress-meter --max-time 60 --cacert people.pem --resolve "$peopl
 shows stan /verdict -H 'Expect:' --data-binary @longer
 [ "$(cat said)" = 403 ] || fail "a long body of somebody who isn't in the list: $(cat said)"
 [ "$(kept)" = "$before" ] || fail 'a body was kept that nobody sent'
-# The page is there, for whoever is in the list, and signs in without a token: /me says who it is.
+# The page is there, for whoever is in the list, and signs in without a token: it asks for the report,
+# which is shown to officers.
 shows olga / -D fields
 cmp -s body "$root/page/index.html" || fail "no page for people with certificates: $(cat said) $(head -c 300 body)"
 strictly 'the page for people with certificates'
 grep -q "^Content-Security-Policy: default-src 'none';" fields || fail "the page for people with certificates: $(cat fields)"
-shows olga /me -D fields
-grep -q '"olga"' body || fail "who olga is: $(cat body)"
-strictly '/me'
+shows olga /report -D fields
+[ "$(cat said)" = 200 ] || fail "the report for olga: $(cat said) $(cat body)"
+strictly /report
 shows stan /
 [ "$(cat said)" = 403 ] || fail "the page, for somebody who isn't in the list: $(cat said)"
 # A browser sends her certificate for any page that she looks at: without a key there is no command,

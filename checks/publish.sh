@@ -465,6 +465,11 @@ called olga k-digest-8 /dbx/digests body
 publish 0 'calls 17: published' --key publisher
 [ "$(sed -n 's/^# date //p' out/published/SHA256SUMS)" = "$date" ] || fail "an earlier date than the last: $(cat out/published/SHA256SUMS)"
 
+# The unit: a run that hangs fails; it takes no port.
+for line in TimeoutStartSec=10min SocketBindDeny=any; do
+    grep -qx "$line" "$root/packaging/kovelamiru-publish.service" || fail "the unit lacks $line"
+done
+
 # ---- over HTTP, while it serves
 
 printf 'olga-token-for-the-desk\n' > olga.token

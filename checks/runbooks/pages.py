@@ -91,6 +91,15 @@ def commands(page: str) -> List[Command]:
     return found
 
 
+def page_of(name: str) -> List[Command]:
+    """The commands of a page; those of `publishing` are the first lines to be typed of that section of packaging/README.md."""
+    if name != "publishing":
+        return commands((ROOT / "packaging" / "runbooks" / f"{name}.md").read_text())
+    section = (ROOT / "packaging" / "README.md").read_text().split("\n## Publishing\n", 1)[1].split("\n    ", 1)[1]
+    typed = "\n".join(line[4:] for line in ("    " + section.split("\n\n", 1)[0]).split("\n"))
+    return [Command("root", typed.replace("OWNER", OWNER), ["added publisher", "calls 19: published in *"])]
+
+
 def matches(wanted: List[str], got: List[str]) -> bool:
     """Whether the lines are these, where `...` is any lines and `*` any text."""
     if not wanted:
@@ -147,6 +156,7 @@ case "$*" in
         kill -HUP "$master"
         for worker in $workers; do while [ -e "/proc/$worker/exe" ]; do sleep 0.02; done; done
         ;;
+    'enable --now kovelamiru-publish.timer') ;;
     'start kovelamiru-publish')
         . "{room}/etc/default/kovelamiru-publish"
         # As LoadCredential does.
@@ -494,7 +504,7 @@ def lost(machine: Machine) -> None:
 
 BEFORE: Dict[str, Callable[[Machine], None]] = {
     "embargo": embargo, "leaked-token": leaked, "full-disk": full_disk, "full-desk": full_desk, "restore": restore,
-    "new-officer": worked, "lost-officer": lost,
+    "new-officer": worked, "lost-officer": lost, "publishing": worked,
 }
 
 
@@ -533,6 +543,20 @@ def handed_over(machine: Machine) -> None:
         fail(f"ann reads {found.stdout.decode()}")
 
 
+def nobodys(machine: Machine) -> None:
+    """The token for publishing is root's, and no person's; it reads the minutes. What is published is the desk's."""
+    path = machine.room / "etc" / "kovelamiru-publish.token"
+    token = path.read_text().strip()
+    if token in machine.tokens.values() or path.stat().st_mode & 0o077:
+        fail("the token for publishing is somebody's, or others read it")
+    machine.tokens["publisher"] = token
+    status, people = machine.status("publisher", "/people", machine.proxy)
+    if status != 200 or {"name": "publisher", "role": "officer"} not in json.loads(people):
+        fail(f"the officer for publishing: {status} {people.decode()}")
+    if "--first" in (machine.room / "etc" / "default" / "kovelamiru-publish").read_text():
+        fail("--first stays")
+
+
 def never_allowed(machine: Machine) -> None:
     """The revoked image isn't allowed by the desk, old or new, at any time."""
     if listens(machine.port):
@@ -543,19 +567,18 @@ def never_allowed(machine: Machine) -> None:
 
 # After each command of a page, and after the last one.
 DURING = {"full-desk": never_allowed, "restore": handed_over}
-AFTER = {"leaked-token": refused, "lost-officer": refused}
+AFTER = {"leaked-token": refused, "lost-officer": refused, "publishing": nobodys}
 
 
 def run_page(program: str, room: Path, name: str, users: Dict[str, int], repository: Path) -> Tuple[int, float]:
     begun = time.monotonic()
-    page = (ROOT / "packaging" / "runbooks" / f"{name}.md").read_text()
+    found = page_of(name)
     machine = Machine(program, room, users, repository)
     machine.make_desk()
     machine.start_proxy()
     try:
         machine.system("start", "kovelamiru-desk")
         BEFORE[name](machine)
-        found = commands(page)
         for command in found:
             got = machine.typed(command)
             if not matches(command.wanted, got):
@@ -592,7 +615,7 @@ def pasted(program: str, room: Path) -> int:
 def main() -> None:
     signal.signal(signal.SIGTERM, lambda *_: sys.exit(1))
     program, room, *names = sys.argv[1:]
-    unknown = {path.stem for path in (ROOT / "packaging" / "runbooks").glob("*.md")} ^ set(BEFORE)
+    unknown = {path.stem for path in (ROOT / "packaging" / "runbooks").glob("*.md")} ^ (set(BEFORE) - {"publishing"})
     if unknown:
         fail(f"pages or beginnings that lack the other: {', '.join(sorted(unknown))}")
     counts = {}
