@@ -24,9 +24,13 @@ stands() {
 }
 # shellcheck disable=SC2016
 {
-    stands systemctl 'case $1 in is-active) cat "$ROOM/state" && grep -q "^active" "$ROOM/state" ;; *) echo "systemctl $*" >> "$ROOM/did" ;; esac'
-    stands deb-systemd-invoke 'echo "$*" >> "$ROOM/did"
-case $1 in start) echo active > "$ROOM/state" ;; stop) echo inactive > "$ROOM/state" ;; esac'
+    stands systemctl 'case $1 in
+    is-active) cat "$ROOM/state" && grep -qx active "$ROOM/state" && exit 0 || exit 3 ;;
+    start) echo active > "$ROOM/state" ;;
+    stop) echo inactive > "$ROOM/state" ;;
+esac
+echo "$*" >> "$ROOM/did"'
+    stands deb-systemd-invoke 'echo "$*" >> "$ROOM/did"'
     stands systemd-sysusers ':'
     # (Users are made by systemd-sysusers; and no desk is copied that serves.)
     stands install 'for word in "$@"; do case $word in -o | -g) exec mkdir -p "$DPKG_ROOT/var/lib/kovelamiru-desk" ;; esac; done
