@@ -2,6 +2,8 @@
 a desk, whose minutes name the same."""
 from __future__ import annotations
 
+import datetime
+import json
 import os
 import re
 import sys
@@ -89,6 +91,40 @@ def certificates_read(program: Program) -> int:
     return len(cases("certificates"))
 
 
+# A doubt of doubts.json, in deskctl's words.
+DOUBTS = {
+    "file": "is the SHA-256 of the whole (returned )?file", "certificate": "and no image's digest|is the fingerprint of", "half": "Revoke both",
+    "fingerprint": "is the fingerprint of", "image": "and no certificate|is the SHA-256 of the whole", "revoked": "is revoked already",
+    "far": "rises from", "bits": "16 bits", "name": "Is it spelt right", "sbat": "sbat itself stays", "date": "a date|more than a year",
+}
+
+
+def doubted() -> int:
+    """What deskctl asks about before it proposes, as doubts.json has it."""
+    known = module("known")
+    with open(os.path.join(ROOT, "checks", "imports", "doubts.json"), encoding="utf-8") as file:
+        table = json.load(file)
+    desk = table["desk"]
+    known.now = lambda: datetime.datetime.fromisoformat(f"{table['today']}T12:00:00+00:00")
+    for case in table["cases"]:
+        found = known.Known(set(case.get("digests", [])), set(case.get("certificates", [])))
+        for request in desk["requests"]:
+            found.request(known.shaped(known.Request, request))
+        for where in ("listed", "revoked"):
+            name = {"listed": "db", "revoked": "dbx"}[where]
+            for digest in desk[where]["digests"]:
+                found.entry("sha256", bytes.fromhex(digest), name)
+            for certificate in desk[where]["certificates"]:
+                whole = isinstance(certificate, dict)
+                body = bytes.fromhex(certificate["bytes"]) if whole else bytes.fromhex(certificate) + bytes(16)
+                found.entry("x509" if whole else "x509_sha256", body, name)
+        level = known.level_doubts(case.get("components", []), case.get("stamp"), dict(desk["level"]["names"]), found.names)
+        told = found.doubts + found.revoked + found.halves + level
+        if len(told) != len(case["asks"]) or not all(any(re.search(DOUBTS[it], text) for text in told) for it in case["asks"]):
+            fail(f"{case['name']}: in place of {case['asks']} came {told}")
+    return len(table["cases"])
+
+
 def proposed(text: str) -> Tuple[int, Set[str], Set[str], Dict[str, int]]:
     """The entries skipped, digests, certificates and components of an import in the minutes."""
     _, _, passed, digests, certificates, components = text.split(" ")
@@ -122,10 +158,10 @@ def at_a_desk(part: Part) -> int:
 
 
 def check(program: Program) -> str:
-    tried = imports_read(program) + certificates_read(program)
+    tried, doubts = imports_read(program) + certificates_read(program), doubted()
     with Part(program, "table") as part:
         count = at_a_desk(part)
-    return f"{tried} files as checks/imports has them, {count} of them proposed"
+    return f"{tried} files as checks/imports has them, {count} of them proposed; {doubts} doubts"
 
 
 if __name__ == "__main__":

@@ -62,7 +62,8 @@ def takes(part: Part, name: str, data: bytes, text: str, *says: str, words: Tupl
     olga.does("import", name, "--dry-run", *words, out=says, err=["Nothing was sent"])
     if part.report() != before:
         fail(f"import --dry-run {name} acted")
-    olga.does("import", name, *words, err=says)
+    # (that no image has its components is asked about)
+    olga.does("import", name, *words, *["--yes"] * (":" in text), err=says)
     if proposals_text(part) != text:
         fail(f"import {name}: the minutes have {proposals_text(part)!r} in place of {text!r}")
 
@@ -124,7 +125,7 @@ def refused(part: Part) -> None:
         ("deep.json", b"[" * 100_000, 2, "cut or spoiled"),
         ("bad.csv", b"kind,value,generation\nsha256,12,\n", 1, "refused 19 CsvRow at 1", "Record 1: sha256,12,"),
         ("cut.csv", b"kind,value,gener\nsha256,", 1, "refused 19 CsvRow at 0", "Record 0: kind,value,gener"),
-        ("none.csv", b"kind,value,generation\n", 2, "It names nothing"), ("none.level", f"sbat,1,{TODAY}07".encode(), 2, "It names nothing"),
+        ("none.csv", b"kind,value,generation\n", 2, "names nothing that the desk takes"), ("none.level", f"sbat,1,{TODAY}07".encode(), 2, "names nothing that the desk takes"),
         ("bad.level", b"sbat,1,2024010100\ngrub\n", 1, "refused 12 SbatRow at 2", "Line 2: grub"), ("no.esl", b"\x27\0\0\0", 2, "names nothing"),
         ("guid.auth", update(digest_list([digest("c1")])).replace(PKCS7, bytes(16)), 2, "no WIN_CERTIFICATE_UEFI_GUID"),
         ("short.auth", update(digest_list([digest("c1")]))[:16] + struct.pack("<I", 23) + update(b"")[20:], 2, "23 bytes"),
@@ -216,7 +217,7 @@ def parts(part: Part) -> None:
     between.loses = [lambda request, ask: ask(request), POINTS["no answer"]]
     olga.ends(3, "import", "many.esl", "--retries", "0", err=["3, each a proposal of its own", "Run the same command again"])
     olga.does("import", "many.esl", out=["proposal 1 proposed\nproposal 2 proposed\nproposal 3 proposed"], err=["taking up"])
-    olga.does("import", "many.csv", "--stamp", TODAY + "01", out=["proposal 4 proposed\nproposal 5 proposed"])
+    olga.does("import", "many.csv", "--stamp", TODAY + "01", "--yes", out=["proposal 4 proposed\nproposal 5 proposed"])
     between.close()
     olga.at(part.url)
     found = calls(part.minutes())

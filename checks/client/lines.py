@@ -14,7 +14,7 @@ from tools import Part, Person, Program, calls, end_with_parent, fail, modules
 
 # Runs deskctl, and kills it before the line of this number of its module `journal`; prints how many there were if it isn't reached.
 KILLED = """
-import os, signal, sys
+import atexit, os, signal, sys
 folder, last, sys.argv = sys.argv[1], int(sys.argv[2]), ["deskctl", *sys.argv[3:]]
 sys.path.insert(0, folder)
 from deskctl import cli, journal
@@ -28,12 +28,15 @@ def line(frame, event, _):
     return line
 def call(frame, event, _):
     return line if frame.f_code.co_filename == journal.__file__ else None
-leave = os._exit
-def counted(status):
+def told():
     sys.stderr.write(f"{count} lines")
     sys.stderr.flush()
+leave = os._exit
+def over(status):
+    told()
     leave(status)
-os._exit = counted
+os._exit = over
+atexit.register(told)
 sys.settrace(call)
 sys.exit(cli.main())
 """

@@ -62,7 +62,7 @@ COMMANDS: List[Tuple[str, Tuple[str, ...]]] = [
     ("olga", ("list-certificate", "certificate.der", "--yes")), ("sid", ("return", "1", "signed.efi")), ("ann", ("submit", "plain.efi", "--title", "two")),
     ("ann", ("withdraw", "2")), ("olga", ("list-digest", digest("11"))), ("olga", ("unlist", "digest", digest("11"))),
     ("olga", ("revoke", "--digest", digest("12"))), ("otto", ("confirm", "1", "--yes")), ("olga", ("revoke", "odd.efi")), ("otto", ("drop", "2")),
-    ("olga", ("raise", "grub", "3", "--stamp", TODAY + "01")), ("olga", ("import", "lists.esl")),
+    ("olga", ("raise", "grub", "3", "--stamp", TODAY + "01", "--yes")), ("olga", ("import", "lists.esl")),
 ]
 
 

@@ -82,10 +82,12 @@ def levels(part: Part) -> None:
     unsent(part, olga, ("raise", "shim", "0", *stamp), "no generation")
     unsent(part, olga, ("raise", "sh,im", "1", *stamp), "no component's name")
     unsent(part, olga, ("raise", "shim", "4"), "missing: --stamp")
-    unsent(part, olga, ("raise", "sbat", "2", *stamp), "refused 31 NotHigher", "Now: sbat none, stamp 2021030218", status=1)
+    unsent(part, olga, ("raise", "sbat", "2", *stamp), "sbat itself stays at 1")
+    unsent(part, olga, ("raise", "sbat", "2", *stamp, "--yes"), "refused 31 NotHigher", "Now: sbat none, stamp 2021030218", status=1)
+    unsent(part, olga, ("raise", "gurb", "4", *stamp), "Neither the level nor a known image has a component gurb. Is it spelt right?")
     part.program.file("typo.csv", b"kind,value,generation\nsbat,shim,70000\n")
     unsent(part, olga, ("import", "typo.csv", *stamp), "no generation above 65,535")
-    unsent(part, olga, ("import", "revoked.csv"), "refused 32 StampNotLater", "needs --stamp", status=1)
+    unsent(part, olga, ("import", "revoked.csv", "--yes"), "refused 32 StampNotLater", "needs --stamp", status=1)
     ended, shown = olga.asked("raise", "shim", "4294967295", "--stamp", "9999999999", answer="n", size=(40, 300))
     if ended != 2 or "65,535" not in shown or "doesn't begin with a date" not in shown:
         fail(f"two slips of the hand: {shown!r}")
@@ -140,7 +142,9 @@ def refusals(part: Part) -> None:
     unsent(part, otto, ("confirm", "2", "--yes"), "refused 37 NoSuchProposal", status=1)
     otto.does("confirm", "1", "--yes")
     unsent(part, otto, ("confirm", "1", "--yes"), "refused 39 ProposalClosed", status=1)
-    unsent(part, olga, ("revoke", "--digest", digest("22")), "refused 30 AlreadyRevoked", status=1)
+    unsent(part, olga, ("revoke", "--digest", digest("22")), f"{digest('22')} is revoked already")
+    unsent(part, olga, ("list-digest", digest("22")), f"{digest('22')} is revoked already")
+    unsent(part, olga, ("revoke", "--digest", digest("22"), "--yes"), "refused 30 AlreadyRevoked", status=1)
     # An image with SBAT: approved, returned before its certificate is listed, then revoked.
     text = b"sbat,1,SBAT Version,sbat,1,https://example.org\ngrub,2,GRUB,grub,2.12,https://example.org\n"
     program.file("grub.efi", with_text(PLAIN, text))

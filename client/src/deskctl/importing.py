@@ -159,8 +159,9 @@ def previewed(
 
 def import_doubts(run: Run, found: Revocations, stamp: Optional[int], force: Force) -> List[str]:
     """What looks like a slip of the hand in a file of revocations."""
-    doubts = known(run, found.digests, found.certificates).doubts
-    doubts += level_doubts(found.components, stamp, force.level)
+    higher = [it for it in found.components if it[1] > force.level.get(it[0], 0)]
+    seen = known(run, found.digests, found.certificates, higher)
+    doubts = seen.doubts + level_doubts(higher, stamp, force.level, seen.names)
     if found.entries() and not any(force.new(found).values()):
         doubts.append("Nothing in it is new: a Confirm would change nothing.")
     return doubts

@@ -101,11 +101,15 @@ def titled(request: Request) -> str:
 @dataclass
 class Known:
     """What is known of some digests and certificates: what they are, and what makes them
-    doubtful."""
+    doubtful. `names` are those of all components."""
 
     digests: Set[str]
     certificates: Set[str]
+    # Entries that would do nothing, that are in dbx, and that are one of an image's two digests.
     doubts: List[str] = field(default_factory=list)
+    revoked: List[str] = field(default_factory=list)
+    halves: List[str] = field(default_factory=list)
+    names: Set[str] = field(default_factory=set)
     about: Dict[str, str] = field(default_factory=dict)
     told: Counter = field(default_factory=Counter)
 
@@ -118,13 +122,20 @@ class Known:
             )
 
     def request(self, one: Request) -> None:
+        self.names.update(str(name) for name, _ in one.components)
+        both = {one.digest, one.signing}
+        if len(both & self.digests) == 1 and len(both) == 2:
+            self.halves.append(
+                f"The image of {titled(one)} has two digests, {one.digest} and {one.signing}: a"
+                " signature may hold the other one. Revoke both."
+            )
         for whole, which in ((one.file, "file"), (one.returned, "returned file")):
             if whole in self.digests or whole in self.certificates:
                 self.doubts.append(
                     f"{whole} is the SHA-256 of the whole {which} of {titled(one)}, as sha256sum"
                     f" gives it. It bars nothing: the image's digest is {one.digest}."
                 )
-        for digest in {one.digest, one.signing}:
+        for digest in both:
             if digest in self.digests:
                 self.tell(digest, titled(one))
             if digest in self.certificates:
@@ -160,6 +171,9 @@ class Known:
 
     def entry(self, name: str, body: bytes, where: str) -> None:
         """An entry of the desk's own lists."""
+        named = {"sha256": self.digests, "x509_sha256": self.certificates}.get(name, set())
+        if where == "dbx" and body[:32].hex() in named:
+            self.revoked.append(f"{body[:32].hex()} is revoked already.")
         if name == "x509":
             self.listed(body)
         elif name == "x509_sha256" and body[:32].hex() in self.digests:
@@ -178,17 +192,24 @@ def lists_of(run: Run, path: str) -> List[SignatureList]:
         raise not_a_desk(answer) from None
 
 
-def known(run: Run, digests: Sequence[str], certificates: Sequence[str]) -> Known:
+def known(
+    run: Run,
+    digests: Sequence[str],
+    certificates: Sequence[str],
+    components: Sequence[Sequence[Any]] = (),
+) -> Known:
     """Looks for them among the desk's requests and lists."""
     found = Known(set(digests), set(certificates))
-    if found.digests or found.certificates:
+    if found.digests or found.certificates or components:
         for value in run.desk.items("/requests"):
             found.request(shaped(Request, value))
+    if found.digests or found.certificates:
         for path in ("/db", "/dbx"):
             for one in lists_of(run, path):
                 for entry in one.entries:
                     found.entry(one.name, entry[16:], path[1:])
     found.doubts = list(dict.fromkeys(found.doubts))
+    found.halves = list(dict.fromkeys(found.halves))
     return found
 
 
@@ -216,12 +237,23 @@ def stamp_doubt(stamp: int) -> Optional[str]:
 
 
 def level_doubts(
-    components: Sequence[Sequence[Any]], stamp: Optional[int], current: Dict[str, int]
+    components: Sequence[Sequence[Any]],
+    stamp: Optional[int],
+    current: Dict[str, int],
+    names: Set[str],
 ) -> List[str]:
-    """Generations and stamps that look like a slip of the hand."""
+    """Generations and stamps that look like a slip of the hand; `names` are those of the
+    components of known images."""
     found = []
     for name, generation in components:
         present = current.get(name, 0)
+        if name == "sbat":
+            found.append("The generation of sbat itself stays at 1.")
+        elif name not in current and name not in names:
+            found.append(
+                f"Neither the level nor a known image has a component {printable(name)}. Is it"
+                " spelt right?"
+            )
         if generation > 65_535:
             found.append(
                 f"{printable(name)} {generation}: shim compares 16 bits, so no generation above"

@@ -106,8 +106,9 @@ def list_digest(run: Run) -> None:
 
     def asks(taken: bool) -> None:
         found = known(run, [digest], [])
-        if found.doubts and not taken:
-            run.terminal.confirm(found.doubts, "List it all the same? Type yes:")
+        doubts = found.doubts + found.revoked
+        if doubts and not taken:
+            run.terminal.confirm(doubts, "List it all the same? Type yes:")
 
     act(run, [call], lambda _: run.terminal.say(f"digest {digest} listed"), asks)
 
@@ -227,8 +228,9 @@ def revoke(run: Run) -> None:
                 or "known to no request and no list"
             )
             run.terminal.note(f"  {kind} {digest}  {words}")
-        if found.doubts:
-            run.terminal.confirm(found.doubts, "Propose it all the same? Type yes:")
+        doubts = found.doubts + found.revoked + found.halves
+        if doubts:
+            run.terminal.confirm(doubts, "Propose it all the same? Type yes:")
 
     proposed(run, calls, asks, {})
 
@@ -242,7 +244,8 @@ def raise_level(run: Run) -> None:
 
     def asks(taken: bool) -> None:
         current = level_of(run)
-        doubts = level_doubts([(name, generation)], stamp, current[1])
+        names = known(run, [], [], [(name, generation)]).names
+        doubts = level_doubts([(name, generation)], stamp, current[1], names)
         run.terminal.note(
             f"  {name} {current[1].get(name, 'none')} -> {generation}, stamp {current[0]} ->"
             f" {stamp}"

@@ -152,11 +152,11 @@ def proposal(run: Run) -> None:
         if impact:
             run.print_json(impact)
         return
-    found = known(run, one.digests, one.certificates)
+    found = known(run, one.digests, one.certificates, one.components)
     for line in named_lines(run, one, value, found.about) + lines:
         run.terminal.say(line)
     for doubt in found.doubts + (
-        level_doubts(one.components, one.stamp, level_of(run)[1]) if lines else []
+        level_doubts(one.components, one.stamp, level_of(run)[1], found.names) if lines else []
     ):
         run.terminal.say(f"! {doubt}")
 
@@ -191,7 +191,7 @@ class Seen:
 
 def show_all(run: Run, value: Dict[str, Any], one: Proposal) -> Seen:
     """Shows all that an open proposal names, and what a Confirm of it would do."""
-    found = known(run, one.digests, one.certificates)
+    found = known(run, one.digests, one.certificates, one.components)
     for line in named_lines(run, one, value, found.about):
         run.terminal.warn(line)
     try:
@@ -201,7 +201,7 @@ def show_all(run: Run, value: Dict[str, Any], one: Proposal) -> Seen:
         raise
     for line in impact_lines(shaped(Impact, impact)):
         run.terminal.warn(line)
-    doubts = found.doubts + level_doubts(one.components, one.stamp, level_of(run)[1])
+    doubts = found.doubts + level_doubts(one.components, one.stamp, level_of(run)[1], found.names)
     return Seen(value, impact, doubts)
 
 
