@@ -99,8 +99,9 @@ A build system asks for a signature, and waits a day for it:
         | sed -n 's/^request \\([0-9]*\\) .*/\\1/p')
     deskctl wait "$number" --timeout 86400
 
-A signing machine verifies what it signed before it hands it in:
+A signing machine signs a copy that nobody else can change, and verifies what it signed before it hands it in:
 
+    cd ~/signing && cp /srv/images/shimx64.efi . && sha256sum shimx64.efi
     sbsign --key KEY --cert signer.pem --output signed.efi shimx64.efi
     sbverify --cert signer.pem signed.efi && deskctl return 7 signed.efi
 

@@ -4,11 +4,12 @@ from __future__ import annotations
 import os
 import re
 import subprocess
+import sys
 import time
 from typing import List, Tuple
 
 from commands import HEX, SIGNED, TODAY, files
-from tools import DESKCTL, TBS, ROOT, Between, Part, Person, Program, by_bytecode, calls, cases, fail, made, module, self_signed, token
+from tools import DESKCTL, TBS, ROOT, Between, Part, Person, Program, by_bytecode, calls, cases, fail, made, module, modules, self_signed, token
 from desk import PLAIN, authenticode, digest, digest_list, sha256, with_text
 
 
@@ -342,6 +343,14 @@ def listing(part: Part) -> None:
         unsent(part, olga, (*words, "request.der"), "is no certificate in PEM or DER", "a request, a key, a CRL and a bundle")
 
 
+def own_fault() -> None:
+    """A fault of deskctl's own isn't told as a refusal of the desk, which has status 1."""
+    text = f"import sys; sys.path.insert(0, {modules()!r}); from deskctl import cli; cli.ran = lambda *_: 1 // 0; sys.exit(cli.main())"
+    ran = subprocess.run([sys.executable, "-BIS", "-c", text], capture_output=True, check=False, timeout=60)
+    if ran.returncode != 3 or b"a fault of its own" not in ran.stderr or b"ZeroDivisionError" not in ran.stderr:
+        fail(f"a fault of deskctl's own: status {ran.returncode}, {ran.stderr!r}")
+
+
 def confirming(part: Part) -> None:
     """At a terminal a Confirm asks for a number, and only that number goes on."""
     olga, otto = part.people["olga"], part.people["otto"]
@@ -360,6 +369,7 @@ def check(program: Program) -> str:
     files(program)
     certificates(program)
     in_words()
+    own_fault()
     for one in parts:
         with Part(program, one.__name__) as part:
             one(part)
@@ -369,8 +379,6 @@ def check(program: Program) -> str:
 
 
 if __name__ == "__main__":
-    import sys
-
     by_bytecode()
     with Program(sys.argv[1]) as found_program:
         print(check(found_program))

@@ -150,8 +150,8 @@ STATUSES: Tuple[Tuple[int, str], ...] = (
     (
         LOST,
         (
-            "no connection, or the answer was lost: run the same command again; a wait whose time"
-            " is over"
+            "no connection, a lost answer, a fault of its own: run the same command again; or a"
+            " wait is over"
         ),
     ),
     (NOT_ALLOWED, "a verdict that isn't allowed"),
