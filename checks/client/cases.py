@@ -129,7 +129,8 @@ def proposed(text: str) -> Tuple[int, Set[str], Set[str], Dict[str, int]]:
     """The entries skipped, digests, certificates and components of an import in the minutes."""
     _, _, passed, digests, certificates, components = text.split(" ")
     rows = [set(row.split(",")) - {"-"} for row in (digests, certificates, components)]
-    return int(passed), rows[0], rows[1], {it.split(":")[1]: int(it.split(":")[0]) for it in rows[2]}
+    raised = sorted((name, int(generation)) for generation, name in (it.split(":") for it in rows[2]))
+    return int(passed), rows[0], rows[1], dict(raised)
 
 
 def at_a_desk(part: Part) -> int:
