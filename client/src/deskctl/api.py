@@ -261,8 +261,11 @@ class Desk:
         """Whether the token is somebody's, before a long body goes out."""
         try:
             self.get("/level")
-        except Lost as lost:
-            lost.sent = False
+        except Stop as stop:
+            # None of these tries was the command's.
+            stop.tried = False
+            if isinstance(stop, Lost):
+                stop.sent = False
             raise
 
     def judged(self, answer: Answer) -> Answer:
