@@ -49,8 +49,10 @@ def leaves_nothing(browser: Browser, place: Place) -> None:
     browser.press("Sign out")
     browser.sees("Sign out now?")
     browser.click("dialog button.danger")
-    browser.one("#token")
-    browser.sign_in(token("olga"))
+    # (without a reload, which forgets anyhow)
+    browser.fill("Your token", token("olga"))
+    browser.press("Sign in")
+    browser.one(".view h1")
     browser.go(f"requests/{second}")
     kept = browser.module("keys.js", "it.unanswered.size")
     if kept != 0 or "Vote yes" in browser.text():
