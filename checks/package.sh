@@ -1,20 +1,25 @@
 #!/bin/sh
-# The package of the built program, or of the named one: package.sh [PROGRAM]. packaging/deb.sh
-# makes it twice, at other times and with another umask, zone and folder, and the bytes must be the
-# same. It is unpacked into an empty root. The program in it is the named one, passes checks/runs.sh
+# The package of the built program, or of the named one: package.sh [PROGRAM]. That gets a record that
+# it was proved, made here, in a copy of the tree with a commit of its own. packaging/deb.sh refuses
+# what has no record, or one that doesn't fit: a trial program, a byte appended, another commit, an
+# edit then or now, other sources. Of the program it makes the package twice, at other times and with
+# another umask, zone and folder, and the bytes must be the same; README.Debian has the record. The
+# package is unpacked into an empty root. The program in it is the named one, passes checks/runs.sh
 # and checks/day.sh, and runs with that root as its own, which apart from the package has only the
 # files of the libraries that its Depends name. The manual is read: no warning, each subcommand,
 # route and refusal is there, and so are both digests. The completions are those of the help. The
 # users are made; the units are verified, and have an exposure of 2.0 at most. In a network of its
 # own the program serves as `nobody` with the service's one capability, at its port, to which the
 # rules of nftables let root and the proxy's user connect; once it is stopped, `nobody` can't take
-# the port. The client's package is made twice, installed into an empty root, run and removed. lintian
-# finds no error. What isn't installed (lintian, mandoc, nftables, systemd) is skipped, and named at
-# the end; so are the root and the network of their own if they aren't allowed. It needs bash, curl,
-# dpkg-dev, git, groff, man, openssl, python3, sqlite3 and xxd.
+# the port. The demo of the package serves its page. The client's package is made twice, installed
+# into an empty root, run and removed. lintian finds no error. What isn't installed (lintian, mandoc,
+# nftables, systemd) is skipped, and named at the end; so are the root and the network of their own if
+# they aren't allowed. It needs bash, curl, dpkg-dev, git, groff, man, nginx, openssl, python3, rt,
+# sqlite3 and xxd.
 set -eu
 . "$(dirname -- "$(readlink -f -- "$0")")/common.sh"
-needs bash curl dpkg-deb dpkg-shlibdeps git groff man openssl python3 sqlite3 xxd
+PATH=$PATH:/usr/sbin:/sbin
+needs bash curl dpkg-deb dpkg-shlibdeps git groff man nginx openssl python3 rt sqlite3 xxd
 find_program "$@"
 name=kovelamiru-desk
 enter_room
@@ -40,17 +45,55 @@ has() {
     return 1
 }
 
+# ---- what was proved, and what is refused
+
+mkdir copy
+(cd "$root" && tar -cf - --exclude=.git --exclude=./out --exclude='crates/*/out' .) | (cd copy && tar -xf -)
+root=$room/copy
+commits() { git -C copy -c user.name=checks -c user.email=checks@example.org commit -q "$@" > said 2>&1; }
+git -C copy init -q
+git -C copy add -A
+commits -m 'A copy'
+commit=$(git -C copy rev-parse HEAD)
+mkdir -p copy/out/trial copy/crates/desk/out
+built=$program
+program=$root/crates/desk/out/desk
+cp "$built" "$program"
+cp "$built" copy/out/trial/desk
+sources=$("$root/prove" --sources desk)
+proved() { "$root/packaging/record" write "$program" "$sources" "$1" > said 2>&1; }
+
+# refused WHAT WHY [PROGRAM]: deb.sh refuses it, and says why.
+refused() {
+    if "$root/packaging/deb.sh" "${3:-$program}" "$room" > said 2>&1; then fail "a package of $1"; fi
+    grep -qF "$2" said || fail "$1: $(cat said)"
+    found=$((found + 1))
+}
+refused 'a program without a record' "there is no $program.record"
+proved 'rt ci'
+refused 'a trial program' 'a trial program has none' "$root/out/trial/desk"
+echo >> "$program"
+refused 'a program with a byte more' "$program is another program than its record's: SHA-256 "
+cp "$built" "$program"
+commits --allow-empty -m 'Another commit'
+refused 'a program of another commit' "was proved at the commit $commit, and this is $(git -C copy rev-parse HEAD)"
+git -C copy reset -q --hard "$commit"
+echo >> copy/page/index.html
+refused 'an edited tree' "this tree isn't that of its commit: page/index.html was edited"
+proved 'rt ci'
+git -C copy reset -q --hard "$commit"
+refused 'a program that was proved in an edited tree' 'was proved in a tree that was edited'
+proved 'rt ci'
+sed -i 's/^sources \(.*\)./sources \1-/' "$program.record"
+refused 'a program of other sources' 'was proved of other sources, or by another kit'
+echo >> copy/crates/desk/src/main.rt
+if proved 'rt ci'; then fail 'a record of sources that changed'; fi
+git -C copy reset -q --hard "$commit"
+refused 'a program whose sources changed' "there is no $program.record"
+proved 'rt ci'
+
 # ---- made twice, unpacked
 
-# The package names its commit: where there is none, that of a copy.
-if ! git -C "$root" log -1 > said 2>&1; then
-    mkdir copy
-    (cd "$root" && tar -cf - --exclude=.git --exclude='crates/*/out' .) | (cd copy && tar -xf -)
-    root=$room/copy
-    git -C copy init -q
-    git -C copy add -A
-    git -C copy -c user.name=checks -c user.email=checks@localhost commit -qm 'A copy' > said 2>&1
-fi
 mkdir one two unpacked
 holds 'deb.sh' "$root/packaging/deb.sh" "$program" one
 sleep 1
@@ -58,14 +101,19 @@ again() { (umask 077 && cd two && TZ=Asia/Tokyo TMPDIR=$room/two LC_ALL=C.UTF-8 
 holds 'deb.sh again' again
 deb=$(basename one/*.deb)
 silent 'the same bytes twice' cmp "one/$deb" "two/$deb"
-[ "$deb" = "${name}_$("$program" --version | cut -d' ' -f2)_amd64.deb" ] || fail "the name $deb"
+version=$("$program" --version | cut -d' ' -f2)~git$(TZ=UTC git -C copy log -1 --format=%cd --date=format-local:%Y%m%d).$(echo "$commit" | cut -c1-8)
+[ "$deb" = "${name}_${version}_amd64.deb" ] || fail "the name $deb"
+dpkg --compare-versions "$version" lt "$(echo "$version" | cut -d'~' -f1)" || fail "the version $version isn't below that without the commit"
 holds 'unpacking' dpkg-deb -x "one/$deb" unpacked
 holds 'its scripts' dpkg-deb -e "one/$deb" control
 silent 'the sums of its files' sh -c 'cd unpacked && md5sum --quiet -c ../control/md5sums'
 desk=$room/unpacked/usr/bin/desk
 silent 'the program is another one' cmp "$program" "$desk"
+for key in commit kit sources program; do
+    grep -qF " $(sed -n "s/^$key //p" "$program.record")" "unpacked/usr/share/doc/$name/README.Debian" || fail "README.Debian lacks the $key"
+done
 silent 'the page is another one' diff -r "$root/page" "unpacked/usr/share/$name/page"
-for script in postinst prerm postrm; do silent "$script" sh -n "control/$script"; done
+for script in control/p*; do silent "$script" sh -n "$script"; done
 
 # ---- the day at the desk, and each other subcommand
 
@@ -180,6 +228,23 @@ if has systemd-analyze; then
     done
     exposure=$(sed -n 's/.*Overall exposure level for .*: \([0-9.]*\) .*/\1/p' said)
 fi
+
+# ---- the demo
+
+timeout -k 5 300 unpacked/usr/bin/desk-demo > demo 2> demo.err &
+shows=$!
+started="$started $shows"
+tries=2800
+until grep -q '^It shows ' demo; do
+    tries=$((tries - 1))
+    if [ "$tries" -eq 0 ] || ! is_running "$shows"; then fail "desk-demo: $(cat demo demo.err)"; fi
+    sleep 0.1
+done
+holds 'the page of the demo' curl -sS --fail "$(sed -n '1s/ .*//p' demo)"
+cmp -s said "$root/page/index.html" || fail "desk-demo has another page: $(cat said)"
+grep -q "^It shows the package's program" demo || fail "desk-demo shows: $(cat demo)"
+kill "$shows"
+wait "$shows" || :
 
 # ---- its port: who takes it, and who connects
 

@@ -23,7 +23,10 @@ version=$(sed -n 's/^VERSION = "\(.*\)"$/\1/p' "$root/client/src/deskctl/__init_
 newest=$(sed -n '/^## /{s/^## \([^ ,]*\).*/\1/p;q}' "$root/CHANGELOG.md")
 [ "$version" = "$newest" ] || fail "deskctl has version $version, and CHANGELOG.md $newest"
 commit=$(git -C "$root" describe --always --dirty --abbrev=40 --exclude='*')
-SOURCE_DATE_EPOCH=${SOURCE_DATE_EPOCH:-$(git -C "$root" log -1 --format=%ct)}
+committed=$(git -C "$root" log -1 --format=%ct)
+# The package's version has the commit's date and hash, and is lower than the one without.
+version=$version~git$(date -d "@$committed" +%Y%m%d).$(echo "$commit" | cut -c1-8)
+SOURCE_DATE_EPOCH=${SOURCE_DATE_EPOCH:-$committed}
 export SOURCE_DATE_EPOCH
 maintainer=$(git -C "$root" log -1 --format='%an <%ae>')
 

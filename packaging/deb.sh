@@ -1,9 +1,10 @@
 #!/bin/sh
-# Makes the package kovelamiru-desk_VERSION_amd64.deb of a built program, in the working folder or
-# the named one, and prints its path: deb.sh PROGRAM [OUT]. The program goes in unchanged. Its own
-# version is the package's, and must be the newest in CHANGELOG.md. The same program, tree and
-# SOURCE_DATE_EPOCH (by default the commit's date) give the same bytes. It needs dpkg-dev, git, gzip
-# and python3.
+# Makes the package kovelamiru-desk_VERSION_amd64.deb of a proved program, in the working folder or
+# the named one, and prints its path: deb.sh PROGRAM [OUT]. The program goes in unchanged. Beside it
+# stands the record that it was proved (packaging/record), of this commit and no edited tree; else
+# there is no package. VERSION is the program's own, which must be the newest in CHANGELOG.md, with
+# the commit's date and hash. The same program, tree and SOURCE_DATE_EPOCH (by default the commit's
+# date) give the same bytes. It needs dpkg-dev, git, gzip and python3.
 set -eu
 umask 022
 export LC_ALL=C TZ=UTC
@@ -26,17 +27,21 @@ readelf -h "$program" | grep -q 'Machine: .*X86-64' || fail "$program is for ano
 readelf -l "$program" | grep -q 'interpreter: /lib64/ld-linux-x86-64.so.2' || fail "$program asks for a loader of its own"
 
 name=kovelamiru-desk
+record=$("$here/record" read "$program")
+# told KEY: what the record says of it.
+told() { echo "$record" | sed -n "s/^$1 //p"; }
+commit=$(told commit)
 # As `desk 0.1.0 (KIT)`.
 said=$("$program" --version)
 version=$(echo "$said" | sed -n 's/^desk \([^ ]*\) (.*)$/\1/p')
-kit=$(echo "$said" | sed -n 's/^desk [^ ]* (\(.*\))$/\1/p')
 newest=$(sed -n '/^## /{s/^## \([^ ,]*\).*/\1/p;q}' "$root/CHANGELOG.md")
 [ "$version" = "$newest" ] || fail "the program has version $version, and CHANGELOG.md $newest"
-commit=$(git -C "$root" describe --always --dirty --abbrev=40 --exclude='*')
-SOURCE_DATE_EPOCH=${SOURCE_DATE_EPOCH:-$(git -C "$root" log -1 --format=%ct)}
+committed=$(git -C "$root" log -1 --format=%ct)
+# The package's version has the commit's date and hash, and is lower than the one without.
+version=$version~git$(date -d "@$committed" +%Y%m%d).$(echo "$commit" | cut -c1-8)
+SOURCE_DATE_EPOCH=${SOURCE_DATE_EPOCH:-$committed}
 export SOURCE_DATE_EPOCH
 maintainer=$(git -C "$root" log -1 --format='%an <%ae>')
-[ -n "$kit" ] || fail "the program names no kit: $said"
 
 room=$(mktemp -d)
 trap 'rm -rf "$room"' EXIT
@@ -56,7 +61,14 @@ for unit in kovelamiru-desk.service kovelamiru-publish.service kovelamiru-publis
 done
 place 644 "$here/kovelamiru-desk.sysusers" usr/lib/sysusers.d/kovelamiru-desk.conf
 place 644 "$here/desk.bash" usr/share/bash-completion/completions/desk
-for example in nginx.conf nginx-certificates.conf desk.nft; do place 644 "$here/$example" "usr/share/doc/$name/examples/$example"; done
+place 644 "$here/desk.nft" "usr/share/doc/$name/examples/desk.nft"
+for site in "$here"/nginx*.conf; do
+    case ${site##*/} in
+        # (the part that the sites include)
+        nginx-desk.conf) place 644 "$site" "usr/share/$name/nginx-desk.conf" ;;
+        *) place 644 "$site" "usr/share/doc/$name/examples/${site##*/}" ;;
+    esac
+done
 for runbook in "$here"/runbooks/*.md; do place 644 "$runbook" "usr/share/doc/$name/runbooks/${runbook##*/}"; done
 for page in AUDIT INTEROPERATION WALKTHROUGH; do place 644 "$root/docs/$page.md" "usr/share/doc/$name/$page.md"; done
 # The two programs and what they share; one of Python finds it by the path of the link.
@@ -67,6 +79,16 @@ for tool in desk-publish desk-again; do
 done
 place 644 "$here/lintian-overrides" "usr/share/lintian/overrides/$name"
 for file in "$root"/page/*; do place 644 "$file" "usr/share/$name/page/${file##*/}"; done
+# The demo and the files that it takes, each at its place in the repository.
+demo=usr/lib/$name/demo
+for file in "$here"/nginx*.conf "$root/checks/common.sh" "$root/checks/requests/ports.py" "$root/examples/signed.efi" \
+    "$root/examples/tiny.efi" "$root/examples/certificate.der"; do
+    place 644 "$file" "$demo/${file#"$root/"}"
+done
+place 755 "$here/demo.sh" "$demo/packaging/demo.sh"
+ln -s ../../../bin/desk "$tree/$demo/desk"
+ln -s "../../../share/$name/page" "$tree/$demo/page"
+ln -s "../lib/$name/demo/packaging/demo.sh" "$tree/usr/bin/desk-demo"
 
 python3 "$here/man.py" "$program" "$(date -d "@$SOURCE_DATE_EPOCH" +%F)" "$room"
 for page in desk.1 desk-http.7; do
@@ -94,13 +116,14 @@ done
         grep 'no LICENSE file' "$root/CONTRIBUTING.md" || fail 'CONTRIBUTING.md says nothing of a licence'
         printf '%s\n' 'So this package is for those whom the owner lets have it, and is not to be passed on before a licence is named.'
     fi
-    printf '\nThe program was built by the Rattle kit (%s), whose libraries are part of it.\n' "$kit"
+    printf '\nThe program was built by the Rattle kit (%s), whose libraries are part of it.\n' "$(told kit)"
 } > "$room/copyright"
 place 644 "$room/copyright" "usr/share/doc/$name/copyright"
 
 {
-    printf 'Commit %s, proved with %s.\nSHA-256 of /usr/bin/desk: %s.\n\n' "$commit" "$kit" \
-        "$(sha256sum < "$program" | cut -d' ' -f1)"
+    printf '/usr/bin/desk was proved and built by `%s` from this commit, without an edit:\n\n' "$(told by)"
+    printf 'commit   %s\nkit      %s\nsources  %s (their sum, by `./prove --sources desk`)\nSHA-256  %s\n\n' \
+        "$commit" "$(told kit)" "$(told sources)" "$(told program)"
     printf 'No desk is made, and nothing is started, by the installation. desk(1) says how to make one, how to let it serve, how to\n'
     printf 'copy it, and what an older copy means. Neither remove nor purge takes /var/lib/kovelamiru-desk away.\n'
 } > "$room/README.Debian"
@@ -122,7 +145,7 @@ Maintainer: $maintainer
 Installed-Size: $size
 Depends: $needs, systemd | systemd-standalone-sysusers | systemd-sysusers
 Recommends: python3 (>= 3.9)
-Suggests: nginx, nftables, efitools, kovelamiru-deskctl, bash-completion
+Suggests: nginx, curl, nftables, efitools, kovelamiru-deskctl, bash-completion
 Section: admin
 Priority: optional
 Description: Secure Boot signing and revocation desk
@@ -136,7 +159,9 @@ Description: Secure Boot signing and revocation desk
  .
  That acknowledged commands are never lost is proved.
 CONTROL
-for script in postinst prerm postrm; do place 755 "$here/$script" "DEBIAN/$script"; done
+for script in preinst postinst prerm postrm; do
+    if [ -e "$here/$script" ]; then place 755 "$here/$script" "DEBIAN/$script"; fi
+done
 (cd "$tree" && find . -path ./DEBIAN -prune -o -type f -printf '%P\n' | sort | xargs md5sum) > "$room/md5sums"
 place 644 "$room/md5sums" DEBIAN/md5sums
 find "$tree" -exec touch -h -d "@$SOURCE_DATE_EPOCH" {} +

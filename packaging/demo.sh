@@ -1,15 +1,18 @@
 #!/bin/sh
-# A desk to look at, in a browser: demo.sh [PROGRAM [FOLDER]]. It makes a desk in a new folder (people
-# of each role, requests in every state, two open proposals, images of examples/), serves it behind
-# nginx without TLS on loopback, and prints the address and a token for each person. Ctrl-C ends
-# both; a folder that wasn't named is then removed. The site is packaging/nginx.conf without its TLS
-# and with ports that are free. It needs curl, nginx and python3. Not for work: whoever can read the
-# folder has the tokens.
+# A desk to look at, in a browser: demo.sh [PROGRAM [FOLDER]], or desk-demo where the package is
+# installed. It makes a desk in a new folder (people of each role, requests in every state, two open
+# proposals, images of examples/), serves it behind nginx without TLS on loopback, and prints the
+# address, a token for each person, and which program this is: by itself the one that ./desk runs, or
+# that of the package. Ctrl-C ends both; a folder that wasn't named is then removed. The site is
+# packaging/nginx.conf without its TLS and with ports that are free. It needs curl, nginx and python3.
+# Not for work: whoever can read the folder has the tokens.
 set -eu
 umask 077
 PATH=$PATH:/usr/sbin:/sbin
 . "$(dirname -- "$(readlink -f -- "$0")")/../checks/common.sh"
 needs curl nginx python3
+# (the package has a link to its program in the place of ./desk)
+if [ $# -eq 0 ] && [ -L "$root/desk" ]; then set -- "$root/desk"; fi
 find_program "$@"
 trap 'exit 0' INT
 if [ $# -gt 1 ]; then
@@ -154,5 +157,14 @@ for person in $people; do
     printf '%-6s %-10s %s\n' "${person%/*}" "${person#*/}" "$(cat "${person%/*}.token")"
 done
 echo "$folder has image.N of each request N, signed.4 to return for request 4, and revocations.csv to import."
+if [ "$program" = "$root/out/trial/desk" ]; then
+    echo "It shows a trial program, not proved: $program"
+elif [ "$(sed -n 's/^program //p' "$program.record" 2> /dev/null)" = "$(sha256sum < "$program" | cut -d' ' -f1)" ]; then
+    sed -n "s|^by \(.*\)|It shows the program that \`\1\` proved: $program|p" "$program.record"
+elif [ -L "$root/desk" ]; then
+    echo "It shows the package's program; /usr/share/doc/kovelamiru-desk/README.Debian says what proved it"
+else
+    echo "It shows $program, which has no record that it was proved"
+fi
 while is_running "$server" && is_running "$proxy"; do sleep 1; done
 fail "the desk or nginx ended: $(cat served.err nginx.err)"

@@ -136,7 +136,10 @@ def listed(rows):
     found, heads = [], [head.split(",")[0] for head in rows[0][1:]]
     for row in rows[1:]:
         named = [(f"{head}: " if len(heads) > 1 else "") + cell for head, cell in zip(heads, row[1:]) if cell]
-        found += [".TP", inline(row[0])] + filled("; ".join(cell.rstrip(".") for cell in named) + ".")
+        text = filled("; ".join(cell.rstrip(".") for cell in named) + ".")
+        # (a term is one line; a longer one is a paragraph)
+        is_term = len(inline(row[0])) <= WIDTH
+        found += [".TP", inline(row[0]), *text] if is_term else [".PP", *filled(row[0]), ".RS", *text, ".RE"]
     return found
 
 
@@ -298,6 +301,7 @@ def desk_page(said, date):
             ("PEOPLE WITH CERTIFICATES", roff(section("packaging/README.md", "People with certificates"))),
             ("PUBLISHING", roff(section("packaging/README.md", "Publishing"))),
             ("AUDITS", audit()),
+            ("A DEMO", roff(section("packaging/README.md", "A demo"))),
             ("RUNBOOKS", roff(section("packaging/README.md", "Runbooks"))),
             ("OTHER TOOLS", roff(interoperation())),
             ("ENVIRONMENT", roff(ENVIRONMENT)),
