@@ -43,6 +43,7 @@ LOOKS: Sequence[Tuple[bytes, str]] = (
     (b"kind,value,generation", "the desk's CSV"),
     (b"{", "JSON"),
     (b"[", "JSON"),
+    (b"0\x81", "DER"),
     (b"0\x82", "DER"),
 )
 
