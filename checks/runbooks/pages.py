@@ -31,8 +31,8 @@ PEOPLE = {"ann": "submitter", "rita": "reviewer", "raul": "reviewer", "sid": "si
 DESK, PUBLISH = "kovelamiru-desk", "kovelamiru-publish"
 ACCOUNTS = [DESK, PUBLISH, *PEOPLE, "nadia", "rosa"]
 MARK = "-- that was all of it --"
-SIGNED = (ROOT / "examples" / "signed.efi").read_bytes()
-CERTIFICATE = (ROOT / "examples" / "certificate.der").read_bytes()
+SIGNED = (ROOT / "examples" / "loader.efi").read_bytes()
+CERTIFICATE = (ROOT / "examples" / "signer.der").read_bytes()
 # The place of the certificate table in the image, and of its entry in the headers.
 TABLE, ENTRY = 1536, 232
 
