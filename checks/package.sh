@@ -324,7 +324,7 @@ else
     holds 'unpacking the client' dpkg-deb -x "one/$client" client
 fi
 python3 -m zipfile -e client/usr/bin/deskctl modules
-silent 'deskctl has other modules' diff -r "$root/client/src" modules
+silent 'deskctl has other modules' diff -r -x __pycache__ "$root/client/src" modules
 holds 'deskctl --version' client/usr/bin/deskctl --version
 [ "$(cat said)" = "deskctl $("$program" --version | cut -d' ' -f2)" ] || fail "deskctl has another version than desk: $(cat said)"
 holds 'deskctl --help' client/usr/bin/deskctl --help
