@@ -8,7 +8,7 @@
 #             journal and answer, and at any moment: the minutes have each command once
 #   lines     runs that are killed before each line of the journal's module
 #   cases     the files of checks/imports, read, refused and proposed as the table has them; and its
-#             cases of doubt, by deskctl and by the page
+#             cases of doubt
 #   mistakes  whole files' hashes, fingerprints, entries of the other kind, slips in generations and
 #             stamps, texts, tokens, settings, lengths
 #   imports   each kind of a file of revocations, cut at each length of its header; more entries
@@ -22,7 +22,7 @@
 # its modules have at most 500 lines of 100 columns and functions under 40 lines, as one file it has
 # the same bytes each time, and help, page and completions are written and read. deskctl isn't proved, and neither is what
 # stands in front of it here. It needs bash, curl, efitools, nginx, openssl, pyflakes3, python3,
-# sbsigntool; fish, man, node and zsh are used where they are installed, and otherwise named at the end.
+# sbsigntool; fish, man and zsh are used where they are installed, and otherwise named at the end.
 set -eu
 PATH=$PATH:/usr/sbin:/sbin
 export PATH
@@ -102,7 +102,6 @@ completes 'yes no' review 1 ''
 completes 'dbx db' get d
 completes '--dry-run' import --d
 if has zsh; then zsh -n pages/_deskctl || fail 'the completions for zsh'; fi
-if has node; then node "$root/checks/imports/doubts.mjs" "$root/page" "$root/checks/imports/doubts.json" > said || fail "the page's doubts"; fi
 if has fish; then
     [ "$(HOME=$room fish -c "source pages/deskctl.fish; complete -C 'deskctl get d'" | cut -f1 | tr '\n' ' ')" = 'db dbx ' ] || fail 'the completions for fish'
 fi
