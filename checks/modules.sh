@@ -1,7 +1,8 @@
 #!/bin/sh
 # The page's modules without a browser: what they make of each file of checks/imports/cases.json, and
 # of each beginning of it; that a command acts once, whatever comes in place of an answer; that
-# nothing of one person reaches the next; doubts at their limits. It needs node and openssl.
+# nothing of one person reaches the next; and what they ask about, as checks/imports/doubts.json has
+# it. It needs node and openssl.
 set -eu
 . "$(dirname -- "$(readlink -f -- "$0")")/common.sh"
 needs node openssl
@@ -19,4 +20,6 @@ made() {
 made rsa.pem -newkey rsa:2048
 made ec.pem -newkey ec -pkeyopt ec_paramgen_curve:P-384
 made ed25519.pem -newkey ed25519
-node "$root/checks/page/modules.mjs" "$room/page" "$root/checks/imports/cases.json" rsa.pem ec.pem ed25519.pem
+node "$root/checks/imports/doubts.mjs" "$room/page" "$root/checks/imports/doubts.json" > doubts || fail 'the doubts are others'
+modules=$(node "$root/checks/page/modules.mjs" "$room/page" "$root/checks/imports/cases.json" rsa.pem ec.pem ed25519.pem)
+echo "$modules; $(cat doubts)"

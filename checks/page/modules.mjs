@@ -1,6 +1,6 @@
 // The page's modules without a browser: see ../modules.sh. The files of ../imports/cases.json are
 // read as the table has it, and so are a few of the page's own; a command acts once, whatever comes
-// in place of an answer; slips are doubted at their limits.
+// in place of an answer.
 import assert from 'node:assert/strict';
 import { readFileSync } from 'node:fs';
 import { webcrypto } from 'node:crypto';
@@ -211,30 +211,6 @@ async function reads() {
     assert.deepEqual(asked, [...Array(2).fill('the-first-person'), ...Array(4).fill('the-next-person')]);
 }
 
-// ---- slips
-
-async function doubts() {
-    const { generationDoubts, knownOf, stampDoubts } = await take('doubts');
-    const now = {
-        listed: { digests: new Set(), certificates: new Map() },
-        revoked: { digests: new Set(), certificates: new Set() },
-        level: { stamp: 2026112700, names: new Map([['grub', 4]]) },
-    };
-    const known = knownOf([], now);
-    for (const [name, generation, told] of [
-        ['grub', 4, 'is at 4 already'], ['grub', 5, ''], ['grub', 13, ''], ['grub', 14, 'far above'], ['grub', 65535, 'far above'],
-        ['grub', 65536, '16 bits'], ['gurb', 2, 'Is it spelt right?'], ['sbat', 2, 'stays 1'],
-    ]) {
-        const found = generationDoubts(name, generation, known).map((it) => it.text).join(' ');
-        assert.ok(told === '' ? found === '' : found.includes(told), `${name} ${generation}: ${found}`);
-    }
-    const today = new Date('2026-11-28T12:00:00Z');
-    for (const [stamp, told] of [[2026112800, ''], [2026112700, 'isn’t above'], [2027113000, 'isn’t a date'], [2026133000, 'isn’t a date'], [9999999999, 'isn’t a date']]) {
-        const found = stampDoubts(stamp, 2026112700, today).map((it) => it.text).join(' ');
-        assert.ok(told === '' ? found === '' : found.includes(told), `${stamp}: ${found}`);
-    }
-}
-
 /** @param {string} what @param {() => any} test */
 async function tries(what, test) {
     count += 1;
@@ -253,5 +229,4 @@ for (const it of files) await tries(`beginnings of “${it.name}”`, async () =
 await tries('certificates by openssl', ownCertificates);
 await tries('keys', keys);
 await tries('reads', reads);
-await tries('doubts', doubts);
 console.log(`${imports.length} files of revocations and ${files.length} of certificates as the table has them; ${count} tests of modules`);
