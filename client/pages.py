@@ -1,8 +1,9 @@
 #!/usr/bin/env python3
-"""pages.py FOLDER: writes deskctl.1 and the completions deskctl.bash, _deskctl and deskctl.fish into the folder.
+"""pages.py FOLDER: writes deskctl.1 and the completions deskctl.bash, _deskctl and deskctl.fish.
 
-Commands, options and exit statuses come from deskctl itself, so that help, page and completions can't differ. This file has the
-page's other sections, set in man(7). The date is that of SOURCE_DATE_EPOCH, or today.
+Commands, options and exit statuses come from deskctl itself, so that help, page and completions
+can't differ. This file has the page's other sections, set in man(7). The date is that of
+SOURCE_DATE_EPOCH, or today.
 """
 from __future__ import annotations
 
@@ -23,11 +24,13 @@ from deskctl.commands import COMMANDS  # noqa: E402
 
 WIDTH = 78
 ABOUT = """\
-deskctl asks a Kovelamiru desk over HTTP, which the program desk serves: for signatures of boot images, for votes, for revocations
-that one officer proposes and another confirms. It isn't proved, and it decides nothing; the desk does. It checks no signature.
+deskctl asks a Kovelamiru desk over HTTP, which the program desk serves: for signatures of boot
+images, for votes, for revocations that one officer proposes and another confirms. It isn't
+proved, and it decides nothing; the desk does. It checks no signature.
 
-Results go to standard output, all else to standard error. On a terminal a list is a table that fits it; otherwise a line a row, fields
-parted by tabs, nothing cut. `--json` prints the desk's own JSON, as desk-http(7) has it."""
+Results go to standard output, all else to standard error. On a terminal a list is a table that
+fits it; otherwise a line a row, fields parted by tabs, nothing cut. `--json` prints the desk's
+own JSON, as desk-http(7) has it."""
 SETTINGS = """\
 An option comes before the environment, and that before the file `~/.config/deskctl.conf`:
 
@@ -36,60 +39,86 @@ An option comes before the environment, and that before the file `~/.config/desk
     token-file = desk.token
     name = olga
 
-Its other names are `ca`, `cert`, `key` and `program`; paths are relative to the file. With https the desk's certificate has to be one
-that the system trusts, or one of `--ca`. Without TLS deskctl asks only a desk on this machine, unless `--insecure-http` is given.
+Its other names are `ca`, `cert`, `key` and `program`; paths are relative to the file. With https
+the desk's certificate has to be one that the system trusts, or one of `--ca`. Without TLS deskctl
+asks only a desk on this machine, unless `--insecure-http` is given.
 
-A token is the first line of a file that nobody else can read; deskctl refuses it otherwise. It is never an argument, never printed, and
-in no environment. In the folder that systemd names by CREDENTIALS_DIRECTORY the group's bits don't count, since they are those of its
-access list. Behind a proxy that knows people by client certificates, `--cert` takes the token's place."""
+A token is the first line of a file that nobody else can read; deskctl refuses it otherwise. It is
+never an argument, never printed, and in no environment. In the folder that systemd names by
+CREDENTIALS_DIRECTORY the group's bits don't count, since they are those of its access list.
+Behind a proxy that knows people by client certificates, `--cert` takes the token's place."""
 ONCE = """\
-Each command goes out under a key that deskctl makes of the time and of random bits, as `20261127T184000Z-7f3a9c5e01b2d846`; the minutes
-have it. The key and what it is for are written into a journal before the request goes out, and taken off when its answer has been
-printed. Where no answer comes (the connection fails, the proxy says 408, 429, 500, 502, 503 or 504, the desk has no memory) deskctl asks
-again with the same key, with growing pauses. If it gives up or is ended, the next run of the same command (the same desk, caller, words
-and files) takes that key, and says so. So a command acts once, whatever was lost. A refusal ends that, unless an answer was lost before
-and the refusal says nothing of it, as one of the proxy's, or a certificate that isn't trusted. `--new-key` forgets the key, and the run
-is another command. `deskctl pending` lists the journal. Two runs of the same command at once follow one another.
+Each command goes out under a key that deskctl makes of the time and of random bits, as
+`20261127T184000Z-7f3a9c5e01b2d846`; the minutes have it. The key and what it is for are written
+into a journal before the request goes out, and taken off when its answer has been printed. Where
+no answer comes (the connection fails, the proxy says 408, 429, 500, 502, 503 or 504, the desk has
+no memory) deskctl asks again with the same key, with growing pauses. If it gives up or is ended,
+the next run of the same command (the same desk, caller, words and files) takes that key, and says
+so. So a command acts once, whatever was lost. A refusal ends that, unless an answer was lost
+before and the refusal says nothing of it, as one of the proxy's, or a certificate that isn't
+trusted. `--new-key` forgets the key, and the run is another command. `deskctl pending` lists the
+journal. Two runs of the same command at once follow one another.
 
-A run ends as soon as the journal has let go of its key. One that is killed between these two steps, and is run again though its answer was
-printed, acts again.
+A run ends as soon as the journal has let go of its key. One that is killed between these two
+steps, and is run again though its answer was printed, acts again.
 
 An import of several parts has a key a part; the same command goes on where it was stopped."""
 QUESTIONS = """\
-Nothing takes a revocation back, and an entry that names nothing stays in dbx for good. So deskctl asks before it sends
+Nothing takes a revocation back, and an entry that names nothing stays in dbx for good. So deskctl
+asks before it sends
 
-- a digest or a certificate that is the SHA-256 of the whole file of a request, the fingerprint of a listed certificate, or an entry of the
-other kind at the desk;
+- a digest or a certificate that is the SHA-256 of the whole file of a request, the fingerprint of
+a listed certificate, or an entry of the other kind at the desk;
 - a generation above 65,535, or ten or more above the present one;
 - a stamp that doesn't begin with a date of the last or the next year;
 - an import in which nothing is new.
 
-`list-certificate` always asks, since one officer lists alone: it shows the certificate's subject, its issuer and whether it is a CA's. A
-file of two certificates, of a request, a key or a CRL isn't taken, here and wherever a certificate is named by its file.
+`list-certificate` always asks, since one officer lists alone: it shows the certificate's subject,
+its issuer and whether it is a CA's. A file of two certificates, of a request, a key or a CRL
+isn't taken, here and wherever a certificate is named by its file.
 
-`confirm` names the desk, shows all that the proposal names and which known images it would bar, and asks how many these are. When the
-answer comes it looks again, and sends nothing if one of them changed. `--expect HEX` names the proposal that was looked at, by what
-`deskctl proposal` shows as `expect`: the SHA-256 of the first line that it prints with `--json`. `--bars COUNT` is the count that is expected.
-If both are given, and nothing is doubtful, it asks nothing; if one isn't so, it ends with status 2.
+`confirm` names the desk, shows all that the proposal names and which known images it would bar,
+and asks how many these are. When the answer comes it looks again, and sends nothing if one of
+them changed. `--expect HEX` names the proposal that was looked at, by what `deskctl proposal`
+shows as `expect`: the SHA-256 of the first line that it prints with `--json`. `--bars COUNT` is
+the count that is expected. If both are given, and nothing is doubtful, it asks nothing; if one
+isn't so, it ends with status 2.
 
-Without a terminal deskctl sends nothing where it would ask, unless `--yes` is given. A desk that is older than deskctl doesn't show what a
-proposal names: then `confirm` says so, and asks for the count of its entries."""
+Without a terminal deskctl sends nothing where it would ask, unless `--yes` is given. A desk that
+is older than deskctl doesn't show what a proposal names: then `confirm` says so, and asks for the
+count of its entries."""
 IMPORTS = """\
-The kind of a file is found by its bytes. Signature lists may stand behind EFI_VARIABLE_AUTHENTICATION_2, as sign-efi-sig-list
-and sbvarsign write it (its lengths and GUIDs are tested, its time is shown, which may be zeros, its signature isn't verified), behind the
-four bytes of attributes that efivarfs puts before a variable, or behind both. The desk's CSV and a level's text go as they are. Of Microsoft's dbx_info_msft, JSON
-or CSV, the Authenticode hashes are taken, of all architectures or of `--arch`. Texts are read as UTF-8, and nothing stands before the header
-of CSV.
+The kind of a file is found by its bytes. Signature lists may stand behind
+EFI_VARIABLE_AUTHENTICATION_2, as sign-efi-sig-list and sbvarsign write it (its lengths and GUIDs
+are tested, its time is shown, which may be zeros, its signature isn't verified), behind the four
+bytes of attributes that efivarfs puts before a variable, or behind both. The desk's CSV and a
+level's text go as they are. Of Microsoft's dbx_info_msft, JSON or CSV, the Authenticode hashes
+are taken, of all architectures or of `--arch`. Texts are read as UTF-8, and nothing stands before
+the header of CSV.
 
-Left out, and counted: hashes of whole files, certificates without their TBSCertificate, and versions of Windows' boot programs, which have
-the form of a digest in a list but are none. The desk doesn't keep the owner of an entry, nor a certificate's time of revocation: it is
-revoked whenever it signed. `--dry-run` says all of this and sends nothing; it needs a desk only to count what is new."""
+Left out, and counted: hashes of whole files, certificates without their TBSCertificate, and
+versions of Windows' boot programs, which have the form of a digest in a list but are none. The
+desk doesn't keep the owner of an entry, nor a certificate's time of revocation: it is revoked
+whenever it signed. `--dry-run` says all of this and sends nothing; it needs a desk only to count
+what is new."""
 FILES = (
-    ("~/.config/deskctl.conf", "The settings. `XDG_CONFIG_HOME` moves it, `DESKCTL_CONF` names another file."),
-    ("~/.local/state/deskctl/", "The journal, a file for each command without an answer, of mode 0600. `XDG_STATE_HOME` moves it."),
+    (
+        "~/.config/deskctl.conf",
+        "The settings. `XDG_CONFIG_HOME` moves it, `DESKCTL_CONF` names another file.",
+    ),
+    (
+        "~/.local/state/deskctl/",
+        (
+            "The journal, a file for each command without an answer, of mode 0600. `XDG_STATE_HOME`"
+            " moves it."
+        ),
+    ),
 )
 ENVIRONMENT = (
-    ("DESK_URL, DESK_TOKEN_FILE, DESK_CA, DESK_CERT, DESK_CERT_KEY, DESK_NAME, DESK_PROGRAM", "As the options of these names."),
+    (
+        "DESK_URL, DESK_TOKEN_FILE, DESK_CA, DESK_CERT, DESK_CERT_KEY, DESK_NAME, DESK_PROGRAM",
+        "As the options of these names.",
+    ),
     ("DESK_TOKEN", "Not read."),
 )
 EXAMPLES = """\
@@ -99,13 +128,15 @@ A build system asks for a signature, and waits a day for it:
         | sed -n 's/^request \\([0-9]*\\) .*/\\1/p')
     deskctl wait "$number" --timeout 86400
 
-A signing machine signs a copy that nobody else can change, and verifies what it signed before it hands it in:
+A signing machine signs a copy that nobody else can change, and verifies what it signed before it
+hands it in:
 
     cd ~/signing && cp /srv/images/shimx64.efi . && sha256sum shimx64.efi
     sbsign --key KEY --cert signer.pem --output signed.efi shimx64.efi
     sbverify --cert signer.pem signed.efi && deskctl return 7 signed.efi
 
-An officer proposes to revoke what was built from a broken source, and another one looks at it and confirms it:
+An officer proposes to revoke what was built from a broken source, and another one looks at it and
+confirms it:
 
     deskctl revoke old/*.efi
     deskctl raise grub 5 --stamp 2026112701
@@ -134,8 +165,13 @@ def shielded(line: str) -> str:
 def filled(text: str) -> List[str]:
     """A paragraph, its `words` in bold."""
     parts = re.split(r"`([^`]+)`", " ".join(text.split()))
-    text = "".join(plain(part) if at % 2 == 0 else f"\\fB{typed(part)}\\fR" for at, part in enumerate(parts))
-    return [shielded(line) for line in textwrap.wrap(text, WIDTH, break_long_words=False, break_on_hyphens=False)]
+    text = "".join(
+        plain(part) if at % 2 == 0 else f"\\fB{typed(part)}\\fR" for at, part in enumerate(parts)
+    )
+    return [
+        shielded(line)
+        for line in textwrap.wrap(text, WIDTH, break_long_words=False, break_on_hyphens=False)
+    ]
 
 
 def example(lines: Sequence[str]) -> List[str]:
@@ -164,29 +200,58 @@ def named(rows: Sequence[Tuple[str, str]]) -> List[str]:
 
 
 def worded(words: Sequence[Any]) -> List[Tuple[str, str]]:
-    return [(shown_option(names, more) if names[0].startswith("-") else more["metavar"], more["help"] + ".") for names, more in words]
+    return [
+        (
+            shown_option(names, more) if names[0].startswith("-") else more["metavar"],
+            more["help"] + ".",
+        )
+        for names, more in words
+    ]
 
 
 def commands_part() -> List[str]:
     found: List[str] = []
     for one in COMMANDS:
         found += [f'.SS "\\fBdeskctl {typed(one.name)}\\fR {typed(one.usage)}"']
-        found += filled(one.does[0].upper() + one.does[1:] + "." + (f" It is for {one.who}." if one.who else ""))
-        found += named(worded(one.words)) + ([".PP"] + filled(one.more) if one.more else []) + example([one.example])
+        found += filled(
+            one.does[0].upper() + one.does[1:] + "." + (f" It is for {one.who}." if one.who else "")
+        )
+        found += (
+            named(worded(one.words))
+            + ([".PP"] + filled(one.more) if one.more else [])
+            + example([one.example])
+        )
     return found
 
 
 def page() -> str:
-    date = time.strftime("%Y-%m-%d", time.gmtime(int(os.environ.get("SOURCE_DATE_EPOCH", time.time()))))
+    date = time.strftime(
+        "%Y-%m-%d", time.gmtime(int(os.environ.get("SOURCE_DATE_EPOCH", time.time())))
+    )
     parts = (
-        ("SYNOPSIS", ["\\fBdeskctl\\fR \\fICOMMAND\\fR [\\fIWORD\\fR..] [\\fIOPTION\\fR..]"]), ("DESCRIPTION", roff(ABOUT)),
-        ("COMMANDS", commands_part()), ("OPTIONS", named(worded(OPTIONS))), ("SETTINGS", roff(SETTINGS)),
-        ("A COMMAND ACTS ONCE", roff(ONCE)), ("QUESTIONS", roff(QUESTIONS)), ("IMPORTS", roff(IMPORTS)),
-        ("EXIT STATUS", named([(str(status), text[0].upper() + text[1:] + ".") for status, text in STATUSES])),
-        ("FILES", named(FILES)), ("ENVIRONMENT", named(ENVIRONMENT)), ("EXAMPLES", roff(EXAMPLES)),
+        ("SYNOPSIS", ["\\fBdeskctl\\fR \\fICOMMAND\\fR [\\fIWORD\\fR..] [\\fIOPTION\\fR..]"]),
+        ("DESCRIPTION", roff(ABOUT)),
+        ("COMMANDS", commands_part()),
+        ("OPTIONS", named(worded(OPTIONS))),
+        ("SETTINGS", roff(SETTINGS)),
+        ("A COMMAND ACTS ONCE", roff(ONCE)),
+        ("QUESTIONS", roff(QUESTIONS)),
+        ("IMPORTS", roff(IMPORTS)),
+        (
+            "EXIT STATUS",
+            named([(str(status), text[0].upper() + text[1:] + ".") for status, text in STATUSES]),
+        ),
+        ("FILES", named(FILES)),
+        ("ENVIRONMENT", named(ENVIRONMENT)),
+        ("EXAMPLES", roff(EXAMPLES)),
         ("SEE ALSO", ["desk(1), desk-http(7), sbverify(1), sbsign(1)"]),
     )
-    found = [".nr HY 0", ".ad l", f'.TH DESKCTL 1 {date} "Kovelamiru {VERSION}" Kovelamiru', ".SH NAME"]
+    found = [
+        ".nr HY 0",
+        ".ad l",
+        f'.TH DESKCTL 1 {date} "Kovelamiru {VERSION}" Kovelamiru',
+        ".SH NAME",
+    ]
     found.append("deskctl \\- signing requests and revocations at a Secure Boot desk")
     for title, lines in parts:
         found += [f'.SH "{title}"'] + lines
@@ -207,7 +272,9 @@ def kind_of(more: Dict[str, Any]) -> str:
 
 def split(words: Sequence[Any]) -> Tuple[List[Any], List[Any]]:
     """The options among words, and those that are named by their place."""
-    return [it for it in words if it[0][0].startswith("-")], [it for it in words if not it[0][0].startswith("-")]
+    return [it for it in words if it[0][0].startswith("-")], [
+        it for it in words if not it[0][0].startswith("-")
+    ]
 
 
 def bash() -> str:
@@ -227,7 +294,10 @@ def bash() -> str:
                 values.setdefault(name, kind_of(more))
     values["--state"] = "STATES"
     return BASH.format(
-        names=names, general=general, rows="\n".join(rows), files="|".join(it for it, kind in values.items() if kind == "FILES"),
+        names=names,
+        general=general,
+        rows="\n".join(rows),
+        files="|".join(it for it, kind in values.items() if kind == "FILES"),
         texts="|".join(it for it, kind in values.items() if kind == ""),
     )
 
@@ -235,7 +305,8 @@ def bash() -> str:
 BASH = """\
 # Completions of deskctl(1) for bash, written by client/pages.py.
 _deskctl() {{
-    local word=${{COMP_WORDS[COMP_CWORD]}} before=${{COMP_WORDS[COMP_CWORD - 1]}} command='' options='' many='' at=0 skip='' one kind
+    local word=${{COMP_WORDS[COMP_CWORD]}} before=${{COMP_WORDS[COMP_CWORD - 1]}}
+    local command='' options='' many='' at=0 skip='' one kind
     local -a places=()
     COMPREPLY=()
     for one in "${{COMP_WORDS[@]:1:COMP_CWORD - 1}}"; do
@@ -253,7 +324,10 @@ _deskctl() {{
     case $before in
         {files}) kind=FILES ;;
         {texts}) return 0 ;;
-        --state) if [ "$command" = proposals ]; then kind='open confirmed dropped'; else kind='open approved rejected withdrawn signed'; fi ;;
+        --state)
+            kind='open approved rejected withdrawn signed'
+            if [ "$command" = proposals ]; then kind='open confirmed dropped'; fi
+            ;;
         *)
             if [[ $word == -* ]]; then kind="$options {general} --help"
             elif [ -z "$command" ]; then kind='{names} help'
@@ -294,27 +368,46 @@ def zsh() -> str:
     lines = ["#compdef deskctl", "# Completions of deskctl(1) for zsh, written by client/pages.py."]
     lines += ["local context state line", "local -a commands options", "commands=("]
     lines += [f"    '{one.name}:{quoted(one.does)}'" for one in COMMANDS] + [")", "options=("]
-    lines += [f"    {zsh_word(names, more, 0)}" for names, more in OPTIONS] + ["    '--help[show help]'", ")"]
-    lines += ["_arguments -C $options '1:command:->command' '*::word:->word' && return", "case $state in"]
-    lines += ["    command) _describe command commands ;;", "    word)", "        case $words[1] in"]
+    lines += [f"    {zsh_word(names, more, 0)}" for names, more in OPTIONS] + [
+        "    '--help[show help]'",
+        ")",
+    ]
+    lines += [
+        "_arguments -C $options '1:command:->command' '*::word:->word' && return",
+        "case $state in",
+    ]
+    lines += [
+        "    command) _describe command commands ;;",
+        "    word)",
+        "        case $words[1] in",
+    ]
     for one in COMMANDS:
         options, places = split(one.words)
-        words = [zsh_word(names, more, 0) for names, more in options] + [zsh_word(names, more, at) for at, (names, more) in enumerate(places, 1)]
+        words = [zsh_word(names, more, 0) for names, more in options] + [
+            zsh_word(names, more, at) for at, (names, more) in enumerate(places, 1)
+        ]
         lines.append(f"            {one.name}) _arguments $options {' '.join(words)} ;;")
     return "\n".join(lines + ["        esac", "        ;;", "esac"]) + "\n"
 
 
 def fish() -> str:
-    lines = ["# Completions of deskctl(1) for fish, written by client/pages.py.", "complete -c deskctl -f"]
+    lines = [
+        "# Completions of deskctl(1) for fish, written by client/pages.py.",
+        "complete -c deskctl -f",
+    ]
     for one in COMMANDS:
-        lines.append(f"complete -c deskctl -n __fish_use_subcommand -a {one.name} -d '{fish_text(one.does)}'")
+        lines.append(
+            f"complete -c deskctl -n __fish_use_subcommand -a {one.name} -d '{fish_text(one.does)}'"
+        )
         options, places = split(one.words)
         lines += [fish_option(names, more, one.name) for names, more in options]
         for kind in dict.fromkeys(kind_of(more) for _, more in places):
             if kind == "FILES":
                 lines.append(f"complete -c deskctl -n '__fish_seen_subcommand_from {one.name}' -F")
             elif kind:
-                lines.append(f"complete -c deskctl -n '__fish_seen_subcommand_from {one.name}' -a '{kind}'")
+                lines.append(
+                    f"complete -c deskctl -n '__fish_seen_subcommand_from {one.name}' -a '{kind}'"
+                )
     return "\n".join(lines + [fish_option(names, more, "") for names, more in OPTIONS]) + "\n"
 
 
@@ -326,12 +419,19 @@ def fish_option(names: Sequence[str], more: Dict[str, Any], command: str) -> str
     where = f" -n '__fish_seen_subcommand_from {command}'" if command else ""
     kind = kind_of(more)
     value = {"-": "", "": " -x", "FILES": " -r -F"}.get(kind, f" -x -a '{kind}'")
-    shown = " ".join(f"-l {name[2:]}" if name.startswith("--") else f"-s {name[1:]}" for name in names)
+    shown = " ".join(
+        f"-l {name[2:]}" if name.startswith("--") else f"-s {name[1:]}" for name in names
+    )
     return f"complete -c deskctl{where} {shown}{value} -d '{fish_text(more['help'])}'"
 
 
 def main() -> None:
-    for name, text in (("deskctl.1", page()), ("deskctl.bash", bash()), ("_deskctl", zsh()), ("deskctl.fish", fish())):
+    for name, text in (
+        ("deskctl.1", page()),
+        ("deskctl.bash", bash()),
+        ("_deskctl", zsh()),
+        ("deskctl.fish", fish()),
+    ):
         with open(os.path.join(sys.argv[1], name), "w", encoding="utf-8") as out:
             out.write(text)
 
