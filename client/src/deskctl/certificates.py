@@ -6,7 +6,7 @@ import binascii
 import hashlib
 import re
 from dataclasses import dataclass
-from typing import List, Optional
+from typing import List, Optional, Union
 
 from .faults import wrong
 from .files import CERTIFICATE_LIMIT, looks_like, read_file
@@ -45,7 +45,7 @@ class Element:
     shortest: bool
 
 
-def element(data: bytes) -> Element:
+def element(data: Union[bytes, memoryview]) -> Element:
     """The element that begins these bytes."""
     if len(data) < 2 or data[0] & 0x1F == 0x1F:
         raise BadDer("cut")
@@ -58,15 +58,16 @@ def element(data: bytes) -> Element:
     if len(data) - begin < length:
         raise BadDer("cut")
     shortest = begin == 2 or length >= max(0x80, 1 << 8 * (begin - 3))
-    return Element(data[0], data[: begin + length], data[begin : begin + length], shortest)
+    end = begin + length
+    return Element(data[0], bytes(data[:end]), bytes(data[begin:end]), shortest)
 
 
 def elements(data: bytes) -> List[Element]:
     """The elements that fill these bytes."""
-    found = []
-    while data:
-        found.append(element(data))
-        data = data[len(found[-1].whole) :]
+    found, rest = [], memoryview(data)
+    while rest:
+        found.append(element(rest))
+        rest = rest[len(found[-1].whole) :]
     return found
 
 
