@@ -60,7 +60,7 @@ export function certificateFile(label, take) {
         take(null);
         if (!chosen) return;
         const found = certificateIn(chosen.bytes);
-        if ('fault' in found) return fill(said, h('p', { class: 'fault' }, `${chosen.file.name}: ${found.fault}`));
+        if ('fault' in found) return fill(said, h('p', { class: 'fault' }, found.fault));
         const { tbs, ...of } = told(found.der);
         const it = { der: found.der, name: await sha256(tbs), ...of };
         fill(said, box('note', certificateFacts(it)));

@@ -42,7 +42,7 @@ LOOKS = [
     (b"a text of another kind", "It is of no kind that is known here.", False),
     (b'{"images": {}}', "has no images with an authenticodeHash", False),
     (MICROSOFT, "1 digest, which is new.", True),
-    (MICROSOFT, "Left out: 1 hash of a whole file. As digests they would bar nothing.", True),
+    (MICROSOFT, "Left out: 1 hash of a whole file. A whole file’s hash bars nothing.", True),
     (MICROSOFT, "Images of arm64 and x64; all of them are taken.", True),
     (CSV.encode("utf-16"), "It is text in UTF-16.", False),
     (b"sep=,\n" + CSV.encode(), "The first line of a table has to be its header, as kind,value,generation", False),
