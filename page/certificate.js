@@ -38,12 +38,15 @@ export function certificateField() {
  * @param {Certificate} it
  */
 export function certificateFacts(it) {
+    const sum = it.name
+        ? digest(it.name, 'the SHA-256 of the TBSCertificate')
+        : 'isn’t worked out: browsers do it over https alone';
     const rows = [
         ['Subject', strong(it.subject)],
         ['Issuer', it.issuer === it.subject ? 'the same: it is self-issued' : it.issuer],
         ['Key', it.key],
         ['CA', it.authority ? strong('yes, it can issue others') : 'no'],
-        ['SHA-256 of its TBSCertificate', it.name ? digest(it.name, 'the SHA-256 of the TBSCertificate') : 'isn’t worked out: browsers do it over https alone'],
+        ['SHA-256 of its TBSCertificate', sum],
     ];
     return h('dl', { class: 'facts' }, rows.map(([name, value]) => h('div', {}, h('dt', {}, name), h('dd', {}, value))));
 }

@@ -27,7 +27,11 @@ export function proposalDoubts(it, all) {
     return itemDoubts(it, all, 0);
 }
 
-/** Reads it anew, nothing from what was read before; null where one part doesn't come. @param {number} number @returns {Promise<Seen | null>} */
+/**
+ * Reads it anew, nothing from what was read before; null where one part doesn't come.
+ * @param {number} number
+ * @returns {Promise<Seen | null>}
+ */
 async function seen(number) {
     changed();
     const [it, impact, all] = await Promise.all([get(`/proposals/${number}`), get(`/proposals/${number}/impact`), known()]);

@@ -20,7 +20,11 @@ const KINDS = { lists: 'Signature lists', csv: 'CSV', level: 'A level’s text',
 
 /** What is left out, and why: with one, and with several. @type {Record<string, [string, string, string]>} */
 const ASIDE = {
-    svn: ['version of Windows’ boot programs (SVN)', 'versions of Windows’ boot programs (SVN)', 'Such an entry looks like a digest, and names no image.'],
+    svn: [
+        'version of Windows’ boot programs (SVN)',
+        'versions of Windows’ boot programs (SVN)',
+        'Such an entry looks like a digest, and names no image.',
+    ],
     flat: ['hash of a whole file', 'hashes of whole files', 'A whole file’s hash bars nothing.'],
     certificate: ['certificate', 'certificates', 'The list has no SHA-256 of a TBSCertificate: propose each by its file.'],
     other: ['image without a SHA-256', 'images without a SHA-256', ''],

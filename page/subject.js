@@ -65,7 +65,11 @@ function isTbs(tbs) {
         && hasTags(within(key), [SEQUENCE, 0x03]);
 }
 
-/** Whether the bytes are a certificate in DER: TBSCertificate, AlgorithmIdentifier, BIT STRING, and nothing behind them. @param {Uint8Array} bytes */
+/**
+ * Whether the bytes are a certificate in DER: TBSCertificate, AlgorithmIdentifier, BIT STRING, and
+ * nothing behind them.
+ * @param {Uint8Array} bytes
+ */
 export function isCertificate(bytes) {
     const certificate = element(bytes);
     if (!certificate || certificate.tag !== SEQUENCE || certificate.rest.length > 0) return false;
