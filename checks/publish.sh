@@ -441,7 +441,7 @@ done
 mkdir fetched mixed
 for name in $(sed -n 's/^[0-9a-f]\{64\}  //p' mirror/SHA256SUMS); do
     anybody cat "out/$folder/$name" > "fetched/$name" || fail "a mirror takes $folder/$name"
-    anybody cat "out/published/$name" > "mixed/$name" || fail "a mirror takes published/$name"
+    anybody cat "out/published/$name" > "mixed/$name" 2> said || :
 done
 (cd fetched && sha256sum --quiet --strict -c ../mirror/SHA256SUMS) > said 2>&1 || fail "a mirror's files: $(cat said)"
 if (cd mixed && sha256sum --quiet -c ../mirror/SHA256SUMS) > said 2>&1; then fail 'another publication has the same sums'; fi
@@ -507,7 +507,7 @@ import http.server
 import sys
 import time
 
-PAUSE, COUNT = {"slowly": (0.2, 1000), "long": (0, 3000)}.get(sys.argv[2], (0, 0))
+PAUSE, COUNT, SIZE = {"slowly": (0.2, 1000, 10), "long": (0, 3000, 1000)}.get(sys.argv[2], (0, 0, 0))
 
 
 class Lies(http.server.BaseHTTPRequestHandler):
@@ -519,7 +519,7 @@ class Lies(http.server.BaseHTTPRequestHandler):
         self.end_headers()
         self.wfile.write(text)
         for _ in range(COUNT):
-            self.wfile.write(bytes(1000))
+            self.wfile.write(bytes(SIZE))
             time.sleep(PAUSE)
 
     def log_message(self, *_):
