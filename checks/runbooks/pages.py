@@ -627,7 +627,7 @@ def main() -> None:
             print(f"{running[done]}: {counts[running[done]]} commands in {seconds:.0f} s", flush=True)
     lines = pasted(program, Path(room) / "pasted") if not names else 0
     print(f"{sum(counts.values())} commands of {len(counts)} runbooks, each with the lines that its page has, as "
-          f"{len(users) or 'one'} users; {lines} lines of README pasted")
+          f"{f'{len(users)} users' if users else 'one user'}; {lines} lines of README pasted")
 
 
 main()
