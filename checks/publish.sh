@@ -96,7 +96,7 @@ NAMES
     [ "$(sed -n 's/^# calls //p' out/published/SHA256SUMS)" = "$1" ] || fail "the sums are of other calls than $1: $(cat out/published/SHA256SUMS)"
     [ "$(sed -n 's/^# folder //p' out/published/SHA256SUMS)" = "$(readlink out/published)" ] || fail "the sums name another folder: $(cat out/published/SHA256SUMS)"
     date=$(sed -n 's/^# date \(....-..-..T..:..:..Z\)$/\1/p' out/published/SHA256SUMS)
-    if [ -z "$date" ] || [ $(($(date +%s) - $(date -d "$date" +%s))) -gt 600 ]; then fail "the sums are of another day: $(cat out/published/SHA256SUMS)"; fi
+    if [ -z "$date" ] || [ $(($(date +%s) - $(date -d "$date" +%s))) -gt 86400 ]; then fail "the sums are of another day: $(cat out/published/SHA256SUMS)"; fi
     [ "$(head -n 1 out/published/audit.txt)" = "calls $1" ] || fail "published: $(cat out/published/audit.txt), in place of calls $1"
     [ "$(wc -l < out/published/minutes.txt)" -eq "$1" ] || fail "the published minutes have $(wc -l < out/published/minutes.txt) calls"
     found=$((found + 1))
