@@ -337,6 +337,8 @@ def listing(part: Part) -> None:
         told = all(name in shown for name in names) and f"At {part.url} each image that carries it is then allowed. List it?" in shown
         if ended != status or not told or ("listed" in shown.replace("list-", "")) != (status == 0):
             fail(f"list-certificate, {typed!r} typed: status {ended}: {shown!r}")
+    part.program.file("long.der", b"\x30\x83\x01\x00\x00" + bytes(65_536))
+    unsent(part, olga, ("list-certificate", "long.der", "--yes"), "has 65,541 bytes, and a certificate at most 65,536")
     # What isn't one names nothing anywhere.
     part.program.file("request.der", next(case["bytes"] for case in cases("certificates") if case["name"] == "a certificate request in DER"))
     for words in (("revoke", "--certificate"), ("unlist", "certificate"), ("list-certificate",)):

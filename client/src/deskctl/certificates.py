@@ -205,6 +205,8 @@ def certificate_of(path: str) -> Certificate:
             inner = base64.b64decode(b"".join(found[0][1].split()), validate=True)
         except binascii.Error:
             wrong(f"{path}: the PEM is spoiled")
+    if len(inner) > CERTIFICATE_LIMIT:
+        wrong(f"{path} has {len(inner):,} bytes, and a certificate at most {CERTIFICATE_LIMIT:,}")
     certificate = certificate_in(inner)
     if certificate is None:
         wrong(

@@ -10,7 +10,7 @@ from typing import Callable, Dict, List, Optional, Sequence, Tuple
 from .api import Call
 from .certificates import certificate_of
 from .faults import Causes, Refused, wrong
-from .files import CERTIFICATE_LIMIT, ENTRY_LIMIT
+from .files import ENTRY_LIMIT
 from .formats import csv_of
 from .images import facts_of
 from .journal import Replies, Run, act
@@ -60,11 +60,6 @@ CA_DOUBT = (
 
 def list_certificate(run: Run) -> None:
     found = certificate_of(run.words.file)
-    if len(found.data) > CERTIFICATE_LIMIT:
-        wrong(
-            f"{run.words.file} has {len(found.data):,} bytes, and a certificate at most"
-            f" {CERTIFICATE_LIMIT:,}"
-        )
     call = Call(
         "POST", "/db/certificates", found.data, (), "listed", f"list-certificate {found.tbs}"
     )
