@@ -57,7 +57,7 @@ function shows(command, place) {
     if (command.state === 'sending') fill(place, quiet(`${command.what}: sent, waiting for the desk…`));
     if (command.state === 'again') fill(
         place,
-        box('care', p(`${lostWords(command.status)} Asking again with the same key…`)),
+        box('care', p(`${lostWords(command.lost)} Asking again with the same key…`)),
     );
     if (command.state === 'lost') fill(place, lostBox(command));
 }
@@ -70,7 +70,7 @@ export function lostBox(command) {
     return box('care',
         p(
             strong(`${command.what}: no answer.`),
-            ` ${lostWords(command.status)} The desk may have accepted it or not.`,
+            ` ${lostWords(command.lost)} The desk may have accepted it or not.`,
             ' Asking again is safe: it has the same key, so it acts once.',
         ),
         buttons(button('Ask again', () => command.askAgain(), 'main'), button('Give up', () => command.forget())));
@@ -89,12 +89,16 @@ function stopped(command, sent) {
     );
 }
 
-/** @param {number} status of a response that isn't the desk's */
-export function lostWords(status) {
+/**
+ * Why there is no answer that tells what the desk did.
+ * @param {{ status: number, name?: string }} lost the name is that of a refusal by the desk
+ */
+export function lostWords({ status, name }) {
     if (status === 429) return 'Too many requests came from here at once (429), so the proxy refused this one.';
     if (status === 502) return 'The proxy couldn’t reach the desk (502): it may be restarting.';
     if (status === 504) return 'The desk didn’t answer the proxy in time (504).';
-    if (status === 503) return 'The desk has no memory, or its disk failed (503).';
+    if (status === 503 && name) return `The desk has no memory, or its disk failed (503 ${name}).`;
+    if (status === 503) return 'The desk is closed (503): somebody works on it. Nothing is lost by waiting.';
     if (status >= 500) return `The proxy failed (${status}).`;
     if (status === 200) return 'Something else answered in the desk’s place (200).';
     if (status >= 400) return `This try was refused unread (${status}), which doesn’t tell what came of the one before.`;
@@ -108,7 +112,7 @@ export function lostWords(status) {
  */
 export function refusalBox(answer, again) {
     const more = again ? buttons(button('Try again', again)) : null;
-    if (answer.kind === 'lost') return box('care', p(strong('No answer. '), lostWords(answer.status)), more);
+    if (answer.kind === 'lost') return box('care', p(strong('No answer. '), lostWords(answer)), more);
     const { why, todo } = explained(answer);
     const number = answer.number ? ` (${answer.number})` : '';
     return box(

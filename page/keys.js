@@ -62,8 +62,8 @@ export class Command {
         this.turn = turn;
         /** `idle`, `sending`, `again` while it asks by itself, `lost` while it waits for the button */
         this.state = 'idle';
-        /** The status of the last answer that wasn't the desk's; 0 if there was none. */
-        this.status = 0;
+        /** The last answer that didn't tell what the desk did. @type {{ status: number, name?: string }} */
+        this.lost = { status: 0 };
         /** Ends the wait for the button. */
         this.release = (/** @type {boolean} */ _again) => {};
     }
@@ -87,7 +87,7 @@ export class Command {
         how.stop?.addEventListener('abort', () => this.forget());
         let answer = await this.tries(show, how);
         while (answer.kind === 'lost') {
-            this.status = answer.status;
+            this.lost = answer;
             this.becomes('lost', show);
             const again = await new Promise((resolve) => (this.release = resolve));
             answer = again ? await this.tries(show, how) : STOPPED;
@@ -106,7 +106,7 @@ export class Command {
         let answer = await this.send(how);
         for (const wait of PAUSES) {
             if (answer.kind !== 'lost') return answer;
-            this.status = answer.status;
+            this.lost = answer;
             this.becomes('again', show);
             await pause(wait, how.stop);
             if (how.stop?.aborted || this.isGone()) return STOPPED;

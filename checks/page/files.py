@@ -65,7 +65,11 @@ import('/page/asking.js').then((asking) => asking.known()).then(async (known) =>
 })
 """
 # What the page says of an answer of the proxy, by its status.
-STATUSES = {0: "The connection was lost.", 429: "Too many requests", 502: "couldn’t reach the desk (502)", 503: "no memory", 504: "in time (504)", 500: "The proxy failed (500)."}
+STATUSES = {
+    "{status: 0}": "The connection was lost.", "{status: 429}": "Too many requests", "{status: 502}": "couldn’t reach the desk (502)",
+    "{status: 503, name: 'Store'}": "its disk failed (503 Store)", "{status: 503, name: ''}": "The desk is closed (503)", "{status: 504}": "in time (504)",
+    "{status: 500}": "The proxy failed (500).", "{status: 404}": "refused unread (404)", "{status: 200}": "in the desk’s place (200)",
+}
 
 
 def odd(browser: Browser, place: Place) -> int:
@@ -85,8 +89,8 @@ def odd(browser: Browser, place: Place) -> int:
     }})()""")
     if cut != [0, 28 + 96, 28 + 96 + 28 + 16 + len(CERTIFICATE), len(LISTS)]:
         fail(f"signature lists are whole when cut at {cut}")
-    for status, told in STATUSES.items():
-        found = browser.module("act.js", f"it.lostWords({status})")
+    for lost, told in STATUSES.items():
+        found = browser.module("act.js", f"it.lostWords({lost})")
         if told not in str(found):
-            fail(f"the words for {status}: {found}")
+            fail(f"the words for {lost}: {found}")
     return len(LOOKS) + len(LISTS) + len(STATUSES)
