@@ -57,7 +57,7 @@ program=$at/crates/desk_bench/out/desk_bench
 rm -f "$program" "$program.stamp"
 (cd "$at/crates/desk_bench" && rt run > "$at/build.log" 2>&1) || :
 [ -x "$program" ] || fail "no program: $(tail -n 20 "$at/build.log")"
-# As ./desk runs the program, unless the variable is set: with `glibc.malloc.hugetlb=0` it is
+# As the service runs the program, unless the variable is set: with `glibc.malloc.hugetlb=0` it is
 # without large pages.
 GLIBC_TUNABLES=${GLIBC_TUNABLES:-glibc.malloc.hugetlb=1}
 export GLIBC_TUNABLES

@@ -1,6 +1,6 @@
 #!/bin/sh
 # bench/large_pages.sh [PROGRAM] [DIGESTS] [ROUNDS]: the cost of a subcommand with its memory in
-# large pages, as ./desk runs the program, and without: `desk level` on a new desk and on one of
+# large pages, as the service runs the program, and without: `desk level` on a new desk and on one of
 # 100,000 revoked digests, or the given number, with and without in turn, 100 rounds. For each the
 # least and the median of processor time, of the clock and of the most memory (getrusage). A kernel
 # that always or never gives large pages shows no difference. Not part of the gate: it needs sqlite3

@@ -45,8 +45,8 @@ HTTP = """\
 `Desk-Token` says who calls: it has the token whose SHA-256 `desk enrol` was given. `Desk-Key` names a command: sent again under the same key,
 the same command gets the same answer and acts once."""
 ENVIRONMENT = """\
-`GLIBC_TUNABLES=glibc.malloc.hugetlb=1` makes the C library ask for large pages, so that a subcommand on a small desk is quicker. The
-service sets it."""
+`GLIBC_TUNABLES=glibc.malloc.hugetlb=1` makes the C library ask for large pages, so that `serve` takes its memory sooner. The service
+sets it."""
 EXAMPLES = """\
 One officer proposes to raise a generation of the level, and another one confirms it:
 

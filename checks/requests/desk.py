@@ -231,8 +231,7 @@ class Program:
         self.path = path
         self.room = tempfile.TemporaryDirectory(prefix="desk-requests-")
         ROOMS.add(self.room.name)
-        # As ./desk runs it: a small desk opens in half the time.
-        self.env = {**os.environ, "GLIBC_TUNABLES": os.environ.get("GLIBC_TUNABLES", "glibc.malloc.hugetlb=1")}
+        self.env = {**os.environ}
 
     def __enter__(self):
         return self
