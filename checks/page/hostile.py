@@ -188,7 +188,8 @@ def stopped(browser: Browser, place: Place) -> None:
     """An upload shows how far it is, and can be stopped."""
     before = place.ask("ann", "GET", "/requests").body
     large = place.room / "large.efi"
-    large.write_bytes(unsigned(104) + bytes(3_000_000))
+    # (some two minutes at the rate below: time to stop it on a busy machine, too)
+    large.write_bytes(unsigned(104) + bytes(48_000_000))
     browser.sign_in(token("ann"))
     browser.go("submit")
     browser.fill("Title", "too large for this line")
