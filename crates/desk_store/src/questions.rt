@@ -10,7 +10,7 @@ ghost use Rattle.store_reads.specs.People.{IsOneOf};
 ghost use Rattle.store_reads.specs.Reads.{listed};
 ghost use Rattle.desk_rules.specs.Shown.{Shows};
 ghost use Rattle.desk_rules.specs.Views.{ShowsLists, keys_of};
-ghost use Rattle.store_requests.specs.Lists.{HoldsShown};
+ghost use Rattle.desk_exports.specs.Readings.{HoldsShown};
 ghost use Rattle.store_requests.specs.Telling.{IsOfficerRefusal, IsReaderRefusal, IsRequestRefusal};
 ghost use Rattle.store_views.specs.remembered.Current.{IsCurrent};
 ghost use Rattle.store_views.specs.sizes.Sizes.{AreRight};

@@ -4,7 +4,7 @@ ghost use Rattle.sqlite.specs.Held.{state};
 ghost use Rattle.sqlite.specs.State.{HasCleanDisk};
 ghost use Rattle.desk_history.specs.Shown.{IsShown, request_for, requests_for};
 ghost use Rattle.desk_history.specs.Shown.{proposals_for, shown_proposal};
-ghost use Rattle.store_requests.specs.Lists.{HoldsShown};
+ghost use Rattle.desk_exports.specs.Readings.{HoldsShown};
 ghost use Rattle.desk_store.specs.Desks.{ForEachShown, ReadsDesk};
 ghost use Rattle.desk_store.specs.Showing.{IsReadingRefusal};
 
