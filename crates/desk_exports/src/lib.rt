@@ -7,6 +7,7 @@ mod export;
 mod laws;
 mod octets;
 mod reading;
+mod request_list;
 mod shown;
 mod shown_people;
 mod shown_proposals;
@@ -18,6 +19,7 @@ pub use laws::{
 };
 pub use octets::Octets;
 pub use reading::Reading;
+pub use request_list::RequestList;
 pub use shown::Shown;
 pub use shown_people::ShownPeople;
 pub use shown_proposals::ShownProposals;

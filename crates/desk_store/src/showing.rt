@@ -14,7 +14,7 @@ use desk_bytes::Refusal;
 use desk_texts::{Caller, Proposal, RequestNumber, ShownRequest};
 use sqlite::Alter;
 use std::marker::PhantomData;
-use store_requests::RequestList;
+use desk_exports::RequestList;
 
 impl<S: Alter + Drop> Desk<S> {
     /// The request of this number, as the caller is shown it: its facts, its state, the votes on it

@@ -10,7 +10,6 @@ mod officer;
 mod parts;
 mod proposed;
 mod reader;
-mod request_list;
 mod showing;
 mod whole_proposal;
 
@@ -19,6 +18,5 @@ pub use listing::requests_of;
 pub use minute_lines::minutes_from;
 pub use proposed::proposals_of;
 pub use reader::reader_of;
-pub use request_list::RequestList;
 pub use showing::request;
 pub use whole_proposal::proposal_of;
