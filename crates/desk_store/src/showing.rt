@@ -11,10 +11,10 @@ ghost use Rattle.desk_store.specs.Showing.{IsReadingRefusal};
 use crate::desk::Desk;
 use crate::questions::{AllProposals, AllRequests, OneRequest};
 use desk_bytes::Refusal;
+use desk_exports::RequestList;
 use desk_texts::{Caller, Proposal, RequestNumber, ShownRequest};
 use sqlite::Alter;
 use std::marker::PhantomData;
-use desk_exports::RequestList;
 
 impl<S: Alter + Drop> Desk<S> {
     /// The request of this number, as the caller is shown it: its facts, its state, the votes on it
