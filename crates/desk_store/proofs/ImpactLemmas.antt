@@ -1,7 +1,8 @@
 -- The answer to the question of an impact, from what its steps read.
-use Rattle.std.proofs.Common.{◌≡◌, ◌≢◌, ◌⊎◌, inl, inr, ℕ, List, Option, Some, None, option_map, Result, Ok, Err, find, map, refl, sym, ap, subst, ◌∙◌}
+use Rattle.std.proofs.Common.{◌≡◌, ◌≢◌, ◌⊎◌, inl, inr, ℕ, ◌==◌, Bool, true, List, [], ◌∷◌, length, Option, Some, None, option_map, Result, Ok, Err, find, map, arith, refl, sym, ap, subst, ◌∙◌}
 use Rattle.std.specs.Prelude.{MatchResult, not}
 use Rattle.std.specs.Option.{option_map_or, option_or}
+use Rattle.std.proofs.lemmas.Bool.Decides.{nat_tests}
 use Rattle.sqlite.specs.Store as store
 use Rattle.sqlite.specs.Held.{state}
 use Rattle.sqlite.specs.State.{HasCleanDisk}
@@ -27,11 +28,12 @@ use Rattle.desk_history.specs.Called.{called}
 use Rattle.desk_rules.specs.Shown.{Shows, is_proposal_row}
 use Rattle.desk_rules.specs.declared.view.View.{View}
 use Rattle.store_impacts.specs.Reading.{refusal_to, refused}
+use Rattle.store_impacts.specs.Barring.{UntouchedBarsNone}
 use Rattle.store_impacts.specs.Touching.{touched}
 use Rattle.store_impacts.specs.declared.touched_image.Touched.{Touched}
 use Rattle.store_reads.specs.Failures.{IsFailure}
-use Rattle.desk_store.specs.Desks.{ForEachShown}
-use Rattle.desk_store.specs.Impacts.{AreBarredBy, Foretells, GivesOutlook, IsImpactRefusal, StreamsDesk}
+use Rattle.desk_store.specs.Desks.{ForEachShown, ReadsDesk}
+use Rattle.desk_store.specs.Impacts.{AreBarredBy, Foretells, GivesOutlook, IsImpactRefusal}
 use Rattle.desk_rules.specs.Entries.{held_standing}
 use Rattle.desk_store.specs.declared.desk.Desk.{Desk}
 use Rattle.desk_store.specs.declared.impacts.Outlook.{Outlook}
@@ -114,6 +116,14 @@ shows_impact cs k w outlook images shown it touched_are are adds dbx = record {
 
 -- ---- the answer
 
+is_zero : (n : ℕ) (b : Bool) → b ≡ (n == 0) → b ≡ true → n ≡ 0
+is_zero n b e h = grind (arith, nat_tests)
+
+-- a list that is empty by its length
+pub no_items : {X : Type 0} (xs : List X) (n : ℕ) (b : Bool) → b ≡ (n == 0) → b ≡ true → n ≡ length xs → xs ≡ []
+no_items [] n b e h same = refl
+no_items (x ∷ xs) n b e h same = let none : n ≡ 0 = is_zero n b e h in absurd (omega arith)
+
 -- the due refusal is given
 pub refused_so : {A B : Type 0} (due : Result A Refusal) (refusal : Refusal) (shows : A → B → Type 0) → IsGiven due (Err refusal) shows → due ≡ Err refusal
 refused_so (Ok w) refusal shows h = absurd h
@@ -126,16 +136,31 @@ due_shows cs k (Err refusal) outlook shown h f = absurd h
 
 module _ {S : Type 0} (g : store.Ghosts S) where
   pub all_shown : {A B : Type 0} (old mid late new : Desk S) (c : Caller) (k : ℕ) (outlook : Outlook) (x : A) (y : B) (images : List Touched) (shown : ShownImpact)
-      → StreamsDesk g IsImpactRefusal old mid (Ok outlook) → StreamsDesk g IsFailure mid late (Ok x) → StreamsDesk g IsFailure late new (Ok y)
+      → ReadsDesk g IsImpactRefusal old mid (Ok outlook) → ReadsDesk g IsFailure mid late (Ok x) → ReadsDesk g IsFailure late new (Ok y)
       → (HasCleanDisk (state g mid.conn) → ForEachShown g old (λ owner cs. GivesOutlook cs c k (Ok outlook)))
       → (HasCleanDisk (state g late.conn) → ForEachShown g mid (λ owner cs. images ≡ touched (held_standing outlook.entries) cs))
       → (HasCleanDisk (state g new.conn) → ForEachShown g late (λ owner cs. AreBarredBy outlook.entries images shown.bars.items cs))
       → shown.adds ≡ outlook.foreseen.adds → shown.dbx ≡ outlook.foreseen.dbx → HasCleanDisk (state g new.conn)
       → ForEachShown g old (λ owner cs. MatchResult (impact_for cs c k) (λ w. ShowsImpact w shown) (λ _. ⊥))
   all_shown old mid late new c k outlook x y images shown one two three due found are adds dbx clean owner cs was =
-      let clean_late : HasCleanDisk (state g late.conn) = three.clean clean in
-      let clean_mid : HasCleanDisk (state g mid.conn) = two.clean clean_late in
+      let clean_late : HasCleanDisk (state g late.conn) = omega (arith, three.spares.clean, clean) in
+      let clean_mid : HasCleanDisk (state g mid.conn) = omega (arith, two.spares.clean, clean_late) in
       let then_ = one.same clean_mid (λ is. absurd cc) owner cs was in
       let last = two.same clean_late (λ is. absurd cc) owner cs then_ in
       due_shows cs k (impact_for cs c k) outlook shown (due clean_mid owner cs was)
       (λ w it. shows_impact cs k w outlook images shown it (found clean_late owner cs then_) (are clean owner cs last) adds dbx)
+
+  -- where no image is touched none is barred
+  pub none_shown : {A : Type 0} (old mid late : Desk S) (c : Caller) (k : ℕ) (outlook : Outlook) (x : A) (images : List Touched) (shown : ShownImpact)
+      → ReadsDesk g IsImpactRefusal old mid (Ok outlook) → ReadsDesk g IsFailure mid late (Ok x)
+      → (HasCleanDisk (state g mid.conn) → ForEachShown g old (λ owner cs. GivesOutlook cs c k (Ok outlook)))
+      → (HasCleanDisk (state g late.conn) → ForEachShown g mid (λ owner cs. images ≡ touched (held_standing outlook.entries) cs))
+      → UntouchedBarsNone → images ≡ [] → shown.bars.items ≡ []
+      → shown.adds ≡ outlook.foreseen.adds → shown.dbx ≡ outlook.foreseen.dbx → HasCleanDisk (state g late.conn)
+      → ForEachShown g old (λ owner cs. MatchResult (impact_for cs c k) (λ w. ShowsImpact w shown) (λ _. ⊥))
+  none_shown old mid late c k outlook x images shown one two due found law empty none adds dbx clean owner cs was =
+      let clean_mid : HasCleanDisk (state g mid.conn) = omega (arith, two.spares.clean, clean) in
+      let then_ = one.same clean_mid (λ is. absurd cc) owner cs was in
+      due_shows cs k (impact_for cs c k) outlook shown (due clean_mid owner cs was)
+      (λ w it. shows_impact cs k w outlook images shown it (found clean owner cs then_)
+      (λ n alike are. none ∙ law (held_standing outlook.entries) cs n alike (sym empty ∙ are)) adds dbx)

@@ -1,16 +1,14 @@
 -- Steps of an open desk, one after another: each leaves the history shown, or fails.
-use Rattle.std.proofs.Common.{◌≡◌, ◌≢◌, inl, inr, ℕ, List, Bool, true, false, Result, Ok, Err, refl, sym, ap, subst, ◌∙◌, arith}
+use Rattle.std.proofs.Common.{◌≡◌, ◌≢◌, inl, inr, Bool, true, false, Result, Ok, Err, refl, sym, ap, subst, ◌∙◌, arith}
 use Rattle.std.specs.Prelude.{IfErr, IsErrOf}
 use Rattle.sqlite.specs.Store as store
 use Rattle.sqlite.specs.Held.{state}
+use Rattle.sqlite.proofs.StateLemmas.{survives_then}
 use Rattle.desk_bytes.specs.declared.refusal.Refusal.{Refusal}
 use Rattle.desk_bytes.specs.declared.refusal.Refusal.TheVariants as refusals
-use Rattle.desk_history.specs.Calls.{History}
-use Rattle.store_exports.proofs.StepLemmas.{spares_then}
-use Rattle.store_schema.specs.rows.Histories.{ShowsHistory}
 use Rattle.store_reads.specs.Failures.{IsFailure}
 use Rattle.desk_store.specs.Desks.{ReadsDesk}
-use Rattle.desk_store.specs.Impacts.{IsAnswer, IsImpactRefusal, OnAnswer, StreamsDesk}
+use Rattle.desk_store.specs.Impacts.{IsAnswer, IsImpactRefusal, OnAnswer}
 use Rattle.desk_rules.specs.Foreseen.{may_foresee}
 use Rattle.desk_store.specs.declared.desk.Desk.{Desk}
 
@@ -62,53 +60,36 @@ reads_wider {A = A} {B = B} g old new failure usable it = record {
 -- ---- steps of an open desk
 
 module _ {S : Type 0} (g : store.Ghosts S) where
-  pub streams_of : {A : Type 0} (may : Refusal → Type 0) (old new : Desk S) (result : Result A Refusal) → ((owner : List ℕ) (cs : History) → ShowsHistory (state g old.conn) owner cs → ShowsHistory (state g new.conn) owner cs)
-      → ReadsDesk g may old new result → StreamsDesk g may old new result
-  streams_of may old new result stays it = record {
-    same = it.same;
-    stays = stays;
-    spares = λ owner cs was. it.spares;
-    clean = λ end. omega (arith, it.spares.clean, end);
-    poisons = it.poisons;
-    steady = it.steady;
-    closed = it.closed;
-    named = it.named;
-  }
-
   named_more : {A : Type 0} (may other : Refusal → Type 0) → ((refusal : Refusal) → may refusal → other refusal) → (result : Result A Refusal) → IfErr result may → IfErr result other
   named_more may other f (Ok x) h = tt
   named_more may other f (Err refusal) h = f refusal h
 
   -- a step, and then another
-  module _ {A B : Type 0} (first then_ may : Refusal → Type 0) (old mid new : Desk S) (x : A) (result : Result B Refusal) (wider : (refusal : Refusal) → then_ refusal → may refusal)
-      (one : StreamsDesk g first old mid (Ok x)) (two : StreamsDesk g then_ mid new result) where
+  module _ {A B : Type 0} (may : Refusal → Type 0) (old mid new : Desk S) (x : A) (result : Result B Refusal) (wider : (refusal : Refusal) → IsFailure refusal → may refusal)
+      (one : ReadsDesk g may old mid (Ok x)) (two : ReadsDesk g IsFailure mid new result) where
     usable : mid.needs_reopening ≡ old.needs_reopening
     usable = one.steady (λ is. absurd cc)
 
-    streams_then : StreamsDesk g may old new result
-    streams_then = record {
-      same = λ clean other owner cs was. two.same clean other owner cs (one.same (two.clean clean) (λ is. absurd cc) owner cs was);
-      stays = λ owner cs was. two.stays owner cs (one.stays owner cs was);
-      spares = λ owner cs was. spares_then (state g old.conn) (state g mid.conn) (state g new.conn) (one.spares owner cs was) (two.spares owner cs (one.stays owner cs was));
-      clean = λ end. one.clean (two.clean end);
+    reads_then : ReadsDesk g may old new result
+    reads_then = record {
+      same = λ clean other owner cs was. two.same clean other owner cs (one.same (omega (arith, two.spares.clean, clean)) (λ is. absurd cc) owner cs was);
+      spares = survives_then (state g old.conn) (state g mid.conn) (state g new.conn) (λ _. ⊥) (λ _. ⊥) (λ _. ⊥) (λ _ _ none. none) (λ _ _ none. none) one.spares two.spares;
       poisons = two.poisons;
       steady = λ other. two.steady other ∙ usable;
       closed = λ is. absurd (let h = (one.closed is).0 in cc);
-      named = λ is. named_more then_ may wider result (two.named (usable ∙ is));
+      named = λ is. named_more IsFailure may wider result (two.named (usable ∙ is));
     }
 
   -- only a usable desk gives Ok
-  usable_of : {A : Type 0} (may : Refusal → Type 0) (old new : Desk S) (x : A) → StreamsDesk g may old new (Ok x) → (b : Bool) → old.needs_reopening ≡ b → b ≡ false
+  usable_of : {A : Type 0} (may : Refusal → Type 0) (old new : Desk S) (x : A) → ReadsDesk g may old new (Ok x) → (b : Bool) → old.needs_reopening ≡ b → b ≡ false
   usable_of may old new x it true is = absurd (let h = (it.closed is).0 in cc)
   usable_of may old new x it false is = refl
 
   -- a refusal is passed on
-  pub streams_err : {A B : Type 0} (may : Refusal → Type 0) (old new : Desk S) (refusal : Refusal) → StreamsDesk {A = A} g may old new (Err refusal) → StreamsDesk {A = B} g may old new (Err refusal)
-  streams_err {A = A} {B = B} may old new refusal it = record {
+  pub reads_err : {A B : Type 0} (may : Refusal → Type 0) (old new : Desk S) (refusal : Refusal) → ReadsDesk {A = A} g may old new (Err refusal) → ReadsDesk {A = B} g may old new (Err refusal)
+  reads_err {A = A} {B = B} may old new refusal it = record {
     same = λ clean other. it.same clean (no_store_either {A = A} {B = B} refusal other);
-    stays = it.stays;
     spares = it.spares;
-    clean = it.clean;
     poisons = λ is. it.poisons (let same : refusal ≡ refusals.Store = cc in ap Err same);
     steady = λ other. it.steady (no_store_either {A = A} {B = B} refusal other);
     closed = λ is. (let h = it.closed is in (let e = h.0 in let same : refusal ≡ refusals.Reopen = cc in ap Err same, h.1));
@@ -116,33 +97,24 @@ module _ {S : Type 0} (g : store.Ghosts S) where
   }
 
   -- a failure answers nothing
-  pub failed_unanswered : {A : Type 0} (first : Refusal → Type 0) (old mid : Desk S) (x : A) (failure : Refusal) (P : Type 0) → StreamsDesk g first old mid (Ok x)
+  pub failed_unanswered : {A : Type 0} (first : Refusal → Type 0) (old mid : Desk S) (x : A) (failure : Refusal) (P : Type 0) → ReadsDesk g first old mid (Ok x)
       → (mid.needs_reopening ≡ false → IsFailure failure) → failure ≢ refusals.NoMemory → failure ≢ refusals.Store → P
   failed_unanswered first old mid x failure P one named =
       let usable : old.needs_reopening ≡ false = usable_of first old mid x one old.needs_reopening refl in
       on_failure failure P (named (one.steady (λ is. absurd cc) ∙ usable))
 
   -- Ok, of another value
-  pub streams_ok : {A B : Type 0} (may : Refusal → Type 0) (old new : Desk S) (x : A) (y : B) → StreamsDesk g may old new (Ok x) → StreamsDesk g may old new (Ok y)
-  streams_ok may old new x y it = record {
+  pub reads_ok : {A B : Type 0} (may : Refusal → Type 0) (old new : Desk S) (x : A) (y : B) → ReadsDesk g may old new (Ok x) → ReadsDesk g may old new (Ok y)
+  reads_ok may old new x y it = record {
     same = λ clean other. it.same clean (λ is. absurd cc);
-    stays = it.stays;
     spares = it.spares;
-    clean = it.clean;
     poisons = λ is. absurd cc;
     steady = λ other. it.steady (λ is. absurd cc);
     closed = λ is. absurd (let h = (it.closed is).0 in cc);
     named = λ usable. tt;
   }
 
-  -- ---- the steps of an impact: the outlook, the images that it touches, and those that it bars
-
-  pub streams_touched : {A B : Type 0} (old mid new : Desk S) (x : A) (result : Result B Refusal) → ((owner : List ℕ) (cs : History) → ShowsHistory (state g old.conn) owner cs → ShowsHistory (state g mid.conn) owner cs)
-      → ReadsDesk g IsImpactRefusal old mid (Ok x) → StreamsDesk g IsFailure mid new result → StreamsDesk g IsImpactRefusal old new result
-  streams_touched old mid new x result stays one two =
-      streams_then IsImpactRefusal IsFailure IsImpactRefusal old mid new x result failures (streams_of IsImpactRefusal old mid (Ok x) stays one) two
-
-  pub streams_barred : {A B : Type 0} (old mid new : Desk S) (x : A) (result : Result B Refusal) → ((owner : List ℕ) (cs : History) → ShowsHistory (state g mid.conn) owner cs → ShowsHistory (state g new.conn) owner cs)
-      → StreamsDesk g IsImpactRefusal old mid (Ok x) → ReadsDesk g IsFailure mid new result → StreamsDesk g IsImpactRefusal old new result
-  streams_barred old mid new x result stays one two =
-      streams_then IsImpactRefusal IsFailure IsImpactRefusal old mid new x result failures one (streams_of IsFailure mid new result stays two)
+  -- a step of an impact, and then one that only fails
+  pub reads_on : {A B : Type 0} (old mid new : Desk S) (x : A) (result : Result B Refusal) → ReadsDesk g IsImpactRefusal old mid (Ok x) → ReadsDesk g IsFailure mid new result
+      → ReadsDesk g IsImpactRefusal old new result
+  reads_on old mid new x result one two = reads_then IsImpactRefusal old mid new x result failures one two

@@ -1,8 +1,5 @@
 -- The impact of a proposal, asked of an open desk.
-use Rattle.std.specs.Prelude.{◌≡◌, ◌≢◌, ◌⊎◌, ℕ, List, IsTrue, Some, None, Result, Err, true, false, IfErr, IsErrOf, MatchResult, map}
-use Rattle.sqlite.specs.Store.{Ghosts}
-use Rattle.sqlite.specs.Held.{state}
-use Rattle.sqlite.specs.State.{HasCleanDisk}
+use Rattle.std.specs.Prelude.{◌≡◌, ◌≢◌, ◌⊎◌, ℕ, List, IsTrue, Some, None, Result, MatchResult, map}
 use Rattle.desk_bytes.specs.declared.refusal.Refusal.{Refusal}
 use Rattle.desk_bytes.specs.declared.refusal.Refusal.TheVariants as refusals
 use Rattle.desk_texts.specs.declared.caller.Caller.{Caller}
@@ -19,14 +16,12 @@ use Rattle.desk_rules.specs.Shown.{Shows}
 use Rattle.desk_rules.specs.declared.view.View.{View}
 use Rattle.store_reads.specs.Failures.{IsFailure}
 use Rattle.store_requests.specs.Telling.{IsOfficerRefusal}
-use Rattle.store_exports.specs.Exporting.{SparesOf, StaysOf}
 use Rattle.store_impacts.specs.Touching.{touched}
 use Rattle.store_impacts.specs.declared.touched_image.Touched.{Touched}
+use Rattle.store_views.specs.Confirming.{to_confirm}
 use Rattle.store_views.specs.sizes.Sizes.{AreRight}
-use Rattle.desk_store.specs.Desks.{KeepsDesk}
 use Rattle.desk_rules.specs.Entries.{StandsAs, held_standing}
 use Rattle.desk_rules.specs.Foreseen.{may_foresee}
-use Rattle.desk_store.specs.declared.desk.Desk.{Desk}
 use Rattle.desk_store.specs.declared.impacts.Outlook.{Outlook}
 use Rattle.desk_store.specs.declared.impacts.Told.{Told}
 use Rattle.desk_store.specs.declared.questions.Viewed.{Viewed}
@@ -37,19 +32,6 @@ use Rattle.desk_rules.specs.declared.entries.Entries.{Entries}
 abbrev pub IsImpactRefusal : Refusal → Type 0
 IsImpactRefusal refusal =
     IsOfficerRefusal refusal ⊎ (IsTrue (may_foresee refusal) ⊎ IsFailure refusal)
-
--- A call that only reads, and that reads a table row by row. As `ReadsDesk`, but that a stop leaves
--- only what it could have left before is said only where the connection shows a history, which it
--- then still does.
-pub record StreamsDesk {S A : Type 0} (g : Ghosts S) (may : Refusal → Type 0) (old new : Desk S) (result : Result A Refusal) : Type 0 where
-  pub same : HasCleanDisk (state g new.conn) → result ≢ Err refusals.Store → KeepsDesk g old new
-  pub stays : StaysOf (state g old.conn) (state g new.conn)
-  pub spares : SparesOf g old.conn new.conn
-  pub clean : HasCleanDisk (state g new.conn) → HasCleanDisk (state g old.conn)
-  pub poisons : IsErrOf result refusals.Store → new.needs_reopening ≡ true
-  pub steady : result ≢ Err refusals.Store → new.needs_reopening ≡ old.needs_reopening
-  pub closed : old.needs_reopening ≡ true → (result ≡ Err refusals.Reopen) × (new ≡ old)
-  pub named : old.needs_reopening ≡ false → IfErr result may
 
 -- what holds where the answer is one of the history: unless a device failed
 abbrev pub OnAnswer : {A : Type 0} → Result A Refusal → Type 0 → Type 0
@@ -80,12 +62,10 @@ AreBarredBy entries images found cs =
     (k : ℕ) → StandsAs (held_standing entries) (standing_of (would_force cs k))
     → images ≡ touched (held_standing entries) cs → found ≡ map shown_barred (impact_of cs k).bars
 
--- the view is one for a Confirm of the proposal by the caller, under some key, and the sizes are
--- right
-abbrev pub ShowsConfirm : Viewed → Caller → ℕ → List ℕ → History → Type 0
-ShowsConfirm viewed c k owner cs =
-    ((key : List ℕ) × Shows viewed.view (tables owner cs) (called c key (command.Confirm k)))
-    × AreRight viewed.sizes (tables owner cs)
+-- the view is one for a Confirm of the proposal, whoever gives it, and the sizes are right
+abbrev pub ShowsConfirm : Viewed → ℕ → List ℕ → History → Type 0
+ShowsConfirm viewed k owner cs =
+    Shows viewed.view (tables owner cs) (to_confirm k) × AreRight viewed.sizes (tables owner cs)
 
 -- the caller is told this, and the sizes are right
 abbrev pub TellsOutlook : History → Caller → ℕ → List ℕ → Told → Type 0

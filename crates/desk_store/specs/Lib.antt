@@ -4,6 +4,7 @@ pub mod Questions
 pub mod Headline
 pub mod Reopening
 pub mod Rows
+pub mod Founding
 pub mod Steps
 pub mod Acts
 pub mod Closed

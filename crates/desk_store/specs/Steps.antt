@@ -27,15 +27,17 @@ use Rattle.store_schema.specs.Tables.{desk_layout, first_layout, no_schema}
 use Rattle.store_schema.specs.declared.selecting.TheConstants.{SELECT_DESK}
 use Rattle.store_schema.specs.rows.Histories.{ShowsFirst, ShowsHistory, rows_of}
 use Rattle.store_migration.specs.Migrations.{Migrates}
+use Rattle.desk_store.specs.Founding.{FoundsBeside}
 use Rattle.desk_store.specs.Rows.{AreOf}
 
--- in a sound store without tables the desk's tables are made, with the rows of a desk without
--- calls; nothing is committed
+-- The desk's tables are made with the rows of a desk without calls: in a sound store without tables,
+-- and beside others. Nothing is committed.
 pub record Founds (old new : State) (owner : List ℕ) : Type 0 where
   pub is_open : IsTrue old.is_open → IsTrue new.is_open
   pub inside : IsTrue new.in_transaction
   pub kept : KeepsCommit old new
   pub value : IsDatabase old.now → old.now.schema ≡ no_schema → Sees desk_layout new (rows_of owner [])
+  pub beside : FoundsBeside old new owner
 
 -- the error is a compile error of the text
 abbrev pub RefusesText : Error → Type 0

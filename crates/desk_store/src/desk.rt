@@ -16,10 +16,10 @@ ghost use Rattle.desk_rules.specs.Views.{ShowsLists, keys_of};
 ghost use Rattle.store_views.specs.Named.{HoldsNoRowBeyond};
 ghost use Rattle.desk_store.specs.Desks.{CommitsOnlyAccepted, ForEachShown, IsCallRefusal, MayStop};
 ghost use Rattle.desk_store.specs.Desks.{ReadsDesk, Refuses, Replies, ShowsDesk};
+ghost use Rattle.desk_store.specs.Founding.{Founded, HasFoundedBeside};
 ghost use Rattle.desk_store.specs.Headline.{Recovers};
 ghost use Rattle.desk_store.specs.Reopening.{FindsADesk};
-ghost use Rattle.store_schema.specs.rows.Histories.{HoldsHistory, LeavesHistory, ShowsFirst};
-ghost use Rattle.store_schema.specs.rows.Histories.{ShowsHistory};
+ghost use Rattle.store_schema.specs.rows.Histories.{LeavesHistory, ShowsFirst, ShowsHistory};
 ghost use Rattle.store_reads.specs.Failures.{IsFailure};
 ghost use Rattle.store_migration.specs.Migrations.{KeepsShown};
 ghost use Rattle.desk_store.specs.Steps.{Brings, FindsKnown, FindsNone, FindsOther, IsReadRefusal};
@@ -53,8 +53,8 @@ pub struct Desk<S: Alter> {
 impl<S: Alter + Drop> Desk<S> {
     /// Makes a desk without calls, in one transaction: its fifteen tables, and its own row with the
     /// owner of each entry that it exports. The connection must be outside a transaction
-    /// (`is_autocommit`); a refusal returns it. The store's other tables stay as they are. Takes
-    /// memory.
+    /// (`is_autocommit`); a refusal returns it. The store's other tables keep their rows (`beside`).
+    /// Takes memory.
     ///
     /// `Exists`: a table, an index or a view of the store has a name of the desk's tables, whatever
     /// the case of ASCII letters. `NoMemory`: memory was refused, and nothing was committed.
@@ -68,6 +68,8 @@ impl<S: Alter + Drop> Desk<S> {
         ensures ok { IfOk result (λ desk. HasCleanDisk (state S.Store desk.conn)
             → (state S.Store conn).now.schema ≡ no_schema
             → ShowsDesk S.Store desk owner.now []) }
+        ensures beside { IfOk result (λ desk. HasCleanDisk (state S.Store desk.conn)
+            → HasFoundedBeside (state S.Store conn) (state S.Store desk.conn) owner.now) }
         ensures usable { IfOk result (λ desk. desk.needs_reopening ≡ false) }
         ensures free { OnOk result
             (takes_a_desk_name (state S.Store conn).now.schema ≡ false) }
@@ -78,11 +80,9 @@ impl<S: Alter + Drop> Desk<S> {
         ensures refused { IfErr result (λ e. e.0 ≢ Refusal.Store → Spares S.Store conn e.1) }
         ensures stopped { IfOk result (λ desk.
             Survives (state S.Store conn) (state S.Store desk.conn)
-            (λ db. (state S.Store conn).now.schema ≡ no_schema
-            → HoldsHistory db owner.now [])) }
+            (Founded (state S.Store conn) owner.now)) }
         ensures failed { IfErr result (λ e. Survives (state S.Store conn) (state S.Store e.1)
-            (λ db. (state S.Store conn).now.schema ≡ no_schema
-            → HoldsHistory db owner.now [])) }
+            (Founded (state S.Store conn) owner.now)) }
         ensures outside { IfErr result (λ e. e.1.in_transaction ≡ false) }
         ensures named { IfErr result (λ e. (e.0 ≡ Refusal.Exists) ⊎ IsFailure e.0) }
     {

@@ -5,15 +5,16 @@ ghost use Rattle.sqlite.specs.State.{HasCleanDisk, Survives};
 ghost use Rattle.store_schema.specs.Names.{takes_a_desk_name};
 ghost use Rattle.store_schema.specs.Tables.{no_schema};
 ghost use Rattle.store_sql.specs.States.{CommitsNothing, Spares, StaysInside};
-ghost use Rattle.store_schema.specs.rows.Histories.{HoldsHistory, ShowsHistory};
+ghost use Rattle.store_schema.specs.rows.Histories.{ShowsHistory};
 ghost use Rattle.store_reads.specs.Failures.{IsFailure};
 ghost use Rattle.store_migration.specs.Migrations.{KeepsShown};
+ghost use Rattle.desk_store.specs.Founding.{Founded, HasFoundedBeside};
 ghost use Rattle.desk_store.specs.Steps.{Founds};
 
 use desk_bytes::{Guid, Refusal};
 use sqlite::{Alter, Connection, Transaction};
-use store_schema::{make, takes_a_desk_name};
-use store_sql::StoreFault;
+use store_schema::{CREATE_ADDED_TABLES, CREATE_TABLES, takes_a_desk_name};
+use store_sql::{StoreFault, create_tables};
 use store_writes::{failed_commit, put_desk};
 
 /// Whether no table, index or view of the store has a name of the desk's tables.
@@ -23,7 +24,7 @@ pub(crate) fn names_are_free<S: Alter>(conn: &Connection<S>) -> bool
     !takes_a_desk_name(conn.schema())
 }
 
-/// Makes the tables, and inserts the rows of a desk without calls.
+/// Makes the tables, after any others, and inserts the rows of a desk without calls.
 fn found<S: Alter>(tx: &mut Transaction<'_, S>, owner: &Guid) -> Result<(), StoreFault>
     ensures same_reference { tx.new.conn.ghost_name ≡ tx.old.conn.ghost_name }
     ensures value { HasCleanDisk (state S.Store tx.new.conn.now)
@@ -34,7 +35,8 @@ fn found<S: Alter>(tx: &mut Transaction<'_, S>, owner: &Guid) -> Result<(), Stor
     ensures kept { CommitsNothing S.Store tx.old.conn.now tx.new.conn.now }
     ensures survives { Spares S.Store tx.old.conn.now tx.new.conn.now }
 {
-    make(tx)?;
+    create_tables(tx, &CREATE_TABLES)?;
+    create_tables(tx, &CREATE_ADDED_TABLES)?;
     put_desk(tx, owner)?;
     Ok(())
 }
@@ -48,11 +50,13 @@ pub(crate) fn found_at_once<S: Alter>(conn: &mut Connection<S>, owner: &Guid) ->
         (IsTrue (state S.Store conn.new).is_open
         × ((state S.Store conn.old).now.schema ≡ no_schema
         → ShowsHistory (state S.Store conn.new) owner.now [])) }
+    ensures beside { HasCleanDisk (state S.Store conn.new) → OnOk result
+        (HasFoundedBeside (state S.Store conn.old) (state S.Store conn.new) owner.now) }
     ensures kept { HasCleanDisk (state S.Store conn.new) → IfErr result (λ e.
         e ≢ Refusal.Store → KeepsShown (state S.Store conn.old) (state S.Store conn.new)) }
     ensures unwritten { IfErr result (λ e. e ≢ Refusal.Store → Spares S.Store conn.old conn.new) }
     ensures survives { Survives (state S.Store conn.old) (state S.Store conn.new)
-        (λ db. (state S.Store conn.old).now.schema ≡ no_schema → HoldsHistory db owner.now []) }
+        (Founded (state S.Store conn.old) owner.now) }
     ensures failed { IfErr result IsFailure }
 {
     let _sound = conn.schema();

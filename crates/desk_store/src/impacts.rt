@@ -1,5 +1,5 @@
 //! The impact of a proposal: what a Confirm of it by another officer would do.
-ghost use Rattle.std.specs.Prelude.{◌≡◌, ◌≢◌, ⊤, Err, None, IfErr, IfOk, IsTrue, MatchResult};
+ghost use Rattle.std.specs.Prelude.{◌≡◌, ◌≢◌, ⊤, [], Err, None, IfErr, IfOk, IsTrue, MatchResult};
 ghost use Rattle.std.specs.Prelude.{find, option_copied};
 ghost use Rattle.sqlite.specs.Held.{state};
 ghost use Rattle.sqlite.specs.State.{HasCleanDisk};
@@ -18,8 +18,7 @@ ghost use Rattle.store_sql.specs.States.{CommitsNothing, DoesInside, Spares, Sta
 ghost use Rattle.store_views.specs.remembered.Current.{IsCurrent};
 ghost use Rattle.desk_store.specs.Desks.{ForEachShown, ReadsDesk};
 ghost use Rattle.desk_store.specs.Impacts.{AreBarredBy, GivesOutlook, IsAnswer, IsImpactRefusal};
-ghost use Rattle.desk_store.specs.Impacts.{LooksAhead, OnAnswer, ShowsConfirm, StreamsDesk};
-ghost use Rattle.desk_store.specs.Impacts.{TellsOutlook};
+ghost use Rattle.desk_store.specs.Impacts.{LooksAhead, OnAnswer, ShowsConfirm, TellsOutlook};
 ghost use Rattle.desk_store.specs.Questions.{AnswersQuestion};
 
 use crate::asking::Question;
@@ -27,12 +26,12 @@ use crate::desk::Desk;
 use crate::questions::Viewed;
 use desk_bytes::Refusal;
 use desk_history::{BarredImage, ProposalRow, ShownImpact};
-use desk_rules::{CallRef, Entries, Foreseen, View, foresee};
-use desk_texts::{Caller, Command, Key, Person, ProposalNumber, TextFault};
+use desk_rules::{Entries, Foreseen, View, foresee};
+use desk_texts::{Caller, Person, ProposalNumber};
 use sqlite::{Alter, Transaction};
 use std::alloc::Global;
-use store_impacts::{Touched, barred, refusal_to, touched};
-use store_views::{KnownSizes, Remembered, view};
+use store_impacts::{Touched, barred, refusal_to, touched, untouched_bars_none};
+use store_views::{KnownSizes, Remembered, view_to_confirm};
 
 /// What is known of an impact before the images are looked for: its counts, the length of dbx, and
 /// the proposal's entries.
@@ -101,31 +100,19 @@ fn settled(given: Result<Outlook, Refusal>) -> Result<Result<Outlook, Refusal>, 
 }
 
 impl<'a> Foretelling<'a> {
-    /// The rows for a Confirm of the proposal by the caller. The key is none of the caller's: it
-    /// doesn't count.
+    /// The rows for a Confirm of the proposal, whoever gives it.
     fn rows<S: Alter>(&self, alloc: Global, tx: &mut Transaction<'_, S>) -> Result<Viewed, Refusal>
         ensures same_reference { tx.new.conn.ghost_name ≡ tx.old.conn.ghost_name }
         ensures value { DoesInside S.Store tx.old.conn.now tx.new.conn.now result
             (λ viewed. AnswersQuestion (λ owner cs. IsCurrent self.now.remembered (tables owner cs)
-            → ShowsConfirm viewed self.now.caller.now self.now.number owner cs)) }
+            → ShowsConfirm viewed self.now.number owner cs)) }
         ensures inside { StaysInside S.Store tx.old.conn.now tx.new.conn.now result }
         ensures failed { IfErr result IsFailure }
         ensures kept { CommitsNothing S.Store tx.old.conn.now tx.new.conn.now }
         ensures survives { Spares S.Store tx.old.conn.now tx.new.conn.now }
     {
-        let key = match Key::parse(alloc, b"impact") {
-            Ok(key) => key,
-            Err(TextFault::NoMemory) => return Err(Refusal::NoMemory),
-            Err(TextFault::Form) => return Err(Refusal::Store),
-        };
-        let command = Command::Confirm(self.number);
-        let call = CallRef {
-            caller: self.caller,
-            key: &key,
-            command: &command,
-        };
         let mut remembered = self.remembered.without_person();
-        match view(alloc, tx, &mut remembered, &call) {
+        match view_to_confirm(alloc, tx, &mut remembered, self.number) {
             Ok(view) => Ok(Viewed {
                 view,
                 sizes: remembered.sizes,
@@ -185,11 +172,12 @@ impl<'a> Question for Foretelling<'a> {
     }
 }
 
-/// Which of the images that the entries bar by themselves would a Confirm bar?
+/// Which of the images that the entries bar by themselves, one at least, would a Confirm bar?
 #[derive(Drop)]
 pub(crate) struct Barring<'a> {
     pub(crate) entries: &'a Entries,
     pub(crate) touched: &'a [Touched],
+    ghost some: { touched.now ≢ [] },
 }
 
 impl<'a> Question for Barring<'a> {
@@ -244,7 +232,8 @@ impl<S: Alter + Drop> Desk<S> {
         ensures shown { HasCleanDisk (state S.Store self.new.conn) → IfOk result (λ found.
             ForEachShown S.Store self.old (λ owner cs.
             found.items ≡ touching.touched (held_standing entries.now) cs)) }
-        ensures streams { StreamsDesk S.Store IsFailure self.old self.new result }
+        ensures reads { ReadsDesk S.Store IsFailure self.old self.new result }
+        ensures stays { StaysOf (state S.Store self.old.conn) (state S.Store self.new.conn) }
     {
         if self.needs_reopening {
             return Err(Refusal::Reopen);
@@ -262,8 +251,9 @@ impl<S: Alter + Drop> Desk<S> {
     /// now: the images of the desk's accepted calls that it would bar and that aren't barred, the
     /// counts that it would reply, and the length of dbx afterwards. For officers, and for the
     /// console. Nothing is changed. It reads every call, one at a time; an image that no entry of
-    /// the proposal touches costs no statement. Takes memory for the proposal's entries, for the
-    /// facts of one image, and for what is shown.
+    /// the proposal touches costs no statement. The caller's key isn't asked for, and the proposal
+    /// is read once. Takes memory for the proposal's entries, for the facts of one image, and for
+    /// what is shown.
     ///
     /// `UnknownCaller`: nobody has the name. `NotYourRole`: the person is no officer.
     /// `NoSuchProposal`: no proposal has the number. `ProposalClosed`: it isn't open.
@@ -281,8 +271,10 @@ impl<S: Alter + Drop> Desk<S> {
             refusal ≢ Refusal.NoMemory → refusal ≢ Refusal.Store
             → ForEachShown S.Store self.old (λ owner cs.
             impact_for cs caller.now number ≡ Err refusal)) }
-        ensures streams { StreamsDesk S.Store IsImpactRefusal self.old self.new result }
+        ensures reads { ReadsDesk S.Store IsImpactRefusal self.old self.new result }
+        ensures stays { StaysOf (state S.Store self.old.conn) (state S.Store self.new.conn) }
     {
+        untouched_bars_none();
         let outlook = match self.outlook(caller, number) {
             Ok(outlook) => outlook,
             Err(refusal) => return Err(refusal),
@@ -291,6 +283,13 @@ impl<S: Alter + Drop> Desk<S> {
             Ok(touched) => touched,
             Err(failure) => return Err(failure),
         };
+        if touched.is_empty() {
+            return Ok(ShownImpact {
+                bars: Vec::new(self.alloc),
+                adds: outlook.foreseen.adds,
+                dbx: outlook.foreseen.dbx,
+            });
+        }
         let question = Barring {
             entries: &outlook.entries,
             touched: &touched,

@@ -13,16 +13,16 @@ use Rattle.cli_commands.proofs.foretelling.foretell.Goals as goal
 pub returns-in-Err-clause-named : goal.returns-in-Err-clause-named
 returns-in-Err-clause-named g c =
     let it : IsForetellingRefusal c.in-Err.refusal =
-    foretelling_named c.args.desk.now.needs_reopening c.in-Err.refusal (λ usable. c.in-Err.ensures.streams.named usable)
-    (λ closed. (let e = (c.in-Err.ensures.streams.closed closed).0 in let same : c.in-Err.refusal ≡ refusals.Reopen = cc in same)) in
+    foretelling_named c.args.desk.now.needs_reopening c.in-Err.refusal (λ usable. c.in-Err.ensures.reads.named usable)
+    (λ closed. (let e = (c.in-Err.ensures.reads.closed closed).0 in let same : c.in-Err.refusal ≡ refusals.Reopen = cc in same)) in
     rw c.from.ensures (refl, it)
 
 pub returns-in-Err-clause-same : goal.returns-in-Err-clause-same
 returns-in-Err-clause-same g c = λ clean other.
-    c.in-Err.ensures.streams.same clean (λ given. other (store_told c.from.result c.in-Err.refusal c.from.ensures given))
+    c.in-Err.ensures.reads.same clean (λ given. other (store_told c.from.result c.in-Err.refusal c.from.ensures given))
 
 pub returns-in-Err-clause-spares : goal.returns-in-Err-clause-spares
-returns-in-Err-clause-spares g c = λ owner cs was. c.in-Err.ensures.streams.spares owner cs was.shows
+returns-in-Err-clause-spares g c = λ owner cs was. c.in-Err.ensures.reads.spares
 
 -- the lines were written
 
@@ -35,7 +35,7 @@ returns-in-Ok-say_impact-clause-exact g c = λ clean owner cs was.
     due_outcome (impact_for cs callers.Console c.args.number) c.in-Ok.impact c.outcome.result (c.in-Ok.ensures.shown clean owner cs was) c.outcome.ensures
 
 pub returns-in-Ok-say_impact-clause-spares : goal.returns-in-Ok-say_impact-clause-spares
-returns-in-Ok-say_impact-clause-spares g c = λ owner cs was. c.in-Ok.ensures.streams.spares owner cs was.shows
+returns-in-Ok-say_impact-clause-spares g c = λ owner cs was. c.in-Ok.ensures.reads.spares
 
 -- they weren't, or not whole
 
@@ -44,4 +44,4 @@ returns-clause-beginning g c = λ clean owner cs was.
     AppendsBeginning-same _ _ _ _ (due_lines (impact_for cs callers.Console c.args.number) c.in-Ok.impact (c.in-Ok.ensures.shown clean owner cs was)) c.in-Err-say_impact.ensures.err
 
 pub returns-clause-spares : goal.returns-clause-spares
-returns-clause-spares g c = λ owner cs was. c.in-Ok.ensures.streams.spares owner cs was.shows
+returns-clause-spares g c = λ owner cs was. c.in-Ok.ensures.reads.spares

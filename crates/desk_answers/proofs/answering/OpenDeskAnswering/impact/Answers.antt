@@ -8,9 +8,9 @@ pub returns-clause-fails : goal.returns-clause-fails
 returns-clause-fails g c = record {
   before = search rules;
   named =
-      named_as store.IsImpactRefusal IsImpactRefusal impact_refused impact_reopen c.args.self.now.desk.needs_reopening c.impact.result c.impact.ensures.streams.named
-      (λ closed. (c.impact.ensures.streams.closed closed).0);
-  usable = λ owner cs was. impact_usable c.impact.result (c.impact.ensures.streams.named was.usable);
+      named_as store.IsImpactRefusal IsImpactRefusal impact_refused impact_reopen c.args.self.now.desk.needs_reopening c.impact.result c.impact.ensures.reads.named
+      (λ closed. (c.impact.ensures.reads.closed closed).0);
+  usable = λ owner cs was. impact_usable c.impact.result (c.impact.ensures.reads.named was.usable);
   poisons = search rules;
   closed = search rules;
 }

@@ -1,4 +1,5 @@
-use Rattle.std.proofs.Common.{sym, subst}
+use Rattle.std.proofs.Common.{[], sym, subst}
+use Rattle.desk_texts.specs.declared.caller.Caller.TheVariants as callers
 use Rattle.desk_store.specs.Impacts.{GivesOutlook}
 use Rattle.desk_store.proofs.ImpactLemmas.{gives_ahead}
 use Rattle.desk_store.proofs.impacts.Foretelling.look.Goals as goal
@@ -13,7 +14,7 @@ returns-in-Ok-settled-clause-value g c clean inside =
       same = a.same;
       tells = λ owner cs history sees current shown.
           let it = a.tells owner cs history sees current in (
-            subst (GivesOutlook cs caller k) (sym same.0) (gives_ahead cs caller k c.outlook_in.result shown (c.outlook_in.ensures.exact owner cs caller it.0.0 history.legal it.0.1) same.1),
+            subst (GivesOutlook cs caller k) (sym same.0) (gives_ahead cs caller k c.outlook_in.result shown (c.outlook_in.ensures.exact owner cs (callers.Person []) [] history.legal it.0) same.1),
             it.1,
           );
     }

@@ -4,11 +4,11 @@ use Rattle.store_views.specs.remembered.Current.{IsCurrent}
 use Rattle.desk_store.proofs.RememberedLemmas.{forgets}
 use Rattle.desk_store.proofs.impacts.Foretelling.rows.Goals as goal
 
-pub returns-in-Ok-view-clause-value : goal.returns-in-Ok-view-clause-value
-returns-in-Ok-view-clause-value g c clean inside = record {
-  same = c.in-Ok-view.ensures.value clean inside;
+pub returns-in-Ok-clause-value : goal.returns-in-Ok-clause-value
+returns-in-Ok-clause-value g c clean inside = record {
+  same = c.in-Ok.ensures.value clean inside;
   tells = λ owner cs history sees current.
       let known : IsCurrent c.without_person-remembered.result (tables owner cs) = subst (λ r. IsCurrent r (tables owner cs)) (sym c.without_person-remembered.ensures) (forgets c.args.self.now.remembered (tables owner cs) current) in
-      let it = c.in-Ok-view.ensures.shown clean inside owner cs history sees known in
-      ((c.in-Ok.key, it.0), it.1.sizes);
+      let it = c.in-Ok.ensures.shown clean inside owner cs history sees known in
+      (it.0, it.1.sizes);
 }
